@@ -1,0 +1,9 @@
+//! What a log of the machine means: definitions that read a log, and the laws that they obey.
+//!
+//! The definitions stand in `specs/`, one subject a file. A log is read as a history, newest event first;
+//! everything about a place is read by looking back from it.
+#![tactic(auto)]
+
+mod refusals;
+
+pub use refusals::Refused;

@@ -1,0 +1,5 @@
+pub mod Fields
+pub mod Faults
+pub mod Images
+pub mod Paging
+pub mod Numbers

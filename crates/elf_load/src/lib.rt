@@ -1,0 +1,18 @@
+//! Reads an ELF file into the memory image with which its program starts.
+#![tactic(auto)]
+
+mod checks;
+mod fault;
+mod fields;
+mod image;
+mod loading;
+mod paging;
+mod program_headers;
+
+pub use fault::ElfFault;
+pub use image::{Image, ImagePage};
+pub use loading::load;
+pub use program_headers::ProgramHeader;
+
+#[cfg(test)]
+mod tests;

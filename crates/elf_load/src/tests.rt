@@ -1,0 +1,5 @@
+//! Files and what is due for them.
+
+mod hostile;
+mod linked;
+mod programs;

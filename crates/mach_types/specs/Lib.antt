@@ -1,0 +1,4 @@
+pub mod Bytes
+pub mod Events
+pub mod Limits
+pub mod Registers

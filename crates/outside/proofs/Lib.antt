@@ -1,0 +1,6 @@
+mod Emitting
+mod Examples
+mod Fetching
+mod Places
+pub mod Gains
+pub mod Rises

@@ -1,0 +1,152 @@
+use super::*;
+use mach_types::Hart;
+use std::alloc::{AllocError, Global};
+use std::fs;
+use std::test::Fail;
+
+/// A file of this name and these bytes.
+fn file(alloc: Global, name: &str, bytes: &[u8]) -> Result<(String, Vec<u8>), AllocError> {
+    Ok((String::from_str(alloc, name)?, bytes.to_vec(alloc)?))
+}
+
+/// A file of 3 bytes, one of none, and a second one of the first's name.
+fn three_files(alloc: Global) -> Result<Vec<(String, Vec<u8>)>, AllocError> {
+    let mut files = Vec::new(alloc);
+    files.push(file(alloc, "a", b"one")?)?;
+    files.push(file(alloc, "b", b"")?)?;
+    files.push(file(alloc, "a", b"other")?)?;
+    Ok(files)
+}
+
+/// What `fetch` gives over a `MemShelf` of the three files, one call of which fails.
+fn fetched(alloc: Global, failing: u64, name: &str, limit: usize) -> Result<Vec<u8>, FetchError> {
+    let mut numbers = Vec::new(alloc);
+    numbers.push(failing).map_err(AllocError::from)?;
+    let mut shelf = MemShelf::new(alloc, three_files(alloc)?, numbers)?;
+    fetch(alloc, &mut shelf, name, limit)
+}
+
+#[test]
+fn files_in_memory_are_fetched_up_to_the_limit(rt: HostRuntime) -> Result<(), Fail> {
+    let alloc = rt.alloc();
+    let mut shelf = MemShelf::new(alloc, three_files(alloc)?, Vec::new(alloc))?;
+    assert_eq!(rt;
+        fetch(alloc, &mut shelf, "a", 3)?.as_slice(),
+        b"one".as_slice()
+    );
+    assert!(rt; fetch(alloc, &mut shelf, "a", 2) == Err(FetchError::TooBig));
+    assert_eq!(rt; fetch(alloc, &mut shelf, "b", 0)?.len(), 0);
+    assert!(rt; fetch(alloc, &mut shelf, "c", 9) == Err(FetchError::Failed));
+    assert_eq!(rt;
+        fetch(alloc, &mut shelf, "a", 9)?.as_slice(),
+        b"one".as_slice()
+    );
+    Ok(())
+}
+
+#[test]
+fn each_call_of_a_fetch_may_fail(rt: HostRuntime) -> Result<(), Fail> {
+    let alloc = rt.alloc();
+    // One start and two reads, of which the second is the file's end.
+    for k in 1..4u64 {
+        assert!(rt;
+            fetched(alloc, k, "a", 3) == Err(FetchError::Failed),
+            "call {k}"
+        );
+    }
+    assert_eq!(rt; fetched(alloc, 4, "a", 3)?.len(), 3);
+    Ok(())
+}
+
+#[test]
+fn a_name_that_a_sure_shelf_lacks_is_empty(rt: HostRuntime) -> Result<(), Fail> {
+    let alloc = rt.alloc();
+    let mut shelf = SureShelf::new(alloc, three_files(alloc)?);
+    assert_eq!(rt; fetch(alloc, &mut shelf, "c", 0)?.len(), 0);
+    assert_eq!(rt;
+        fetch(alloc, &mut shelf, "a", 3)?.as_slice(),
+        b"one".as_slice()
+    );
+    assert!(rt; fetch(alloc, &mut shelf, "a", 2) == Err(FetchError::TooBig));
+    Ok(())
+}
+
+#[test]
+fn a_long_file_is_fetched_in_pieces(rt: HostRuntime) -> Result<(), Fail> {
+    let alloc = rt.alloc();
+    let long = vec![in alloc; 7u8; 200_000]?;
+    let mut files = Vec::new(alloc);
+    files.push(file(alloc, "long", &long)?)?;
+    let mut shelf = SureShelf::new(alloc, files);
+    assert!(rt; fetch(alloc, &mut shelf, "long", 200_000)? == long);
+    assert!(rt; fetch(alloc, &mut shelf, "long", 199_999) == Err(FetchError::TooBig));
+    Ok(())
+}
+
+#[test]
+fn a_sink_with_room_takes_64_bytes_a_call(rt: HostRuntime) -> Result<(), Fail> {
+    let alloc = rt.alloc();
+    let text = vec![in alloc; b'x'; 100]?;
+    let mut sink = MemSink::new(alloc, 100, Vec::new(alloc))?;
+    assert_eq!(rt; sink.put(b"")?, 0);
+    assert_eq!(rt; sink.put(&text)?, 64);
+    assert_eq!(rt; sink.put(&text)?, 36);
+    assert!(rt; sink.put(&text) == Err(Failed));
+    assert_eq!(rt; sink.held(), text.as_slice());
+    Ok(())
+}
+
+#[test]
+fn a_failing_put_leaves_a_prefix(rt: HostRuntime) -> Result<(), Fail> {
+    let alloc = rt.alloc();
+    let text = vec![in alloc; b'x'; 100]?;
+    let mut sink = MemSink::new(alloc, 1000, vec![in alloc; 2u64]?)?;
+    assert!(rt; emit(&mut sink, &text) == Err(Failed));
+    assert_eq!(rt; sink.held().len(), 64);
+    emit(&mut sink, b"end")?;
+    assert_eq!(rt; sink.held().len(), 67);
+    Ok(())
+}
+
+#[test]
+fn a_sure_sink_takes_more_than_its_room(rt: HostRuntime) -> Result<(), Fail> {
+    let alloc = rt.alloc();
+    let mut sink = SureSink::new(alloc, 5)?;
+    emit(&mut sink, b"he")?;
+    emit(&mut sink, b"llo")?;
+    assert_eq!(rt; sink.held(), b"hello".as_slice());
+    emit(&mut sink, b", world")?;
+    Ok(())
+}
+
+/// A gate may be shared by the workers.
+fn pass_shared<G: Gate + Sync>(gate: &G) {
+    gate.pass(Hart(0));
+}
+
+#[test]
+fn an_open_gate_lets_pass() {
+    pass_shared(&OpenGate);
+}
+
+#[test]
+fn a_file_of_the_system_is_fetched(rt: HostRuntime) -> Result<(), Fail> {
+    let alloc = rt.alloc();
+    fs::write(&rt, "outside_test_file", "some bytes")?;
+    let mut shelf = FileShelf::new(&rt);
+    assert_eq!(rt;
+        fetch(alloc, &mut shelf, "outside_test_file", 10)?.as_slice(),
+        b"some bytes".as_slice()
+    );
+    assert!(rt; fetch(alloc, &mut shelf, "outside_test_file", 9) == Err(FetchError::TooBig));
+    assert!(rt; fetch(alloc, &mut shelf, "outside_test_none", 9) == Err(FetchError::Failed));
+    fs::remove_file(&rt, "outside_test_file")?;
+    Ok(())
+}
+
+#[test]
+fn standard_output_takes_bytes(rt: HostRuntime) -> Result<(), Fail> {
+    let mut sink = OutSink::new(&rt);
+    emit(&mut sink, b"a line of the test\n")?;
+    Ok(())
+}

@@ -1,0 +1,4 @@
+mod Examples
+mod Overs
+mod RuleChoices
+mod Wholes

@@ -1,0 +1,131 @@
+//! The text of a run.
+
+ghost use Rattle.std.specs.Prelude.{◌≡◌, ◌<◌, ◌∷◌, [], ◌++◌, All, IfOk, OnOk, codes};
+ghost use Rattle.step_log.specs.Text.{newline, hex_digit, hex_text};
+ghost use Rattle.step_log.specs.Grammar.{log_text};
+ghost use Rattle.rseq_run.specs.Answers.{log_output};
+ghost use Rattle.rseq_run.specs.Text.{number_line, console_text, entries_text, end_line};
+
+use arrayvec::ArrayVec;
+use mach_types::{End, Entry};
+use machine_core::Machine;
+use std::alloc::{AllocError, Global};
+use step_log::print_entry;
+
+/// The most bytes of a log's line.
+const LONGEST_LINE: usize = 38;
+
+/// More bytes than there are around the console's bytes and the log's lines.
+const FRAME: usize = 128;
+
+/// The text of a run: its console, its log and its end.
+#[tactic(auto, unfolding(crate::specs::Text::output_text))]
+pub fn output_text(alloc: Global, machine: &Machine) -> Result<Vec<u8>, AllocError>
+    requires { All (λ e. e.hart.0 < 8) machine.now.log }
+    ensures { IfOk result (λ text. text.items ≡ log_output machine.now.setting machine.now.log) }
+{
+    let console = machine.console();
+    let log = machine.log();
+    let mut text = Vec::with_capacity(alloc, size_of_text(console, log))?;
+    push_console(&mut text, console)?;
+    push_entries(&mut text, log)?;
+    push_end(&mut text, machine.end())?;
+    Ok(text)
+}
+
+/// Room for a whole text, so that it grows at no line.
+fn size_of_text(console: &[u8], log: &[Entry]) -> usize {
+    let lines = log.len().saturating_mul(LONGEST_LINE);
+    lines.saturating_add(console.len()).saturating_add(FRAME)
+}
+
+/// Appends a line of some words and a number.
+fn push_number_line(text: &mut Vec<u8>, words: &[u8], number: usize) -> Result<(), AllocError>
+    ensures { OnOk result (text.new.items ≡ text.old.items ++ number_line words.now number) }
+{
+    let mut digits = itoa::Buffer::new();
+    text.extend_from_slice(words)?;
+    text.push(b' ')?;
+    text.extend_from_slice(digits.format(number).as_bytes())?;
+    text.push(b'\n')?;
+    Ok(())
+}
+
+/// Appends the console's length, its bytes and a newline.
+fn push_console(text: &mut Vec<u8>, console: &[u8]) -> Result<(), AllocError>
+    ensures { OnOk result (text.new.items ≡ text.old.items ++ console_text console.now) }
+{
+    push_number_line(text, b"console", console.len())?;
+    text.extend_from_slice(console)?;
+    text.push(b'\n')?;
+    Ok(())
+}
+
+/// Appends how many entries the log has, and its lines.
+fn push_entries(text: &mut Vec<u8>, log: &[Entry]) -> Result<(), AllocError>
+    requires { All (λ e. e.hart.0 < 8) log.now }
+    ensures { OnOk result (text.new.items ≡ text.old.items ++ entries_text log.now) }
+{
+    push_number_line(text, b"log", log.len())?;
+    push_lines(text, log)
+}
+
+/// Appends the lines of a log.
+fn push_lines(text: &mut Vec<u8>, log: &[Entry]) -> Result<(), AllocError>
+    requires { All (λ e. e.hart.0 < 8) log.now }
+    ensures { OnOk result (text.new.items ≡ text.old.items ++ log_text log.now) }
+{
+    for entry in log {
+        let mut line = ArrayVec::new();
+        print_entry(entry, &mut line);
+        text.extend_from_slice(line.as_slice())?;
+    }
+    Ok(())
+}
+
+/// Appends the line of the end.
+fn push_end(text: &mut Vec<u8>, end: End) -> Result<(), AllocError>
+    ensures { OnOk result (text.new.items ≡ text.old.items ++ end_line end) }
+{
+    match end {
+        End::Exit(status) => push_number_line(text, b"end exit", usize::from(status)),
+        End::Killed(signal) => push_number_line(text, b"end killed", usize::from(signal)),
+        End::Stuck => text.extend_from_slice(b"end stuck\n"),
+        End::Limit => text.extend_from_slice(b"end limit\n"),
+        End::Unended => text.extend_from_slice(b"end open\n"),
+        End::Later(pc) => push_later(text, pc),
+    }
+}
+
+/// Appends the line of an end at an instruction that isn't built.
+fn push_later(text: &mut Vec<u8>, pc: u64) -> Result<(), AllocError>
+    ensures { OnOk result (text.new.items ≡ text.old.items ++ end_line (End.Later pc)) }
+{
+    text.extend_from_slice(b"end later ")?;
+    push_hex(text, pc)?;
+    text.push(b'\n')?;
+    Ok(())
+}
+
+/// Appends a number as 16 hexadecimal digits.
+fn push_hex(text: &mut Vec<u8>, number: u64) -> Result<(), AllocError>
+    ensures { OnOk result (text.new.items ≡ text.old.items ++ hex_text 16 number) }
+{
+    for place in 0..16u32 {
+        let digit = (number >> (60 - 4 * place)) % 16;
+        text.push(hex_digit(digit as u8))?;
+    }
+    Ok(())
+}
+
+/// The character of a hexadecimal digit, in lower case.
+fn hex_digit(digit: u8) -> u8
+    requires { digit < 16 }
+    ensures { result ≡ hex_digit digit }
+{
+    if digit < 10 {
+        b'0' + digit
+    } else {
+        b'a' + (digit - 10)
+    }
+}

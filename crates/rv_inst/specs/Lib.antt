@@ -1,0 +1,10 @@
+pub mod Execution
+pub mod Fields
+pub mod Local
+pub mod Meaning
+pub mod Memory
+pub mod Multiply
+pub mod Order
+pub mod Sizes
+pub mod Table
+pub mod Words

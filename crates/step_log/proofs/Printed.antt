@@ -1,0 +1,72 @@
+-- How long the parts of a printed line are, and how numbers end.
+use Rattle.std.proofs.Common.{◌≡◌, ℕ, ◌+◌, ◌-◌, ◌*◌, ◌/◌, ◌%◌, ◌^◌, ◌<◌, ◌≤◌, List, [], ◌∷◌, ◌++◌, length, zero, suc, refl, ap, sym, ◌∙◌, arith, lit≤, length-append, append_assoc, add-one}
+use Rattle.std.specs.Fmt.{decimal}
+use Rattle.std.proofs.lemmas.Fmt.{decimal_step, decimal_digit, length-decimal-le}
+use Rattle.std.proofs.lemmas.Nat.{pow-add}
+use Rattle.std.proofs.Math.Nat.{div-div-eq-div-mul, mod-eq_of_lt}
+use Rattle.mach_types.specs.declared.events.Kind.{Kind}
+use Rattle.mach_types.specs.declared.events.Kind.TheVariants.{Exec, Drain, Take, Done, Preempt, Run, Signal}
+use Rattle.step_log.specs.Text.{kind_word, hex_digit, hex_text}
+
+pub length-kind_word-le : (k : Kind) → length (kind_word k) ≤ 7
+length-kind_word-le Exec = lit≤ tt
+length-kind_word-le Drain = lit≤ tt
+length-kind_word-le Take = lit≤ tt
+length-kind_word-le Done = lit≤ tt
+length-kind_word-le Preempt = lit≤ tt
+length-kind_word-le Run = lit≤ tt
+length-kind_word-le Signal = lit≤ tt
+
+-- one decimal digit more
+pub length-decimal_step : (n : ℕ) → 10 ≤ n → n < 2 ^ 64 → length (decimal n) ≡ length (decimal (n / 10)) + 1
+length-decimal_step n big small =
+    ap length (decimal_step n big small) ∙ length-append (decimal (n / 10)) ((48 + n % 10) ∷ [])
+
+pub length-decimal_32 : (n : ℕ) → n < 2 ^ 32 → length (decimal n) ≤ 10
+length-decimal_32 n small = length-decimal-le 10 n (omega arith) (omega arith) (omega arith)
+
+pub length-hex_text : (places n : ℕ) → length (hex_text places n) ≡ places
+unfolding hex_text
+length-hex_text zero n = refl
+length-hex_text (suc places) n =
+    length-append (hex_text places (n / 16)) (hex_digit (n % 16) ∷ []) ∙ omega (arith, length-hex_text places (n / 16))
+
+pub hex_text-none : (n : ℕ) → hex_text 0 n ≡ []
+unfolding hex_text
+hex_text-none n = refl
+
+-- one place more
+pub hex_text-more : (places n : ℕ) → hex_text (places + 1) n ≡ hex_text places (n / 16) ++ hex_digit (n % 16) ∷ []
+unfolding hex_text
+hex_text-more places n = rw (add-one places) refl
+
+-- the number without one more of its lowest places
+lower_place : (n k : ℕ) → n / 2 ^ (k + 4) ≡ n / 2 ^ k / 16
+lower_place n k = rw (pow-add 2 k 4) (sym (div-div-eq-div-mul n (2 ^ k) 16))
+
+-- one more of the 16 digits, from the highest on
+pub hex_step : (start line new : List ℕ) (n p d : ℕ) → p < 16 → line ≡ start ++ hex_text p (n / 2 ^ (64 - 4 * p))
+    → d ≡ hex_digit (n / 2 ^ (60 - 4 * p) % 16) → new ≡ line ++ d ∷ []
+    → new ≡ start ++ hex_text (p + 1) (n / 2 ^ (64 - 4 * (p + 1)))
+hex_step start line new n p d within before digit after =
+    let low : 64 - 4 * p ≡ 60 - 4 * p + 4 = omega arith in
+    let next : 64 - 4 * (p + 1) ≡ 60 - 4 * p = omega arith in
+    let shorter = ap (λ k. n / 2 ^ k) low ∙ lower_place n (60 - 4 * p) in
+    let longer = ap (λ k. n / 2 ^ k) next in
+    let one = hex_text-more p (n / 2 ^ (60 - 4 * p)) in
+    let regroup = append_assoc start (hex_text p (n / 2 ^ (64 - 4 * p))) (d ∷ []) in
+    cc
+
+-- what stands after the higher digits and then the last digit
+pub decimal_many : (start line new : List ℕ) (n : ℕ) → 10 ≤ n → n < 2 ^ 32 → line ≡ start ++ decimal (n / 10)
+    → new ≡ line ++ (48 + n % 10) ∷ [] → new ≡ start ++ decimal n
+decimal_many start line new n big small before after =
+    let digits = decimal_step n big (omega arith) in
+    let regroup = append_assoc start (decimal (n / 10)) ((48 + n % 10) ∷ []) in
+    cc
+
+pub decimal_one : (start line new : List ℕ) (n : ℕ) → n < 10 → line ≡ start → new ≡ line ++ (48 + n % 10) ∷ [] → new ≡ start ++ decimal n
+decimal_one start line new n small before after =
+    let same : n % 10 ≡ n = mod-eq_of_lt small in
+    let digit = decimal_digit n small in
+    cc

@@ -1,0 +1,4 @@
+pub mod Pages
+pub mod View
+pub mod Waiting
+pub mod Words
