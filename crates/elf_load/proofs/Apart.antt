@@ -10,7 +10,7 @@ use Rattle.elf_load.specs.Fields.{is_load, has_pages, has_page, first_page, last
 use Rattle.elf_load.specs.Faults.{AreApart, is_misplaced, share_page}
 use Rattle.elf_load.specs.Images.{IsPage, covers, byte_of_segment, memory_byte, page_permission, permission}
 use Rattle.elf_load.specs.Paging.{IsPageOf, segment_byte}
-use Rattle.elf_load.proofs.Segments.{IsPlaced, is_placed, HasPage, page_is, has_page-true}
+use Rattle.elf_load.proofs.Segments.{IsPlaced, is_placed, HasPage, HasPages, pages_are, page_is, has_page-true}
 use Rattle.elf_load.proofs.Lists.{IsFound, Finding, some_found, none_found, finding}
 
 both : (a b : Bool) → a ≡ true → b ≡ true → (a && b) ≡ true
@@ -109,3 +109,20 @@ IsPage-of file headers m h page table apart lt here has whole = record {
   where
     at_page : (j : ℕ) → j < 4096 → has_page ((4096 * page.number + j) / 4096) h ≡ true
     at_page j below = let number : (4096 * page.number + j) / 4096 ≡ page.number = omega arith in rw number has
+
+-- two segments share a page just where some page is one of both
+pub share-page : (g h : ProgramHeader) → share_page g h ≡ true → (n : ℕ) × (has_page n g ≡ true) × (has_page n h ≡ true)
+share-page g h shared =
+    let of_g : has_pages g ≡ true = grind (arith, nat_tests) in
+    let of_h : has_pages h ≡ true = grind (arith, nat_tests) in
+    let low : first_page g ≤ last_page h = grind (arith, nat_tests) in
+    let high : first_page h ≤ last_page g = grind (arith, nat_tests) in
+    let span_g : first_page g ≤ last_page g = memory-span g (HasPages.memory (pages_are g of_g)) in
+    let span_h : first_page h ≤ last_page h = memory-span h (HasPages.memory (pages_are h of_h)) in
+    elim (cases_lt (first_page g) (first_page h)) [
+      | inl before ↦ (first_page h, has_page-true (first_page h) g of_g (omega arith) high, has_page-true (first_page h) h of_h (omega arith) span_h)
+      | inr after ↦ (first_page g, has_page-true (first_page g) g of_g (omega arith) span_g, has_page-true (first_page g) h of_h after low)
+    ]
+  where
+    memory-span : (x : ProgramHeader) → 0 < x.memsz → first_page x ≤ last_page x
+    memory-span x memory = omega arith

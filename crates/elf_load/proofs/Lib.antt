@@ -9,3 +9,4 @@ pub mod Building
 pub mod Tables
 pub mod NoFault
 pub mod Loaded
+mod Examples

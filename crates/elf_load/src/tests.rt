@@ -1,5 +1,6 @@
 //! Files and what is due for them.
 
 mod hostile;
+mod large;
 mod linked;
 mod programs;

@@ -11,6 +11,7 @@ mod sure;
 mod tests;
 mod top_call;
 
+use faults::Fault;
 use outside::{FileShelf, OpenGate, OutSink};
 use std::alloc::Global;
 use std::env;
@@ -19,19 +20,19 @@ use std::process::ExitCode;
 use std::rt::Files;
 use std::sync::Wait;
 use std::thread::Threads;
-use top_call::rseq_main;
-
-/// The exit status where the words aren't of the grammar.
-const USAGE: u8 = 2;
-
-/// The exit status for want of memory.
-const NO_MEMORY: u8 = 7;
+use top_call::{deliver, rseq_main};
 
 fn main(rt: HostRuntime) -> ExitCode {
     match command_words(&rt) {
         Ok(words) => ExitCode::from(run(rt.alloc(), &rt, &words)),
-        Err(status) => ExitCode::from(status),
+        Err(fault) => ExitCode::from(refuse(&rt, fault)),
     }
+}
+
+/// Writes the line of a fault to standard output, and gives the exit status.
+fn refuse(rt: &HostRuntime, fault: Fault) -> u8 {
+    let mut sink = OutSink::new(rt);
+    deliver(&mut sink, fault.line().as_str().as_bytes(), fault.status())
 }
 
 /// Does what the words ask for, with the files of the system and standard output.
@@ -45,12 +46,12 @@ fn run<R: Threads + Wait + Sync + Files + Print + Copy>(
     rseq_main(alloc, rt, words, &mut shelf, &mut sink, &OpenGate)
 }
 
-/// The words of the command line without the program's own name. Where they can't be had, the exit status:
-/// 2 for a word that isn't UTF-8, 7 for want of memory.
-fn command_words(rt: &HostRuntime) -> Result<Vec<String>, u8> {
+/// The words of the command line without the program's own name. A word that isn't UTF-8 is a fault of
+/// usage.
+fn command_words(rt: &HostRuntime) -> Result<Vec<String>, Fault> {
     match env::args(rt) {
-        Ok(args) => args.skip(1).collect(rt.alloc()).map_err(|_| NO_MEMORY),
-        Err(error) if error.kind() == ErrorKind::OutOfMemory => Err(NO_MEMORY),
-        Err(_) => Err(USAGE),
+        Ok(args) => Ok(args.skip(1).collect(rt.alloc())?),
+        Err(error) if error.kind() == ErrorKind::OutOfMemory => Err(Fault::Memory),
+        Err(_) => Err(Fault::Usage),
     }
 }

@@ -1,6 +1,9 @@
 //! The call over devices that never fail: no read fault and no write fault comes.
 
-ghost use Rattle.std.specs.Prelude.{◌≢◌, Some};
+ghost use Rattle.std.specs.Prelude.{◌≡◌, ◌≢◌, ◌⊎◌, Some, IsSome};
+ghost use Rattle.outside.specs.SureShelf.{sure_file};
+ghost use Rattle.rseq_run.specs.Answers.{IsOutput, IsGoodFile, TellsFile, Wrote};
+ghost use Rattle.rseq_run.specs.Words.{texts};
 
 use crate::top_call::{rseq_main, rseq_quiet};
 use outside::{Gate, SureShelf, SureSink};
@@ -8,7 +11,8 @@ use std::alloc::Global;
 use std::sync::Wait;
 use std::thread::Threads;
 
-/// `rseq_main` over files and a sink that never fail. Its status is neither 5 nor 6.
+/// `rseq_main` over files and a sink that never fail. Its status is neither 5 nor 6, and on a file without a
+/// fault it is 0, or 7 for want of memory.
 pub fn sure_main<R: Threads + Wait + Sync, G: Gate + Sync>(
     alloc: Global,
     rt: &R,
@@ -19,19 +23,24 @@ pub fn sure_main<R: Threads + Wait + Sync, G: Gate + Sync>(
 ) -> u8
     ensures no_read_fault { result ≢ 5 }
     ensures no_write_fault { result ≢ 6 }
+    ensures done { result ≡ 0 → Wrote sink.old.told sink.new.told (IsOutput (λ name. Some (sure_file shelf.old.files name)) (texts words.now)) }
+    ensures complete { TellsFile (λ name. Some (sure_file shelf.old.files name)) (texts words.now) IsGoodFile → (result ≡ 0) ⊎ (result ≡ 7) }
 {
     rseq_main(alloc, rt, words, shelf, sink, gate)
 }
 
-/// `rseq_quiet` over files and a sink that never fail. Its status is neither 5 nor 6.
+/// `rseq_quiet` over files and a sink that never fail, with the same promises.
 pub fn sure_quiet(
     alloc: Global,
     words: &[String],
     shelf: &mut SureShelf,
     sink: &mut SureSink,
 ) -> Option<u8>
+    ensures answers { IsSome result }
     ensures no_read_fault { result ≢ Some 5 }
     ensures no_write_fault { result ≢ Some 6 }
+    ensures done { result ≡ Some 0 → Wrote sink.old.told sink.new.told (IsOutput (λ name. Some (sure_file shelf.old.files name)) (texts words.now)) }
+    ensures complete { TellsFile (λ name. Some (sure_file shelf.old.files name)) (texts words.now) IsGoodFile → (result ≡ Some 0) ⊎ (result ≡ Some 7) }
 {
     rseq_quiet(alloc, words, shelf, sink)
 }

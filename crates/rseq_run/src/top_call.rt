@@ -131,7 +131,7 @@ fn solo_text<S: Shelf>(alloc: Global, name: &str, shelf: &mut S) -> Result<Vec<u
 }
 
 /// Writes a text, and gives its status, or that of a failed sink.
-fn deliver<K: Sink>(sink: &mut K, text: &[u8], status: u8) -> u8
+pub fn deliver<K: Sink>(sink: &mut K, text: &[u8], status: u8) -> u8
     ensures delivered { IsDelivered (K.held sink.old) (K.held sink.new) (K.faults sink.old) (K.faults sink.new) text.now status result }
     ensures counts { NeverFalls (K.faults sink.old) (K.faults sink.new) }
 {

@@ -1,0 +1,4 @@
+pub mod Assembly
+pub mod Fields
+pub mod Formats
+pub mod Held

@@ -1,0 +1,4 @@
+//! Tests against words from outside.
+
+mod code;
+mod words;
