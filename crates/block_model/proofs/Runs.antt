@@ -5,14 +5,14 @@ use Rattle.mach_types.specs.declared.events.Choice.{Choice}
 use Rattle.mach_types.specs.declared.events.Choice.TheVariants as asked
 use Rattle.mach_types.specs.declared.events.Entry.{Entry}
 use Rattle.mach_types.specs.declared.events.Why.{Why}
-use Rattle.mach_types.specs.declared.events.Why.TheVariants.{NoHart, NotReady}
+use Rattle.mach_types.specs.declared.events.Why.TheVariants.{NoHart, NoStore, NotReady, Waiting}
 use Rattle.mach_types.specs.declared.limits.End.{End}
 use Rattle.mach_types.specs.Events.{choice_of}
 use Rattle.block_model.specs.declared.refusals.Refused.{Refused}
 use Rattle.block_model.specs.declared.refusals.Refused.TheVariants.{Full, NotEnabled}
 use Rattle.block_model.specs.Setting.{Setting, Seen}
-use Rattle.block_model.specs.History.{History, running, is_ready}
-use Rattle.block_model.specs.Deciding.{history, decide, decide_unless, decide_on, refused_by, final}
+use Rattle.block_model.specs.History.{History, running, is_ready, file, ended}
+use Rattle.block_model.specs.Deciding.{history, decide, decide_unless, decide_on, refused_by, unless, gate, has_waiting}
 use Rattle.block_model.specs.Run.{IsBlockRun}
 use Rattle.block_model.specs.Solo.{IsSolo, solo_choice}
 use Rattle.block_model.proofs.Laws.{history-append}
@@ -25,15 +25,19 @@ either : (b : Bool) (x y : Result Entry Why) (P : Entry → Type 0) → IfOk x P
 either true x y P p q = p
 either false x y P p q = q
 
+by_gate : (w : Option Why) (e : Entry) (P : Entry → Type 0) → P e → IfOk (unless w e) P
+by_gate None e P p = p
+by_gate (Some why) e P p = tt
+
 by_choice : (s : Setting) (before : History) (h : ℕ) (choice : Choice) (t : Option ℕ) → IfOk (decide_on s before h choice t) (IsOf h choice)
 by_choice s before h asked.Exec None = tt
-by_choice s before h asked.Exec (Some t) = (refl, refl)
-by_choice s before h asked.Drain t = tt
+by_choice s before h asked.Exec (Some t) = by_gate (gate s before h (file s t before)) _ (IsOf h asked.Exec) (refl, refl)
+by_choice s before h asked.Drain t = either (has_waiting h before) _ (Err NoStore) (IsOf h asked.Drain) (refl, refl) tt
 by_choice s before h asked.Take t = tt
 by_choice s before h asked.Done None = tt
 by_choice s before h asked.Done (Some t) = tt
 by_choice s before h asked.Preempt None = tt
-by_choice s before h asked.Preempt (Some t) = tt
+by_choice s before h asked.Preempt (Some t) = either (has_waiting h before) (Err Waiting) _ (IsOf h asked.Preempt) tt (refl, refl)
 by_choice s before h (asked.Run u) None = either (is_ready u.0 before) _ (Err NotReady) (IsOf h (asked.Run u)) (refl, refl) tt
 by_choice s before h (asked.Run u) (Some t) = tt
 by_choice s before h asked.Signal None = tt
@@ -57,7 +61,7 @@ by_end s before h choice None =
 -- what is decided is an entry of the hart and the choice that were asked for
 pub decided_of : (s : Setting) (before : History) (h : ℕ) (choice : Choice) → IfOk (decide s before h choice) (IsOf h choice)
 unfolding decide
-decided_of s before h choice = by_end s before h choice (final s before)
+decided_of s before h choice = by_end s before h choice (ended before)
 
 pub decided_is : (s : Setting) (before : History) (h : ℕ) (choice : Choice) (e : Entry) → decide s before h choice ≡ Ok e → IsOf h choice e
 decided_is s before h choice e d = subst (λ r. IfOk r (IsOf h choice)) d (decided_of s before h choice)
@@ -75,5 +79,5 @@ run_kept v w h choice (Ok e) d ok err run = subst (λ (u : Seen). IsBlockRun u.s
 run_kept v w h choice (Err why) d ok err run = subst (λ (u : Seen). IsBlockRun u.setting u.log) (sym err) run
 
 -- an entry by the rule of `solo`
-pub IsSolo-append : (s : Setting) (log : List Entry) (e : Entry) → IsSolo s log → e.hart.0 ≡ 0 → solo_choice (history s log) ≡ Some (choice_of e) → IsSolo s (log ++ e ∷ [])
+pub IsSolo-append : (s : Setting) (log : List Entry) (e : Entry) → IsSolo s log → e.hart.0 ≡ 0 → solo_choice s (history s log) ≡ Some (choice_of e) → IsSolo s (log ++ e ∷ [])
 IsSolo-append s log e solo of_hart chosen = rw history-append (solo, of_hart, chosen)

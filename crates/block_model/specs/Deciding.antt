@@ -1,6 +1,5 @@
 -- Which event may come next, what it does, and how a run has ended.
-use Rattle.std.specs.Prelude.{ℕ, ◌%◌, List, [], ◌∷◌, if◌then◌else◌, Option, Some, None, length, nat_le, ◌==◌, Result, Ok, Err, fold}
-use Rattle.std.specs.Option.{option_or}
+use Rattle.std.specs.Prelude.{ℕ, List, [], ◌∷◌, Bool, if◌then◌else◌, Option, Some, None, is_some, length, take, nat_le, nat_lt, Result, Ok, Err, fold}
 use Rattle.mach_types.specs.declared.events.Choice.{Choice}
 use Rattle.mach_types.specs.declared.events.Choice.TheVariants as asked
 use Rattle.mach_types.specs.declared.events.Entry.{Entry}
@@ -10,44 +9,72 @@ use Rattle.mach_types.specs.declared.events.Why.{Why}
 use Rattle.mach_types.specs.declared.events.Why.TheVariants.{NoHart, Idle, Waiting, NoStore, NoRequest, NotInBarrier, Busy, NotReady, NoSignal}
 use Rattle.mach_types.specs.declared.limits.End.{End}
 use Rattle.mach_types.specs.declared.limits.End.TheVariants as over
-use Rattle.mach_types.specs.Registers.{register}
-use Rattle.elf_load.specs.declared.image.ImagePage.{ImagePage}
+use Rattle.rv_inst.specs.declared.effects.Effect.{Effect}
+use Rattle.rv_inst.specs.Execution.{Outcome, outcome, instruction_gate}
 use Rattle.block_model.specs.declared.refusals.Refused.{Refused}
 use Rattle.block_model.specs.declared.refusals.Refused.TheVariants.{Ended, Full, NotEnabled}
 use Rattle.block_model.specs.Setting.{Setting}
-use Rattle.block_model.specs.Layout.{code_word}
-use Rattle.block_model.specs.Instruction.{File, Built, Addi, Exit, built_from, file_after}
-use Rattle.block_model.specs.History.{Done, Event, History, nothing, running, hart_of, file, ended, is_ready}
+use Rattle.block_model.specs.Instruction.{File, next_effect, next_fault, is_call}
+use Rattle.block_model.specs.Calls.{Called, called, returned}
+use Rattle.block_model.specs.History.{Done, Event, History, nothing, running, file, ended, is_ready, waiting, view, memory, is_writable, reservation, console}
 
--- the instruction that a file comes to, where it is built: an instruction has an address that is a
--- multiple of 4, and register a7, x17, has the number of a call
-abbrev pub instruction_at : List ImagePage → File → Option Built
-instruction_at pages f = if f.pc % 4 == 0 then built_from (code_word pages f.pc) (register f.regs 17) else None
+-- the signal of the fault of a file's next instruction at a place
+abbrev pub fault_at : Setting → History → File → Option ℕ
+fault_at s before f = next_fault s.pages (memory s before) (is_writable s) f
 
--- how an instruction ends the process: `exit` by the only thread, with a0, x10, modulo 256
-abbrev pub ended_by : Built → File → Option End
-ended_by (Addi rd rs1 imm) f = None
-ended_by Exit f = Some (over.Exit (register f.regs 10 % 256))
+-- an event that keeps its hart's reservation, and does nothing else
+abbrev pub quiet : Option ℕ → Done
+quiet r = record nothing { reserved = r }
 
--- what a thread does by an instruction
-abbrev pub done_by : ℕ → File → Option Built → Done
-done_by t f None = nothing
-done_by t f (Some i) = record nothing { files = (t, file_after i f) ∷ []; ended = ended_by i f }
+-- an instruction that faults: the process is killed by the signal, and registers and pc stay as they are
+abbrev pub killed : Option ℕ → ℕ → Done
+killed r signal = record (quiet r) { ended = Some (over.Killed signal) }
+
+-- an instruction other than a call
+abbrev pub done_plain : ℕ → Outcome → Done
+done_plain t o = record nothing {
+  files = (t, record { pc = o.pc; regs = o.regs }) ∷ [];
+  executed = o.executed;
+  entered = o.entered;
+  reserved = o.reserved;
+}
+
+-- a call
+abbrev pub done_call : ℕ → File → Called → Done
+done_call t f c = record nothing {
+  files = (t, returned c.answer f) ∷ [];
+  written = c.written;
+  ended = c.ended;
+}
+
+-- what the next instruction of thread t does, by its fault and its effect, where memory can be read so, the hart sees
+-- its bytes so, the console holds so many bytes, and the hart has this reservation
+abbrev pub done_by : (ℕ → Option ℕ) → (ℕ → Option ℕ) → ℕ → Option ℕ → ℕ → File → Option ℕ → Option Effect → Done
+done_by byte seen held r t f (Some signal) e = killed r signal
+done_by byte seen held r t f None None = quiet r
+done_by byte seen held r t f None (Some e) =
+    if is_call e then done_call t f (called byte held f.regs)
+    else done_plain t (outcome seen f.regs f.pc r e)
+
+-- the next instruction of thread t on hart h at a place
+abbrev pub done_exec : Setting → History → ℕ → ℕ → File → Done
+done_exec s before h t f =
+    done_by (memory s before) (view s before h) (length (console before)) (reservation h before) t f (fault_at s before f) (next_effect s.pages f)
 
 -- what each kind of event does, where this thread runs on the hart
-abbrev pub done_of : Setting → History → Kind → Option ℕ → Done
-done_of s before kind.Exec None = nothing
-done_of s before kind.Exec (Some t) = done_by t (file s t before) (instruction_at s.pages (file s t before))
-done_of s before kind.Drain r = nothing
-done_of s before kind.Take r = nothing
-done_of s before kind.Done r = nothing
-done_of s before kind.Preempt r = nothing
-done_of s before kind.Run r = nothing
-done_of s before kind.Signal r = nothing
+abbrev pub done_of : Setting → History → ℕ → Kind → Option ℕ → Done
+done_of s before h kind.Exec None = nothing
+done_of s before h kind.Exec (Some t) = done_exec s before h t (file s t before)
+done_of s before h kind.Drain r = record (quiet (reservation h before)) { entered = take 1 (waiting h before) }
+done_of s before h kind.Take r = nothing
+done_of s before h kind.Done r = nothing
+done_of s before h kind.Preempt r = nothing
+done_of s before h kind.Run r = nothing
+done_of s before h kind.Signal r = nothing
 
 -- what an entry does after a history
 unfoldable pub done : Setting → History → Entry → Done
-done s before entry = done_of s before entry.kind (running entry.hart.0 before)
+done s before entry = done_of s before entry.hart.0 entry.kind (running entry.hart.0 before)
 
 -- an entry with what it does
 abbrev pub event : Setting → History → Entry → Event
@@ -57,32 +84,44 @@ event s before entry = record { entry = entry; done = done s before entry }
 unfoldable pub history : Setting → List Entry → History
 history s log = fold (λ before entry. event s before entry ∷ before) [] log
 
--- the pc of a thread whose next instruction isn't built
-abbrev pub later_at : File → Option Built → Option End
-later_at f None = Some (over.Later f.pc)
-later_at f (Some i) = None
+-- the pc of a thread, 0 where there is none; and its number, 0 where there is none
+abbrev pub pc_of : Setting → History → Option ℕ → ℕ
+pc_of s before None = 0
+pc_of s before (Some t) = (file s t before).pc
 
--- the first thread has come to an instruction that isn't built
-abbrev pub later : Setting → History → Option ℕ → Option End
-later s before None = None
-later s before (Some h) = later_at (file s 1 before) (instruction_at s.pages (file s 1 before))
+abbrev pub number_of : Option ℕ → ℕ
+number_of None = 0
+number_of (Some t) = t
 
--- the entry of a choice on a hart where this thread runs, or starts
-abbrev pub entry_of : Setting → History → ℕ → Kind → ℕ → Entry
-entry_of s before h k t = record { hart = record { 0 = h }; kind = k; tid = record { 0 = t }; pc = (file s t before).pc }
+-- the entry of an event on a hart where this thread runs, or starts
+abbrev pub entry_of : Setting → History → ℕ → Kind → Option ℕ → Entry
+entry_of s before h k t = record { hart = record { 0 = h }; kind = k; tid = record { 0 = number_of t }; pc = pc_of s before t }
+
+-- an entry, unless a condition fails
+abbrev pub unless : Option Why → Entry → Result Entry Why
+unless None entry = Ok entry
+unless (Some why) entry = Err why
+
+-- the condition of thread t's next instruction on hart h that fails
+abbrev pub gate : Setting → History → ℕ → File → Option Why
+gate s before h f = instruction_gate (length (waiting h before)) (next_effect s.pages f) (is_some (fault_at s before f))
+
+-- whether a store of hart h waits
+abbrev pub has_waiting : ℕ → History → Bool
+has_waiting h before = nat_lt 0 (length (waiting h before))
 
 -- the entry of a choice on a hart of the machine where this thread runs, or the first condition that fails
 abbrev pub decide_on : Setting → History → ℕ → Choice → Option ℕ → Result Entry Why
 decide_on s before h asked.Exec None = Err Idle
-decide_on s before h asked.Exec (Some t) = Ok (entry_of s before h kind.Exec t)
-decide_on s before h asked.Drain r = Err NoStore
+decide_on s before h asked.Exec (Some t) = unless (gate s before h (file s t before)) (entry_of s before h kind.Exec (Some t))
+decide_on s before h asked.Drain r = if has_waiting h before then Ok (entry_of s before h kind.Drain r) else Err NoStore
 decide_on s before h asked.Take r = Err NoRequest
 decide_on s before h asked.Done None = Err Idle
 decide_on s before h asked.Done (Some t) = Err NotInBarrier
 decide_on s before h asked.Preempt None = Err Idle
-decide_on s before h asked.Preempt (Some t) = Err Waiting
+decide_on s before h asked.Preempt (Some t) = if has_waiting h before then Err Waiting else Ok (entry_of s before h kind.Preempt (Some t))
 decide_on s before h (asked.Run u) (Some t) = Err Busy
-decide_on s before h (asked.Run u) None = if is_ready u.0 before then Ok (entry_of s before h kind.Run u.0) else Err NotReady
+decide_on s before h (asked.Run u) None = if is_ready u.0 before then Ok (entry_of s before h kind.Run (Some u.0)) else Err NotReady
 decide_on s before h asked.Signal None = Err Idle
 decide_on s before h asked.Signal (Some t) = Err NoSignal
 
@@ -90,10 +129,6 @@ decide_on s before h asked.Signal (Some t) = Err NoSignal
 abbrev pub refused_by : Result Entry Why → Result Entry Refused
 refused_by (Ok entry) = Ok entry
 refused_by (Err why) = Err (NotEnabled why)
-
--- how the run has ended at a place, where neither the step limit nor the end of the script is looked at
-abbrev pub final : Setting → History → Option End
-final s before = option_or (ended before) (later s before (hart_of 1 before))
 
 -- the entry that comes, or why none does: the run has ended; or the log is full; or a condition fails
 abbrev pub decide_unless : Setting → History → ℕ → Choice → Option End → Result Entry Refused
@@ -105,13 +140,13 @@ decide_unless s before h choice None =
 
 -- what the machine answers to a choice of hart h after a history
 unfoldable pub decide : Setting → History → ℕ → Choice → Result Entry Refused
-decide s before h choice = decide_unless s before h choice (final s before)
+decide s before h choice = decide_unless s before h choice (ended before)
 
--- the end where nothing has ended the run: the step limit, or the script's end
+-- the end where nothing has ended the process: the step limit, or the script's end
 abbrev pub end_unless : Setting → History → Option End → End
 end_unless s before (Some e) = e
 end_unless s before None = if nat_le s.limits.steps (length before) then over.Limit else over.Unended
 
 -- how a run ends that stops at this place
 unfoldable pub end_of : Setting → History → End
-end_of s before = end_unless s before (final s before)
+end_of s before = end_unless s before (ended before)

@@ -1,44 +1,56 @@
--- The instructions that are built, and what they do (RISC-V Unprivileged ISA, RV64I: ADDI and ECALL).
-use Rattle.std.specs.Prelude.{ℕ, ◌+◌, ◌-◌, ◌/◌, ◌%◌, ◌^◌, ◌==◌, ◌&&◌, nat_lt, if◌then◌else◌, Option, Some, None}
+-- The next instruction of a thread: its word, its row, its effect, and the fault that it makes (RISC-V Unprivileged
+-- ISA; which signal a fault is: own, as Linux has it).
+use Rattle.std.specs.Prelude.{ℕ, ◌%◌, ◌==◌, Bool, true, false, List, if◌then◌else◌, Option, Some, None}
+use Rattle.std.specs.Option.{option_map, option_and_then}
 use Rattle.mach_types.specs.declared.registers.Regs.{Regs}
-use Rattle.mach_types.specs.Registers.{register, with_register}
+use Rattle.elf_load.specs.declared.image.ImagePage.{ImagePage}
+use Rattle.rv_inst.specs.declared.effects.Effect.{Effect}
+use Rattle.rv_inst.specs.declared.effects.Effect.TheVariants as effect
+use Rattle.rv_inst.specs.Execution.{fault_in}
+use Rattle.rv_inst.specs.Meaning.{meaning}
+use Rattle.rv_inst.specs.Table.{row_of}
+use Rattle.block_model.specs.Layout.{code_word}
 
 -- what a thread keeps: the address of its next instruction, and its registers
 pub record File : Type 0 where
   pub pc : ℕ
   pub regs : Regs
 
--- an instruction that is built: rd becomes rs1 plus the immediate; or the call `exit` of Linux, number 93
-pub data Built : Type 0 where
-  Addi : (rd rs1 imm : ℕ) → Built
-  Exit : Built
+-- the word that is fetched: instructions stand at multiples of 4, where their bytes may be executed
+abbrev pub fetched : List ImagePage → ℕ → Option ℕ
+fetched pages pc = if pc % 4 == 0 then code_word pages pc else None
 
--- a field of an instruction word: `width` bits from bit `low` on
-abbrev pub field : ℕ → ℕ → ℕ → ℕ
-field word low width = (word / 2 ^ low) % 2 ^ width
+-- what the next instruction of a file asks for, where a word is fetched and has a row
+abbrev pub effect_of : Option ℕ → File → Option Effect
+effect_of word f = option_map (λ i. meaning i f.regs f.pc) (option_and_then row_of word)
 
--- a number of `width` bits in two's complement, as a number modulo 2^64
-abbrev pub sign_extended : ℕ → ℕ → ℕ
-sign_extended n width = if nat_lt n (2 ^ (width - 1)) then n else n + (2 ^ 64 - 2 ^ width)
+abbrev pub next_effect : List ImagePage → File → Option Effect
+next_effect pages f = effect_of (fetched pages f.pc) f
 
--- the built instruction that a word stands for, where register a7 has the call's number: opcode 0010011
--- with funct3 000 is ADDI, whose immediate is bits 31 to 20; the word 0x73 is ECALL
-abbrev pub built_by : ℕ → ℕ → Option Built
-built_by word a7 =
-    if (field word 0 7 == 0x13) && (field word 12 3 == 0) then Some (Addi (field word 7 5) (field word 15 5) (sign_extended (field word 20 12) 12))
-    else if (word == 0x73) && (a7 == 93) then Some Exit
-    else None
+-- the signal of an instruction that isn't fetched or has no row: an address that isn't a multiple of 4 (SIGBUS),
+-- bytes that may not be executed (SIGSEGV), a word without a row (SIGILL)
+abbrev pub fetch_fault : ℕ → Option ℕ → ℕ
+fetch_fault pc None = if pc % 4 == 0 then 11 else 7
+fetch_fault pc (Some word) = 4
 
--- the same, where there may be no word
-abbrev pub built_from : Option ℕ → ℕ → Option Built
-built_from None a7 = None
-built_from (Some word) a7 = built_by word a7
+-- the signal of the first fault of the next instruction, none where it has no fault
+abbrev pub fault_by : (ℕ → Option ℕ) → (ℕ → Bool) → ℕ → Option ℕ → Option Effect → Option ℕ
+fault_by byte writable pc word None = Some (fetch_fault pc word)
+fault_by byte writable pc word (Some e) = fault_in byte writable e
 
--- the pc of the next instruction
-abbrev pub next_pc : ℕ → ℕ
-next_pc pc = (pc + 4) % 2 ^ 64
+abbrev pub next_fault : List ImagePage → (ℕ → Option ℕ) → (ℕ → Bool) → File → Option ℕ
+next_fault pages byte writable f = fault_by byte writable f.pc (fetched pages f.pc) (next_effect pages f)
 
--- the file after an instruction
-abbrev pub file_after : Built → File → File
-file_after (Addi rd rs1 imm) f = record { pc = next_pc f.pc; regs = with_register f.regs rd ((register f.regs rs1 + imm) % 2 ^ 64) }
-file_after Exit f = record { pc = next_pc f.pc; regs = f.regs }
+-- whether an instruction is a system call
+abbrev pub is_call : Effect → Bool
+is_call (effect.Next rd value pc) = false
+is_call (effect.Load at size is_signed rd) = false
+is_call (effect.Store at size value) = false
+is_call (effect.Amo op at size value rd) = false
+is_call (effect.Lr at size rd) = false
+is_call (effect.Sc at size value rd) = false
+is_call (effect.Fence full) = false
+is_call effect.FenceI = false
+is_call effect.Call = true
+is_call effect.Break = false
+is_call effect.Misaligned = false

@@ -1,8 +1,12 @@
-pub mod Console
+pub mod Calls
 pub mod Deciding
 pub mod History
 pub mod Instruction
 pub mod Layout
+pub mod Plain
+pub mod PlainSays
+pub mod Replay
 pub mod Run
 pub mod Setting
+pub mod Sights
 pub mod Solo

@@ -167,12 +167,9 @@ impl HartState {
     /// Ends the reservation where one of these bytes is in its aligned 8 bytes: another hart or the kernel wrote
     /// them. A write of no bytes ends none.
     pub fn lose(&mut self, at: u64, size: u8)
-        ensures some { 0 < size → self.new ≡ record self.old { reserved = execution.lost_by at size self.old.reserved } }
-        ensures none { size ≡ 0 → self.new ≡ self.old }
+        ensures { self.new ≡ record self.old { reserved = execution.lost_by at size self.old.reserved } }
     {
-        if size != 0 {
-            self.reserved = left_by(self.reserved, at, size);
-        }
+        self.reserved = left_by(self.reserved, at, size);
     }
 
     /// Goes on 4 bytes further, with a value in register `rd`.

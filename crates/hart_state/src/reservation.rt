@@ -34,6 +34,6 @@ fn overlaps(start: u64, at: u64, size: u8) -> bool
     if at <= start {
         start - at < u64::from(size)
     } else {
-        at - start < 8
+        size > 0 && at - start < 8
     }
 }

@@ -38,6 +38,4 @@ pub enum End {
     Limit,
     /// Nothing ended the run: the script was over.
     Unended,
-    /// The instruction at this pc isn't built yet.
-    Later(u64),
 }

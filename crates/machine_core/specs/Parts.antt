@@ -1,46 +1,51 @@
 -- What the machine's parts stand for.
-use Rattle.std.specs.Prelude.{ℕ, ◌+◌, ◌*◌, ◌==◌, if◌then◌else◌, List, Option, Some, None, Result, Err, slice_index}
-use Rattle.machine_core.specs.declared.instruction.Instruction.{Instruction}
-use Rattle.machine_core.specs.declared.instruction.Instruction.TheVariants as code
-use Rattle.machine_core.specs.declared.instruction.ThreadFile.{ThreadFile}
+use Rattle.std.specs.Prelude.{ℕ, Bool, ◌≡◌, ◌==◌, List, length, Option, Some, None, Result, Err, if◌then◌else◌}
 use Rattle.mach_types.specs.declared.events.Entry.{Entry}
 use Rattle.mach_types.specs.declared.events.Hart.{Hart}
 use Rattle.mach_types.specs.declared.events.Kind.{Kind}
 use Rattle.mach_types.specs.declared.events.Why.{Why}
 use Rattle.mach_types.specs.declared.events.Why.TheVariants.{Idle}
-use Rattle.block_model.specs.Instruction.{Built, Addi, Exit, File}
-use Rattle.block_model.specs.History.{Done, file_among}
+use Rattle.mach_types.specs.declared.events.Tid.{Tid}
+use Rattle.hart_state.specs.declared.hart.HartState.{HartState}
+use Rattle.rv_inst.specs.declared.effects.Effect.{Effect}
+use Rattle.rv_inst.specs.Execution.{seen_byte, lost_by}
+use Rattle.block_model.specs.Instruction.{File}
+use Rattle.block_model.specs.History.{Done}
+use Rattle.block_model.specs.Deciding.{done_by}
+use Rattle.machine_core.specs.Harts.{file_of}
+use Rattle.machine_core.specs.declared.executing.Touched.{Touched}
+use Rattle.machine_core.specs.declared.machine.Saved.{Saved}
 
--- the instruction that the code keeps
-abbrev pub built_one : Instruction → Built
-built_one (code.Addi rd rs1 imm) = Addi rd rs1 imm
-built_one code.Exit = Exit
+-- what the first thread's next instruction does on a hart, over memory and what the console holds
+abbrev pub done_on : HartState → (ℕ → Option ℕ) → List ℕ → Option ℕ → Option Effect → Done
+done_on x byte held fault e = done_by byte (seen_byte x.buffer byte) (length held) x.reserved 1 (file_of x) fault e
 
--- the same, where there may be none
-abbrev pub built_of : Option Instruction → Option Built
-built_of None = None
-built_of (Some i) = Some (built_one i)
+-- a reservation after bytes were written, if any were
+abbrev pub lost_in : Option Touched → Option ℕ → Option ℕ
+lost_in None r = r
+lost_in (Some t) r = lost_by t.at t.size r
 
--- the file that the code keeps
-abbrev pub file_of : ThreadFile → File
-file_of f = record { pc = f.pc; regs = f.regs }
+-- an instruction leaves all of its hart but the registers, the pc, the buffer and the reservation
+abbrev pub WasKept : HartState → HartState → Type 0
+WasKept old new = new ≡ record old { file = new.file; pc = new.pc; buffer = new.buffer; reserved = new.reserved }
 
--- the word at an offset, the lowest byte first
-abbrev pub word_in : List ℕ → ℕ → ℕ
-word_in bytes k = slice_index bytes k + 256 * (slice_index bytes (k + 1) + 256 * (slice_index bytes (k + 2) + 256 * slice_index bytes (k + 3)))
+-- the file of a thread that doesn't run
+abbrev pub saved_file : Saved → File
+saved_file f = record { pc = f.pc; regs = f.file }
 
--- the file of the first thread after what an event did
-abbrev pub file_set : Done → File → File
-file_set done f = file_among done.files 1 f
+-- the entry of an event on a hart with this thread, at this pc
+abbrev pub entry_from : Hart → Kind → Option Tid → ℕ → Entry
+entry_from h k None pc = record { hart = h; kind = k; tid = record { 0 = 0 }; pc = 0 }
+entry_from h k (Some t) pc = record { hart = h; kind = k; tid = t; pc = pc }
 
--- the entry of an event of the first thread
-abbrev pub entry_with : Hart → Kind → File → Entry
-entry_with h k f = record { hart = h; kind = k; tid = record { 0 = 1 }; pc = f.pc }
+-- a hart after bytes were written, by itself or by another
+abbrev pub lost_if : Bool → Touched → HartState → HartState
+lost_if is_own t x = if is_own then x else record x { reserved = lost_by t.at t.size x.reserved }
 
--- the number of the thread on a hart, where the first thread runs there or elsewhere
-abbrev pub runs_on : Option Hart → ℕ → Option ℕ
-runs_on None h = None
-runs_on (Some g) h = if g.0 == h then Some 1 else None
+-- the hart at place k after bytes were written on a hart, if any were
+abbrev pub lost_unless : Hart → Option Touched → ℕ → HartState → HartState
+lost_unless h None k x = x
+lost_unless h (Some t) k x = lost_if (k == h.0) t x
 
 -- what fails of an event that isn't built yet
 abbrev pub unbuilt_on : Why → Option ℕ → Result Entry Why

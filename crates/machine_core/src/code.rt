@@ -3,21 +3,30 @@
 ghost use Rattle.std.specs.Prelude.{◌≡◌, ◌≢◌, ℕ, ◌<◌, ◌≤◌, ◌+◌, ◌%◌, Some, IfOk, IfSome, IfNone, map, length, slice_index};
 ghost use Rattle.std.specs.Option.{option_copied};
 ghost use Rattle.std.specs.List.Sorted.{IsStrictlyIncreasing};
-ghost use Rattle.block_model.specs.Layout.{code_word, page_of};
-ghost use Rattle.machine_core.specs.Parts.{word_in};
+ghost use Rattle.block_model.specs.Layout.{code_word, page_of, return_byte};
+ghost use Rattle.machine_core.specs.Region.{word_in, word_of, word_of_page};
 
+use crate::search::place_of;
 use elf_load::ImagePage;
 use std::alloc::{AllocError, Global};
 use std::marker::Model;
 
-/// Pages in rising order of number, with the numbers beside them for a search.
+/// The number of the first page of the stack, and how many there are.
+pub const FIRST_STACK_PAGE: u64 = 0x3FF_FF00;
+
+pub const STACK_PAGES: u64 = 64;
+
+/// The number of the page that signal handlers return to.
+pub const RETURN_PAGE: u64 = 0x3FF_FFF0;
+
+/// The pages of an image in rising order of number, with the numbers beside them for a search.
 #[derive(Drop)]
-pub struct Pages {
+pub struct Code {
     numbers: Vec<u64>,
     pages: Vec<ImagePage>,
 }
 
-impl Model for Pages {
+impl Model for Code {
     ghost use Rattle.std.specs.Prelude.{List, ◌≡◌, map};
     ghost use Rattle.std.specs.List.Sorted.{IsStrictlyIncreasing};
     ghost use Rattle.elf_load.specs.declared.image.ImagePage.{ImagePage};
@@ -29,9 +38,9 @@ impl Model for Pages {
     ghost invariant = { λ p. (p.numbers.items ≡ map (λ (q : ImagePage). q.number) p.pages.items) × IsStrictlyIncreasing (map (λ (q : ImagePage). q.number) p.pages.items) };
 }
 
-impl Pages {
+impl Code {
     /// A copy of these pages.
-    pub fn new(alloc: Global, pages: &[ImagePage]) -> Result<Pages, AllocError>
+    pub fn new(alloc: Global, pages: &[ImagePage]) -> Result<Code, AllocError>
         requires { IsStrictlyIncreasing (map (λ p. p.number) pages.now) }
         ensures { IfOk result (λ copied. copied ≡ pages.now) }
     {
@@ -44,14 +53,14 @@ impl Pages {
                 bytes: page.bytes,
             })
             .collect(alloc)?;
-        Ok(Pages { numbers, pages })
+        Ok(Code { numbers, pages })
     }
 
     /// The page with this number.
     fn page(&self, number: u64) -> Option<&ImagePage>
         ensures { option_copied result ≡ page_of self.now number }
     {
-        match index_of(&self.numbers, number) {
+        match place_of(&self.numbers, number) {
             Some(index) => Some(&self.pages[index]),
             None => None,
         }
@@ -63,30 +72,46 @@ impl Pages {
         requires { at % 4 ≡ 0 }
         ensures { result ≡ code_word self.now at }
     {
-        let page = self.page(at / 4096)?;
-        if page.perm & 1 == 0 {
-            return None;
+        let number = at / 4096;
+        if (FIRST_STACK_PAGE..FIRST_STACK_PAGE + STACK_PAGES).contains(&number) {
+            None
+        } else if number == RETURN_PAGE {
+            Some(return_word(at % 4096))
+        } else {
+            executable_word(self.page(number), at % 4096)
         }
-        word(&page.bytes, (at % 4096) as usize)
     }
 }
 
-/// Where a number stands among rising numbers.
-fn index_of(numbers: &[u64], number: u64) -> Option<usize>
-    requires { IsStrictlyIncreasing numbers.now }
-    ensures found { IfSome result (λ i. (i < length numbers.now) × (slice_index numbers.now i ≡ number)) }
-    ensures none { IfNone result ((k : ℕ) → k < length numbers.now → slice_index numbers.now k ≢ number) }
+/// The word at an offset of a page that may be executed, if there is one.
+fn executable_word(page: Option<&ImagePage>, offset: u64) -> Option<u32>
+    requires { offset + 4 ≤ 4096 }
+    ensures { result ≡ word_of_page (option_copied page.entry) offset }
 {
-    match numbers.binary_search(&number) {
-        Ok(index) => Some(index),
-        Err(_) => None,
+    let page = page?;
+    if page.perm & 1 == 0 {
+        return None;
+    }
+    Some(word(&page.bytes, offset as usize))
+}
+
+/// The word of the return page at an offset that is a multiple of 4.
+fn return_word(offset: u64) -> u32
+    requires aligned { offset % 4 ≡ 0 }
+    requires within { offset < 4096 }
+    ensures { result ≡ word_of return_byte offset }
+{
+    match offset {
+        0 => 0x08B0_0893,
+        4 => 0x0000_0073,
+        _ => 0,
     }
 }
 
 /// The little-endian word at an offset.
-fn word(bytes: &[u8], offset: usize) -> Option<u32>
+fn word(bytes: &[u8], offset: usize) -> u32
     requires { offset + 4 ≤ length bytes.now }
-    ensures { result ≡ Some (word_in bytes.now offset) }
+    ensures { result ≡ word_in bytes.now offset }
 {
     let word = [
         bytes[offset],
@@ -94,5 +119,5 @@ fn word(bytes: &[u8], offset: usize) -> Option<u32>
         bytes[offset + 2],
         bytes[offset + 3],
     ];
-    Some(u32::from_le_bytes(word))
+    u32::from_le_bytes(word)
 }

@@ -1,4 +1,13 @@
+mod Causing
 mod Examples
-mod Overs
-mod RuleChoices
+mod Exclusions
+mod Gathering
+mod Numbers
+mod OneOutput
+mod PlainOutputs
+mod Playing
+mod Repeats
+mod SoloSteps
+mod Taken
 mod Wholes
+mod WordExamples

@@ -1,7 +1,14 @@
-pub mod Answers
+pub mod Causes
 pub mod Commands
 pub mod Delivery
+pub mod Options
+pub mod Outputs
+pub mod Parts
+pub mod Playing
+pub mod Programs
 pub mod Runs
+pub mod SoloChoice
 pub mod Statuses
 pub mod Text
+pub mod Told
 pub mod Words

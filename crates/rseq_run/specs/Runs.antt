@@ -1,18 +1,45 @@
--- A machine whose log is made by the fixed rule, on its way and at its end.
-use Rattle.std.specs.Prelude.{◌≡◌, ◌<◌, All}
-use Rattle.block_model.specs.Setting.{Setting, Seen}
+-- Whole runs, and machines on their way.
+use Rattle.std.specs.Prelude.{ℕ, ◌≡◌, ◌≢◌, List, Some, map}
+use Rattle.mach_types.specs.declared.events.Entry.{Entry}
+use Rattle.mach_types.specs.declared.limits.End.TheVariants.{Unended}
+use Rattle.block_model.specs.Deciding.{history, end_of}
+use Rattle.block_model.specs.Replay.{Ask, AllAnswer, IsFirstBad}
 use Rattle.block_model.specs.Run.{IsBlockRun}
+use Rattle.block_model.specs.Setting.{Setting, Seen}
 use Rattle.block_model.specs.Solo.{IsSolo}
-use Rattle.rseq_run.specs.Answers.{IsSoloRun}
+use Rattle.rseq_run.specs.Programs.{asks_of}
 
--- each entry is allowed at its place and is the rule's choice there, and can be printed: its hart is a digit
+-- a whole run on one hart by the fixed rule: each entry is allowed at its place and is the rule's choice there, and the
+-- run isn't left open
+pub record IsSoloRun (s : Setting) (log : List Entry) : Type 0 where
+  pub block_run : IsBlockRun s log
+  pub rule : IsSolo s log
+  pub over : end_of s (history s log) ≢ Unended
+
+-- a whole run of a script: each line can be read, each entry is allowed at its place, and the log has one entry for
+-- each line, in order, of the hart and the event that it asks for, and with the thread and the pc that it says
+pub record IsPlayedRun (s : Setting) (text : List ℕ) (log : List Entry) : Type 0 where
+  pub lines : List Ask
+  pub readable : asks_of text ≡ map Some lines
+  pub block_run : IsBlockRun s log
+  pub answers : AllAnswer lines log
+
+-- the line of this number is the first of a script that is malformed, whose event isn't allowed, or whose thread or pc
+-- differs
+abbrev pub IsFirstBadLine : Setting → List ℕ → ℕ → Type 0
+IsFirstBadLine s text number = IsFirstBad s (asks_of text) number
+
+-- a machine on its way by the fixed rule
 pub record IsSoloSoFar (m : Seen) : Type 0 where
   pub block_run : IsBlockRun m.setting m.log
   pub rule : IsSolo m.setting m.log
-  pub digits : All (λ e. e.hart.0 < 8) m.log
 
--- a whole run from this setting, whose entries can be printed
-pub record IsWhole (s : Setting) (m : Seen) : Type 0 where
+-- a machine at the end of a whole run by the fixed rule from this setting
+pub record IsWholeSolo (s : Setting) (m : Seen) : Type 0 where
   pub setting : m.setting ≡ s
   pub run : IsSoloRun s m.log
-  pub digits : All (λ e. e.hart.0 < 8) m.log
+
+-- a machine at the end of a whole run of a script from this setting
+pub record IsWholePlay (s : Setting) (text : List ℕ) (m : Seen) : Type 0 where
+  pub setting : m.setting ≡ s
+  pub run : IsPlayedRun s text m.log

@@ -5,12 +5,13 @@ use Rattle.elf_load.specs.declared.fault.ElfFault.TheVariants as elf
 use Rattle.outside.specs.declared.faults.FetchError.{FetchError}
 use Rattle.outside.specs.declared.faults.FetchError.TheVariants.{Failed, TooBig, NoMemory}
 use Rattle.rseq_run.specs.declared.faults.Fault.{Fault}
-use Rattle.rseq_run.specs.declared.faults.Fault.TheVariants.{Usage, Read, Memory, Big, Elf}
+use Rattle.rseq_run.specs.declared.faults.Fault.TheVariants.{Usage, Read, Memory, Big, Elf, Script}
 
 -- the exit status of a fault (own); 0 is that of an output, and 6 that of a failed sink
 abbrev pub fault_status : Fault → ℕ
 fault_status Usage = 2
 fault_status (Elf fault) = 3
+fault_status (Script number) = 4
 fault_status Read = 5
 fault_status Memory = 7
 fault_status Big = 8

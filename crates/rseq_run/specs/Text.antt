@@ -4,13 +4,13 @@ use Rattle.std.specs.Prelude.{ℕ, List, [], ◌∷◌, ◌++◌, Option, Some, 
 use Rattle.std.specs.Fmt.{decimal}
 use Rattle.mach_types.specs.declared.events.Entry.{Entry}
 use Rattle.mach_types.specs.declared.limits.End.{End}
-use Rattle.mach_types.specs.declared.limits.End.TheVariants.{Exit, Killed, Stuck, Limit, Unended, Later}
+use Rattle.mach_types.specs.declared.limits.End.TheVariants.{Exit, Killed, Stuck, Limit, Unended}
 use Rattle.elf_load.specs.declared.fault.ElfFault.{ElfFault}
 use Rattle.elf_load.specs.Numbers.{fault_number, fault_detail}
-use Rattle.step_log.specs.Text.{newline, space, hex_text}
+use Rattle.step_log.specs.Text.{newline, space}
 use Rattle.step_log.specs.Grammar.{log_text}
 use Rattle.rseq_run.specs.declared.faults.Fault.{Fault}
-use Rattle.rseq_run.specs.declared.faults.Fault.TheVariants.{Usage, Read, Memory, Big, Elf}
+use Rattle.rseq_run.specs.declared.faults.Fault.TheVariants.{Usage, Read, Memory, Big, Elf, Script}
 
 -- a line of some words and a number
 abbrev pub number_line : List ℕ → ℕ → List ℕ
@@ -24,14 +24,13 @@ console_text console = number_line (codes "console") (length console) ++ console
 abbrev pub entries_text : List Entry → List ℕ
 entries_text log = number_line (codes "log") (length log) ++ log_text log
 
--- how the run ended; a pc is 16 lower-case hexadecimal digits
+-- how the run ended
 abbrev pub end_line : End → List ℕ
 end_line (Exit status) = number_line (codes "end exit") status
 end_line (Killed signal) = number_line (codes "end killed") signal
 end_line Stuck = codes "end stuck\n"
 end_line Limit = codes "end limit\n"
 end_line Unended = codes "end open\n"
-end_line (Later pc) = codes "end later " ++ hex_text 16 pc ++ newline ∷ []
 
 -- the output text of a run: its console, its log and its end
 unfoldable pub output_text : List ℕ → List Entry → End → List ℕ
@@ -52,6 +51,7 @@ fault_words Read = codes "read"
 fault_words Memory = codes "memory"
 fault_words Big = codes "big"
 fault_words (Elf fault) = elf_words fault
+fault_words (Script number) = codes "script " ++ decimal number
 
 -- the line of a fault
 unfoldable pub fault_line : Fault → List ℕ

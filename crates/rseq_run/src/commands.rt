@@ -1,46 +1,94 @@
-//! The words of the command line.
+//! The commands of a command line.
 
-ghost use Rattle.std.specs.Prelude.{◌≡◌, Option, Some, None, option_map};
-ghost use Rattle.rseq_run.specs.Commands.{said};
-ghost use Rattle.rseq_run.specs.Words.{command_of, is_option, solo_of, texts};
+ghost use Rattle.std.specs.Prelude.{◌≡◌, ◌≤◌, IfSome, option_map};
+ghost use Rattle.mach_types.specs.Limits.{InRange};
+ghost use Rattle.rseq_run.specs.Commands.{said, stated};
+ghost use Rattle.rseq_run.specs.Words.{command_of, limits_in, limits_on, play_of, solo_of, texts};
+
+use crate::arguments::{Arguments, FileNames, arguments_of};
+use crate::options::{OptionName, chosen};
+use mach_types::Limits;
 
 /// What the words ask for.
-#[derive(Clone, Copy, Debug, Drop)]
+#[derive(Clone, Copy, Debug, PartialEq, Eq, Drop)]
 pub enum Command<'a> {
     /// Runs the program in the file of this name on one hart, by the fixed rule.
-    Solo(&'a str),
-}
-
-/// Whether a word can't be a name: it begins with `-` and is longer than one character.
-fn is_option(word: &str) -> bool
-    ensures { result ≡ is_option word.now }
-{
-    word.len() > 1 && word.as_bytes().starts_with(b"-")
+    Solo {
+        /// The name of the program's file.
+        program: &'a str,
+        /// The limits of the run, on one hart.
+        limits: Limits,
+    },
+    /// Runs the program in the file of this name on the events of a script.
+    Play {
+        /// The name of the program's file.
+        program: &'a str,
+        /// The name of the script's file.
+        script: &'a str,
+        /// The limits of the run.
+        limits: Limits,
+    },
 }
 
 /// What the words ask for; None exactly where they aren't of the grammar.
 ///
-/// The first word is the command. The grammar has `solo FILE`.
+/// The first word is the command: `solo FILE`, with `--frames` and `--steps`, or `play FILE SCRIPT`, with
+/// `--harts` too. Each limit is in its range.
 #[tactic(auto, unfolding(crate::specs::Words::command_of))]
 pub fn command_of(words: &[String]) -> Option<Command<'_>>
-    ensures { option_map said result ≡ command_of (texts words.now) }
+    ensures command { option_map said result ≡ command_of (texts words.now) }
+    ensures limits { IfSome result (λ command. InRange (limits_in (said command))) }
 {
     let (command, rest) = words.split_first()?;
-    if command.as_str() == "solo" {
-        solo_of(rest)
-    } else {
-        None
+    match command.as_str() {
+        "solo" => solo_of(arguments_of(rest)?),
+        "play" => play_of(arguments_of(rest)?),
+        _ => None,
     }
 }
 
-/// What the words after `solo` ask for: one name, which is `-` or doesn't begin with `-`.
-fn solo_of(names: &[String]) -> Option<Command<'_>>
-    ensures { option_map said result ≡ solo_of (texts names.now) }
+/// The limits of a run on so many harts; None where a number isn't one that its option takes.
+fn limits_on(harts: u8, arguments: &Arguments) -> Option<Limits>
+    requires some_hart { 1 ≤ harts }
+    requires eight_harts { harts ≤ 8 }
+    ensures limits { result ≡ limits_on harts (stated arguments.now) }
+    ensures in_range { IfSome result InRange }
 {
-    let (name, rest) = names.split_first()?;
-    if rest.is_empty() && !is_option(name.as_str()) {
-        Some(Command::Solo(name.as_str()))
-    } else {
-        None
+    let frames = chosen(OptionName::Frames.numbers(), arguments.frames)?;
+    let steps = chosen(OptionName::Steps.numbers(), arguments.steps)?;
+    Some(Limits {
+        harts,
+        frames: u32::try_from(frames).ok()?,
+        steps: u32::try_from(steps).ok()?,
+    })
+}
+
+/// What the arguments of `solo` ask for: one name, and no number of harts.
+fn solo_of(arguments: Arguments<'_>) -> Option<Command<'_>>
+    ensures command { option_map said result ≡ solo_of (stated arguments.entry) }
+    ensures limits { IfSome result (λ command. InRange (limits_in (said command))) }
+{
+    match arguments.names {
+        FileNames::One(program) if arguments.harts.is_none() => Some(Command::Solo {
+            program,
+            limits: limits_on(1, &arguments)?,
+        }),
+        FileNames::Zero | FileNames::One(_) | FileNames::Two(..) => None,
     }
+}
+
+/// What the arguments of `play` ask for: two names.
+fn play_of(arguments: Arguments<'_>) -> Option<Command<'_>>
+    ensures command { option_map said result ≡ play_of (stated arguments.entry) }
+    ensures limits { IfSome result (λ command. InRange (limits_in (said command))) }
+{
+    let FileNames::Two(program, script) = arguments.names else {
+        return None;
+    };
+    let harts = chosen(OptionName::Harts.numbers(), arguments.harts)?;
+    Some(Command::Play {
+        program,
+        script,
+        limits: limits_on(u8::try_from(harts).ok()?, &arguments)?,
+    })
 }

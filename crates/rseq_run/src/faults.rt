@@ -25,6 +25,9 @@ pub enum Fault {
     Big,
     /// The program's file is refused.
     Elf(ElfFault),
+    /// The line of this number, counted from 1, is the first of the script that is malformed, whose event isn't
+    /// allowed, or whose thread or pc differs.
+    Script(u64),
 }
 
 impl Fault {
@@ -35,6 +38,7 @@ impl Fault {
         match self {
             Fault::Usage => 2,
             Fault::Elf(_) => 3,
+            Fault::Script(_) => 4,
             Fault::Read => 5,
             Fault::Memory => 7,
             Fault::Big => 8,
@@ -49,6 +53,7 @@ impl Fault {
         match self {
             Fault::Usage => line_of("usage"),
             Fault::Elf(fault) => elf_line(fault),
+            Fault::Script(number) => script_line(*number),
             Fault::Read => line_of("read"),
             Fault::Memory => line_of("memory"),
             Fault::Big => line_of("big"),
@@ -110,6 +115,16 @@ fn elf_line(fault: &ElfFault) -> ArrayString<64>
     words.push_str("elf ");
     push_number(&mut words, u64::from(fault.number()));
     push_detail(&mut words, fault.detail());
+    line_of(words.as_str())
+}
+
+/// The line of a script that is refused at the line of this number.
+fn script_line(number: u64) -> ArrayString<64>
+    ensures { result.bytes ≡ codes "fault " ++ (codes "script " ++ decimal number) ++ newline ∷ [] }
+{
+    let mut words = ArrayString::<48>::new();
+    words.push_str("script ");
+    push_number(&mut words, number);
     line_of(words.as_str())
 }
 

@@ -2,13 +2,17 @@
 //! it ended.
 #![tactic(auto)]
 
+mod arguments;
 mod commands;
 mod faults;
+mod options;
 mod output;
+mod play;
 mod solo;
 mod sure;
 #[cfg(test)]
 mod tests;
+mod theorems;
 mod top_call;
 
 use faults::Fault;
@@ -20,19 +24,14 @@ use std::process::ExitCode;
 use std::rt::Files;
 use std::sync::Wait;
 use std::thread::Threads;
-use top_call::{deliver, rseq_main};
+use top_call::rseq_main;
 
+/// Where the words can't be taken, nothing is printed, and only the exit status tells the fault.
 fn main(rt: HostRuntime) -> ExitCode {
     match command_words(&rt) {
         Ok(words) => ExitCode::from(run(rt.alloc(), &rt, &words)),
-        Err(fault) => ExitCode::from(refuse(&rt, fault)),
+        Err(fault) => ExitCode::from(fault.status()),
     }
-}
-
-/// Writes the line of a fault to standard output, and gives the exit status.
-fn refuse(rt: &HostRuntime, fault: Fault) -> u8 {
-    let mut sink = OutSink::new(rt);
-    deliver(&mut sink, fault.line().as_str().as_bytes(), fault.status())
 }
 
 /// Does what the words ask for, with the files of the system and standard output.

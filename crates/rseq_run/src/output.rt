@@ -1,9 +1,9 @@
 //! The text of a run.
 
 ghost use Rattle.std.specs.Prelude.{◌≡◌, ◌<◌, ◌∷◌, [], ◌++◌, All, IfOk, OnOk, codes};
-ghost use Rattle.step_log.specs.Text.{newline, hex_digit, hex_text};
+ghost use Rattle.step_log.specs.Text.{newline};
 ghost use Rattle.step_log.specs.Grammar.{log_text};
-ghost use Rattle.rseq_run.specs.Answers.{log_output};
+ghost use Rattle.rseq_run.specs.Outputs.{log_output};
 ghost use Rattle.rseq_run.specs.Text.{number_line, console_text, entries_text, end_line};
 
 use arrayvec::ArrayVec;
@@ -93,39 +93,5 @@ fn push_end(text: &mut Vec<u8>, end: End) -> Result<(), AllocError>
         End::Stuck => text.extend_from_slice(b"end stuck\n"),
         End::Limit => text.extend_from_slice(b"end limit\n"),
         End::Unended => text.extend_from_slice(b"end open\n"),
-        End::Later(pc) => push_later(text, pc),
-    }
-}
-
-/// Appends the line of an end at an instruction that isn't built.
-fn push_later(text: &mut Vec<u8>, pc: u64) -> Result<(), AllocError>
-    ensures { OnOk result (text.new.items ≡ text.old.items ++ end_line (End.Later pc)) }
-{
-    text.extend_from_slice(b"end later ")?;
-    push_hex(text, pc)?;
-    text.push(b'\n')?;
-    Ok(())
-}
-
-/// Appends a number as 16 hexadecimal digits.
-fn push_hex(text: &mut Vec<u8>, number: u64) -> Result<(), AllocError>
-    ensures { OnOk result (text.new.items ≡ text.old.items ++ hex_text 16 number) }
-{
-    for place in 0..16u32 {
-        let digit = (number >> (60 - 4 * place)) % 16;
-        text.push(hex_digit(digit as u8))?;
-    }
-    Ok(())
-}
-
-/// The character of a hexadecimal digit, in lower case.
-fn hex_digit(digit: u8) -> u8
-    requires { digit < 16 }
-    ensures { result ≡ hex_digit digit }
-{
-    if digit < 10 {
-        b'0' + digit
-    } else {
-        b'a' + (digit - 10)
     }
 }

@@ -2,8 +2,10 @@
 
 ghost use Rattle.std.specs.Prelude.{◌≡◌, ◌≢◌, ◌⊎◌, Some, IsSome};
 ghost use Rattle.outside.specs.SureShelf.{sure_file};
-ghost use Rattle.rseq_run.specs.Answers.{IsOutput, IsGoodFile, TellsFile, Wrote};
-ghost use Rattle.rseq_run.specs.Words.{texts};
+ghost use Rattle.rseq_run.specs.Causes.{Wrote};
+ghost use Rattle.rseq_run.specs.Outputs.{IsOutput, IsPlainOutput};
+ghost use Rattle.rseq_run.specs.Told.{TellsGoodFiles};
+ghost use Rattle.rseq_run.specs.Words.{command_of, texts};
 
 use crate::top_call::{rseq_main, rseq_quiet};
 use outside::{Gate, SureShelf, SureSink};
@@ -11,8 +13,8 @@ use std::alloc::Global;
 use std::sync::Wait;
 use std::thread::Threads;
 
-/// `rseq_main` over files and a sink that never fail. Its status is neither 5 nor 6, and on a file without a
-/// fault it is 0, or 7 for want of memory.
+/// `rseq_main` over files and a sink that never fail. Its status is neither 5 nor 6, and on good
+/// files it is 0, or 7 for want of memory.
 pub fn sure_main<R: Threads + Wait + Sync, G: Gate + Sync>(
     alloc: Global,
     rt: &R,
@@ -24,7 +26,8 @@ pub fn sure_main<R: Threads + Wait + Sync, G: Gate + Sync>(
     ensures no_read_fault { result ≢ 5 }
     ensures no_write_fault { result ≢ 6 }
     ensures done { result ≡ 0 → Wrote sink.old.told sink.new.told (IsOutput (λ name. Some (sure_file shelf.old.files name)) (texts words.now)) }
-    ensures complete { TellsFile (λ name. Some (sure_file shelf.old.files name)) (texts words.now) IsGoodFile → (result ≡ 0) ⊎ (result ≡ 7) }
+    ensures plain { result ≡ 0 → Wrote sink.old.told sink.new.told (IsPlainOutput (λ name. Some (sure_file shelf.old.files name)) (texts words.now)) }
+    ensures complete { TellsGoodFiles (λ name. Some (sure_file shelf.old.files name)) (command_of (texts words.now)) → (result ≡ 0) ⊎ (result ≡ 7) }
 {
     rseq_main(alloc, rt, words, shelf, sink, gate)
 }
@@ -40,7 +43,8 @@ pub fn sure_quiet(
     ensures no_read_fault { result ≢ Some 5 }
     ensures no_write_fault { result ≢ Some 6 }
     ensures done { result ≡ Some 0 → Wrote sink.old.told sink.new.told (IsOutput (λ name. Some (sure_file shelf.old.files name)) (texts words.now)) }
-    ensures complete { TellsFile (λ name. Some (sure_file shelf.old.files name)) (texts words.now) IsGoodFile → (result ≡ Some 0) ⊎ (result ≡ Some 7) }
+    ensures plain { result ≡ Some 0 → Wrote sink.old.told sink.new.told (IsPlainOutput (λ name. Some (sure_file shelf.old.files name)) (texts words.now)) }
+    ensures complete { TellsGoodFiles (λ name. Some (sure_file shelf.old.files name)) (command_of (texts words.now)) → (result ≡ Some 0) ⊎ (result ≡ Some 7) }
 {
     rseq_quiet(alloc, words, shelf, sink)
 }

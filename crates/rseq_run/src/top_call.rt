@@ -1,18 +1,25 @@
 //! The top call: from words, files and a sink to a status.
 
-ghost use Rattle.std.specs.Prelude.{◌≡◌, ◌≢◌, ◌⊎◌, ℕ, None, Some, IfOk, IfErr, IfSome, IsSome};
+ghost use Rattle.std.specs.Prelude.{◌≡◌, ◌≢◌, ◌⊎◌, ℕ, Some, None, IfOk, IfErr, IfSome, IsErrAnd, IsSome};
+ghost use Rattle.mach_types.specs.Limits.{InRange};
+ghost use Rattle.elf_load.specs.Images.{IsBootable};
 ghost use Rattle.outside.specs.Counts.{Rose, NeverFalls, NoneFalls};
 ghost use Rattle.outside.specs.Told.{Gained};
-ghost use Rattle.rseq_run.specs.Answers.{IsOutput, IsSoloOutput, IsElfLine, IsCause, IsDue, IsStatus, IsGoodFile, IsBadFile, IsBigFile, HasBigFile, ReadFailed, TellsFile, Wrote, WrotePrefix};
-ghost use Rattle.rseq_run.specs.Delivery.{IsCauseAt, IsDelivered};
+ghost use Rattle.rseq_run.specs.Causes.{HasBigFile, IsCause, IsCauseOf, IsDue, IsElfLine, IsScriptLine, IsStatus, NoneFailed, ReadFailed, Wrote, WrotePrefix};
+ghost use Rattle.rseq_run.specs.Delivery.{IsDelivered, IsProgramCause, IsScriptCause};
+ghost use Rattle.rseq_run.specs.Outputs.{IsOutput, IsPlainOutput, IsPlayOutput, IsSoloOutput};
+ghost use Rattle.rseq_run.specs.Programs.{IsProgram, IsScript};
+ghost use Rattle.rseq_run.specs.Statuses.{fault_status};
 ghost use Rattle.rseq_run.specs.Text.{fault_line};
-ghost use Rattle.rseq_run.specs.Words.{command_of as command_in, texts};
+ghost use Rattle.rseq_run.specs.Told.{TellsBadScript, TellsBigFile, TellsFaultyProgram, TellsGoodFiles};
+ghost use Rattle.rseq_run.specs.Words.{Play as PlayOf, Solo as SoloOf, command_of as command_in, texts};
 
 use crate::commands::{Command, command_of};
 use crate::faults::Fault;
 use crate::output::output_text;
+use crate::play::play;
 use crate::solo::run_solo;
-use elf_load::load;
+use elf_load::{Image, load};
 use mach_types::Limits;
 use outside::{Gate, Shelf, Sink, emit, fetch};
 use std::alloc::Global;
@@ -20,14 +27,10 @@ use std::sync::Wait;
 use std::thread::Threads;
 
 /// How many bytes a program's file may have.
-const MOST_FILE_BYTES: usize = 8_388_608;
+const MOST_PROGRAM_BYTES: usize = 8_388_608;
 
-/// The limits of `solo`.
-const SOLO_LIMITS: Limits = Limits {
-    harts: 1,
-    frames: 4096,
-    steps: 200_000,
-};
+/// How many bytes a script may have.
+const MOST_SCRIPT_BYTES: usize = 67_108_864;
 
 /// The exit status of a call that wrote its output.
 const DONE: u8 = 0;
@@ -52,16 +55,20 @@ pub fn rseq_main<R: Threads + Wait + Sync, S: Shelf, K: Sink, G: Gate + Sync>(
 ) -> u8
     ensures statuses { IsStatus result }
     ensures done { result ≡ 0 → Wrote (K.held sink.old) (K.held sink.new) (IsOutput (S.file shelf.old) (texts words.now)) }
+    ensures plain { result ≡ 0 → Wrote (K.held sink.old) (K.held sink.new) (IsPlainOutput (S.file shelf.old) (texts words.now)) }
     ensures usage { result ≡ 2 → (command_in (texts words.now) ≡ None) × Gained (K.held sink.old) (K.held sink.new) (fault_line Fault.Usage) }
     ensures usage_always { command_in (texts words.now) ≡ None → (result ≡ 2) ⊎ (result ≡ 6) }
     ensures elf { result ≡ 3 → Wrote (K.held sink.old) (K.held sink.new) (IsElfLine (S.file shelf.old) (texts words.now)) }
-    ensures read { result ≡ 5 → ReadFailed (texts words.now) (S.faults shelf.old) (S.faults shelf.new) × Gained (K.held sink.old) (K.held sink.new) (fault_line Fault.Read) }
+    ensures script { result ≡ 4 → Wrote (K.held sink.old) (K.held sink.new) (IsScriptLine (S.file shelf.old) (texts words.now)) }
+    ensures read { result ≡ 5 → ReadFailed (S.file shelf.old) (texts words.now) (S.faults shelf.old) (S.faults shelf.new) × Gained (K.held sink.old) (K.held sink.new) (fault_line Fault.Read) }
     ensures write { result ≡ 6 → Rose (K.faults sink.old) (K.faults sink.new) × WrotePrefix (K.held sink.old) (K.held sink.new) (IsDue (S.file shelf.old) (texts words.now) (S.faults shelf.old) (S.faults shelf.new)) }
     ensures memory { result ≡ 7 → Gained (K.held sink.old) (K.held sink.new) (fault_line Fault.Memory) }
     ensures big { result ≡ 8 → HasBigFile (S.file shelf.old) (texts words.now) × Gained (K.held sink.old) (K.held sink.new) (fault_line Fault.Big) }
-    ensures complete { TellsFile (S.file shelf.old) (texts words.now) IsGoodFile → ¬ (ReadFailed (texts words.now) (S.faults shelf.old) (S.faults shelf.new)) → ¬ (Rose (K.faults sink.old) (K.faults sink.new)) → (result ≡ 0) ⊎ (result ≡ 7) }
-    ensures elf_always { TellsFile (S.file shelf.old) (texts words.now) IsBadFile → ¬ (ReadFailed (texts words.now) (S.faults shelf.old) (S.faults shelf.new)) → ¬ (Rose (K.faults sink.old) (K.faults sink.new)) → (result ≡ 3) ⊎ (result ≡ 7) }
-    ensures big_always { TellsFile (S.file shelf.old) (texts words.now) IsBigFile → ¬ (ReadFailed (texts words.now) (S.faults shelf.old) (S.faults shelf.new)) → ¬ (Rose (K.faults sink.old) (K.faults sink.new)) → (result ≡ 8) ⊎ (result ≡ 7) }
+    ensures complete { TellsGoodFiles (S.file shelf.old) (command_in (texts words.now)) → NoneFailed (S.file shelf.old) (texts words.now) (S.faults shelf.old) (S.faults shelf.new) (K.faults sink.old) (K.faults sink.new) → (result ≡ 0) ⊎ (result ≡ 7) }
+    ensures elf_always { TellsFaultyProgram (S.file shelf.old) (command_in (texts words.now)) → NoneFailed (S.file shelf.old) (texts words.now) (S.faults shelf.old) (S.faults shelf.new) (K.faults sink.old) (K.faults sink.new) → (result ≡ 3) ⊎ (result ≡ 7) }
+    ensures script_always { TellsBadScript (S.file shelf.old) (command_in (texts words.now)) → NoneFailed (S.file shelf.old) (texts words.now) (S.faults shelf.old) (S.faults shelf.new) (K.faults sink.old) (K.faults sink.new) → (result ≡ 4) ⊎ (result ≡ 7) }
+    ensures big_always { TellsBigFile (S.file shelf.old) (command_in (texts words.now)) → NoneFailed (S.file shelf.old) (texts words.now) (S.faults shelf.old) (S.faults shelf.new) (K.faults sink.old) (K.faults sink.new) → (result ≡ 8) ⊎ (result ≡ 7) }
+    ensures untouched { command_in (texts words.now) ≡ None → shelf.new ≡ shelf.old }
     ensures files { S.file shelf.new ≡ S.file shelf.old }
     ensures shelf_counts { NoneFalls (S.faults shelf.old) (S.faults shelf.new) }
     ensures sink_counts { NeverFalls (K.faults sink.old) (K.faults sink.new) }
@@ -84,16 +91,20 @@ pub fn rseq_quiet<S: Shelf, K: Sink>(
     ensures answers { IsSome result }
     ensures statuses { IfSome result (λ status. IsStatus status) }
     ensures done { IfSome result (λ status. status ≡ 0 → Wrote (K.held sink.old) (K.held sink.new) (IsOutput (S.file shelf.old) (texts words.now))) }
+    ensures plain { IfSome result (λ status. status ≡ 0 → Wrote (K.held sink.old) (K.held sink.new) (IsPlainOutput (S.file shelf.old) (texts words.now))) }
     ensures usage { IfSome result (λ status. status ≡ 2 → (command_in (texts words.now) ≡ None) × Gained (K.held sink.old) (K.held sink.new) (fault_line Fault.Usage)) }
     ensures usage_always { IfSome result (λ status. command_in (texts words.now) ≡ None → (status ≡ 2) ⊎ (status ≡ 6)) }
     ensures elf { IfSome result (λ status. status ≡ 3 → Wrote (K.held sink.old) (K.held sink.new) (IsElfLine (S.file shelf.old) (texts words.now))) }
-    ensures read { IfSome result (λ status. status ≡ 5 → ReadFailed (texts words.now) (S.faults shelf.old) (S.faults shelf.new) × Gained (K.held sink.old) (K.held sink.new) (fault_line Fault.Read)) }
+    ensures script { IfSome result (λ status. status ≡ 4 → Wrote (K.held sink.old) (K.held sink.new) (IsScriptLine (S.file shelf.old) (texts words.now))) }
+    ensures read { IfSome result (λ status. status ≡ 5 → ReadFailed (S.file shelf.old) (texts words.now) (S.faults shelf.old) (S.faults shelf.new) × Gained (K.held sink.old) (K.held sink.new) (fault_line Fault.Read)) }
     ensures write { IfSome result (λ status. status ≡ 6 → Rose (K.faults sink.old) (K.faults sink.new) × WrotePrefix (K.held sink.old) (K.held sink.new) (IsDue (S.file shelf.old) (texts words.now) (S.faults shelf.old) (S.faults shelf.new))) }
     ensures memory { IfSome result (λ status. status ≡ 7 → Gained (K.held sink.old) (K.held sink.new) (fault_line Fault.Memory)) }
     ensures big { IfSome result (λ status. status ≡ 8 → HasBigFile (S.file shelf.old) (texts words.now) × Gained (K.held sink.old) (K.held sink.new) (fault_line Fault.Big)) }
-    ensures complete { IfSome result (λ status. TellsFile (S.file shelf.old) (texts words.now) IsGoodFile → ¬ (ReadFailed (texts words.now) (S.faults shelf.old) (S.faults shelf.new)) → ¬ (Rose (K.faults sink.old) (K.faults sink.new)) → (status ≡ 0) ⊎ (status ≡ 7)) }
-    ensures elf_always { IfSome result (λ status. TellsFile (S.file shelf.old) (texts words.now) IsBadFile → ¬ (ReadFailed (texts words.now) (S.faults shelf.old) (S.faults shelf.new)) → ¬ (Rose (K.faults sink.old) (K.faults sink.new)) → (status ≡ 3) ⊎ (status ≡ 7)) }
-    ensures big_always { IfSome result (λ status. TellsFile (S.file shelf.old) (texts words.now) IsBigFile → ¬ (ReadFailed (texts words.now) (S.faults shelf.old) (S.faults shelf.new)) → ¬ (Rose (K.faults sink.old) (K.faults sink.new)) → (status ≡ 8) ⊎ (status ≡ 7)) }
+    ensures complete { IfSome result (λ status. TellsGoodFiles (S.file shelf.old) (command_in (texts words.now)) → NoneFailed (S.file shelf.old) (texts words.now) (S.faults shelf.old) (S.faults shelf.new) (K.faults sink.old) (K.faults sink.new) → (status ≡ 0) ⊎ (status ≡ 7)) }
+    ensures elf_always { IfSome result (λ status. TellsFaultyProgram (S.file shelf.old) (command_in (texts words.now)) → NoneFailed (S.file shelf.old) (texts words.now) (S.faults shelf.old) (S.faults shelf.new) (K.faults sink.old) (K.faults sink.new) → (status ≡ 3) ⊎ (status ≡ 7)) }
+    ensures script_always { IfSome result (λ status. TellsBadScript (S.file shelf.old) (command_in (texts words.now)) → NoneFailed (S.file shelf.old) (texts words.now) (S.faults shelf.old) (S.faults shelf.new) (K.faults sink.old) (K.faults sink.new) → (status ≡ 4) ⊎ (status ≡ 7)) }
+    ensures big_always { IfSome result (λ status. TellsBigFile (S.file shelf.old) (command_in (texts words.now)) → NoneFailed (S.file shelf.old) (texts words.now) (S.faults shelf.old) (S.faults shelf.new) (K.faults sink.old) (K.faults sink.new) → (status ≡ 8) ⊎ (status ≡ 7)) }
+    ensures untouched { command_in (texts words.now) ≡ None → shelf.new ≡ shelf.old }
     ensures files { S.file shelf.new ≡ S.file shelf.old }
     ensures shelf_counts { NoneFalls (S.faults shelf.old) (S.faults shelf.new) }
     ensures sink_counts { NeverFalls (K.faults sink.old) (K.faults sink.new) }
@@ -107,31 +118,96 @@ pub fn rseq_quiet<S: Shelf, K: Sink>(
 /// The output of the words, or the fault that is due. All memory is taken here.
 fn answer<S: Shelf>(alloc: Global, words: &[String], shelf: &mut S) -> Result<Vec<u8>, Fault>
     ensures output { IfOk result (λ text. IsOutput (S.file shelf.old) (texts words.now) text.items) }
+    ensures plain { IfOk result (λ text. IsPlainOutput (S.file shelf.old) (texts words.now) text.items) }
     ensures cause { IfErr result (IsCause (S.file shelf.old) (texts words.now) (S.faults shelf.old) (S.faults shelf.new)) }
+    ensures good { TellsGoodFiles (S.file shelf.old) (command_in (texts words.now)) → ¬ (ReadFailed (S.file shelf.old) (texts words.now) (S.faults shelf.old) (S.faults shelf.new)) → IfErr result (λ fault. fault ≡ Fault.Memory) }
+    ensures faulty { TellsFaultyProgram (S.file shelf.old) (command_in (texts words.now)) → ¬ (ReadFailed (S.file shelf.old) (texts words.now) (S.faults shelf.old) (S.faults shelf.new)) → IsErrAnd result (λ fault. (fault_status fault ≡ 3) ⊎ (fault ≡ Fault.Memory)) }
+    ensures bad_line { TellsBadScript (S.file shelf.old) (command_in (texts words.now)) → ¬ (ReadFailed (S.file shelf.old) (texts words.now) (S.faults shelf.old) (S.faults shelf.new)) → IsErrAnd result (λ fault. (fault_status fault ≡ 4) ⊎ (fault ≡ Fault.Memory)) }
+    ensures too_big { TellsBigFile (S.file shelf.old) (command_in (texts words.now)) → ¬ (ReadFailed (S.file shelf.old) (texts words.now) (S.faults shelf.old) (S.faults shelf.new)) → IsErrAnd result (λ fault. (fault ≡ Fault.Big) ⊎ (fault ≡ Fault.Memory)) }
+    ensures untouched { command_in (texts words.now) ≡ None → shelf.new ≡ shelf.old }
     ensures files { S.file shelf.new ≡ S.file shelf.old }
     ensures counts { NoneFalls (S.faults shelf.old) (S.faults shelf.new) }
 {
     match command_of(words) {
-        Some(Command::Solo(name)) => solo_text(alloc, name, shelf),
+        Some(Command::Solo { program, limits }) => solo_text(alloc, program, limits, shelf),
+        Some(
+            Command::Play {
+                program,
+                script,
+                limits,
+            },
+        ) => play_text(alloc, program, script, limits, shelf),
         None => Err(Fault::Usage),
     }
 }
 
-/// The text of `solo` on the file of this name.
-fn solo_text<S: Shelf>(alloc: Global, name: &str, shelf: &mut S) -> Result<Vec<u8>, Fault>
-    ensures output { IfOk result (λ text. IsSoloOutput (S.file shelf.old) name.now text.items) }
-    ensures cause { IfErr result (IsCauseAt (S.file shelf.old) name.now (S.faults shelf.old) (S.faults shelf.new)) }
+/// The text of `solo` on the program of this name.
+fn solo_text<S: Shelf>(
+    alloc: Global,
+    program: &str,
+    limits: Limits,
+    shelf: &mut S,
+) -> Result<Vec<u8>, Fault>
+    requires { InRange limits }
+    ensures output { IfOk result (λ text. IsSoloOutput (S.file shelf.old) program.now limits text.items) }
+    ensures cause { IfErr result (IsCauseOf (S.file shelf.old) (Some (SoloOf program.now limits)) (S.faults shelf.old) (S.faults shelf.new)) }
     ensures files { S.file shelf.new ≡ S.file shelf.old }
     ensures counts { NoneFalls (S.faults shelf.old) (S.faults shelf.new) }
 {
-    let bytes = fetch(alloc, shelf, name, MOST_FILE_BYTES)?;
-    let image = load(alloc, &bytes, &SOLO_LIMITS)?;
-    let machine = run_solo(alloc, &image, SOLO_LIMITS)?;
+    let image = taken(alloc, program, &limits, shelf)?;
+    let machine = run_solo(alloc, &image, limits)?;
     Ok(output_text(alloc, &machine)?)
 }
 
+/// The text of `play` on the program and the script of these names.
+fn play_text<S: Shelf>(
+    alloc: Global,
+    program: &str,
+    script: &str,
+    limits: Limits,
+    shelf: &mut S,
+) -> Result<Vec<u8>, Fault>
+    requires { InRange limits }
+    ensures output { IfOk result (λ text. IsPlayOutput (S.file shelf.old) program.now script.now limits text.items) }
+    ensures cause { IfErr result (IsCauseOf (S.file shelf.old) (Some (PlayOf program.now script.now limits)) (S.faults shelf.old) (S.faults shelf.new)) }
+    ensures files { S.file shelf.new ≡ S.file shelf.old }
+    ensures counts { NoneFalls (S.faults shelf.old) (S.faults shelf.new) }
+{
+    let image = taken(alloc, program, &limits, shelf)?;
+    let lines = script_read(alloc, script, shelf)?;
+    let machine = play(alloc, &image, limits, &lines)?;
+    Ok(output_text(alloc, &machine)?)
+}
+
+/// The image of the program of this name.
+fn taken<S: Shelf>(
+    alloc: Global,
+    name: &str,
+    limits: &Limits,
+    shelf: &mut S,
+) -> Result<Image, Fault>
+    ensures taken { IfOk result (IsProgram (S.file shelf.old) name.now limits.now) }
+    ensures bootable { IfOk result (IsBootable limits.now.frames) }
+    ensures cause { IfErr result (IsProgramCause (S.file shelf.old) name.now limits.now (S.faults shelf.old) (S.faults shelf.new)) }
+    ensures files { S.file shelf.new ≡ S.file shelf.old }
+    ensures counts { NoneFalls (S.faults shelf.old) (S.faults shelf.new) }
+{
+    let bytes = fetch(alloc, shelf, name, MOST_PROGRAM_BYTES)?;
+    Ok(load(alloc, &bytes, limits)?)
+}
+
+/// The text of the script of this name.
+fn script_read<S: Shelf>(alloc: Global, name: &str, shelf: &mut S) -> Result<Vec<u8>, Fault>
+    ensures read { IfOk result (λ lines. IsScript (S.file shelf.old) name.now lines.items) }
+    ensures cause { IfErr result (IsScriptCause (S.file shelf.old) name.now (S.faults shelf.old) (S.faults shelf.new)) }
+    ensures files { S.file shelf.new ≡ S.file shelf.old }
+    ensures counts { NoneFalls (S.faults shelf.old) (S.faults shelf.new) }
+{
+    Ok(fetch(alloc, shelf, name, MOST_SCRIPT_BYTES)?)
+}
+
 /// Writes a text, and gives its status, or that of a failed sink.
-pub fn deliver<K: Sink>(sink: &mut K, text: &[u8], status: u8) -> u8
+fn deliver<K: Sink>(sink: &mut K, text: &[u8], status: u8) -> u8
     ensures delivered { IsDelivered (K.held sink.old) (K.held sink.new) (K.faults sink.old) (K.faults sink.new) text.now status result }
     ensures counts { NeverFalls (K.faults sink.old) (K.faults sink.new) }
 {

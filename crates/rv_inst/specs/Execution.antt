@@ -91,10 +91,11 @@ instruction_gate waiting done faults =
 abbrev pub reserved_at : ℕ → ℕ
 reserved_at at = at - at % 8
 
--- a reservation after another hart or the kernel wrote these bytes
+-- whether one of the bytes of a write is among the 8 from r on; a write of no bytes has none there
 abbrev pub has_reserved : ℕ → ℕ → ℕ → Bool
-has_reserved r at size = nat_lt r (at + size) && nat_lt at (r + 8)
+has_reserved r at size = nat_lt 0 size && (nat_lt r (at + size) && nat_lt at (r + 8))
 
+-- a reservation after another hart or the kernel wrote these bytes
 abbrev pub lost_by : ℕ → ℕ → Option ℕ → Option ℕ
 lost_by at size None = None
 lost_by at size (Some r) = if has_reserved r at size then None else Some r

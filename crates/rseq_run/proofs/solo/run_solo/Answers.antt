@@ -1,4 +1,4 @@
-use Rattle.rseq_run.proofs.Overs.{so_far_booted}
+use Rattle.rseq_run.proofs.SoloSteps.{so_far_booted}
 use Rattle.rseq_run.proofs.solo.run_solo.Goals as goal
 
 pub events-init : goal.events-init

@@ -1,0 +1,91 @@
+#!/usr/bin/env python3
+"""Refuses each allocation of the program in turn, and says what it answered.
+
+    bench/refused_allocations.py [PROGRAM]
+
+PROGRAM is crates/rseq_run/out/rseq_run where it isn't given. Wants a C compiler, `cc`, for bench/refuse_allocation.c, which stands
+between the program and the C library. Each command line is run once with no refusal, once for each of its allocations with that one
+refused, and once for each with that one and all later ones refused. The program must end with status 7 and `fault memory` (with
+nothing printed while it takes the words of its command line), or give its own status and text. Ends with 1 at any other answer.
+"""
+import collections
+import os
+import pathlib
+import subprocess
+import sys
+import tempfile
+
+HERE = pathlib.Path(__file__).resolve().parent
+ROOT = HERE.parent
+BUILT = ROOT / 'crates' / 'rseq_run' / 'out' / 'rseq_run'
+EXAMPLES = ROOT / 'examples'
+WANT = 7, b'fault memory\n'
+NO_WORDS = 7, b''
+
+LINES = [
+    ['solo', ROOT / 'crates' / 'rseq_run' / 'data' / 'exit7.elf'],
+    ['solo', EXAMPLES / 'compute' / 'compute.elf', '--steps', '20000'],
+    ['solo', EXAMPLES / 'fault' / 'fault.elf'],
+    ['play', EXAMPLES / 'hello' / 'hello.elf', EXAMPLES / 'hello' / 'moved.script', '--harts', '2'],
+    ['play', EXAMPLES / 'moves' / 'moves.elf', EXAMPLES / 'moves' / 'moved.script'],
+    ['play', EXAMPLES / 'moves' / 'moves.elf', EXAMPLES / 'moves' / 'store_waits.script'],
+    ['solo', EXAMPLES / 'check.py'],
+    ['solo'],
+]
+
+
+def run(program, shim, line, refuse):
+    """The status and the text of the program, and how often it asked for memory."""
+    end, start = os.pipe()
+    env = {**os.environ, 'LD_PRELOAD': str(shim), 'REFUSE': refuse, 'COUNT_TO': str(start)}
+    ran = subprocess.run([program, *line], stdin=subprocess.DEVNULL, stdout=subprocess.PIPE, pass_fds=[start], env=env)
+    os.close(start)
+    with os.fdopen(end) as count:
+        return (ran.returncode, ran.stdout), int(count.read())
+
+
+def ranges(numbers):
+    """Numbers as text, neighbours joined."""
+    parts = []
+    for number in numbers:
+        if parts and parts[-1][1] == number - 1:
+            parts[-1][1] = number
+        else:
+            parts.append([number, number])
+    return ', '.join(str(one) if one == other else f'{one} to {other}' for one, other in parts)
+
+
+def sweep(program, shim, line):
+    """Runs a command line with each refusal, prints what came, and says whether nothing else did."""
+    own, count = run(program, shim, line, '0')
+    names = {own: f'its own answer (status {own[0]}, {len(own[1])} bytes)', WANT: 'status 7, fault memory', NO_WORDS: 'status 7, nothing printed'}
+    shown = ' '.join(word if isinstance(word, str) else word.name for word in line)
+    print(f'{shown}: {count} allocations')
+    is_well = True
+    for ending, what in [('', 'refused alone'), ('..', 'refused with all later ones')]:
+        came = collections.defaultdict(list)
+        for number in range(1, count + 1):
+            came[run(program, shim, line, f'{number}{ending}')[0]].append(number)
+        # (once a fault line is printed, the words were taken)
+        is_well &= max(came[NO_WORDS], default=0) < min(came[WANT], default=count + 1)
+        for answer, numbers in came.items():
+            if not numbers:
+                continue
+            is_well &= answer in names
+            print(f'  {what}, {ranges(numbers)}: {names.get(answer, f"WRONG: status {answer[0]}, {answer[1][:60]!r}")}')
+    return is_well
+
+
+def main():
+    program = pathlib.Path(sys.argv[1]).resolve() if len(sys.argv) > 1 else BUILT
+    if not program.is_file():
+        sys.exit(f'{program} is no file: build it with `rt ci` first')
+    with tempfile.TemporaryDirectory() as room:
+        shim = pathlib.Path(room) / 'refuse.so'
+        subprocess.run(['cc', '-O1', '-shared', '-fPIC', '-o', shim, HERE / 'refuse_allocation.c', '-ldl'], check=True)
+        wrong = sum(not sweep(program, shim, line) for line in LINES)
+    print(f'{len(LINES) - wrong} of {len(LINES)} command lines gave no other answer')
+    sys.exit(1 if wrong else 0)
+
+
+main()

@@ -1,0 +1,82 @@
+//! What is read of one hart of a machine.
+
+ghost use Rattle.std.specs.Prelude.{◌≡◌, ◌<◌, Option};
+ghost use Rattle.mach_types.specs.Bytes.{IsAccessSize, word_at};
+ghost use Rattle.block_model.specs.Deciding.{history};
+ghost use Rattle.block_model.specs.History.{running, view};
+ghost use Rattle.block_model.specs.Sights.{IsSight, effect_on, first_ready as first_ready_at};
+ghost use Rattle.machine_core.specs.Harts.{IsHart};
+
+use crate::machine::{FIRST, Machine};
+use crate::next::{effect_of_next, is_local, next_of};
+use hart_state::HartState;
+use mach_types::{Hart, Sight, Tid};
+use rv_inst::Effect;
+
+impl Machine {
+    /// The state of a hart.
+    pub fn hart(&self, hart: Hart) -> &HartState
+        requires { hart.0 < self.now.setting.limits.harts }
+        ensures { IsHart self.now.setting (history self.now.setting self.now.log) hart.0 result.now }
+    {
+        &self.harts[hart.0 as usize]
+    }
+
+    /// The little-endian number of `size` bytes from `at` on, as a hart sees them: each byte is that of its
+    /// youngest waiting store that has it, else memory's. None exactly where one of them can't be read.
+    pub fn view(&self, hart: Hart, at: u64, size: u8) -> Option<u64>
+        requires hart { hart.0 < self.now.setting.limits.harts }
+        requires size { IsAccessSize size }
+        ensures { result ≡ word_at (view self.now.setting (history self.now.setting self.now.log) hart.0) at size }
+    {
+        self.hart(hart).buffer.look(&self.memory, at, size)
+    }
+
+    /// What the next instruction of a hart's thread asks for. None exactly where the hart is idle, where nothing
+    /// can be executed at the pc, or where the word there is no instruction.
+    pub fn next_effect(&self, hart: Hart) -> Option<Effect>
+        requires { hart.0 < self.now.setting.limits.harts }
+        ensures { result ≡ effect_on self.now.setting (history self.now.setting self.now.log) (running hart.0 (history self.now.setting self.now.log)) }
+    {
+        let state = self.hart(hart);
+        if state.is_idle() {
+            None
+        } else {
+            effect_of_next(&self.code, state)
+        }
+    }
+
+    /// The first ready thread.
+    fn first_ready(&self) -> Option<Tid>
+        ensures { result ≡ first_ready_at (history self.now.setting self.now.log) }
+    {
+        if self.placed.is_none() {
+            Some(FIRST)
+        } else {
+            None
+        }
+    }
+
+    /// What a scheduler sees of a hart.
+    pub fn sight(&self, hart: Hart) -> Sight
+        requires { hart.0 < self.now.setting.limits.harts }
+        ensures { IsSight self.now.setting (history self.now.setting self.now.log) hart.0 result }
+    {
+        let state = self.hart(hart);
+        let next = next_of(&self.code, &self.memory, state);
+        let refusal = state.exec_gate(next.effect.as_ref(), next.fault.is_some());
+        Sight {
+            idle: state.is_idle(),
+            first_ready: self.first_ready(),
+            in_barrier: false,
+            all_taken: false,
+            requested: false,
+            stores: state.buffer.len(),
+            deliverable: false,
+            exec_enabled: refusal.is_none(),
+            local: !state.is_idle() && is_local(next.effect.as_ref()),
+            ran: state.ran,
+            credit: state.credit,
+        }
+    }
+}

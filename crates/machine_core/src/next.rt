@@ -1,0 +1,102 @@
+//! The next instruction of a thread: its word, its effect, and its fault.
+
+ghost use Rattle.std.specs.Prelude.{◌≡◌, Some, IfSome, false};
+ghost use Rattle.std.specs.Option.{option_copied, option_map_or};
+ghost use Rattle.rv_inst.specs.Sizes.{HasAccessSizes};
+ghost use Rattle.block_model.specs.Instruction.{fetched as word_fetched, effect_of, fetch_fault as fault_of_fetch, fault_by, next_effect, next_fault};
+ghost use Rattle.machine_core.specs.Harts.{file_of};
+ghost use Rattle.machine_core.specs.Locals.{sets_register};
+ghost use Rattle.machine_core.specs.Region.{byte_in, can_write_in};
+
+use crate::code::Code;
+use crate::memory::Memory;
+use hart_state::HartState;
+use mach_types::Regs;
+use rv_decode::decode;
+use rv_exec::effect;
+use rv_inst::Effect;
+
+/// What the next instruction of a thread asks for, where it was fetched and has a row, and the signal of its fault.
+#[derive(Clone, Copy, Debug, Drop)]
+pub struct Next {
+    pub effect: Option<Effect>,
+    pub fault: Option<u8>,
+}
+
+/// SIGILL, SIGBUS and SIGSEGV of Linux.
+const SIGILL: u8 = 4;
+
+const SIGBUS: u8 = 7;
+
+const SIGSEGV: u8 = 11;
+
+/// The word at a pc: instructions stand at multiples of 4.
+fn fetched(code: &Code, pc: u64) -> Option<u32>
+    ensures { result ≡ word_fetched code.now pc }
+{
+    if pc % 4 == 0 { code.fetch(pc) } else { None }
+}
+
+/// The effect of a word, where it has a row.
+fn effect_of_word(word: Option<u32>, regs: &Regs, pc: u64) -> Option<Effect>
+    ensures effect { result ≡ effect_of word (record { pc = pc; regs = regs.now }) }
+    ensures sizes { IfSome result HasAccessSizes }
+{
+    let inst = decode(word?)?;
+    Some(effect(&inst, regs, pc))
+}
+
+/// The signal where nothing was fetched, or the word has no row.
+fn fetch_fault(pc: u64, word: Option<u32>) -> u8
+    ensures { result ≡ fault_of_fetch pc word }
+{
+    match word {
+        Some(_) => SIGILL,
+        None if pc % 4 == 0 => SIGSEGV,
+        None => SIGBUS,
+    }
+}
+
+/// The signal of the first fault of an instruction.
+fn fault_of_next(
+    memory: &Memory,
+    state: &HartState,
+    word: Option<u32>,
+    effect: Option<Effect>,
+) -> Option<u8>
+    requires { IfSome effect HasAccessSizes }
+    ensures { result ≡ fault_by (byte_in memory.now) (can_write_in memory.now) state.now.pc word effect }
+{
+    match effect {
+        Some(effect) => state.fault_of(memory, &effect),
+        None => Some(fetch_fault(state.pc, word)),
+    }
+}
+
+/// What the next instruction of the thread on a hart asks for, where it was fetched and has a row.
+pub fn effect_of_next(code: &Code, state: &HartState) -> Option<Effect>
+    ensures { result ≡ next_effect code.now (file_of state.now) }
+{
+    effect_of_word(fetched(code, state.pc), &state.file, state.pc)
+}
+
+/// Whether an instruction with this effect sets a register and the pc, and does nothing else.
+pub fn is_local(effect: Option<&Effect>) -> bool
+    ensures { result ≡ option_map_or sets_register (option_copied effect.entry) false }
+{
+    matches!(effect, Some(Effect::Next { .. }))
+}
+
+/// The next instruction of the thread on a hart.
+pub fn next_of(code: &Code, memory: &Memory, state: &HartState) -> Next
+    ensures effect { result.effect ≡ next_effect code.now (file_of state.now) }
+    ensures fault { result.fault ≡ next_fault code.now (byte_in memory.now) (can_write_in memory.now) (file_of state.now) }
+    ensures sizes { IfSome result.effect HasAccessSizes }
+{
+    let word = fetched(code, state.pc);
+    let effect = effect_of_word(word, &state.file, state.pc);
+    Next {
+        effect,
+        fault: fault_of_next(memory, state, word, effect),
+    }
+}

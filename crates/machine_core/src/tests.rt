@@ -1,0 +1,7 @@
+//! Tests: small programs, with values found by hand.
+
+mod bench;
+mod calls;
+mod events;
+mod faults;
+mod readers;

@@ -1,0 +1,147 @@
+//! A machine of two harts that runs a small program.
+
+ghost use Rattle.std.specs.Prelude.{◌≡◌, ◌<◌, IfOk};
+ghost use Rattle.mach_types.specs.Bytes.{IsAccessSize};
+
+use crate::{Machine, Refused};
+use elf_load::load;
+use mach_types::{Choice, End, Entry, Hart, Limits, Sight, Tid, Why};
+use std::alloc::{AllocError, Global};
+use std::process::Abort;
+use std::test::Fail;
+
+/// The address of a program's first instruction.
+pub const ENTRY: u64 = 0x100b0;
+
+/// A page of zeros that can be read and written.
+pub const DATA: u64 = 0x20000;
+
+/// The headers of a file whose code stands from [`ENTRY`] on, in one segment with them, and whose second segment
+/// is the page [`DATA`].
+const HEADERS: [u8; 176] = [
+    0x7f, 0x45, 0x4c, 0x46, 0x02, 0x01, 0x01, 0x00, 0x00, 0x00, 0x00, 0x00, 0x00, 0x00, 0x00, 0x00,
+    0x02, 0x00, 0xf3, 0x00, 0x01, 0x00, 0x00, 0x00, 0xb0, 0x00, 0x01, 0x00, 0x00, 0x00, 0x00, 0x00,
+    0x40, 0x00, 0x00, 0x00, 0x00, 0x00, 0x00, 0x00, 0x00, 0x00, 0x00, 0x00, 0x00, 0x00, 0x00, 0x00,
+    0x00, 0x00, 0x00, 0x00, 0x40, 0x00, 0x38, 0x00, 0x02, 0x00, 0x00, 0x00, 0x00, 0x00, 0x00, 0x00,
+    0x01, 0x00, 0x00, 0x00, 0x05, 0x00, 0x00, 0x00, 0x00, 0x00, 0x00, 0x00, 0x00, 0x00, 0x00, 0x00,
+    0x00, 0x00, 0x01, 0x00, 0x00, 0x00, 0x00, 0x00, 0x00, 0x00, 0x01, 0x00, 0x00, 0x00, 0x00, 0x00,
+    0x30, 0x01, 0x00, 0x00, 0x00, 0x00, 0x00, 0x00, 0x30, 0x01, 0x00, 0x00, 0x00, 0x00, 0x00, 0x00,
+    0x00, 0x10, 0x00, 0x00, 0x00, 0x00, 0x00, 0x00, 0x01, 0x00, 0x00, 0x00, 0x06, 0x00, 0x00, 0x00,
+    0x00, 0x00, 0x00, 0x00, 0x00, 0x00, 0x00, 0x00, 0x00, 0x00, 0x02, 0x00, 0x00, 0x00, 0x00, 0x00,
+    0x00, 0x00, 0x02, 0x00, 0x00, 0x00, 0x00, 0x00, 0x00, 0x00, 0x00, 0x00, 0x00, 0x00, 0x00, 0x00,
+    0x00, 0x10, 0x00, 0x00, 0x00, 0x00, 0x00, 0x00, 0x00, 0x10, 0x00, 0x00, 0x00, 0x00, 0x00, 0x00,
+];
+
+/// How long a file is: it has room for 32 instructions.
+const FILE_SIZE: usize = 304;
+
+/// The first thread begins to run.
+pub const RUN: Choice = Choice::Run(Tid(1));
+
+/// A file with these instructions, and zeros behind them.
+fn file(alloc: Global, words: &[u32]) -> Result<Vec<u8>, AllocError> {
+    let mut file = HEADERS.to_vec(alloc)?;
+    for word in words {
+        file.extend_from_slice(&word.to_le_bytes())?;
+    }
+    file.resize(FILE_SIZE, 0)?;
+    Ok(file)
+}
+
+/// A machine of two harts.
+#[derive(Drop)]
+pub struct Bench {
+    machine: Machine,
+    ghost two_harts: { machine.setting.limits.harts ≡ 2 },
+}
+
+impl Bench {
+    /// A machine that has done nothing yet, over these instructions, with a log of 100 entries.
+    pub fn new(alloc: Global, words: &[u32]) -> Result<Bench, Fail> {
+        Bench::with_steps(alloc, words, 100)
+    }
+
+    /// A machine that has done nothing yet, over these instructions, with a log of so many entries.
+    pub fn with_steps(alloc: Global, words: &[u32], steps: u32) -> Result<Bench, Fail>
+        requires some { 0 < steps }
+        requires few { steps < 1000 }
+    {
+        let limits = Limits {
+            harts: 2,
+            frames: 128,
+            steps,
+        };
+        let image = load(alloc, &file(alloc, words)?, &limits)?;
+        Ok(Bench {
+            machine: Machine::boot(alloc, &image, limits, 0)?,
+        })
+    }
+
+    /// Makes an event that must be allowed.
+    pub fn make(&mut self, rt: &impl Abort, hart: u8, choice: Choice) {
+        let answer = self.machine.step(Hart(hart), choice);
+        assert!(rt; answer.is_ok(), "{answer:?}");
+    }
+
+    /// Makes so many events of one kind that must be allowed.
+    pub fn make_all(&mut self, rt: &impl Abort, hart: u8, choice: Choice, count: u8) {
+        for _ in 0..count {
+            self.make(rt, hart, choice);
+        }
+    }
+
+    /// The event must be refused so, and leave the log as it was.
+    pub fn expect_refused(&mut self, rt: &impl Abort, hart: u8, choice: Choice, refused: Refused) {
+        let count = self.machine.log().len();
+        assert_eq!(rt; self.machine.step(Hart(hart), choice), Err(refused));
+        assert_eq!(rt; self.machine.log().len(), count);
+    }
+
+    /// The condition of the event that fails must be this.
+    pub fn expect_why(&mut self, rt: &impl Abort, hart: u8, choice: Choice, why: Why) {
+        self.expect_refused(rt, hart, choice, Refused::NotEnabled(why));
+    }
+
+    /// The number of bytes as the hart sees them must be this.
+    pub fn expect_view(&self, rt: &impl Abort, hart: u8, at: u64, size: u8, value: Option<u64>)
+        requires hart { hart < 2 }
+        requires size { IsAccessSize size }
+    {
+        assert_eq!(rt; self.machine.view(Hart(hart), at, size), value, "at {at}");
+    }
+
+    /// The register of the hart's thread must have this value.
+    pub fn expect_register(&self, rt: &impl Abort, hart: u8, number: u8, value: u64)
+        requires { hart < 2 }
+    {
+        assert_eq!(rt;
+            self.machine.hart(Hart(hart)).file.get(number),
+            value,
+            "x{number}"
+        );
+    }
+
+    /// The end must be this.
+    pub fn expect_end(&self, rt: &impl Abort, end: End) {
+        assert_eq!(rt; self.machine.end(), end);
+    }
+
+    /// The last entry of the log must be this.
+    pub fn expect_last(&self, rt: &impl Abort, entry: Entry) {
+        assert_eq!(rt; self.machine.log().last().copied(), Some(entry));
+    }
+
+    /// What a scheduler sees of the hart must be this.
+    pub fn expect_sight(&self, rt: &impl Abort, hart: u8, sight: Sight)
+        requires { hart < 2 }
+    {
+        assert_eq!(rt; self.machine.sight(Hart(hart)), sight);
+    }
+
+    /// The machine.
+    pub fn machine(&self) -> &Machine
+        ensures { result.now.setting.limits.harts ≡ 2 }
+    {
+        &self.machine
+    }
+}

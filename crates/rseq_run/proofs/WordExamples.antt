@@ -1,0 +1,145 @@
+-- Worked examples of words, by computation.
+use Rattle.std.proofs.Common.{◌≡◌, ℕ, [], ◌∷◌, Some, None, refl, codes}
+use Rattle.mach_types.specs.declared.limits.Limits.{Limits}
+use Rattle.rseq_run.specs.Words.{Solo, Play, arguments_of, command_of}
+
+abbrev limits : ℕ → ℕ → ℕ → Limits
+limits harts frames steps = record { harts = harts; frames = frames; steps = steps }
+
+-- the limits where no option is given
+solo_defaults : command_of (codes "solo" ∷ codes "F" ∷ []) ≡ Some (Solo (codes "F") (limits 1 4096 200000))
+unfolding command_of arguments_of
+solo_defaults = refl
+
+play_defaults : command_of (codes "play" ∷ codes "F" ∷ codes "S" ∷ []) ≡ Some (Play (codes "F") (codes "S") (limits 2 4096 200000))
+unfolding command_of arguments_of
+play_defaults = refl
+
+-- an option stands before or behind the name, as one word or as two
+value_behind_equals : command_of (codes "solo" ∷ codes "--steps=1" ∷ codes "F" ∷ []) ≡ Some (Solo (codes "F") (limits 1 4096 1))
+unfolding command_of arguments_of
+value_behind_equals = refl
+
+value_in_next_word : command_of (codes "solo" ∷ codes "F" ∷ codes "--steps" ∷ codes "1" ∷ []) ≡ Some (Solo (codes "F") (limits 1 4096 1))
+unfolding command_of arguments_of
+value_in_next_word = refl
+
+two_options : command_of (codes "solo" ∷ codes "--frames" ∷ codes "128" ∷ codes "--steps=5" ∷ codes "F" ∷ []) ≡ Some (Solo (codes "F") (limits 1 128 5))
+unfolding command_of arguments_of
+two_options = refl
+
+most_harts : command_of (codes "play" ∷ codes "F" ∷ codes "S" ∷ codes "--harts=8" ∷ []) ≡ Some (Play (codes "F") (codes "S") (limits 8 4096 200000))
+unfolding command_of arguments_of
+most_harts = refl
+
+-- behind `--` each word is a name
+options_ended : command_of (codes "solo" ∷ codes "--steps" ∷ codes "1" ∷ codes "--" ∷ codes "F" ∷ []) ≡ Some (Solo (codes "F") (limits 1 4096 1))
+unfolding command_of arguments_of
+options_ended = refl
+
+name_like_an_option : command_of (codes "solo" ∷ codes "--" ∷ codes "--steps" ∷ []) ≡ Some (Solo (codes "--steps") (limits 1 4096 200000))
+unfolding command_of arguments_of
+name_like_an_option = refl
+
+name_of_two_dashes : command_of (codes "solo" ∷ codes "--" ∷ codes "--" ∷ []) ≡ Some (Solo (codes "--") (limits 1 4096 200000))
+unfolding command_of arguments_of
+name_of_two_dashes = refl
+
+-- `-` alone is a name, and so is the empty word
+name_of_one_dash : command_of (codes "solo" ∷ codes "-" ∷ []) ≡ Some (Solo (codes "-") (limits 1 4096 200000))
+unfolding command_of arguments_of
+name_of_one_dash = refl
+
+name_of_no_character : command_of (codes "solo" ∷ codes "" ∷ []) ≡ Some (Solo (codes "") (limits 1 4096 200000))
+unfolding command_of arguments_of
+name_of_no_character = refl
+
+-- a number may have leading zeros, but 20 digits at most
+leading_zeros : command_of (codes "solo" ∷ codes "--steps=00001" ∷ codes "F" ∷ []) ≡ Some (Solo (codes "F") (limits 1 4096 1))
+unfolding command_of arguments_of
+leading_zeros = refl
+
+many_digits : command_of (codes "solo" ∷ codes "--steps=000000000000000000001" ∷ codes "F" ∷ []) ≡ None
+unfolding command_of arguments_of
+many_digits = refl
+
+-- no command, or another one
+no_word : command_of ([]) ≡ None
+unfolding command_of arguments_of
+no_word = refl
+
+another_command : command_of (codes "Solo" ∷ codes "F" ∷ []) ≡ None
+unfolding command_of arguments_of
+another_command = refl
+
+-- the number of names is exact
+solo_no_name : command_of (codes "solo" ∷ []) ≡ None
+unfolding command_of arguments_of
+solo_no_name = refl
+
+solo_two_names : command_of (codes "solo" ∷ codes "F" ∷ codes "G" ∷ []) ≡ None
+unfolding command_of arguments_of
+solo_two_names = refl
+
+play_one_name : command_of (codes "play" ∷ codes "F" ∷ []) ≡ None
+unfolding command_of arguments_of
+play_one_name = refl
+
+play_three_names : command_of (codes "play" ∷ codes "F" ∷ codes "S" ∷ codes "T" ∷ []) ≡ None
+unfolding command_of arguments_of
+play_three_names = refl
+
+-- an option that the command has not, one that no command has, and one that is given twice
+solo_harts : command_of (codes "solo" ∷ codes "--harts" ∷ codes "2" ∷ codes "F" ∷ []) ≡ None
+unfolding command_of arguments_of
+solo_harts = refl
+
+unknown_option : command_of (codes "solo" ∷ codes "--step" ∷ codes "1" ∷ codes "F" ∷ []) ≡ None
+unfolding command_of arguments_of
+unknown_option = refl
+
+short_option : command_of (codes "solo" ∷ codes "-x" ∷ []) ≡ None
+unfolding command_of arguments_of
+short_option = refl
+
+given_twice : command_of (codes "solo" ∷ codes "--steps=1" ∷ codes "--steps=1" ∷ codes "F" ∷ []) ≡ None
+unfolding command_of arguments_of
+given_twice = refl
+
+-- an option without a value, or with one that is no number
+no_value : command_of (codes "solo" ∷ codes "F" ∷ codes "--steps" ∷ []) ≡ None
+unfolding command_of arguments_of
+no_value = refl
+
+empty_value : command_of (codes "solo" ∷ codes "--steps=" ∷ codes "F" ∷ []) ≡ None
+unfolding command_of arguments_of
+empty_value = refl
+
+negative_value : command_of (codes "solo" ∷ codes "--steps" ∷ codes "-1" ∷ codes "F" ∷ []) ≡ None
+unfolding command_of arguments_of
+negative_value = refl
+
+plus_value : command_of (codes "solo" ∷ codes "--steps=+1" ∷ codes "F" ∷ []) ≡ None
+unfolding command_of arguments_of
+plus_value = refl
+
+two_equals : command_of (codes "solo" ∷ codes "--steps=1=1" ∷ codes "F" ∷ []) ≡ None
+unfolding command_of arguments_of
+two_equals = refl
+
+-- a number out of its range
+too_few_steps : command_of (codes "solo" ∷ codes "--steps" ∷ codes "0" ∷ codes "F" ∷ []) ≡ None
+unfolding command_of arguments_of
+too_few_steps = refl
+
+too_many_steps : command_of (codes "solo" ∷ codes "--steps" ∷ codes "1000001" ∷ codes "F" ∷ []) ≡ None
+unfolding command_of arguments_of
+too_many_steps = refl
+
+too_many_harts : command_of (codes "play" ∷ codes "F" ∷ codes "S" ∷ codes "--harts" ∷ codes "9" ∷ []) ≡ None
+unfolding command_of arguments_of
+too_many_harts = refl
+
+too_few_frames : command_of (codes "play" ∷ codes "F" ∷ codes "S" ∷ codes "--frames" ∷ codes "127" ∷ []) ≡ None
+unfolding command_of arguments_of
+too_few_frames = refl

@@ -1,0 +1,8 @@
+use Rattle.rseq_run.proofs.Repeats.{solo_again, play_again}
+use Rattle.rseq_run.proofs.theorems.printed_log_replays.Goals as goal
+
+pub returns-clause-solo : goal.returns-clause-solo
+returns-clause-solo c = solo_again
+
+pub returns-clause-play : goal.returns-clause-play
+returns-clause-play c = play_again

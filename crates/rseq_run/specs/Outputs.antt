@@ -1,0 +1,78 @@
+-- The output of a command: the text of a whole run.
+use Rattle.std.specs.Prelude.{ℕ, ◌≡◌, List, Option, Some, None, Ok, map}
+use Rattle.mach_types.specs.declared.events.Entry.{Entry}
+use Rattle.mach_types.specs.declared.limits.Limits.{Limits}
+use Rattle.elf_load.specs.declared.image.Image.{Image}
+use Rattle.block_model.specs.Setting.{Setting}
+use Rattle.block_model.specs.History.{console}
+use Rattle.block_model.specs.Deciding.{history, end_of}
+use Rattle.block_model.specs.Plain.{PlainRun, plain_end, plain_run, plain_solo}
+use Rattle.block_model.specs.Replay.{Ask}
+use Rattle.rseq_run.specs.Programs.{Files, IsProgram, IsScript, asks_of, start_of}
+use Rattle.rseq_run.specs.Runs.{IsSoloRun, IsPlayedRun}
+use Rattle.rseq_run.specs.Text.{output_text}
+use Rattle.rseq_run.specs.Words.{Command, Solo, Play, command_of}
+
+-- the output text of a log: its lines, and the console and the end that it comes to
+abbrev pub log_output : Setting → List Entry → List ℕ
+log_output s log = output_text (console (history s log)) log (end_of s (history s log))
+
+-- the text that `solo` writes: that of a whole run of the program by the fixed rule
+pub record IsSoloOutput (files : Files) (program : List ℕ) (limits : Limits) (written : List ℕ) : Type 0 where
+  pub image : Image
+  pub taken : IsProgram files program limits image
+  pub log : List Entry
+  pub run : IsSoloRun (start_of image limits) log
+  pub text : written ≡ log_output (start_of image limits) log
+
+-- the text that `play` writes: that of a whole run of the program by the script
+pub record IsPlayOutput (files : Files) (program script : List ℕ) (limits : Limits) (written : List ℕ) : Type 0 where
+  pub image : Image
+  pub taken : IsProgram files program limits image
+  pub lines : List ℕ
+  pub read : IsScript files script lines
+  pub log : List Entry
+  pub run : IsPlayedRun (start_of image limits) lines log
+  pub text : written ≡ log_output (start_of image limits) log
+
+-- the output of a command
+abbrev pub IsOutputOf : Files → Option Command → List ℕ → Type 0
+IsOutputOf files None written = ⊥
+IsOutputOf files (Some (Solo program limits)) written = IsSoloOutput files program limits written
+IsOutputOf files (Some (Play program script limits)) written = IsPlayOutput files program script limits written
+
+-- the output of the words
+abbrev pub IsOutput : Files → List (List ℕ) → List ℕ → Type 0
+IsOutput files words written = IsOutputOf files (command_of words) written
+
+-- the output text of the plain machine's run: what it holds on its console, the entries that it made, and its end
+abbrev pub plain_output : Setting → PlainRun → List ℕ
+plain_output s run = output_text run.machine.console run.log (plain_end s run.machine)
+
+-- the text of the plain machine's own run of the program by the fixed rule, for as many steps as the limits allow
+pub record IsPlainSoloOutput (files : Files) (program : List ℕ) (limits : Limits) (written : List ℕ) : Type 0 where
+  pub image : Image
+  pub taken : IsProgram files program limits image
+  pub text : written ≡ plain_output (start_of image limits) (plain_solo (start_of image limits) limits.steps)
+
+-- the text of the plain machine's run of the program over the lines of the script
+pub record IsPlainPlayOutput (files : Files) (program script : List ℕ) (limits : Limits) (written : List ℕ) : Type 0 where
+  pub image : Image
+  pub taken : IsProgram files program limits image
+  pub lines : List ℕ
+  pub read : IsScript files script lines
+  pub asks : List Ask
+  pub readable : asks_of lines ≡ map Some asks
+  pub run : PlainRun
+  pub made : plain_run (start_of image limits) asks ≡ Ok run
+  pub text : written ≡ plain_output (start_of image limits) run
+
+-- the plain machine's output of a command
+abbrev pub IsPlainOutputOf : Files → Option Command → List ℕ → Type 0
+IsPlainOutputOf files None written = ⊥
+IsPlainOutputOf files (Some (Solo program limits)) written = IsPlainSoloOutput files program limits written
+IsPlainOutputOf files (Some (Play program script limits)) written = IsPlainPlayOutput files program script limits written
+
+-- the plain machine's output of the words
+abbrev pub IsPlainOutput : Files → List (List ℕ) → List ℕ → Type 0
+IsPlainOutput files words written = IsPlainOutputOf files (command_of words) written

@@ -1,0 +1,74 @@
+-- The files that a command names: a program, whose image it runs, and a script.
+use Rattle.std.specs.Prelude.{ℕ, ◌≡◌, ◌<◌, ◌≤◌, List, Option, None, Some, IfSome, length, map}
+use Rattle.std.specs.Option.{option_map}
+use Rattle.mach_types.specs.declared.limits.Limits.{Limits}
+use Rattle.elf_load.specs.declared.fault.ElfFault.{ElfFault}
+use Rattle.elf_load.specs.declared.image.Image.{Image}
+use Rattle.elf_load.specs.Faults.{first_fault}
+use Rattle.elf_load.specs.Images.{IsImage}
+use Rattle.step_log.specs.Script.{line_meaning, lines_of}
+use Rattle.step_log.specs.declared.fields.Line.{Line}
+use Rattle.block_model.specs.Replay.{Ask}
+use Rattle.block_model.specs.Setting.{Setting, setting_of}
+
+-- the bytes of the file of each name, where a shelf tells them
+abbrev pub Files : Type 0
+Files = List ℕ → Option (List ℕ)
+
+-- how many bytes a program's file may have, and a script's (own)
+abbrev pub most_program_bytes : ℕ
+most_program_bytes = 8388608
+
+abbrev pub most_script_bytes : ℕ
+most_script_bytes = 67108864
+
+-- the file of this name was read as these bytes: they are its bytes, where the shelf tells them
+abbrev pub IsReadAs : Files → List ℕ → List ℕ → Type 0
+IsReadAs files name bytes = IfSome (files name) (λ told. bytes ≡ told)
+
+-- the file of this name, where the shelf tells it, has more bytes than it may
+abbrev pub IsTooBig : Files → List ℕ → ℕ → Type 0
+IsTooBig files name most = IfSome (files name) (λ told. most < length told)
+
+-- these bytes are a program that the loader takes under the limits: they aren't too many and have no fault
+pub record IsGood (limits : Limits) (bytes : List ℕ) : Type 0 where
+  pub fits : length bytes ≤ most_program_bytes
+  pub no_fault : first_fault bytes limits.frames ≡ None
+
+-- they aren't too many, and this is their first fault
+pub record IsFaulty (limits : Limits) (bytes : List ℕ) (fault : ElfFault) : Type 0 where
+  pub fits : length bytes ≤ most_program_bytes
+  pub due : first_fault bytes limits.frames ≡ Some fault
+
+-- the program of this name was read and taken, and this is its image
+pub record IsProgram (files : Files) (name : List ℕ) (limits : Limits) (image : Image) : Type 0 where
+  pub bytes : List ℕ
+  pub read : IsReadAs files name bytes
+  pub good : IsGood limits bytes
+  pub loaded : IsImage bytes image
+
+-- the program of this name was read, and is refused for this fault
+pub record IsRefused (files : Files) (name : List ℕ) (limits : Limits) (fault : ElfFault) : Type 0 where
+  pub bytes : List ℕ
+  pub read : IsReadAs files name bytes
+  pub faulty : IsFaulty limits bytes fault
+
+-- the script of this name was read as this text
+pub record IsScript (files : Files) (name text : List ℕ) : Type 0 where
+  pub read : IsReadAs files name text
+  pub fits : length text ≤ most_script_bytes
+
+-- what a run of an image starts from, where no choice is drawn: the seed is 0
+abbrev pub start_of : Image → Limits → Setting
+start_of image limits = setting_of image limits 0
+
+-- what a line of a script asks for
+abbrev pub ask_of : Line → Ask
+ask_of line = record { hart = line.hart; choice = line.choice; check = line.check }
+
+-- what each line of a script asks for; none at a malformed one
+abbrev pub ask_in : List ℕ → Option Ask
+ask_in line = option_map ask_of (line_meaning line)
+
+abbrev pub asks_of : List ℕ → List (Option Ask)
+asks_of text = map ask_in (lines_of text)

@@ -1,0 +1,83 @@
+//! Runs that have a text, and their texts.
+
+use super::devices::Files;
+use super::programs::{
+    DIVISION, DIVISION_TEXT, DRAINED_STORE_SCRIPT, DRAINED_STORE_TEXT, EMPTY_SCRIPT_TEXT,
+    EXIT_TEXT, EXIT_WITH_7, ILLEGAL, ILLEGAL_TEXT, MOVED_SCRIPT, MOVED_TEXT, NINE_STORES,
+    ONE_STEP_TEXT, RUN_TEXT,
+};
+use std::alloc::{AllocError, Global};
+
+/// A call that has a text: a command with its names, its options, the files that it names, and the text.
+#[derive(Clone, Copy, Drop)]
+pub(super) struct Run {
+    /// The command and its names.
+    command: &'static str,
+    /// The command that plays the text's log lines on as many harts.
+    again: &'static str,
+    options: &'static str,
+    pub(super) files: Files<'static>,
+    pub(super) text: &'static [u8],
+}
+
+impl Run {
+    /// The command line.
+    pub(super) fn line(&self, alloc: Global) -> Result<String, AllocError> {
+        format!(in alloc; "{} {}", self.command, self.options)
+    }
+
+    /// The command line that plays the text's log lines, in the file `S`, under the same limits.
+    pub(super) fn replay(&self, alloc: Global) -> Result<String, AllocError> {
+        format!(in alloc; "{} {}", self.again, self.options)
+    }
+}
+
+/// A run of `solo`.
+fn solo(options: &'static str, program: &'static [u8], text: &'static [u8]) -> Run {
+    Run {
+        command: "solo F",
+        again: "play F S --harts 1",
+        options,
+        files: Files {
+            program,
+            script: &[],
+        },
+        text,
+    }
+}
+
+/// A run of `play`.
+fn play(
+    options: &'static str,
+    program: &'static [u8],
+    script: &'static [u8],
+    text: &'static [u8],
+) -> Run {
+    Run {
+        command: "play F S",
+        again: "play F S",
+        options,
+        files: Files { program, script },
+        text,
+    }
+}
+
+/// The runs.
+pub(super) fn runs() -> [Run; 14] {
+    [
+        solo("", &EXIT_WITH_7, EXIT_TEXT),
+        solo("", &ILLEGAL, ILLEGAL_TEXT),
+        solo("", &DIVISION, DIVISION_TEXT),
+        solo("--steps 1", &EXIT_WITH_7, ONE_STEP_TEXT),
+        solo("--steps=4", &EXIT_WITH_7, EXIT_TEXT),
+        solo("--frames 128", &EXIT_WITH_7, EXIT_TEXT),
+        play("", &NINE_STORES, DRAINED_STORE_SCRIPT, DRAINED_STORE_TEXT),
+        play("", &EXIT_WITH_7, b"", EMPTY_SCRIPT_TEXT),
+        play("", &EXIT_WITH_7, b"0 run 1", RUN_TEXT),
+        play("", &EXIT_WITH_7, b"0 run 1 0000000000010078\n", RUN_TEXT),
+        play("--steps 1", &EXIT_WITH_7, b"0 run 1\n", ONE_STEP_TEXT),
+        play("--harts=8", &EXIT_WITH_7, MOVED_SCRIPT, MOVED_TEXT),
+        play("--steps 6", &EXIT_WITH_7, MOVED_SCRIPT, MOVED_TEXT),
+        play("--frames=128", &EXIT_WITH_7, MOVED_SCRIPT, MOVED_TEXT),
+    ]
+}
