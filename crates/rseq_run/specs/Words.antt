@@ -169,13 +169,3 @@ command_of words = command_among words
 abbrev pub limits_in : Command → Limits
 limits_in (Solo program limits) = limits
 limits_in (Play program script limits) = limits
-
--- the names of files that a command has
-abbrev pub names_of : Option Command → List (List ℕ)
-names_of None = []
-names_of (Some (Solo program limits)) = program ∷ []
-names_of (Some (Play program script limits)) = program ∷ script ∷ []
-
--- the names of files in the words
-abbrev pub file_names : List (List ℕ) → List (List ℕ)
-file_names words = names_of (command_of words)
