@@ -1,21 +1,34 @@
--- What holds of each entry of a run: its hart is one of the machine, its thread is the first or none, and its pc is
--- below 2^64.
-use Rattle.std.proofs.Common.{◌≡◌, ℕ, ◌^◌, ◌<◌, List, [], ◌∷◌, refl, sym, ◌∙◌, subst, arith, Option, Some, None, inl, inr}
+-- What holds of each entry of a run: its hart is one of the machine, its thread has a number that was given or is none, and its
+-- pc is below 2^64.
+use Rattle.std.proofs.Common.{◌≡◌, ℕ, ◌^◌, ◌<◌, ◌≤◌, ◌+◌, ◌-◌, List, [], ◌∷◌, refl, sym, subst, arith, Bool, true, false, cond, eqb, Option, Some, None, find, is_some, length}
 use Rattle.std.specs.List.{fold, All, AllByRecursion}
-use Rattle.std.proofs.lemmas.List.Elements.{All-from_recursion}
+use Rattle.std.specs.Option.{option_map}
+use Rattle.std.proofs.lemmas.Bool.{eqb-true}
+use Rattle.std.proofs.lemmas.List.Elements.{All-from_recursion, All-head, All-tail}
 use Rattle.mach_types.specs.Events.{choice_of}
+use Rattle.mach_types.specs.Kernel.Threads.{IsThreads, Thread, Threads, is_thread, numbers, state_of}
+use Rattle.mach_types.specs.declared.events.Choice.{Choice}
+use Rattle.mach_types.specs.declared.events.Choice.TheVariants as asked
 use Rattle.mach_types.specs.declared.events.Entry.{Entry}
-use Rattle.mach_types.specs.declared.events.Kind.{Kind}
+use Rattle.mach_types.specs.declared.threads.Saved.{Saved}
+use Rattle.mach_types.specs.declared.threads.ThreadState.{ThreadState}
 use Rattle.block_model.specs.Setting.{Setting}
-use Rattle.block_model.specs.History.{Event, History, running, hart_of}
-use Rattle.block_model.specs.Deciding.{event, history, entry_of, number_of}
+use Rattle.block_model.specs.Here.{Here, runs}
+use Rattle.block_model.specs.Events.{refusal_of}
+use Rattle.block_model.specs.History.{Event, History, file, file_among, here_in_history, kernel}
+use Rattle.block_model.specs.Deciding.{event, history, number_of, pc_in, thread_in}
 use Rattle.block_model.specs.Run.{IsRunHistory, IsBlockRun}
-use Rattle.block_model.proofs.Allowed.{decided, IsEvent, event_of}
-use Rattle.block_model.proofs.Goes.{files_stand, pc_of_stands}
-use Rattle.block_model.proofs.Settled.{IsSettled, settled, is_one}
+use Rattle.block_model.proofs.Allowed.{allowed_at}
+use Rattle.block_model.proofs.Ends.{proper_at}
+use Rattle.block_model.proofs.Good.{IsSound}
+use Rattle.block_model.proofs.Goods.Run.{run_ready}
+use Rattle.block_model.proofs.KernelTables.{ready_state, running_is}
+use Rattle.block_model.proofs.Pcs.{StandsIn}
+use Rattle.block_model.proofs.ProperCalls.{FilesStand}
+use Rattle.block_model.proofs.Runs.{length-history, settled}
 
 -- P holds of the entry of each event
-abbrev pub AllEntries : (Entry → Type 0) → History → Type 0
+abbrev AllEntries : (Entry → Type 0) → History → Type 0
 AllEntries P before = AllByRecursion (λ (e : Event). P e.entry) before
 
 -- what holds of each event's entry holds of each entry of the log
@@ -30,49 +43,93 @@ entries_of s P log all = All-from_recursion P log (entries_from s P log [] all).
 -- harts
 harts_in : (s : Setting) (before : History) → IsRunHistory s before → AllEntries (λ e. e.hart.0 < s.limits.harts) before
 harts_in s [] run = tt
-harts_in s (e ∷ before) run = ((decided s before e.entry.hart.0 (choice_of e.entry) e.entry run.1).hart, harts_in s before run.0)
+harts_in s (e ∷ before) run = ((allowed_at s before e.entry.hart.0 (choice_of e.entry) e.entry run.1).lt, harts_in s before run.0)
 
 pub all_harts : (s : Setting) (log : List Entry) → IsBlockRun s log → All (λ (e : Entry). e.hart.0 < s.limits.harts) log
 all_harts s log run = entries_of s (λ e. e.hart.0 < s.limits.harts) log (harts_in s (history s log) run)
 
--- threads
-small_number : (o : Option ℕ) → ((t : ℕ) → o ≡ Some t → t ≡ 1) → number_of o < 2 ^ 32
-small_number None one = omega arith
-small_number (Some t) one = let is = one t refl in omega arith
+-- the number of a live thread was given
+given_step : (t given : ℕ) (th : Thread) (rest : Option Thread) (b : Bool) → eqb th.tid t ≡ b → th.tid ≤ given → (is_some rest ≡ true → t ≤ given)
+    → is_some (cond b (Some th) rest) ≡ true → t ≤ given
+given_step t given th rest true is low later live = let same : th.tid ≡ t = eqb-true th.tid t is in subst (λ n. n ≤ given) same low
+given_step t given th rest false is low later live = later live
 
--- an entry of this kind, of the thread that runs or starts on its hart
-record IsOfThread (s : Setting) (before : History) (e : Entry) : Type 0 where
-  of_kind : Kind
-  thread : Option ℕ
-  first : (t : ℕ) → thread ≡ Some t → t ≡ 1
-  is : e ≡ entry_of s before e.hart.0 of_kind thread
+given_of : (t given : ℕ) (live : List Thread) → All (λ t. (0 < t) × (t ≤ given)) (numbers live) → is_some (find (is_thread t) live) ≡ true → t ≤ given
+given_of t given [] all live = absurd cc
+given_of t given (th ∷ ths) all live =
+    given_step t given th (find (is_thread t) ths) (eqb th.tid t) refl (All-head (λ t. (0 < t) × (t ≤ given)) th.tid (numbers ths) all).1
+    (given_of t given ths (All-tail (λ t. (0 < t) × (t ≤ given)) th.tid (numbers ths) all)) live
 
-of_thread : (s : Setting) (before : History) (e : Entry) → IsSettled s before → IsEvent s before e → IsOfThread s before e
-of_thread s before e was (inl x) = record { of_kind = _; thread = Some x.thread; first = λ t same. (was.placed e.hart.0 t (x.runs ∙ same)).0; is = x.is }
-of_thread s before e was (inr (inl x)) = record { of_kind = _; thread = running e.hart.0 before; first = λ t same. (was.placed e.hart.0 t same).0; is = x.is }
-of_thread s before e was (inr (inr (inl x))) = record { of_kind = _; thread = Some x.thread; first = λ t same. (was.placed e.hart.0 t (x.runs ∙ same)).0; is = x.is }
-of_thread s before e was (inr (inr (inr x))) =
-    record { of_kind = _; thread = Some e.tid.0; first = λ t same. let one = (is_one e.tid.0 (hart_of e.tid.0 before) x.ready).0 in cc; is = x.is }
+pub number_given : (t : ℕ) (ts : Threads) (state : ThreadState) → IsThreads ts → state_of t ts ≡ Some state → t ≤ ts.given
+number_given t ts state holds is = given_of t ts.given ts.live holds.given (some_state (find (is_thread t) ts.live) is)
+  where
+    some_state : (o : Option Thread) → option_map (λ th. th.state) o ≡ Some state → is_some o ≡ true
+    some_state None e = cc
+    some_state (Some th) e = refl
 
-thread_of_event : (s : Setting) (before : History) (e : Event) → IsRunHistory s (e ∷ before) → IsOfThread s before e.entry
-thread_of_event s before e run =
-    of_thread s before e.entry (settled s before run.0) (event_of s before e.entry (decided s before e.entry.hart.0 (choice_of e.entry) e.entry run.1))
+-- threads: who runs, or begins to run, has a number that was given
+runs_given : (s : Setting) (here : Here) (r : Option ℕ) → IsSound s here.kernel → runs here ≡ r → number_of r ≤ here.kernel.threads.given
+runs_given s here None sound at = omega arith
+runs_given s here (Some t) sound at =
+    let tables = sound.tables in
+    number_given t here.kernel.threads _ tables.threads (running_is s.limits.harts here.hart t here.kernel.threads here.kernel.scheduling tables at)
 
-threads_in : (s : Setting) (before : History) → IsRunHistory s before → AllEntries (λ e. e.tid.0 < 2 ^ 32) before
-threads_in s [] run = tt
-threads_in s (e ∷ before) run =
-    let x = thread_of_event s before e run in
-    (subst (λ (y : Entry). y.tid.0 < 2 ^ 32) (sym x.is) (small_number x.thread x.first), threads_in s before run.0)
+starts_given : (s : Setting) (here : Here) (t : ℕ) → IsSound s here.kernel → refusal_of (asked.Run (record { 0 = t })) here ≡ None → t ≤ here.kernel.threads.given
+starts_given s here t sound free =
+    let state = ready_state (state_of t here.kernel.threads) (run_ready here t free).1 in
+    number_given t here.kernel.threads _ sound.tables.threads state
 
-pub all_threads : (s : Setting) (log : List Entry) → IsBlockRun s log → All (λ (e : Entry). e.tid.0 < 2 ^ 32) log
-all_threads s log run = entries_of s (λ e. e.tid.0 < 2 ^ 32) log (threads_in s (history s log) run)
+pub thread_given : (s : Setting) (here : Here) (c : Choice) → IsSound s here.kernel → refusal_of c here ≡ None → number_of (thread_in c here) ≤ here.kernel.threads.given
+thread_given s here asked.Exec sound free = runs_given s here (runs here) sound refl
+thread_given s here asked.Drain sound free = runs_given s here (runs here) sound refl
+thread_given s here asked.Take sound free = runs_given s here (runs here) sound refl
+thread_given s here asked.Done sound free = runs_given s here (runs here) sound refl
+thread_given s here asked.Preempt sound free = runs_given s here (runs here) sound refl
+thread_given s here (asked.Run t) sound free = starts_given s here t.0 sound free
+thread_given s here asked.Signal sound free = runs_given s here (runs here) sound refl
 
--- addresses
-addresses_in : (s : Setting) (before : History) → s.entry < 2 ^ 64 → IsRunHistory s before → AllEntries (λ e. e.pc < 2 ^ 64) before
+-- no event gives more than one number, so that a run gives no more than its limit of events and one
+pub given_below : (s : Setting) (before : History) → IsRunHistory s before → (kernel s before).threads.given ≤ length before + 1
+given_below s before run = (settled s before run).good.given
+
+pub given_in : (s : Setting) (log : List Entry) → IsBlockRun s log → (kernel s (history s log)).threads.given ≤ length log + 1
+given_in s log run = subst (λ n. (kernel s (history s log)).threads.given ≤ n + 1) (length-history s log) (given_below s (history s log) run)
+
+threads_in : (s : Setting) (before : History) → s.limits.steps < 2 ^ 31 - 1 → IsRunHistory s before → AllEntries (λ e. e.tid.0 < 2 ^ 32) before
+threads_in s [] short run = tt
+threads_in s (e ∷ before) short run =
+    let a = allowed_at s before e.entry.hart.0 (choice_of e.entry) e.entry run.1 in
+    let here = here_in_history s before e.entry.hart.0 in
+    let low = thread_given s here (choice_of e.entry) (settled s before run.0).good.kernel a.free in
+    let few = given_below s before run.0 in
+    let room = a.room in
+    let fits : number_of (thread_in (choice_of e.entry) here) < 2 ^ 32 = omega arith in
+    (subst (λ (y : Entry). y.tid.0 < 2 ^ 32) (sym a.is) fits, threads_in s before short run.0)
+
+pub all_threads : (s : Setting) (log : List Entry) → s.limits.steps < 2 ^ 31 - 1 → IsBlockRun s log → All (λ (e : Entry). e.tid.0 < 2 ^ 32) log
+all_threads s log short run = entries_of s (λ e. e.tid.0 < 2 ^ 32) log (threads_in s (history s log) short run)
+
+-- where the first instruction stands below 2^64, each thread does at every place of a run
+among_stands : (ps : List (ℕ × Saved)) (t : ℕ) (f : Saved) → FilesStand ps → StandsIn f → StandsIn (file_among ps t f)
+among_stands [] t f all small = small
+among_stands (p ∷ ps) t f all small = elim (eqb p.0 t) as (λ b. StandsIn (cond b p.1 (file_among ps t f))) [ true ↦ all.0 | false ↦ among_stands ps t f all.1 small ]
+
+pub files_stand : (s : Setting) (before : History) → s.program.entry < 2 ^ 64 → IsRunHistory s before → (t : ℕ) → StandsIn (file s t before)
+files_stand s [] start run t = start
+files_stand s (e ∷ before) start run t =
+    let was = files_stand s before start run.0 in
+    among_stands e.done.files t (file s t before) ((proper_at s e before run).files was) (was t)
+
+pc_stands : (here : Here) (r : Option ℕ) → ((t : ℕ) → StandsIn (here.file t)) → pc_in here r < 2 ^ 64
+pc_stands here None small = omega arith
+pc_stands here (Some t) small = small t
+
+addresses_in : (s : Setting) (before : History) → s.program.entry < 2 ^ 64 → IsRunHistory s before → AllEntries (λ e. e.pc < 2 ^ 64) before
 addresses_in s [] start run = tt
 addresses_in s (e ∷ before) start run =
-    let x = thread_of_event s before e run in
-    (subst (λ (y : Entry). y.pc < 2 ^ 64) (sym x.is) (pc_of_stands s before x.thread (files_stand s before start run.0)), addresses_in s before start run.0)
+    let a = allowed_at s before e.entry.hart.0 (choice_of e.entry) e.entry run.1 in
+    let here = here_in_history s before e.entry.hart.0 in
+    (subst (λ (y : Entry). y.pc < 2 ^ 64) (sym a.is) (pc_stands here (thread_in (choice_of e.entry) here) (files_stand s before start run.0)), addresses_in s before start run.0)
 
-pub all_addresses : (s : Setting) (log : List Entry) → s.entry < 2 ^ 64 → IsBlockRun s log → All (λ (e : Entry). e.pc < 2 ^ 64) log
+pub all_addresses : (s : Setting) (log : List Entry) → s.program.entry < 2 ^ 64 → IsBlockRun s log → All (λ (e : Entry). e.pc < 2 ^ 64) log
 all_addresses s log start run = entries_of s (λ e. e.pc < 2 ^ 64) log (addresses_in s (history s log) start run)

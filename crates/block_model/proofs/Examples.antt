@@ -1,52 +1,73 @@
 -- Worked examples, proved by computation: what small programs do, read off a log and done by the plain machine.
-use Rattle.std.proofs.Common.{◌≡◌, ℕ, List, [], ◌∷◌, ◌++◌, replicate, refl, true, false, Some, None, Result, Ok, Err}
+use Rattle.std.proofs.Common.{◌≡◌, ℕ, ◌-◌, ◌^◌, List, [], ◌∷◌, ◌++◌, replicate, map, refl, true, false, Option, Some, None, Result, Ok, Err}
 use Rattle.mach_types.specs.declared.events.Choice.{Choice}
 use Rattle.mach_types.specs.declared.events.Choice.TheVariants as asked
 use Rattle.mach_types.specs.declared.events.Entry.{Entry}
 use Rattle.mach_types.specs.declared.events.Kind.{Kind}
 use Rattle.mach_types.specs.declared.events.Kind.TheVariants as kind
+use Rattle.mach_types.specs.declared.events.Sight.{Sight}
+use Rattle.mach_types.specs.declared.events.Why.TheVariants.{Busy, Idle, NoHart, NotAllowed, NotReady, NoRequest, NotInBarrier, NoSignal, NoStore}
 use Rattle.mach_types.specs.declared.limits.End.{End}
 use Rattle.mach_types.specs.declared.limits.End.TheVariants as over
+use Rattle.mach_types.specs.declared.threads.ThreadState.{ThreadState}
+use Rattle.mach_types.specs.declared.threads.ThreadState.TheVariants as state
+use Rattle.mach_types.specs.declared.user_memory.Store.{Store}
+use Rattle.mach_types.specs.declared.user_memory.Write.{Write}
+use Rattle.mach_types.specs.declared.user_memory.Write.TheVariants.{Stored, Zeroed}
+use Rattle.mach_types.specs.Kernel.Threads.{Threads, clear_of, is_stuck, start_threads, state_of, with_state}
+use Rattle.mach_types.specs.Registers.{no_registers, register, with_register}
 use Rattle.rv_inst.specs.declared.effects.Effect.TheVariants as effect
 use Rattle.rv_inst.specs.Local.{is_register_only}
 use Rattle.rv_inst.specs.Meaning.{meaning}
 use Rattle.rv_inst.specs.Table.{row_of, rows, lui_rows, auipc_rows, jal_rows, jalr_rows, branch_rows, load_rows, store_rows, op_imm_rows, op_imm_32_rows, op_rows, op_32_rows, misc_mem_rows, amo_rows, system_rows}
-use Rattle.block_model.specs.Calls.{write_call, exit_call, answered, refused, EBADF, EFAULT, ENOSPC}
-use Rattle.block_model.specs.Deciding.{history, decide, done, end_of}
-use Rattle.block_model.specs.History.{console, running}
-use Rattle.block_model.specs.Plain.{PlainRun, plain_step, plain_run, plain_solo, plain_end}
-use Rattle.block_model.specs.Replay.{Ask, played}
+use Rattle.block_model.specs.Calls.{called}
+use Rattle.block_model.specs.Calls.Answers.{CallDone}
+use Rattle.block_model.specs.Deciding.{history, decide, done, end_of, entry_in, final}
+use Rattle.block_model.specs.Events.Run.{refusal_run}
+use Rattle.block_model.specs.Here.{Here, memory, view, nothing}
+use Rattle.block_model.specs.History.{History, byte, can_be_written, console, events, file, here_in_history, kernel, lost_after, ran, reservation, running}
+use Rattle.block_model.specs.Instruction.{next_fault}
+use Rattle.block_model.specs.Kernel.{left}
+use Rattle.block_model.specs.Plain.{PlainRun, plain_after, plain_decide, plain_run, plain_solo, plain_end}
+use Rattle.block_model.specs.Replay.{Ask, played, played_read}
 use Rattle.block_model.specs.Setting.{Setting}
-use Rattle.block_model.specs.Sights.{effect_on, first_ready, is_local_on}
-use Rattle.block_model.specs.declared.refusals.Refused.TheVariants.{Ended}
+use Rattle.block_model.specs.Sights.{effect_here, first_ready, is_local_on, sight_in}
+use Rattle.block_model.specs.Solo.{IsSolo, solo_choice, solo_rule}
+use Rattle.block_model.specs.declared.refusals.Refused.{Refused}
+use Rattle.block_model.specs.declared.refusals.Refused.TheVariants.{Ended, NotEnabled}
 
 -- a program of one segment that is read and executed, its code at 0x10078; and one of two, its code at 0x100B0, and a
 -- page that is read and written at 0x20000
 abbrev code_alone : List ℕ → Setting
 code_alone code = record {
-  pages = record { number = 0x10; perm = 5; bytes = replicate 0x78 0 ++ code } ∷ [];
-  entry = 0x10078;
-  phdr = 0x10040;
-  phnum = 1;
-  break_at = 0x11000;
+  program = record {
+    pages = record { number = 0x10; perm = 5; bytes = replicate 0x78 0 ++ code } ∷ [];
+    entry = 0x10078;
+    phdr = 0x10040;
+    phnum = 1;
+    break_at = 0x11000;
+  };
   limits = record { harts = 2; frames = 4096; steps = 200000 };
   seed = 1;
 }
 
 abbrev code_and_data : List ℕ → Setting
 code_and_data code = record (code_alone code) {
-  pages = record { number = 0x10; perm = 5; bytes = replicate 0xB0 0 ++ code } ∷ record { number = 0x20; perm = 6; bytes = [] } ∷ [];
-  entry = 0x100B0;
-  phnum = 2;
-  break_at = 0x21000;
+  program = record {
+    pages = record { number = 0x10; perm = 5; bytes = replicate 0xB0 0 ++ code } ∷ record { number = 0x20; perm = 6; bytes = [] } ∷ [];
+    entry = 0x100B0;
+    phdr = 0x10040;
+    phnum = 2;
+    break_at = 0x21000;
+  };
 }
 
 -- lines of hart 0: it runs thread 1, executes so many instructions, drains so many stores
 abbrev line : Choice → Ask
 line choice = record { hart = record { 0 = 0 }; choice = choice; check = None }
 
-abbrev runs : Ask
-runs = line (asked.Run (record { 0 = 1 }))
+abbrev starts : Ask
+starts = line (asked.Run (record { 0 = 1 }))
 
 abbrev execs : ℕ → List Ask
 execs n = replicate n (line asked.Exec)
@@ -60,11 +81,11 @@ entry k pc = record { hart = record { 0 = 0 }; kind = k; tid = record { 0 = 1 };
 
 -- what was written and how it ended, after a script and by the plain machine
 abbrev outcome : Setting → Result (List Entry) ℕ → Result (List ℕ × End) ℕ
-outcome s (Ok log) = Ok (console (history s log), end_of s (history s log))
+outcome s (Ok log) = Ok (console s (history s log), end_of s (history s log))
 outcome s (Err n) = Err n
 
 abbrev plain_outcome : Setting → Result PlainRun ℕ → Result (List ℕ × End) ℕ
-plain_outcome s (Ok run) = Ok (run.machine.console, plain_end s run.machine)
+plain_outcome s (Ok run) = Ok (run.machine.kernel.console, plain_end s run.machine)
 plain_outcome s (Err n) = Err n
 
 -- `addi x10, x0, 7`, `addi x17, x0, 93`, `ecall`: exits with 7
@@ -74,7 +95,7 @@ exits = code_alone (0x13 ∷ 0x05 ∷ 0x70 ∷ 0x00 ∷ 0x93 ∷ 0x08 ∷ 0xD0 �
 exit_log : List Entry
 exit_log = entry kind.Run 0x10078 ∷ entry kind.Exec 0x10078 ∷ entry kind.Exec 0x1007C ∷ entry kind.Exec 0x10080 ∷ []
 
-exit_played : played exits (runs ∷ execs 3) ≡ Ok exit_log
+exit_played : played exits (starts ∷ execs 3) ≡ Ok exit_log
 unfolding exit_log played decide history done meaning row_of rows lui_rows auipc_rows jal_rows jalr_rows branch_rows load_rows store_rows op_imm_rows op_imm_32_rows op_rows op_32_rows misc_mem_rows amo_rows system_rows
 exit_played = refl
 
@@ -83,11 +104,15 @@ unfolding exit_log decide history done end_of meaning row_of rows lui_rows auipc
 exit_ends = refl
 
 exit_solo : (plain_solo exits 200).log ≡ exit_log
-unfolding exit_log plain_solo plain_step meaning row_of rows lui_rows auipc_rows jal_rows jalr_rows branch_rows load_rows store_rows op_imm_rows op_imm_32_rows op_rows op_32_rows misc_mem_rows amo_rows system_rows
+unfolding exit_log plain_solo meaning row_of rows lui_rows auipc_rows jal_rows jalr_rows branch_rows load_rows store_rows op_imm_rows op_imm_32_rows op_rows op_32_rows misc_mem_rows amo_rows system_rows
 exit_solo = refl
 
+exit_after : plain_end exits (plain_after exits exit_log) ≡ over.Exit 7
+unfolding exit_log plain_after meaning row_of rows lui_rows auipc_rows jal_rows jalr_rows branch_rows load_rows store_rows op_imm_rows op_imm_32_rows op_rows op_32_rows misc_mem_rows amo_rows system_rows
+exit_after = refl
+
 -- no event comes after the end
-exit_over : played exits (runs ∷ execs 4) ≡ Err 5
+exit_over : played exits (starts ∷ execs 4) ≡ Err 5
 unfolding played decide history done meaning row_of rows lui_rows auipc_rows jal_rows jalr_rows branch_rows load_rows store_rows op_imm_rows op_imm_32_rows op_rows op_32_rows misc_mem_rows amo_rows system_rows
 exit_over = refl
 
@@ -100,22 +125,17 @@ ended_not_full : decide (exits_within 4) (history (exits_within 4) exit_log) 0 a
 unfolding exit_log decide history done meaning row_of rows lui_rows auipc_rows jal_rows jalr_rows branch_rows load_rows store_rows op_imm_rows op_imm_32_rows op_rows op_32_rows misc_mem_rows amo_rows system_rows
 ended_not_full = refl
 
-exit_at_limit : outcome (exits_within 4) (played (exits_within 4) (runs ∷ execs 3)) ≡ Ok ([], over.Exit 7)
+exit_at_limit : outcome (exits_within 4) (played (exits_within 4) (starts ∷ execs 3)) ≡ Ok ([], over.Exit 7)
 unfolding played decide history done end_of meaning row_of rows lui_rows auipc_rows jal_rows jalr_rows branch_rows load_rows store_rows op_imm_rows op_imm_32_rows op_rows op_32_rows misc_mem_rows amo_rows system_rows
 exit_at_limit = refl
 
-full : played (exits_within 3) (runs ∷ execs 3) ≡ Err 4
+full : played (exits_within 3) (starts ∷ execs 3) ≡ Err 4
 unfolding played decide history done meaning row_of rows lui_rows auipc_rows jal_rows jalr_rows branch_rows load_rows store_rows op_imm_rows op_imm_32_rows op_rows op_32_rows misc_mem_rows amo_rows system_rows
 full = refl
 
-limit_reached : outcome (exits_within 3) (played (exits_within 3) (runs ∷ execs 2)) ≡ Ok ([], over.Limit)
+limit_reached : outcome (exits_within 3) (played (exits_within 3) (starts ∷ execs 2)) ≡ Ok ([], over.Limit)
 unfolding played decide history done end_of meaning row_of rows lui_rows auipc_rows jal_rows jalr_rows branch_rows load_rows store_rows op_imm_rows op_imm_32_rows op_rows op_32_rows misc_mem_rows amo_rows system_rows
 limit_reached = refl
-
--- a hart that runs a thread takes no other
-busy : played exits (runs ∷ runs ∷ []) ≡ Err 2
-unfolding played decide history done
-busy = refl
 
 -- a script without lines makes an empty log, and leaves the run open
 no_line : outcome exits (played exits []) ≡ Ok ([], over.Unended)
@@ -123,53 +143,244 @@ unfolding played decide history done end_of
 no_line = refl
 
 -- a line that says its event's thread and pc is refused where either isn't so
-abbrev runs_at : ℕ → ℕ → Ask
-runs_at thread pc = record runs { check = Some (record { 0 = thread }, pc) }
+abbrev starts_at : ℕ → ℕ → Ask
+starts_at t pc = record starts { check = Some (record { 0 = t }, pc) }
 
-right_check : played exits (runs_at 1 0x10078 ∷ []) ≡ Ok (entry kind.Run 0x10078 ∷ [])
+right_check : played exits (starts_at 1 0x10078 ∷ []) ≡ Ok (entry kind.Run 0x10078 ∷ [])
 unfolding played decide history done
 right_check = refl
 
-wrong_thread : played exits (runs_at 2 0x10078 ∷ []) ≡ Err 1
+wrong_thread : played exits (starts_at 2 0x10078 ∷ []) ≡ Err 1
 unfolding played decide history done
 wrong_thread = refl
 
-wrong_pc : played exits (runs_at 1 0x1007C ∷ []) ≡ Err 1
+wrong_pc : played exits (starts_at 1 0x1007C ∷ []) ≡ Err 1
 unfolding played decide history done
 wrong_pc = refl
 
--- a hart without a thread executes nothing
-idle : played exits (execs 1) ≡ Err 1
-unfolding played decide history done
-idle = refl
+-- a line that can't be read is refused, and with its number
+unread_line : played_read exits (Some starts ∷ None ∷ Some starts ∷ []) ≡ Err 2
+unfolding played_read decide history done
+unread_line = refl
 
--- a word that is no instruction: the process is killed by signal 4
+-- why an event is refused after the first so many entries of that log: an idle hart executes nothing and its thread can't leave;
+-- a hart that the machine doesn't have; a second `run`; a thread that isn't there, and one that runs elsewhere; no store to
+-- drain; and what no barrier and no signal makes
+abbrev answer : List Entry → ℕ → Choice → Result Entry Refused
+answer log h c = decide exits (history exits log) h c
+
+abbrev begun : List Entry
+begun = entry kind.Run 0x10078 ∷ []
+
+abbrev first : Choice
+first = asked.Run (record { 0 = 1 })
+
+idle_executes : answer [] 0 asked.Exec ≡ Err (NotEnabled Idle)
+unfolding decide history done
+idle_executes = refl
+
+idle_leaves : answer [] 0 asked.Preempt ≡ Err (NotEnabled Idle)
+unfolding decide history done
+idle_leaves = refl
+
+idle_takes : answer [] 0 asked.Take ≡ Err (NotEnabled NoRequest)
+unfolding decide history done
+idle_takes = refl
+
+idle_returns : answer [] 0 asked.Done ≡ Err (NotEnabled Idle)
+unfolding decide history done
+idle_returns = refl
+
+idle_signal : answer [] 0 asked.Signal ≡ Err (NotEnabled Idle)
+unfolding decide history done
+idle_signal = refl
+
+third_hart : answer [] 2 first ≡ Err (NotEnabled NoHart)
+unfolding decide history done
+third_hart = refl
+
+no_thread_0 : answer [] 0 (asked.Run (record { 0 = 0 })) ≡ Err (NotEnabled NotReady)
+unfolding decide history done
+no_thread_0 = refl
+
+no_second_thread : answer [] 0 (asked.Run (record { 0 = 2 })) ≡ Err (NotEnabled NotReady)
+unfolding decide history done
+no_second_thread = refl
+
+busy : answer begun 0 first ≡ Err (NotEnabled Busy)
+unfolding decide history done
+busy = refl
+
+runs_elsewhere : answer begun 1 first ≡ Err (NotEnabled NotReady)
+unfolding decide history done
+runs_elsewhere = refl
+
+nothing_to_drain : answer begun 0 asked.Drain ≡ Err (NotEnabled NoStore)
+unfolding decide history done
+nothing_to_drain = refl
+
+no_request : answer begun 0 asked.Take ≡ Err (NotEnabled NoRequest)
+unfolding decide history done
+no_request = refl
+
+no_barrier : answer begun 0 asked.Done ≡ Err (NotEnabled NotInBarrier)
+unfolding decide history done
+no_barrier = refl
+
+no_signal : answer begun 0 asked.Signal ≡ Err (NotEnabled NoSignal)
+unfolding decide history done
+no_signal = refl
+
+-- the plain machine answers the same
+plain_busy : plain_decide exits (plain_after exits begun) 0 first ≡ Err (NotEnabled Busy)
+unfolding plain_after
+plain_busy = refl
+
+-- where the affinity of thread 1 is hart 1 alone, hart 0 may not run it, and finds no thread to run
+abbrev on_hart_1 : Here
+on_hart_1 =
+    let here = here_in_history exits [] 0 in
+    record here { kernel = record (kernel exits []) { scheduling = record { order = 1 ∷ []; affinities = (1, 2) ∷ [] } } }
+
+not_allowed : refusal_run on_hart_1 1 ≡ Some NotAllowed
+not_allowed = refl
+
+allowed : refusal_run (record on_hart_1 { hart = 1 }) 1 ≡ None
+allowed = refl
+
+none_for_hart_0 : first_ready on_hart_1 ≡ None
+none_for_hart_0 = refl
+
+one_for_hart_1 : first_ready (record on_hart_1 { hart = 1 }) ≡ Some (record { 0 = 1 })
+one_for_hart_1 = refl
+
+-- a run and a preempt move the thread's state and the ready list; the hart counts its events, and instructions from the run on
+abbrev left_log : List Entry
+left_log = begun ++ (entry kind.Exec 0x10078 ∷ entry kind.Preempt 0x1007C ∷ [])
+
+abbrev thread_1 : Setting → List Entry → Option ThreadState × List ℕ
+thread_1 s log = (state_of 1 (kernel s (history s log)).threads, (kernel s (history s log)).scheduling.order)
+
+at_start : thread_1 exits [] ≡ (Some state.Ready, 1 ∷ [])
+unfolding history
+at_start = refl
+
+when_begun : thread_1 exits begun ≡ (Some (state.Running (record { 0 = 0 })), [])
+unfolding history done
+when_begun = refl
+
+when_left : thread_1 exits left_log ≡ (Some state.Ready, 1 ∷ [])
+unfolding history done meaning row_of rows lui_rows auipc_rows jal_rows jalr_rows branch_rows load_rows store_rows op_imm_rows op_imm_32_rows op_rows op_32_rows misc_mem_rows amo_rows system_rows
+when_left = refl
+
+runs_on_0 : running exits 0 (history exits begun) ≡ Some 1
+unfolding history done
+runs_on_0 = refl
+
+runs_not_on_1 : running exits 1 (history exits begun) ≡ None
+unfolding history done
+runs_not_on_1 = refl
+
+runs_no_more : running exits 0 (history exits left_log) ≡ None
+unfolding history done meaning row_of rows lui_rows auipc_rows jal_rows jalr_rows branch_rows load_rows store_rows op_imm_rows op_imm_32_rows op_rows op_32_rows misc_mem_rows amo_rows system_rows
+runs_no_more = refl
+
+counted_events : events 0 (history exits left_log) ≡ 3
+unfolding history done meaning row_of rows lui_rows auipc_rows jal_rows jalr_rows branch_rows load_rows store_rows op_imm_rows op_imm_32_rows op_rows op_32_rows misc_mem_rows amo_rows system_rows
+counted_events = refl
+
+counted_instructions : ran 0 (history exits left_log) ≡ 1
+unfolding history done meaning row_of rows lui_rows auipc_rows jal_rows jalr_rows branch_rows load_rows store_rows op_imm_rows op_imm_32_rows op_rows op_32_rows misc_mem_rows amo_rows system_rows
+counted_instructions = refl
+
+counted_again : ran 0 (history exits (left_log ++ entry kind.Run 0x1007C ∷ [])) ≡ 0
+unfolding history done meaning row_of rows lui_rows auipc_rows jal_rows jalr_rows branch_rows load_rows store_rows op_imm_rows op_imm_32_rows op_rows op_32_rows misc_mem_rows amo_rows system_rows
+counted_again = refl
+
+kept_pc : (file exits 1 (history exits left_log)).pc ≡ 0x1007C
+unfolding history done meaning row_of rows lui_rows auipc_rows jal_rows jalr_rows branch_rows load_rows store_rows op_imm_rows op_imm_32_rows op_rows op_32_rows misc_mem_rows amo_rows system_rows
+kept_pc = refl
+
+-- a thread that leaves is the last ready one
+last_ready : (left 1 (record (kernel exits []) { scheduling = record { order = 2 ∷ 3 ∷ []; affinities = [] } })).scheduling.order ≡ 2 ∷ 3 ∷ 1 ∷ []
+last_ready = refl
+
+-- a word that is no instruction, a word that isn't in executable memory, and an address that isn't a multiple of 4: the
+-- process is killed by signal 4, 11, 7
 abbrev illegal : Setting
 illegal = code_alone (0x73 ∷ 0x10 ∷ 0x40 ∷ 0xF1 ∷ [])
 
-illegal_played : outcome illegal (played illegal (runs ∷ execs 1)) ≡ Ok ([], over.Killed 4)
+illegal_played : outcome illegal (played illegal (starts ∷ execs 1)) ≡ Ok ([], over.Killed 4)
 unfolding played decide history done end_of meaning row_of rows lui_rows auipc_rows jal_rows jalr_rows branch_rows load_rows store_rows op_imm_rows op_imm_32_rows op_rows op_32_rows misc_mem_rows amo_rows system_rows
 illegal_played = refl
+
+abbrev fault_at : ℕ → Option ℕ
+fault_at pc =
+    let here = here_in_history illegal [] 0 in
+    next_fault illegal.program.pages (memory here) (λ a. true) (record { file = no_registers; pc = pc })
+
+not_executable : fault_at 0x20000 ≡ Some 11
+unfolding meaning row_of rows lui_rows auipc_rows jal_rows jalr_rows branch_rows load_rows store_rows op_imm_rows op_imm_32_rows op_rows op_32_rows misc_mem_rows amo_rows system_rows
+not_executable = refl
+
+not_aligned : fault_at 0x1007A ≡ Some 7
+unfolding meaning row_of rows lui_rows auipc_rows jal_rows jalr_rows branch_rows load_rows store_rows op_imm_rows op_imm_32_rows op_rows op_32_rows misc_mem_rows amo_rows system_rows
+not_aligned = refl
+
+not_aligned_first : fault_at 0x20002 ≡ Some 7
+unfolding meaning row_of rows lui_rows auipc_rows jal_rows jalr_rows branch_rows load_rows store_rows op_imm_rows op_imm_32_rows op_rows op_32_rows misc_mem_rows amo_rows system_rows
+not_aligned_first = refl
+
+-- a jump to an address that isn't a multiple of 4 is a fault of the jump, which isn't local then
+abbrev jumps : Setting
+jumps = code_alone (0x6F ∷ 0x00 ∷ 0x20 ∷ 0x00 ∷ [])
+
+jump_played : outcome jumps (played jumps (starts ∷ execs 1)) ≡ Ok ([], over.Killed 7)
+unfolding played decide history done end_of meaning row_of rows lui_rows auipc_rows jal_rows jalr_rows branch_rows load_rows store_rows op_imm_rows op_imm_32_rows op_rows op_32_rows misc_mem_rows amo_rows system_rows
+jump_played = refl
+
+jump_is_not_local : is_local_on (here_in_history jumps [] 0) (Some 1) ≡ false
+unfolding is_register_only meaning row_of rows lui_rows auipc_rows jal_rows jalr_rows branch_rows load_rows store_rows op_imm_rows op_imm_32_rows op_rows op_32_rows misc_mem_rows amo_rows system_rows
+jump_is_not_local = refl
+
+-- what a page lets be done: the code can be read and not written, the stack both, and an address that isn't mapped neither
+abbrev reads : ℕ → Option ℕ
+reads a = memory (here_in_history exits [] 0) a
+
+code_is_read : reads 0x1007A ≡ Some 0x70
+code_is_read = refl
+
+unmapped_is_not_read : reads 0x20000 ≡ None
+unmapped_is_not_read = refl
+
+code_is_not_written : can_be_written exits [] 0x10078 ≡ false
+code_is_not_written = refl
+
+stack_is_written : can_be_written exits [] 0x3FFFF3FFF8 ≡ true
+stack_is_written = refl
+
+unmapped_is_not_written : can_be_written exits [] 0x20000 ≡ false
+unmapped_is_not_written = refl
 
 -- `lui x8, 0x20` and nine stores to 0x20000: the ninth is refused where eight wait
 abbrev stores_nine : Setting
 stores_nine = code_and_data (0x37 ∷ 0x04 ∷ 0x02 ∷ 0x00 ∷ 0x23 ∷ 0x30 ∷ 0x04 ∷ 0x00 ∷ 0x23 ∷ 0x30 ∷ 0x04 ∷ 0x00 ∷ 0x23 ∷ 0x30 ∷ 0x04 ∷ 0x00 ∷ 0x23 ∷ 0x30 ∷ 0x04 ∷ 0x00 ∷ 0x23 ∷ 0x30 ∷ 0x04 ∷ 0x00 ∷ 0x23 ∷ 0x30 ∷ 0x04 ∷ 0x00 ∷ 0x23 ∷ 0x30 ∷ 0x04 ∷ 0x00 ∷ 0x23 ∷ 0x30 ∷ 0x04 ∷ 0x00 ∷ 0x23 ∷ 0x30 ∷ 0x04 ∷ 0x00 ∷ [])
 
-ninth_refused : played stores_nine (runs ∷ execs 10) ≡ Err 11
+ninth_refused : played stores_nine (starts ∷ execs 10) ≡ Err 11
 unfolding played decide history done meaning row_of rows lui_rows auipc_rows jal_rows jalr_rows branch_rows load_rows store_rows op_imm_rows op_imm_32_rows op_rows op_32_rows misc_mem_rows amo_rows system_rows
 ninth_refused = refl
 
-ninth_allowed : outcome stores_nine (played stores_nine (runs ∷ (execs 9 ++ (drains 1 ++ execs 1)))) ≡ Ok ([], over.Unended)
+ninth_allowed : outcome stores_nine (played stores_nine (starts ∷ (execs 9 ++ (drains 1 ++ execs 1)))) ≡ Ok ([], over.Unended)
 unfolding played decide history done end_of meaning row_of rows lui_rows auipc_rows jal_rows jalr_rows branch_rows load_rows store_rows op_imm_rows op_imm_32_rows op_rows op_32_rows misc_mem_rows amo_rows system_rows
 ninth_allowed = refl
 
 -- no thread leaves its hart while a store waits there
-leaves_empty : played stores_nine (runs ∷ (execs 2 ++ (line asked.Preempt ∷ []))) ≡ Err 4
+leaves_empty : played stores_nine (starts ∷ (execs 2 ++ (line asked.Preempt ∷ []))) ≡ Err 4
 unfolding played decide history done meaning row_of rows lui_rows auipc_rows jal_rows jalr_rows branch_rows load_rows store_rows op_imm_rows op_imm_32_rows op_rows op_32_rows misc_mem_rows amo_rows system_rows
 leaves_empty = refl
 
-plain_ninth : plain_outcome stores_nine (plain_run stores_nine (runs ∷ execs 10)) ≡ Err 11
-unfolding plain_run plain_step meaning row_of rows lui_rows auipc_rows jal_rows jalr_rows branch_rows load_rows store_rows op_imm_rows op_imm_32_rows op_rows op_32_rows misc_mem_rows amo_rows system_rows
+plain_ninth : plain_outcome stores_nine (plain_run stores_nine (starts ∷ execs 10)) ≡ Err 11
+unfolding plain_run meaning row_of rows lui_rows auipc_rows jal_rows jalr_rows branch_rows load_rows store_rows op_imm_rows op_imm_32_rows op_rows op_32_rows misc_mem_rows amo_rows system_rows
 plain_ninth = refl
 
 -- -2^63 is divided by -1 and by 0, and both quotients are written to the console; the call waits for both drains
@@ -179,20 +390,20 @@ divides = code_and_data (0x93 ∷ 0x02 ∷ 0xF0 ∷ 0xFF ∷ 0x13 ∷ 0x93 ∷ 0
 quotients : List ℕ
 quotients = replicate 7 0 ++ (0x80 ∷ replicate 8 0xFF)
 
-division_played : outcome divides (played divides (runs ∷ (execs 11 ++ (drains 2 ++ execs 4)))) ≡ Ok (quotients, over.Exit 0)
+division_played : outcome divides (played divides (starts ∷ (execs 11 ++ (drains 2 ++ execs 4)))) ≡ Ok (quotients, over.Exit 0)
 unfolding quotients played decide history done end_of meaning row_of rows lui_rows auipc_rows jal_rows jalr_rows branch_rows load_rows store_rows op_imm_rows op_imm_32_rows op_rows op_32_rows misc_mem_rows amo_rows system_rows
 division_played = refl
 
-division_plain : plain_outcome divides (plain_run divides (runs ∷ (execs 11 ++ (drains 2 ++ execs 4)))) ≡ Ok (quotients, over.Exit 0)
-unfolding quotients plain_run plain_step meaning row_of rows lui_rows auipc_rows jal_rows jalr_rows branch_rows load_rows store_rows op_imm_rows op_imm_32_rows op_rows op_32_rows misc_mem_rows amo_rows system_rows
+division_plain : plain_outcome divides (plain_run divides (starts ∷ (execs 11 ++ (drains 2 ++ execs 4)))) ≡ Ok (quotients, over.Exit 0)
+unfolding quotients plain_run meaning row_of rows lui_rows auipc_rows jal_rows jalr_rows branch_rows load_rows store_rows op_imm_rows op_imm_32_rows op_rows op_32_rows misc_mem_rows amo_rows system_rows
 division_plain = refl
 
 -- so does the fixed rule, which lets both enter before the call
 division_solo : plain_outcome divides (Ok (plain_solo divides 30)) ≡ Ok (quotients, over.Exit 0)
-unfolding quotients plain_solo plain_step meaning row_of rows lui_rows auipc_rows jal_rows jalr_rows branch_rows load_rows store_rows op_imm_rows op_imm_32_rows op_rows op_32_rows misc_mem_rows amo_rows system_rows
+unfolding quotients plain_solo meaning row_of rows lui_rows auipc_rows jal_rows jalr_rows branch_rows load_rows store_rows op_imm_rows op_imm_32_rows op_rows op_32_rows misc_mem_rows amo_rows system_rows
 division_solo = refl
 
-division_waits : played divides (runs ∷ execs 12) ≡ Err 13
+division_waits : played divides (starts ∷ execs 12) ≡ Err 13
 unfolding played decide history done meaning row_of rows lui_rows auipc_rows jal_rows jalr_rows branch_rows load_rows store_rows op_imm_rows op_imm_32_rows op_rows op_32_rows misc_mem_rows amo_rows system_rows
 division_waits = refl
 
@@ -201,32 +412,45 @@ abbrev reserves : List ℕ → Setting
 reserves between = code_and_data ((0x37 ∷ 0x04 ∷ 0x02 ∷ 0x00 ∷ 0xAF ∷ 0x32 ∷ 0x04 ∷ 0x10 ∷ []) ++ (between ++ (0x2F ∷ 0x33 ∷ 0x54 ∷ 0x18 ∷ 0x13 ∷ 0x05 ∷ 0x03 ∷ 0x00 ∷ 0x93 ∷ 0x08 ∷ 0xD0 ∷ 0x05 ∷ 0x73 ∷ 0x00 ∷ 0x00 ∷ 0x00 ∷ [])))
 
 -- a store of the same hart to the reserved bytes leaves the reservation
-own_store : outcome (reserves (0x23 ∷ 0x30 ∷ 0x04 ∷ 0x00 ∷ [])) (played (reserves (0x23 ∷ 0x30 ∷ 0x04 ∷ 0x00 ∷ [])) (runs ∷ (execs 3 ++ (drains 1 ++ execs 4)))) ≡ Ok ([], over.Exit 0)
+own_store : outcome (reserves (0x23 ∷ 0x30 ∷ 0x04 ∷ 0x00 ∷ [])) (played (reserves (0x23 ∷ 0x30 ∷ 0x04 ∷ 0x00 ∷ [])) (starts ∷ (execs 3 ++ (drains 1 ++ execs 4)))) ≡ Ok ([], over.Exit 0)
 unfolding played decide history done end_of meaning row_of rows lui_rows auipc_rows jal_rows jalr_rows branch_rows load_rows store_rows op_imm_rows op_imm_32_rows op_rows op_32_rows misc_mem_rows amo_rows system_rows
 own_store = refl
 
 -- a call ends it
-call_between : outcome (reserves (0x73 ∷ 0x00 ∷ 0x00 ∷ 0x00 ∷ [])) (played (reserves (0x73 ∷ 0x00 ∷ 0x00 ∷ 0x00 ∷ [])) (runs ∷ execs 7)) ≡ Ok ([], over.Exit 1)
+call_between : outcome (reserves (0x73 ∷ 0x00 ∷ 0x00 ∷ 0x00 ∷ [])) (played (reserves (0x73 ∷ 0x00 ∷ 0x00 ∷ 0x00 ∷ [])) (starts ∷ execs 7)) ≡ Ok ([], over.Exit 1)
 unfolding played decide history done end_of meaning row_of rows lui_rows auipc_rows jal_rows jalr_rows branch_rows load_rows store_rows op_imm_rows op_imm_32_rows op_rows op_32_rows misc_mem_rows amo_rows system_rows
 call_between = refl
 
 -- so does the move to another hart
 moves : List Ask
-moves = runs ∷ (execs 2 ++ (line asked.Preempt ∷ record runs { hart = record { 0 = 1 } } ∷ replicate 4 (record (line asked.Exec) { hart = record { 0 = 1 } })))
+moves = starts ∷ (execs 2 ++ (line asked.Preempt ∷ record starts { hart = record { 0 = 1 } } ∷ replicate 4 (record (line asked.Exec) { hart = record { 0 = 1 } })))
 
 moved : outcome (reserves []) (played (reserves []) moves) ≡ Ok ([], over.Exit 1)
 unfolding moves played decide history done end_of meaning row_of rows lui_rows auipc_rows jal_rows jalr_rows branch_rows load_rows store_rows op_imm_rows op_imm_32_rows op_rows op_32_rows misc_mem_rows amo_rows system_rows
 moved = refl
 
 moved_plain : plain_outcome (reserves []) (plain_run (reserves []) moves) ≡ Ok ([], over.Exit 1)
-unfolding moves plain_run plain_step meaning row_of rows lui_rows auipc_rows jal_rows jalr_rows branch_rows load_rows store_rows op_imm_rows op_imm_32_rows op_rows op_32_rows misc_mem_rows amo_rows system_rows
+unfolding moves plain_run meaning row_of rows lui_rows auipc_rows jal_rows jalr_rows branch_rows load_rows store_rows op_imm_rows op_imm_32_rows op_rows op_32_rows misc_mem_rows amo_rows system_rows
 moved_plain = refl
+
+-- what is reserved after `lr.d`, and after the thread left its hart
+abbrev reserved_after : Result (List Entry) ℕ → Option ℕ
+reserved_after (Ok log) = reservation 0 (history (reserves []) log)
+reserved_after (Err n) = None
+
+reserved : reserved_after (played (reserves []) (starts ∷ execs 2)) ≡ Some 0x20000
+unfolding played decide history done meaning row_of rows lui_rows auipc_rows jal_rows jalr_rows branch_rows load_rows store_rows op_imm_rows op_imm_32_rows op_rows op_32_rows misc_mem_rows amo_rows system_rows
+reserved = refl
+
+reserved_no_more : reserved_after (played (reserves []) (starts ∷ (execs 2 ++ (line asked.Preempt ∷ [])))) ≡ None
+unfolding played decide history done meaning row_of rows lui_rows auipc_rows jal_rows jalr_rows branch_rows load_rows store_rows op_imm_rows op_imm_32_rows op_rows op_32_rows misc_mem_rows amo_rows system_rows
+reserved_no_more = refl
 
 -- a waiting store is seen by its own hart: 7 is stored, loaded, and is the exit's code
 abbrev forwards : Setting
 forwards = code_and_data (0x37 ∷ 0x04 ∷ 0x02 ∷ 0x00 ∷ 0x93 ∷ 0x02 ∷ 0x70 ∷ 0x00 ∷ 0x23 ∷ 0x20 ∷ 0x54 ∷ 0x00 ∷ 0x03 ∷ 0x45 ∷ 0x04 ∷ 0x00 ∷ 0x93 ∷ 0x08 ∷ 0xD0 ∷ 0x05 ∷ 0x73 ∷ 0x00 ∷ 0x00 ∷ 0x00 ∷ [])
 
-forwarded : outcome forwards (played forwards (runs ∷ (execs 5 ++ (drains 1 ++ execs 1)))) ≡ Ok ([], over.Exit 7)
+forwarded : outcome forwards (played forwards (starts ∷ (execs 5 ++ (drains 1 ++ execs 1)))) ≡ Ok ([], over.Exit 7)
 unfolding played decide history done end_of meaning row_of rows lui_rows auipc_rows jal_rows jalr_rows branch_rows load_rows store_rows op_imm_rows op_imm_32_rows op_rows op_32_rows misc_mem_rows amo_rows system_rows
 forwarded = refl
 
@@ -234,11 +458,11 @@ forwarded = refl
 abbrev fences : List ℕ → Setting
 fences fence = code_and_data ((0x37 ∷ 0x04 ∷ 0x02 ∷ 0x00 ∷ 0x23 ∷ 0x30 ∷ 0x04 ∷ 0x00 ∷ []) ++ (fence ++ (0x93 ∷ 0x08 ∷ 0xD0 ∷ 0x05 ∷ 0x73 ∷ 0x00 ∷ 0x00 ∷ 0x00 ∷ [])))
 
-full_fence : played (fences (0x0F ∷ 0x00 ∷ 0x30 ∷ 0x03 ∷ [])) (runs ∷ execs 3) ≡ Err 4
+full_fence : played (fences (0x0F ∷ 0x00 ∷ 0x30 ∷ 0x03 ∷ [])) (starts ∷ execs 3) ≡ Err 4
 unfolding played decide history done meaning row_of rows lui_rows auipc_rows jal_rows jalr_rows branch_rows load_rows store_rows op_imm_rows op_imm_32_rows op_rows op_32_rows misc_mem_rows amo_rows system_rows
 full_fence = refl
 
-fence_tso : outcome (fences (0x0F ∷ 0x00 ∷ 0x30 ∷ 0x83 ∷ [])) (played (fences (0x0F ∷ 0x00 ∷ 0x30 ∷ 0x83 ∷ [])) (runs ∷ (execs 4 ++ (drains 1 ++ execs 1)))) ≡ Ok ([], over.Exit 0)
+fence_tso : outcome (fences (0x0F ∷ 0x00 ∷ 0x30 ∷ 0x83 ∷ [])) (played (fences (0x0F ∷ 0x00 ∷ 0x30 ∷ 0x83 ∷ [])) (starts ∷ (execs 4 ++ (drains 1 ++ execs 1)))) ≡ Ok ([], over.Exit 0)
 unfolding played decide history done end_of meaning row_of rows lui_rows auipc_rows jal_rows jalr_rows branch_rows load_rows store_rows op_imm_rows op_imm_32_rows op_rows op_32_rows misc_mem_rows amo_rows system_rows
 fence_tso = refl
 
@@ -246,65 +470,274 @@ fence_tso = refl
 abbrev stores_twice : Setting
 stores_twice = code_and_data (0x37 ∷ 0x04 ∷ 0x02 ∷ 0x00 ∷ 0x93 ∷ 0x02 ∷ 0x70 ∷ 0x00 ∷ 0x23 ∷ 0x20 ∷ 0x54 ∷ 0x00 ∷ 0x93 ∷ 0x02 ∷ 0x80 ∷ 0x00 ∷ 0x23 ∷ 0x20 ∷ 0x54 ∷ 0x00 ∷ 0x03 ∷ 0x45 ∷ 0x04 ∷ 0x00 ∷ 0x93 ∷ 0x08 ∷ 0xD0 ∷ 0x05 ∷ 0x73 ∷ 0x00 ∷ 0x00 ∷ 0x00 ∷ [])
 
-oldest_first : outcome stores_twice (played stores_twice (runs ∷ (execs 5 ++ (drains 2 ++ execs 3)))) ≡ Ok ([], over.Exit 8)
+oldest_first : outcome stores_twice (played stores_twice (starts ∷ (execs 5 ++ (drains 2 ++ execs 3)))) ≡ Ok ([], over.Exit 8)
 unfolding played decide history done end_of meaning row_of rows lui_rows auipc_rows jal_rows jalr_rows branch_rows load_rows store_rows op_imm_rows op_imm_32_rows op_rows op_32_rows misc_mem_rows amo_rows system_rows
 oldest_first = refl
+
+-- memory before the first drain, after it, and after both
+abbrev at_0x20000 : Result (List Entry) ℕ → Option ℕ
+at_0x20000 (Ok log) = Some (byte stores_twice (history stores_twice log) 0x20000)
+at_0x20000 (Err n) = None
+
+before_drains : at_0x20000 (played stores_twice (starts ∷ (execs 5 ++ drains 0))) ≡ Some 0
+unfolding played decide history done meaning row_of rows lui_rows auipc_rows jal_rows jalr_rows branch_rows load_rows store_rows op_imm_rows op_imm_32_rows op_rows op_32_rows misc_mem_rows amo_rows system_rows
+before_drains = refl
+
+after_one : at_0x20000 (played stores_twice (starts ∷ (execs 5 ++ drains 1))) ≡ Some 7
+unfolding played decide history done meaning row_of rows lui_rows auipc_rows jal_rows jalr_rows branch_rows load_rows store_rows op_imm_rows op_imm_32_rows op_rows op_32_rows misc_mem_rows amo_rows system_rows
+after_one = refl
+
+after_both : at_0x20000 (played stores_twice (starts ∷ (execs 5 ++ drains 2))) ≡ Some 8
+unfolding played decide history done meaning row_of rows lui_rows auipc_rows jal_rows jalr_rows branch_rows load_rows store_rows op_imm_rows op_imm_32_rows op_rows op_32_rows misc_mem_rows amo_rows system_rows
+after_both = refl
 
 -- `amoadd.w` of 0x20000 waits until the store of 7 has entered, and then answers 7
 abbrev adds : Setting
 adds = code_and_data (0x37 ∷ 0x04 ∷ 0x02 ∷ 0x00 ∷ 0x93 ∷ 0x02 ∷ 0x70 ∷ 0x00 ∷ 0x23 ∷ 0x20 ∷ 0x54 ∷ 0x00 ∷ 0x2F ∷ 0x25 ∷ 0x54 ∷ 0x00 ∷ 0x93 ∷ 0x08 ∷ 0xD0 ∷ 0x05 ∷ 0x73 ∷ 0x00 ∷ 0x00 ∷ 0x00 ∷ [])
 
-amo_waits : played adds (runs ∷ execs 4) ≡ Err 5
+amo_waits : played adds (starts ∷ execs 4) ≡ Err 5
 unfolding played decide history done meaning row_of rows lui_rows auipc_rows jal_rows jalr_rows branch_rows load_rows store_rows op_imm_rows op_imm_32_rows op_rows op_32_rows misc_mem_rows amo_rows system_rows
 amo_waits = refl
 
-amo_answers : outcome adds (played adds (runs ∷ (execs 3 ++ (drains 1 ++ execs 3)))) ≡ Ok ([], over.Exit 7)
+amo_answers : outcome adds (played adds (starts ∷ (execs 3 ++ (drains 1 ++ execs 3)))) ≡ Ok ([], over.Exit 7)
 unfolding played decide history done end_of meaning row_of rows lui_rows auipc_rows jal_rows jalr_rows branch_rows load_rows store_rows op_imm_rows op_imm_32_rows op_rows op_32_rows misc_mem_rows amo_rows system_rows
 amo_answers = refl
 
--- a `write` of 10 bytes to a console that has room for 6 writes 6, and to a full one none
-cut_to_room : write_call (λ a. Some a) 65530 1 100 10 ≡ record { answer = Some 6; written = 100 ∷ 101 ∷ 102 ∷ 103 ∷ 104 ∷ 105 ∷ []; ended = None }
-cut_to_room = refl
+-- where a reservation of 8 bytes from 0x20000 on ends: at a write to one of them, and not at one beside them or of no bytes
+abbrev after : Write → Option ℕ
+after w = lost_after (w ∷ []) (Some 0x20000)
 
-no_room : write_call (λ a. Some a) 65536 1 100 10 ≡ refused ENOSPC
-no_room = refl
+abbrev stored : ℕ → ℕ → Write
+stored at size = Stored (record { at = at; size = size; value = 7 })
 
--- what `write` tests, in order: the descriptor, the length, the address, and the room
-bad_descriptor : write_call (λ a. None) 65536 3 100 0 ≡ refused EBADF
+write_inside : after (stored 0x20007 1) ≡ None
+write_inside = refl
+
+write_across : after (stored 0x1FFFF 2) ≡ None
+write_across = refl
+
+write_before : after (stored 0x1FFF8 8) ≡ Some 0x20000
+write_before = refl
+
+write_behind : after (stored 0x20008 8) ≡ Some 0x20000
+write_behind = refl
+
+page_of_zeros : after (Zeroed 0x20000 4096) ≡ None
+page_of_zeros = refl
+
+no_zeros : after (Zeroed 0x20000 0) ≡ Some 0x20000
+no_zeros = refl
+
+-- the same in a history: hart 0 has reserved these bytes, and then hart 1 writes
+abbrev reserved_then : Write → History
+reserved_then w =
+    let quiet = nothing (here_in_history exits [] 0) in
+    record { entry = record (entry kind.Drain 0) { hart = record { 0 = 1 } }; done = record quiet { drained = 1; entered = w ∷ [] } }
+    ∷ record { entry = entry kind.Exec 0; done = record quiet { reserved = Some 0x20000 } } ∷ []
+
+other_hart_inside : reservation 0 (reserved_then (stored 0x20004 4)) ≡ None
+other_hart_inside = refl
+
+other_hart_behind : reservation 0 (reserved_then (stored 0x20008 8)) ≡ Some 0x20000
+other_hart_behind = refl
+
+-- of two waiting stores the youngest that has a byte is seen; where memory can't be read nothing is
+abbrev waits : List Store → Here
+waits ws = record (here_in_history stores_nine [] 0) { waiting = ws }
+
+abbrev store : ℕ → ℕ → ℕ → Store
+store at size value = record { at = at; size = size; value = value }
+
+youngest : view (waits (store 0x20000 4 7 ∷ store 0x20000 1 8 ∷ [])) 0x20000 ≡ Some 8
+youngest = refl
+
+older_beside_it : view (waits (store 0x20000 4 0x700 ∷ store 0x20000 1 8 ∷ [])) 0x20001 ≡ Some 7
+older_beside_it = refl
+
+memory_below : view (waits (store 0x20000 4 7 ∷ [])) 0x20004 ≡ Some 0
+memory_below = refl
+
+not_seen : view (waits (store 0x30000 1 7 ∷ [])) 0x30000 ≡ None
+not_seen = refl
+
+-- calls of thread 3 with a number and three arguments, of a process in which bytes stand on the console: the threads whose files
+-- they set, with their a0 and pc
+abbrev asks : ℕ → ℕ → ℕ → ℕ → ℕ → Here
+asks held number a0 a1 a2 =
+    let here = here_in_history exits [] 0 in
+    record here {
+      file = λ t. record { file = with_register (with_register (with_register (with_register no_registers 17 number) 10 a0) 11 a1) 12 a2; pc = 0x10080 };
+      kernel = record (kernel exits []) { console = replicate held 0x2E };
+    }
+
+abbrev answered : CallDone → List (ℕ × ℕ × ℕ)
+answered c = map (λ p. (p.0, register p.1.file 10, p.1.pc)) c.files
+
+abbrev negative : ℕ → ℕ
+negative n = 2 ^ 64 - n
+
+process_number : answered (called (asks 0 172 5 0 0) 3) ≡ (3, 1, 0x10084) ∷ []
+process_number = refl
+
+thread_number : answered (called (asks 0 178 5 0 0) 3) ≡ (3, 3, 0x10084) ∷ []
+thread_number = refl
+
+unknown_call : answered (called (asks 0 1000 5 0 0) 3) ≡ (3, negative 38, 0x10084) ∷ []
+unknown_call = refl
+
+-- `set_tid_address` answers the thread's number, and sets the address that its exit clears
+clear_answer : answered (called (asks 0 96 0x20000 0 0) 3) ≡ (3, 3, 0x10084) ∷ []
+clear_answer = refl
+
+clear_address : clear_of 1 (called (asks 0 96 0x20000 0 0) 1).kernel.threads ≡ 0x20000
+clear_address = refl
+
+clear_of_another : clear_of 1 (called (asks 0 96 0x20000 0 0) 3).kernel.threads ≡ 0
+clear_of_another = refl
+
+-- what `write` does: three bytes of the code come to the console, behind what stands there
+wrote_three : (called (asks 1 64 1 0x10078 3) 3).kernel.console ≡ 0x2E ∷ 0x13 ∷ 0x05 ∷ 0x70 ∷ []
+wrote_three = refl
+
+answers_three : answered (called (asks 1 64 1 0x10078 3) 3) ≡ (3, 3, 0x10084) ∷ []
+answers_three = refl
+
+to_standard_error : answered (called (asks 0 64 2 0x10078 3) 3) ≡ (3, 3, 0x10084) ∷ []
+to_standard_error = refl
+
+-- a descriptor is the low 32 bits of its register
+low_32_bits : answered (called (asks 0 64 0x100000001 0x10078 3) 3) ≡ (3, 3, 0x10084) ∷ []
+low_32_bits = refl
+
+-- what it tests, in order: the descriptor, the length, the address, and the room
+bad_descriptor : answered (called (asks 65536 64 3 0x30000 0) 3) ≡ (3, negative 9, 0x10084) ∷ []
 bad_descriptor = refl
 
-nothing_to_write : write_call (λ a. None) 65536 2 100 0 ≡ answered 0
+nothing_to_write : answered (called (asks 65536 64 2 0x30000 0) 3) ≡ (3, 0, 0x10084) ∷ []
 nothing_to_write = refl
 
-bad_address : write_call (λ a. None) 65536 1 100 1 ≡ refused EFAULT
+bad_address : answered (called (asks 65536 64 1 0x30000 1) 3) ≡ (3, negative 14, 0x10084) ∷ []
 bad_address = refl
 
--- an exit's code is its low 8 bits
-low_byte : (exit_call 0x107).ended ≡ Some (over.Exit 7)
+bad_last_byte : answered (called (asks 0 64 1 0x10FFF 2) 3) ≡ (3, negative 14, 0x10084) ∷ []
+bad_last_byte = refl
+
+no_room : answered (called (asks 65536 64 1 0x10078 1) 3) ≡ (3, negative 28, 0x10084) ∷ []
+no_room = refl
+
+cut_to_room : answered (called (asks 65530 64 1 0x10078 10) 3) ≡ (3, 6, 0x10084) ∷ []
+cut_to_room = refl
+
+-- an exit's code is its low 8 bits; it sets no file
+low_byte : (called (asks 0 93 0x107 0 0) 3).ended ≡ Some (over.Exit 7)
 low_byte = refl
+
+no_file_set : answered (called (asks 0 93 0x107 0 0) 3) ≡ []
+no_file_set = refl
+
+-- a process whose only thread waits is stuck; one whose thread is ready or runs isn't, and neither is one without threads; an
+-- end by an event comes first
+abbrev waiting_threads : Threads
+waiting_threads = with_state 1 (state.Waiting 0x20000) start_threads
+
+only_waiter : is_stuck waiting_threads ≡ true
+only_waiter = refl
+
+ready_thread : is_stuck start_threads ≡ false
+ready_thread = refl
+
+running_thread : is_stuck (with_state 1 (state.Running (record { 0 = 1 })) start_threads) ≡ false
+running_thread = refl
+
+no_thread : is_stuck (record start_threads { live = [] }) ≡ false
+no_thread = refl
+
+stuck_ends : final None (record (kernel exits []) { threads = waiting_threads }) ≡ Some over.Stuck
+stuck_ends = refl
+
+event_ends_first : final (Some (over.Exit 7)) (record (kernel exits []) { threads = waiting_threads }) ≡ Some (over.Exit 7)
+event_ends_first = refl
+
+-- an entry of a hart that runs no thread has no thread and no pc
+no_thread_no_pc : entry_in asked.Drain (here_in_history exits [] 1) ≡ record { hart = record { 0 = 1 }; kind = kind.Drain; tid = record { 0 = 0 }; pc = 0 }
+no_thread_no_pc = refl
 
 -- what is read of hart 0: nothing before its thread runs; then `addi x10, x0, 7`, which touches registers alone, and no
 -- thread is ready. A store doesn't touch registers alone
-nothing_next : effect_on exits (history exits []) (running 0 (history exits [])) ≡ None
+abbrev sees : Setting → List Entry → Here
+sees s log = here_in_history s (history s log) 0
+
+nothing_next : effect_here (sees exits []) ≡ None
 unfolding history
 nothing_next = refl
 
-first_is_ready : first_ready (history exits []) ≡ Some (record { 0 = 1 })
+first_is_ready : first_ready (sees exits []) ≡ Some (record { 0 = 1 })
 unfolding history
 first_is_ready = refl
 
-next_adds : effect_on exits (history exits (entry kind.Run 0x10078 ∷ [])) (Some 1) ≡ Some (effect.Next 10 7 0x1007C)
+next_adds : effect_here (sees exits begun) ≡ Some (effect.Next 10 7 0x1007C)
 unfolding history done meaning row_of rows lui_rows auipc_rows jal_rows jalr_rows branch_rows load_rows store_rows op_imm_rows op_imm_32_rows op_rows op_32_rows misc_mem_rows amo_rows system_rows
 next_adds = refl
 
-next_is_local : is_local_on exits (history exits (entry kind.Run 0x10078 ∷ [])) (Some 1) ≡ true
+next_is_local : is_local_on (sees exits begun) (Some 1) ≡ true
 unfolding history done is_register_only meaning row_of rows lui_rows auipc_rows jal_rows jalr_rows branch_rows load_rows store_rows op_imm_rows op_imm_32_rows op_rows op_32_rows misc_mem_rows amo_rows system_rows
 next_is_local = refl
 
-none_is_ready : first_ready (history exits (entry kind.Run 0x10078 ∷ [])) ≡ None
-unfolding history
+none_is_ready : first_ready (sees exits begun) ≡ None
+unfolding history done
 none_is_ready = refl
 
-store_is_not_local : is_local_on stores_nine (history stores_nine (entry kind.Run 0x100B0 ∷ entry kind.Exec 0x100B0 ∷ [])) (Some 1) ≡ false
+store_is_not_local : is_local_on (sees stores_nine (entry kind.Run 0x100B0 ∷ entry kind.Exec 0x100B0 ∷ [])) (Some 1) ≡ false
 unfolding history done is_register_only meaning row_of rows lui_rows auipc_rows jal_rows jalr_rows branch_rows load_rows store_rows op_imm_rows op_imm_32_rows op_rows op_32_rows misc_mem_rows amo_rows system_rows
 store_is_not_local = refl
+
+-- the whole sight of hart 0 where two stores wait
+abbrev two_stores : List Entry
+two_stores = entry kind.Run 0x100B0 ∷ entry kind.Exec 0x100B0 ∷ entry kind.Exec 0x100B4 ∷ entry kind.Exec 0x100B8 ∷ []
+
+abbrev two_wait : Sight
+two_wait = record {
+  idle = false;
+  first_ready = None;
+  in_barrier = false;
+  all_taken = false;
+  requested = false;
+  stores = 2;
+  deliverable = false;
+  exec_enabled = true;
+  «local» = false;
+  ran = 3;
+  credit = 0;
+}
+
+sight_of_two : sight_in (sees stores_nine two_stores) (ran 0 (history stores_nine two_stores)) ≡ two_wait
+unfolding history done is_register_only meaning row_of rows lui_rows auipc_rows jal_rows jalr_rows branch_rows load_rows store_rows op_imm_rows op_imm_32_rows op_rows op_32_rows misc_mem_rows amo_rows system_rows
+sight_of_two = refl
+
+-- the fixed rule: it executes where it may, and drains where it may not; a signal waits for the drains; an idle hart runs the first
+-- ready thread, and has no choice where none is ready
+rule_executes : solo_rule two_wait ≡ Some asked.Exec
+rule_executes = refl
+
+rule_drains : solo_rule (record two_wait { exec_enabled = false }) ≡ Some asked.Drain
+rule_drains = refl
+
+rule_drains_for_signal : solo_rule (record two_wait { deliverable = true }) ≡ Some asked.Drain
+rule_drains_for_signal = refl
+
+rule_delivers : solo_rule (record two_wait { deliverable = true; stores = 0 }) ≡ Some asked.Signal
+rule_delivers = refl
+
+rule_runs : solo_rule (record two_wait { idle = true; first_ready = Some (record { 0 = 5 }) }) ≡ Some (asked.Run (record { 0 = 5 }))
+rule_runs = refl
+
+rule_has_none : solo_rule (record two_wait { idle = true }) ≡ None
+rule_has_none = refl
+
+rule_begins : solo_choice exits (history exits []) ≡ Some first
+unfolding history
+rule_begins = refl
+
+begins_by_rule : IsSolo exits begun
+unfolding history done
+begins_by_rule = (tt, refl, refl)

@@ -1,163 +1,339 @@
--- What one more event changes in what is read out of a history.
-use Rattle.std.proofs.Common.{◌≡◌, ◌≢◌, ℕ, ◌+◌, ◌≤◌, ◌<◌, List, [], ◌∷◌, ◌++◌, length, drop, take, zero, suc, Option, Some, None, Err, refl, sym, ◌∙◌, arith, true, false, Bool, cond, eq-eqb, add-one, append-nil, length-drop}
-use Rattle.std.specs.List.{fold}
-use Rattle.std.proofs.lemmas.List.{drop-append-le}
-use Rattle.std.proofs.lemmas.List.Sums.{fold-append}
-use Rattle.std.proofs.lemmas.Bool.{lt-leb, le-leb, ne_eqb}
+-- The laws that crates above cite: what is decided at a place, what an event that is allowed did, and where a log begins.
+use Rattle.std.proofs.Common.{◌≡◌, ◌≢◌, ℕ, ◌+◌, ◌≤◌, ◌<◌, ◌-◌, ◌^◌, List, [], ◌∷◌, ◌++◌, length, map, All, eqb, arith, refl, sym, ap, ◌∙◌, subst, true, is_some, Option, Some, None, Ok, Err}
+use Rattle.std.proofs.lemmas.Bool.{le-leb, lt-leb}
+use Rattle.std.specs.Result.{IsOk}
+use Rattle.std.specs.List.{list_any}
 use Rattle.mach_types.specs.declared.events.Choice.{Choice}
+use Rattle.mach_types.specs.declared.events.Choice.TheVariants as asked
 use Rattle.mach_types.specs.declared.events.Entry.{Entry}
-use Rattle.mach_types.specs.declared.events.Kind.TheVariants as kind
+use Rattle.mach_types.specs.declared.events.Sight.{Sight}
 use Rattle.mach_types.specs.declared.events.Why.TheVariants.{NoHart}
 use Rattle.mach_types.specs.declared.limits.End.{End}
-use Rattle.mach_types.specs.declared.limits.End.TheVariants as over
-use Rattle.mach_types.specs.declared.user_memory.Store.{Store}
-use Rattle.mach_types.specs.Bytes.{overlay, byte_over}
+use Rattle.mach_types.specs.declared.limits.End.TheVariants.{Limit, Unended}
+use Rattle.mach_types.specs.declared.limits.Limits.{Limits}
+use Rattle.mach_types.specs.Events.{choice_of}
+use Rattle.elf_load.specs.declared.image.Image.{Image}
+use Rattle.elf_load.specs.Images.{IsImage}
 use Rattle.block_model.specs.declared.refusals.Refused.TheVariants.{Ended, Full, NotEnabled}
-use Rattle.block_model.specs.Setting.{Setting}
-use Rattle.block_model.specs.History.{Event, History, nothing, is_drain, stores, drains, waiting, running, thread_after, hart_of, hart_after, file, reservation, lost_after, ended, events, ran, ran_after}
-use Rattle.block_model.specs.Deciding.{done, done_exec, event, history, quiet, decide, decide_on, refused_by, end_of}
+use Rattle.block_model.specs.Setting.{Setting, Seen, setting_of}
+use Rattle.mach_types.specs.Kernel.Scheduling.{Scheduling}
+use Rattle.mach_types.specs.Kernel.Threads.{Threads, is_ready, running_on, with_state}
+use Rattle.block_model.specs.Tables.{IsTables, on}
+use Rattle.block_model.specs.Here.{Here, Done, runs}
+use Rattle.block_model.specs.Events.Run.{refusal_run}
+use Rattle.block_model.specs.Events.{refusal_of, done_of}
+use Rattle.block_model.specs.ErrorCalls.{GivesError, GivesErrorAlone}
+use Rattle.block_model.specs.History.{History, ended, events, file, here_in_history, ran, running}
+use Rattle.block_model.specs.Walks.{IsWalk, answers, computed}
+use Rattle.block_model.specs.Deciding.{decide, decide_in, end_of, entry_in, event, history, over_at, unless}
+use Rattle.block_model.specs.Replay.{Ask, AllAnswer, IsFirstBad, IsFirstRefused, play_line, played, played_read, script_of}
+use Rattle.block_model.specs.Run.{IsBlockRun, IsRunHistory}
+use Rattle.block_model.specs.Sights.{sight_in}
+use Rattle.block_model.specs.Solo.{IsSolo, solo_choice, solo_rule}
+use Rattle.block_model.specs.Plain.{Plain, apply, here_of, plain_after, plain_end, plain_over, plain_seen, plain_solo, plain_solo_choice, plain_start}
+use Rattle.block_model.specs.PlainOf.{plain_of}
+use Rattle.block_model.specs.PlainSays.{MakesLog, SaysOf}
+use Rattle.block_model.proofs.Agreement as agrees
+use Rattle.block_model.proofs.Agreement.{agreement_decide, agreement_end, agreement_here, good_after, plain-append, plain-made}
+use Rattle.block_model.proofs.Allowed.{IsAllowed, allowed}
+use Rattle.block_model.proofs.Allowed as decisions
+use Rattle.block_model.proofs.Counts as counts
+use Rattle.block_model.proofs.Goods.Run as run_laws_of
+use Rattle.block_model.proofs.KernelCalls as call_laws
+use Rattle.block_model.proofs.KernelTables as tables_laws
+use Rattle.block_model.proofs.Ends as ends
+use Rattle.block_model.proofs.ErrorEvents as error_events
+use Rattle.block_model.proofs.Walks as walks
+use Rattle.block_model.proofs.Entries as entries
+use Rattle.block_model.proofs.Good.{good_here}
+use Rattle.block_model.proofs.OneImage as one_image
+use Rattle.block_model.proofs.Open as opens
+use Rattle.block_model.proofs.PlainRuns as plain_runs
+use Rattle.block_model.proofs.PlainSolo as solo_runs
+use Rattle.block_model.proofs.Replay as replay
+use Rattle.block_model.proofs.Rules as rules
+use Rattle.block_model.proofs.Runs as run_laws
+use Rattle.block_model.proofs.Runs.{good_of}
+pub use Rattle.block_model.proofs.Good.{IsFit, IsGood, IsGoodHere, IsSound, MayEnter}
+pub use Rattle.block_model.proofs.KernelCalls.{as_many_held, child_not_held, child_same, ended_idle, order_has, tables_allowed, tables_woken, waited_idle, woken_same}
+pub use Rattle.block_model.proofs.KernelTables.{cleared_same, left_idle, running_is}
+
+-- a run that goes on is a run
+pub run_on : (v : Seen) (h : ℕ) (c : Choice) (e : Entry) → IsBlockRun v.setting v.log → decide v.setting (history v.setting v.log) h c ≡ Ok e → IsBlockRun v.setting (v.log ++ e ∷ [])
+run_on v h c e run is = run_laws.IsBlockRun-append v.setting v.log h c e run is
+
+-- an empty log is a run, and the plain machine then stands at its start
+pub start_run : (s : Setting) → IsBlockRun s []
+start_run s = run_laws.IsBlockRun-nil s
+
+pub start_plain : (s : Setting) → plain_after s [] ≡ plain_start s
+start_plain s = agrees.plain-nil s
+
+-- what is decided hangs on the plain machine alone
+pub decided : (v : Seen) (h : ℕ) (c : Choice) → IsBlockRun v.setting v.log → decide v.setting (history v.setting v.log) h c ≡ decide_in (length v.log) (plain_over (plain_seen v)) c (here_of v h)
+decided v h c run = agreement_decide v.setting v.log h c run ∙ ap (λ n. decide_in n (plain_over (plain_seen v)) c (here_of v h)) (plain-made v.setting v.log run)
+
+-- where the run has ended
+pub after_end : (v : Seen) (h : ℕ) (c : Choice) (e : End) → IsBlockRun v.setting v.log → plain_over (plain_seen v) ≡ Some e → decide v.setting (history v.setting v.log) h c ≡ Err (Ended e)
+after_end v h c e run over = decided v h c run ∙ ap (λ o. decide_in (length v.log) o c (here_of v h)) over
+
+-- where the log is full
+pub at_limit : (v : Seen) (h : ℕ) (c : Choice) → IsBlockRun v.setting v.log → plain_over (plain_seen v) ≡ None → v.setting.limits.steps ≤ length v.log → decide v.setting (history v.setting v.log) h c ≡ Err Full
+at_limit v h c run goes full = decided v h c run ∙ (ap (λ o. decide_in (length v.log) o c (here_of v h)) goes ∙ rw (le-leb v.setting.limits.steps (length v.log) full) refl)
+
+-- where the machine has no such hart
+pub at_no_hart : (v : Seen) (h : ℕ) (c : Choice) → IsBlockRun v.setting v.log → plain_over (plain_seen v) ≡ None → length v.log < v.setting.limits.steps → v.setting.limits.harts ≤ h → decide v.setting (history v.setting v.log) h c ≡ Err (NotEnabled NoHart)
+at_no_hart v h c run goes room past = decided v h c run ∙ (ap (λ o. decide_in (length v.log) o c (here_of v h)) goes ∙ rw (lt-leb v.setting.limits.steps (length v.log) room, le-leb v.setting.limits.harts h past) refl)
+
+-- elsewhere the conditions of the choice decide
+pub at_kind : (v : Seen) (h : ℕ) (c : Choice) → IsBlockRun v.setting v.log → plain_over (plain_seen v) ≡ None → length v.log < v.setting.limits.steps → h < v.setting.limits.harts →
+    decide v.setting (history v.setting v.log) h c ≡ unless (entry_in c (here_of v h)) (refusal_of c (here_of v h))
+at_kind v h c run goes room lt = decided v h c run ∙ (ap (λ o. decide_in (length v.log) o c (here_of v h)) goes ∙ rw (lt-leb v.setting.limits.steps (length v.log) room, lt-leb v.setting.limits.harts h lt) refl)
+
+-- an event that is allowed, and did this
+pub record IsNext (v : Seen) (e : Entry) (d : Done) : Type 0 where
+  pub lt : e.hart.0 < v.setting.limits.harts
+  pub room : length v.log < v.setting.limits.steps
+  pub goes : plain_over (plain_seen v) ≡ None
+  pub free : refusal_of (choice_of e) (here_of v e.hart.0) ≡ None
+  pub is : e ≡ entry_in (choice_of e) (here_of v e.hart.0)
+  pub good : IsGoodHere (here_of v e.hart.0)
+  pub fit : IsFit (here_of v e.hart.0) d
+  pub next : plain_after v.setting (v.log ++ e ∷ []) ≡ apply e.hart.0 d (plain_seen v)
+  pub run : IsBlockRun v.setting (v.log ++ e ∷ [])
+
+pub next_event : (v : Seen) (e : Entry) (d : Done) → IsBlockRun v.setting v.log → decide v.setting (history v.setting v.log) e.hart.0 (choice_of e) ≡ Ok e → d ≡ done_of (choice_of e) (here_of v e.hart.0) → IsNext v e d
+next_event v e d run is done =
+    let a : IsAllowed (length v.log) (plain_over (plain_seen v)) (choice_of e) (here_of v e.hart.0) e = allowed (length v.log) (plain_over (plain_seen v)) (choice_of e) (here_of v e.hart.0) e (sym (decided v e.hart.0 (choice_of e) run) ∙ is) in
+    let good = good_here v.setting (plain_seen v) e.hart.0 a.lt (good_after v.setting v.log run) in
+    record {
+      lt = a.lt;
+      room = a.room;
+      goes = a.goes;
+      free = a.free;
+      is = a.is;
+      good = good;
+      fit = subst (IsFit (here_of v e.hart.0)) (sym done) (good_of (choice_of e) (here_of v e.hart.0) good a.free);
+      next = plain-append v.setting v.log e ∙ ap (λ d. apply e.hart.0 d (plain_seen v)) (sym done);
+      run = run_laws.IsBlockRun-append v.setting v.log e.hart.0 (choice_of e) e run is;
+    }
+
+-- what a rule may read of the plain machine is what is read by looking back, and so is the end
+pub same_here : (v : Seen) (h : ℕ) → IsBlockRun v.setting v.log → here_of v h ≡ here_in_history v.setting (history v.setting v.log) h
+same_here v h run = agreement_here v.setting v.log h run
+
+pub same_end : (v : Seen) → IsBlockRun v.setting v.log → plain_end v.setting (plain_seen v) ≡ end_of v.setting (history v.setting v.log)
+same_end v run = sym (agreement_end v.setting v.log run)
+
+-- each hart of each place is good
+pub good_at : (v : Seen) → IsBlockRun v.setting v.log → IsGood v.setting (plain_seen v)
+good_at v run = good_after v.setting v.log run
+
+-- runs and their histories, as lists
 
 -- one more entry is one more event
-pub history-append : (s : Setting) (log : List Entry) (entry : Entry) → history s (log ++ entry ∷ []) ≡ event s (history s log) entry ∷ history s log
-unfolding history
-history-append s log entry = fold-append (λ before e. event s before e ∷ before) [] log (entry ∷ [])
+pub history-append : (s : Setting) (log : List Entry) (e : Entry) → history s (log ++ e ∷ []) ≡ event s (history s log) e ∷ history s log
+history-append s log e = run_laws.history-append s log e
 
 -- an empty log has no event
 pub history-nil : (s : Setting) → history s [] ≡ []
-unfolding history
-history-nil s = refl
-
-folded_length : (s : Setting) (log : List Entry) (before : History) → length (fold (λ b e. event s b e ∷ b) before log) ≡ length before + length log
-folded_length s [] before = omega arith
-folded_length s (e ∷ log) before = folded_length s log (event s before e ∷ before) ∙ omega arith
+history-nil s = run_laws.history-nil s
 
 -- as many events as entries
 pub length-history : (s : Setting) (log : List Entry) → length (history s log) ≡ length log
-unfolding history
-length-history s log = folded_length s log [] ∙ omega arith
+length-history s log = run_laws.length-history s log
 
--- stores in order: the last of them is over the others
-pub overlay-append : (ws : List Store) (w : Store) (a below : ℕ) → overlay (ws ++ w ∷ []) a below ≡ byte_over w a (overlay ws a below)
-overlay-append [] w a below = refl
-overlay-append (v ∷ ws) w a below = overlay-append ws w a (byte_over v a below)
+-- what is decided is of the hart and the choice that were asked
+pub decided_is : (s : Setting) (before : History) (h : ℕ) (c : Choice) (e : Entry) → decide s before h c ≡ Ok e → (e.hart.0 ≡ h) × (choice_of e ≡ c)
+decided_is s before h c e is = decisions.decided_is s before h c e is
 
--- what an event of another hart leaves as it was
-pub stores-other : (h : ℕ) (e : Event) (before : History) → e.entry.hart.0 ≢ h → stores h (e ∷ before) ≡ stores h before
-stores-other h e before other = rw (ne_eqb e.entry.hart.0 h other) refl
+-- a run that goes on is a run
+pub IsBlockRun-append : (s : Setting) (log : List Entry) (h : ℕ) (c : Choice) (e : Entry) → IsBlockRun s log → decide s (history s log) h c ≡ Ok e → IsBlockRun s (log ++ e ∷ [])
+IsBlockRun-append s log h c e run is = run_laws.IsBlockRun-append s log h c e run is
 
-pub drains-other : (h : ℕ) (e : Event) (before : History) → e.entry.hart.0 ≢ h → drains h (e ∷ before) ≡ drains h before
-drains-other h e before other = rw (ne_eqb e.entry.hart.0 h other) refl
+-- a run by the fixed rule that goes on by the rule is one
+pub IsSolo-append : (s : Setting) (log : List Entry) (e : Entry) → IsSolo s log → e.hart.0 ≡ 0 → solo_choice s (history s log) ≡ Some (choice_of e) → IsSolo s (log ++ e ∷ [])
+IsSolo-append s log e solo first chosen = solo_runs.IsSolo-append s log e solo first chosen
 
-pub waiting-other : (h : ℕ) (e : Event) (before : History) → e.entry.hart.0 ≢ h → waiting h (e ∷ before) ≡ waiting h before
-waiting-other h e before other = rw (ne_eqb e.entry.hart.0 h other) refl
+-- a run has no more entries than the step limit
+pub within_limit : (s : Setting) (log : List Entry) → IsBlockRun s log → length log ≤ s.limits.steps
+within_limit s log run = ends.within_limit s log run
 
-pub running-other : (h : ℕ) (e : Event) (before : History) → e.entry.hart.0 ≢ h → running h (e ∷ before) ≡ running h before
-running-other h e before other = rw (ne_eqb e.entry.hart.0 h other) refl
+-- each entry is of a hart of the machine, its thread's number fits 32 bits where the step limit is small, and its pc fits 64
+pub all_harts : (s : Setting) (log : List Entry) → IsBlockRun s log → All (λ (e : Entry). e.hart.0 < s.limits.harts) log
+all_harts s log run = entries.all_harts s log run
 
-pub reservation-other : (h : ℕ) (e : Event) (before : History) → e.entry.hart.0 ≢ h → reservation h (e ∷ before) ≡ lost_after e.done.entered (reservation h before)
-reservation-other h e before other = rw (ne_eqb e.entry.hart.0 h other) refl
+pub all_threads : (s : Setting) (log : List Entry) → s.limits.steps < 2 ^ 31 - 1 → IsBlockRun s log → All (λ (e : Entry). e.tid.0 < 2 ^ 32) log
+all_threads s log short run = entries.all_threads s log short run
 
-pub events-other : (h : ℕ) (e : Event) (before : History) → e.entry.hart.0 ≢ h → events h (e ∷ before) ≡ events h before
-events-other h e before other = rw (ne_eqb e.entry.hart.0 h other) refl
+pub all_addresses : (s : Setting) (log : List Entry) → s.program.entry < 2 ^ 64 → IsBlockRun s log → All (λ (e : Entry). e.pc < 2 ^ 64) log
+all_addresses s log start run = entries.all_addresses s log start run
 
-pub ran-other : (h : ℕ) (e : Event) (before : History) → e.entry.hart.0 ≢ h → ran h (e ∷ before) ≡ ran h before
-ran-other h e before other = rw (ne_eqb e.entry.hart.0 h other) refl
+-- a guest call that gives an error changes, of thread files, memory and the kernel's record, only a0 and the pc of its thread
+pub error_changes_nothing : (s : Setting) (earlier later : List Entry) (entry : Entry) → s.limits.steps < 2 ^ 31 - 1
+    → IsBlockRun s (earlier ++ entry ∷ later) → GivesError s (history s earlier) entry → GivesErrorAlone s (history s earlier) entry
+error_changes_nothing s earlier later entry short run gives = error_events.error_changes_nothing s earlier later entry short run gives
 
--- what an event of the hart does to it
-pub running-own : (h : ℕ) (e : Event) (before : History) → e.entry.hart.0 ≡ h → running h (e ∷ before) ≡ thread_after e.entry.kind e.entry.tid.0 (running h before)
-running-own h e before same = rw (eq-eqb e.entry.hart.0 h same) refl
+-- at the end of a walk the thread's file is what its instructions make of the file at its start, and the thread runs there throughout
+pub walk_file : (s : Setting) (earlier stretch later : List Entry) (h t : ℕ) → IsBlockRun s (earlier ++ stretch ++ later) → IsWalk s h t (history s earlier) stretch
+    → file s t (history s (earlier ++ stretch)) ≡ computed s.program.pages (file s t (history s earlier)) (answers s h (history s earlier) stretch)
+walk_file s earlier stretch later h t run walk = (walks.walk_computed s earlier stretch later h t run walk).file_is
 
-pub reservation-own : (h : ℕ) (e : Event) (before : History) → e.entry.hart.0 ≡ h → reservation h (e ∷ before) ≡ e.done.reserved
-reservation-own h e before same = rw (eq-eqb e.entry.hart.0 h same) refl
+pub walk_throughout : (s : Setting) (earlier first rest later : List Entry) (h t : ℕ) → IsBlockRun s (earlier ++ first ++ rest ++ later) → IsWalk s h t (history s earlier) (first ++ rest)
+    → running s h (history s (earlier ++ first)) ≡ Some t
+walk_throughout s earlier first rest later h t run walk = walks.walk_throughout s earlier first rest later h t run walk
 
-pub events-own : (h : ℕ) (e : Event) (before : History) → e.entry.hart.0 ≡ h → events h (e ∷ before) ≡ events h before + 1
-events-own h e before same = rw (eq-eqb e.entry.hart.0 h same) refl
+-- ends
 
-pub ran-own : (h : ℕ) (e : Event) (before : History) → e.entry.hart.0 ≡ h → ran h (e ∷ before) ≡ ran_after e.entry.kind (ran h before)
-ran-own h e before same = rw (eq-eqb e.entry.hart.0 h same) refl
+-- no event ended the process as a script ends, and no run is over in this way
+pub not_open : (s : Setting) (before : History) → IsRunHistory s before → ended before ≢ Some Unended
+not_open s before run = ends.not_open s before run
 
-drop-step : (n : ℕ) (xs : List Store) → drop 1 (drop n xs) ≡ drop (suc n) xs
-drop-step zero [] = refl
-drop-step zero (x ∷ xs) = refl
-drop-step (suc n) [] = refl
-drop-step (suc n) (x ∷ xs) = drop-step n xs
+pub over_not_open : (s : Setting) (before : History) → IsRunHistory s before → over_at s before ≢ Some Unended
+over_not_open s before run = opens.over_not_open s before run
 
-drop-drop : (n : ℕ) (xs : List Store) → drop 1 (drop n xs) ≡ drop (n + 1) xs
-drop-drop n xs = rw add-one (drop-step n xs)
+-- the end of a run that was ended; of one whose log is full; and of one that is open
+pub end_of-ended : (s : Setting) (before : History) (e : End) → over_at s before ≡ Some e → end_of s before ≡ e
+end_of-ended s before e is = opens.end_of-ended s before e is
 
--- a drain takes the oldest
-pub waiting-drain : (h : ℕ) (e : Event) (before : History) → e.entry.hart.0 ≡ h → is_drain e.entry.kind ≡ true → e.done.executed ≡ [] → waiting h (e ∷ before) ≡ drop 1 (waiting h before)
-waiting-drain h e before same drained none =
-    rw (eq-eqb e.entry.hart.0 h same, drained, none, append-nil) (sym (drop-drop (drains h before) (stores h before)))
+pub end_of-limit : (s : Setting) (before : History) → over_at s before ≡ None → s.limits.steps ≤ length before → end_of s before ≡ Limit
+end_of-limit s before goes full = opens.end_of-limit s before goes full
 
--- any other event adds what it executed
-pub waiting-store : (h : ℕ) (e : Event) (before : History) → e.entry.hart.0 ≡ h → is_drain e.entry.kind ≡ false → drains h before ≤ length (stores h before) → waiting h (e ∷ before) ≡ waiting h before ++ e.done.executed
-waiting-store h e before same kept few =
-    rw (eq-eqb e.entry.hart.0 h same, kept) (drop-append-le (drains h before) (stores h before) e.done.executed few)
+pub end_of-open : (s : Setting) (before : History) → over_at s before ≡ None → length before < s.limits.steps → end_of s before ≡ Unended
+end_of-open s before goes room = opens.end_of-open s before (record { goes = goes; room = room })
 
--- a hart where a store waits has drained fewer than it executed
-pub drains_few : (h : ℕ) (before : History) → 0 < length (waiting h before) → drains h before < length (stores h before)
-drains_few h before some = let e = length-drop (drains h before) (stores h before) in omega (arith, e)
+-- a run that ends as a script does is open: nothing ended it, and its log has room
+pub is_open : (s : Setting) (before : History) → IsRunHistory s before → end_of s before ≡ Unended → (over_at s before ≡ None) × (length before < s.limits.steps)
+is_open s before run end = let x = opens.is_open s before run end in (x.goes, x.room)
 
--- a thread whose number isn't that of the event stays where it was
-pub hart_of-other : (t : ℕ) (e : Event) (before : History) → e.entry.tid.0 ≢ t → hart_of t (e ∷ before) ≡ hart_of t before
-hart_of-other t e before other = rw (ne_eqb e.entry.tid.0 t other) refl
+-- scripts
 
-pub hart_of-own : (t : ℕ) (e : Event) (before : History) → e.entry.tid.0 ≡ t → hart_of t (e ∷ before) ≡ hart_after e.entry.kind e.entry.hart.0 (hart_of t before)
-hart_of-own t e before same = rw (eq-eqb e.entry.tid.0 t same) refl
+-- a script is played a line at a time
+pub played-nil : (s : Setting) → played s [] ≡ Ok []
+played-nil s = replay.played-nil s
 
-same_either : {X : Type 0} (b : Bool) (x y : X) → x ≡ y → cond b x y ≡ y
-same_either true x y e = e
-same_either false x y e = refl
+pub played-append : (s : Setting) (lines : List Ask) (line : Ask) → played s (lines ++ line ∷ []) ≡ play_line s (played s lines) line
+played-append s lines line = replay.played-append s lines line
 
--- an event that moves no thread
-pub hart_of-still : (t : ℕ) (e : Event) (before : History) → ((o : Option ℕ) → hart_after e.entry.kind e.entry.hart.0 o ≡ o) → hart_of t (e ∷ before) ≡ hart_of t before
-hart_of-still t e before still = same_either _ _ _ (still (hart_of t before))
+-- what a script makes is the block run that answers it, and no other log is
+pub played_is_run : (s : Setting) (lines : List Ask) (log : List Entry) → played s lines ≡ Ok log → IsBlockRun s log × AllAnswer lines log
+played_is_run s lines log is = replay.played_is_run s lines log is
 
--- what each kind of event does
-pub done-exec : (s : Setting) (before : History) (e : Entry) (t : ℕ) → e.kind ≡ kind.Exec → running e.hart.0 before ≡ Some t → done s before e ≡ done_exec s before e.hart.0 t (file s t before)
-unfolding done
-done-exec s before e t is runs = rw (is, runs) refl
+pub run_is_played : (s : Setting) (lines : List Ask) (log : List Entry) → IsBlockRun s log → AllAnswer lines log → played s lines ≡ Ok log
+run_is_played s lines log run all = replay.run_is_played s lines log run all
 
-pub done-drain : (s : Setting) (before : History) (e : Entry) → e.kind ≡ kind.Drain → done s before e ≡ record (quiet (reservation e.hart.0 before)) { entered = take 1 (waiting e.hart.0 before) }
-unfolding done
-done-drain s before e is = rw is refl
+-- as many entries as lines
+pub length-answers : (lines : List Ask) (log : List Entry) → AllAnswer lines log → length log ≡ length lines
+length-answers lines log all = replay.length-answers lines log all
 
-pub done-preempt : (s : Setting) (before : History) (e : Entry) → e.kind ≡ kind.Preempt → done s before e ≡ nothing
-unfolding done
-done-preempt s before e is = rw is refl
+-- a log answers the script that it is, and a block run is made by it
+pub answers_itself : (log : List Entry) → AllAnswer (script_of log) log
+answers_itself log = replay.answers_itself log
 
-pub done-run : (s : Setting) (before : History) (e : Entry) → e.kind ≡ kind.Run → done s before e ≡ nothing
-unfolding done
-done-run s before e is = rw is refl
+pub replays : (s : Setting) (log : List Entry) → IsBlockRun s log → played s (script_of log) ≡ Ok log
+replays s log run = replay.replays s log run
 
--- a run that has ended decides nothing more
-pub decide-ended : (s : Setting) (before : History) (h : ℕ) (choice : Choice) (e : End) → ended before ≡ Some e → decide s before h choice ≡ Err (Ended e)
-unfolding decide
-decide-ended s before h choice e is = rw is refl
+-- a script is refused with the number of its first line that is refused, or can't be read
+pub is_refused : (s : Setting) (lines : List Ask) (n : ℕ) → IsFirstRefused s lines n → played s lines ≡ Err n
+is_refused s lines n first = replay.is_refused s lines n first
 
-pub decide-full : (s : Setting) (before : History) (h : ℕ) (choice : Choice) → ended before ≡ None → s.limits.steps ≤ length before → decide s before h choice ≡ Err Full
-unfolding decide
-decide-full s before h choice goes full = rw (goes, le-leb s.limits.steps (length before) full) refl
+pub is_bad : (s : Setting) (lines : List (Option Ask)) (n : ℕ) → IsFirstBad s lines n → played_read s lines ≡ Err n
+is_bad s lines n first = replay.is_bad s lines n first
 
-pub decide-no_hart : (s : Setting) (before : History) (h : ℕ) (choice : Choice) → ended before ≡ None → length before < s.limits.steps → s.limits.harts ≤ h → decide s before h choice ≡ Err (NotEnabled NoHart)
-unfolding decide
-decide-no_hart s before h choice goes room past = rw (goes, lt-leb s.limits.steps (length before) room, le-leb s.limits.harts h past) refl
+-- where each line can be read, the same is made
+pub played_read-all : (s : Setting) (lines : List Ask) → played_read s (map Some lines) ≡ played s lines
+played_read-all s lines = replay.played_read-all s lines
 
--- a hart of the machine, and a log with room: what is decided hangs on the choice and the thread that runs
-pub decide-on : (s : Setting) (before : History) (h : ℕ) (choice : Choice) → ended before ≡ None → length before < s.limits.steps → h < s.limits.harts → decide s before h choice ≡ refused_by (decide_on s before h choice (running h before))
-unfolding decide
-decide-on s before h choice goes room lt = rw (goes, lt-leb s.limits.steps (length before) room, lt-leb s.limits.harts h lt) refl
+-- the plain machine
 
--- how a run ends
-pub end_of-ended : (s : Setting) (before : History) (e : End) → ended before ≡ Some e → end_of s before ≡ e
-unfolding end_of
-end_of-ended s before e is = rw is refl
+-- its state is what is read by looking back
+pub same_state : (v : Seen) → IsBlockRun v.setting v.log → plain_seen v ≡ plain_of v.setting (history v.setting v.log)
+same_state v run = agrees.agreement v.setting v.log run
 
-pub end_of-limit : (s : Setting) (before : History) → ended before ≡ None → s.limits.steps ≤ length before → end_of s before ≡ over.Limit
-unfolding end_of
-end_of-limit s before goes full = rw (goes, le-leb s.limits.steps (length before) full) refl
+-- its choice by the fixed rule is the one that is read from the log
+pub same_rule : (v : Seen) → IsBlockRun v.setting v.log → plain_solo_choice v.setting (plain_seen v) ≡ solo_choice v.setting (history v.setting v.log)
+same_rule v run = SaysOf.same_rule (agrees.says_of v.setting v.log run)
 
-pub end_of-open : (s : Setting) (before : History) → ended before ≡ None → length before < s.limits.steps → end_of s before ≡ over.Unended
-unfolding end_of
-end_of-open s before goes room = rw (goes, lt-leb s.limits.steps (length before) room) refl
+-- over a script it makes the script's log, and over a finished run's choices the run; and it says what is read from the log
+pub plain_makes : (s : Setting) (lines : List Ask) (log : List Entry) → played s lines ≡ Ok log → MakesLog s lines log
+plain_makes s lines log is = plain_runs.plain_makes s lines log is
+
+pub plain_solo_log : (s : Setting) (log : List Entry) → IsBlockRun s log → IsSolo s log → end_of s (history s log) ≢ Unended → (plain_solo s s.limits.steps).log ≡ log
+plain_solo_log s log run solo over = solo_runs.plain_solo_log s log run solo over
+
+pub plain_solo_says : (s : Setting) (log : List Entry) → IsBlockRun s log → IsSolo s log → end_of s (history s log) ≢ Unended → SaysOf s log (plain_solo s s.limits.steps).machine
+plain_solo_says s log run solo over = solo_runs.plain_solo_says s log run solo over
+
+-- the fixed rule
+
+-- it has a choice where the machine has one hart and the run is open; its choice is made; and where hart 0 may execute its next
+-- instruction, that is the choice
+pub rule_chooses : (s : Setting) (log : List Entry) → s.limits.harts ≡ 1 → IsBlockRun s log → end_of s (history s log) ≡ Unended → is_some (solo_choice s (history s log)) ≡ true
+rule_chooses s log one run end = rules.rule_chooses s log one run end
+
+pub rule_is_made : (s : Setting) (log : List Entry) (c : Choice) → IsBlockRun s log → 0 < s.limits.harts → end_of s (history s log) ≡ Unended → solo_choice s (history s log) ≡ Some c → IsOk (decide s (history s log) 0 c)
+rule_is_made s log c run harts end chosen = rules.rule_is_made s log c run harts end chosen
+
+pub executes_when_allowed : (s : Setting) (log : List Entry) (e : Entry) → decide s (history s log) 0 asked.Exec ≡ Ok e → solo_choice s (history s log) ≡ Some asked.Exec
+executes_when_allowed s log e made = rules.executes_when_allowed s log e made
+
+-- an empty log is a run by the rule
+pub start_solo : (s : Setting) → IsSolo s []
+start_solo s = solo_runs.IsSolo-nil s
+
+-- where the machine has one hart and the rule has no choice, the run is over
+pub rule_stops : (s : Setting) (log : List Entry) → s.limits.harts ≡ 1 → IsBlockRun s log → solo_choice s (history s log) ≡ None → end_of s (history s log) ≢ Unended
+rule_stops s log one run none end = rules.rule_stops s log one run none end
+
+-- its choice is the one by what a scheduler sees of hart 0, which is read from the log or from the plain machine
+pub rule_is_read : (s : Setting) (log : List Entry) (seen : Sight) → seen ≡ sight_in (here_in_history s (history s log) 0) (ran 0 (history s log)) → solo_choice s (history s log) ≡ solo_rule seen
+rule_is_read s log seen is = ap solo_rule (sym is)
+
+pub rule_is_seen : (v : Seen) (seen : Sight) → IsBlockRun v.setting v.log → seen ≡ sight_in (here_of v 0) ((plain_seen v).ran 0) → solo_choice v.setting (history v.setting v.log) ≡ solo_rule seen
+rule_is_seen v seen run is = sym (same_rule v run) ∙ ap solo_rule (sym is)
+
+-- images
+
+-- a file starts one setting, whichever image of it is taken
+pub one_setting : (file : List ℕ) (a b : Image) (limits : Limits) (seed : ℕ) → IsImage file a → IsImage file b → setting_of a limits seed ≡ setting_of b limits seed
+one_setting file a b limits seed one other = one_image.one_setting file a b limits seed one other
+
+-- what a machine that makes an event needs of its place
+
+-- the place is good, and what an allowed event does there keeps it so
+pub place_good : (v : Seen) (h : ℕ) → IsBlockRun v.setting v.log → h < v.setting.limits.harts → IsGoodHere (here_of v h)
+place_good v h run lt = good_here v.setting (plain_seen v) h lt (good_after v.setting v.log run)
+
+pub place_fit : (v : Seen) (h : ℕ) (c : Choice) → IsBlockRun v.setting v.log → h < v.setting.limits.harts → refusal_of c (here_of v h) ≡ None → IsFit (here_of v h) (done_of c (here_of v h))
+place_fit v h c run lt free = good_of c (here_of v h) (place_good v h run lt) free
+
+-- a hart makes no more events, and executes no more instructions, than there are entries
+pub events_few : (v : Seen) (h : ℕ) → IsBlockRun v.setting v.log → (plain_seen v).events h ≤ length v.log
+events_few v h run =
+    let same : (plain_seen v).events h ≡ events h (history v.setting v.log) = ap (λ (m : Plain). m.events h) (same_state v run) in
+    omega (arith, same, counts.events_few h (history v.setting v.log), length-history v.setting v.log)
+
+pub ran_few : (v : Seen) (h : ℕ) → IsBlockRun v.setting v.log → (plain_seen v).ran h ≤ length v.log
+ran_few v h run =
+    let same : (plain_seen v).ran h ≡ ran h (history v.setting v.log) = ap (λ (m : Plain). m.ran h) (same_state v run) in
+    omega (arith, same, counts.ran_few v.setting h (history v.setting v.log) run, length-history v.setting v.log)
+
+-- a run gives at most one number in each event
+pub given_few : (v : Seen) → IsBlockRun v.setting v.log → (plain_seen v).kernel.threads.given ≤ length v.log + 1
+given_few v run = let few = (good_at v run).given in let made = plain-made v.setting v.log run in omega arith
+
+-- the choice that the entry of a choice answers
+pub choice_made : (c : Choice) (here : Here) → choice_of (entry_in c here) ≡ c
+choice_made c here = decisions.choice_in c here
+
+-- a thread is in the ready list where it is ready
+pub ready_listed : (harts t : ℕ) (ts : Threads) (sc : Scheduling) → IsTables harts ts sc → list_any (λ u. eqb u t) sc.order ≡ is_ready t ts
+ready_listed harts t ts sc tables = call_laws.order_has harts t ts sc tables
+
+-- a thread that begins to run is its hart's
+pub ran_runs : (harts h t : ℕ) (ts : Threads) (sc : Scheduling) → IsTables harts ts sc → is_ready t ts ≡ true → running_on h ts ≡ None → h < harts → running_on h (with_state t (on h) ts) ≡ Some t
+ran_runs harts h t ts sc tables ready idle lt = tables_laws.ran_runs harts h t ts sc tables ready idle lt
+
+-- a thread that may begin to run is ready, and its hart is idle
+pub run_ready : (here : Here) (t : ℕ) → refusal_run here t ≡ None → (runs here ≡ None) × (is_ready t here.kernel.threads ≡ true)
+run_ready here t free = run_laws_of.run_ready here t free

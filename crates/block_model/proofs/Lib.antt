@@ -1,18 +1,31 @@
-pub mod Allowed
-pub mod Ends
-pub mod Entries
+mod Agreement
+mod Allowances
+mod Allowed
+mod Applied
+mod Counts
+mod Ends
+mod Entries
+mod ErrorCalls
+mod ErrorEvents
 mod Examples
-pub mod Goes
+mod Good
+mod Goods
+mod KernelCalls
+mod KernelTables
+mod LawExamples
 pub mod Laws
-pub mod OneImage
-pub mod PlainDrain
-pub mod PlainExec
-pub mod PlainMoves
-pub mod PlainRuns
-pub mod PlainSolo
-pub mod PlainState
-pub mod PlainSteps
-pub mod Replay
-pub mod Rules
-pub mod Runs
-pub mod Settled
+mod Lists
+mod OneImage
+mod Open
+mod Pcs
+mod PlainRuns
+mod PlainSolo
+mod Processes
+mod Proper
+mod ProperCalls
+mod Replay
+mod Rules
+mod Runs
+mod Sound
+mod Times
+mod Walks

@@ -6,58 +6,60 @@ use Rattle.mach_types.specs.declared.events.Entry.{Entry}
 use Rattle.mach_types.specs.declared.events.Tid.{Tid}
 use Rattle.block_model.specs.declared.refusals.Refused.{Refused}
 use Rattle.block_model.specs.Setting.{Setting}
-use Rattle.block_model.specs.History.{History}
 use Rattle.block_model.specs.Deciding.{decide, history}
 use Rattle.block_model.specs.Run.{IsBlockRun}
 use Rattle.block_model.specs.Replay.{Ask, is_as_said, checked, extended, play_line, played, script_of}
-use Rattle.block_model.specs.Plain.{PlainRun, Stepped, plain_start, plain_step, plain_line, plain_run, confirmed, gone_on, log_made}
+use Rattle.block_model.specs.Plain.{Plain, PlainRun, plain_after, plain_begin, plain_decide, plain_line, plain_next, plain_run, confirmed, gone_on, log_made}
 use Rattle.block_model.specs.PlainSays.{SaysOf, MakesLog}
-use Rattle.block_model.proofs.Laws.{history-append, history-nil, length-history}
-use Rattle.block_model.proofs.Runs.{IsBlockRun-append}
+use Rattle.block_model.proofs.Agreement.{agreement_decide, plain-append, plain-made, plain-nil, says_of}
+use Rattle.block_model.proofs.Runs.{IsBlockRun-append, IsBlockRun-nil}
 use Rattle.block_model.proofs.Replay.{replays}
-use Rattle.block_model.proofs.Settled.{settled}
-use Rattle.block_model.proofs.PlainState.{Agrees, agrees-start}
-use Rattle.block_model.proofs.PlainSteps.{Alike, steps_alike, answers_alike, ends_alike, rules_alike}
 
 -- a log that was played and a run of the machine belong together
 pub record IsRunOf (s : Setting) (log : List Entry) (run : PlainRun) : Type 0 where
   pub same_log : run.log ≡ log
   pub allowed : IsBlockRun s log
-  pub agrees : Agrees s (history s log) run.machine
+  pub same_machine : run.machine ≡ plain_after s log
 
-abbrev pub PlayAlike : Setting → Result (List Entry) ℕ → Result PlainRun ℕ → Type 0
+abbrev PlayAlike : Setting → Result (List Entry) ℕ → Result PlainRun ℕ → Type 0
 PlayAlike s (Ok log) (Ok run) = IsRunOf s log run
 PlayAlike s (Ok log) (Err n) = ⊥
 PlayAlike s (Err n) (Ok run) = ⊥
 PlayAlike s (Err n) (Err k) = k ≡ n
 
+-- the machine's answer is what is decided after the log
+pub same_answer : (s : Setting) (log : List Entry) (run : PlainRun) (h : ℕ) (c : Choice) → IsRunOf s log run → plain_decide s run.machine h c ≡ decide s (history s log) h c
+same_answer s log run h c x = ap (λ (m : Plain). plain_decide s m h c) x.same_machine ∙ sym (agreement_decide s log h c x.allowed)
+
+-- one more entry
+pub one_more : (s : Setting) (log : List Entry) (run : PlainRun) (e : Entry) → IsRunOf s log run → IsBlockRun s (log ++ e ∷ [])
+    → IsRunOf s (log ++ e ∷ []) (record { log = run.log ++ e ∷ []; machine = plain_next s run.machine e })
+one_more s log run e x allowed = record {
+  same_log = ap (λ (l : List Entry). l ++ e ∷ []) x.same_log;
+  allowed = allowed;
+  same_machine = ap (λ (m : Plain). plain_next s m e) x.same_machine ∙ sym (plain-append s log e);
+}
+
 -- the number of the next line
 same_number : (s : Setting) (log : List Entry) (run : PlainRun) → IsRunOf s log run → run.machine.made + 1 ≡ length log + 1
-same_number s log run x = ap (λ n. n + 1) (x.agrees.counted ∙ length-history s log)
+same_number s log run x = ap (λ (m : Plain). m.made + 1) x.same_machine ∙ ap (λ n. n + 1) (plain-made s log x.allowed)
 
-by_check : (s : Setting) (log : List Entry) (run : PlainRun) (h : ℕ) (choice : Choice) (e : Entry) (st : Stepped) (b : Bool) → IsRunOf s log run → decide s (history s log) h choice ≡ Ok e → Alike s (history s log) (Ok e) (Ok st) →
-    PlayAlike s (extended log (cond b (Some e) None)) (gone_on run (cond b (Some st) None))
-by_check s log run h choice e st true x d a = record {
-  same_log = ap (λ l. l ++ st.entry ∷ []) x.same_log ∙ ap (λ e. log ++ e ∷ []) a.0;
-  allowed = IsBlockRun-append s log h choice e x.allowed d;
-  agrees = subst (λ (b : History). Agrees s b st.after) (sym (history-append s log e)) a.1;
-}
-by_check s log run h choice e st false x d a = same_number s log run x
+by_check : (s : Setting) (log : List Entry) (run : PlainRun) (e : Entry) (b : Bool) → IsRunOf s log run → IsBlockRun s (log ++ e ∷ [])
+    → PlayAlike s (extended log (cond b (Some e) None)) (gone_on s run (cond b (Some e) None))
+by_check s log run e true x allowed = one_more s log run e x allowed
+by_check s log run e false x allowed = same_number s log run x
 
-by_answer : (s : Setting) (log : List Entry) (run : PlainRun) (h : ℕ) (choice : Choice) (check : Option (Tid × ℕ)) (d : Result Entry Refused) (p : Result Stepped Refused) → IsRunOf s log run → decide s (history s log) h choice ≡ d → Alike s (history s log) d p →
-    PlayAlike s (extended log (checked check d)) (gone_on run (confirmed check p))
-by_answer s log run h choice check (Ok e) (Ok st) x d a =
-    subst (λ b. PlayAlike s (extended log (cond (is_as_said check e) (Some e) None)) (gone_on run (cond b (Some st) None))) (ap (is_as_said check) (sym a.0))
-    (by_check s log run h choice e st (is_as_said check e) x d a)
-by_answer s log run h choice check (Ok e) (Err why) x d a = absurd a
-by_answer s log run h choice check (Err why) (Ok st) x d a = absurd a
-by_answer s log run h choice check (Err why) (Err w) x d a = same_number s log run x
+by_answer : (s : Setting) (log : List Entry) (run : PlainRun) (h : ℕ) (c : Choice) (check : Option (Tid × ℕ)) (d : Result Entry Refused) → IsRunOf s log run → decide s (history s log) h c ≡ d
+    → PlayAlike s (extended log (checked check d)) (gone_on s run (confirmed check d))
+by_answer s log run h c check (Ok e) x is = by_check s log run e (is_as_said check e) x (IsBlockRun-append s log h c e x.allowed is)
+by_answer s log run h c check (Err why) x is = same_number s log run x
 
 -- one more line
 line_alike : (s : Setting) (line : Ask) (a : Result (List Entry) ℕ) (b : Result PlainRun ℕ) → PlayAlike s a b → PlayAlike s (play_line s a line) (plain_line s b line)
 line_alike s line (Ok log) (Ok run) x =
-    by_answer s log run line.hart.0 line.choice line.check (decide s (history s log) line.hart.0 line.choice) (plain_step s run.machine line.hart.0 line.choice) x refl
-    (steps_alike s (history s log) run.machine line.hart.0 line.choice x.agrees (settled s (history s log) x.allowed))
+    let d = decide s (history s log) line.hart.0 line.choice in
+    subst (λ (r : Result Entry Refused). PlayAlike s (extended log (checked line.check d)) (gone_on s run (confirmed line.check r))) (sym (same_answer s log run line.hart.0 line.choice x))
+    (by_answer s log run line.hart.0 line.choice line.check d x refl)
 line_alike s line (Ok log) (Err n) x = absurd x
 line_alike s line (Err n) (Ok run) x = absurd x
 line_alike s line (Err n) (Err k) x = x
@@ -66,14 +68,14 @@ lines_alike : (s : Setting) (lines : List Ask) (a : Result (List Entry) ℕ) (b 
 lines_alike s [] a b x = x
 lines_alike s (line ∷ lines) a b x = lines_alike s lines (play_line s a line) (plain_line s b line) (line_alike s line a b x)
 
+-- the machine at its start
+pub begin_is : (s : Setting) → IsRunOf s [] (plain_begin s)
+begin_is s = record { same_log = refl; allowed = IsBlockRun-nil s; same_machine = sym (plain-nil s) }
+
 -- a script
-pub plays_alike : (s : Setting) (lines : List Ask) → PlayAlike s (played s lines) (plain_run s lines)
+plays_alike : (s : Setting) (lines : List Ask) → PlayAlike s (played s lines) (plain_run s lines)
 unfolding played plain_run
-plays_alike s lines = lines_alike s lines (Ok []) (Ok (record { log = []; machine = plain_start s })) (record {
-  same_log = refl;
-  allowed = rw history-nil tt;
-  agrees = subst (λ (b : History). Agrees s b (plain_start s)) (sym (history-nil s)) (agrees-start s);
-})
+plays_alike s lines = lines_alike s lines (Ok []) (Ok (plain_begin s)) (begin_is s)
 
 same_made : (s : Setting) (a : Result (List Entry) ℕ) (b : Result PlainRun ℕ) → PlayAlike s a b → log_made b ≡ a
 same_made s (Ok log) (Ok run) x = ap Ok x.same_log
@@ -87,12 +89,7 @@ plain_plays s lines = same_made s (played s lines) (plain_run s lines) (plays_al
 
 -- what the machine says then
 pub says : (s : Setting) (log : List Entry) (run : PlainRun) → IsRunOf s log run → SaysOf s log run.machine
-says s log run x = record {
-  same_console = x.agrees.wrote;
-  same_end = ends_alike s (history s log) run.machine x.agrees;
-  same_answers = λ h choice. answers_alike s (history s log) run.machine h choice x.agrees (settled s (history s log) x.allowed);
-  same_rule = rules_alike s (history s log) run.machine x.agrees;
-}
+says s log run x = subst (SaysOf s log) (sym x.same_machine) (says_of s log x.allowed)
 
 made_from : (s : Setting) (lines : List Ask) (log : List Entry) (a : Result (List Entry) ℕ) (b : Result PlainRun ℕ) → a ≡ Ok log → plain_run s lines ≡ b → PlayAlike s a b → MakesLog s lines log
 made_from s lines log (Ok other) (Ok run) is ran x =

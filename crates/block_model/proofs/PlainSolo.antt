@@ -1,58 +1,59 @@
 -- The plain machine's run by the fixed rule of `solo` makes the log of each finished block run that keeps to the rule.
-use Rattle.std.proofs.Common.{◌≡◌, ◌≢◌, ℕ, ◌+◌, ◌-◌, ◌≤◌, zero, suc, List, [], ◌∷◌, ◌++◌, length, refl, sym, ap, ◌∙◌, arith, subst, Bool, true, false, Option, Some, None, Result, Ok, Err, leb, append-nil, append_assoc, add-zero, add-suc}
+use Rattle.std.proofs.Common.{◌≡◌, ◌≢◌, ℕ, ◌+◌, ◌-◌, ◌≤◌, zero, suc, List, [], ◌∷◌, ◌++◌, length, refl, sym, ap, ◌∙◌, arith, subst, Option, Some, None, Result, Ok, append-nil, append_assoc, add-zero, add-suc}
 use Rattle.std.specs.List.{fold}
 use Rattle.mach_types.specs.Events.{choice_of}
 use Rattle.mach_types.specs.declared.events.Choice.{Choice}
 use Rattle.mach_types.specs.declared.events.Entry.{Entry}
-use Rattle.mach_types.specs.declared.limits.End.{End}
 use Rattle.mach_types.specs.declared.limits.End.TheVariants as over
 use Rattle.block_model.specs.declared.refusals.Refused.{Refused}
 use Rattle.block_model.specs.Setting.{Setting}
-use Rattle.block_model.specs.History.{History, ended}
+use Rattle.block_model.specs.History.{History}
 use Rattle.block_model.specs.Deciding.{decide, event, history, end_of}
 use Rattle.block_model.specs.Run.{IsBlockRun}
 use Rattle.block_model.specs.Solo.{IsSolo, IsSoloHistory, solo_choice}
-use Rattle.block_model.specs.Plain.{PlainRun, Stepped, plain_start, plain_step, plain_solo, plain_solo_choice, solo_chosen, solo_gone_on}
+use Rattle.block_model.specs.Plain.{Plain, PlainRun, plain_decide, plain_solo, plain_solo_choice, solo_chosen, solo_gone_on}
 use Rattle.block_model.specs.PlainSays.{SaysOf}
+use Rattle.block_model.proofs.Agreement.{says_of}
 use Rattle.block_model.proofs.Ends.{within_limit}
-use Rattle.block_model.proofs.Laws.{history-append, history-nil, decide-ended, decide-full, end_of-open}
+use Rattle.block_model.proofs.Open.{is_over}
+use Rattle.block_model.proofs.PlainRuns.{IsRunOf, begin_is, one_more, same_answer, says}
 use Rattle.block_model.proofs.Replay.{IsBlockRun-next, history-more}
-use Rattle.block_model.proofs.Runs.{IsBlockRun-append}
-use Rattle.block_model.proofs.Settled.{settled}
-use Rattle.block_model.proofs.PlainState.{Agrees, agrees-start}
-use Rattle.block_model.proofs.PlainSteps.{Alike, steps_alike, rules_alike}
-use Rattle.block_model.proofs.PlainRuns.{IsRunOf, says}
-use Rattle.std.proofs.lemmas.Bool.{leb-true, leb-false}
+use Rattle.block_model.proofs.Runs.{IsBlockRun-append, history-append}
 
 -- of a run by the rule each entry is the rule's choice after those before it
 solo_before : (s : Setting) (rest : List Entry) (before : History) → IsSoloHistory s (fold (λ b e. event s b e ∷ b) before rest) → IsSoloHistory s before
 solo_before s [] before solo = solo
 solo_before s (e ∷ rest) before solo = (solo_before s rest (event s before e ∷ before) solo).0
 
-IsSolo-next : (s : Setting) (log rest : List Entry) (e : Entry) → IsSolo s (log ++ e ∷ rest) → (e.hart.0 ≡ 0) × (solo_choice s (history s log) ≡ Some (choice_of e))
+pub IsSolo-next : (s : Setting) (log rest : List Entry) (e : Entry) → IsSolo s (log ++ e ∷ rest) → (e.hart.0 ≡ 0) × (solo_choice s (history s log) ≡ Some (choice_of e))
 IsSolo-next s log rest e solo =
     let more : IsSoloHistory s (fold (λ b e. event s b e ∷ b) (history s log) (e ∷ rest)) = subst (IsSoloHistory s) (history-more s log (e ∷ rest)) solo in
     let p = solo_before s rest (event s (history s log) e ∷ history s log) more in
     (p.1, p.2)
 
--- one more step by the rule
-step_is : (s : Setting) (log : List Entry) (run : PlainRun) (e : Entry) (p : Result Stepped Refused) → IsRunOf s log run → IsBlockRun s (log ++ e ∷ []) → Alike s (history s log) (Ok e) p → IsRunOf s (log ++ e ∷ []) (solo_gone_on run p)
-step_is s log run e (Ok st) x allowed a = record {
-  same_log = ap (λ l. l ++ st.entry ∷ []) x.same_log ∙ ap (λ e. log ++ e ∷ []) a.0;
-  allowed = allowed;
-  agrees = subst (λ (b : History). Agrees s b st.after) (sym (history-append s log e)) a.1;
-}
-step_is s log run e (Err why) x allowed a = absurd a
+-- an empty log is a run by the rule
+pub IsSolo-nil : (s : Setting) → IsSolo s []
+unfolding history
+IsSolo-nil s = tt
 
+-- a run by the rule that goes on by the rule is one
+pub IsSolo-append : (s : Setting) (log : List Entry) (e : Entry) → IsSolo s log → e.hart.0 ≡ 0 → solo_choice s (history s log) ≡ Some (choice_of e) → IsSolo s (log ++ e ∷ [])
+IsSolo-append s log e solo first chosen = rw history-append (solo, first, chosen)
+
+-- the rule's choice is the machine's
+pub same_choice : (s : Setting) (log : List Entry) (run : PlainRun) → IsRunOf s log run → plain_solo_choice s run.machine ≡ solo_choice s (history s log)
+same_choice s log run x = ap (λ (m : Plain). plain_solo_choice s m) x.same_machine ∙ (says_of s log x.allowed).same_rule
+
+-- one more step by the rule
 one_step : (s : Setting) (log : List Entry) (run : PlainRun) (e : Entry) → IsRunOf s log run → decide s (history s log) e.hart.0 (choice_of e) ≡ Ok e → e.hart.0 ≡ 0 → solo_choice s (history s log) ≡ Some (choice_of e) →
     IsRunOf s (log ++ e ∷ []) (solo_chosen s run (plain_solo_choice s run.machine))
-one_step s log run e x d zero_hart chosen =
-    let here : decide s (history s log) 0 (choice_of e) ≡ Ok e = ap (λ h. decide s (history s log) h (choice_of e)) (sym zero_hart) ∙ d in
-    let rule : plain_solo_choice s run.machine ≡ Some (choice_of e) = rules_alike s (history s log) run.machine x.agrees ∙ chosen in
-    let alike = steps_alike s (history s log) run.machine 0 (choice_of e) x.agrees (settled s (history s log) x.allowed) in
-    subst (λ o. IsRunOf s (log ++ e ∷ []) (solo_chosen s run o)) (sym rule)
-    (step_is s log run e (plain_step s run.machine 0 (choice_of e)) x (IsBlockRun-append s log 0 (choice_of e) e x.allowed here)
-    (subst (λ r. Alike s (history s log) r (plain_step s run.machine 0 (choice_of e))) here alike))
+one_step s log run e x d first chosen =
+    let here : decide s (history s log) 0 (choice_of e) ≡ Ok e = ap (λ h. decide s (history s log) h (choice_of e)) (sym first) ∙ d in
+    let answer : plain_decide s run.machine 0 (choice_of e) ≡ Ok e = same_answer s log run 0 (choice_of e) x ∙ here in
+    let rule : plain_solo_choice s run.machine ≡ Some (choice_of e) = same_choice s log run x ∙ chosen in
+    subst (λ (o : Option Choice). IsRunOf s (log ++ e ∷ []) (solo_chosen s run o)) (sym rule)
+    (subst (λ (r : Result Entry Refused). IsRunOf s (log ++ e ∷ []) (solo_gone_on s run r)) (sym answer)
+    (one_more s log run e x (IsBlockRun-append s log 0 (choice_of e) e x.allowed here)))
 
 plain_solo-more : (s : Setting) (n : ℕ) → plain_solo s (suc n) ≡ solo_chosen s (plain_solo s n) (plain_solo_choice s (plain_solo s n).machine)
 unfolding plain_solo
@@ -69,28 +70,12 @@ solo_from s (e ∷ rest) log n run solo x =
     let count : suc n + length rest ≡ n + length (e ∷ rest) = omega arith in
     subst (λ k. IsRunOf s (log ++ e ∷ rest) (plain_solo s k)) count (subst (λ l. IsRunOf s l (plain_solo s (suc n + length rest))) joined more)
 
--- a run that is over refuses each choice
-is_over : (s : Setting) (before : History) (h : ℕ) (choice : Choice) → end_of s before ≢ over.Unended → (why : Refused) × (decide s before h choice ≡ Err why)
-is_over s before h choice over = go (ended before) refl
-  where
-    full : (b : Bool) → leb s.limits.steps (length before) ≡ b → ended before ≡ None → (why : Refused) × (decide s before h choice ≡ Err why)
-    full true is goes = (Rattle.block_model.specs.declared.refusals.Refused.TheVariants.Full, decide-full s before h choice goes (leb-true s.limits.steps (length before) is))
-    full false is goes = absurd (over (end_of-open s before goes (leb-false s.limits.steps (length before) is)))
-
-    go : (o : Option End) → ended before ≡ o → (why : Refused) × (decide s before h choice ≡ Err why)
-    go (Some e) is = (Rattle.block_model.specs.declared.refusals.Refused.TheVariants.Ended e, decide-ended s before h choice e is)
-    go None is = full (leb s.limits.steps (length before)) refl is
-
-refused_stays : (s : Setting) (before : History) (run : PlainRun) (why : Refused) (p : Result Stepped Refused) → Alike s before (Err why) p → solo_gone_on run p ≡ run
-refused_stays s before run why (Ok st) a = absurd a
-refused_stays s before run why (Err w) a = refl
-
+-- a run that is over stays as it is
 stays_by : (s : Setting) (log : List Entry) (run : PlainRun) (o : Option Choice) → IsRunOf s log run → end_of s (history s log) ≢ over.Unended → solo_chosen s run o ≡ run
 stays_by s log run None x over = refl
 stays_by s log run (Some choice) x over =
     let d = is_over s (history s log) 0 choice over in
-    refused_stays s (history s log) run d.0 (plain_step s run.machine 0 choice)
-    (subst (λ r. Alike s (history s log) r (plain_step s run.machine 0 choice)) d.1 (steps_alike s (history s log) run.machine 0 choice x.agrees (settled s (history s log) x.allowed)))
+    ap (solo_gone_on s run) (same_answer s log run 0 choice x ∙ d.1)
 
 solo_stays : (s : Setting) (log : List Entry) (n more : ℕ) → IsRunOf s log (plain_solo s n) → end_of s (history s log) ≢ over.Unended → IsRunOf s log (plain_solo s (n + more))
 solo_stays s log n zero x over = rw add-zero x
@@ -101,14 +86,10 @@ solo_stays s log n (suc more) x over =
 
 plain_solo-start : (s : Setting) → IsRunOf s [] (plain_solo s 0)
 unfolding plain_solo
-plain_solo-start s = record {
-  same_log = refl;
-  allowed = rw history-nil tt;
-  agrees = subst (λ (b : History). Agrees s b (plain_start s)) (sym (history-nil s)) (agrees-start s);
-}
+plain_solo-start s = begin_is s
 
 -- a finished run by the rule
-pub plain_solo_is : (s : Setting) (log : List Entry) → IsBlockRun s log → IsSolo s log → end_of s (history s log) ≢ over.Unended → IsRunOf s log (plain_solo s s.limits.steps)
+plain_solo_is : (s : Setting) (log : List Entry) → IsBlockRun s log → IsSolo s log → end_of s (history s log) ≢ over.Unended → IsRunOf s log (plain_solo s s.limits.steps)
 plain_solo_is s log run solo over =
     let x : IsRunOf s log (plain_solo s (0 + length log)) = solo_from s log [] 0 run solo (plain_solo-start s) in
     let room : length log ≤ s.limits.steps = within_limit s log run in

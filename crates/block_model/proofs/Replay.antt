@@ -7,12 +7,11 @@ use Rattle.mach_types.specs.Events.{choice_of}
 use Rattle.mach_types.specs.declared.events.Entry.{Entry}
 use Rattle.block_model.specs.declared.refusals.Refused.{Refused}
 use Rattle.block_model.specs.Setting.{Setting}
-use Rattle.block_model.specs.History.{History}
 use Rattle.block_model.specs.Deciding.{decide, event, history}
 use Rattle.block_model.specs.Run.{IsRunHistory, IsBlockRun}
 use Rattle.block_model.specs.Replay.{Ask, Answers, AllAnswer, IsFirstBad, IsFirstRefused, is_as_said, checked, made_by, extended, play_line, played, play_read_line, played_read, line_of, script_of}
-use Rattle.block_model.proofs.Laws.{history-nil}
-use Rattle.block_model.proofs.Runs.{IsBlockRun-append, decided_is}
+use Rattle.block_model.proofs.Allowed.{decided_is}
+use Rattle.block_model.proofs.Runs.{IsBlockRun-append, IsBlockRun-nil, run_before}
 
 -- one more line
 pub played-append : (s : Setting) (lines : List Ask) (line : Ask) → played s (lines ++ line ∷ []) ≡ play_line s (played s lines) line
@@ -84,11 +83,7 @@ made_answers s log line e is =
     let of = decided_is s (history s log) line.hart.0 line.choice e p.0 in
     record { of_hart = of.0; of_choice = of.1; as_said = p.1 }
 
--- a run that goes on has been a run
-run_before : (s : Setting) (rest : List Entry) (before : History) → IsRunHistory s (fold (λ b e. event s b e ∷ b) before rest) → IsRunHistory s before
-run_before s [] before run = run
-run_before s (e ∷ rest) before run = (run_before s rest (event s before e ∷ before) run).0
-
+-- a log that goes on as a history
 pub history-more : (s : Setting) (log rest : List Entry) → history s (log ++ rest) ≡ fold (λ b e. event s b e ∷ b) (history s log) rest
 unfolding history
 history-more s log rest = fold-append (λ b e. event s b e ∷ b) [] log rest
@@ -145,10 +140,6 @@ runs_from s (line ∷ lines) log whole run is = go (made_by s log line) refl is 
         let d = (made_is s log line e at).0 in
         let m = later e (IsBlockRun-append s log line.hart.0 line.choice e run d) end in
         record { made = e ∷ m.made; joined = m.joined ∙ append_assoc log (e ∷ []) m.made; run = m.run; answer = (made_answers s log line e at, m.answer) }
-
--- the empty log is a block run
-IsBlockRun-nil : (s : Setting) → IsBlockRun s []
-IsBlockRun-nil s = rw history-nil tt
 
 -- what a script makes is a block run that answers it, and no other log is
 pub played_is_run : (s : Setting) (lines : List Ask) (log : List Entry) → played s lines ≡ Ok log → IsBlockRun s log × AllAnswer lines log

@@ -1,207 +1,214 @@
--- The fixed rule of `solo` has a choice at each place of its runs, and the machine makes it unless the run is over.
-use Rattle.std.proofs.Common.{◌≡◌, ◌≢◌, ℕ, zero, suc, ◌<◌, List, [], ◌∷◌, length, refl, sym, ap, ◌∙◌, subst, arith, Bool, true, false, cond, ltb, leb, Option, Some, None, Result, Ok, Err, is_none, is_some}
-use Rattle.std.proofs.lemmas.Bool.{lt-ltb, leb-true, leb-false}
+-- At each place of a run the fixed rule of `solo` has a choice where the machine has one hart, and its choice is made.
+use Rattle.std.proofs.Common.{◌≡◌, ◌≢◌, ℕ, ◌<◌, ◌+◌, ◌&&◌, ◌||◌, List, [], ◌∷◌, length, find, refl, sym, ap, ◌∙◌, subst, arith, Bool, true, false, not, cond, eqb, Option, Some, None, Ok, is_none, is_some}
+use Rattle.std.proofs.lemmas.Bool.{eqb-true, false≢true, le-leb}
+use Rattle.std.specs.List.{list_any}
+use Rattle.std.proofs.lemmas.Map.Keys.{sorted_from_strictly_increasing}
+use Rattle.std.specs.Option.{option_map, option_map_or, option_or}
 use Rattle.std.specs.Result.{IsOk}
-use Rattle.mach_types.specs.Events.{choice_with}
 use Rattle.mach_types.specs.declared.events.Choice.{Choice}
 use Rattle.mach_types.specs.declared.events.Choice.TheVariants as asked
 use Rattle.mach_types.specs.declared.events.Entry.{Entry}
-use Rattle.mach_types.specs.declared.events.Kind.{Kind}
-use Rattle.mach_types.specs.declared.events.Kind.TheVariants as kind
 use Rattle.mach_types.specs.declared.events.Why.{Why}
-use Rattle.mach_types.specs.declared.events.Why.TheVariants.{Idle, Waiting, FullBuffer}
 use Rattle.mach_types.specs.declared.limits.End.{End}
 use Rattle.mach_types.specs.declared.limits.End.TheVariants as over
+use Rattle.mach_types.specs.declared.threads.ThreadState.{ThreadState}
+use Rattle.mach_types.specs.declared.threads.ThreadState.TheVariants.{Ready, Running, Waiting}
+use Rattle.mach_types.specs.declared.user_memory.Store.{Store}
+use Rattle.mach_types.specs.Kernel.Record.{Kernel}
+use Rattle.mach_types.specs.Kernel.Scheduling.{affinity_of, first_for, has_hart}
+use Rattle.mach_types.specs.Kernel.Threads.{Thread, Threads, goes_on, is_live, is_ready, is_ready_state, is_stuck, is_waiting_state, numbers, running_on, state_of, thread_of, times}
 use Rattle.rv_inst.specs.Execution.{instruction_gate}
 use Rattle.rv_inst.specs.declared.effects.Effect.{Effect}
-use Rattle.block_model.specs.declared.refusals.Refused.TheVariants.{NotEnabled}
 use Rattle.block_model.specs.Setting.{Setting}
-use Rattle.block_model.specs.Instruction.{File, next_effect}
-use Rattle.block_model.specs.History.{History, running, thread_after, is_ready, file, waiting, ended}
-use Rattle.block_model.specs.Deciding.{history, decide, decide_on, refused_by, entry_of, unless, gate, fault_at, has_waiting, end_of}
+use Rattle.block_model.specs.Here.{Here, runs}
+use Rattle.block_model.specs.Events.{refusal_of}
+use Rattle.block_model.specs.Events.Drain.{refusal_drain_of}
+use Rattle.block_model.specs.Events.Exec.{next_effect, next_fault, refusal_exec, refusal_exec_by}
+use Rattle.block_model.specs.Events.Run.{refusal_run_by}
+use Rattle.block_model.specs.History.{History, ended, here_in_history, kernel}
+use Rattle.block_model.specs.Deciding.{decide, end_of, entry_in, history, unless}
 use Rattle.block_model.specs.Run.{IsBlockRun, IsRunHistory}
-use Rattle.block_model.specs.Solo.{IsSolo, IsSoloHistory, solo_choice, solo_on}
-use Rattle.block_model.proofs.Allowed.{decided}
-use Rattle.block_model.proofs.Ends.{not_open}
-use Rattle.block_model.proofs.Laws.{running-own, decide-on, decide-ended, decide-full, decide-no_hart, end_of-ended, end_of-limit}
+use Rattle.block_model.specs.Sights.{thread}
+use Rattle.block_model.specs.Solo.{solo_choice}
+use Rattle.block_model.proofs.Allowed.{allowed_at}
+use Rattle.block_model.proofs.Ends.{some_live}
+use Rattle.block_model.proofs.Good.{IsSound}
+use Rattle.block_model.specs.Tables.{IsTables, on}
+use Rattle.block_model.proofs.KernelTables.{found_passes, found_sorted, running_none}
+use Rattle.block_model.proofs.Open.{decide-open, is_open}
+use Rattle.block_model.proofs.Runs.{settled}
+use Rattle.block_model.proofs.Times.{eqb_same, times_cons}
 
--- the run of the first thread
-abbrev pub run_first : Choice
-run_first = asked.Run (record { 0 = 1 })
+-- the choice by what is read of the hart: whether a thread runs there, the first ready thread, and whether it may execute
+abbrev rule_by : Option ℕ → Option ℕ → Option Why → Option Choice
+rule_by running first why =
+    cond (is_none running) (option_map asked.Run (option_map thread first)) (cond (is_none why) (Some asked.Exec) (Some asked.Drain))
 
--- after an event that the rule chose, a thread runs
-after_choice : (b : Bool) (k : Kind) (e : Entry) → cond b (Some run_first) None ≡ Some (choice_with k e) → thread_after k e.tid.0 None ≢ None
-after_choice true kind.Exec e is = absurd cc
-after_choice true kind.Drain e is = absurd cc
-after_choice true kind.Take e is = absurd cc
-after_choice true kind.Done e is = absurd cc
-after_choice true kind.Preempt e is = absurd cc
-after_choice true kind.Run e is = λ none. absurd cc
-after_choice true kind.Signal e is = absurd cc
-after_choice false k e is = absurd cc
+-- what is in a list is found there by a test that it passes, and what is found there is in it
+step_found : (p : ℕ → Bool) (t u : ℕ) (us : List ℕ) (b : Bool) → eqb u t ≡ b → 0 < cond b 1 0 + times t us → p t ≡ true
+    → (0 < times t us → is_some (find p us) ≡ true) → is_some (cond (p u) (Some u) (find p us)) ≡ true
+step_found p t u us true same is passes rest =
+    let here : p u ≡ true = ap p (eqb-true u t same) ∙ passes in
+    rw here refl
+step_found p t u us false other is passes rest =
+    elim (p u) as (λ b. is_some (cond b (Some u) (find p us)) ≡ true) [ true ↦ refl | false ↦ rest (omega (arith, is)) ]
 
-not_another : (b : Bool) (c : Choice) → cond b (Some asked.Exec) (Some asked.Drain) ≡ Some c → c ≢ asked.Preempt
-not_another true c is = λ other. absurd cc
-not_another false c is = λ other. absurd cc
+pub found_where : (p : ℕ → Bool) (t : ℕ) (us : List ℕ) → 0 < times t us → p t ≡ true → is_some (find p us) ≡ true
+found_where p t [] is passes = absurd (omega arith)
+found_where p t (u ∷ us) is passes =
+    step_found p t u us (eqb u t) refl (subst (λ n. 0 < n) (times_cons t u us) is) passes (λ more. found_where p t us more passes)
 
-not_a_run : (b : Bool) (c : Choice) → cond b (Some asked.Exec) (Some asked.Drain) ≡ Some c → (k : Kind) (e : Entry) → c ≡ choice_with k e → (t : ℕ) → thread_after k e.tid.0 (Some t) ≢ None
-not_a_run b c is kind.Exec e same t = λ none. absurd cc
-not_a_run b c is kind.Drain e same t = λ none. absurd cc
-not_a_run b c is kind.Take e same t = λ none. absurd cc
-not_a_run b c is kind.Done e same t = λ none. absurd cc
-not_a_run b c is kind.Preempt e same t = absurd (not_another b c is same)
-not_a_run b c is kind.Run e same t = λ none. absurd cc
-not_a_run b c is kind.Signal e same t = λ none. absurd cc
+in_step : (p : ℕ → Bool) (t u : ℕ) (us : List ℕ) (b : Bool) → cond b (Some u) (find p us) ≡ Some t → (find p us ≡ Some t → 0 < times t us) → 0 < cond (eqb u t) 1 0 + times t us
+in_step p t u us true found rest = let same : u ≡ t = cc in rw same (rw (eqb_same t) (omega arith))
+in_step p t u us false found rest = let more = rest found in omega arith
 
-still_running : (s : Setting) (before : History) (r : Option ℕ) (k : Kind) (e : Entry) → solo_on s before r ≡ Some (choice_with k e) → thread_after k e.tid.0 r ≢ None
-still_running s before (Some t) k e is = not_a_run (is_none (gate s before 0 (file s t before))) (choice_with k e) is k e refl t
-still_running s before None k e is = after_choice (is_ready 1 before) k e is
+pub found_is_in : (p : ℕ → Bool) (t : ℕ) (us : List ℕ) → find p us ≡ Some t → 0 < times t us
+found_is_in p t [] found = absurd cc
+found_is_in p t (u ∷ us) found = subst (λ n. 0 < n) (sym (times_cons t u us)) (in_step p t u us (p u) found (λ f. found_is_in p t us f))
 
--- where no thread runs, the first is ready
-ready_when_idle : (s : Setting) (before : History) → IsSoloHistory s before → running 0 before ≡ None → is_ready 1 before ≡ true
-ready_when_idle s [] rule idle = refl
-ready_when_idle s (e ∷ before) rule idle = absurd (still_running s before (running 0 before) e.entry.kind e.entry rule.2 (sym (running-own 0 e before rule.1) ∙ idle))
+found_where_any : (p : Thread → Bool) (live : List Thread) → list_any p live ≡ true → is_some (find p live) ≡ true
+found_where_any p [] any = absurd (false≢true any)
+found_where_any p (th ∷ live) any =
+    any_step (p th) (find p live) (list_any p live) any (found_where_any p live)
+  where
+    any_step : (b : Bool) (o : Option Thread) (more : Bool) → (b || more) ≡ true → (more ≡ true → is_some o ≡ true) → is_some (cond b (Some th) o) ≡ true
+    any_step true o more any rest = refl
+    any_step false o more any rest = rest any
+
+-- where the machine has one hart, which is idle, and threads aren't stuck, the first ready thread that may run there is one
+goes_somewhere : (ts : Threads) → is_stuck ts ≡ false → 0 < length ts.live → list_any goes_on ts.live ≡ true
+goes_somewhere ts unstuck some = go (list_any goes_on ts.live) (sym (ap (λ b. b && not (list_any goes_on ts.live)) (le-leb 1 (length ts.live) some)) ∙ unstuck)
+  where
+    go : (b : Bool) → (true && not b) ≡ false → b ≡ true
+    go true e = refl
+    go false e = absurd (false≢true (sym e))
+
+-- which state the thread that goes on is in: it runs on no hart, so it is ready
+ready_by : (k : Kernel) (t : ℕ) (state : ThreadState) → IsTables 1 k.threads k.scheduling → running_on 0 k.threads ≡ None → state_of t k.threads ≡ Some state → not (is_waiting_state state) ≡ true → is_ready t k.threads ≡ true
+ready_by k t Ready tables idle is goes = ap (λ o. option_map_or is_ready_state o false) is
+ready_by k t (Running h) tables idle is goes =
+    let first : h.0 < 1 = tables.below t h is in
+    let zero_hart : h.0 ≡ 0 = omega arith in
+    absurd (running_none 0 t k.threads idle (is ∙ ap (λ n. Some (on n)) zero_hart))
+ready_by k t (Waiting at) tables idle is goes = absurd (false≢true goes)
+
+-- so some thread is ready
+pub record SomeReady (k : Kernel) : Type 0 where
+  pub thread : ℕ
+  pub ready : is_ready thread k.threads ≡ true
+  pub live : is_live thread k.threads ≡ true
+
+some_ready_of : (k : Kernel) (o : Option Thread) → IsTables 1 k.threads k.scheduling → running_on 0 k.threads ≡ None → find goes_on k.threads.live ≡ o → is_some o ≡ true → SomeReady k
+some_ready_of k None tables idle found some = absurd (false≢true some)
+some_ready_of k (Some th) tables idle found some =
+    let there : thread_of th.tid k.threads ≡ Some th = found_sorted goes_on k.threads.live th (sorted_from_strictly_increasing (numbers k.threads.live) tables.threads.rising) found in
+    record {
+      thread = th.tid;
+      ready = ready_by k th.tid th.state tables idle (ap (λ (o : Option Thread). option_map (λ th. th.state) o) there) (found_passes goes_on k.threads.live th found);
+      live = ap is_some there;
+    }
+
+some_ready : (k : Kernel) → IsTables 1 k.threads k.scheduling → running_on 0 k.threads ≡ None → is_stuck k.threads ≡ false → 0 < length k.threads.live → SomeReady k
+some_ready k tables idle unstuck some =
+    some_ready_of k (find goes_on k.threads.live) tables idle refl (found_where_any goes_on k.threads.live (goes_somewhere k.threads unstuck some))
+
+first_there : (s : Setting) (k : Kernel) → s.limits.harts ≡ 1 → IsSound s k → SomeReady k → is_some (first_for 0 k.scheduling) ≡ true
+first_there s k one sound r =
+    let at = sound.allowed (omega arith) r.thread r.live in
+    let zero_hart : at.0 ≡ 0 = let lt = at.1 in omega arith in
+    let once : times r.thread k.scheduling.order ≡ 1 = sound.tables.ready r.thread ∙ ap (λ b. cond b 1 0) r.ready in
+    found_where (λ t. has_hart (affinity_of t k.scheduling) 0) r.thread k.scheduling.order (omega arith)
+    (subst (λ h. has_hart (affinity_of r.thread k.scheduling) h ≡ true) zero_hart at.2)
 
 -- so the rule has a choice
-rule_when_idle : (s : Setting) (before : History) → IsSoloHistory s before → running 0 before ≡ None → solo_choice s before ≡ Some run_first
-rule_when_idle s before rule idle = rw (idle, ready_when_idle s before rule idle) refl
+busy_choice : (b : Bool) → is_some (cond b (Some asked.Exec) (Some asked.Drain)) ≡ true
+busy_choice true = refl
+busy_choice false = refl
 
-either_choice : (b : Bool) → is_some (cond b (Some asked.Exec) (Some asked.Drain)) ≡ true
-either_choice true = refl
-either_choice false = refl
+idle_choice : (first : Option ℕ) → is_some first ≡ true → is_some (option_map asked.Run (option_map thread first)) ≡ true
+idle_choice None some = some
+idle_choice (Some t) some = refl
 
-chosen_where : (s : Setting) (before : History) (r : Option ℕ) → running 0 before ≡ r → IsSoloHistory s before → is_some (solo_choice s before) ≡ true
-chosen_where s before None at rule = ap is_some (rule_when_idle s before rule at)
-chosen_where s before (Some t) at rule = rw at (either_choice (is_none (gate s before 0 (file s t before))))
+chooses_by : (s : Setting) (here : Here) (running : Option ℕ) → runs here ≡ running → (runs here ≡ None → is_some (first_for 0 here.kernel.scheduling) ≡ true)
+    → is_some (rule_by running (first_for 0 here.kernel.scheduling) (refusal_exec here)) ≡ true
+chooses_by s here None at first = idle_choice (first_for 0 here.kernel.scheduling) (first at)
+chooses_by s here (Some t) at first = busy_choice (is_none (refusal_exec here))
 
-pub rule_chooses : (s : Setting) (log : List Entry) → IsSolo s log → is_some (solo_choice s (history s log)) ≡ true
-rule_chooses s log rule = chosen_where s (history s log) (running 0 (history s log)) refl rule
+-- a place where nothing ended the run is not stuck
+ended_parts : (process : Option End) (stuck : Bool) → option_or process (cond stuck (Some over.Stuck) None) ≡ None → (process ≡ None) × (stuck ≡ false)
+ended_parts (Some e) stuck is = absurd cc
+ended_parts None true is = absurd cc
+ended_parts None false is = (refl, refl)
 
--- a next instruction that isn't allowed has a store that waits
-gate_waits : (n : ℕ) (o : Option Effect) (faults : Bool) (why : Why) → instruction_gate n o faults ≡ Some why → ltb 0 n ≡ true
-gate_waits zero o faults why held = absurd cc
-gate_waits (suc n) o faults why held = lt-ltb 0 (suc n) (omega arith)
+chooses_at : (s : Setting) (before : History) → s.limits.harts ≡ 1 → IsRunHistory s before → end_of s before ≡ over.Unended → is_some (solo_choice s before) ≡ true
+chooses_at s before one run end =
+    let goes = ended_parts (ended before) (is_stuck (kernel s before).threads) (is_open s before run end).goes in
+    let sound = (settled s before run).good.kernel in
+    let tables : IsTables 1 (kernel s before).threads (kernel s before).scheduling = subst (λ n. IsTables n (kernel s before).threads (kernel s before).scheduling) one sound.tables in
+    chooses_by s (here_in_history s before 0) (runs (here_in_history s before 0)) refl
+    (λ idle. first_there s (kernel s before) one sound (some_ready (kernel s before) tables idle goes.1 (some_live s before run goes.0)))
 
-waits_when_held : (s : Setting) (before : History) (f : File) (why : Why) → gate s before 0 f ≡ Some why → has_waiting 0 before ≡ true
-waits_when_held s before f why held = gate_waits (length (waiting 0 before)) (next_effect s.pages f) (is_some (fault_at s before f)) why held
+pub rule_chooses : (s : Setting) (log : List Entry) → s.limits.harts ≡ 1 → IsBlockRun s log → end_of s (history s log) ≡ over.Unended → is_some (solo_choice s (history s log)) ≡ true
+rule_chooses s log one run end = chooses_at s (history s log) one run end
 
--- the choice of the rule is made
-made_when_idle : (s : Setting) (before : History) (choice : Choice) (b : Bool) → is_ready 1 before ≡ b → cond b (Some run_first) None ≡ Some choice → IsOk (decide_on s before 0 choice None)
-made_when_idle s before choice true ready is =
-    let it : run_first ≡ choice = cc in
-    subst (λ x. IsOk (decide_on s before 0 x None)) it (rw ready refl)
-made_when_idle s before choice false ready is = absurd cc
+-- the choice of the rule isn't refused: a thread that is found in the ready list is ready
+ready_bool : (b : Bool) → 0 < cond {A = ℕ} b 1 0 → b ≡ true
+ready_bool true some = refl
+ready_bool false some = absurd (omega arith)
 
-made_by_gate : (s : Setting) (before : History) (choice : Choice) (t : ℕ) (o : Option Why) → gate s before 0 (file s t before) ≡ o → cond (is_none o) (Some asked.Exec) (Some asked.Drain) ≡ Some choice →
-    IsOk (decide_on s before 0 choice (Some t))
-made_by_gate s before choice t None free is =
-    let it : asked.Exec ≡ choice = cc in
-    subst (λ x. IsOk (decide_on s before 0 x (Some t))) it (rw free refl)
-made_by_gate s before choice t (Some why) held is =
-    let it : asked.Drain ≡ choice = cc in
-    subst (λ x. IsOk (decide_on s before 0 x (Some t))) it (rw (waits_when_held s before (file s t before) why held) refl)
+run_free : (here : Here) (t : ℕ) → IsSound here.setting here.kernel → runs here ≡ None → first_for here.hart here.kernel.scheduling ≡ Some t → refusal_of (asked.Run (thread t)) here ≡ None
+run_free here t sound idle first =
+    let k = here.kernel in
+    let listed = found_is_in (λ u. has_hart (affinity_of u k.scheduling) here.hart) t k.scheduling.order first in
+    let ready : is_ready t k.threads ≡ true = ready_bool (is_ready t k.threads) (subst (λ n. 0 < n) (sound.tables.ready t) listed) in
+    let may : has_hart (affinity_of t k.scheduling) here.hart ≡ true = found_passes (λ u. has_hart (affinity_of u k.scheduling) here.hart) k.scheduling.order t first in
+    ap (refusal_run_by here t) idle ∙ rw (ready, may) refl
 
-made_by_rule : (s : Setting) (before : History) (choice : Choice) (r : Option ℕ) → solo_on s before r ≡ Some choice → IsOk (decide_on s before 0 choice r)
-made_by_rule s before choice None is = made_when_idle s before choice (is_ready 1 before) refl is
-made_by_rule s before choice (Some t) is = made_by_gate s before choice t (gate s before 0 (file s t before)) refl is
+-- where an instruction isn't allowed a store waits
+gate_waits : (ws : List Store) (o : Option Effect) (faults : Bool) (why : Why) → instruction_gate (length ws) o faults ≡ Some why → refusal_drain_of ws ≡ None
+gate_waits [] o faults why held = absurd cc
+gate_waits (w ∷ ws) o faults why held = refl
 
-not_refused : (r : Result Entry Why) → IsOk r → IsOk (refused_by r)
-not_refused (Ok e) made = refl
-not_refused (Err why) made = absurd cc
+busy_free : (here : Here) (t : ℕ) (c : Choice) (why : Option Why) → runs here ≡ Some t → refusal_exec here ≡ why → cond (is_none why) (Some asked.Exec) (Some asked.Drain) ≡ Some c → refusal_of c here ≡ None
+busy_free here t c None at free is =
+    let it : asked.Exec ≡ c = cc in
+    subst (λ x. refusal_of x here ≡ None) it free
+busy_free here t c (Some why) at held is =
+    let it : asked.Drain ≡ c = cc in
+    let gate : refusal_exec_by here (Some t) ≡ Some why = sym (ap (refusal_exec_by here) at) ∙ held in
+    subst (λ x. refusal_of x here ≡ None) it (gate_waits here.waiting (next_effect here t) (is_some (next_fault here t)) why gate)
 
-made_with_room : (s : Setting) (before : History) (choice : Choice) → ended before ≡ None → length before < s.limits.steps → 0 < s.limits.harts → solo_choice s before ≡ Some choice → IsOk (decide s before 0 choice)
-made_with_room s before choice goes room harts is =
-    subst IsOk (sym (decide-on s before 0 choice goes room harts)) (not_refused (decide_on s before 0 choice (running 0 before)) (made_by_rule s before choice (running 0 before) is))
+idle_free : (here : Here) (c : Choice) (first : Option ℕ) → IsSound here.setting here.kernel → runs here ≡ None → first_for here.hart here.kernel.scheduling ≡ first
+    → option_map asked.Run (option_map thread first) ≡ Some c → refusal_of c here ≡ None
+idle_free here c None sound idle found is = absurd cc
+idle_free here c (Some t) sound idle found is =
+    let it : asked.Run (thread t) ≡ c = cc in
+    subst (λ x. refusal_of x here ≡ None) it (run_free here t sound idle found)
 
--- a run that is still open goes on and has room
-pub record IsOpen (s : Setting) (before : History) : Type 0 where
-  pub goes : ended before ≡ None
-  pub room : length before < s.limits.steps
+rule_free : (here : Here) (c : Choice) (running : Option ℕ) → IsSound here.setting here.kernel → runs here ≡ running
+    → rule_by running (first_for here.hart here.kernel.scheduling) (refusal_exec here) ≡ Some c → refusal_of c here ≡ None
+rule_free here c None sound at is = idle_free here c (first_for here.hart here.kernel.scheduling) sound at refl is
+rule_free here c (Some t) sound at is = busy_free here t c (refusal_exec here) at refl is
 
-open_parts : (s : Setting) (before : History) (o : Option End) (b : Bool) → ended before ≡ o → leb s.limits.steps (length before) ≡ b → IsRunHistory s before → end_of s before ≡ over.Unended → IsOpen s before
-open_parts s before (Some e) b at full run is = absurd (not_open s before run (at ∙ ap Some (sym (end_of-ended s before e at) ∙ is)))
-open_parts s before None true at full run is = let limit = end_of-limit s before at (leb-true _ _ full) in absurd cc
-open_parts s before None false at full run is = record { goes = at; room = leb-false _ _ full }
+made_where_free : (c : Choice) (here : Here) (why : Option Why) → why ≡ None → IsOk (unless (entry_in c here) why)
+made_where_free c here why free = rw free refl
 
 pub rule_is_made : (s : Setting) (log : List Entry) (choice : Choice) → IsBlockRun s log → 0 < s.limits.harts → end_of s (history s log) ≡ over.Unended → solo_choice s (history s log) ≡ Some choice → IsOk (decide s (history s log) 0 choice)
-rule_is_made s log choice run harts is chosen =
-    let p = open_parts s (history s log) (ended (history s log)) (leb s.limits.steps (length (history s log))) refl refl run is in
-    made_with_room s (history s log) choice p.goes p.room harts chosen
+rule_is_made s log choice run harts end chosen =
+    let here = here_in_history s (history s log) 0 in
+    subst IsOk (sym (decide-open s (history s log) 0 choice (is_open s (history s log) run end) harts))
+    (made_where_free choice here (refusal_of choice here) (rule_free here choice (runs here) (settled s (history s log) run).good.kernel refl chosen))
 
--- so does one where a condition fails
-open_by : (s : Setting) (before : History) (h : ℕ) (choice : Choice) (why : Why) (o : Option End) (b : Bool) → ended before ≡ o → leb s.limits.steps (length before) ≡ b → decide s before h choice ≡ Err (NotEnabled why) → IsOpen s before
-open_by s before h choice why (Some e) b at full held = let over = decide-ended s before h choice e at in absurd cc
-open_by s before h choice why None true at full held = let limit = decide-full s before h choice at (leb-true _ _ full) in absurd cc
-open_by s before h choice why None false at full held = record { goes = at; room = leb-false _ _ full }
-
-open_when_held : (s : Setting) (before : History) (h : ℕ) (choice : Choice) (why : Why) → decide s before h choice ≡ Err (NotEnabled why) → IsOpen s before
-open_when_held s before h choice why held = open_by s before h choice why (ended before) (leb s.limits.steps (length before)) refl refl held
-
-by_condition : (r : Result Entry Why) (why : Why) → refused_by r ≡ Err (NotEnabled why) → r ≡ Err why
-by_condition (Ok e) why is = absurd cc
-by_condition (Err other) why is = let same : other ≡ why = cc in ap Err same
-
-held_on : (s : Setting) (before : History) (choice : Choice) (why : Why) → IsOpen s before → 0 < s.limits.harts → decide s before 0 choice ≡ Err (NotEnabled why) → decide_on s before 0 choice (running 0 before) ≡ Err why
-held_on s before choice why p harts held = by_condition (decide_on s before 0 choice (running 0 before)) why (sym (decide-on s before 0 choice p.goes p.room harts) ∙ held)
-
--- an idle hart is one of the machine
-hart_by : (s : Setting) (before : History) (c : Bool) → leb s.limits.harts 0 ≡ c → IsOpen s before → decide s before 0 asked.Exec ≡ Err (NotEnabled Idle) → 0 < s.limits.harts
-hart_by s before true few p idle = let none = decide-no_hart s before 0 asked.Exec p.goes p.room (leb-true _ _ few) in absurd cc
-hart_by s before false few p idle = leb-false _ _ few
-
-hart_when_idle : (s : Setting) (before : History) → decide s before 0 asked.Exec ≡ Err (NotEnabled Idle) → 0 < s.limits.harts
-hart_when_idle s before idle = hart_by s before (leb s.limits.harts 0) refl (open_when_held s before 0 asked.Exec Idle idle) idle
-
--- no next instruction is refused as that of an idle hart
-either_why : (b : Bool) (x y : Option Why) → x ≢ Some Idle → y ≢ Some Idle → cond b x y ≢ Some Idle
-either_why true x y p q = p
-either_why false x y p q = q
-
-gate_not_idle : (s : Setting) (before : History) (f : File) → gate s before 0 f ≢ Some Idle
-gate_not_idle s before f = either_why _ (Some Waiting) _ (λ is. absurd cc) (either_why _ (Some FullBuffer) None (λ is. absurd cc) (λ is. absurd cc))
-
-by_gate : (o : Option Why) (e : Entry) (why : Why) → unless o e ≡ Err why → o ≡ Some why
-by_gate None e why is = absurd cc
-by_gate (Some other) e why is = let same : other ≡ why = cc in ap Some same
-
-idle_is : (s : Setting) (before : History) (r : Option ℕ) → decide_on s before 0 asked.Exec r ≡ Err Idle → r ≡ None
-idle_is s before None held = refl
-idle_is s before (Some t) held = absurd (gate_not_idle s before (file s t before) (by_gate (gate s before 0 (file s t before)) _ Idle held))
-
--- where hart 0 is idle, the rule runs the first thread, and the machine does
-pub runs_when_idle : (s : Setting) (log : List Entry) → IsSolo s log → decide s (history s log) 0 asked.Exec ≡ Err (NotEnabled Idle) →
-    (solo_choice s (history s log) ≡ Some run_first) × IsOk (decide s (history s log) 0 run_first)
-runs_when_idle s log rule held =
-    let before = history s log in
-    let p : IsOpen s before = open_when_held s before 0 asked.Exec Idle held in
-    let harts : 0 < s.limits.harts = hart_when_idle s before held in
-    let idle : running 0 before ≡ None = idle_is s before (running 0 before) (held_on s before asked.Exec Idle p harts held) in
-    let chosen : solo_choice s before ≡ Some run_first = rule_when_idle s before rule idle in
-    (chosen, made_with_room s before run_first p.goes p.room harts chosen)
-
--- where its next instruction isn't allowed, the rule lets its oldest waiting store enter memory, and the machine does
-drains_by : (s : Setting) (before : History) (r : Option ℕ) (why : Why) → decide_on s before 0 asked.Exec r ≡ Err why → why ≢ Idle → solo_on s before r ≡ Some asked.Drain
-drains_by s before None why held other = let same : Idle ≡ why = cc in absurd (other (sym same))
-drains_by s before (Some t) why held other = rw (by_gate (gate s before 0 (file s t before)) _ why held) refl
-
-pub drains_when_held : (s : Setting) (log : List Entry) (why : Why) → 0 < s.limits.harts → decide s (history s log) 0 asked.Exec ≡ Err (NotEnabled why) → why ≢ Idle →
-    (solo_choice s (history s log) ≡ Some asked.Drain) × IsOk (decide s (history s log) 0 asked.Drain)
-drains_when_held s log why harts held other =
-    let before = history s log in
-    let p : IsOpen s before = open_when_held s before 0 asked.Exec why held in
-    let chosen : solo_choice s before ≡ Some asked.Drain = drains_by s before (running 0 before) why (held_on s before asked.Exec why p harts held) other in
-    (chosen, made_with_room s before asked.Drain p.goes p.room harts chosen)
-
--- where it is allowed, that is the rule's choice
-executes_by : (s : Setting) (before : History) (r : Option ℕ) (e : Entry) → decide_on s before 0 asked.Exec r ≡ Ok e → solo_on s before r ≡ Some asked.Exec
-executes_by s before None e made = absurd cc
-executes_by s before (Some t) e made = go (gate s before 0 (file s t before)) refl made
-  where
-    go : (o : Option Why) → gate s before 0 (file s t before) ≡ o → unless o (entry_of s before 0 kind.Exec (Some t)) ≡ Ok e → solo_on s before (Some t) ≡ Some asked.Exec
-    go None free made = rw free refl
-    go (Some why) held made = absurd cc
+-- where an instruction is allowed, that is the rule's choice
+executes_by : (here : Here) (first running : Option ℕ) → runs here ≡ running → refusal_exec here ≡ None → rule_by running first (refusal_exec here) ≡ Some asked.Exec
+executes_by here first None at free = let held = sym (ap (refusal_exec_by here) at) ∙ free in absurd cc
+executes_by here first (Some t) at free = rw free refl
 
 pub executes_when_allowed : (s : Setting) (log : List Entry) (e : Entry) → decide s (history s log) 0 asked.Exec ≡ Ok e → solo_choice s (history s log) ≡ Some asked.Exec
 executes_when_allowed s log e made =
-    let before = history s log in
-    executes_by s before (running 0 before) e (decided s before 0 asked.Exec e made).here
+    let here = here_in_history s (history s log) 0 in
+    executes_by here (first_for 0 here.kernel.scheduling) (runs here) refl (allowed_at s (history s log) 0 asked.Exec e made).free
+
+-- where it has none, the run is over
+pub rule_stops : (s : Setting) (log : List Entry) → s.limits.harts ≡ 1 → IsBlockRun s log → solo_choice s (history s log) ≡ None → end_of s (history s log) ≢ over.Unended
+rule_stops s log one run none = λ end. false≢true (ap is_some (sym none) ∙ rule_chooses s log one run end)

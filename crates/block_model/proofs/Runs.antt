@@ -1,83 +1,114 @@
--- A run that goes on is a run.
-use Rattle.std.proofs.Common.{◌≡◌, ℕ, List, [], ◌∷◌, ◌++◌, refl, sym, ap, ◌∙◌, subst, Bool, true, false, cond, Option, Some, None, Result, Ok, Err, length, leb}
-use Rattle.std.specs.Prelude.{IfOk, OnErr}
+-- What is good at each place of a run, and that a run that goes on is a run.
+use Rattle.std.proofs.Common.{◌≡◌, ℕ, ◌+◌, List, [], ◌∷◌, ◌++◌, refl, sym, ap, ◌∙◌, arith, subst, None, Ok, length}
+use Rattle.std.specs.List.{fold}
+use Rattle.std.proofs.lemmas.List.Sums.{fold-append}
 use Rattle.mach_types.specs.declared.events.Choice.{Choice}
 use Rattle.mach_types.specs.declared.events.Choice.TheVariants as asked
 use Rattle.mach_types.specs.declared.events.Entry.{Entry}
-use Rattle.mach_types.specs.declared.events.Why.{Why}
-use Rattle.mach_types.specs.declared.events.Why.TheVariants.{NoHart, NoStore, NotReady, Waiting}
-use Rattle.mach_types.specs.declared.limits.End.{End}
+use Rattle.mach_types.specs.declared.events.Why.TheVariants.{NotInBarrier, NoSignal}
 use Rattle.mach_types.specs.Events.{choice_of}
-use Rattle.block_model.specs.declared.refusals.Refused.{Refused}
-use Rattle.block_model.specs.declared.refusals.Refused.TheVariants.{Full, NotEnabled}
-use Rattle.block_model.specs.Setting.{Setting, Seen}
-use Rattle.block_model.specs.History.{History, running, is_ready, file, ended}
-use Rattle.block_model.specs.Deciding.{history, decide, decide_unless, decide_on, refused_by, unless, gate, has_waiting}
-use Rattle.block_model.specs.Run.{IsBlockRun}
-use Rattle.block_model.specs.Solo.{IsSolo, solo_choice}
-use Rattle.block_model.proofs.Laws.{history-append}
+use Rattle.block_model.specs.Setting.{Setting}
+use Rattle.block_model.specs.Here.{Here, nothing, runs}
+use Rattle.block_model.specs.Events.{refusal_of, done_of}
+use Rattle.block_model.specs.History.{Event, History, here_in_history}
+use Rattle.block_model.specs.Deciding.{done, event, history, decide}
+use Rattle.block_model.specs.Run.{IsRunHistory, IsBlockRun}
+use Rattle.block_model.specs.Plain.{plain_start, plain_next}
+use Rattle.block_model.proofs.Applied.{plain_of, IsCounted, counted_next, applied}
+use Rattle.block_model.proofs.Allowed.{allowed_at, decided_is}
+use Rattle.block_model.proofs.Allowances.{start_allowed}
+use Rattle.block_model.proofs.KernelTables.{tables_start}
+use Rattle.block_model.proofs.Good.{IsGood, IsGoodHere, IsFit, good_here, good_next}
+use Rattle.block_model.proofs.Goods.Exec.{good_exec}
+use Rattle.block_model.proofs.Goods.Drain.{good_drain}
+use Rattle.block_model.proofs.Goods.Preempt.{good_preempt}
+use Rattle.block_model.proofs.Goods.Run.{good_run}
+use Rattle.block_model.proofs.Goods.Unbuilt.{never_free}
 
--- the entry is of this hart and choice
-abbrev pub IsOf : ℕ → Choice → Entry → Type 0
-IsOf h choice e = (e.hart.0 ≡ h) × (choice_of e ≡ choice)
+-- the events by their kinds
+pub good_of : (c : Choice) (here : Here) → IsGoodHere here → refusal_of c here ≡ None → IsFit here (done_of c here)
+good_of asked.Exec here good free = good_exec here good free
+good_of asked.Drain here good free = good_drain here good free
+good_of asked.Take here good free = cc
+good_of asked.Done here good free = never_free (IsFit here (nothing here)) NotInBarrier (runs here) free
+good_of asked.Preempt here good free = good_preempt here good free
+good_of (asked.Run t) here good free = good_run here t.0 good free
+good_of asked.Signal here good free = never_free (IsFit here (nothing here)) NoSignal (runs here) free
 
-either : (b : Bool) (x y : Result Entry Why) (P : Entry → Type 0) → IfOk x P → IfOk y P → IfOk (cond b x y) P
-either true x y P p q = p
-either false x y P p q = q
+-- the machine when it starts
+good_start : (s : Setting) → IsGood s (plain_start s)
+good_start s = record {
+  within = λ h. tt;
+  few = λ h. omega arith;
+  idle = λ h none. refl;
+  given = omega arith;
+  kernel = record { tables = tables_start s.limits.harts; allowed = start_allowed s.limits.harts; console = omega arith };
+}
 
-by_gate : (w : Option Why) (e : Entry) (P : Entry → Type 0) → P e → IfOk (unless w e) P
-by_gate None e P p = p
-by_gate (Some why) e P p = tt
+-- one more entry is one more event
+pub history-append : (s : Setting) (log : List Entry) (entry : Entry) → history s (log ++ entry ∷ []) ≡ event s (history s log) entry ∷ history s log
+unfolding history
+history-append s log entry = fold-append (λ before e. event s before e ∷ before) [] log (entry ∷ [])
 
-by_choice : (s : Setting) (before : History) (h : ℕ) (choice : Choice) (t : Option ℕ) → IfOk (decide_on s before h choice t) (IsOf h choice)
-by_choice s before h asked.Exec None = tt
-by_choice s before h asked.Exec (Some t) = by_gate (gate s before h (file s t before)) _ (IsOf h asked.Exec) (refl, refl)
-by_choice s before h asked.Drain t = either (has_waiting h before) _ (Err NoStore) (IsOf h asked.Drain) (refl, refl) tt
-by_choice s before h asked.Take t = tt
-by_choice s before h asked.Done None = tt
-by_choice s before h asked.Done (Some t) = tt
-by_choice s before h asked.Preempt None = tt
-by_choice s before h asked.Preempt (Some t) = either (has_waiting h before) (Err Waiting) _ (IsOf h asked.Preempt) tt (refl, refl)
-by_choice s before h (asked.Run u) None = either (is_ready u.0 before) _ (Err NotReady) (IsOf h (asked.Run u)) (refl, refl) tt
-by_choice s before h (asked.Run u) (Some t) = tt
-by_choice s before h asked.Signal None = tt
-by_choice s before h asked.Signal (Some t) = tt
+-- an empty log has no event
+pub history-nil : (s : Setting) → history s [] ≡ []
+unfolding history
+history-nil s = refl
 
-refusing : (r : Result Entry Why) (P : Entry → Type 0) → IfOk r P → IfOk (refused_by r) P
-refusing (Ok e) P p = p
-refusing (Err why) P p = tt
+folded_length : (s : Setting) (log : List Entry) (before : History) → length (fold (λ b e. event s b e ∷ b) before log) ≡ length before + length log
+folded_length s [] before = omega arith
+folded_length s (e ∷ log) before = folded_length s log (event s before e ∷ before) ∙ omega arith
 
-choose : (b : Bool) (x y : Result Entry Refused) (P : Entry → Type 0) → IfOk x P → IfOk y P → IfOk (cond b x y) P
-choose true x y P p q = p
-choose false x y P p q = q
+-- as many events as entries
+pub length-history : (s : Setting) (log : List Entry) → length (history s log) ≡ length log
+unfolding history
+length-history s log = folded_length s log [] ∙ omega arith
 
-by_end : (s : Setting) (before : History) (h : ℕ) (choice : Choice) (o : Option End) → IfOk (decide_unless s before h choice o) (IsOf h choice)
-by_end s before h choice (Some e) = tt
-by_end s before h choice None =
-    choose (leb s.limits.steps (length before)) (Err Full) _ (IsOf h choice) tt
-    (choose (leb s.limits.harts h) (Err (NotEnabled NoHart)) (refused_by (decide_on s before h choice (running h before))) (IsOf h choice) tt
-    (refusing (decide_on s before h choice (running h before)) (IsOf h choice) (by_choice s before h choice (running h before))))
+-- one entry of the log
+pub applied_entry : (s : Setting) (before : History) (entry : Entry) → IsCounted before → plain_next s (plain_of s before) entry ≡ plain_of s (event s before entry ∷ before)
+unfolding done
+applied_entry s before entry few = applied s before (event s before entry) few
 
--- what is decided is an entry of the hart and the choice that were asked for
-pub decided_of : (s : Setting) (before : History) (h : ℕ) (choice : Choice) → IfOk (decide s before h choice) (IsOf h choice)
-unfolding decide
-decided_of s before h choice = by_end s before h choice (ended before)
+-- what holds at each place of a run
+pub record IsSettled (s : Setting) (before : History) : Type 0 where
+  pub counted : IsCounted before
+  pub good : IsGood s (plain_of s before)
 
-pub decided_is : (s : Setting) (before : History) (h : ℕ) (choice : Choice) (e : Entry) → decide s before h choice ≡ Ok e → IsOf h choice e
-decided_is s before h choice e d = subst (λ r. IfOk r (IsOf h choice)) d (decided_of s before h choice)
+-- what an allowed event does is fit
+fit_entry : (s : Setting) (before : History) (e : Entry) → IsSettled s before → decide s before e.hart.0 (choice_of e) ≡ Ok e → IsFit (here_in_history s before e.hart.0) (done s before e)
+unfolding done
+fit_entry s before e was is =
+    let a = allowed_at s before e.hart.0 (choice_of e) e is in
+    good_of (choice_of e) (here_in_history s before e.hart.0) (good_here s (plain_of s before) e.hart.0 a.lt was.good) a.free
 
-pub IsBlockRun-append : (s : Setting) (log : List Entry) (h : ℕ) (choice : Choice) (e : Entry) → IsBlockRun s log → decide s (history s log) h choice ≡ Ok e → IsBlockRun s (log ++ e ∷ [])
-IsBlockRun-append s log h choice e run d =
-    let p : IsOf h choice e = decided_is s (history s log) h choice e d in
+settled_next : (s : Setting) (before : History) (e : Event) → IsSettled s before → IsFit (here_in_history s before e.entry.hart.0) e.done → IsSettled s (e ∷ before)
+settled_next s before e was fit = record {
+  counted = counted_next before e was.counted fit.drained;
+  good = subst (IsGood s) (applied s before e was.counted) (good_next s (plain_of s before) e.entry.hart.0 e.done was.good fit);
+}
+
+pub settled : (s : Setting) (before : History) → IsRunHistory s before → IsSettled s before
+settled s [] run = record { counted = λ h. omega arith; good = good_start s }
+settled s (e ∷ before) run =
+    let was = settled s before run.0 in
+    settled_next s before e was (subst (λ (x : Event). IsFit (here_in_history s before e.entry.hart.0) x.done) (sym run.2) (fit_entry s before e.entry was run.1))
+
+-- what each event of a run did was fit
+pub fit_at : (s : Setting) (e : Event) (before : History) → IsRunHistory s (e ∷ before) → IsFit (here_in_history s before e.entry.hart.0) e.done
+fit_at s e before run = subst (λ (x : Event). IsFit (here_in_history s before e.entry.hart.0) x.done) (sym run.2) (fit_entry s before e.entry (settled s before run.0) run.1)
+
+-- a run that goes on is a run
+pub IsBlockRun-append : (s : Setting) (log : List Entry) (h : ℕ) (c : Choice) (e : Entry) → IsBlockRun s log → decide s (history s log) h c ≡ Ok e → IsBlockRun s (log ++ e ∷ [])
+IsBlockRun-append s log h c e run d =
+    let p = decided_is s (history s log) h c e d in
     let again : decide s (history s log) e.hart.0 (choice_of e) ≡ Ok e = ap (λ k. decide s (history s log) k (choice_of e)) p.0 ∙ ap (decide s (history s log) h) p.1 ∙ d in
     rw history-append (run, again, refl)
 
--- whatever is answered
-pub run_kept : (v w : Seen) (h : ℕ) (choice : Choice) (r : Result Entry Refused) → r ≡ decide v.setting (history v.setting v.log) h choice →
-    IfOk r (λ e. w ≡ record { setting = v.setting; log = v.log ++ e ∷ [] }) → OnErr r (w ≡ v) → IsBlockRun v.setting v.log → IsBlockRun w.setting w.log
-run_kept v w h choice (Ok e) d ok err run = subst (λ (u : Seen). IsBlockRun u.setting u.log) (sym ok) (IsBlockRun-append v.setting v.log h choice e run (sym d))
-run_kept v w h choice (Err why) d ok err run = subst (λ (u : Seen). IsBlockRun u.setting u.log) (sym err) run
+pub IsBlockRun-nil : (s : Setting) → IsBlockRun s []
+unfolding history
+IsBlockRun-nil s = tt
 
--- an entry by the rule of `solo`
-pub IsSolo-append : (s : Setting) (log : List Entry) (e : Entry) → IsSolo s log → e.hart.0 ≡ 0 → solo_choice s (history s log) ≡ Some (choice_of e) → IsSolo s (log ++ e ∷ [])
-IsSolo-append s log e solo of_hart chosen = rw history-append (solo, of_hart, chosen)
+-- what a run goes on from is a run
+pub run_before : (s : Setting) (rest : List Entry) (before : History) → IsRunHistory s (fold (λ b e. event s b e ∷ b) before rest) → IsRunHistory s before
+run_before s [] before run = run
+run_before s (e ∷ rest) before run = (run_before s rest (event s before e ∷ before) run).0

@@ -3,30 +3,17 @@ use Rattle.std.specs.Prelude.{ℕ, List}
 use Rattle.mach_types.specs.declared.events.Entry.{Entry}
 use Rattle.mach_types.specs.declared.limits.Limits.{Limits}
 use Rattle.elf_load.specs.declared.image.Image.{Image}
-use Rattle.elf_load.specs.declared.image.ImagePage.{ImagePage}
+use Rattle.elf_load.specs.Start.{Program, program_of}
 
--- the loaded pages in rising order, the entry, where the program headers stand and how many they are, the
--- end of the highest page, the limits, and the seed of the choices
+-- the loaded program, the limits, and the seed of the choices
 pub record Setting : Type 0 where
-  pub pages : List ImagePage
-  pub entry : ℕ
-  pub phdr : ℕ
-  pub phnum : ℕ
-  pub break_at : ℕ
+  pub program : Program
   pub limits : Limits
   pub seed : ℕ
 
 -- the setting of an image under limits, with a seed
 abbrev pub setting_of : Image → Limits → ℕ → Setting
-setting_of image limits seed = record {
-  pages = image.pages.items;
-  entry = image.entry;
-  phdr = image.phdr;
-  phnum = image.phnum;
-  break_at = image.break_at;
-  limits = limits;
-  seed = seed;
-}
+setting_of image limits seed = record { program = program_of image; limits = limits; seed = seed }
 
 -- a machine as it is seen: its setting, and its log with the oldest entry first
 pub record Seen : Type 0 where

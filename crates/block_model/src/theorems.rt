@@ -1,24 +1,32 @@
 //! Laws of runs, each as the contract of a function that does nothing.
 
-ghost use Rattle.std.specs.Prelude.{ℕ, List, [], ◌∷◌, ◌++◌, ◌≡◌, ◌≢◌, ◌↔◌, ◌<◌, ◌≤◌, ◌^◌, All, IsOk, IsSome, Ok, Err, Option, Some, length, map};
+ghost use Rattle.std.specs.Prelude.{ℕ, List, [], ◌∷◌, ◌++◌, ◌≡◌, ◌≢◌, ◌↔◌, ◌<◌, ◌≤◌, ◌+◌, ◌-◌, ◌^◌, All, IsOk, IsSome, IsTrue, true, Ok, Err, None, Some, Option, length, map, if◌then◌else◌};
+ghost use Rattle.std.specs.List.Sorted.{IsStrictlyIncreasing};
+ghost use Rattle.mach_types.specs.Bytes.{each_byte};
+ghost use Rattle.mach_types.specs.Kernel.Scheduling.{affinity_of, has_hart};
+ghost use Rattle.mach_types.specs.Kernel.Threads.{is_live, is_ready, numbers, times};
 ghost use Rattle.mach_types.specs.declared.events.Choice.{Choice};
 ghost use Rattle.mach_types.specs.declared.events.Choice.TheVariants as asked;
 ghost use Rattle.mach_types.specs.declared.events.Entry.{Entry};
-ghost use Rattle.mach_types.specs.declared.events.Why.{Why};
-ghost use Rattle.mach_types.specs.declared.events.Why.TheVariants.{Idle};
-ghost use Rattle.block_model.specs.declared.refusals.Refused.TheVariants.{NotEnabled};
+ghost use Rattle.mach_types.specs.declared.kernel_words.TheConstants.{CONSOLE_ROOM, MOST_THREADS};
+ghost use Rattle.mach_types.specs.declared.limits.End.TheVariants.{Unended};
+ghost use Rattle.mach_types.specs.declared.limits.Limits.{Limits};
+ghost use Rattle.mach_types.specs.declared.user_memory.Store.{Store};
+ghost use Rattle.mach_types.specs.declared.user_memory.TheConstants.{STORE_BUFFER_CAPACITY};
+ghost use Rattle.elf_load.specs.declared.image.Image.{Image};
+ghost use Rattle.elf_load.specs.Images.{IsImage};
 ghost use Rattle.block_model.specs.Deciding.{decide, end_of, history};
-ghost use Rattle.block_model.specs.History.{ended};
-ghost use Rattle.block_model.specs.Plain.{log_made, plain_run, plain_solo};
+ghost use Rattle.block_model.specs.ErrorCalls.{GivesError, GivesErrorAlone};
+ghost use Rattle.block_model.specs.History.{can_be_written, console, ended, file, here_in_history, kernel, running, waiting};
+ghost use Rattle.block_model.specs.Kernel.{first_kernel};
+ghost use Rattle.block_model.specs.Plain.{here_in_plain, log_made, plain_after, plain_decide, plain_end, plain_run, plain_solo};
+ghost use Rattle.block_model.specs.PlainOf.{plain_of};
 ghost use Rattle.block_model.specs.PlainSays.{MakesLog, SaysOf};
 ghost use Rattle.block_model.specs.Replay.{Ask, AllAnswer, IsFirstBad, IsFirstRefused, played, play_line, played_read, play_read_line, script_of};
 ghost use Rattle.block_model.specs.Run.{IsBlockRun};
 ghost use Rattle.block_model.specs.Setting.{Setting, setting_of};
 ghost use Rattle.block_model.specs.Solo.{IsSolo, solo_choice};
-ghost use Rattle.mach_types.specs.declared.limits.End.TheVariants.{Unended};
-ghost use Rattle.mach_types.specs.declared.limits.Limits.{Limits};
-ghost use Rattle.elf_load.specs.declared.image.Image.{Image};
-ghost use Rattle.elf_load.specs.Images.{IsImage};
+ghost use Rattle.block_model.specs.Walks.{IsWalk, answers, computed};
 
 /// The log of a block run, read as a script, is allowed at every line and makes the same log.
 pub fn run_replays()
@@ -58,6 +66,17 @@ pub fn read_script_goes_on()
     ensures all { (s : Setting) (lines : List Ask) → played_read s (map Some lines) ≡ played s lines }
 {}
 
+/// The plain machine after the log of a block run is in the state that is read by looking back through the log.
+pub fn one_machine()
+    ensures state { (s : Setting) (log : List Entry) → IsBlockRun s log → plain_after s log ≡ plain_of s (history s log) }
+    // What a rule may read of it where a hart is asked, its answer to each hart and choice, and its end are so too.
+    ensures here { (s : Setting) (log : List Entry) (h : ℕ) → IsBlockRun s log
+        → here_in_plain s (plain_after s log) h ≡ here_in_history s (history s log) h }
+    ensures answer { (s : Setting) (log : List Entry) (h : ℕ) (choice : Choice) → IsBlockRun s log
+        → decide s (history s log) h choice ≡ plain_decide s (plain_after s log) h choice }
+    ensures end { (s : Setting) (log : List Entry) → IsBlockRun s log → end_of s (history s log) ≡ plain_end s (plain_after s log) }
+{}
+
 /// The plain machine, run over the lines of a script, makes the log that the script makes or refuses the same line.
 pub fn plain_machine_plays()
     ensures log { (s : Setting) (lines : List Ask) → log_made (plain_run s lines) ≡ played s lines }
@@ -78,11 +97,12 @@ pub fn plain_machine_makes_solo_run()
         → SaysOf s log (plain_solo s s.limits.steps).machine }
 {}
 
-/// In a block run each entry is of a hart of the machine, and its thread's number and its pc fit 32 and 64 bits.
+/// In a block run each entry is of a hart of the machine, and its thread's number and its pc fit 32 and 64 bits. That a
+/// number fits 32 bits takes a step limit that a machine's has: an event gives at most one number.
 pub fn run_is_printable()
     ensures harts { (s : Setting) (log : List Entry) → IsBlockRun s log → All (λ (e : Entry). e.hart.0 < s.limits.harts) log }
-    ensures threads { (s : Setting) (log : List Entry) → IsBlockRun s log → All (λ (e : Entry). e.tid.0 < 2 ^ 32) log }
-    ensures addresses { (s : Setting) (log : List Entry) → s.entry < 2 ^ 64 → IsBlockRun s log → All (λ (e : Entry). e.pc < 2 ^ 64) log }
+    ensures threads { (s : Setting) (log : List Entry) → s.limits.steps < 2 ^ 31 - 1 → IsBlockRun s log → All (λ (e : Entry). e.tid.0 < 2 ^ 32) log }
+    ensures addresses { (s : Setting) (log : List Entry) → s.program.entry < 2 ^ 64 → IsBlockRun s log → All (λ (e : Entry). e.pc < 2 ^ 64) log }
 {}
 
 /// A block run has no more entries than the step limit says.
@@ -95,19 +115,69 @@ pub fn run_is_not_left_open_by_an_instruction()
     ensures { (s : Setting) (log : List Entry) → IsBlockRun s log → ended (history s log) ≢ Some Unended }
 {}
 
-/// At each place of a block run by the fixed rule of `solo` the rule has a choice, which the machine makes while the run
-/// is open.
+/// At each place of a block run, on each hart: what waits may enter memory, and no thread runs on two harts.
+pub fn harts_are_sound()
+    // No store waits on a hart that runs no thread.
+    ensures idle { (s : Setting) (log : List Entry) (h : ℕ) → IsBlockRun s log → running s h (history s log) ≡ None → waiting h (history s log) ≡ [] }
+    ensures few { (s : Setting) (log : List Entry) (h : ℕ) → IsBlockRun s log → length (waiting h (history s log)) ≤ STORE_BUFFER_CAPACITY }
+    ensures alone { (s : Setting) (log : List Entry) (h k t : ℕ) → IsBlockRun s log
+        → running s h (history s log) ≡ Some t → running s k (history s log) ≡ Some t → h ≡ k }
+    // Each byte of each waiting store can be written.
+    ensures writable { (s : Setting) (log : List Entry) (h : ℕ) → IsBlockRun s log
+        → All (λ (w : Store). each_byte (can_be_written s (history s log)) w.at w.size ≡ true) (waiting h (history s log)) }
+{}
+
+/// At each place of a block run the kernel's record is sound.
+pub fn record_is_sound()
+    // The ready list has each ready thread once, and no other number.
+    ensures ready { (s : Setting) (log : List Entry) (t : ℕ) → IsBlockRun s log
+        → times t (kernel s (history s log)).scheduling.order ≡ (if is_ready t (kernel s (history s log)).threads then 1 else 0) }
+    // The numbers of live threads rise, so that no two threads have the same; they are positive, and were given.
+    ensures rising { (s : Setting) (log : List Entry) → IsBlockRun s log → IsStrictlyIncreasing (numbers (kernel s (history s log)).threads.live) }
+    ensures given { (s : Setting) (log : List Entry) → IsBlockRun s log
+        → All (λ t. (0 < t) × (t ≤ (kernel s (history s log)).threads.given)) (numbers (kernel s (history s log)).threads.live) }
+    // An event gives at most one number.
+    ensures fit { (s : Setting) (log : List Entry) → IsBlockRun s log → (kernel s (history s log)).threads.given ≤ length log + 1 }
+    ensures few { (s : Setting) (log : List Entry) → IsBlockRun s log → length (kernel s (history s log)).threads.live ≤ MOST_THREADS }
+    // Each live thread may run on some hart of the machine.
+    ensures affinity { (s : Setting) (log : List Entry) (t : ℕ) → IsBlockRun s log → 0 < s.limits.harts → is_live t (kernel s (history s log)).threads ≡ true
+        → (h : ℕ) × (h < s.limits.harts) × (has_hart (affinity_of t (kernel s (history s log)).scheduling) h ≡ true) }
+    ensures console { (s : Setting) (log : List Entry) → IsBlockRun s log → length (console s (history s log)) ≤ CONSOLE_ROOM }
+    // No page is mapped, removed or protected yet.
+    ensures pages { (s : Setting) (log : List Entry) → IsBlockRun s log → (kernel s (history s log)).pages ≡ (first_kernel s).pages }
+{}
+
+/// In a block run a guest call that gives an error changes, of thread files, memory and the kernel's record, only a0 and
+/// the pc of its thread: a0 then has the negative of an error number, and the pc is past the call.
+pub fn refused_call_changes_nothing()
+    // Thread numbers are answers of calls too: with fewer than 2^31 of them none is mistaken for an error.
+    ensures { (s : Setting) (earlier later : List Entry) (entry : Entry) → s.limits.steps < 2 ^ 31 - 1
+        → IsBlockRun s (earlier ++ entry ∷ later) → GivesError s (history s earlier) entry → GivesErrorAlone s (history s earlier) entry }
+{}
+
+/// In a block run a walk is a stretch in which a thread runs on a hart and executes instructions that make neither a
+/// fault nor a call, while the hart's waiting stores may enter memory, and other harts do what they will.
+pub fn walks_are_computed()
+    // At its end the thread's file is what the equations of its instructions, one after another, make of the file at its
+    // start and of what each was answered: the bytes that it read, as its hart saw them, and its hart's reservation.
+    ensures file { (s : Setting) (earlier stretch later : List Entry) (h t : ℕ) → IsBlockRun s (earlier ++ stretch ++ later)
+        → IsWalk s h t (history s earlier) stretch
+        → file s t (history s (earlier ++ stretch))
+        ≡ computed s.program.pages (file s t (history s earlier)) (answers s h (history s earlier) stretch) }
+    // The thread runs on the hart at each place of it.
+    ensures throughout { (s : Setting) (earlier first rest later : List Entry) (h t : ℕ) → IsBlockRun s (earlier ++ first ++ rest ++ later)
+        → IsWalk s h t (history s earlier) (first ++ rest) → running s h (history s (earlier ++ first)) ≡ Some t }
+{}
+
+/// At each place of a block run that hasn't ended the fixed rule of `solo` has a choice, which the machine makes.
 pub fn rule_has_a_choice()
-    ensures chooses { (s : Setting) (log : List Entry) → IsSolo s log → IsSome (solo_choice s (history s log)) }
+    ensures chooses { (s : Setting) (log : List Entry) → s.limits.harts ≡ 1 → IsBlockRun s log → end_of s (history s log) ≡ Unended
+        → IsSome (solo_choice s (history s log)) }
     ensures makes { (s : Setting) (log : List Entry) (choice : Choice) → IsBlockRun s log → 0 < s.limits.harts → end_of s (history s log) ≡ Unended
         → solo_choice s (history s log) ≡ Some choice → IsOk (decide s (history s log) 0 choice) }
-    // It shows in the machine's answer to hart 0's next instruction. An idle hart runs the first thread.
-    ensures idle { (s : Setting) (log : List Entry) → IsSolo s log → decide s (history s log) 0 asked.Exec ≡ Err (NotEnabled Idle)
-        → (solo_choice s (history s log) ≡ Some (asked.Run (record { 0 = 1 }))) × IsOk (decide s (history s log) 0 (asked.Run (record { 0 = 1 }))) }
-    // Where another condition fails, a store waits, and the oldest that waits enters memory.
-    ensures held { (s : Setting) (log : List Entry) (why : Why) → 0 < s.limits.harts → decide s (history s log) 0 asked.Exec ≡ Err (NotEnabled why) → why ≢ Idle
-        → (solo_choice s (history s log) ≡ Some asked.Drain) × IsOk (decide s (history s log) 0 asked.Drain) }
-    ensures allowed { (s : Setting) (log : List Entry) (entry : Entry) → decide s (history s log) 0 asked.Exec ≡ Ok entry → solo_choice s (history s log) ≡ Some asked.Exec }
+    // Where hart 0 may execute its next instruction, that is the choice.
+    ensures allowed { (s : Setting) (log : List Entry) (entry : Entry) → decide s (history s log) 0 asked.Exec ≡ Ok entry
+        → solo_choice s (history s log) ≡ Some asked.Exec }
 {}
 
 /// A file starts one setting, whichever image of it is taken.

@@ -1,12 +1,13 @@
-pub mod Positions
-pub mod Segments
-pub mod Filling
-pub mod Choosing
-pub mod Appending
-pub mod Lists
-pub mod Apart
-pub mod Building
-pub mod Tables
-pub mod NoFault
-pub mod Loaded
+mod Apart
+mod Appending
+mod Building
+mod Choosing
 mod Examples
+mod Filling
+pub mod Laws
+mod Lists
+mod Loaded
+mod NoFault
+mod Positions
+mod Segments
+mod Tables

@@ -3,3 +3,4 @@ pub mod Faults
 pub mod Images
 pub mod Paging
 pub mod Numbers
+pub mod Start

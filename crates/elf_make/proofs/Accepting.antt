@@ -12,8 +12,7 @@ use Rattle.elf_load.specs.declared.program_headers.ProgramHeader.{ProgramHeader}
 use Rattle.elf_load.specs.Fields.{e_flags, e_machine, e_phentsize, e_type, e_version, ei_class, ei_data, ei_mag, e_phnum, e_phoff, has_page, is_dynamic, page_count, program_header, program_headers}
 use Rattle.elf_load.specs.Faults.{first_fault, first_of, file_rows, frame_rows, frames_needed, has_bad_flags, has_bad_table, has_bad_version, has_code, is_bad_entry, is_misplaced, is_unaligned, is_writable_code, overlaps, row, segment_rows, share_page}
 use Rattle.elf_load.specs.Images.{ArePages, IsImage, IsPage, byte_of_segment, covers, memory_byte, numbers, page_permission, permission}
-use Rattle.elf_load.proofs.NoFault.{fault-of_frames}
-use Rattle.elf_load.proofs.Positions.{position-none, first_overlap-none}
+use Rattle.elf_load.proofs.Laws.{fault-of_frames, first_overlap-none, position-none}
 use Rattle.elf_make.specs.declared.parts.Part.{Part}
 use Rattle.elf_make.specs.declared.parts.Parts.{Parts}
 use Rattle.elf_make.specs.Parts.{IsImageOf, parts_byte, parts_permission, segment_of}

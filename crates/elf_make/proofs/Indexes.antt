@@ -4,7 +4,7 @@ use Rattle.std.specs.List.{enumerate_from, position}
 use Rattle.std.proofs.lemmas.List.FromFn.{get_or-enumerate_from, length-enumerate_from}
 use Rattle.std.proofs.lemmas.Bool.{cases_lt}
 use Rattle.std.proofs.lemmas.List.{get_or_default}
-use Rattle.elf_load.proofs.Positions.{position-at, position-none, position-never}
+use Rattle.elf_load.proofs.Laws.{position-at, position-never, position-none}
 
 indexed : {X : Type 0} (p : ℕ × X → Bool) (xs : List X) (k : ℕ) (d : X) (b : Bool) → k < length xs → p (k, get_or xs k d) ≡ b → p (get_or (enumerate_from 0 xs) k (0, d)) ≡ b
 indexed p xs k d b lt e =

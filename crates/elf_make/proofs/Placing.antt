@@ -3,20 +3,20 @@ use Rattle.std.proofs.Common.{◌≡◌, ℕ, suc, ◌+◌, ◌-◌, ◌<◌, �
 use Rattle.std.proofs.lemmas.List.{length-replicate, take_all, drop_all}
 use Rattle.std.proofs.Math.Seq.{drop-cons}
 use Rattle.elf_make.specs.declared.parts.Part.{Part}
-use Rattle.elf_make.specs.Layout.{contents_from, place_from}
+use Rattle.elf_make.specs.Layout.{contents_from, place_from, PlacesAreLowest}
 
 pub place-after : (end at : ℕ) → end ≤ place_from end at
 place-after end at = omega arith
 
-pub place-near : (end at : ℕ) → place_from end at < end + 4096
-place-near end at = omega arith
-
--- it is a place for the address, and the lowest
-pub place-fits : (end at : ℕ) → place_from end at % 4096 ≡ at % 4096
-place-fits end at = omega arith
-
-pub place-lowest : (end at other : ℕ) → end ≤ other → other % 4096 ≡ at % 4096 → place_from end at ≤ other
+place-lowest : (end at other : ℕ) → end ≤ other → other % 4096 ≡ at % 4096 → place_from end at ≤ other
 place-lowest end at other behind same = omega arith
+
+-- the place of a part suits it, and no lower one does
+pub places-lowest : PlacesAreLowest
+places-lowest end at = record {
+  suits = record { behind = place-after end at; aligned = omega arith };
+  lowest = λ other suits. place-lowest end at other suits.behind suits.aligned;
+}
 
 -- the rest from a part on
 pub rest-at : (parts : List Part) (i : ℕ) (p d : Part) → i < length parts → p ≡ get_or parts i d → drop i parts ≡ p ∷ drop (i + 1) parts

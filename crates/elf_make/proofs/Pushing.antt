@@ -5,7 +5,7 @@ use Rattle.std.specs.Int.{bytes_low_first}
 use Rattle.std.specs.Result.{is_ok}
 use Rattle.std.proofs.lemmas.List.{take_at}
 use Rattle.byte_views.specs.Words.{IsWordSize, with_word}
-use Rattle.byte_views.proofs.Bytes.{with_word-front}
+use Rattle.byte_views.proofs.Laws.{with_word-front}
 use Rattle.elf_make.specs.Layout.{field}
 
 -- a number has as many bytes as asked for

@@ -3,7 +3,7 @@ use Rattle.std.proofs.Common.{◌≡◌, ℕ, ◌+◌, ◌*◌, ◌^◌, ◌<◌
 use Rattle.std.specs.List.{flat_map, range_with_len}
 use Rattle.std.proofs.lemmas.List.{drop_at}
 use Rattle.byte_views.specs.Words.{word_at}
-use Rattle.byte_views.proofs.Bytes.{word_at-drop, word_at-bytes}
+use Rattle.byte_views.proofs.Laws.{word_at-bytes, word_at-drop}
 use Rattle.elf_load.specs.declared.program_headers.ProgramHeader.{ProgramHeader}
 use Rattle.elf_load.specs.Fields.{ei_mag, ei_class, ei_data, ei_version, e_type, e_machine, e_version, e_entry, e_phoff, e_flags, e_phentsize, e_phnum, program_header}
 use Rattle.elf_make.specs.Layout.{field, file_header, header_end, header_start, table_entry}

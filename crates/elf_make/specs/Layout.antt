@@ -1,9 +1,10 @@
 -- The file that is written (System V ABI, "ELF Header" and "Program Header"): a file header, a program
 -- header table, and the bytes of each part.
-use Rattle.std.specs.Prelude.{◌+◌, ◌-◌, ◌*◌, ◌%◌, ◌++◌, ℕ, List, [], ◌∷◌, length, replicate}
+use Rattle.std.specs.Prelude.{◌≡◌, ◌≤◌, ◌+◌, ◌-◌, ◌*◌, ◌%◌, ◌++◌, ℕ, List, [], ◌∷◌, length, replicate}
 use Rattle.std.specs.Int.{bytes_low_first}
 use Rattle.std.specs.List.{flat_map}
 use Rattle.elf_load.specs.declared.program_headers.ProgramHeader.{ProgramHeader}
+use Rattle.mach_types.specs.declared.address_space.TheConstants.{PAGE_SIZE}
 use Rattle.elf_make.specs.declared.parts.Part.{Part}
 use Rattle.elf_make.specs.declared.parts.Parts.{Parts}
 use Rattle.elf_make.specs.Parts.{segment_at}
@@ -33,11 +34,25 @@ file_header entry flags count = header_start entry ++ header_end flags count
 -- A program header: its type, flags, offset, address (twice, as there is no other physical address),
 -- the sizes in the file and in memory, and the alignment, a page.
 unfoldable pub table_entry : ProgramHeader → List ℕ
-table_entry h = field 4 h.kind ++ field 4 h.flags ++ field 8 h.offset ++ field 8 h.vaddr ++ field 8 h.vaddr ++ field 8 h.filesz ++ field 8 h.memsz ++ field 8 4096
+table_entry h = field 4 h.kind ++ field 4 h.flags ++ field 8 h.offset ++ field 8 h.vaddr ++ field 8 h.vaddr ++ field 8 h.filesz ++ field 8 h.memsz ++ field 8 PAGE_SIZE
 
--- the lowest place from `end` on that is the address modulo 4096
+-- a place suits an address behind contents that end at `end`: it isn't before their end, and equals the
+-- address modulo the size of a page
+pub record Suits (end at place : ℕ) : Type 0 where
+  pub behind : end ≤ place
+  pub aligned : place % PAGE_SIZE ≡ at % PAGE_SIZE
+
+-- the lowest place that suits
 abbrev pub place_from : ℕ → ℕ → ℕ
-place_from end at = end + (at % 4096 + 4096 - end % 4096) % 4096
+place_from end at = end + (at % PAGE_SIZE + PAGE_SIZE - end % PAGE_SIZE) % PAGE_SIZE
+
+-- it suits, and no lower one does
+pub record IsLowest (end at place : ℕ) : Type 0 where
+  pub suits : Suits end at place
+  pub lowest : (other : ℕ) → Suits end at other → place ≤ other
+
+abbrev pub PlacesAreLowest : Type 0
+PlacesAreLowest = (end at : ℕ) → IsLowest end at (place_from end at)
 
 -- the segments of parts whose bytes stand one after the other from `end` on
 abbrev pub placed_from : ℕ → List Part → List ProgramHeader

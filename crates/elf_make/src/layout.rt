@@ -6,11 +6,10 @@ ghost use Rattle.elf_make.specs.Layout.{contents_start, place_from, placed_from}
 use crate::parts::Part;
 use crate::refusals::segment_of;
 use elf_load::ProgramHeader;
+use mach_types::address_space::PAGE_SIZE;
 use std::alloc::{AllocError, Global};
 
-// The sizes of a page and of the headers.
-pub(crate) const PAGE: u64 = 4096;
-
+// The sizes of the headers.
 pub(crate) const FILE_HEADER_SIZE: u64 = 64;
 
 pub(crate) const ENTRY_SIZE: u64 = 56;
@@ -20,7 +19,7 @@ pub(crate) fn place_from(end: u64, at: u64) -> u64
     requires { end < 2 ^ 63 }
     ensures { result ≡ place_from end at }
 {
-    end + (at % PAGE + PAGE - end % PAGE) % PAGE
+    end + (at % PAGE_SIZE + PAGE_SIZE - end % PAGE_SIZE) % PAGE_SIZE
 }
 
 /// The parts as segments, with the places of their bytes.

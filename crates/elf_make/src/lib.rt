@@ -4,9 +4,11 @@
 mod layout;
 mod parts;
 mod refusals;
+mod theorems;
 mod writing;
 
 pub use parts::{MakeFault, Part, Parts};
+pub use theorems::parts_stand_at_the_lowest_places;
 pub use writing::write_elf;
 
 #[cfg(test)]

@@ -10,11 +10,12 @@ ghost use Rattle.elf_make.specs.Refusals.{refusal, segments_of};
 ghost use Rattle.std.specs.List.{flat_map};
 ghost use Rattle.byte_views.specs.Words.{IsWordSize};
 
-use crate::layout::{ENTRY_SIZE, FILE_HEADER_SIZE, PAGE, place_from, placed};
+use crate::layout::{ENTRY_SIZE, FILE_HEADER_SIZE, place_from, placed};
 use crate::parts::{MakeFault, Part, Parts};
 use crate::refusals::{bad_index, segments_of};
 use byte_views::write_word;
 use elf_load::ProgramHeader;
+use mach_types::address_space::PAGE_SIZE;
 use std::alloc::{AllocError, Global};
 
 // What the fields of a file header are.
@@ -120,7 +121,7 @@ fn push_table_entry(file: &mut Vec<u8>, header: &ProgramHeader) -> Result<(), Al
     push_field(file, 8, header.vaddr)?;
     push_field(file, 8, header.filesz)?;
     push_field(file, 8, header.memsz)?;
-    push_field(file, 8, PAGE)
+    push_field(file, 8, PAGE_SIZE)
 }
 
 /// Appends the bytes of each part at its place, with zeros before it.

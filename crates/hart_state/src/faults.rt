@@ -1,33 +1,36 @@
-//! Faults of instructions, by the signals that Linux numbers so (signal(7)).
+//! Faults of accesses, by the signals that Linux numbers so (signal(7)).
 
 ghost use Rattle.std.specs.Prelude.{◌≡◌};
-ghost use Rattle.mach_types.specs.Bytes.{IsAccessSize};
 ghost use Rattle.rv_inst.specs.Execution as execution;
+ghost use Rattle.rv_inst.specs.Sizes.{IsSized};
 
-/// The signal of EBREAK.
-pub const SIGTRAP: u8 = 5;
+use mach_types::UserMem;
+use mach_types::signals::{SIGBUS, SIGSEGV};
+use rv_inst::Access;
 
-/// The signal of a jump to an address that isn't aligned, and of an atomic access to one.
-pub const SIGBUS: u8 = 7;
-
-/// The signal of an access to bytes that can't be used so.
-const SIGSEGV: u8 = 11;
-
-/// The fault of an access that must be allowed.
-pub fn unless_allowed(is_allowed: bool) -> Option<u8>
-    ensures { result ≡ execution.unless_allowed is_allowed }
+/// Whether each byte of an access can be written, or read, as it needs.
+fn is_allowed<M: UserMem>(mem: &M, access: Access) -> bool
+    requires { IsSized access }
+    ensures { result ≡ execution.is_allowed (M.byte mem.now) (M.can_write mem.now) access }
 {
-    if is_allowed { None } else { Some(SIGSEGV) }
+    if access.is_write {
+        mem.writable(access.at, access.size)
+    } else {
+        mem.get(access.at, access.size).is_some()
+    }
 }
 
-/// The fault of an access that must be aligned, and then allowed.
-pub fn fault_of_atomic(at: u64, size: u8, is_allowed: bool) -> Option<u8>
-    requires { IsAccessSize size }
-    ensures { result ≡ execution.unless_aligned at size (execution.unless_allowed is_allowed) }
+/// The fault of an access: it must be aligned and isn't, or it isn't allowed.
+pub fn access_fault<M: UserMem>(mem: &M, access: Access) -> Option<u8>
+    requires { IsSized access }
+    ensures { result ≡ execution.access_fault (M.byte mem.now) (M.can_write mem.now) access }
 {
-    if at % u64::from(size) == 0 {
-        unless_allowed(is_allowed)
+    if access.must_align && access.at % u64::from(access.size) != 0 {
+        return Some(SIGBUS);
+    }
+    if is_allowed(mem, access) {
+        None
     } else {
-        Some(SIGBUS)
+        Some(SIGSEGV)
     }
 }

@@ -1,20 +1,22 @@
 //! The state of one hart, and what an instruction does to it and to memory.
 
-ghost use Rattle.std.specs.Prelude.{◌≡◌, ◌≢◌, ℕ, [], ◌∷◌, ◌++◌, ◌<◌, true, false, length, drop, take, slice_get, not, is_some, IfOk};
+ghost use Rattle.std.specs.Prelude.{◌≡◌, ◌≢◌, ℕ, [], ◌∷◌, ◌++◌, ◌<◌, true, false, Option, Some, None, length, drop, take, slice_get, not, is_some, IfOk};
 ghost use Rattle.std.specs.Option.{option_map, option_copied};
-ghost use Rattle.hart_state.specs.State.{idle_hart, exec_refusal, outcome_on, hart_after, CanEnter};
+ghost use Rattle.hart_state.specs.State.{idle_hart, exec_refusal, outcome_on, hart_after, CanEnter, entered_spans, spans, left, entered};
 ghost use Rattle.mach_types.specs.Bytes.{IsAccessSize, each_byte, overlay};
 ghost use Rattle.mach_types.specs.Registers.{with_register};
+ghost use Rattle.mach_types.specs.declared.user_memory.TheConstants.{STORE_BUFFER_CAPACITY};
 ghost use Rattle.rv_inst.specs.Execution as execution;
 ghost use Rattle.rv_inst.specs.Sizes.{HasAccessSizes};
 ghost use Rattle.rv_inst.specs.Words.{sum_64};
 
-use crate::faults::{SIGBUS, SIGTRAP, fault_of_atomic, unless_allowed};
+use crate::faults::access_fault;
 use crate::gate::store_gate;
-use crate::reservation::{holds, left_by, reserved_at};
-use mach_types::{Regs, Store, Tid, UserMem, Why};
+use crate::reservation::{holds, left_by, reserved_at, written_at_once};
+use crate::span::Span;
+use mach_types::{Regs, Saved, Store, Tid, UserMem, Why};
 use rv_exec::{amo_value, finish_load};
-use rv_inst::{AmoOp, Effect};
+use rv_inst::{AmoOp, Effect, asks};
 use std::alloc::{AllocError, Global};
 use store_buffers::StoreBuffer;
 
@@ -77,7 +79,8 @@ impl HartState {
 
     /// Why the hart may not execute an instruction with this effect; None where it may.
     ///
-    /// `faults` says that the instruction faults. There is no effect where no instruction was fetched or decoded.
+    /// `faults` says that the instruction faults. There is no effect where no instruction was fetched or
+    /// decoded.
     pub fn exec_gate(&self, effect: Option<&Effect>, faults: bool) -> Option<Why>
         ensures { result ≡ exec_refusal self.now (option_copied effect.entry) faults }
     {
@@ -90,27 +93,30 @@ impl HartState {
         store_gate(self.buffer.len(), effect, faults)
     }
 
-    /// The signal of the first fault of an instruction that was fetched and decoded, as Linux numbers it; None
-    /// where it has no fault.
+    /// The signal of the first fault of an instruction that was fetched and decoded, as Linux numbers it;
+    /// None where it has no fault.
     pub fn fault_of<M: UserMem>(&self, mem: &M, effect: &Effect) -> Option<u8>
         requires { HasAccessSizes effect.now }
         ensures { result ≡ execution.fault_in (M.byte mem.now) (M.can_write mem.now) effect.now }
     {
-        match *effect {
-            Effect::Next { .. } | Effect::Fence { .. } | Effect::FenceI | Effect::Call => None,
-            Effect::Load { at, size, .. } => unless_allowed(mem.get(at, size).is_some()),
-            Effect::Store { at, size, .. } => unless_allowed(mem.writable(at, size)),
-            Effect::Lr { at, size, .. } => fault_of_atomic(at, size, mem.get(at, size).is_some()),
-            Effect::Amo { at, size, .. } | Effect::Sc { at, size, .. } => {
-                fault_of_atomic(at, size, mem.writable(at, size))
-            }
-            Effect::Break => Some(SIGTRAP),
-            Effect::Misaligned => Some(SIGBUS),
+        let asked = asks(effect);
+        if asked.fault.is_some() {
+            return asked.fault;
         }
+        access_fault(mem, asked.access?)
     }
 
-    /// Executes an instruction with this effect: the registers, the pc, the store buffer, the reservation and the
-    /// memory of its outcome.
+    /// The bytes that an instruction with this effect writes at once on this hart: those of an AMO, and
+    /// those of an SC exactly where the reservation is that of its address. None where it writes none at
+    /// once; a plain store waits.
+    pub fn enters(&self, effect: &Effect) -> Option<Span>
+        ensures { (byte : ℕ → Option ℕ) → entered_spans (outcome_on self.now byte effect.now) ≡ spans result }
+    {
+        written_at_once(self.reserved, asks(effect))
+    }
+
+    /// Executes an instruction with this effect: the registers, the pc, the store buffer, the reservation
+    /// and the memory of its outcome.
     pub fn perform<M: UserMem>(&mut self, mem: &mut M, effect: &Effect)
         requires sizes { HasAccessSizes effect.now }
         requires allowed { exec_refusal self.old (Some effect.now) false ≡ None }
@@ -164,12 +170,50 @@ impl HartState {
         Some(store)
     }
 
-    /// Ends the reservation where one of these bytes is in its aligned 8 bytes: another hart or the kernel wrote
-    /// them. A write of no bytes ends none.
+    /// Ends the reservation where one of these bytes is in its aligned 8 bytes: another hart or the kernel
+    /// wrote them. A write of no bytes ends none.
     pub fn lose(&mut self, at: u64, size: u8)
         ensures { self.new ≡ record self.old { reserved = execution.lost_by at size self.old.reserved } }
     {
-        self.reserved = left_by(self.reserved, at, size);
+        self.lose_run(at, u64::from(size));
+    }
+
+    /// The same where so many bytes were written, as when pages are mapped.
+    pub fn lose_run(&mut self, at: u64, length: u64)
+        ensures { self.new ≡ record self.old { reserved = execution.lost_by at length self.old.reserved } }
+    {
+        self.reserved = left_by(self.reserved, at, length);
+    }
+
+    /// Takes the thread that runs here, if one runs, from the hart, and answers its registers and its pc.
+    ///
+    /// The hart is then idle, with no reservation, its registers and its pc 0. What waits in its buffer
+    /// stays.
+    pub fn leave(&mut self) -> Saved
+        ensures file { result ≡ record { file = self.old.file; pc = self.old.pc } }
+        ensures hart { self.new ≡ left self.old }
+    {
+        let saved = Saved {
+            file: self.file,
+            pc: self.pc,
+        };
+        self.file = Regs::new();
+        self.pc = 0;
+        self.running = None;
+        self.reserved = None;
+        saved
+    }
+
+    /// Lets a thread run on the hart, with these registers and this pc: it has no reservation, and executed
+    /// nothing here so far.
+    pub fn enter(&mut self, tid: Tid, saved: Saved)
+        ensures { self.new ≡ entered tid saved self.old }
+    {
+        self.file = saved.file;
+        self.pc = saved.pc;
+        self.running = Some(tid);
+        self.reserved = None;
+        self.ran = 0;
     }
 
     /// Goes on 4 bytes further, with a value in register `rd`.
@@ -192,7 +236,7 @@ impl HartState {
     /// A plain store waits.
     fn store(&mut self, store: Store)
         requires size { IsAccessSize store.size }
-        requires room { length self.old.buffer < 8 }
+        requires room { length self.old.buffer < STORE_BUFFER_CAPACITY }
         ensures { self.new ≡ record self.old { pc = sum_64 self.old.pc 4; buffer = self.old.buffer ++ store ∷ [] } }
     {
         self.buffer.push(store);

@@ -4,8 +4,8 @@ ghost use Rattle.std.specs.Prelude.{◌≢◌};
 ghost use Rattle.mach_types.specs.Bytes.{IsAccessSize};
 ghost use Rattle.rv_inst.specs.Sizes.{HasAccessSizes};
 
-use crate::HartState;
 use crate::flat_memory::{BASE, FlatMemory};
+use crate::{HartState, Span};
 use mach_types::{Tid, UserMem, Why};
 use rv_inst::{AmoOp, Effect};
 use std::alloc::{AllocError, Global};
@@ -379,6 +379,46 @@ fn a_failing_sc_ends_the_reservation(rt: HostRuntime) -> Result<(), Fail> {
     bench.expect_sc(&rt, 0x1010, 4, 9, 1);
     bench.expect_reserved(&rt, None);
     bench.expect_double(&rt, 0x1010, 0);
+    Ok(())
+}
+
+#[test]
+fn what_enters_at_once(rt: HostRuntime) -> Result<(), Fail> {
+    let mut bench = Bench::new(rt.alloc())?;
+    let conditional = Effect::Sc {
+        at: 0x100c,
+        size: 4,
+        value: 0,
+        rd: 1,
+    };
+    assert_eq!(rt; bench.hart.enters(&conditional), None);
+    bench.hart.reserved = Some(0x1008);
+    let span = bench.hart.enters(&conditional);
+    assert_eq!(rt;
+        span,
+        Some(Span {
+            at: 0x100c,
+            size: 4
+        })
+    );
+    assert_eq!(rt; bench.hart.enters(&STORE), None);
+    Ok(())
+}
+
+#[test]
+fn a_thread_leaves_and_enters(rt: HostRuntime) -> Result<(), Fail> {
+    let mut bench = Bench::new(rt.alloc())?;
+    bench.reserve(&rt, 0x1008, 8);
+    bench.hart.file.set(3, 9);
+    let saved = bench.hart.leave();
+    assert!(rt; bench.hart.is_idle());
+    bench.expect_reserved(&rt, None);
+    bench.expect_register(&rt, 3, 0);
+    bench.expect_pc(&rt, 0);
+    bench.hart.enter(Tid(2), saved);
+    assert_eq!(rt; bench.hart.running, Some(Tid(2)));
+    bench.expect_register(&rt, 3, 9);
+    bench.expect_pc(&rt, 0x404);
     Ok(())
 }
 

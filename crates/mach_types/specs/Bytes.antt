@@ -3,6 +3,8 @@
 use Rattle.std.specs.Prelude.{ℕ, ◌+◌, ◌-◌, ◌*◌, ◌/◌, ◌%◌, ◌^◌, ◌≡◌, ◌⊎◌, Bool, true, ◌&&◌, nat_le, nat_lt, List, [], ◌∷◌, if◌then◌else◌, Option, Some, None, zero, suc}
 use Rattle.std.specs.Option.{option_map}
 use Rattle.mach_types.specs.declared.user_memory.Store.{Store}
+use Rattle.mach_types.specs.declared.user_memory.Write.{Write}
+use Rattle.mach_types.specs.declared.user_memory.Write.TheVariants.{Stored, Zeroed}
 
 -- how many bytes one access has
 abbrev pub IsAccessSize : ℕ → Type 0
@@ -48,3 +50,18 @@ stored s byte a = option_map (byte_over s a) (byte a)
 -- the byte at an address after a store that was made, or was refused
 abbrev pub after_write : Bool → Store → (ℕ → Option ℕ) → ℕ → Option ℕ
 after_write made s byte a = if made then stored s byte a else byte a
+
+-- the byte at an address after a write, over what was there
+abbrev pub byte_after : Write → ℕ → ℕ → ℕ
+byte_after (Stored s) a below = byte_over s a below
+byte_after (Zeroed at n) a below = if nat_le at a && nat_lt a (at + n) then 0 else below
+
+-- the byte at an address after these writes in order
+abbrev pub written : List Write → ℕ → ℕ → ℕ
+written [] a below = below
+written (w ∷ ws) a below = written ws a (byte_after w a below)
+
+-- stores as writes
+abbrev pub all_stored : List Store → List Write
+all_stored [] = []
+all_stored (s ∷ ss) = Stored s ∷ all_stored ss

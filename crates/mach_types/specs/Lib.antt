@@ -1,4 +1,5 @@
 pub mod Bytes
 pub mod Events
+pub mod Kernel
 pub mod Limits
 pub mod Registers

@@ -1,9 +1,5 @@
 //! Words of the kernel's interface.
 
-/// An error number of Linux, as a positive number: 14 for EFAULT.
-#[derive(Clone, Copy, Debug, PartialEq, Eq, Drop)]
-pub struct Errno(pub u16);
-
 /// A registered rseq area: its address and the signature that it was registered with (rseq(2)).
 #[derive(Clone, Copy, Debug, PartialEq, Eq, Drop)]
 pub struct Area {
@@ -12,3 +8,9 @@ pub struct Area {
     /// The word that must stand before an abort handler.
     pub sig: u32,
 }
+
+/// How many bytes the console holds (own).
+pub const CONSOLE_ROOM: u64 = 65_536;
+
+/// How many threads may live at a time (own).
+pub const MOST_THREADS: u8 = 64;

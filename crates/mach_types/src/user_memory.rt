@@ -14,6 +14,25 @@ pub struct Store {
     pub value: u64,
 }
 
+/// How many stores of a hart can wait (own).
+pub const STORE_BUFFER_CAPACITY: u8 = 8;
+
+/// One write that enters memory.
+#[derive(Clone, Copy, Debug, PartialEq, Eq, Drop)]
+pub enum Write {
+    /// The bytes of a store.
+    Stored(Store),
+    /// Zeros from the address `at` on, `length` of them: pages that are mapped.
+    Zeroed { at: u64, length: u64 },
+}
+
+impl Default for Write {
+    /// No bytes.
+    fn default() -> Write {
+        Write::Zeroed { at: 0, length: 0 }
+    }
+}
+
 /// Memory as a program sees it: bytes that can be read, some of which can be written.
 ///
 /// A size is 1, 2, 4 or 8. An access whose last byte would pass 2^64 - 1 is neither readable nor writable.

@@ -1,18 +1,21 @@
-pub mod Appends
-pub mod Booted
-pub mod Fetches
-pub mod Gathered
-pub mod Instructions
-pub mod Loaded
-pub mod Locals
-pub mod Lookups
-pub mod Losing
-pub mod Moving
-pub mod OneMore
-pub mod Places
-pub mod Planning
-pub mod Regions
-pub mod Sighted
-pub mod Starting
-pub mod Stores
-pub mod Turns
+mod Calling
+mod Draining
+mod Entries
+mod Events
+mod Executed
+mod Fetches
+mod HartEvents
+mod HartTies
+mod KernelTies
+mod Leaving
+mod Lookups
+mod Losing
+mod MemoryTies
+mod NotStuck
+mod Performing
+mod Places
+mod Planning
+mod Readings
+mod Sighted
+mod Starting
+mod Stepping

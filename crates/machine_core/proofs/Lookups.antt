@@ -8,7 +8,7 @@ use Rattle.std.specs.List.Sorted.{IsStrictlyIncreasing, IsBinarySearchResult}
 use Rattle.std.proofs.lemmas.Bool.{ne_eqb, cases_eq, cases_lt, lt-ltb, le-ltb, ltb-false, eqb-true}
 use Rattle.std.proofs.lemmas.List.Sorted.{searched}
 use Rattle.elf_load.specs.declared.image.ImagePage.{ImagePage}
-use Rattle.block_model.specs.Layout.{page_of}
+use Rattle.elf_load.specs.Start.{page_of}
 
 -- among rising numbers, a later one is greater
 pub rises : (xs : List ℕ) (i j : ℕ) → IsStrictlyIncreasing xs → i < j → j < length xs → get_or xs i 0 < get_or xs j 0

@@ -1,70 +1,75 @@
--- What is read of one hart, as looking back says it.
-use Rattle.std.proofs.Common.{◌≡◌, ℕ, ◌<◌, ◌&&◌, refl, sym, ap, ◌∙◌, arith, not, Bool, true, false, Option, Some, None, is_some, is_none, is_ok}
-use Rattle.std.specs.Prelude.{IfSome}
+-- What a scheduler sees of a hart, told by the hart's state.
+use Rattle.std.proofs.Common.{◌≡◌, ℕ, ◌&&◌, List, length, sym, ap, ◌∙◌, refl, not, Bool, true, false, if◌then◌else◌, is_none, is_some, Option, Some, None}
 use Rattle.std.specs.Option.{option_map, option_map_or}
-use Rattle.mach_types.specs.Bytes.{word_at}
-use Rattle.mach_types.specs.declared.events.Choice.TheVariants as asked
-use Rattle.mach_types.specs.declared.events.Hart.{Hart}
-use Rattle.mach_types.specs.declared.events.Why.{Why}
-use Rattle.hart_state.specs.declared.hart.HartState.{HartState}
+use Rattle.mach_types.specs.declared.events.Sight.{Sight}
+use Rattle.mach_types.specs.declared.events.Tid.{Tid}
+use Rattle.mach_types.specs.declared.events.Why.TheVariants.{Idle}
+use Rattle.mach_types.specs.declared.threads.Saved.{Saved}
+use Rattle.elf_load.specs.declared.image.ImagePage.{ImagePage}
 use Rattle.hart_state.specs.State.{exec_refusal}
-use Rattle.rv_inst.specs.Execution.{seen_byte}
-use Rattle.rv_inst.specs.Sizes.{HasAccessSizes}
-use Rattle.block_model.specs.Instruction.{next_effect, next_fault}
-use Rattle.block_model.specs.Setting.{Setting, Seen}
-use Rattle.block_model.specs.History.{History, running, file, waiting, view, memory, is_writable}
-use Rattle.block_model.specs.Deciding.{decide_on}
-use Rattle.block_model.specs.Sights.{is_local_on}
-use Rattle.block_model.proofs.Settled.{settled}
-use Rattle.machine_core.specs.declared.machine.Machine.TheInside.{Inside}
-use Rattle.machine_core.specs.declared.next.Next.{Next}
-use Rattle.machine_core.specs.Harts.{file_of, thread, IsHart}
-use Rattle.machine_core.specs.Locals.{sets_register}
-use Rattle.machine_core.specs.Region.{Region, byte_in, can_write_in}
-use Rattle.machine_core.specs.Tied.{IsMachine, setting_of, seen}
-use Rattle.machine_core.proofs.Locals.{next_local}
-use Rattle.machine_core.proofs.Places.{history_of, decide_exec}
-use Rattle.machine_core.proofs.Planning.{HartPlace, plan_refused, plan_made}
+use Rattle.hart_state.specs.declared.hart.HartState.{HartState}
+use Rattle.rv_inst.proofs.Laws.{local-rows}
+use Rattle.rv_inst.specs.Class.{sets_register}
+use Rattle.rv_inst.specs.Execution.{instruction_gate}
+use Rattle.rv_inst.specs.Local.{is_register_only}
+use Rattle.rv_inst.specs.Meaning.{meaning}
+use Rattle.rv_inst.specs.declared.instruction.Inst.{Inst}
+use Rattle.block_model.specs.Events.Exec.{refusal_exec, refusal_exec_by}
+use Rattle.block_model.specs.Here.{Here, is_writable, memory, runs}
+use Rattle.block_model.specs.Instruction.{fault_by, fetched, instruction_of, next_effect, next_fault, next_instruction}
+use Rattle.block_model.specs.Sights.{effect_here, effect_on, is_local_on, thread}
+use Rattle.machine_core.specs.Harts.{file_of, file_on, hart_in}
 
--- a hart of the machine that was read
-pub read_place : (m : Inside) (v : Seen) (h : Hart) (x : HartState) → seen m ≡ v → IsMachine m → h.0 < v.setting.limits.harts → IsHart (setting_of m) (history_of m) h.0 x → HartPlace m h x
-read_place m v h x is machine below here = record {
-  within = omega (arith, machine.tied.all_harts, ap (λ (w : Seen). w.setting.limits.harts) is);
-  here = here;
-  settled = settled (setting_of m) (history_of m) machine.run;
-}
+-- the effect that is read from the file of a hart with a thread
+effect_by : (here : Here) (o : Option ℕ) → is_some (option_map thread o) ≡ true → next_effect here.setting.program.pages (file_on here o) ≡ effect_on here o
+effect_by here None busy = cc
+effect_by here (Some t) busy = refl
 
--- a word behind the hart's waiting stores is that of its view
-pub look_is : (s : Setting) (before : History) (h : ℕ) (x : HartState) (m : Region) (at size : ℕ) → IsHart s before h x → byte_in m ≡ memory s before → word_at (seen_byte x.buffer (byte_in m)) at size ≡ word_at (view s before h) at size
-look_is s before h x m at size here bytes =
-    ap (λ ws. word_at (seen_byte ws (byte_in m)) at size) here.buffer ∙ ap (λ (b : ℕ → Option ℕ). word_at (seen_byte (waiting h before) b) at size) bytes
+pub effect_read : (here : Here) (x : HartState) (n k : ℕ) → x ≡ hart_in here n k → is_some x.running ≡ true → next_effect here.setting.program.pages (file_of x) ≡ effect_here here
+effect_read here x n k is busy =
+    ap (λ (y : HartState). next_effect here.setting.program.pages (file_of y)) is
+    ∙ effect_by here (runs here) (sym (ap (λ (y : HartState). is_some y.running) is) ∙ busy)
 
--- an instruction that may be executed is one whose entry is decided
-enabled_by : (m : Inside) (h : Hart) (x : HartState) (next : Next) (w : Option Why) → HartPlace m h x → IsMachine m → next.effect ≡ next_effect (setting_of m).pages (file_of x) →
-    next.fault ≡ next_fault (setting_of m).pages (byte_in m.memory) (can_write_in m.memory) (file_of x) → IfSome next.effect HasAccessSizes → exec_refusal x next.effect (is_some next.fault) ≡ w →
-    is_none w ≡ is_ok (decide_on (setting_of m) (history_of m) h.0 asked.Exec (running h.0 (history_of m)))
-enabled_by m h x next None p machine effect-is fault-eq sizes is =
-    let plan = plan_made m h x next p machine effect-is fault-eq sizes is in
-    ap is_ok (sym (decide_exec (setting_of m) (history_of m) h x p.here plan.runs plan.gate))
-enabled_by m h x next (Some why) p machine effect-is fault-eq sizes is =
-    ap is_ok (sym (plan_refused m h x next why p machine effect-is fault-eq is))
+-- a hart is idle where no thread runs on it
+idle_by : (o : Option ℕ) → not (is_some (option_map thread o)) ≡ is_none o
+idle_by None = refl
+idle_by (Some t) = refl
 
-pub plan_enabled : (m : Inside) (h : Hart) (x : HartState) (next : Next) → HartPlace m h x → IsMachine m → next.effect ≡ next_effect (setting_of m).pages (file_of x) →
-    next.fault ≡ next_fault (setting_of m).pages (byte_in m.memory) (can_write_in m.memory) (file_of x) → IfSome next.effect HasAccessSizes →
-    is_none (exec_refusal x next.effect (is_some next.fault)) ≡ is_ok (decide_on (setting_of m) (history_of m) h.0 asked.Exec (running h.0 (history_of m)))
-plan_enabled m h x next p machine effect-is fault-eq sizes = enabled_by m h x next _ p machine effect-is fault-eq sizes refl
+pub idle_read : (here : Here) (x : HartState) (n k : ℕ) → x ≡ hart_in here n k → not (is_some x.running) ≡ is_none (runs here)
+idle_read here x n k is = ap (λ (y : HartState). not (is_some y.running)) is ∙ idle_by (runs here)
 
--- whether the next instruction of a hart's thread touches registers alone, told by its effect
-pub local_is : (s : Setting) (before : History) (h : ℕ) (x : HartState) (next : Next) → IsHart s before h x → next.effect ≡ next_effect s.pages (file_of x) →
-    (is_some x.running && option_map_or sets_register next.effect false) ≡ is_local_on s before (running h before)
-local_is s before h x next here effect-is = go (running h before) refl
-  where
-    go : (r : Option ℕ) → running h before ≡ r → (is_some x.running && option_map_or sets_register next.effect false) ≡ is_local_on s before r
-    go None is = let idle : is_some x.running ≡ false = ap is_some (here.runs ∙ ap (option_map thread) is) in rw idle refl
-    go (Some t) is =
-        let busy : is_some x.running ≡ true = ap is_some (here.runs ∙ ap (option_map thread) is) in
-        rw busy (ap (λ e. option_map_or sets_register e false) (effect-is ∙ ap (next_effect s.pages) (here.file t is))
-        ∙ sym (next_local (memory s before) (is_writable s) s.pages (file s t before)))
+-- the condition of an instruction that fails
+gate_by : (here : Here) (o : Option ℕ) →
+    (if is_some (option_map thread o)
+    then instruction_gate (length here.waiting) (next_effect here.setting.program.pages (file_on here o)) (is_some (next_fault here.setting.program.pages (memory here) (is_writable here) (file_on here o)))
+    else Some Idle) ≡ refusal_exec_by here o
+gate_by here None = refl
+gate_by here (Some t) = refl
+
+pub gate_read : (here : Here) (x : HartState) (n k : ℕ) (byte : ℕ → Option ℕ) (writable : ℕ → Bool) → x ≡ hart_in here n k → byte ≡ memory here → writable ≡ is_writable here →
+    exec_refusal x (next_effect here.setting.program.pages (file_of x)) (is_some (next_fault here.setting.program.pages byte writable (file_of x))) ≡ refusal_exec here
+gate_read here x n k byte writable is bytes writables =
+    ap (λ (y : HartState). exec_refusal y (next_effect here.setting.program.pages (file_of y)) (is_some (next_fault here.setting.program.pages byte writable (file_of y)))) is
+    ∙ ap (λ (b : ℕ → Option ℕ). exec_refusal (hart_in here n k) (next_effect here.setting.program.pages (file_of (hart_in here n k))) (is_some (next_fault here.setting.program.pages b writable (file_of (hart_in here n k))))) bytes
+    ∙ ap (λ (w : ℕ → Bool). exec_refusal (hart_in here n k) (next_effect here.setting.program.pages (file_of (hart_in here n k))) (is_some (next_fault here.setting.program.pages (memory here) w (file_of (hart_in here n k))))) writables
+    ∙ gate_by here (runs here)
+
+-- an instruction touches registers alone, and has no fault, where its effect sets a register and does no more
+row_local : (byte : ℕ → Option ℕ) (writable : ℕ → Bool) (word : Option ℕ) (f : Saved) (o : Option Inst) →
+    option_map_or sets_register (option_map (λ i. meaning i f.file f.pc) o) false ≡ (option_map_or is_register_only o false && is_none (fault_by byte writable f.pc word (option_map (λ i. meaning i f.file f.pc) o)))
+row_local byte writable word f None = refl
+row_local byte writable word f (Some i) = sym (local-rows i f.file f.pc byte writable)
+
+pub next_local : (byte : ℕ → Option ℕ) (writable : ℕ → Bool) (pages : List ImagePage) (f : Saved) →
+    option_map_or sets_register (next_effect pages f) false ≡ (option_map_or is_register_only (next_instruction pages f) false && is_none (next_fault pages byte writable f))
+next_local byte writable pages f = row_local byte writable (fetched pages f.pc) f (instruction_of (fetched pages f.pc))
+
+local_by : (here : Here) (o : Option ℕ) → (is_some (option_map thread o) && option_map_or sets_register (next_effect here.setting.program.pages (file_on here o)) false) ≡ is_local_on here o
+local_by here None = refl
+local_by here (Some t) = next_local (memory here) (is_writable here) here.setting.program.pages (here.file t)
+
+pub local_read : (here : Here) (x : HartState) (n k : ℕ) → x ≡ hart_in here n k → (is_some x.running && option_map_or sets_register (next_effect here.setting.program.pages (file_of x)) false) ≡ is_local_on here (runs here)
+local_read here x n k is = ap (λ (y : HartState). is_some y.running && option_map_or sets_register (next_effect here.setting.program.pages (file_of y)) false) is ∙ local_by here (runs here)
 
 -- a test that is made on a hart with a thread alone
 pub tested : (busy idle answer test : Bool) → idle ≡ not busy → idle ≡ false → answer ≡ test → answer ≡ (busy && test)
@@ -75,13 +80,46 @@ pub untested : (busy idle answer test : Bool) → idle ≡ not busy → idle ≡
 untested true idle answer test is on same = cc
 untested false idle answer test is on same = cc
 
--- a hart without a thread is idle
-pub idle_is : (o : Option ℕ) → not (is_some (option_map thread o)) ≡ is_none o
-idle_is None = refl
-idle_is (Some t) = refl
+-- a hart that isn't idle has a thread
+pub is_busy : (o : Option Tid) (idle : Bool) → idle ≡ not (is_some o) → idle ≡ false → is_some o ≡ true
+is_busy None idle is off = cc
+is_busy (Some t) idle is off = refl
 
 pub none_is : {X : Type 0} (o : Option X) (b : Bool) → is_some o ≡ not b → b ≡ is_none o
 none_is None true e = refl
 none_is None false e = cc
 none_is (Some x) true e = cc
 none_is (Some x) false e = refl
+
+-- a thread is known by its number
+pub numbered : (o : Option Tid) → o ≡ option_map thread (option_map (λ (t : Tid). t.0) o)
+numbered None = refl
+numbered (Some t) = refl
+
+-- a sight, field by field
+abbrev pub sight_by : Bool → Option Tid → ℕ → Bool → Bool → ℕ → ℕ → Sight
+sight_by idle first stores enabled is_local ran credit = record {
+  idle = idle;
+  first_ready = first;
+  in_barrier = false;
+  all_taken = false;
+  requested = false;
+  stores = stores;
+  deliverable = false;
+  exec_enabled = enabled;
+  local = is_local;
+  ran = ran;
+  credit = credit;
+}
+
+pub record AreSame (a b : Sight) : Type 0 where
+  pub idle : a.idle ≡ b.idle
+  pub first_ready : a.first_ready ≡ b.first_ready
+  pub stores : a.stores ≡ b.stores
+  pub exec_enabled : a.exec_enabled ≡ b.exec_enabled
+  pub local : a.local ≡ b.local
+  pub ran : a.ran ≡ b.ran
+  pub credit : a.credit ≡ b.credit
+
+pub same_sight : (i i' : Bool) (f f' : Option Tid) (s s' : ℕ) (e e' l l' : Bool) (r r' c c' : ℕ) → AreSame (sight_by i f s e l r c) (sight_by i' f' s' e' l' r' c') → sight_by i f s e l r c ≡ sight_by i' f' s' e' l' r' c'
+same_sight i i' f f' s s' e e' l l' r r' c c' same = rw (same.idle, same.first_ready, same.stores, same.exec_enabled, same.local, same.ran, same.credit) refl

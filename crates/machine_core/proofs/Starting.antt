@@ -1,53 +1,77 @@
 -- A machine that has done nothing yet.
-use Rattle.std.proofs.Common.{◌≡◌, ℕ, zero, suc, arith, List, [], ◌∷◌, length, refl, sym, subst, Some, None, slice_get}
+use Rattle.std.proofs.Common.{◌≡◌, ℕ, nat_eq, zero, suc, ◌/◌, ◌<◌, arith, List, [], ◌∷◌, length, map, refl, sym, ap, ◌∙◌, cond, Bool, true, false, Option, Some, None, slice_get}
 use Rattle.std.specs.List.{All}
 use Rattle.std.proofs.lemmas.Option.{same_Some}
+use Rattle.std.specs.Option.{option_and_then}
+use Rattle.mach_types.specs.Kernel.Pages.{can_read, can_write, is_in, permission_of}
 use Rattle.mach_types.specs.declared.limits.Limits.{Limits}
+use Rattle.mach_types.specs.declared.threads.Saved.{Saved}
+use Rattle.elf_load.specs.Images.{IsPermission}
+use Rattle.elf_load.specs.Start.{image_run, program_of, return_run, stack_run, start_byte, start_file, start_runs}
 use Rattle.elf_load.specs.declared.image.Image.{Image}
-use Rattle.hart_state.specs.declared.hart.HartState.{HartState}
+use Rattle.elf_load.specs.declared.image.ImagePage.{ImagePage}
 use Rattle.hart_state.specs.State.{idle_hart}
+use Rattle.kernel_threads.specs.Table.{IsTable, saved_of, start_table}
+use Rattle.page_map.specs.Map.{byte_in, may_write, permission_in}
+use Rattle.page_map.proofs.Laws.{write_alone}
+use Rattle.block_model.specs.Kernel.{first_kernel}
+use Rattle.block_model.specs.Plain.{plain_start}
 use Rattle.block_model.specs.Setting.{Setting, setting_of as setting_by}
-use Rattle.block_model.specs.History.{memory, is_writable, file_from}
-use Rattle.machine_core.specs.declared.machine.Saved.{Saved}
-use Rattle.machine_core.specs.Parts.{saved_file}
-use Rattle.machine_core.specs.Region.{Region, byte_in, can_write_in}
-use Rattle.machine_core.specs.Harts.{IsHart}
+use Rattle.machine_core.specs.Harts.{hart_at}
 use Rattle.machine_core.specs.Tied.{IsTied}
+use Rattle.machine_core.specs.declared.parts.Parts.{Parts}
 use mathlib.Core.Path.{fun_ext}
 
--- what holds of each element holds of one that is found
-found : {X : Type 0} (P : X → Type 0) (xs : List X) (i : ℕ) (x : X) → All P xs → slice_get xs i ≡ Some x → P x
-found P [] i x all is = cc
-found P (y ∷ xs) zero x all is = subst P (same_Some y x is) (all zero y (omega arith))
-found P (y ∷ xs) (suc i) x all is = found P xs i x (λ k d lt. all (suc k) d (omega arith)) is
+-- where all elements are one, each place has that one
+each : {X : Type 0} (x : X) (xs : List X) (i : ℕ) → All (λ y. y ≡ x) xs → i < length xs → slice_get xs i ≡ Some x
+each x [] i all lt = absurd (omega arith)
+each x (y ∷ ys) zero all lt = ap Some (all zero y (omega arith))
+each x (y ∷ ys) (suc i) all lt = each x ys i (λ k d less. all (suc k) d (omega arith)) (omega arith)
 
--- an idle hart is what looking back on nothing says
-idle : (s : Setting) (h : ℕ) → IsHart s [] h idle_hart
-idle s h = record {
-  buffer = refl;
-  runs = refl;
-  file = λ t r. cc;
-  reserved = refl;
-  waits = refl;
-  requests = refl;
-  restart = refl;
-  cid = refl;
-  ran = refl;
-  events = refl;
-}
+-- an idle hart is what the plain machine says at its start
+idle : (s : Setting) (h : ℕ) → idle_hart ≡ hart_at s (plain_start s) h
+idle s h = refl
 
-pub tied-start : (image : Image) (limits : Limits) (seed : ℕ) (m : Region) (harts : List HartState) (kept : Saved) →
-    ((limits : Limits) (seed a : ℕ) → byte_in m a ≡ memory (setting_by image limits seed) [] a) →
-    ((limits : Limits) (seed a : ℕ) → can_write_in m a ≡ is_writable (setting_by image limits seed) a) →
-    length harts ≡ limits.harts → All (λ hart. hart ≡ idle_hart) harts → saved_file kept ≡ file_from image.entry →
-    IsTied (setting_by image limits seed) [] m harts kept None [] None
-tied-start image limits seed m harts kept bytes writable count idles saved = record {
-  bytes = fun_ext (λ a. bytes limits seed a);
-  writable = fun_ext (λ a. writable limits seed a);
+alone_if : (b : Bool) (p : ℕ) (o : Option ℕ) → may_write (Some p) ≡ can_write (Some p) → may_write o ≡ can_write o → may_write (cond b (Some p) o) ≡ can_write (cond b (Some p) o)
+alone_if true p o one other = one
+alone_if false p o one other = other
+
+-- whoever may write to a page may read it
+image_alone : (pages : List ImagePage) (n : ℕ) → All (λ p. IsPermission p.perm) pages → may_write (permission_of (map image_run pages) n) ≡ can_write (permission_of (map image_run pages) n)
+image_alone [] n allowed = refl
+image_alone (p ∷ pages) n allowed =
+    alone_if (is_in (image_run p) n) p.perm (permission_of (map image_run pages) n) (write_alone p.perm (allowed 0 p (omega arith)))
+    (image_alone pages n (λ k d lt. allowed (suc k) d (omega arith)))
+
+start_alone : (pages : List ImagePage) (n : ℕ) → All (λ p. IsPermission p.perm) pages → may_write (permission_of (start_runs pages) n) ≡ can_write (permission_of (start_runs pages) n)
+start_alone pages n allowed =
+    alone_if (is_in stack_run n) 6 (cond (is_in return_run n) (Some 5) (permission_of (map image_run pages) n)) refl
+    (alone_if (is_in return_run n) 5 (permission_of (map image_run pages) n) refl (image_alone pages n allowed))
+
+-- the thread at its start is all that is saved
+saved_if : (b : Bool) (start x : Saved) → option_and_then (λ pair. pair.1) (cond b (let first : Option (ℕ × Option Saved) = Some (1, Some start) in first) None) ≡ Some x → x ≡ start
+saved_if true start x is = sym (same_Some start x is)
+saved_if false start x is = cc
+
+saved_start : (start : Saved) (u : ℕ) (x : Saved) → saved_of u (start_table start).saved ≡ Some x → x ≡ start
+saved_start start u x is = saved_if (nat_eq 1 u) start x is
+
+-- a machine at its start is tied to the plain machine at its start
+pub tied-start : (image : Image) (limits : Limits) (seed : ℕ) (m : Parts) → All (λ p. IsPermission p.perm) image.pages.items →
+    ((n : ℕ) → permission_in m.pages n ≡ permission_of (start_runs image.pages.items) n) →
+    ((a : ℕ) → byte_in m.pages a ≡ cond (can_read (permission_of (start_runs image.pages.items) (a / 4096))) (Some (start_byte (program_of image) a)) None) →
+    length m.harts.items ≡ limits.harts → All (λ hart. hart ≡ idle_hart) m.harts.items →
+    m.kernel.threads ≡ start_table (start_file (program_of image)) → m.kernel.ready ≡ (first_kernel (setting_by image limits seed)).scheduling → m.kernel.console ≡ [] → IsTable m.kernel.threads → m.ended ≡ None →
+    IsTied (setting_by image limits seed) (plain_start (setting_by image limits seed)) m
+tied-start image limits seed m allowed permissions bytes count idles threads ready console table ended = record {
   all_harts = count;
-  each_hart = λ h x is. subst (IsHart (setting_by image limits seed) [] h) (sym (found (λ hart. hart ≡ idle_hart) harts h x idles is)) (idle (setting_by image limits seed) h);
-  saved = λ nowhere. saved;
-  placed = refl;
-  console = refl;
-  ended = refl;
+  harts = λ h lt. each idle_hart m.harts.items h idles (omega (arith, count)) ∙ ap Some (idle (setting_by image limits seed) h);
+  bytes = fun_ext bytes;
+  writable = fun_ext (λ a. ap may_write (permissions (a / 4096)) ∙ start_alone image.pages.items (a / 4096) allowed);
+  threads = ap (λ t. t.threads) threads;
+  scheduling = ready;
+  console = console;
+  table = table;
+  saved = λ u x is. saved_start (start_file (program_of image)) u x (ap (λ t. saved_of u t.saved) (sym threads) ∙ is);
+  ended = ended;
 }

@@ -1,28 +1,83 @@
--- How what a machine keeps is tied to its log.
-use Rattle.std.specs.Prelude.{ℕ, ◌≡◌, ◌≤◌, List, length, Option, Some, None, slice_get, vec_capacity}
-use Rattle.std.specs.Option.{option_map}
-use Rattle.mach_types.specs.declared.events.Hart.{Hart}
+-- How what a machine keeps is tied to its log, by way of the plain machine.
+use Rattle.std.specs.Prelude.{ℕ, ◌≡◌, ◌≤◌, ◌<◌, List, length, Option, Some, None, Result, Ok, Err, slice_get, vec_capacity}
 use Rattle.mach_types.specs.Limits.{InRange}
-use Rattle.mach_types.specs.declared.limits.End.{End}
-use Rattle.hart_state.specs.declared.hart.HartState.{HartState}
+use Rattle.mach_types.specs.declared.events.Choice.{Choice}
+use Rattle.mach_types.specs.declared.events.Entry.{Entry}
+use Rattle.mach_types.specs.declared.events.Why.{Why}
+use Rattle.elf_load.specs.declared.image.ImagePage.{ImagePage}
+use Rattle.kernel_threads.specs.Table.{IsTable}
+use Rattle.page_map.specs.Map.{byte_in, can_write_in}
+use Rattle.sys_calls.specs.Made.{AreSaved}
 use Rattle.block_model.specs.Setting.{Setting, Seen}
-use Rattle.block_model.specs.History.{History, memory, is_writable, hart_of, file, console, ended}
-use Rattle.block_model.specs.Deciding.{history}
+use Rattle.block_model.specs.Here.{Done, memory_in, writable_in}
+use Rattle.block_model.specs.Events.{refusal_of, done_of}
+use Rattle.block_model.specs.Plain.{Plain, apply, here_of, plain_over, plain_seen}
+use Rattle.block_model.specs.Deciding.{entry_in}
 use Rattle.block_model.specs.Run.{IsBlockRun}
-use Rattle.machine_core.specs.Harts.{IsHart}
-use Rattle.machine_core.specs.Parts.{saved_file}
-use Rattle.machine_core.specs.Region.{Region, byte_in, can_write_in}
-use Rattle.machine_core.specs.declared.machine.Saved.{Saved}
+use Rattle.machine_core.specs.Harts.{hart_at}
+use Rattle.machine_core.specs.declared.parts.Parts.{Parts}
 use Rattle.machine_core.specs.declared.machine.Machine.TheInside.{Inside}
+
+-- each part is that of the plain machine: the harts; memory; the threads with their files, the ready list and the console; and
+-- how the run has ended
+pub record IsTied (s : Setting) (p : Plain) (m : Parts) : Type 0 where
+  pub all_harts : length m.harts.items ≡ s.limits.harts
+  pub harts : (h : ℕ) → h < s.limits.harts → slice_get m.harts.items h ≡ Some (hart_at s p h)
+  pub bytes : byte_in m.pages ≡ memory_in p.kernel p.byte
+  pub writable : can_write_in m.pages ≡ writable_in p.kernel
+  pub threads : m.kernel.threads.threads ≡ p.kernel.threads
+  pub scheduling : m.kernel.ready ≡ p.kernel.scheduling
+  pub console : m.kernel.console ≡ p.kernel.console
+  pub table : IsTable m.kernel.threads
+  pub saved : AreSaved p.file m.kernel.threads
+  pub ended : m.ended ≡ plain_over p
+
+-- a place at which the parts stand: a block run that goes on, with room for one more event, and a hart of the machine
+pub record IsPlace (v : Seen) (m : Parts) (h : ℕ) : Type 0 where
+  pub run : IsBlockRun v.setting v.log
+  pub tied : IsTied v.setting (plain_seen v) m
+  pub limits : InRange v.setting.limits
+  pub goes : plain_over (plain_seen v) ≡ None
+  pub room : length v.log < v.setting.limits.steps
+  pub lt : h < v.setting.limits.harts
+
+-- there is such a place; and there is one on a machine with these pages of code
+pub record HasPlace (m : Parts) (h : ℕ) : Type 0 where
+  pub seen : Seen
+  pub place : IsPlace seen m h
+
+pub record HasCode (code : List ImagePage) (m : Parts) (h : ℕ) : Type 0 where
+  pub seen : Seen
+  pub place : IsPlace seen m h
+  pub pages : code ≡ seen.setting.program.pages
+
+-- there is such a place, and a choice is allowed there
+pub record MayMake (m : Parts) (h : ℕ) (c : Choice) : Type 0 where
+  pub seen : Seen
+  pub place : IsPlace seen m h
+  pub free : refusal_of c (here_of seen h) ≡ None
+
+-- what is answered to a choice: its entry, unless a condition fails
+abbrev pub answered : Entry → Option Why → Result Entry Why
+answered entry None = Ok entry
+answered entry (Some why) = Err why
+
+abbrev pub answer_to : Seen → ℕ → Choice → Result Entry Why
+answer_to v h c = answered (entry_in c (here_of v h)) (refusal_of c (here_of v h))
+
+-- the parts after an event of hart h that did this
+abbrev pub IsAfter : Seen → ℕ → Done → Parts → Type 0
+IsAfter v h d m = IsTied v.setting (apply h d (plain_seen v)) m
+
+-- at each place where the choice is allowed this is its entry, and the parts are those after its event
+pub record IsEvent (m : Parts) (h : ℕ) (c : Choice) (made : Entry) (m' : Parts) : Type 0 where
+  pub entry : (v : Seen) → IsPlace v m h → refusal_of c (here_of v h) ≡ None → made ≡ entry_in c (here_of v h)
+  pub after : (v : Seen) → IsPlace v m h → refusal_of c (here_of v h) ≡ None → IsAfter v h (done_of c (here_of v h)) m'
 
 -- the setting that a machine keeps
 abbrev pub setting_of : Inside → Setting
 setting_of m = record {
-  pages = m.code;
-  entry = m.entry;
-  phdr = m.phdr;
-  phnum = m.phnum;
-  break_at = m.break_at;
+  program = record { pages = m.code; entry = m.entry; phdr = m.phdr; phnum = m.phnum; break_at = m.break_at };
   limits = m.limits;
   seed = m.seed;
 }
@@ -31,20 +86,9 @@ setting_of m = record {
 abbrev pub seen : Inside → Seen
 seen m = record { setting = setting_of m; log = m.log.items }
 
--- memory, the harts, the saved file, the console and the end are those of the log
-pub record IsTied (s : Setting) (before : History) (m : Region) (harts : List HartState) (kept : Saved) (spot : Option Hart) (held : List ℕ) (over : Option End) : Type 0 where
-  pub bytes : byte_in m ≡ memory s before
-  pub writable : can_write_in m ≡ is_writable s
-  pub all_harts : length harts ≡ s.limits.harts
-  pub each_hart : (h : ℕ) (x : HartState) → slice_get harts h ≡ Some x → IsHart s before h x
-  pub saved : hart_of 1 before ≡ None → saved_file kept ≡ file s 1 before
-  pub placed : option_map (λ (h : Hart). h.0) spot ≡ hart_of 1 before
-  pub console : held ≡ console before
-  pub ended : over ≡ ended before
-
--- the log is a block run to which the rest is tied, and has room for every step
+-- the log is a block run to which the parts are tied, and has room for every step
 pub record IsMachine (m : Inside) : Type 0 where
   pub run : IsBlockRun (setting_of m) m.log.items
-  pub tied : IsTied (setting_of m) (history (setting_of m) m.log.items) m.memory m.harts.items m.saved m.placed m.console m.ended
+  pub tied : IsTied (setting_of m) (plain_seen (seen m)) m.parts
   pub limits : InRange m.limits
   pub room : m.limits.steps ≤ vec_capacity m.log

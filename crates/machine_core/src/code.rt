@@ -3,21 +3,14 @@
 ghost use Rattle.std.specs.Prelude.{◌≡◌, ◌≢◌, ℕ, ◌<◌, ◌≤◌, ◌+◌, ◌%◌, Some, IfOk, IfSome, IfNone, map, length, slice_index};
 ghost use Rattle.std.specs.Option.{option_copied};
 ghost use Rattle.std.specs.List.Sorted.{IsStrictlyIncreasing};
-ghost use Rattle.block_model.specs.Layout.{code_word, page_of, return_byte};
-ghost use Rattle.machine_core.specs.Region.{word_in, word_of, word_of_page};
+ghost use Rattle.elf_load.specs.Start.{code_word, page_of, return_byte};
+ghost use Rattle.machine_core.specs.Pages.{word_in, word_of, word_of_page};
 
 use crate::search::place_of;
 use elf_load::ImagePage;
+use mach_types::address_space::{FIRST_STACK_PAGE, RETURN_PAGE, STACK_PAGES};
 use std::alloc::{AllocError, Global};
 use std::marker::Model;
-
-/// The number of the first page of the stack, and how many there are.
-pub const FIRST_STACK_PAGE: u64 = 0x3FF_FF00;
-
-pub const STACK_PAGES: u64 = 64;
-
-/// The number of the page that signal handlers return to.
-pub const RETURN_PAGE: u64 = 0x3FF_FFF0;
 
 /// The pages of an image in rising order of number, with the numbers beside them for a search.
 #[derive(Drop)]

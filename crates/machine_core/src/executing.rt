@@ -1,108 +1,163 @@
-//! What the next instruction does to its hart, to memory and to the console.
+//! `exec`: an instruction, its fault, or a call.
 
-ghost use Rattle.std.specs.Prelude.{◌≡◌, ◌++◌, ℕ, Option, Some, None, is_some, IfSome};
-ghost use Rattle.std.specs.Option.{option_map};
-ghost use Rattle.mach_types.specs.Bytes.{overlay};
-ghost use Rattle.hart_state.specs.State.{exec_refusal};
-ghost use Rattle.rv_inst.specs.Execution.{fault_in, outcome};
-ghost use Rattle.rv_inst.specs.Sizes.{HasAccessSizes};
-ghost use Rattle.block_model.specs.History.{file_among, lost_after};
-ghost use Rattle.machine_core.specs.Harts.{file_of};
-ghost use Rattle.machine_core.specs.Parts.{done_on, lost_in, WasKept};
-ghost use Rattle.machine_core.specs.Region.{byte_in, can_write_in};
+ghost use Rattle.std.specs.Prelude.{◌≡◌, Option, Some, None, false, IfOk, IfErr, OnErr};
+ghost use Rattle.rv_inst.specs.Class.{is_call};
+ghost use Rattle.block_model.specs.Setting.{Seen};
+ghost use Rattle.block_model.specs.Events.{done_of, refusal_of};
+ghost use Rattle.block_model.specs.Plain.{here_of};
+ghost use Rattle.sys_calls.specs.Made.{process_end};
+ghost use Rattle.machine_core.specs.Deeds.{hart_after_call, over_after};
+ghost use Rattle.machine_core.specs.Planned.{IsPlanned, HasPlan, IsExecuted};
+ghost use Rattle.machine_core.specs.Tied.{IsPlace, HasCode, IsAfter, answer_to};
 
-use crate::console::{Console, call};
-use crate::memory::Memory;
-use crate::next::Next;
-use hart_state::HartState;
-use mach_types::End;
+use crate::code::Code;
+use crate::next::{Next, next_of};
+use crate::parts::{Parts, entry_of};
+use crate::reservations::lose_others;
+use hart_state::{HartState, Span};
+use mach_types::{Choice, End, Entry, Hart, Kind, Saved, Store, Why, Write};
 use rv_inst::Effect;
+use sys_calls::{CallEnd, make_call};
 
-/// Bytes that were written.
-#[derive(Clone, Copy, Debug, Drop)]
-pub struct Touched {
-    pub at: u64,
-    pub size: u8,
-}
-
-/// What an instruction did beside its hart, memory and the console.
-#[derive(Clone, Copy, Debug, Drop)]
-pub struct Executed {
-    pub touched: Option<Touched>,
-    pub ended: Option<End>,
-}
-
-/// The bytes that an instruction writes at once, on a hart with this reservation.
-fn touched_by(effect: &Effect, reserved: Option<u64>) -> Option<Touched>
-    ensures { (seen : ℕ → Option ℕ) (regs : _) (pc : ℕ) (r : Option ℕ) → lost_in result r ≡ lost_after (outcome seen regs pc reserved effect.now).entered r }
+/// The write of an instruction that enters memory at once, by its place: what is written is of no matter to a reservation.
+fn written_at(span: Span) -> Write
+    ensures { result ≡ Write.Stored (record { at = span.at; size = span.size; value = 0 }) }
 {
-    match *effect {
-        Effect::Amo { at, size, .. } => Some(Touched { at, size }),
-        Effect::Sc { at, size, .. } if reserved == Some(at - at % 8) => Some(Touched { at, size }),
-        _ => None,
+    Write::Stored(Store {
+        at: span.at,
+        size: span.size,
+        value: 0,
+    })
+}
+
+impl Parts {
+    /// The next instruction of the thread on a hart, where it may be executed, or the condition that fails.
+    fn planned(&self, code: &Code, hart: Hart) -> Result<Next, Why>
+        requires { HasCode code.now self.now hart.0 }
+        ensures err { (v : Seen) → IsPlace v self.now hart.0 → code.now ≡ v.setting.program.pages
+            → IfErr result (λ why. refusal_of Choice.Exec (here_of v hart.0) ≡ Some why) }
+        ensures ok { (v : Seen) → IsPlace v self.now hart.0 → code.now ≡ v.setting.program.pages → IfOk result (IsPlanned v hart.0) }
+    {
+        let state = &self.harts[hart.0 as usize];
+        let next = next_of(code, &self.pages, state);
+        match state.exec_gate(next.effect.as_ref(), next.fault.is_some()) {
+            Some(why) => Err(why),
+            None => Ok(next),
+        }
     }
-}
 
-/// The call of the thread on a hart.
-fn execute_call(state: &mut HartState, memory: &Memory, console: &mut Console) -> Option<End>
-    ensures file { file_of state.new ≡ file_among (done_on state.old (byte_in memory.now) console.old None (Some Effect.Call)).files 1 (file_of state.old) }
-    ensures reserved { state.new.reserved ≡ None }
-    ensures buffer { state.new.buffer ≡ state.old.buffer }
-    ensures kept { WasKept state.old state.new }
-    ensures console { console.new ≡ console.old ++ (done_on state.old (byte_in memory.now) console.old None (Some Effect.Call)).written }
-    ensures ended { result ≡ (done_on state.old (byte_in memory.now) console.old None (Some Effect.Call)).ended }
-{
-    let called = call(console, memory, &state.file);
-    if let Some(answer) = called.answer {
-        state.file.set(10, answer);
-        state.pc = state.pc.wrapping_add(4);
+    /// A fault: the process is killed by its signal.
+    fn fault(&mut self, hart: Hart, signal: u8) -> Entry
+        requires { (effect : Option Effect) × HasPlan self.old hart.0 (record { effect = effect; fault = Some signal }) }
+        ensures { (effect : Option Effect) → IsExecuted self.old hart.0 (record { effect = effect; fault = Some signal }) result self.new }
+    {
+        let state = &mut self.harts[hart.0 as usize];
+        let entry = entry_of(hart, Kind::Exec, state);
+        state.ran += 1;
+        state.events += 1;
+        self.ended = Some(End::Killed(signal));
+        entry
     }
-    state.reserved = None;
-    called.ended
-}
 
-/// The next instruction of the thread on a hart, where it may be executed.
-pub fn execute(
-    state: &mut HartState,
-    memory: &mut Memory,
-    console: &mut Console,
-    next: Next,
-) -> Executed
-    requires gate { exec_refusal state.old next.effect (is_some next.fault) ≡ None }
-    requires sizes { IfSome next.effect HasAccessSizes }
-    requires fault { next.fault ≡ None → IfSome next.effect (λ e. fault_in (byte_in memory.old) (can_write_in memory.old) e ≡ None) }
-    ensures file { file_of state.new ≡ file_among (done_on state.old (byte_in memory.old) console.old next.fault next.effect).files 1 (file_of state.old) }
-    ensures buffer { state.new.buffer ≡ state.old.buffer ++ (done_on state.old (byte_in memory.old) console.old next.fault next.effect).executed }
-    ensures reserved { state.new.reserved ≡ (done_on state.old (byte_in memory.old) console.old next.fault next.effect).reserved }
-    ensures kept { WasKept state.old state.new }
-    ensures bytes { (a : ℕ) → byte_in memory.new a ≡ option_map (overlay (done_on state.old (byte_in memory.old) console.old next.fault next.effect).entered a) (byte_in memory.old a) }
-    ensures permissions { (a : ℕ) → can_write_in memory.new a ≡ can_write_in memory.old a }
-    ensures console { console.new ≡ console.old ++ (done_on state.old (byte_in memory.old) console.old next.fault next.effect).written }
-    ensures ended { result.ended ≡ (done_on state.old (byte_in memory.old) console.old next.fault next.effect).ended }
-    ensures touched { (r : Option ℕ) → lost_in result.touched r ≡ lost_after (done_on state.old (byte_in memory.old) console.old next.fault next.effect).entered r }
-{
-    if let Some(signal) = next.fault {
-        return Executed {
-            touched: None,
-            ended: Some(End::Killed(signal)),
+    /// An instruction other than a call.
+    fn plain(&mut self, hart: Hart, effect: &Effect) -> Entry
+        requires plan { HasPlan self.old hart.0 (record { effect = Some effect.now; fault = None }) }
+        requires no_call { is_call effect.now ≡ false }
+        ensures { IsExecuted self.old hart.0 (record { effect = Some effect.now; fault = None }) result self.new }
+    {
+        let state = &mut self.harts[hart.0 as usize];
+        let entry = entry_of(hart, Kind::Exec, state);
+        let written = state.enters(effect);
+        state.perform(&mut self.pages, effect);
+        state.ran += 1;
+        state.events += 1;
+        if let Some(span) = written {
+            lose_others(&mut self.harts, hart, &[written_at(span)]);
+        }
+        entry
+    }
+
+    /// How the run has ended after a call: the call ended the process, or a thread is live and none can go on.
+    fn end_after(&self, end: CallEnd) -> Option<End>
+        ensures { result ≡ over_after (process_end end) self.now.kernel.threads.threads }
+    {
+        match end {
+            CallEnd::ProcessEnd(end) => Some(end),
+            _ if self.kernel.threads.is_stuck() => Some(End::Stuck),
+            _ => None,
+        }
+    }
+
+    /// A call.
+    fn call(&mut self, hart: Hart) -> Entry
+        requires { HasPlan self.old hart.0 (record { effect = Some Effect.Call; fault = None }) }
+        ensures { IsExecuted self.old hart.0 (record { effect = Some Effect.Call; fault = None }) result self.new }
+    {
+        let harts = self.harts.len() as u8;
+        let state = &mut self.harts[hart.0 as usize];
+        let entry = entry_of(hart, Kind::Exec, state);
+        let mut saved = Saved {
+            file: state.file,
+            pc: state.pc,
         };
+        let done = make_call(
+            &mut self.kernel,
+            &mut self.pages,
+            hart,
+            0,
+            harts,
+            entry.tid,
+            &mut saved,
+            state.cid,
+        );
+        end_call(state, done.end, saved);
+        state.ran += 1;
+        state.events += 1;
+        lose_others(&mut self.harts, hart, done.written.as_slice());
+        self.ended = self.end_after(done.end);
+        entry
     }
-    match next.effect {
-        None => Executed {
-            touched: None,
-            ended: None,
-        },
-        Some(Effect::Call) => Executed {
-            touched: None,
-            ended: execute_call(state, memory, console),
-        },
-        Some(effect) => {
-            let touched = touched_by(&effect, state.reserved);
-            state.perform(memory, &effect);
-            Executed {
-                touched,
-                ended: None,
-            }
+
+    /// The next instruction of the thread on a hart.
+    fn execute(&mut self, hart: Hart, next: Next) -> Entry
+        requires { HasPlan self.old hart.0 next }
+        ensures { IsExecuted self.old hart.0 next result self.new }
+    {
+        match (next.fault, next.effect) {
+            (Some(signal), _) => self.fault(hart, signal),
+            (None, Some(Effect::Call)) => self.call(hart),
+            (None, Some(effect)) => self.plain(hart, &effect),
+            (None, None) => unreachable!(),
+        }
+    }
+
+    /// `exec`.
+    pub fn exec(&mut self, code: &Code, hart: Hart) -> Result<Entry, Why>
+        requires { HasCode code.now self.old hart.0 }
+        ensures answer { (v : Seen) → IsPlace v self.old hart.0 → code.now ≡ v.setting.program.pages → result ≡ answer_to v hart.0 Choice.Exec }
+        ensures after { (v : Seen) → IsPlace v self.old hart.0 → code.now ≡ v.setting.program.pages
+            → IfOk result (λ e. IsAfter v hart.0 (done_of Choice.Exec (here_of v hart.0)) self.new) }
+        ensures err { OnErr result (self.new ≡ self.old) }
+    {
+        match self.planned(code, hart) {
+            Ok(next) => Ok(self.execute(hart, next)),
+            Err(why) => Err(why),
+        }
+    }
+}
+
+/// The hart after the call of its thread, which left this in its registers: it goes on, or gave up the hart.
+fn end_call(state: &mut HartState, end: CallEnd, saved: Saved)
+    ensures { state.new ≡ hart_after_call end saved state.old }
+{
+    match end {
+        CallEnd::Block | CallEnd::Leave(_) | CallEnd::ThreadEnd => {
+            let _kept = state.leave();
+        }
+        _ => {
+            state.file = saved.file;
+            state.pc = saved.pc;
+            state.reserved = None;
         }
     }
 }

@@ -5,16 +5,17 @@ ghost use Rattle.std.specs.Option.{option_copied, option_map_or};
 ghost use Rattle.rv_inst.specs.Sizes.{HasAccessSizes};
 ghost use Rattle.block_model.specs.Instruction.{fetched as word_fetched, effect_of, fetch_fault as fault_of_fetch, fault_by, next_effect, next_fault};
 ghost use Rattle.machine_core.specs.Harts.{file_of};
-ghost use Rattle.machine_core.specs.Locals.{sets_register};
-ghost use Rattle.machine_core.specs.Region.{byte_in, can_write_in};
+ghost use Rattle.rv_inst.specs.Class.{sets_register};
+ghost use Rattle.page_map.specs.Map.{byte_in, can_write_in};
 
 use crate::code::Code;
-use crate::memory::Memory;
 use hart_state::HartState;
 use mach_types::Regs;
+use mach_types::signals::{SIGBUS, SIGILL, SIGSEGV};
+use page_map::PageMap;
 use rv_decode::decode;
 use rv_exec::effect;
-use rv_inst::Effect;
+use rv_inst::{Effect, asks};
 
 /// What the next instruction of a thread asks for, where it was fetched and has a row, and the signal of its fault.
 #[derive(Clone, Copy, Debug, Drop)]
@@ -22,13 +23,6 @@ pub struct Next {
     pub effect: Option<Effect>,
     pub fault: Option<u8>,
 }
-
-/// SIGILL, SIGBUS and SIGSEGV of Linux.
-const SIGILL: u8 = 4;
-
-const SIGBUS: u8 = 7;
-
-const SIGSEGV: u8 = 11;
 
 /// The word at a pc: instructions stand at multiples of 4.
 fn fetched(code: &Code, pc: u64) -> Option<u32>
@@ -39,7 +33,7 @@ fn fetched(code: &Code, pc: u64) -> Option<u32>
 
 /// The effect of a word, where it has a row.
 fn effect_of_word(word: Option<u32>, regs: &Regs, pc: u64) -> Option<Effect>
-    ensures effect { result ≡ effect_of word (record { pc = pc; regs = regs.now }) }
+    ensures effect { result ≡ effect_of word (record { file = regs.now; pc = pc }) }
     ensures sizes { IfSome result HasAccessSizes }
 {
     let inst = decode(word?)?;
@@ -59,16 +53,16 @@ fn fetch_fault(pc: u64, word: Option<u32>) -> u8
 
 /// The signal of the first fault of an instruction.
 fn fault_of_next(
-    memory: &Memory,
+    pages: &PageMap,
     state: &HartState,
     word: Option<u32>,
     effect: Option<Effect>,
 ) -> Option<u8>
     requires { IfSome effect HasAccessSizes }
-    ensures { result ≡ fault_by (byte_in memory.now) (can_write_in memory.now) state.now.pc word effect }
+    ensures { result ≡ fault_by (byte_in pages.now) (can_write_in pages.now) state.now.pc word effect }
 {
     match effect {
-        Some(effect) => state.fault_of(memory, &effect),
+        Some(effect) => state.fault_of(pages, &effect),
         None => Some(fetch_fault(state.pc, word)),
     }
 }
@@ -84,19 +78,22 @@ pub fn effect_of_next(code: &Code, state: &HartState) -> Option<Effect>
 pub fn is_local(effect: Option<&Effect>) -> bool
     ensures { result ≡ option_map_or sets_register (option_copied effect.entry) false }
 {
-    matches!(effect, Some(Effect::Next { .. }))
+    match effect {
+        Some(effect) => asks(effect).sets_register,
+        None => false,
+    }
 }
 
 /// The next instruction of the thread on a hart.
-pub fn next_of(code: &Code, memory: &Memory, state: &HartState) -> Next
+pub fn next_of(code: &Code, pages: &PageMap, state: &HartState) -> Next
     ensures effect { result.effect ≡ next_effect code.now (file_of state.now) }
-    ensures fault { result.fault ≡ next_fault code.now (byte_in memory.now) (can_write_in memory.now) (file_of state.now) }
+    ensures fault { result.fault ≡ next_fault code.now (byte_in pages.now) (can_write_in pages.now) (file_of state.now) }
     ensures sizes { IfSome result.effect HasAccessSizes }
 {
     let word = fetched(code, state.pc);
     let effect = effect_of_word(word, &state.file, state.pc);
     Next {
         effect,
-        fault: fault_of_next(memory, state, word, effect),
+        fault: fault_of_next(pages, state, word, effect),
     }
 }

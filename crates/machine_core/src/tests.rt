@@ -5,3 +5,5 @@ mod calls;
 mod events;
 mod faults;
 mod readers;
+mod reservations;
+mod threads;

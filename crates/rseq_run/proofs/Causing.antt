@@ -1,5 +1,6 @@
 -- The cause of a fault of `play`, by where it comes.
-use Rattle.std.proofs.Common.{◌≡◌, ℕ, ◌-◌, ◌^◌, ◌<◌, inr, List, refl, sym, arith, Some, Result, Ok, Err, subst, leb, Bool, true, false}
+use Rattle.std.proofs.Common.{◌≡◌, ℕ, ◌-◌, ◌^◌, ◌<◌, inr, List, refl, sym, arith, Some, Result, Ok, Err}
+use Rattle.std.proofs.Common.{subst, leb, Bool, true, false}
 use Rattle.std.proofs.lemmas.Bool.{leb-true, leb-false}
 use Rattle.std.specs.Prelude.{IfErr, IsErrAnd}
 use Rattle.mach_types.specs.declared.limits.Limits.{Limits}
@@ -11,45 +12,71 @@ use Rattle.rseq_run.specs.Causes.{IsCauseOf}
 use Rattle.rseq_run.specs.Delivery.{IsPlayCause, IsScriptCause}
 use Rattle.rseq_run.specs.Programs.{Files, IsProgram, IsScript, IsTooBig, most_script_bytes, start_of}
 use Rattle.rseq_run.specs.Runs.{IsFirstBadLine}
-use Rattle.rseq_run.specs.Words.{Play}
+use Rattle.rseq_run.specs.Grammar.{Play}
 
 -- a count that rose after it didn't fall rose
 rose_later : (old mid new : ℕ) → NeverFalls old mid → NeverFalls mid new → Rose mid new → Rose old new
 rose_later old mid new first second rose = λ below. by_room (leb (2 ^ 64 - 1) mid) refl below
   where
     by_room : (b : Bool) → leb (2 ^ 64 - 1) mid ≡ b → old < 2 ^ 64 - 1 → old < new
-    by_room true full below = let at = leb-true _ _ full in let kept = second.1 at in omega (arith, at, kept, below)
-    by_room false room below = let under = leb-false _ _ room in let more = rose under in omega (arith, more, first.0)
+    by_room true full below = let at = leb-true _ _ full in let kept = second.1 at in
+        omega (arith, at, kept, below)
+    by_room false room below = let under = leb-false _ _ room in let more = rose under in
+        omega (arith, more, first.0)
 
 -- the script isn't read, after the program was taken
-pub script_cause : (files same : Files) (program script : List ℕ) (limits : Limits) (image : Image) (old mid new : List ℕ → ℕ) (fault : Fault) → same ≡ files → IsProgram files program limits image
-    → NoneFalls old mid → NoneFalls mid new → IsScriptCause same script mid new fault → IsCauseOf files (Some (Play program script limits)) old new fault
-script_cause files same program script limits image old mid new Usage is taken first second cause = absurd cause
+pub script_cause : (files same : Files) (program script : List ℕ) (limits : Limits) (image : Image)
+    (old mid new : List ℕ → ℕ) (fault : Fault) → same ≡ files → IsProgram files program limits image
+    → NoneFalls old mid → NoneFalls mid new → IsScriptCause same script mid new fault
+    → IsCauseOf files (Some (Play program script limits)) old new fault
+script_cause files same program script limits image old mid new Usage is taken first second cause =
+    absurd cause
 script_cause files same program script limits image old mid new Read is taken first second cause =
-    inr (record { image = image; taken = taken; rose = rose_later (old script) (mid script) (new script) (first script) (second script) cause })
+    inr (record {
+      image = image;
+      taken = taken;
+      rose =
+          rose_later (old script) (mid script) (new script) (first script) (second script) cause;
+    })
 script_cause files same program script limits image old mid new Memory is taken first second cause = refl
 script_cause files same program script limits image old mid new Big is taken first second cause =
-    inr (record { image = image; taken = taken; big = subst (λ f. IsTooBig f script most_script_bytes) is cause })
-script_cause files same program script limits image old mid new (Elf fault) is taken first second cause = absurd cause
-script_cause files same program script limits image old mid new (Script number) is taken first second cause = absurd cause
+    inr (record {
+      image = image;
+      taken = taken;
+      big =
+          subst (λ f. IsTooBig f script most_script_bytes) is cause;
+    })
+script_cause files same program script limits image old mid new (Elf fault) is taken first second cause =
+    absurd cause
+script_cause files same program script limits image old mid new (Script number) is taken first second cause =
+    absurd cause
 
 -- the script isn't played to its end
-pub play_cause : (files same : Files) (program script lines text : List ℕ) (limits : Limits) (image : Image) (old new : List ℕ → ℕ) (fault : Fault) → same ≡ files → text ≡ lines → IsProgram files program limits image
-    → IsScript same script lines → IsPlayCause (start_of image limits) text fault → IsCauseOf files (Some (Play program script limits)) old new fault
-play_cause files same program script lines text limits image old new Usage is equal taken read cause = absurd cause
-play_cause files same program script lines text limits image old new Read is equal taken read cause = absurd cause
+pub play_cause : (files same : Files) (program script lines text : List ℕ) (limits : Limits) (image : Image)
+    (old new : List ℕ → ℕ) (fault : Fault) → same ≡ files → text ≡ lines
+    → IsProgram files program limits image
+    → IsScript same script lines → IsPlayCause (start_of image limits) text fault
+    → IsCauseOf files (Some (Play program script limits)) old new fault
+play_cause files same program script lines text limits image old new Usage is equal taken read cause =
+    absurd cause
+play_cause files same program script lines text limits image old new Read is equal taken read cause =
+    absurd cause
 play_cause files same program script lines text limits image old new Memory is equal taken read cause = refl
-play_cause files same program script lines text limits image old new Big is equal taken read cause = absurd cause
-play_cause files same program script lines text limits image old new (Elf fault) is equal taken read cause = absurd cause
-play_cause files same program script lines text limits image old new (Script number) is equal taken read cause = record {
-  image = image;
-  taken = taken;
-  lines = lines;
-  read = subst (λ f. IsScript f script lines) is read;
-  first = subst (λ t. IsFirstBadLine (start_of image limits) t number) equal cause;
-}
+play_cause files same program script lines text limits image old new Big is equal taken read cause =
+    absurd cause
+play_cause files same program script lines text limits image old new (Elf fault) is equal taken read cause =
+    absurd cause
+play_cause files same program script lines text limits image old new (Script number) is equal taken read
+    cause = record {
+      image = image;
+      taken = taken;
+      lines = lines;
+      read = subst (λ f. IsScript f script lines) is read;
+      first = subst (λ t. IsFirstBadLine (start_of image limits) t number) equal cause;
+    }
 
 -- an error that is passed on
-pub passed_up : {X E : Type 0} (r : Result X E) (e : E) (P : E → Type 0) → IsErrAnd r (λ y. y ≡ e) → P e → IfErr r P
+pub passed_up : {X E : Type 0} (r : Result X E) (e : E) (P : E → Type 0) → IsErrAnd r (λ y. y ≡ e) → P e
+    → IfErr r P
 passed_up (Ok x) e P is p = tt
 passed_up (Err y) e P is p = subst P (sym is) p

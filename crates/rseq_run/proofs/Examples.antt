@@ -25,7 +25,8 @@ unfolding fault_line digits
 elf_line_alone = refl
 
 -- a run that makes one event and exits with 7
-one_event : output_text [] (record { hart = record { 0 = 0 }; kind = Exec; tid = record { 0 = 1 }; pc = 0x10078 } ∷ []) (Exit 7)
+one_event : output_text []
+    (record { hart = record { 0 = 0 }; kind = Exec; tid = record { 0 = 1 }; pc = 0x10078 } ∷ []) (Exit 7)
     ≡ codes "console 0\n\nlog 1\n0 exec 1 0000000000010078\nend exit 7\n"
 unfolding output_text digits hex_text
 one_event = refl

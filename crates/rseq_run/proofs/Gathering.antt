@@ -1,5 +1,7 @@
 -- The items of words, gathered one after another.
-use Rattle.std.proofs.Common.{◌≡◌, ℕ, ◌+◌, ◌<◌, ◌≤◌, Bool, true, false, cond, ltb, List, [], ◌∷◌, ◌++◌, length, Option, Some, None, refl, sym, ap, ◌∙◌, arith, append_assoc, length-append, lt-ltb, add-one, drop, drop-cons, get_or, suc, ◌⊎◌, inl, inr}
+use Rattle.std.proofs.Common.{◌≡◌, ℕ, ◌+◌, ◌<◌, ◌≤◌, Bool, true, false, cond, ltb, List, [], ◌∷◌, ◌++◌}
+use Rattle.std.proofs.Common.{length, Option, Some, None, refl, sym, ap, ◌∙◌, arith, append_assoc}
+use Rattle.std.proofs.Common.{length-append, lt-ltb, add-one, drop, drop-cons, get_or, suc, ◌⊎◌, inl, inr}
 use Rattle.std.proofs.lemmas.Bool.{ltb-false}
 use Rattle.std.proofs.lemmas.Bool.Decides.{nat_tests}
 use Rattle.std.proofs.lemmas.List.{append-nil}
@@ -9,12 +11,13 @@ use Rattle.std.specs.Prelude.{string_bytes}
 use Rattle.std.specs.declared.alloc.Global.{Global}
 use Rattle.std.specs.declared.string.String.{String}
 use Rattle.step_log.specs.Script.{◌>>=◌}
-use Rattle.rseq_run.specs.declared.arguments.Reading.{Reading}
-use Rattle.rseq_run.specs.declared.arguments.Reading.TheVariants.{Options, Value, Names}
-use Rattle.rseq_run.specs.declared.options.OptionName.{OptionName}
-use Rattle.rseq_run.specs.declared.options.OptionName.TheVariants.{Harts, Frames, Steps}
+use Rattle.rseq_run.specs.Words.{Reading, few_arguments}
+use Rattle.rseq_run.specs.Words.{Options, Value, Names}
+use Rattle.rseq_run.specs.Options.{OptionName}
+use Rattle.rseq_run.specs.Options.{Harts, Frames, Steps}
 use Rattle.rseq_run.specs.Parts.{no_arguments, with_item}
-use Rattle.rseq_run.specs.Words.{Item, Name, Given, Arguments, items, word_read, no_items, names_in, values_in, at_most_one, arguments_in, arguments_of, texts}
+use Rattle.rseq_run.specs.Grammar.{Item, Name, Given, Arguments, names_in, values_in, at_most_one}
+use Rattle.rseq_run.specs.Words.{items, word_read, no_items, arguments_of, texts}
 
 -- the arguments, with more items added
 abbrev pub added : Arguments → List Item → Option Arguments
@@ -25,39 +28,48 @@ added given (item ∷ more) = with_item given (Some item) >>= (λ next. added ne
 abbrev pub with_words : Arguments → Reading → List (List ℕ) → Option Arguments
 with_words given reading words = items reading words >>= added given
 
-one_item : (given next : Arguments) (item : Option Item) (found : Option (List Item)) → with_item given item ≡ Some next
+one_item : (given next : Arguments) (item : Option Item) (found : Option (List Item))
+    → with_item given item ≡ Some next
     → (found >>= (λ more. Some (option_to_list item ++ more))) >>= added given ≡ found >>= added next
 one_item given next None None fits = refl
 one_item given next None (Some more) fits = let same : given ≡ next = cc in ap (λ g. added g more) same
 one_item given next (Some item) None fits = refl
 one_item given next (Some item) (Some more) fits = rw fits
 
-item_refused : (given : Arguments) (item : Option Item) (found : Option (List Item)) → with_item given item ≡ None
+item_refused : (given : Arguments) (item : Option Item) (found : Option (List Item))
+    → with_item given item ≡ None
     → (found >>= (λ more. Some (option_to_list item ++ more))) >>= added given ≡ None
 item_refused given None found fits = absurd (cc fits)
 item_refused given (Some item) None fits = refl
 item_refused given (Some item) (Some more) fits = rw fits
 
 -- a word that is read
-pub word_taken : (given next : Arguments) (reading after : Reading) (item : Option Item) (word : List ℕ) (rest : List (List ℕ))
+pub word_taken : (given next : Arguments) (reading after : Reading) (item : Option Item) (word : List ℕ)
+    (rest : List (List ℕ))
     → word_read reading word ≡ Some (item, after) → with_item given item ≡ Some next
     → with_words given reading (word ∷ rest) ≡ with_words next after rest
-word_taken given next reading after item word rest read fits = rw read (one_item given next item (items after rest) fits)
+word_taken given next reading after item word rest read fits =
+    rw read (one_item given next item (items after rest) fits)
 
 -- a word that can't stand there
-pub word_unread : (given : Arguments) (reading : Reading) (word : List ℕ) (rest : List (List ℕ)) → word_read reading word ≡ None
+pub word_unread : (given : Arguments) (reading : Reading) (word : List ℕ) (rest : List (List ℕ))
+    → word_read reading word ≡ None
     → with_words given reading (word ∷ rest) ≡ None
 word_unread given reading word rest read = rw read
 
 -- a word whose item is one too many
-pub word_refused : (given : Arguments) (reading after : Reading) (item : Option Item) (word : List ℕ) (rest : List (List ℕ))
-    → word_read reading word ≡ Some (item, after) → with_item given item ≡ None → with_words given reading (word ∷ rest) ≡ None
-word_refused given reading after item word rest read fits = rw read (item_refused given item (items after rest) fits)
+pub word_refused : (given : Arguments) (reading after : Reading) (item : Option Item) (word : List ℕ)
+    (rest : List (List ℕ))
+    → word_read reading word ≡ Some (item, after) → with_item given item ≡ None
+    → with_words given reading (word ∷ rest) ≡ None
+word_refused given reading after item word rest read fits =
+    rw read (item_refused given item (items after rest) fits)
 
 -- the arguments of these names and values
 sorted : (names harts frames steps : List (List ℕ)) → Option Arguments
 sorted names harts frames steps =
-    cond (ltb 2 (length names)) None (at_most_one harts >>= (λ h. at_most_one frames >>= (λ f. at_most_one steps >>= (λ s.
+    cond (ltb 2 (length names)) None (at_most_one harts
+    >>= (λ h. at_most_one frames >>= (λ f. at_most_one steps >>= (λ s.
     Some (record { names = names; harts = h; frames = f; steps = s })))))
 
 none_either : {A : Type 0} (b : Bool) (o : Option A) → o ≡ None → cond b None o ≡ None
@@ -80,54 +92,71 @@ kept names h f s few =
     let no_more : ltb 2 (length names) ≡ false = grind (arith, nat_tests) in
     simp (append-nil, one_kept, no_more)
 
-too_many : (names harts frames steps : List (List ℕ)) → 2 < length names → sorted names harts frames steps ≡ None
+too_many : (names harts frames steps : List (List ℕ)) → 2 < length names
+    → sorted names harts frames steps ≡ None
 unfolding sorted
 too_many names harts frames steps more = rw (lt-ltb 2 (length names) more)
 
-harts_twice : (names : List (List ℕ)) (x y : List ℕ) (more frames steps : List (List ℕ)) → sorted names (x ∷ y ∷ more) frames steps ≡ None
+harts_twice : (names : List (List ℕ)) (x y : List ℕ) (more frames steps : List (List ℕ))
+    → sorted names (x ∷ y ∷ more) frames steps ≡ None
 unfolding sorted
 harts_twice names x y more frames steps = none_either (ltb 2 (length names)) _ refl
 
-frames_twice : (names harts : List (List ℕ)) (x y : List ℕ) (more steps : List (List ℕ)) → sorted names harts (x ∷ y ∷ more) steps ≡ None
+frames_twice : (names harts : List (List ℕ)) (x y : List ℕ) (more steps : List (List ℕ))
+    → sorted names harts (x ∷ y ∷ more) steps ≡ None
 unfolding sorted
-frames_twice names harts x y more steps = none_either (ltb 2 (length names)) _ (none_after (at_most_one harts) _ (λ h. refl))
+frames_twice names harts x y more steps =
+    none_either (ltb 2 (length names)) _ (none_after (at_most_one harts) _ (λ h. refl))
 
-steps_twice : (names harts frames : List (List ℕ)) (x y : List ℕ) (more : List (List ℕ)) → sorted names harts frames (x ∷ y ∷ more) ≡ None
+steps_twice : (names harts frames : List (List ℕ)) (x y : List ℕ) (more : List (List ℕ))
+    → sorted names harts frames (x ∷ y ∷ more) ≡ None
 unfolding sorted
 steps_twice names harts frames x y more =
-    none_either (ltb 2 (length names)) _ (none_after (at_most_one harts) _ (λ h. none_after (at_most_one frames) _ (λ f. refl)))
+    none_either (ltb 2 (length names)) _
+    (none_after (at_most_one harts) _ (λ h. none_after (at_most_one frames) _ (λ f. refl)))
 
-name_gathered : (b : Bool) (names : List (List ℕ)) (h f s : Option (List ℕ)) (text : List ℕ) (rest harts frames steps : List (List ℕ)) (more : List Item)
+name_gathered : (b : Bool) (names : List (List ℕ)) (h f s : Option (List ℕ)) (text : List ℕ)
+    (rest harts frames steps : List (List ℕ)) (more : List Item)
     → ltb (length names) 2 ≡ b
-    → (length (names ++ text ∷ []) ≤ 2 → added (record { names = names ++ text ∷ []; harts = h; frames = f; steps = s }) more ≡ sorted ((names ++ text ∷ []) ++ rest) harts frames steps)
-    → cond b (Some (record { names = names ++ text ∷ []; harts = h; frames = f; steps = s })) None >>= (λ (next : Arguments). added next more)
+    → (length (names ++ text ∷ []) ≤ 2
+    → added (record { names = names ++ text ∷ []; harts = h; frames = f; steps = s }) more
+    ≡ sorted ((names ++ text ∷ []) ++ rest) harts frames steps)
+    → cond b (Some (record { names = names ++ text ∷ []; harts = h; frames = f; steps = s })) None
+    >>= (λ (next : Arguments). added next more)
     ≡ sorted (names ++ text ∷ rest) harts frames steps
 name_gathered true names h f s text rest harts frames steps more room whole =
     let short : length (names ++ text ∷ []) ≤ 2 = simp length-append (grind (arith, nat_tests)) in
     whole short ∙ ap (λ ns. sorted ns harts frames steps) (append_assoc names (text ∷ []) rest)
 name_gathered false names h f s text rest harts frames steps more full whole =
-    let many : 2 < length (names ++ text ∷ rest) = simp length-append (omega (arith, ltb-false (length names) 2 full)) in
+    let many : 2 < length (names ++ text ∷ rest) =
+    simp length-append (omega (arith, ltb-false (length names) 2 full)) in
     sym (too_many (names ++ text ∷ rest) harts frames steps many)
 
 -- adding items one after another comes to what they say together
 gathered : (names : List (List ℕ)) (h f s : Option (List ℕ)) (found : List Item) → length names ≤ 2
     → added (record { names = names; harts = h; frames = f; steps = s }) found
-    ≡ sorted (names ++ names_in found) (option_to_list h ++ values_in Harts found) (option_to_list f ++ values_in Frames found) (option_to_list s ++ values_in Steps found)
+    ≡ sorted (names ++ names_in found) (option_to_list h ++ values_in Harts found)
+    (option_to_list f ++ values_in Frames found) (option_to_list s ++ values_in Steps found)
 gathered names h f s [] few = kept names h f s few
 gathered names h f s (Name text ∷ more) few =
-    name_gathered (ltb (length names) 2) names h f s text (names_in more) (option_to_list h ++ values_in Harts more) (option_to_list f ++ values_in Frames more)
-    (option_to_list s ++ values_in Steps more) more refl (λ short. gathered (names ++ text ∷ []) h f s more short)
+    name_gathered (ltb (length names) 2) names h f s text (names_in more)
+    (option_to_list h ++ values_in Harts more) (option_to_list f ++ values_in Frames more)
+    (option_to_list s ++ values_in Steps more) more refl
+    (λ short. gathered (names ++ text ∷ []) h f s more short)
 gathered names None f s (Given Harts text ∷ more) few = gathered names (Some text) f s more few
 gathered names (Some x) f s (Given Harts text ∷ more) few =
-    sym (harts_twice (names ++ names_in more) x text (values_in Harts more) (option_to_list f ++ values_in Frames more) (option_to_list s ++ values_in Steps more))
+    sym (harts_twice (names ++ names_in more) x text (values_in Harts more)
+    (option_to_list f ++ values_in Frames more) (option_to_list s ++ values_in Steps more))
 gathered names h None s (Given Frames text ∷ more) few = gathered names h (Some text) s more few
 gathered names h (Some x) s (Given Frames text ∷ more) few =
-    sym (frames_twice (names ++ names_in more) (option_to_list h ++ values_in Harts more) x text (values_in Frames more) (option_to_list s ++ values_in Steps more))
+    sym (frames_twice (names ++ names_in more) (option_to_list h ++ values_in Harts more) x text
+    (values_in Frames more) (option_to_list s ++ values_in Steps more))
 gathered names h f None (Given Steps text ∷ more) few = gathered names h f (Some text) more few
 gathered names h f (Some x) (Given Steps text ∷ more) few =
-    sym (steps_twice (names ++ names_in more) (option_to_list h ++ values_in Harts more) (option_to_list f ++ values_in Frames more) x text (values_in Steps more))
+    sym (steps_twice (names ++ names_in more) (option_to_list h ++ values_in Harts more)
+    (option_to_list f ++ values_in Frames more) x text (values_in Steps more))
 
-gathered_all : (found : List Item) → added no_arguments found ≡ arguments_in found
+gathered_all : (found : List Item) → added no_arguments found ≡ few_arguments found
 unfolding sorted
 gathered_all found = gathered [] None None None found (omega arith)
 
@@ -135,39 +164,52 @@ pub arguments_gathered : (words : List (List ℕ)) → with_words no_arguments O
 unfolding arguments_of
 arguments_gathered words = go (items Options words)
   where
-    go : (o : Option (List Item)) → o >>= added no_arguments ≡ o >>= arguments_in
+    go : (o : Option (List Item)) → o >>= added no_arguments ≡ o >>= few_arguments
     go None = refl
     go (Some found) = gathered_all found
 
 -- the loop over the words
-texts_from : (words : List (String Global)) (i : ℕ) (word : String Global) → i < length words → word ≡ get_or words i word
+texts_from : (words : List (String Global)) (i : ℕ) (word : String Global) → i < length words
+    → word ≡ get_or words i word
     → texts (drop i words) ≡ string_bytes word ∷ texts (drop (i + 1) words)
 texts_from words i word within is =
-    let front : texts (drop i words) ≡ string_bytes (get_or words i word) ∷ texts (drop (suc i) words) = ap texts (drop-cons words i word within) in
+    let front : texts (drop i words) ≡ string_bytes (get_or words i word) ∷ texts (drop (suc i) words) =
+    ap texts (drop-cons words i word within) in
     front ∙ rw (add-one i) (ap (λ (w : String Global). string_bytes w ∷ texts (drop (suc i) words)) (sym is))
 
-module _ (whole : Option Arguments) (given : Arguments) (reading : Reading) (words : List (String Global)) (i : ℕ) (so_far : with_words given reading (texts (drop i words)) ≡ whole) where
-  at_word : (word : String Global) (text : List ℕ) → i < length words → word ≡ get_or words i word → text ≡ string_bytes word
+module _ (whole : Option Arguments) (given : Arguments) (reading : Reading) (words : List (String Global))
+    (i : ℕ) (so_far : with_words given reading (texts (drop i words)) ≡ whole) where
+  at_word : (word : String Global) (text : List ℕ) → i < length words → word ≡ get_or words i word
+      → text ≡ string_bytes word
       → with_words given reading (text ∷ texts (drop (i + 1) words)) ≡ whole
   at_word word text within is bytes =
       let front = texts_from words i word within is in
       let cut : texts (drop i words) ≡ text ∷ texts (drop (i + 1) words) = cc in
       ap (with_words given reading) (sym cut) ∙ so_far
 
-  pub word_along : (word : String Global) (text : List ℕ) → i < length words → word ≡ get_or words i word → text ≡ string_bytes word
-      → (next : Arguments) (after : Reading) (item : Option Item) → word_read reading text ≡ Some (item, after) → with_item given item ≡ Some next
+  pub word_along : (word : String Global) (text : List ℕ) → i < length words → word ≡ get_or words i word
+      → text ≡ string_bytes word
+      → (next : Arguments) (after : Reading) (item : Option Item)
+      → word_read reading text ≡ Some (item, after) → with_item given item ≡ Some next
       → with_words next after (texts (drop (i + 1) words)) ≡ whole
   word_along word text within is bytes next after item read fits =
-      sym (word_taken given next reading after item text (texts (drop (i + 1) words)) read fits) ∙ at_word word text within is bytes
+      sym (word_taken given next reading after item text (texts (drop (i + 1) words)) read fits)
+      ∙ at_word word text within is bytes
 
-  pub unread_along : (word : String Global) (text : List ℕ) → i < length words → word ≡ get_or words i word → text ≡ string_bytes word
+  pub unread_along : (word : String Global) (text : List ℕ) → i < length words → word ≡ get_or words i word
+      → text ≡ string_bytes word
       → word_read reading text ≡ None → None ≡ whole
-  unread_along word text within is bytes read = sym (word_unread given reading text (texts (drop (i + 1) words)) read) ∙ at_word word text within is bytes
+  unread_along word text within is bytes read =
+      sym (word_unread given reading text (texts (drop (i + 1) words)) read)
+      ∙ at_word word text within is bytes
 
-  pub refused_along : (word : String Global) (text : List ℕ) → i < length words → word ≡ get_or words i word → text ≡ string_bytes word
-      → (after : Reading) (item : Option Item) → word_read reading text ≡ Some (item, after) → with_item given item ≡ None → None ≡ whole
+  pub refused_along : (word : String Global) (text : List ℕ) → i < length words → word ≡ get_or words i word
+      → text ≡ string_bytes word
+      → (after : Reading) (item : Option Item) → word_read reading text ≡ Some (item, after)
+      → with_item given item ≡ None → None ≡ whole
   refused_along word text within is bytes after item read fits =
-      sym (word_refused given reading after item text (texts (drop (i + 1) words)) read fits) ∙ at_word word text within is bytes
+      sym (word_refused given reading after item text (texts (drop (i + 1) words)) read fits)
+      ∙ at_word word text within is bytes
 
   over : length words ≤ i → (no_items reading >>= added given) ≡ whole
   over past = ap (λ ws. with_words given reading (texts ws)) (sym (drop_of_length-le words past)) ∙ so_far

@@ -2,8 +2,10 @@ mod Causing
 mod Examples
 mod Exclusions
 mod Gathering
+mod Lines
 mod Numbers
 mod OneOutput
+mod Outcomes
 mod PlainOutputs
 mod Playing
 mod Repeats

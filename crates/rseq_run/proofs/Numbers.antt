@@ -12,7 +12,8 @@ decimals : IsNumeralModel (λ ds. list_all is_ascii_digit ds ≡ true) (digits_v
 decimals = numerals_by_value (λ ds. list_all is_ascii_digit ds ≡ true) (search rules)
 
 -- some decimal digits, but not too many, parse as the number that they write
-pub number_parsed : {E : Type 0} (text : List ℕ) (r : Result ℕ E) → ParsesUnsigned 64 10 text r → 1 ≤ length text → length text ≤ 20
+pub number_parsed : {E : Type 0} (text : List ℕ) (r : Result ℕ E) → ParsesUnsigned 64 10 text r
+    → 1 ≤ length text → length text ≤ 20
     → list_all is_ascii_digit text ≡ true → result_ok r ≡ number_of text
 number_parsed {E} text (Ok n) parsed some few digits =
     let read = parse_digits decimals {E = E} 64 text (Ok n) parsed digits in

@@ -1,5 +1,6 @@
 -- Told files have one output.
-use Rattle.std.proofs.Common.{◌≡◌, ℕ, List, [], ◌∷◌, refl, sym, ap, ◌∙◌, subst, ap₂, Option, Some, None, Ok, map}
+use Rattle.std.proofs.Common.{◌≡◌, ℕ, List, [], ◌∷◌, refl, sym, ap, ◌∙◌, subst, ap₂, Option, Some, None, Ok}
+use Rattle.std.proofs.Common.{map}
 use Rattle.std.specs.Prelude.{IsSome, IfSome}
 use Rattle.mach_types.specs.declared.limits.Limits.{Limits}
 use Rattle.elf_load.specs.declared.image.Image.{Image}
@@ -7,27 +8,36 @@ use Rattle.elf_load.specs.Images.{IsImage}
 use Rattle.block_model.specs.Plain.{plain_run, plain_solo}
 use Rattle.block_model.specs.Replay.{Ask}
 use Rattle.block_model.specs.Setting.{Setting}
-use Rattle.block_model.proofs.OneImage.{one_setting}
-use Rattle.rseq_run.specs.Outputs.{IsOutputOf, IsPlainOutputOf, IsPlainPlayOutput, IsPlainSoloOutput, plain_output}
+use Rattle.block_model.proofs.Laws.{one_setting}
+use Rattle.rseq_run.specs.Needs.{Needs, Nothing, Program, Script, needs_of}
+use Rattle.rseq_run.specs.Outputs.{IsOutputOf, IsPlainOutputOf, IsPlainPlayOutput, IsPlainSoloOutput}
+use Rattle.rseq_run.specs.Outputs.{plain_output}
 use Rattle.rseq_run.specs.Programs.{Files, IsProgram, asks_of, start_of}
 use Rattle.rseq_run.specs.Told.{AreTold, TellsGoodFiles}
-use Rattle.rseq_run.specs.Words.{Command, Solo, Play}
+use Rattle.rseq_run.specs.Grammar.{Command, Solo, Play}
+use Rattle.rseq_run.proofs.Exclusions.{AreUsed, used_by_output}
 use Rattle.rseq_run.proofs.PlainOutputs.{plain_output_of}
 
 -- two readings of one told file are one
-one_reading : (o : Option (List ℕ)) (a b : List ℕ) → IsSome o → IfSome o (λ told. a ≡ told) → IfSome o (λ told. b ≡ told) → a ≡ b
+one_reading : (o : Option (List ℕ)) (a b : List ℕ) → IsSome o → IfSome o (λ told. a ≡ told)
+    → IfSome o (λ told. b ≡ told) → a ≡ b
 one_reading None a b told first second = absurd cc
 one_reading (Some bytes) a b told first second = first ∙ sym second
 
 -- a program that is told starts in one way
-one_start : (files : Files) (name : List ℕ) (limits : Limits) (a b : Image) → IsSome (files name) → IsProgram files name limits a → IsProgram files name limits b → start_of a limits ≡ start_of b limits
+one_start : (files : Files) (name : List ℕ) (limits : Limits) (a b : Image) → IsSome (files name)
+    → IsProgram files name limits a → IsProgram files name limits b → start_of a limits ≡ start_of b limits
 one_start files name limits a b told first second =
     let same = one_reading (files name) first.bytes second.bytes told first.read second.read in
-    one_setting second.bytes a b limits 0 (subst (λ (x : List ℕ). IsImage x a) same first.loaded) second.loaded
+    one_setting second.bytes a b limits 0 (subst (λ (x : List ℕ). IsImage x a) same first.loaded)
+    second.loaded
 
-one_solo : (files : Files) (program : List ℕ) (limits : Limits) (a b : List ℕ) → IsSome (files program) → IsPlainSoloOutput files program limits a → IsPlainSoloOutput files program limits b → a ≡ b
+one_solo : (files : Files) (program : List ℕ) (limits : Limits) (a b : List ℕ) → IsSome (files program)
+    → IsPlainSoloOutput files program limits a → IsPlainSoloOutput files program limits b → a ≡ b
 one_solo files program limits a b told first second =
-    first.text ∙ ap (λ (s : Setting). plain_output s (plain_solo s limits.steps)) (one_start files program limits first.image second.image told first.taken second.taken) ∙ sym second.text
+    first.text ∙ ap (λ (s : Setting). plain_output s (plain_solo s limits.steps))
+    (one_start files program limits first.image second.image told first.taken second.taken)
+    ∙ sym second.text
 
 -- a script that can be read asks for one list of events
 same_asks : (xs ys : List Ask) → map Some xs ≡ map Some ys → xs ≡ ys
@@ -39,44 +49,74 @@ same_asks (x ∷ xs) (y ∷ ys) same =
     let rest : map Some xs ≡ map Some ys = cc in
     ap₂ (λ z zs. z ∷ zs) first (same_asks xs ys rest)
 
-one_play : (files : Files) (program script : List ℕ) (limits : Limits) (a b : List ℕ) → IsSome (files program) → IsSome (files script) → IsPlainPlayOutput files program script limits a
+one_play : (files : Files) (program script : List ℕ) (limits : Limits) (a b : List ℕ) → IsSome (files program)
+    → IsSome (files script) → IsPlainPlayOutput files program script limits a
     → IsPlainPlayOutput files program script limits b → a ≡ b
 one_play files program script limits a b told script_told first second =
     let start = one_start files program limits first.image second.image told first.taken second.taken in
-    let text = one_reading (files script) first.lines second.lines script_told first.read.read second.read.read in
+    let text = one_reading (files script) first.lines second.lines script_told first.read.read
+    second.read.read in
     let asks = same_asks first.asks second.asks (sym first.readable ∙ ap asks_of text ∙ second.readable) in
-    let made : plain_run (start_of second.image limits) second.asks ≡ Ok first.run = ap₂ plain_run (sym start) (sym asks) ∙ first.made in
+    let made : plain_run (start_of second.image limits) second.asks ≡ Ok first.run =
+    ap₂ plain_run (sym start) (sym asks) ∙ first.made in
     let run : first.run ≡ second.run = cc in
     first.text ∙ ap₂ plain_output start run ∙ sym second.text
 
-one_plain : (files : Files) (command : Option Command) (a b : List ℕ) → AreTold files command → IsPlainOutputOf files command a → IsPlainOutputOf files command b → a ≡ b
+one_plain : (files : Files) (command : Option Command) (a b : List ℕ) → AreTold files (needs_of command)
+    → IsPlainOutputOf files command a → IsPlainOutputOf files command b → a ≡ b
 one_plain files None a b told first second = absurd first
-one_plain files (Some (Solo program limits)) a b told first second = one_solo files program limits a b told first second
-one_plain files (Some (Play program script limits)) a b told first second = one_play files program script limits a b told.0 told.1 first second
+one_plain files (Some (Solo program limits)) a b told first second =
+    one_solo files program limits a b told first second
+one_plain files (Some (Play program script limits)) a b told first second =
+    one_play files program script limits a b told.0 told.1 first second
 
-pub one_output : (files : Files) (command : Option Command) (a b : List ℕ) → AreTold files command → IsOutputOf files command a → IsOutputOf files command b → a ≡ b
-one_output files command a b told first second = one_plain files command a b told (plain_output_of files command a first) (plain_output_of files command b second)
+pub one_output : (files : Files) (command : Option Command) (a b : List ℕ) → AreTold files (needs_of command)
+    → IsOutputOf files command a → IsOutputOf files command b → a ≡ b
+one_output files command a b told first second =
+    one_plain files command a b told (plain_output_of files command a first)
+    (plain_output_of files command b second)
 
 -- what was read is what is told
-read_is_told : (o : Option (List ℕ)) (bytes : List ℕ) → IsSome o → IfSome o (λ told. bytes ≡ told) → o ≡ Some bytes
+read_is_told : (o : Option (List ℕ)) (bytes : List ℕ) → IsSome o → IfSome o (λ told. bytes ≡ told)
+    → o ≡ Some bytes
 read_is_told None bytes told read = absurd cc
 read_is_told (Some x) bytes told read = ap Some (sym read)
 
-pub good_files : (files : Files) (command : Option Command) (written : List ℕ) → AreTold files command → IsOutputOf files command written → TellsGoodFiles files command
-good_files files None written told output = absurd output
-good_files files (Some (Solo program limits)) written told output =
-    record { bytes = output.taken.bytes; told = read_is_told (files program) output.taken.bytes told output.taken.read; good = output.taken.good }
-good_files files (Some (Play program script limits)) written told output = record {
+used_are_good : (files : Files) (needs : Needs) → ¬ (needs ≡ Nothing) → AreTold files needs
+    → AreUsed files needs → TellsGoodFiles files needs
+used_are_good files Nothing some told used = absurd (some refl)
+used_are_good files (Program program limits) some told used =
+    record {
+      bytes = used.1.bytes;
+      told = read_is_told (files program) used.1.bytes told used.1.read;
+      good =
+          used.1.good;
+    }
+used_are_good files (Script program script limits) some told used = record {
   both = record {
-    bytes = output.taken.bytes;
-    told = read_is_told (files program) output.taken.bytes told.0 output.taken.read;
-    good = output.taken.good;
-    image = output.image;
-    loaded = output.taken.loaded;
-    lines = output.lines;
-    script_told = read_is_told (files script) output.lines told.1 output.read.read;
-    fits = output.read.fits;
+    bytes = used.3.bytes;
+    told = read_is_told (files program) used.3.bytes told.0 used.3.read;
+    good = used.3.good;
+    image = used.0;
+    loaded = used.3.loaded;
+    lines = used.1;
+    script_told = read_is_told (files script) used.1 told.1 used.4.read;
+    fits = used.4.fits;
   };
-  log = output.log;
-  run = output.run;
+  log = used.2;
+  run = used.5;
 }
+
+-- each command with an output needs a file
+some_need : (files : Files) (command : Option Command) (written : List ℕ) → IsOutputOf files command written
+    → ¬ (needs_of command ≡ Nothing)
+some_need files None written output none = absurd output
+some_need files (Some (Solo program limits)) written output none = absurd cc
+some_need files (Some (Play program script limits)) written output none = absurd cc
+
+pub good_files : (files : Files) (command : Option Command) (written : List ℕ)
+    → AreTold files (needs_of command) → IsOutputOf files command written
+    → TellsGoodFiles files (needs_of command)
+good_files files command written told output =
+    used_are_good files (needs_of command) (some_need files command written output) told
+    (used_by_output files command written output)

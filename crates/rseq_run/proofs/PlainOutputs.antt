@@ -5,36 +5,41 @@ use Rattle.mach_types.specs.declared.limits.Limits.{Limits}
 use Rattle.block_model.specs.Plain.{PlainRun, plain_solo}
 use Rattle.block_model.specs.PlainSays.{SaysOf}
 use Rattle.block_model.specs.Setting.{Setting}
-use Rattle.block_model.proofs.PlainRuns.{plain_makes}
-use Rattle.block_model.proofs.PlainSolo.{plain_solo_log, plain_solo_says}
-use Rattle.block_model.proofs.Replay.{run_is_played}
-use Rattle.rseq_run.specs.Outputs.{IsOutputOf, IsPlainOutputOf, IsPlainPlayOutput, IsPlainSoloOutput, IsPlayOutput, IsSoloOutput, log_output, plain_output}
+use Rattle.block_model.proofs.Laws.{plain_makes, plain_solo_log, plain_solo_says, run_is_played}
+use Rattle.rseq_run.specs.Outputs.{IsOutputOf, IsPlainOutputOf, IsPlainPlayOutput, IsPlainSoloOutput}
+use Rattle.rseq_run.specs.Outputs.{IsPlayOutput, IsSoloOutput, log_output, plain_output}
 use Rattle.rseq_run.specs.Programs.{Files, start_of}
 use Rattle.rseq_run.specs.Runs.{IsSoloRun}
-use Rattle.rseq_run.specs.Words.{Command, Solo, Play}
+use Rattle.rseq_run.specs.Grammar.{Command, Solo, Play}
 
 -- a machine that says of a log what is read from it prints the log's text
-prints_alike : (s : Setting) (log : List Entry) (run : PlainRun) → run.log ≡ log → SaysOf s log run.machine → log_output s log ≡ plain_output s run
+prints_alike : (s : Setting) (log : List Entry) (run : PlainRun) → run.log ≡ log → SaysOf s log run.machine
+    → log_output s log ≡ plain_output s run
 prints_alike s log run same says =
     let console = says.same_console in
     let end = says.same_end in
     cc
 
-solo_text : (s : Setting) (log : List Entry) → IsSoloRun s log → log_output s log ≡ plain_output s (plain_solo s s.limits.steps)
+solo_text : (s : Setting) (log : List Entry) → IsSoloRun s log
+    → log_output s log ≡ plain_output s (plain_solo s s.limits.steps)
 solo_text s log run =
-    prints_alike s log (plain_solo s s.limits.steps) (plain_solo_log s log run.block_run run.rule run.over) (plain_solo_says s log run.block_run run.rule run.over)
+    prints_alike s log (plain_solo s s.limits.steps) (plain_solo_log s log run.block_run run.rule run.over)
+    (plain_solo_says s log run.block_run run.rule run.over)
 
-plain_solo_output : (files : Files) (program : List ℕ) (limits : Limits) (written : List ℕ) → IsSoloOutput files program limits written → IsPlainSoloOutput files program limits written
+plain_solo_output : (files : Files) (program : List ℕ) (limits : Limits) (written : List ℕ)
+    → IsSoloOutput files program limits written → IsPlainSoloOutput files program limits written
 plain_solo_output files program limits written output = record {
   image = output.image;
   taken = output.taken;
   text = output.text ∙ solo_text (start_of output.image limits) output.log output.run;
 }
 
-plain_play_output : (files : Files) (program script : List ℕ) (limits : Limits) (written : List ℕ) → IsPlayOutput files program script limits written → IsPlainPlayOutput files program script limits written
+plain_play_output : (files : Files) (program script : List ℕ) (limits : Limits) (written : List ℕ)
+    → IsPlayOutput files program script limits written → IsPlainPlayOutput files program script limits written
 plain_play_output files program script limits written output =
     let s = start_of output.image limits in
-    let made = plain_makes s output.run.lines output.log (run_is_played s output.run.lines output.log output.run.block_run output.run.answers) in
+    let made = plain_makes s output.run.lines output.log
+    (run_is_played s output.run.lines output.log output.run.block_run output.run.answers) in
     record {
       image = output.image;
       taken = output.taken;
@@ -44,10 +49,14 @@ plain_play_output files program script limits written output =
       readable = output.run.readable;
       run = record { log = output.log; machine = made.machine };
       made = made.made;
-      text = output.text ∙ prints_alike s output.log (record { log = output.log; machine = made.machine }) refl made.says;
+      text = output.text ∙ prints_alike s output.log (record { log = output.log; machine = made.machine })
+          refl made.says;
     }
 
-pub plain_output_of : (files : Files) (command : Option Command) (written : List ℕ) → IsOutputOf files command written → IsPlainOutputOf files command written
+pub plain_output_of : (files : Files) (command : Option Command) (written : List ℕ)
+    → IsOutputOf files command written → IsPlainOutputOf files command written
 plain_output_of files None written output = absurd output
-plain_output_of files (Some (Solo program limits)) written output = plain_solo_output files program limits written output
-plain_output_of files (Some (Play program script limits)) written output = plain_play_output files program script limits written output
+plain_output_of files (Some (Solo program limits)) written output =
+    plain_solo_output files program limits written output
+plain_output_of files (Some (Play program script limits)) written output =
+    plain_play_output files program script limits written output

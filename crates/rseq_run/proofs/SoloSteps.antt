@@ -1,132 +1,160 @@
 -- What a step by the fixed rule keeps, and that it is refused only where the run is over.
-use Rattle.std.proofs.Common.{◌≡◌, ◌≢◌, List, ◌<◌, [], ◌∷◌, ◌++◌, refl, sym, ap, ◌∙◌, subst, Bool, true, false, Option, Some, None, Result, Ok, Err, leb, true≢false, length, length-append, arith, ◌≤◌}
-use Rattle.std.proofs.lemmas.Bool.{leb-true, leb-false}
+use Rattle.std.proofs.Common.{◌≡◌, ◌≢◌, ℕ, List, ◌+◌, ◌<◌, [], ◌∷◌, ◌++◌, refl, sym, ap, ◌∙◌, subst, Bool}
+use Rattle.std.proofs.Common.{true, false, Some, None, Result, Ok, Err, length, length-append}
+use Rattle.std.proofs.Common.{arith, ◌≤◌}
 use Rattle.std.specs.Prelude.{IfOk, OnErr}
 use Rattle.std.specs.Result.{IsOk, is_ok}
 use Rattle.mach_types.specs.declared.events.Choice.{Choice}
 use Rattle.mach_types.specs.declared.events.Entry.{Entry}
 use Rattle.mach_types.specs.declared.events.Hart.{Hart}
-use Rattle.mach_types.specs.declared.limits.End.{End}
 use Rattle.mach_types.specs.declared.limits.End.TheVariants.{Unended}
 use Rattle.mach_types.specs.Events.{choice_of}
 use Rattle.mach_types.specs.declared.events.Choice.TheVariants as asked
-use Rattle.mach_types.specs.declared.events.Why.{Why}
-use Rattle.mach_types.specs.declared.events.Why.TheVariants.{NoHart, Idle, InBarrier, Waiting, FullBuffer, Others, NoStore, NoRequest, NotInBarrier, Targets, Busy, NotReady, NotAllowed, NoSignal}
+use Rattle.mach_types.specs.declared.events.Sight.{Sight}
 use Rattle.block_model.specs.declared.refusals.Refused.{Refused}
-use Rattle.block_model.specs.declared.refusals.Refused.TheVariants.{Ended, Full, NotEnabled}
 use Rattle.block_model.specs.Setting.{Setting, Seen}
-use Rattle.block_model.specs.Deciding.{history, decide, decide_on, end_of, refused_by}
-use Rattle.block_model.specs.Run.{IsBlockRun, IsRunHistory}
-use Rattle.block_model.specs.History.{History, ended, running}
-use Rattle.block_model.specs.Solo.{IsSolo, solo_choice}
-use Rattle.block_model.proofs.Ends.{not_open, within_limit}
-use Rattle.block_model.proofs.Laws.{decide-on, end_of-ended, end_of-limit, history-nil}
-use Rattle.block_model.proofs.Rules.{rule_is_made, runs_when_idle, drains_when_held, executes_when_allowed}
-use Rattle.block_model.proofs.Runs.{IsSolo-append}
-use Rattle.rseq_run.specs.SoloChoice.{instead}
-use Rattle.rseq_run.specs.Runs.{IsSoloSoFar}
+use Rattle.block_model.specs.Deciding.{history, decide, end_of}
+use Rattle.block_model.specs.Sights.{sight_in}
+use Rattle.block_model.specs.Run.{IsBlockRun}
+use Rattle.block_model.specs.History.{here_in_history, ran}
+use Rattle.block_model.specs.Solo.{IsSolo, solo_choice, solo_rule}
+use Rattle.block_model.proofs.Laws.{executes_when_allowed, rule_is_made, rule_is_read, rule_stops, start_run}
+use Rattle.block_model.proofs.Laws.{start_solo, within_limit, IsSolo-append}
+use Rattle.rseq_run.specs.Runs.{IsSoloSoFar, IsSoloTurn}
 
 -- the empty log
 so_far_empty : (s : Setting) → IsSoloSoFar (record { setting = s; log = [] })
-so_far_empty s = record { block_run = rw history-nil tt; rule = rw history-nil tt }
+so_far_empty s = record { block_run = start_run s; rule = start_solo s }
 
 -- a machine that was just booted
-pub so_far_booted : (m : Seen) (s : Setting) → m ≡ record { setting = s; log = [] } → (m.setting ≡ s) × IsSoloSoFar m
+pub so_far_booted : (m : Seen) (s : Setting) → m ≡ record { setting = s; log = [] }
+    → (m.setting ≡ s) × IsSoloSoFar m
 so_far_booted m s is = (ap (λ (u : Seen). u.setting) is, subst IsSoloSoFar (sym is) (so_far_empty s))
 
 -- one more entry by the rule, or none
-pub so_far_kept : (v w : Seen) (choice : Choice) (r : Result Entry Refused) → IsSoloSoFar v → IfOk r (λ e. solo_choice v.setting (history v.setting v.log) ≡ Some choice)
-    → IfOk r (λ e. (e.hart ≡ record { 0 = 0 }) × (choice_of e ≡ choice)) → IfOk r (λ e. w ≡ record { setting = v.setting; log = v.log ++ e ∷ [] }) → OnErr r (w ≡ v)
+so_far_kept : (v w : Seen) (choice : Choice) (r : Result Entry Refused) → IsSoloSoFar v
+    → IfOk r (λ e. solo_choice v.setting (history v.setting v.log) ≡ Some choice)
+    → IfOk r (λ e. (e.hart ≡ record { 0 = 0 }) × (choice_of e ≡ choice))
+    → IfOk r (λ e. w ≡ record { setting = v.setting; log = v.log ++ e ∷ [] }) → OnErr r (w ≡ v)
     → IsBlockRun w.setting w.log → IsSoloSoFar w
 so_far_kept v w choice (Ok e) far chosen of ok err run =
     let at : e.hart.0 ≡ 0 = ap (λ (h : Hart). h.0) of.0 in
     record {
       block_run = run;
-      rule = subst (λ (u : Seen). IsSolo u.setting u.log) (sym ok) (IsSolo-append v.setting v.log e far.rule at (chosen ∙ ap Some (sym of.1)));
+      rule = subst (λ (u : Seen). IsSolo u.setting u.log) (sym ok)
+          (IsSolo-append v.setting v.log e far.rule at (chosen ∙ ap Some (sym of.1)));
     }
 so_far_kept v w choice (Err why) far chosen of ok err run = subst IsSoloSoFar (sym err) far
 
 -- where it is made, the log had room: the longer log is a block run too
-pub room_when_made : (v w : Seen) (r : Result Entry Refused) → IfOk r (λ e. w ≡ record { setting = v.setting; log = v.log ++ e ∷ [] }) → IsBlockRun w.setting w.log → is_ok r ≡ true
+room_when_made : (v w : Seen) (r : Result Entry Refused)
+    → IfOk r (λ e. w ≡ record { setting = v.setting; log = v.log ++ e ∷ [] }) → IsBlockRun w.setting w.log
+    → is_ok r ≡ true
     → length v.log < v.setting.limits.steps
 room_when_made v w (Ok e) ok run made =
-    let longer : length (v.log ++ e ∷ []) ≤ v.setting.limits.steps = subst (λ (u : Seen). length u.log ≤ u.setting.limits.steps) ok (within_limit w.setting w.log run) in
+    let longer : length (v.log ++ e ∷ []) ≤ v.setting.limits.steps =
+    subst (λ (u : Seen). length u.log ≤ u.setting.limits.steps) ok (within_limit w.setting w.log run) in
     omega (arith, longer, length-append v.log (e ∷ []))
 room_when_made v w (Err why) ok run made = absurd cc
+
+-- it has one entry more, and the setting is as it was
+one_longer : (v w : Seen) (r : Result Entry Refused)
+    → IfOk r (λ e. w ≡ record { setting = v.setting; log = v.log ++ e ∷ [] }) → is_ok r ≡ true
+    → length w.log ≡ length v.log + 1
+one_longer v w (Ok e) ok made = ap (λ (u : Seen). length u.log) ok ∙ length-append v.log (e ∷ [])
+one_longer v w (Err why) ok made = absurd cc
+
+same_setting : (v w : Seen) (r : Result Entry Refused)
+    → IfOk r (λ e. w ≡ record { setting = v.setting; log = v.log ++ e ∷ [] }) → OnErr r (w ≡ v)
+    → w.setting ≡ v.setting
+same_setting v w (Ok e) ok err = ap (λ (u : Seen). u.setting) ok
+same_setting v w (Err why) ok err = ap (λ (u : Seen). u.setting) err
 
 no_error : (r : Result Entry Refused) (why : Refused) → r ≡ Err why → ¬ (IsOk r)
 no_error r why is made = absurd cc
 
 -- where the rule's choice is refused, the run is over
-pub over_when_refused : (v w : Seen) (choice : Choice) (r : Result Entry Refused) → 0 < v.setting.limits.harts → IsSoloSoFar v
-    → solo_choice v.setting (history v.setting v.log) ≡ Some choice → r ≡ decide v.setting (history v.setting v.log) 0 choice → OnErr r (w ≡ v) → is_ok r ≡ false
+over_when_refused : (v w : Seen) (choice : Choice) (r : Result Entry Refused) → 0 < v.setting.limits.harts
+    → IsSoloSoFar v
+    → solo_choice v.setting (history v.setting v.log) ≡ Some choice
+    → r ≡ decide v.setting (history v.setting v.log) 0 choice → OnErr r (w ≡ v) → is_ok r ≡ false
     → end_of w.setting (history w.setting w.log) ≢ Unended
 over_when_refused v w choice (Ok e) harts far chosen answer err refused = absurd cc
 over_when_refused v w choice (Err why) harts far chosen answer err refused =
     subst (λ (u : Seen). end_of u.setting (history u.setting u.log) ≢ Unended) (sym err)
-    (λ unended. no_error (decide v.setting (history v.setting v.log) 0 choice) why (sym answer) (rule_is_made v.setting v.log choice far.block_run harts unended chosen))
+    (λ unended. no_error (decide v.setting (history v.setting v.log) 0 choice) why (sym answer)
+    (rule_is_made v.setting v.log choice far.block_run harts unended chosen))
 
 -- what holds of all answers holds of an Ok
-pub always : {X Y P : Type 0} (r : Result X Y) → P → IfOk r (λ x. P)
+always : {X Y P : Type 0} (r : Result X Y) → P → IfOk r (λ x. P)
 always (Ok x) p = p
 always (Err y) p = tt
 
--- what the rule chooses where the next instruction isn't allowed
-drains_for : (s : Setting) (log : List Entry) (why : Why) → 0 < s.limits.harts → decide s (history s log) 0 asked.Exec ≡ Err (NotEnabled why) → why ≢ Idle → solo_choice s (history s log) ≡ Some asked.Drain
-drains_for s log why harts held other = (drains_when_held s log why harts held other).0
-
-pub chosen_instead : (s : Setting) (log : List Entry) (why : Why) → IsSolo s log → 0 < s.limits.harts → decide s (history s log) 0 asked.Exec ≡ Err (NotEnabled why) → solo_choice s (history s log) ≡ Some (instead why)
-chosen_instead s log Idle rule harts held = (runs_when_idle s log rule held).0
-chosen_instead s log NoHart rule harts held = drains_for s log NoHart harts held (λ is. absurd cc)
-chosen_instead s log InBarrier rule harts held = drains_for s log InBarrier harts held (λ is. absurd cc)
-chosen_instead s log Waiting rule harts held = drains_for s log Waiting harts held (λ is. absurd cc)
-chosen_instead s log FullBuffer rule harts held = drains_for s log FullBuffer harts held (λ is. absurd cc)
-chosen_instead s log Others rule harts held = drains_for s log Others harts held (λ is. absurd cc)
-chosen_instead s log NoStore rule harts held = drains_for s log NoStore harts held (λ is. absurd cc)
-chosen_instead s log NoRequest rule harts held = drains_for s log NoRequest harts held (λ is. absurd cc)
-chosen_instead s log NotInBarrier rule harts held = drains_for s log NotInBarrier harts held (λ is. absurd cc)
-chosen_instead s log Targets rule harts held = drains_for s log Targets harts held (λ is. absurd cc)
-chosen_instead s log Busy rule harts held = drains_for s log Busy harts held (λ is. absurd cc)
-chosen_instead s log NotReady rule harts held = drains_for s log NotReady harts held (λ is. absurd cc)
-chosen_instead s log NotAllowed rule harts held = drains_for s log NotAllowed harts held (λ is. absurd cc)
-chosen_instead s log NoSignal rule harts held = drains_for s log NoSignal harts held (λ is. absurd cc)
-
--- the same of a machine that refused it and stayed as it was
-pub chosen_next : (v w : Seen) (why : Why) (r : Result Entry Refused) → IsSoloSoFar v → 0 < v.setting.limits.harts → r ≡ decide v.setting (history v.setting v.log) 0 asked.Exec → r ≡ Err (NotEnabled why) → w ≡ v
-    → solo_choice w.setting (history w.setting w.log) ≡ Some (instead why)
-chosen_next v w why r far harts answer refused same =
-    subst (λ (u : Seen). solo_choice u.setting (history u.setting u.log) ≡ Some (instead why)) (sym same) (chosen_instead v.setting v.log why far.rule harts (sym answer ∙ refused))
-
 -- an instruction that is allowed is the rule's choice
-pub executed_by_rule : (v : Seen) (r : Result Entry Refused) → r ≡ decide v.setting (history v.setting v.log) 0 asked.Exec → IfOk r (λ e. solo_choice v.setting (history v.setting v.log) ≡ Some asked.Exec)
+executed_by_rule : (v : Seen) (r : Result Entry Refused)
+    → r ≡ decide v.setting (history v.setting v.log) 0 asked.Exec
+    → IfOk r (λ e. solo_choice v.setting (history v.setting v.log) ≡ Some asked.Exec)
 executed_by_rule v (Ok e) answer = executes_when_allowed v.setting v.log e (sym answer)
 executed_by_rule v (Err why) answer = tt
 
--- a refusal that isn't that of a condition
-abbrev pub is_condition : Refused → Bool
-is_condition (Ended e) = false
-is_condition Full = false
-is_condition (NotEnabled why) = true
+-- the rule's choice is what it chooses by what is seen
+abbrev IsSeenBy : Seen → Sight → Type 0
+IsSeenBy m seen = seen ≡ sight_in (here_in_history m.setting (history m.setting m.log) 0)
+    (ran 0 (history m.setting m.log))
 
-pub not_by_condition : (r : Refused) → is_condition r ≡ false → (why : Why) → r ≢ NotEnabled why
-not_by_condition r other why is = absurd (true≢false (sym (ap is_condition is) ∙ other))
+pub choice_is_seen : (m : Seen) (seen : Sight) (choice : Choice) → IsSeenBy m seen
+    → solo_rule seen ≡ Some choice → solo_choice m.setting (history m.setting m.log) ≡ Some choice
+choice_is_seen m seen choice sight is = rule_is_read m.setting m.log seen sight ∙ is
 
--- a condition that fails is neither an end nor a full log
-by_condition : (x : Result Entry Why) (r : Refused) → ((why : Why) → r ≢ NotEnabled why) → refused_by x ≢ Err r
-by_condition (Ok e) r other = λ is. absurd cc
-by_condition (Err why) r other = λ is. let same : r ≡ NotEnabled why = cc in other why same
+-- a turn by the rule's choice
+turn_by_choice : (v w : Seen) (choice : Choice) (r : Result Entry Refused) → 0 < v.setting.limits.harts
+    → IsSoloSoFar v → solo_choice v.setting (history v.setting v.log) ≡ Some choice
+    → r ≡ decide v.setting (history v.setting v.log) 0 choice
+    → IfOk r (λ e. (e.hart ≡ record { 0 = 0 }) × (choice_of e ≡ choice))
+    → IfOk r (λ e. w ≡ record { setting = v.setting; log = v.log ++ e ∷ [] }) → OnErr r (w ≡ v)
+    → IsBlockRun w.setting w.log → IsSoloTurn v w (is_ok r)
+turn_by_choice v w choice r harts far chosen answer of ok err run = record {
+  setting = same_setting v w r ok err;
+  so_far = so_far_kept v w choice r far (always r chosen) of ok err run;
+  room = λ made. room_when_made v w r ok run made;
+  longer = λ made. one_longer v w r ok made;
+  over = λ refused. over_when_refused v w choice r harts far chosen answer err refused;
+}
 
--- where the machine refuses for something else, the run is over
-over_with : (s : Setting) (before : History) (r : Refused) (o : Option End) (full : Bool) → ended before ≡ o → leb s.limits.steps (length before) ≡ full → IsRunHistory s before → 0 < s.limits.harts
-    → ((why : Why) → r ≢ NotEnabled why) → decide s before 0 asked.Exec ≡ Err r → end_of s before ≢ Unended
-over_with s before r (Some e) full at is run harts other answer = λ left. not_open s before run (at ∙ ap Some (sym (end_of-ended s before e at) ∙ left))
-over_with s before r None true at is run harts other answer = λ left. let limit = end_of-limit s before at (leb-true _ _ is) in absurd cc
-over_with s before r None false at is run harts other answer =
-    absurd (by_condition (decide_on s before 0 asked.Exec (running 0 before)) r other (sym (decide-on s before 0 asked.Exec at (leb-false _ _ is) harts) ∙ answer))
+pub turn_made : (v w : Seen) (choice : Choice) (r : Result Entry Refused) (made : Bool) → made ≡ is_ok r
+    → 0 < v.setting.limits.harts → IsSoloSoFar v
+    → solo_choice v.setting (history v.setting v.log) ≡ Some choice
+    → r ≡ decide v.setting (history v.setting v.log) 0 choice
+    → IfOk r (λ e. (e.hart ≡ record { 0 = 0 }) × (choice_of e ≡ choice))
+    → IfOk r (λ e. w ≡ record { setting = v.setting; log = v.log ++ e ∷ [] }) → OnErr r (w ≡ v)
+    → IsBlockRun w.setting w.log → IsSoloTurn v w made
+turn_made v w choice r made is harts far chosen answer of ok err run =
+    subst (IsSoloTurn v w) (sym is) (turn_by_choice v w choice r harts far chosen answer of ok err run)
 
-pub over_when_stopped : (v w : Seen) (r : Refused) → IsBlockRun v.setting v.log → 0 < v.setting.limits.harts → ((why : Why) → r ≢ NotEnabled why) → decide v.setting (history v.setting v.log) 0 asked.Exec ≡ Err r → w ≡ v
-    → end_of w.setting (history w.setting w.log) ≢ Unended
-over_when_stopped v w r run harts other answer same =
-    let before = history v.setting v.log in
-    subst (λ (u : Seen). end_of u.setting (history u.setting u.log) ≢ Unended) (sym same)
-    (over_with v.setting before r (ended before) (leb v.setting.limits.steps (length before)) refl refl run harts other answer)
+-- a turn by an instruction that was made, and one by what is seen where it was refused
+pub turn_executed : (v w : Seen) (r : Result Entry Refused) (e : Entry) → r ≡ Ok e → IsSoloSoFar v
+    → r ≡ decide v.setting (history v.setting v.log) 0 asked.Exec
+    → IfOk r (λ e. (e.hart ≡ record { 0 = 0 }) × (choice_of e ≡ asked.Exec))
+    → IfOk r (λ e. w ≡ record { setting = v.setting; log = v.log ++ e ∷ [] }) → OnErr r (w ≡ v)
+    → IsBlockRun w.setting w.log → IsSoloTurn v w true
+turn_executed v w r e is far answer of ok err run = record {
+  setting = same_setting v w r ok err;
+  so_far = so_far_kept v w asked.Exec r far (executed_by_rule v r answer) of ok err run;
+  room = λ made. room_when_made v w r ok run (ap is_ok is);
+  longer = λ made. one_longer v w r ok (ap is_ok is);
+  over = λ no. absurd cc;
+}
+
+pub turn_after : (v w x : Seen) (made : Bool) → w ≡ v → IsSoloTurn w x made → IsSoloTurn v x made
+turn_after v w x made same turn = subst (λ (u : Seen). IsSoloTurn u x made) same turn
+
+-- where the rule has no choice the run is over
+pub turn_stopped : (m : Seen) (seen : Sight) → m.setting.limits.harts ≡ 1 → IsSoloSoFar m → IsSeenBy m seen
+    → solo_rule seen ≡ None → IsSoloTurn m m false
+turn_stopped m seen one far sight none = record {
+  setting = refl;
+  so_far = far;
+  room = λ made. absurd cc;
+  longer = λ made. absurd cc;
+  over = λ stopped. rule_stops m.setting m.log one far.block_run (rule_is_read m.setting m.log seen sight ∙ none);
+}

@@ -6,11 +6,17 @@ use Rattle.elf_load.specs.Faults.{first_fault}
 use Rattle.elf_load.specs.Images.{IsImage}
 use Rattle.rseq_run.specs.Programs.{Files, IsProgram, IsReadAs, most_program_bytes}
 
-pub program_of : (files : Files) (name : List ℕ) (limits : Limits) (bytes given : List ℕ) (image : Image) → given ≡ bytes → IsReadAs files name bytes
-    → length bytes ≤ most_program_bytes → first_fault given limits.frames ≡ None → IsImage given image → IsProgram files name limits image
+pub program_of : (files : Files) (name : List ℕ) (limits : Limits) (bytes given : List ℕ) (image : Image)
+    → given ≡ bytes → IsReadAs files name bytes
+    → length bytes ≤ most_program_bytes → first_fault given limits.frames ≡ None → IsImage given image
+    → IsProgram files name limits image
 program_of files name limits bytes given image same read fits no_fault loaded = record {
   bytes = bytes;
   read = read;
-  good = record { fits = fits; no_fault = subst (λ (b : List ℕ). first_fault b limits.frames ≡ None) same no_fault };
+  good = record {
+    fits = fits;
+    no_fault =
+        subst (λ (b : List ℕ). first_fault b limits.frames ≡ None) same no_fault;
+  };
   loaded = subst (λ (b : List ℕ). IsImage b image) same loaded;
 }

@@ -15,14 +15,16 @@ pub record IsWritten (old new : Option (List ℕ)) (text : List ℕ) (due answer
   pub gained : Gained old new text
 
 -- the status is that of a failed sink, whose count of faults rose, and it gained a prefix of the text
-pub record IsCutShort (old new : Option (List ℕ)) (before after : ℕ) (text : List ℕ) (answered : ℕ) : Type 0 where
+pub record IsCutShort
+    (old new : Option (List ℕ)) (before after : ℕ) (text : List ℕ) (answered : ℕ) : Type 0 where
   pub status : answered ≡ 6
   pub rose : Rose before after
   pub gained : GainedPrefix old new text
 
 -- one of the two
 abbrev pub IsDelivered : Option (List ℕ) → Option (List ℕ) → ℕ → ℕ → List ℕ → ℕ → ℕ → Type 0
-IsDelivered old new before after text due status = IsWritten old new text due status ⊎ IsCutShort old new before after text status
+IsDelivered old new before after text due status =
+    IsWritten old new text due status ⊎ IsCutShort old new before after text status
 
 -- why a program isn't taken
 abbrev pub IsProgramCause : Files → List ℕ → Limits → (List ℕ → ℕ) → (List ℕ → ℕ) → Fault → Type 0

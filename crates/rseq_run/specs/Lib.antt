@@ -1,13 +1,15 @@
 pub mod Causes
-pub mod Commands
 pub mod Delivery
+pub mod Grammar
+pub mod Kept
+pub mod Needs
 pub mod Options
+pub mod Outcome
 pub mod Outputs
 pub mod Parts
 pub mod Playing
 pub mod Programs
 pub mod Runs
-pub mod SoloChoice
 pub mod Statuses
 pub mod Text
 pub mod Told

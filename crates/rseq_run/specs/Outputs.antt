@@ -11,11 +11,12 @@ use Rattle.block_model.specs.Replay.{Ask}
 use Rattle.rseq_run.specs.Programs.{Files, IsProgram, IsScript, asks_of, start_of}
 use Rattle.rseq_run.specs.Runs.{IsSoloRun, IsPlayedRun}
 use Rattle.rseq_run.specs.Text.{output_text}
-use Rattle.rseq_run.specs.Words.{Command, Solo, Play, command_of}
+use Rattle.rseq_run.specs.Grammar.{Command, Solo, Play}
+use Rattle.rseq_run.specs.Words.{command_of}
 
 -- the output text of a log: its lines, and the console and the end that it comes to
 abbrev pub log_output : Setting → List Entry → List ℕ
-log_output s log = output_text (console (history s log)) log (end_of s (history s log))
+log_output s log = output_text (console s (history s log)) log (end_of s (history s log))
 
 -- the text that `solo` writes: that of a whole run of the program by the fixed rule
 pub record IsSoloOutput (files : Files) (program : List ℕ) (limits : Limits) (written : List ℕ) : Type 0 where
@@ -26,7 +27,8 @@ pub record IsSoloOutput (files : Files) (program : List ℕ) (limits : Limits) (
   pub text : written ≡ log_output (start_of image limits) log
 
 -- the text that `play` writes: that of a whole run of the program by the script
-pub record IsPlayOutput (files : Files) (program script : List ℕ) (limits : Limits) (written : List ℕ) : Type 0 where
+pub record IsPlayOutput
+    (files : Files) (program script : List ℕ) (limits : Limits) (written : List ℕ) : Type 0 where
   pub image : Image
   pub taken : IsProgram files program limits image
   pub lines : List ℕ
@@ -39,24 +41,29 @@ pub record IsPlayOutput (files : Files) (program script : List ℕ) (limits : Li
 abbrev pub IsOutputOf : Files → Option Command → List ℕ → Type 0
 IsOutputOf files None written = ⊥
 IsOutputOf files (Some (Solo program limits)) written = IsSoloOutput files program limits written
-IsOutputOf files (Some (Play program script limits)) written = IsPlayOutput files program script limits written
+IsOutputOf files (Some (Play program script limits)) written =
+    IsPlayOutput files program script limits written
 
 -- the output of the words
 abbrev pub IsOutput : Files → List (List ℕ) → List ℕ → Type 0
 IsOutput files words written = IsOutputOf files (command_of words) written
 
--- the output text of the plain machine's run: what it holds on its console, the entries that it made, and its end
+-- the output text of the plain machine's run: what it holds on its console, the entries that it made, and its
+-- end
 abbrev pub plain_output : Setting → PlainRun → List ℕ
-plain_output s run = output_text run.machine.console run.log (plain_end s run.machine)
+plain_output s run = output_text run.machine.kernel.console run.log (plain_end s run.machine)
 
--- the text of the plain machine's own run of the program by the fixed rule, for as many steps as the limits allow
-pub record IsPlainSoloOutput (files : Files) (program : List ℕ) (limits : Limits) (written : List ℕ) : Type 0 where
+-- the text of the plain machine's own run of the program by the fixed rule, for as many steps as the limits
+-- allow
+pub record IsPlainSoloOutput
+    (files : Files) (program : List ℕ) (limits : Limits) (written : List ℕ) : Type 0 where
   pub image : Image
   pub taken : IsProgram files program limits image
   pub text : written ≡ plain_output (start_of image limits) (plain_solo (start_of image limits) limits.steps)
 
 -- the text of the plain machine's run of the program over the lines of the script
-pub record IsPlainPlayOutput (files : Files) (program script : List ℕ) (limits : Limits) (written : List ℕ) : Type 0 where
+pub record IsPlainPlayOutput
+    (files : Files) (program script : List ℕ) (limits : Limits) (written : List ℕ) : Type 0 where
   pub image : Image
   pub taken : IsProgram files program limits image
   pub lines : List ℕ
@@ -71,7 +78,8 @@ pub record IsPlainPlayOutput (files : Files) (program script : List ℕ) (limits
 abbrev pub IsPlainOutputOf : Files → Option Command → List ℕ → Type 0
 IsPlainOutputOf files None written = ⊥
 IsPlainOutputOf files (Some (Solo program limits)) written = IsPlainSoloOutput files program limits written
-IsPlainOutputOf files (Some (Play program script limits)) written = IsPlainPlayOutput files program script limits written
+IsPlainOutputOf files (Some (Play program script limits)) written =
+    IsPlainPlayOutput files program script limits written
 
 -- the plain machine's output of the words
 abbrev pub IsPlainOutput : Files → List (List ℕ) → List ℕ → Type 0

@@ -1,9 +1,9 @@
 -- The arguments of a command, one item after another.
 use Rattle.std.specs.Prelude.{ℕ, List, [], ◌∷◌, ◌++◌, length, Option, Some, None, if◌then◌else◌, nat_lt}
 use Rattle.std.specs.Option.{is_some}
-use Rattle.rseq_run.specs.declared.options.OptionName.{OptionName}
-use Rattle.rseq_run.specs.declared.options.OptionName.TheVariants.{Harts, Frames, Steps}
-use Rattle.rseq_run.specs.Words.{Arguments, Item, Name, Given}
+use Rattle.rseq_run.specs.Options.{OptionName}
+use Rattle.rseq_run.specs.Options.{Harts, Frames, Steps}
+use Rattle.rseq_run.specs.Grammar.{Arguments, Item, Name, Given}
 
 -- nothing is given
 abbrev pub no_arguments : Arguments
@@ -11,12 +11,14 @@ no_arguments = record { names = []; harts = None; frames = None; steps = None }
 
 -- a name more, none where there are two
 abbrev pub with_name : Arguments → List ℕ → Option Arguments
-with_name given text = if nat_lt (length given.names) 2 then Some (record given { names = given.names ++ text ∷ [] }) else None
+with_name given text =
+    if nat_lt (length given.names) 2 then Some (record given { names = given.names ++ text ∷ [] }) else None
 
 -- a value more, none where the option has one
 abbrev pub with_value : Arguments → OptionName → List ℕ → Option Arguments
 with_value given Harts text = if is_some given.harts then None else Some (record given { harts = Some text })
-with_value given Frames text = if is_some given.frames then None else Some (record given { frames = Some text })
+with_value given Frames text =
+    if is_some given.frames then None else Some (record given { frames = Some text })
 with_value given Steps text = if is_some given.steps then None else Some (record given { steps = Some text })
 
 -- what a word ended more

@@ -1,13 +1,14 @@
--- What a shelf that tells its files tells of a command: which answer is due where no device fails and memory suffices.
-use Rattle.std.specs.Prelude.{ℕ, ◌≡◌, ◌<◌, ◌≤◌, ◌⊎◌, List, Option, Some, None, IsSome, length}
+-- What a shelf that tells its files tells of those that are needed: which answer is due where no device fails
+-- and memory suffices.
+use Rattle.std.specs.Prelude.{ℕ, ◌≡◌, ◌<◌, ◌≤◌, ◌⊎◌, List, Some, IsSome, length}
 use Rattle.mach_types.specs.declared.events.Entry.{Entry}
 use Rattle.mach_types.specs.declared.limits.Limits.{Limits}
 use Rattle.elf_load.specs.declared.fault.ElfFault.{ElfFault}
 use Rattle.elf_load.specs.declared.image.Image.{Image}
 use Rattle.elf_load.specs.Images.{IsImage}
+use Rattle.rseq_run.specs.Needs.{Needs, Nothing, Program, Script}
 use Rattle.rseq_run.specs.Programs.{Files, IsFaulty, IsGood, most_program_bytes, most_script_bytes, start_of}
 use Rattle.rseq_run.specs.Runs.{IsFirstBadLine, IsPlayedRun}
-use Rattle.rseq_run.specs.Words.{Command, Solo, Play}
 
 -- the file of this name is told, and its bytes are a program that the loader takes
 pub record TellsGood (files : Files) (name : List ℕ) (limits : Limits) : Type 0 where
@@ -51,33 +52,34 @@ pub record TellsBadLine (files : Files) (program script : List ℕ) (limits : Li
   pub number : ℕ
   pub first : IsFirstBadLine (start_of both.image limits) both.lines number
 
--- the files of a command are told
-abbrev pub AreTold : Files → Option Command → Type 0
-AreTold files None = Unit {0}
-AreTold files (Some (Solo program limits)) = IsSome (files program)
-AreTold files (Some (Play program script limits)) = IsSome (files program) × IsSome (files script)
+-- the files that are needed are told
+abbrev pub AreTold : Files → Needs → Type 0
+AreTold files Nothing = Unit {0}
+AreTold files (Program program limits) = IsSome (files program)
+AreTold files (Script program script limits) = IsSome (files program) × IsSome (files script)
 
--- the files of a command are told and give a whole output
-abbrev pub TellsGoodFiles : Files → Option Command → Type 0
-TellsGoodFiles files None = ⊥
-TellsGoodFiles files (Some (Solo program limits)) = TellsGood files program limits
-TellsGoodFiles files (Some (Play program script limits)) = TellsAllowed files program script limits
+-- the files that are needed are told and give a whole output
+abbrev pub TellsGoodFiles : Files → Needs → Type 0
+TellsGoodFiles files Nothing = ⊥
+TellsGoodFiles files (Program program limits) = TellsGood files program limits
+TellsGoodFiles files (Script program script limits) = TellsAllowed files program script limits
 
--- the program of a command is told and is refused
-abbrev pub TellsFaultyProgram : Files → Option Command → Type 0
-TellsFaultyProgram files None = ⊥
-TellsFaultyProgram files (Some (Solo program limits)) = TellsFaulty files program limits
-TellsFaultyProgram files (Some (Play program script limits)) = TellsFaulty files program limits
+-- the program that is needed is told and is refused
+abbrev pub TellsFaultyProgram : Files → Needs → Type 0
+TellsFaultyProgram files Nothing = ⊥
+TellsFaultyProgram files (Program program limits) = TellsFaulty files program limits
+TellsFaultyProgram files (Script program script limits) = TellsFaulty files program limits
 
--- the script of a command is told and is refused
-abbrev pub TellsBadScript : Files → Option Command → Type 0
-TellsBadScript files None = ⊥
-TellsBadScript files (Some (Solo program limits)) = ⊥
-TellsBadScript files (Some (Play program script limits)) = TellsBadLine files program script limits
+-- the script that is needed is told and is refused
+abbrev pub TellsBadScript : Files → Needs → Type 0
+TellsBadScript files Nothing = ⊥
+TellsBadScript files (Program program limits) = ⊥
+TellsBadScript files (Script program script limits) = TellsBadLine files program script limits
 
--- a file of a command is told and is too big: its program, or its script beside a good program
-abbrev pub TellsBigFile : Files → Option Command → Type 0
-TellsBigFile files None = ⊥
-TellsBigFile files (Some (Solo program limits)) = TellsBig files program most_program_bytes
-TellsBigFile files (Some (Play program script limits)) =
-    TellsBig files program most_program_bytes ⊎ (TellsGood files program limits × TellsBig files script most_script_bytes)
+-- a file that is needed is told and is too big: the program, or the script beside a good program
+abbrev pub TellsBigFile : Files → Needs → Type 0
+TellsBigFile files Nothing = ⊥
+TellsBigFile files (Program program limits) = TellsBig files program most_program_bytes
+TellsBigFile files (Script program script limits) =
+    TellsBig files program most_program_bytes
+    ⊎ (TellsGood files program limits × TellsBig files script most_script_bytes)

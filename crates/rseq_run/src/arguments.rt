@@ -2,10 +2,11 @@
 
 ghost use Rattle.std.specs.Prelude.{◌≡◌, IfNone, option_map};
 ghost use Rattle.std.specs.List.{before_first};
-ghost use Rattle.rseq_run.specs.Commands.{shown, shown_read, stated};
+ghost use Rattle.rseq_run.specs.Grammar as grammar;
+ghost use Rattle.rseq_run.specs.Kept.{named, reading_kept, shown, shown_read, stated};
 ghost use Rattle.rseq_run.specs.Options.{option_named};
 ghost use Rattle.rseq_run.specs.Parts as parts;
-ghost use Rattle.rseq_run.specs.Words as grammar;
+ghost use Rattle.rseq_run.specs.Words as words_read;
 
 use crate::options::OptionName;
 
@@ -80,7 +81,7 @@ impl<'a> Arguments<'a> {
 
     /// The value of an option more; None where the option has one.
     fn with_value(self, option: OptionName, text: &'a str) -> Option<Arguments<'a>>
-        ensures { option_map stated result ≡ parts.with_value (stated self.entry) option text.now }
+        ensures { option_map stated result ≡ parts.with_value (stated self.entry) (named option) text.now }
     {
         match option {
             OptionName::Harts if self.harts.is_none() => Some(Arguments {
@@ -102,7 +103,8 @@ impl<'a> Arguments<'a> {
     /// Adds the item that a word ended; None, with nothing changed, where it is a name too many or a second
     /// value.
     fn add(&mut self, item: Option<Item<'a>>) -> Option<()>
-        ensures added { option_map (λ _. stated self.new) result ≡ parts.with_item (stated self.old) (option_map shown item.entry) }
+        ensures added { option_map (λ _. stated self.new) result
+            ≡ parts.with_item (stated self.old) (option_map shown item.entry) }
         ensures unchanged { IfNone result (self.new ≡ self.old) }
     {
         *self = match item {
@@ -130,7 +132,9 @@ fn is_option(word: &str) -> bool
 
 /// An option's word: with `=` its value is there, else the next word is its value.
 fn read_option(word: &str) -> Option<(Option<Item<'_>>, Reading)>
-    ensures { option_map shown_read result ≡ grammar.option_read (option_named (before_first grammar.is_equals word.now)) (grammar.behind_equals word.now) }
+    ensures { option_map shown_read result
+        ≡ words_read.option_read (option_named (before_first words_read.is_equals word.now))
+        (words_read.behind_equals word.now) }
 {
     match word.split_once('=') {
         Some((option, text)) => {
@@ -144,7 +148,7 @@ fn read_option(word: &str) -> Option<(Option<Item<'_>>, Reading)>
 /// The item that a word ends, if it ends one, and how the next word is read; None where the word can't stand
 /// there.
 fn read_word(reading: Reading, word: &str) -> Option<(Option<Item<'_>>, Reading)>
-    ensures { option_map shown_read result ≡ grammar.word_read reading word.now }
+    ensures { option_map shown_read result ≡ words_read.word_read (reading_kept reading) word.now }
 {
     match reading {
         Reading::Options if word == "--" => Some((None, Reading::Names)),
@@ -159,7 +163,7 @@ fn read_word(reading: Reading, word: &str) -> Option<(Option<Item<'_>>, Reading)
 /// What the words behind a command give it; None where an option isn't known, is given twice or lacks its
 /// value, and where there are more than two names.
 pub(crate) fn arguments_of(words: &[String]) -> Option<Arguments<'_>>
-    ensures { option_map stated result ≡ grammar.arguments_of (grammar.texts words.now) }
+    ensures { option_map stated result ≡ words_read.arguments_of (words_read.texts words.now) }
 {
     let mut arguments = Arguments::none();
     let mut reading = Reading::Options;

@@ -2,8 +2,9 @@
 
 ghost use Rattle.std.specs.Prelude.{◌≡◌, ◌≤◌, IfSome, option_map};
 ghost use Rattle.mach_types.specs.Limits.{InRange};
-ghost use Rattle.rseq_run.specs.Commands.{said, stated};
-ghost use Rattle.rseq_run.specs.Words.{command_of, limits_in, limits_on, play_of, solo_of, texts};
+ghost use Rattle.rseq_run.specs.Kept.{said, stated};
+ghost use Rattle.rseq_run.specs.Grammar.{asked_by, limits_on, play_of, solo_of};
+ghost use Rattle.rseq_run.specs.Words.{HasItsHarts, command_of, limits_in, texts};
 
 use crate::arguments::{Arguments, FileNames, arguments_of};
 use crate::options::{OptionName, chosen};
@@ -38,11 +39,21 @@ pub enum Command<'a> {
 pub fn command_of(words: &[String]) -> Option<Command<'_>>
     ensures command { option_map said result ≡ command_of (texts words.now) }
     ensures limits { IfSome result (λ command. InRange (limits_in (said command))) }
+    ensures harts { IfSome result (λ command. HasItsHarts (said command)) }
 {
     let (command, rest) = words.split_first()?;
-    match command.as_str() {
-        "solo" => solo_of(arguments_of(rest)?),
-        "play" => play_of(arguments_of(rest)?),
+    asked_by(command.as_str(), arguments_of(rest)?)
+}
+
+/// What a command's word asks for with these arguments; None where no command has the word.
+fn asked_by<'a>(command: &str, arguments: Arguments<'a>) -> Option<Command<'a>>
+    ensures command { option_map said result ≡ asked_by command.now (stated arguments.entry) }
+    ensures limits { IfSome result (λ command. InRange (limits_in (said command))) }
+    ensures harts { IfSome result (λ command. HasItsHarts (said command)) }
+{
+    match command {
+        "solo" => solo_of(arguments),
+        "play" => play_of(arguments),
         _ => None,
     }
 }
@@ -53,6 +64,7 @@ fn limits_on(harts: u8, arguments: &Arguments) -> Option<Limits>
     requires eight_harts { harts ≤ 8 }
     ensures limits { result ≡ limits_on harts (stated arguments.now) }
     ensures in_range { IfSome result InRange }
+    ensures harts { IfSome result (λ limits. limits.harts ≡ harts) }
 {
     let frames = chosen(OptionName::Frames.numbers(), arguments.frames)?;
     let steps = chosen(OptionName::Steps.numbers(), arguments.steps)?;
@@ -67,6 +79,7 @@ fn limits_on(harts: u8, arguments: &Arguments) -> Option<Limits>
 fn solo_of(arguments: Arguments<'_>) -> Option<Command<'_>>
     ensures command { option_map said result ≡ solo_of (stated arguments.entry) }
     ensures limits { IfSome result (λ command. InRange (limits_in (said command))) }
+    ensures harts { IfSome result (λ command. HasItsHarts (said command)) }
 {
     match arguments.names {
         FileNames::One(program) if arguments.harts.is_none() => Some(Command::Solo {
@@ -81,6 +94,7 @@ fn solo_of(arguments: Arguments<'_>) -> Option<Command<'_>>
 fn play_of(arguments: Arguments<'_>) -> Option<Command<'_>>
     ensures command { option_map said result ≡ play_of (stated arguments.entry) }
     ensures limits { IfSome result (λ command. InRange (limits_in (said command))) }
+    ensures harts { IfSome result (λ command. HasItsHarts (said command)) }
 {
     let FileNames::Two(program, script) = arguments.names else {
         return None;

@@ -25,8 +25,8 @@ pub enum Fault {
     Big,
     /// The program's file is refused.
     Elf(ElfFault),
-    /// The line of this number, counted from 1, is the first of the script that is malformed, whose event isn't
-    /// allowed, or whose thread or pc differs.
+    /// The line of this number, counted from 1, is the first of the script that is malformed, whose event
+    /// isn't allowed, or whose thread or pc differs.
     Script(u64),
 }
 

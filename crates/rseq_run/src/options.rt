@@ -1,9 +1,10 @@
 //! The options of a command line: their words, and the numbers that they take.
 
-ghost use Rattle.std.specs.Prelude.{◌≡◌, option_copied};
+ghost use Rattle.std.specs.Prelude.{◌≡◌, option_copied, option_map};
 ghost use Rattle.std.specs.Char.{is_ascii_digit};
 ghost use Rattle.std.specs.List.{list_all};
-ghost use Rattle.rseq_run.specs.Options.{chosen, number_of, numbers_of, option_named};
+ghost use Rattle.rseq_run.specs.Kept.{named, range};
+ghost use Rattle.rseq_run.specs.Options.{chosen, number_of, option_named, range_of};
 
 /// The options that commands have.
 #[derive(Clone, Copy, Debug, PartialEq, Eq, Drop)]
@@ -30,7 +31,7 @@ pub(crate) struct Numbers {
 impl OptionName {
     /// The option that a word names.
     pub(crate) fn named(word: &str) -> Option<OptionName>
-        ensures { result ≡ option_named word.now }
+        ensures { option_map named result ≡ option_named word.now }
     {
         match word {
             "--harts" => Some(OptionName::Harts),
@@ -42,7 +43,7 @@ impl OptionName {
 
     /// The numbers that the option takes.
     pub(crate) fn numbers(self) -> Numbers
-        ensures { result ≡ numbers_of self }
+        ensures { range result ≡ range_of (named self) }
     {
         let (least, most, default) = match self {
             OptionName::Harts => (1, 8, 2),
@@ -64,7 +65,8 @@ fn is_decimal(text: &str) -> bool
     text.as_bytes().iter().all(|byte| byte.is_ascii_digit())
 }
 
-/// The number that a text writes: 1 to 20 decimal digits and nothing else. None also where it is 2^64 or more.
+/// The number that a text writes: 1 to 20 decimal digits and nothing else. None also where it is 2^64 or
+/// more.
 fn number_of(text: &str) -> Option<u64>
     ensures { result ≡ number_of text.now }
 {
@@ -75,9 +77,10 @@ fn number_of(text: &str) -> Option<u64>
     }
 }
 
-/// The number that an option comes to, given the text of its value; None where that isn't a number that it takes.
+/// The number that an option comes to, given the text of its value; None where that isn't a number that it
+/// takes.
 pub(crate) fn chosen(numbers: Numbers, text: Option<&str>) -> Option<u64>
-    ensures { result ≡ chosen numbers (option_copied text.entry) }
+    ensures { result ≡ chosen (range numbers) (option_copied text.entry) }
 {
     let Some(text) = text else {
         return Some(numbers.default);

@@ -21,8 +21,8 @@ const NO_SEED: u64 = 0;
 
 /// Plays a script on an image, from the first line to the last.
 ///
-/// Refused with the number of the first line that is malformed, whose event isn't allowed, or whose thread or pc
-/// differs; or where memory is short.
+/// Refused with the number of the first line that is malformed, whose event isn't allowed, or whose thread or
+/// pc differs; or where memory is short.
 pub fn play(alloc: Global, image: &Image, limits: Limits, script: &[u8]) -> Result<Machine, Fault>
     requires image { IsBootable limits.frames image.now }
     requires limits { InRange limits }
@@ -45,7 +45,8 @@ fn play_next(
     ensures setting { machine.new.setting ≡ machine.old.setting }
     ensures playing { IfOk result (λ more. IsPlaying script.now machine.new reader.new) }
     ensures shorter { IfOk result (λ more. IsTrue more → length reader.new.left < length reader.old.left) }
-    ensures whole { IfOk result (λ more. more ≡ false → IsWholePlay machine.old.setting script.now machine.new) }
+    ensures whole { IfOk result
+        (λ more. more ≡ false → IsWholePlay machine.old.setting script.now machine.new) }
     ensures refused { IfErr result (λ fault. IsPlayCause machine.old.setting script.now fault) }
 {
     let number = machine.log().len() as u64 + 1;
@@ -65,7 +66,8 @@ fn play_next(
 /// Makes the event of a line; false where it isn't allowed, or where its thread or pc isn't as the line says.
 fn play_line(machine: &mut Machine, line: &Line) -> bool
     ensures setting { machine.new.setting ≡ machine.old.setting }
-    ensures made { IsTrue result → Ok machine.new.log ≡ extended machine.old.log (made_by machine.old.setting machine.old.log (ask_of line.now)) }
+    ensures made { IsTrue result → Ok machine.new.log
+        ≡ extended machine.old.log (made_by machine.old.setting machine.old.log (ask_of line.now)) }
     ensures refused { result ≡ false → made_by machine.old.setting machine.old.log (ask_of line.now) ≡ None }
 {
     match machine.step(line.hart, line.choice) {

@@ -1,27 +1,21 @@
-//! A run on one hart by the fixed rule: an idle hart runs the first ready thread; else the thread executes its next
-//! instruction where that is allowed, and else its oldest waiting store enters memory.
+//! A run on one hart by the fixed rule: an idle hart runs the first ready thread; else the thread executes
+//! its next instruction where that is allowed, and else its oldest waiting store enters memory.
 
-ghost use Rattle.std.specs.Prelude.{◌≡◌, ◌≢◌, ◌+◌, ◌<◌, Some, false, IfOk, IsTrue, length};
+ghost use Rattle.std.specs.Prelude.{◌≡◌, ◌<◌, Some, IfOk};
 ghost use Rattle.mach_types.specs.Limits.{InRange};
-ghost use Rattle.mach_types.specs.declared.limits.End.TheVariants.{Unended};
 ghost use Rattle.elf_load.specs.Images.{IsBootable};
-ghost use Rattle.block_model.specs.Deciding.{history, end_of};
-ghost use Rattle.block_model.specs.Solo.{solo_choice};
+ghost use Rattle.block_model.specs.Deciding.{history};
+ghost use Rattle.block_model.specs.Solo.{solo_choice, solo_rule};
 ghost use Rattle.rseq_run.specs.Programs.{start_of};
-ghost use Rattle.rseq_run.specs.Runs.{IsSoloSoFar, IsWholeSolo};
-ghost use Rattle.rseq_run.specs.SoloChoice.{instead};
+ghost use Rattle.rseq_run.specs.Runs.{IsSoloSoFar, IsSoloTurn, IsWholeSolo};
 
-use block_model::Refused;
 use elf_load::Image;
-use mach_types::{Choice, Hart, Limits, Tid, Why};
+use mach_types::{Choice, Hart, Limits, Sight};
 use machine_core::Machine;
 use std::alloc::{AllocError, Global};
 
 /// The only hart.
 const HART: Hart = Hart(0);
-
-/// The first thread.
-const FIRST: Tid = Tid(1);
 
 /// The seed of a run that draws no choice.
 const NO_SEED: u64 = 0;
@@ -30,6 +24,7 @@ const NO_SEED: u64 = 0;
 pub fn run_solo(alloc: Global, image: &Image, limits: Limits) -> Result<Machine, AllocError>
     requires image { IsBootable limits.frames image.now }
     requires limits { InRange limits }
+    requires one_hart { limits.harts ≡ 1 }
     ensures { IfOk result (IsWholeSolo (start_of image.now limits)) }
 {
     let mut machine = Machine::boot(alloc, image, limits, NO_SEED)?;
@@ -39,31 +34,42 @@ pub fn run_solo(alloc: Global, image: &Image, limits: Limits) -> Result<Machine,
 
 /// Makes the event that the rule chooses; false where the run is over.
 ///
-/// An instruction comes first, since it is what comes most; where it is refused, the refusal tells the rule's choice.
+/// An instruction comes first, since it is what comes most: one that is made was the rule's choice.
 fn make_event(machine: &mut Machine) -> bool
-    requires harts { 0 < machine.old.setting.limits.harts }
+    requires one_hart { machine.old.setting.limits.harts ≡ 1 }
     requires so_far { IsSoloSoFar machine.old }
-    ensures setting { machine.new.setting ≡ machine.old.setting }
-    ensures so_far { IsSoloSoFar machine.new }
-    ensures room { IsTrue result → length machine.old.log < machine.old.setting.limits.steps }
-    ensures longer { IsTrue result → length machine.new.log ≡ length machine.old.log + 1 }
-    ensures over { result ≡ false → end_of machine.new.setting (history machine.new.setting machine.new.log) ≢ Unended }
+    ensures { IsSoloTurn machine.old machine.new result }
 {
     match machine.step(HART, Choice::Exec) {
         Ok(_) => true,
-        Err(Refused::NotEnabled(why)) => make(machine, instead(why)),
-        Err(Refused::Ended(_)) => false,
-        Err(Refused::Full) => false,
+        Err(_) => make_seen(machine),
     }
 }
 
-/// What the rule chooses where the next instruction isn't allowed for this reason.
-fn instead(why: Why) -> Choice
-    ensures { result ≡ instead why }
+/// Makes the event that the rule chooses by what is seen of the hart; false where the run is over.
+fn make_seen(machine: &mut Machine) -> bool
+    requires one_hart { machine.old.setting.limits.harts ≡ 1 }
+    requires so_far { IsSoloSoFar machine.old }
+    ensures { IsSoloTurn machine.old machine.new result }
 {
-    match why {
-        Why::Idle => Choice::Run(FIRST),
-        _ => Choice::Drain,
+    match seen_choice(&machine.sight(HART)) {
+        Some(choice) => make(machine, choice),
+        None => false,
+    }
+}
+
+/// The rule's choice by what is seen of the hart; None where the hart is idle and no thread is ready.
+fn seen_choice(seen: &Sight) -> Option<Choice>
+    ensures { result ≡ solo_rule seen.now }
+{
+    if seen.idle {
+        Some(Choice::Run(seen.first_ready?))
+    } else if seen.deliverable && seen.stores == 0 {
+        Some(Choice::Signal)
+    } else if seen.deliverable || !seen.exec_enabled {
+        Some(Choice::Drain)
+    } else {
+        Some(Choice::Exec)
     }
 }
 
@@ -71,12 +77,9 @@ fn instead(why: Why) -> Choice
 fn make(machine: &mut Machine, choice: Choice) -> bool
     requires harts { 0 < machine.old.setting.limits.harts }
     requires so_far { IsSoloSoFar machine.old }
-    requires chosen { solo_choice machine.old.setting (history machine.old.setting machine.old.log) ≡ Some choice }
-    ensures setting { machine.new.setting ≡ machine.old.setting }
-    ensures so_far { IsSoloSoFar machine.new }
-    ensures room { IsTrue result → length machine.old.log < machine.old.setting.limits.steps }
-    ensures longer { IsTrue result → length machine.new.log ≡ length machine.old.log + 1 }
-    ensures over { result ≡ false → end_of machine.new.setting (history machine.new.setting machine.new.log) ≢ Unended }
+    requires chosen { solo_choice machine.old.setting (history machine.old.setting machine.old.log)
+        ≡ Some choice }
+    ensures { IsSoloTurn machine.old machine.new result }
 {
     machine.step(HART, choice).is_ok()
 }

@@ -1,11 +1,9 @@
 //! The call over devices that never fail: no read fault and no write fault comes.
 
-ghost use Rattle.std.specs.Prelude.{◌≡◌, ◌≢◌, ◌⊎◌, Some, IsSome};
+ghost use Rattle.std.specs.Prelude.{IfSome, IsSome};
 ghost use Rattle.outside.specs.SureShelf.{sure_file};
-ghost use Rattle.rseq_run.specs.Causes.{Wrote};
-ghost use Rattle.rseq_run.specs.Outputs.{IsOutput, IsPlainOutput};
-ghost use Rattle.rseq_run.specs.Told.{TellsGoodFiles};
-ghost use Rattle.rseq_run.specs.Words.{command_of, texts};
+ghost use Rattle.rseq_run.specs.Outcome.{IsSureOutcome};
+ghost use Rattle.rseq_run.specs.Words.{texts};
 
 use crate::top_call::{rseq_main, rseq_quiet};
 use outside::{Gate, SureShelf, SureSink};
@@ -23,11 +21,8 @@ pub fn sure_main<R: Threads + Wait + Sync, G: Gate + Sync>(
     sink: &mut SureSink,
     gate: &G,
 ) -> u8
-    ensures no_read_fault { result ≢ 5 }
-    ensures no_write_fault { result ≢ 6 }
-    ensures done { result ≡ 0 → Wrote sink.old.told sink.new.told (IsOutput (λ name. Some (sure_file shelf.old.files name)) (texts words.now)) }
-    ensures plain { result ≡ 0 → Wrote sink.old.told sink.new.told (IsPlainOutput (λ name. Some (sure_file shelf.old.files name)) (texts words.now)) }
-    ensures complete { TellsGoodFiles (λ name. Some (sure_file shelf.old.files name)) (command_of (texts words.now)) → (result ≡ 0) ⊎ (result ≡ 7) }
+    ensures outcome { IsSureOutcome (texts words.now) (sure_file shelf.old.files) sink.old.told sink.new.told
+        result }
 {
     rseq_main(alloc, rt, words, shelf, sink, gate)
 }
@@ -40,11 +35,8 @@ pub fn sure_quiet(
     sink: &mut SureSink,
 ) -> Option<u8>
     ensures answers { IsSome result }
-    ensures no_read_fault { result ≢ Some 5 }
-    ensures no_write_fault { result ≢ Some 6 }
-    ensures done { result ≡ Some 0 → Wrote sink.old.told sink.new.told (IsOutput (λ name. Some (sure_file shelf.old.files name)) (texts words.now)) }
-    ensures plain { result ≡ Some 0 → Wrote sink.old.told sink.new.told (IsPlainOutput (λ name. Some (sure_file shelf.old.files name)) (texts words.now)) }
-    ensures complete { TellsGoodFiles (λ name. Some (sure_file shelf.old.files name)) (command_of (texts words.now)) → (result ≡ Some 0) ⊎ (result ≡ Some 7) }
+    ensures outcome { IfSome result
+        (IsSureOutcome (texts words.now) (sure_file shelf.old.files) sink.old.told sink.new.told) }
 {
     rseq_quiet(alloc, words, shelf, sink)
 }

@@ -1,35 +1,57 @@
 //! Laws of the outputs, each as the contract of a function that does nothing.
 
-ghost use Rattle.std.specs.Prelude.{◌≡◌, ℕ, List, Option};
+ghost use Rattle.std.specs.Prelude.{◌≡◌, ◌↔◌, ℕ, List, Option, None, Some};
 ghost use Rattle.mach_types.specs.declared.limits.Limits.{Limits};
 ghost use Rattle.mach_types.specs.Limits.{InRange};
 ghost use Rattle.step_log.specs.Grammar.{log_text};
+ghost use Rattle.rseq_run.specs.Needs.{needs_of};
 ghost use Rattle.rseq_run.specs.Outputs.{IsOutput, IsOutputOf, IsPlainOutput, IsPlayOutput, IsSoloOutput};
 ghost use Rattle.rseq_run.specs.Programs.{Files, IsReadAs};
 ghost use Rattle.rseq_run.specs.Told.{AreTold, TellsGoodFiles};
-ghost use Rattle.rseq_run.specs.Words.{Command};
+ghost use Rattle.rseq_run.specs.Grammar.{Command, IsCommandLine};
+ghost use Rattle.rseq_run.specs.Words.{command_of};
 
-/// The log lines of an output, read as a script by `play` with the same program and limits, are allowed at every line
-/// and give the same output text. The shelf of the later call has the same program, and those lines as the script.
+/// The log lines of an output, read as a script by `play` with the same program and limits, are allowed at
+/// every line and give the same output text. The shelf of the later call has the same program, and those
+/// lines as the script.
 pub fn printed_log_replays()
-    ensures solo { (files later : Files) (program script : List ℕ) (limits : Limits) (written : List ℕ) → InRange limits → later program ≡ files program
+    ensures solo { (files later : Files) (program script : List ℕ) (limits : Limits) (written : List ℕ)
+        → InRange limits → later program ≡ files program
         → (output : IsSoloOutput files program limits written) → IsReadAs later script (log_text output.log)
         → IsPlayOutput later program script limits written }
-    ensures play { (files later : Files) (program first script : List ℕ) (limits : Limits) (written : List ℕ) → InRange limits → later program ≡ files program
-        → (output : IsPlayOutput files program first limits written) → IsReadAs later script (log_text output.log)
+    ensures play { (files later : Files) (program first script : List ℕ) (limits : Limits) (written : List ℕ)
+        → InRange limits → later program ≡ files program
+        → (output : IsPlayOutput files program first limits written)
+        → IsReadAs later script (log_text output.log)
         → IsPlayOutput later program script limits written }
 {}
 
-/// Where a shelf tells the files of a command, there is one output: which it is depends on their bytes and the limits
-/// alone. And where there is an output, the files are good.
+/// Where a shelf tells the files that a command needs, there is one output: which it is depends on their
+/// bytes and the limits alone. And where there is an output, the files are good.
 pub fn told_files_have_one_output()
-    ensures one { (files : Files) (command : Option Command) (written other : List ℕ) → AreTold files command
+    ensures one { (files : Files) (command : Option Command) (written other : List ℕ)
+        → AreTold files (needs_of command)
         → IsOutputOf files command written → IsOutputOf files command other → written ≡ other }
-    ensures good { (files : Files) (command : Option Command) (written : List ℕ) → AreTold files command
-        → IsOutputOf files command written → TellsGoodFiles files command }
+    ensures good { (files : Files) (command : Option Command) (written : List ℕ)
+        → AreTold files (needs_of command)
+        → IsOutputOf files command written → TellsGoodFiles files (needs_of command) }
 {}
 
 /// The output of the words is what the plain machine's own run prints.
 pub fn plain_machine_prints()
-    ensures { (files : Files) (words : List (List ℕ)) (written : List ℕ) → IsOutput files words written → IsPlainOutput files words written }
+    ensures { (files : Files) (words : List (List ℕ)) (written : List ℕ)
+        → IsOutput files words written → IsPlainOutput files words written }
+{}
+
+/// The words are read by the grammar: they are a line of one command at most, which is the one that is read,
+/// and none is read exactly where they are a line of no command.
+pub fn words_are_of_one_command()
+    ensures of { (words : List (List ℕ)) (command : Command)
+        → command_of words ≡ Some command → IsCommandLine words command }
+    ensures read { (words : List (List ℕ)) (command : Command)
+        → IsCommandLine words command → command_of words ≡ Some command }
+    ensures one { (words : List (List ℕ)) (a b : Command)
+        → IsCommandLine words a → IsCommandLine words b → a ≡ b }
+    ensures none { (words : List (List ℕ))
+        → (command_of words ≡ None) ↔ ((command : Command) → ¬ (IsCommandLine words command)) }
 {}

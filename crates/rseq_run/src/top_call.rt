@@ -1,18 +1,16 @@
 //! The top call: from words, files and a sink to a status.
 
-ghost use Rattle.std.specs.Prelude.{◌≡◌, ◌≢◌, ◌⊎◌, ℕ, Some, None, IfOk, IfErr, IfSome, IsErrAnd, IsSome};
+ghost use Rattle.std.specs.Prelude.{◌≡◌, Some, None, IfOk, IfErr, IfSome, IsSome};
 ghost use Rattle.mach_types.specs.Limits.{InRange};
 ghost use Rattle.elf_load.specs.Images.{IsBootable};
-ghost use Rattle.outside.specs.Counts.{Rose, NeverFalls, NoneFalls};
-ghost use Rattle.outside.specs.Told.{Gained};
-ghost use Rattle.rseq_run.specs.Causes.{HasBigFile, IsCause, IsCauseOf, IsDue, IsElfLine, IsScriptLine, IsStatus, NoneFailed, ReadFailed, Wrote, WrotePrefix};
+ghost use Rattle.outside.specs.Counts.{NeverFalls, NoneFalls};
+ghost use Rattle.rseq_run.specs.Causes.{IsCause, IsCauseOf};
 ghost use Rattle.rseq_run.specs.Delivery.{IsDelivered, IsProgramCause, IsScriptCause};
-ghost use Rattle.rseq_run.specs.Outputs.{IsOutput, IsPlainOutput, IsPlayOutput, IsSoloOutput};
+ghost use Rattle.rseq_run.specs.Grammar.{Play as PlayOf, Solo as SoloOf};
+ghost use Rattle.rseq_run.specs.Outcome.{IsOutcome};
+ghost use Rattle.rseq_run.specs.Outputs.{IsOutput, IsPlayOutput, IsSoloOutput};
 ghost use Rattle.rseq_run.specs.Programs.{IsProgram, IsScript};
-ghost use Rattle.rseq_run.specs.Statuses.{fault_status};
-ghost use Rattle.rseq_run.specs.Text.{fault_line};
-ghost use Rattle.rseq_run.specs.Told.{TellsBadScript, TellsBigFile, TellsFaultyProgram, TellsGoodFiles};
-ghost use Rattle.rseq_run.specs.Words.{Play as PlayOf, Solo as SoloOf, command_of as command_in, texts};
+ghost use Rattle.rseq_run.specs.Words.{command_of as command_in, texts};
 
 use crate::commands::{Command, command_of};
 use crate::faults::Fault;
@@ -53,25 +51,18 @@ pub fn rseq_main<R: Threads + Wait + Sync, S: Shelf, K: Sink, G: Gate + Sync>(
     sink: &mut K,
     gate: &G,
 ) -> u8
-    ensures statuses { IsStatus result }
-    ensures done { result ≡ 0 → Wrote (K.held sink.old) (K.held sink.new) (IsOutput (S.file shelf.old) (texts words.now)) }
-    ensures plain { result ≡ 0 → Wrote (K.held sink.old) (K.held sink.new) (IsPlainOutput (S.file shelf.old) (texts words.now)) }
-    ensures usage { result ≡ 2 → (command_in (texts words.now) ≡ None) × Gained (K.held sink.old) (K.held sink.new) (fault_line Fault.Usage) }
-    ensures usage_always { command_in (texts words.now) ≡ None → (result ≡ 2) ⊎ (result ≡ 6) }
-    ensures elf { result ≡ 3 → Wrote (K.held sink.old) (K.held sink.new) (IsElfLine (S.file shelf.old) (texts words.now)) }
-    ensures script { result ≡ 4 → Wrote (K.held sink.old) (K.held sink.new) (IsScriptLine (S.file shelf.old) (texts words.now)) }
-    ensures read { result ≡ 5 → ReadFailed (S.file shelf.old) (texts words.now) (S.faults shelf.old) (S.faults shelf.new) × Gained (K.held sink.old) (K.held sink.new) (fault_line Fault.Read) }
-    ensures write { result ≡ 6 → Rose (K.faults sink.old) (K.faults sink.new) × WrotePrefix (K.held sink.old) (K.held sink.new) (IsDue (S.file shelf.old) (texts words.now) (S.faults shelf.old) (S.faults shelf.new)) }
-    ensures memory { result ≡ 7 → Gained (K.held sink.old) (K.held sink.new) (fault_line Fault.Memory) }
-    ensures big { result ≡ 8 → HasBigFile (S.file shelf.old) (texts words.now) × Gained (K.held sink.old) (K.held sink.new) (fault_line Fault.Big) }
-    ensures complete { TellsGoodFiles (S.file shelf.old) (command_in (texts words.now)) → NoneFailed (S.file shelf.old) (texts words.now) (S.faults shelf.old) (S.faults shelf.new) (K.faults sink.old) (K.faults sink.new) → (result ≡ 0) ⊎ (result ≡ 7) }
-    ensures elf_always { TellsFaultyProgram (S.file shelf.old) (command_in (texts words.now)) → NoneFailed (S.file shelf.old) (texts words.now) (S.faults shelf.old) (S.faults shelf.new) (K.faults sink.old) (K.faults sink.new) → (result ≡ 3) ⊎ (result ≡ 7) }
-    ensures script_always { TellsBadScript (S.file shelf.old) (command_in (texts words.now)) → NoneFailed (S.file shelf.old) (texts words.now) (S.faults shelf.old) (S.faults shelf.new) (K.faults sink.old) (K.faults sink.new) → (result ≡ 4) ⊎ (result ≡ 7) }
-    ensures big_always { TellsBigFile (S.file shelf.old) (command_in (texts words.now)) → NoneFailed (S.file shelf.old) (texts words.now) (S.faults shelf.old) (S.faults shelf.new) (K.faults sink.old) (K.faults sink.new) → (result ≡ 8) ⊎ (result ≡ 7) }
+    ensures outcome { IsOutcome (record {
+      words = texts words.now;
+      files = S.file shelf.old;
+      files_after = S.file shelf.new;
+      read_faults = S.faults shelf.old;
+      read_faults_after = S.faults shelf.new;
+      held = K.held sink.old;
+      held_after = K.held sink.new;
+      write_faults = K.faults sink.old;
+      write_faults_after = K.faults sink.new;
+    }) result }
     ensures untouched { command_in (texts words.now) ≡ None → shelf.new ≡ shelf.old }
-    ensures files { S.file shelf.new ≡ S.file shelf.old }
-    ensures shelf_counts { NoneFalls (S.faults shelf.old) (S.faults shelf.new) }
-    ensures sink_counts { NeverFalls (K.faults sink.old) (K.faults sink.new) }
 {
     match rseq_quiet(alloc, words, shelf, sink) {
         Some(status) => status,
@@ -89,25 +80,18 @@ pub fn rseq_quiet<S: Shelf, K: Sink>(
     sink: &mut K,
 ) -> Option<u8>
     ensures answers { IsSome result }
-    ensures statuses { IfSome result (λ status. IsStatus status) }
-    ensures done { IfSome result (λ status. status ≡ 0 → Wrote (K.held sink.old) (K.held sink.new) (IsOutput (S.file shelf.old) (texts words.now))) }
-    ensures plain { IfSome result (λ status. status ≡ 0 → Wrote (K.held sink.old) (K.held sink.new) (IsPlainOutput (S.file shelf.old) (texts words.now))) }
-    ensures usage { IfSome result (λ status. status ≡ 2 → (command_in (texts words.now) ≡ None) × Gained (K.held sink.old) (K.held sink.new) (fault_line Fault.Usage)) }
-    ensures usage_always { IfSome result (λ status. command_in (texts words.now) ≡ None → (status ≡ 2) ⊎ (status ≡ 6)) }
-    ensures elf { IfSome result (λ status. status ≡ 3 → Wrote (K.held sink.old) (K.held sink.new) (IsElfLine (S.file shelf.old) (texts words.now))) }
-    ensures script { IfSome result (λ status. status ≡ 4 → Wrote (K.held sink.old) (K.held sink.new) (IsScriptLine (S.file shelf.old) (texts words.now))) }
-    ensures read { IfSome result (λ status. status ≡ 5 → ReadFailed (S.file shelf.old) (texts words.now) (S.faults shelf.old) (S.faults shelf.new) × Gained (K.held sink.old) (K.held sink.new) (fault_line Fault.Read)) }
-    ensures write { IfSome result (λ status. status ≡ 6 → Rose (K.faults sink.old) (K.faults sink.new) × WrotePrefix (K.held sink.old) (K.held sink.new) (IsDue (S.file shelf.old) (texts words.now) (S.faults shelf.old) (S.faults shelf.new))) }
-    ensures memory { IfSome result (λ status. status ≡ 7 → Gained (K.held sink.old) (K.held sink.new) (fault_line Fault.Memory)) }
-    ensures big { IfSome result (λ status. status ≡ 8 → HasBigFile (S.file shelf.old) (texts words.now) × Gained (K.held sink.old) (K.held sink.new) (fault_line Fault.Big)) }
-    ensures complete { IfSome result (λ status. TellsGoodFiles (S.file shelf.old) (command_in (texts words.now)) → NoneFailed (S.file shelf.old) (texts words.now) (S.faults shelf.old) (S.faults shelf.new) (K.faults sink.old) (K.faults sink.new) → (status ≡ 0) ⊎ (status ≡ 7)) }
-    ensures elf_always { IfSome result (λ status. TellsFaultyProgram (S.file shelf.old) (command_in (texts words.now)) → NoneFailed (S.file shelf.old) (texts words.now) (S.faults shelf.old) (S.faults shelf.new) (K.faults sink.old) (K.faults sink.new) → (status ≡ 3) ⊎ (status ≡ 7)) }
-    ensures script_always { IfSome result (λ status. TellsBadScript (S.file shelf.old) (command_in (texts words.now)) → NoneFailed (S.file shelf.old) (texts words.now) (S.faults shelf.old) (S.faults shelf.new) (K.faults sink.old) (K.faults sink.new) → (status ≡ 4) ⊎ (status ≡ 7)) }
-    ensures big_always { IfSome result (λ status. TellsBigFile (S.file shelf.old) (command_in (texts words.now)) → NoneFailed (S.file shelf.old) (texts words.now) (S.faults shelf.old) (S.faults shelf.new) (K.faults sink.old) (K.faults sink.new) → (status ≡ 8) ⊎ (status ≡ 7)) }
+    ensures outcome { IfSome result (IsOutcome (record {
+      words = texts words.now;
+      files = S.file shelf.old;
+      files_after = S.file shelf.new;
+      read_faults = S.faults shelf.old;
+      read_faults_after = S.faults shelf.new;
+      held = K.held sink.old;
+      held_after = K.held sink.new;
+      write_faults = K.faults sink.old;
+      write_faults_after = K.faults sink.new;
+    })) }
     ensures untouched { command_in (texts words.now) ≡ None → shelf.new ≡ shelf.old }
-    ensures files { S.file shelf.new ≡ S.file shelf.old }
-    ensures shelf_counts { NoneFalls (S.faults shelf.old) (S.faults shelf.new) }
-    ensures sink_counts { NeverFalls (K.faults sink.old) (K.faults sink.new) }
 {
     match answer(alloc, words, shelf) {
         Ok(text) => Some(deliver(sink, &text, DONE)),
@@ -118,12 +102,8 @@ pub fn rseq_quiet<S: Shelf, K: Sink>(
 /// The output of the words, or the fault that is due. All memory is taken here.
 fn answer<S: Shelf>(alloc: Global, words: &[String], shelf: &mut S) -> Result<Vec<u8>, Fault>
     ensures output { IfOk result (λ text. IsOutput (S.file shelf.old) (texts words.now) text.items) }
-    ensures plain { IfOk result (λ text. IsPlainOutput (S.file shelf.old) (texts words.now) text.items) }
-    ensures cause { IfErr result (IsCause (S.file shelf.old) (texts words.now) (S.faults shelf.old) (S.faults shelf.new)) }
-    ensures good { TellsGoodFiles (S.file shelf.old) (command_in (texts words.now)) → ¬ (ReadFailed (S.file shelf.old) (texts words.now) (S.faults shelf.old) (S.faults shelf.new)) → IfErr result (λ fault. fault ≡ Fault.Memory) }
-    ensures faulty { TellsFaultyProgram (S.file shelf.old) (command_in (texts words.now)) → ¬ (ReadFailed (S.file shelf.old) (texts words.now) (S.faults shelf.old) (S.faults shelf.new)) → IsErrAnd result (λ fault. (fault_status fault ≡ 3) ⊎ (fault ≡ Fault.Memory)) }
-    ensures bad_line { TellsBadScript (S.file shelf.old) (command_in (texts words.now)) → ¬ (ReadFailed (S.file shelf.old) (texts words.now) (S.faults shelf.old) (S.faults shelf.new)) → IsErrAnd result (λ fault. (fault_status fault ≡ 4) ⊎ (fault ≡ Fault.Memory)) }
-    ensures too_big { TellsBigFile (S.file shelf.old) (command_in (texts words.now)) → ¬ (ReadFailed (S.file shelf.old) (texts words.now) (S.faults shelf.old) (S.faults shelf.new)) → IsErrAnd result (λ fault. (fault ≡ Fault.Big) ⊎ (fault ≡ Fault.Memory)) }
+    ensures cause { IfErr result
+        (IsCause (S.file shelf.old) (texts words.now) (S.faults shelf.old) (S.faults shelf.new)) }
     ensures untouched { command_in (texts words.now) ≡ None → shelf.new ≡ shelf.old }
     ensures files { S.file shelf.new ≡ S.file shelf.old }
     ensures counts { NoneFalls (S.faults shelf.old) (S.faults shelf.new) }
@@ -148,9 +128,11 @@ fn solo_text<S: Shelf>(
     limits: Limits,
     shelf: &mut S,
 ) -> Result<Vec<u8>, Fault>
-    requires { InRange limits }
+    requires limits { InRange limits }
+    requires one_hart { limits.harts ≡ 1 }
     ensures output { IfOk result (λ text. IsSoloOutput (S.file shelf.old) program.now limits text.items) }
-    ensures cause { IfErr result (IsCauseOf (S.file shelf.old) (Some (SoloOf program.now limits)) (S.faults shelf.old) (S.faults shelf.new)) }
+    ensures cause { let command = Some (SoloOf program.now limits) in
+        IfErr result (IsCauseOf (S.file shelf.old) command (S.faults shelf.old) (S.faults shelf.new)) }
     ensures files { S.file shelf.new ≡ S.file shelf.old }
     ensures counts { NoneFalls (S.faults shelf.old) (S.faults shelf.new) }
 {
@@ -168,8 +150,10 @@ fn play_text<S: Shelf>(
     shelf: &mut S,
 ) -> Result<Vec<u8>, Fault>
     requires { InRange limits }
-    ensures output { IfOk result (λ text. IsPlayOutput (S.file shelf.old) program.now script.now limits text.items) }
-    ensures cause { IfErr result (IsCauseOf (S.file shelf.old) (Some (PlayOf program.now script.now limits)) (S.faults shelf.old) (S.faults shelf.new)) }
+    ensures output { IfOk result
+        (λ text. IsPlayOutput (S.file shelf.old) program.now script.now limits text.items) }
+    ensures cause { let command = Some (PlayOf program.now script.now limits) in
+        IfErr result (IsCauseOf (S.file shelf.old) command (S.faults shelf.old) (S.faults shelf.new)) }
     ensures files { S.file shelf.new ≡ S.file shelf.old }
     ensures counts { NoneFalls (S.faults shelf.old) (S.faults shelf.new) }
 {
@@ -188,7 +172,8 @@ fn taken<S: Shelf>(
 ) -> Result<Image, Fault>
     ensures taken { IfOk result (IsProgram (S.file shelf.old) name.now limits.now) }
     ensures bootable { IfOk result (IsBootable limits.now.frames) }
-    ensures cause { IfErr result (IsProgramCause (S.file shelf.old) name.now limits.now (S.faults shelf.old) (S.faults shelf.new)) }
+    ensures cause { IfErr result
+        (IsProgramCause (S.file shelf.old) name.now limits.now (S.faults shelf.old) (S.faults shelf.new)) }
     ensures files { S.file shelf.new ≡ S.file shelf.old }
     ensures counts { NoneFalls (S.faults shelf.old) (S.faults shelf.new) }
 {
@@ -199,7 +184,8 @@ fn taken<S: Shelf>(
 /// The text of the script of this name.
 fn script_read<S: Shelf>(alloc: Global, name: &str, shelf: &mut S) -> Result<Vec<u8>, Fault>
     ensures read { IfOk result (λ lines. IsScript (S.file shelf.old) name.now lines.items) }
-    ensures cause { IfErr result (IsScriptCause (S.file shelf.old) name.now (S.faults shelf.old) (S.faults shelf.new)) }
+    ensures cause { IfErr result
+        (IsScriptCause (S.file shelf.old) name.now (S.faults shelf.old) (S.faults shelf.new)) }
     ensures files { S.file shelf.new ≡ S.file shelf.old }
     ensures counts { NoneFalls (S.faults shelf.old) (S.faults shelf.new) }
 {
@@ -208,7 +194,8 @@ fn script_read<S: Shelf>(alloc: Global, name: &str, shelf: &mut S) -> Result<Vec
 
 /// Writes a text, and gives its status, or that of a failed sink.
 fn deliver<K: Sink>(sink: &mut K, text: &[u8], status: u8) -> u8
-    ensures delivered { IsDelivered (K.held sink.old) (K.held sink.new) (K.faults sink.old) (K.faults sink.new) text.now status result }
+    ensures delivered { IsDelivered (K.held sink.old) (K.held sink.new) (K.faults sink.old)
+        (K.faults sink.new) text.now status result }
     ensures counts { NeverFalls (K.faults sink.old) (K.faults sink.new) }
 {
     match emit(sink, text) {

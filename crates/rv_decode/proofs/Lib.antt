@@ -1,3 +1,4 @@
-pub mod Masks
-pub mod Rows
-pub mod Shapes
+pub mod Laws
+mod Masks
+mod Rows
+mod Shapes

@@ -1,3 +1,5 @@
 mod Examples
+pub mod Laws
+pub mod Meanings
+pub mod Outcomes
 pub mod Rows
-pub mod Sizes

@@ -1,3 +1,5 @@
+pub mod Asked
+pub mod Class
 pub mod Execution
 pub mod Fields
 pub mod Local

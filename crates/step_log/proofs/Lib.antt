@@ -1,7 +1,8 @@
-pub mod Lines
-pub mod Meanings
-pub mod Numbers
-pub mod Printed
-pub mod FieldReads
-pub mod Splits
-pub mod Texts
+mod FieldReads
+pub mod Laws
+mod Lines
+mod Meanings
+mod Numbers
+mod Printed
+mod Splits
+mod Texts

@@ -5,15 +5,15 @@
 #![tactic(auto)]
 
 mod fields;
-mod laws;
 mod parsing;
 mod printing;
 mod reading;
+mod theorems;
 
 pub use fields::Line;
-pub use laws::{line_has_one_text, printed_entry_is_read, printed_log_is_read};
 pub use printing::print_entry;
 pub use reading::{BadLine, LineReader};
+pub use theorems::{line_has_one_text, printed_entry_is_read, printed_log_is_read};
 
 #[cfg(test)]
 mod tests;

@@ -3,12 +3,13 @@
 ghost use Rattle.std.specs.Prelude.{◌≡◌, ◌+◌, ◌<◌, ◌≤◌, ◌↔◌, [], ◌∷◌, ◌++◌, length, drop, slice_get, IfOk, IfSome, IsSome, IsTrue};
 ghost use Rattle.std.specs.List.{Any};
 ghost use Rattle.mach_types.specs.Bytes.{IsAccessSize, word_at};
+ghost use Rattle.mach_types.specs.declared.user_memory.TheConstants.{STORE_BUFFER_CAPACITY};
 ghost use Rattle.store_buffers.specs.View.{seen};
 ghost use Rattle.store_buffers.specs.Pages.{HasByteIn};
 
 use crate::forwarding;
 use circular_buffer::HeapCircularBuffer;
-use mach_types::{Store, UserMem};
+use mach_types::{STORE_BUFFER_CAPACITY, Store, UserMem};
 use std::alloc::{AllocError, Global};
 use std::marker::Model;
 
@@ -31,21 +32,18 @@ impl Model for StoreBuffer {
 }
 
 impl StoreBuffer {
-    /// How many stores can wait.
-    pub const CAPACITY: u8 = 8;
-
     /// An empty buffer, with the room that it ever takes.
     pub fn new(alloc: Global) -> Result<StoreBuffer, AllocError>
         ensures { IfOk result (λ b. b ≡ []) }
     {
-        let ring = HeapCircularBuffer::with_capacity(alloc, 8)?;
+        let ring = HeapCircularBuffer::with_capacity(alloc, STORE_BUFFER_CAPACITY as usize)?;
         Ok(StoreBuffer { ring })
     }
 
     /// How many stores wait.
     pub fn len(&self) -> u8
         ensures count { result ≡ length self.now }
-        ensures within { result ≤ 8 }
+        ensures within { result ≤ STORE_BUFFER_CAPACITY }
     {
         self.ring.len() as u8
     }
@@ -59,7 +57,7 @@ impl StoreBuffer {
 
     /// Adds a store as the youngest.
     pub fn push(&mut self, store: Store)
-        requires room { length self.old < 8 }
+        requires room { length self.old < STORE_BUFFER_CAPACITY }
         requires size { IsAccessSize store.size }
         ensures { self.new ≡ self.old ++ store ∷ [] }
     {

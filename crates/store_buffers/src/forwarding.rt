@@ -7,9 +7,7 @@ ghost use Rattle.store_buffers.specs.Pages.{HasByteIn, is_in_page};
 ghost use Rattle.store_buffers.specs.Words.{with_bytes};
 
 use mach_types::Store;
-
-/// How many bytes a page has.
-const PAGE: u64 = 4096;
+use mach_types::address_space::PAGE_SIZE;
 
 /// The weight of a word's byte `count`.
 fn weight(count: u8) -> u64
@@ -103,8 +101,8 @@ fn is_in_page(store: &Store, page: u64) -> bool
     requires { IsAccessSize store.now.size }
     ensures { result ≡ is_in_page page store.now }
 {
-    let first = store.at / PAGE;
-    let last = first + (store.at % PAGE + u64::from(store.size - 1)) / PAGE;
+    let first = store.at / PAGE_SIZE;
+    let last = first + (store.at % PAGE_SIZE + u64::from(store.size - 1)) / PAGE_SIZE;
     first <= page && page <= last
 }
 

@@ -1,25 +1,27 @@
 //! What is read of one hart of a machine.
 
-ghost use Rattle.std.specs.Prelude.{◌≡◌, ◌<◌, Option};
+ghost use Rattle.std.specs.Prelude.{◌≡◌, ◌<◌};
 ghost use Rattle.mach_types.specs.Bytes.{IsAccessSize, word_at};
 ghost use Rattle.block_model.specs.Deciding.{history};
-ghost use Rattle.block_model.specs.History.{running, view};
-ghost use Rattle.block_model.specs.Sights.{IsSight, effect_on, first_ready as first_ready_at};
-ghost use Rattle.machine_core.specs.Harts.{IsHart};
+ghost use Rattle.block_model.specs.Here.{view};
+ghost use Rattle.block_model.specs.History.{events, here_in_history, ran};
+ghost use Rattle.block_model.specs.Sights.{effect_here, sight_in};
+ghost use Rattle.machine_core.specs.Harts.{hart_in};
 
-use crate::machine::{FIRST, Machine};
+use crate::machine::Machine;
 use crate::next::{effect_of_next, is_local, next_of};
 use hart_state::HartState;
-use mach_types::{Hart, Sight, Tid};
+use mach_types::{Hart, Sight};
 use rv_inst::Effect;
 
 impl Machine {
-    /// The state of a hart.
+    /// The state of a hart. An idle hart's registers and pc are 0, and so is the credit of every hart.
     pub fn hart(&self, hart: Hart) -> &HartState
         requires { hart.0 < self.now.setting.limits.harts }
-        ensures { IsHart self.now.setting (history self.now.setting self.now.log) hart.0 result.now }
+        ensures { result.now ≡ hart_in (here_in_history self.now.setting (history self.now.setting self.now.log) hart.0)
+            (ran hart.0 (history self.now.setting self.now.log)) (events hart.0 (history self.now.setting self.now.log)) }
     {
-        &self.harts[hart.0 as usize]
+        &self.parts.harts[hart.0 as usize]
     }
 
     /// The little-endian number of `size` bytes from `at` on, as a hart sees them: each byte is that of its
@@ -27,16 +29,16 @@ impl Machine {
     pub fn view(&self, hart: Hart, at: u64, size: u8) -> Option<u64>
         requires hart { hart.0 < self.now.setting.limits.harts }
         requires size { IsAccessSize size }
-        ensures { result ≡ word_at (view self.now.setting (history self.now.setting self.now.log) hart.0) at size }
+        ensures { result ≡ word_at (view (here_in_history self.now.setting (history self.now.setting self.now.log) hart.0)) at size }
     {
-        self.hart(hart).buffer.look(&self.memory, at, size)
+        self.hart(hart).buffer.look(&self.parts.pages, at, size)
     }
 
     /// What the next instruction of a hart's thread asks for. None exactly where the hart is idle, where nothing
     /// can be executed at the pc, or where the word there is no instruction.
     pub fn next_effect(&self, hart: Hart) -> Option<Effect>
         requires { hart.0 < self.now.setting.limits.harts }
-        ensures { result ≡ effect_on self.now.setting (history self.now.setting self.now.log) (running hart.0 (history self.now.setting self.now.log)) }
+        ensures { result ≡ effect_here (here_in_history self.now.setting (history self.now.setting self.now.log) hart.0) }
     {
         let state = self.hart(hart);
         if state.is_idle() {
@@ -46,28 +48,18 @@ impl Machine {
         }
     }
 
-    /// The first ready thread.
-    fn first_ready(&self) -> Option<Tid>
-        ensures { result ≡ first_ready_at (history self.now.setting self.now.log) }
-    {
-        if self.placed.is_none() {
-            Some(FIRST)
-        } else {
-            None
-        }
-    }
-
     /// What a scheduler sees of a hart.
     pub fn sight(&self, hart: Hart) -> Sight
         requires { hart.0 < self.now.setting.limits.harts }
-        ensures { IsSight self.now.setting (history self.now.setting self.now.log) hart.0 result }
+        ensures { result ≡ sight_in (here_in_history self.now.setting (history self.now.setting self.now.log) hart.0)
+            (ran hart.0 (history self.now.setting self.now.log)) }
     {
         let state = self.hart(hart);
-        let next = next_of(&self.code, &self.memory, state);
+        let next = next_of(&self.code, &self.parts.pages, state);
         let refusal = state.exec_gate(next.effect.as_ref(), next.fault.is_some());
         Sight {
             idle: state.is_idle(),
-            first_ready: self.first_ready(),
+            first_ready: self.parts.kernel.ready.first_for(hart),
             in_barrier: false,
             all_taken: false,
             requested: false,

@@ -5,7 +5,8 @@ ghost use Rattle.mach_types.specs.Bytes.{IsAccessSize};
 
 use crate::{Machine, Refused};
 use elf_load::load;
-use mach_types::{Choice, End, Entry, Hart, Limits, Sight, Tid, Why};
+use mach_types::{Choice, End, Entry, Hart, Limits, Regs, Sight, Tid, Why};
+use rv_inst::Effect;
 use std::alloc::{AllocError, Global};
 use std::process::Abort;
 use std::test::Fail;
@@ -16,8 +17,8 @@ pub const ENTRY: u64 = 0x100b0;
 /// A page of zeros that can be read and written.
 pub const DATA: u64 = 0x20000;
 
-/// The headers of a file whose code stands from [`ENTRY`] on, in one segment with them, and whose second segment
-/// is the page [`DATA`].
+/// The headers of a file whose code stands from [`ENTRY`] on, in one segment with them, and whose second
+/// segment is the page [`DATA`].
 const HEADERS: [u8; 176] = [
     0x7f, 0x45, 0x4c, 0x46, 0x02, 0x01, 0x01, 0x00, 0x00, 0x00, 0x00, 0x00, 0x00, 0x00, 0x00, 0x00,
     0x02, 0x00, 0xf3, 0x00, 0x01, 0x00, 0x00, 0x00, 0xb0, 0x00, 0x01, 0x00, 0x00, 0x00, 0x00, 0x00,
@@ -46,6 +47,31 @@ fn file(alloc: Global, words: &[u32]) -> Result<Vec<u8>, AllocError> {
     }
     file.resize(FILE_SIZE, 0)?;
     Ok(file)
+}
+
+/// What is read of one hart.
+#[derive(Clone, Copy, Debug, PartialEq, Eq, Drop)]
+struct Shown {
+    file: Regs,
+    pc: u64,
+    running: Option<Tid>,
+    reserved: Option<u64>,
+    ran: u32,
+    credit: u8,
+    events: u32,
+    sight: Sight,
+    effect: Option<Effect>,
+    word: Option<u64>,
+}
+
+/// What is read of a machine of two harts: each hart, and how long the log and the console are.
+#[derive(Clone, Copy, Debug, PartialEq, Eq, Drop)]
+struct Read {
+    harts: [Shown; 2],
+    end: End,
+    last: Option<Entry>,
+    entries: usize,
+    written: usize,
 }
 
 /// A machine of two harts.
@@ -90,11 +116,41 @@ impl Bench {
         }
     }
 
-    /// The event must be refused so, and leave the log as it was.
+    /// What is read of a hart.
+    fn shown(&self, hart: Hart) -> Shown
+        requires { hart.0 < 2 }
+    {
+        let state = self.machine.hart(hart);
+        Shown {
+            file: state.file,
+            pc: state.pc,
+            running: state.running,
+            reserved: state.reserved,
+            ran: state.ran,
+            credit: state.credit,
+            events: state.events,
+            sight: self.machine.sight(hart),
+            effect: self.machine.next_effect(hart),
+            word: self.machine.view(hart, DATA + 0x40, 8),
+        }
+    }
+
+    /// What is read of the machine.
+    fn read(&self) -> Read {
+        Read {
+            harts: [self.shown(Hart(0)), self.shown(Hart(1))],
+            end: self.machine.end(),
+            last: self.machine.log().last().copied(),
+            entries: self.machine.log().len(),
+            written: self.machine.console().len(),
+        }
+    }
+
+    /// The event must be refused so, and leave all that is read of the machine as it was.
     pub fn expect_refused(&mut self, rt: &impl Abort, hart: u8, choice: Choice, refused: Refused) {
-        let count = self.machine.log().len();
+        let before = self.read();
         assert_eq!(rt; self.machine.step(Hart(hart), choice), Err(refused));
-        assert_eq!(rt; self.machine.log().len(), count);
+        assert_eq!(rt; self.read(), before);
     }
 
     /// The condition of the event that fails must be this.
@@ -119,6 +175,31 @@ impl Bench {
             value,
             "x{number}"
         );
+    }
+
+    /// The pc of the hart's thread must be this.
+    pub fn expect_pc(&self, rt: &impl Abort, hart: u8, pc: u64)
+        requires { hart < 2 }
+    {
+        assert_eq!(rt; self.machine.hart(Hart(hart)).pc, pc);
+    }
+
+    /// The first ready thread that may run on the hart must be this.
+    pub fn expect_ready(&self, rt: &impl Abort, hart: u8, tid: Option<Tid>)
+        requires { hart < 2 }
+    {
+        assert_eq!(rt; self.machine.sight(Hart(hart)).first_ready, tid);
+    }
+
+    /// A thread must be the first ready one. It begins to run with the answer 0, and exits by its next two
+    /// instructions.
+    pub fn run_to_its_exit(&mut self, rt: &impl Abort, hart: u8, tid: Tid)
+        requires { hart < 2 }
+    {
+        self.expect_ready(rt, hart, Some(tid));
+        self.make(rt, hart, Choice::Run(tid));
+        self.expect_register(rt, hart, 10, 0);
+        self.make_all(rt, hart, Choice::Exec, 2);
     }
 
     /// The end must be this.

@@ -1,8 +1,8 @@
 //! System calls.
 
 use crate::Refused;
-use crate::tests::bench::{Bench, RUN};
-use mach_types::{Choice, End};
+use crate::tests::bench::{Bench, DATA, ENTRY, RUN};
+use mach_types::{Choice, End, Tid, Why};
 use std::test::Fail;
 
 /// Fills the console from the stack, writes on, and exits with -249.
@@ -34,6 +34,20 @@ const WRITES: [u32; 27] = [
     0xf0700513, // addi x10, x0, -249
     0x05d00893, // addi x17, x0, 93
     0x00000073, // ecall: exit
+];
+
+/// Asks for numbers, writes that of the hart to memory, and lets others run.
+const ASKS: [u32; 10] = [
+    0x00020437, // lui x8, 0x20
+    0x0ac00893, // addi x17, x0, 172
+    0x00000073, // ecall: getpid
+    0x0b200893, // addi x17, x0, 178
+    0x00000073, // ecall: gettid
+    0x0a800893, // addi x17, x0, 168
+    0x04040513, // addi x10, x8, 0x40
+    0x00000073, // ecall: getcpu
+    0x07c00893, // addi x17, x0, 124
+    0x00000073, // ecall: sched_yield
 ];
 
 /// A negative error number as a register has it.
@@ -78,5 +92,23 @@ fn a_write_appends_the_bytes_of_memory(rt: HostRuntime) -> Result<(), Fail> {
     bench.make(&rt, 0, RUN);
     bench.make_all(&rt, 0, Choice::Exec, 5);
     assert_eq!(rt; bench.machine().console(), b"guest".as_slice());
+    Ok(())
+}
+
+#[test]
+fn a_call_writes_to_memory_at_once(rt: HostRuntime) -> Result<(), Fail> {
+    let mut bench = Bench::new(rt.alloc(), &ASKS)?;
+    bench.make(&rt, 1, RUN);
+    for (count, answer) in [(3, 1), (2, 1), (3, 0)] {
+        bench.make_all(&rt, 1, Choice::Exec, count);
+        bench.expect_register(&rt, 1, 10, answer);
+    }
+    bench.expect_view(&rt, 0, DATA + 0x40, 8, Some(1));
+    bench.make_all(&rt, 1, Choice::Exec, 2);
+    bench.expect_why(&rt, 1, Choice::Exec, Why::Idle);
+    bench.expect_ready(&rt, 1, Some(Tid(1)));
+    bench.make(&rt, 0, RUN);
+    bench.expect_pc(&rt, 0, ENTRY + 40);
+    bench.expect_register(&rt, 0, 10, 0);
     Ok(())
 }

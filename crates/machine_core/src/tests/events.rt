@@ -54,14 +54,21 @@ fn a_store_is_seen_by_its_own_hart_until_it_enters(rt: HostRuntime) -> Result<()
 #[test]
 fn nothing_runs_on_an_idle_hart(rt: HostRuntime) -> Result<(), Fail> {
     let mut bench = Bench::new(rt.alloc(), &STORES)?;
-    bench.expect_why(&rt, 0, Choice::Exec, Why::Idle);
-    bench.expect_why(&rt, 0, Choice::Drain, Why::NoStore);
-    bench.expect_why(&rt, 0, Choice::Take, Why::NoRequest);
-    bench.expect_why(&rt, 0, Choice::Done, Why::Idle);
-    bench.expect_why(&rt, 0, Choice::Preempt, Why::Idle);
-    bench.expect_why(&rt, 0, Choice::Signal, Why::Idle);
-    bench.expect_why(&rt, 0, Choice::Run(Tid(2)), Why::NotReady);
-    bench.expect_why(&rt, 2, RUN, Why::NoHart);
+    let table = [
+        (0, Choice::Exec, Why::Idle),
+        (0, Choice::Drain, Why::NoStore),
+        (0, Choice::Take, Why::NoRequest),
+        (0, Choice::Done, Why::Idle),
+        (0, Choice::Preempt, Why::Idle),
+        (0, Choice::Signal, Why::Idle),
+        (0, Choice::Run(Tid(0)), Why::NotReady),
+        (0, Choice::Run(Tid(2)), Why::NotReady),
+        (2, RUN, Why::NoHart),
+        (255, Choice::Take, Why::NoHart),
+    ];
+    for (hart, choice, why) in table {
+        bench.expect_why(&rt, hart, choice, why);
+    }
     Ok(())
 }
 
@@ -69,12 +76,19 @@ fn nothing_runs_on_an_idle_hart(rt: HostRuntime) -> Result<(), Fail> {
 fn a_thread_runs_on_one_hart(rt: HostRuntime) -> Result<(), Fail> {
     let mut bench = Bench::new(rt.alloc(), &STORES)?;
     bench.make(&rt, 1, RUN);
-    bench.expect_why(&rt, 0, RUN, Why::NotReady);
-    bench.expect_why(&rt, 1, RUN, Why::Busy);
-    bench.expect_why(&rt, 1, Choice::Run(Tid(2)), Why::Busy);
-    bench.expect_why(&rt, 1, Choice::Take, Why::NoRequest);
-    bench.expect_why(&rt, 1, Choice::Done, Why::NotInBarrier);
-    bench.expect_why(&rt, 1, Choice::Signal, Why::NoSignal);
+    let table = [
+        (0, RUN, Why::NotReady),
+        (0, Choice::Exec, Why::Idle),
+        (1, RUN, Why::Busy),
+        (1, Choice::Run(Tid(2)), Why::Busy),
+        (1, Choice::Take, Why::NoRequest),
+        (1, Choice::Done, Why::NotInBarrier),
+        (1, Choice::Drain, Why::NoStore),
+        (1, Choice::Signal, Why::NoSignal),
+    ];
+    for (hart, choice, why) in table {
+        bench.expect_why(&rt, hart, choice, why);
+    }
     Ok(())
 }
 

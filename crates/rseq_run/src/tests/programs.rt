@@ -25,7 +25,8 @@ pub(super) const ILLEGAL: [u8; 124] = [
     0x00, 0x10, 0x00, 0x00, 0x00, 0x00, 0x00, 0x00, 0x73, 0x10, 0x40, 0xf1,
 ];
 
-/// A program that divides -2^63 by -1 and by 0, stores both quotients, writes their 16 bytes, and exits with 0.
+/// A program that divides -2^63 by -1 and by 0, stores both quotients, writes their 16 bytes, and exits with
+/// 0.
 pub(super) const DIVISION: [u8; 236] = [
     0x7f, 0x45, 0x4c, 0x46, 0x02, 0x01, 0x01, 0x00, 0x00, 0x00, 0x00, 0x00, 0x00, 0x00, 0x00, 0x00,
     0x02, 0x00, 0xf3, 0x00, 0x01, 0x00, 0x00, 0x00, 0xb0, 0x00, 0x01, 0x00, 0x00, 0x00, 0x00, 0x00,
@@ -63,8 +64,14 @@ pub(super) const NINE_STORES: [u8; 216] = [
 ];
 
 /// The output of `solo` on the program that exits with 7.
-pub(super) const EXIT_TEXT: &[u8] =
-    b"console 0\n\nlog 4\n0 run 1 0000000000010078\n0 exec 1 0000000000010078\n0 exec 1 000000000001007c\n0 exec 1 0000000000010080\nend exit 7\n";
+pub(super) const EXIT_TEXT: &[u8] = b"console 0\n\
+    \n\
+    log 4\n\
+    0 run 1 0000000000010078\n\
+    0 exec 1 0000000000010078\n\
+    0 exec 1 000000000001007c\n\
+    0 exec 1 0000000000010080\n\
+    end exit 7\n";
 
 /// The output of `solo` on the same program with one step.
 pub(super) const ONE_STEP_TEXT: &[u8] =
@@ -74,9 +81,30 @@ pub(super) const ONE_STEP_TEXT: &[u8] =
 pub(super) const ILLEGAL_TEXT: &[u8] =
     b"console 0\n\nlog 2\n0 run 1 0000000000010078\n0 exec 1 0000000000010078\nend killed 4\n";
 
-/// The output of `solo` on the division program: its console is the bytes of -2^63 and of all ones, lowest first.
-pub(super) const DIVISION_TEXT: &[u8] =
-    b"console 16\n\x00\x00\x00\x00\x00\x00\x00\x80\xff\xff\xff\xff\xff\xff\xff\xff\nlog 18\n0 run 1 00000000000100b0\n0 exec 1 00000000000100b0\n0 exec 1 00000000000100b4\n0 exec 1 00000000000100b8\n0 exec 1 00000000000100bc\n0 exec 1 00000000000100c0\n0 exec 1 00000000000100c4\n0 exec 1 00000000000100c8\n0 exec 1 00000000000100cc\n0 exec 1 00000000000100d0\n0 exec 1 00000000000100d4\n0 exec 1 00000000000100d8\n0 drain 1 00000000000100dc\n0 drain 1 00000000000100dc\n0 exec 1 00000000000100dc\n0 exec 1 00000000000100e0\n0 exec 1 00000000000100e4\n0 exec 1 00000000000100e8\nend exit 0\n";
+/// The output of `solo` on the division program: its console is the bytes of -2^63 and of all ones, lowest
+/// first.
+pub(super) const DIVISION_TEXT: &[u8] = b"console 16\n\
+    \x00\x00\x00\x00\x00\x00\x00\x80\xff\xff\xff\xff\xff\xff\xff\xff\n\
+    log 18\n\
+    0 run 1 00000000000100b0\n\
+    0 exec 1 00000000000100b0\n\
+    0 exec 1 00000000000100b4\n\
+    0 exec 1 00000000000100b8\n\
+    0 exec 1 00000000000100bc\n\
+    0 exec 1 00000000000100c0\n\
+    0 exec 1 00000000000100c4\n\
+    0 exec 1 00000000000100c8\n\
+    0 exec 1 00000000000100cc\n\
+    0 exec 1 00000000000100d0\n\
+    0 exec 1 00000000000100d4\n\
+    0 exec 1 00000000000100d8\n\
+    0 drain 1 00000000000100dc\n\
+    0 drain 1 00000000000100dc\n\
+    0 exec 1 00000000000100dc\n\
+    0 exec 1 00000000000100e0\n\
+    0 exec 1 00000000000100e4\n\
+    0 exec 1 00000000000100e8\n\
+    end exit 0\n";
 
 /// A script that lets nine stores wait: its last line is refused.
 pub(super) const NINTH_STORE_SCRIPT: &[u8] =
@@ -87,15 +115,37 @@ pub(super) const DRAINED_STORE_SCRIPT: &[u8] =
     b"0 run 1\n0 exec\n0 exec\n0 exec\n0 exec\n0 exec\n0 exec\n0 exec\n0 exec\n0 exec\n0 drain\n0 exec\n";
 
 /// The output of `play` on that script.
-pub(super) const DRAINED_STORE_TEXT: &[u8] =
-    b"console 0\n\nlog 12\n0 run 1 00000000000100b0\n0 exec 1 00000000000100b0\n0 exec 1 00000000000100b4\n0 exec 1 00000000000100b8\n0 exec 1 00000000000100bc\n0 exec 1 00000000000100c0\n0 exec 1 00000000000100c4\n0 exec 1 00000000000100c8\n0 exec 1 00000000000100cc\n0 exec 1 00000000000100d0\n0 drain 1 00000000000100d4\n0 exec 1 00000000000100d4\nend open\n";
+pub(super) const DRAINED_STORE_TEXT: &[u8] = b"console 0\n\
+    \n\
+    log 12\n\
+    0 run 1 00000000000100b0\n\
+    0 exec 1 00000000000100b0\n\
+    0 exec 1 00000000000100b4\n\
+    0 exec 1 00000000000100b8\n\
+    0 exec 1 00000000000100bc\n\
+    0 exec 1 00000000000100c0\n\
+    0 exec 1 00000000000100c4\n\
+    0 exec 1 00000000000100c8\n\
+    0 exec 1 00000000000100cc\n\
+    0 exec 1 00000000000100d0\n\
+    0 drain 1 00000000000100d4\n\
+    0 exec 1 00000000000100d4\n\
+    end open\n";
 
 /// A script for the program that exits with 7: it moves the thread from hart 0 to hart 1.
 pub(super) const MOVED_SCRIPT: &[u8] = b"0 run 1\n0 exec\n0 preempt\n1 run 1\n1 exec\n1 exec\n";
 
 /// The output of `play` on that script.
-pub(super) const MOVED_TEXT: &[u8] =
-    b"console 0\n\nlog 6\n0 run 1 0000000000010078\n0 exec 1 0000000000010078\n0 preempt 1 000000000001007c\n1 run 1 000000000001007c\n1 exec 1 000000000001007c\n1 exec 1 0000000000010080\nend exit 7\n";
+pub(super) const MOVED_TEXT: &[u8] = b"console 0\n\
+    \n\
+    log 6\n\
+    0 run 1 0000000000010078\n\
+    0 exec 1 0000000000010078\n\
+    0 preempt 1 000000000001007c\n\
+    1 run 1 000000000001007c\n\
+    1 exec 1 000000000001007c\n\
+    1 exec 1 0000000000010080\n\
+    end exit 7\n";
 
 /// The output of `play` on a script of 0 bytes.
 pub(super) const EMPTY_SCRIPT_TEXT: &[u8] = b"console 0\n\nlog 0\nend open\n";

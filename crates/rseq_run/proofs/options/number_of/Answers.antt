@@ -7,4 +7,5 @@ pub returns-then-is_decimal : goal.returns-then-is_decimal
 returns-then-is_decimal c =
     let some : 1 ≤ length c.args.text.now = grind (arith, nat_tests) in
     c.ok.ensures.value
-    ∙ number_parsed c.args.text.now c.parse.result c.parse.ensures.value.0 some (omega arith) (sym c.is_decimal.ensures ∙ c.if-is_decimal.true)
+    ∙ number_parsed c.args.text.now c.parse.result c.parse.ensures.value.0 some (omega arith)
+    (sym c.is_decimal.ensures ∙ c.if-is_decimal.true)

@@ -4,7 +4,8 @@ use Rattle.rseq_run.specs.Playing.{IsPlaying}
 use Rattle.rseq_run.proofs.play.play.Given as goal
 
 abbrev pub invariant-lines : goal.invariant-lines
-invariant-lines l = (l.machine.setting ≡ start_of l.fn.image l.fn.limits) × IsPlaying l.fn.script l.machine l.reader
+invariant-lines l = (l.machine.setting ≡ start_of l.fn.image l.fn.limits)
+    × IsPlaying l.fn.script l.machine l.reader
 
 abbrev pub decreases-lines : goal.decreases-lines
 decreases-lines l = length l.reader.left

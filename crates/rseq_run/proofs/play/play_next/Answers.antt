@@ -4,20 +4,26 @@ use Rattle.rseq_run.proofs.play.play_next.Goals as goal
 
 pub returns-in-Ok-None-clause-whole : goal.returns-in-Ok-None-clause-whole
 returns-in-Ok-None-clause-whole c =
-    λ none. ended_here c.args.script.now c.args.machine.now c.args.reader.now c.requires (sym c.next_line.ensures.answer ∙ c.in-Ok-None.is ∙ ap Ok c.in-Ok-None.field-0-is)
+    λ none. ended_here c.args.script.now c.args.machine.now c.args.reader.now c.requires
+    (sym c.next_line.ensures.answer ∙ c.in-Ok-None.is ∙ ap Ok c.in-Ok-None.field-0-is)
 
 pub returns-then-play_line-clause-playing : goal.returns-then-play_line-clause-playing
 returns-then-play_line-clause-playing c =
-    goes_on c.args.script.now c.args.machine.now c.play_line.new.machine c.in-Ok-Some.line c.args.reader.now c.next_line.new.self c.requires
-    (sym c.next_line.ensures.answer ∙ c.in-Ok-Some.is ∙ ap Ok c.in-Ok-Some.field-0-is) c.next_line.ensures.left c.play_line.ensures.setting (c.play_line.ensures.made c.if-play_line.true)
+    goes_on c.args.script.now c.args.machine.now c.play_line.new.machine c.in-Ok-Some.line c.args.reader.now
+    c.next_line.new.self c.requires
+    (sym c.next_line.ensures.answer ∙ c.in-Ok-Some.is
+    ∙ ap Ok c.in-Ok-Some.field-0-is) c.next_line.ensures.left c.play_line.ensures.setting
+    (c.play_line.ensures.made c.if-play_line.true)
 
 pub returns-else-play_line-clause-refused : goal.returns-else-play_line-clause-refused
 returns-else-play_line-clause-refused c =
     first_bad_at c.args.script.now c.args.machine.now _ c.log.ensures
-    (refused_here c.args.script.now c.args.machine.now c.in-Ok-Some.line c.args.reader.now c.requires (sym c.next_line.ensures.answer ∙ c.in-Ok-Some.is ∙ ap Ok c.in-Ok-Some.field-0-is)
+    (refused_here c.args.script.now c.args.machine.now c.in-Ok-Some.line c.args.reader.now c.requires
+    (sym c.next_line.ensures.answer ∙ c.in-Ok-Some.is ∙ ap Ok c.in-Ok-Some.field-0-is)
     (c.play_line.ensures.refused c.if-play_line.false))
 
 pub returns-in-Err-clause-refused : goal.returns-in-Err-clause-refused
 returns-in-Err-clause-refused c =
     first_bad_at c.args.script.now c.args.machine.now _ c.log.ensures
-    (malformed_here c.args.script.now c.args.machine.now c.in-Err.field-0 c.args.reader.now c.requires (sym c.next_line.ensures.answer ∙ c.in-Err.is))
+    (malformed_here c.args.script.now c.args.machine.now c.in-Err.field-0 c.args.reader.now c.requires
+    (sym c.next_line.ensures.answer ∙ c.in-Err.is))

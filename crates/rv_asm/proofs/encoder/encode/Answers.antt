@@ -1,7 +1,7 @@
 use Rattle.std.proofs.Common.{rules, Some, refl, ap, sym, ◌∙◌}
 use Rattle.rv_inst.specs.declared.instruction.Inst.TheVariants as inst
 use Rattle.rv_inst.specs.Table.{rows, lui_rows, auipc_rows, jal_rows, jalr_rows, branch_rows, load_rows, store_rows, op_imm_rows, op_imm_32_rows, op_rows, op_32_rows, misc_mem_rows, amo_rows, system_rows}
-use Rattle.rv_decode.proofs.Rows.{by_mask, by_opcode, by_funct3, by_funct5, by_funct6, by_funct7, by_rs2}
+use Rattle.rv_decode.proofs.Laws.{by_funct3, by_funct5, by_funct6, by_funct7, by_mask, by_opcode, by_rs2}
 use Rattle.rv_asm.proofs.Words.{row_r, row_i, row_s, row_b, row_u, row_j, row_shift, row_fence, row_atomic, row_reserved}
 use Rattle.rv_asm.proofs.encoder.encode.Goals as goal
 

@@ -1,16 +1,27 @@
 -- A machine at boot is tied to its empty log.
-use Rattle.std.proofs.Common.{◌≡◌}
-use Rattle.block_model.proofs.Laws.{history-nil}
+use Rattle.std.proofs.Common.{◌≡◌, ◌∙◌, ap, refl, None}
+use Rattle.elf_load.specs.Start.{program_of, start_file}
+use Rattle.kernel_threads.specs.Table.{start_table}
+use Rattle.block_model.proofs.Laws.{start_run, start_plain}
+use Rattle.block_model.specs.Setting.{setting_of as setting_by}
+use Rattle.machine_core.specs.declared.parts.Parts.{Parts}
 use Rattle.machine_core.proofs.Starting.{tied-start}
 use Rattle.machine_core.proofs.machine.Machine.boot.Goals as goal
 
 pub invariant_of-result : goal.invariant_of-result
 invariant_of-result c =
-    let tied = tied-start c.args.image.now c.args.limits c.args.seed c.in_ok-memory.memory c.in_ok-harts.harts.items c.start_file.result c.in_ok-memory.ensures.bytes c.in_ok-memory.ensures.writable c.in_ok-harts.ensures.count c.in_ok-harts.ensures.idle c.start_file.ensures in
-    let same_pages : c.deref.result.now ≡ c.args.image.now.pages.items = c.deref.ensures.value in
+    let same_pages : c.in_ok-code.code ≡ c.args.image.now.pages.items = c.in_ok-code.ensures ∙ c.deref.ensures.value in
+    let parts : Parts = record {
+      pages = c.in_ok-pages.pages;
+      harts = c.in_ok-harts.harts;
+      kernel = record { threads = c.in_ok-threads.threads; ready = c.new-ready.result; console = c.in_ok-console.console };
+      ended = None;
+    } in
+    let first : c.in_ok-threads.threads ≡ start_table (start_file (program_of c.args.image.now)) = c.in_ok-threads.ensures.start ∙ ap start_table c.first_file.ensures in
+    let tied = tied-start c.args.image.now c.args.limits c.args.seed parts c.requires.image.permissions c.in_ok-pages.ensures.permissions c.in_ok-pages.ensures.bytes c.in_ok-harts.ensures.count c.in_ok-harts.ensures.idle first c.new-ready.ensures c.in_ok-console.ensures c.in_ok-threads.ensures.table refl in
     record {
-      run = rw (c.in_ok-log.ensures.items, history-nil) tt;
-      tied = rw (c.in_ok-log.ensures.items, history-nil, c.in_ok-code.ensures, same_pages, c.in_ok-console.ensures) tied;
+      run = rw (c.in_ok-log.ensures.items, same_pages) (start_run (setting_by c.args.image.now c.args.limits c.args.seed));
+      tied = rw (c.in_ok-log.ensures.items, same_pages, start_plain (setting_by c.args.image.now c.args.limits c.args.seed)) tied;
       limits = c.requires.limits;
       room = c.in_ok-log.ensures.capacity;
     }

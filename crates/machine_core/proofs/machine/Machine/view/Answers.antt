@@ -1,13 +1,14 @@
 -- A word as a hart sees it.
-use Rattle.std.proofs.Common.{◌∙◌}
-use Rattle.machine_core.specs.Harts.{IsHart}
-use Rattle.machine_core.specs.Tied.{setting_of}
-use Rattle.machine_core.proofs.Places.{history_of}
-use Rattle.machine_core.proofs.Sighted.{look_is}
+use Rattle.std.proofs.Common.{◌≡◌, ◌∙◌}
+use Rattle.block_model.specs.History.{events, ran}
+use Rattle.machine_core.specs.Harts.{hart_in}
+use Rattle.machine_core.proofs.Readings.{here_read, history_of, word_read}
 use Rattle.machine_core.proofs.machine.Machine.view.Goals as goal
 
 pub returns : goal.returns
 returns c =
     let m = c.self.inside in
-    let here : IsHart (setting_of m) (history_of m) c.args.hart.0 c.hart.result.now = rw (← c.self.view_is) at c.hart.ensures in
-    rw (← c.self.view_is) (c.look.ensures.seen ∙ look_is (setting_of m) (history_of m) c.args.hart.0 c.hart.result.now m.memory c.args.at c.args.size here c.self.invariant.tied.bytes)
+    let h = c.args.hart.0 in
+    let x = c.hart.result.now in
+    let here : x ≡ hart_in (here_read m h) (ran h (history_of m)) (events h (history_of m)) = rw (← c.self.view_is) at c.hart.ensures in
+    rw (← c.self.view_is) (c.look.ensures.seen ∙ word_read m h x _ _ c.args.at c.args.size c.self.invariant here)

@@ -1,0 +1,255 @@
+-- Each call of the table is refused, or gives no error at its own entry.
+use Rattle.std.proofs.Common.{◌≡◌, ℕ, ◌*◌, ◌%◌, ◌<◌, ◌≤◌, ◌^◌, List, [], ◌∷◌, length, map, take, min, set, get_or, refl, sym, ap, ◌∙◌, subst, Bool, true, false, not, cond, eqb, leb, ltb, ◌&&◌, ◌||◌, Option, Some, None, is_some, arith, zero, suc, length-take}
+use Rattle.std.specs.Option.{option_map_or}
+use Rattle.std.proofs.lemmas.Bool.{false≢true}
+use Rattle.std.proofs.Math.Nat.{mod-lt}
+use Rattle.mach_types.specs.Registers.{register}
+use Rattle.mach_types.specs.declared.address_space.TheConstants.{USER_END}
+use Rattle.mach_types.specs.declared.errors.Errno.{Errno}
+use Rattle.mach_types.specs.declared.errors.TheConstants.{EAGAIN, EBADF, EFAULT, EINVAL, ENOSPC, ENOSYS, EPERM, ESRCH}
+use Rattle.mach_types.specs.declared.kernel_words.TheConstants.{CONSOLE_ROOM}
+use Rattle.mach_types.specs.declared.limits.End.{End}
+use Rattle.mach_types.specs.declared.threads.Saved.{Saved}
+use Rattle.mach_types.specs.declared.user_memory.Write.{Write}
+use Rattle.mach_types.specs.Kernel.Record.{Kernel}
+use Rattle.mach_types.specs.Kernel.Scheduling.{harts_in}
+use Rattle.mach_types.specs.Kernel.Threads.{Thread, is_full, is_live, longest_waiter}
+use Rattle.block_model.specs.Here.{Here, memory}
+use Rattle.block_model.specs.History.{file_among}
+use Rattle.block_model.specs.Kernel.{cleared, gone, left, next_number, printed, waited, woken}
+use Rattle.block_model.specs.Calls.{call_of, called}
+use Rattle.block_model.specs.Calls.Affinity.{getcpu, is_usable, moved_off, names_nobody, sched_getaffinity, sched_setaffinity, set_at}
+use Rattle.block_model.specs.Calls.Answers.{CallDone, argument, are_readable, are_writable, call_number, int_argument, negative, number_at, refused, returned, said}
+use Rattle.block_model.specs.Calls.Cloning.{are_flags, child_file, clone, clone_child_settid, clone_parent_settid, may_write, with_new_child}
+use Rattle.block_model.specs.Calls.Console.{Span, all_readable, bytes_of, is_elsewhere, room, spans_at, total, write, write_spans, writev}
+use Rattle.block_model.specs.Calls.Ending.{exit, exit_group, is_last, last_exits, one_exits, woken_at_exit}
+use Rattle.block_model.specs.Calls.Futexes.{Woken, answered_wait, futex, futex_wait, futex_wake, operation, wake, woken_first}
+use Rattle.block_model.specs.ErrorCalls.{IsError}
+use Rattle.block_model.proofs.Lists.{filtered_same}
+use Rattle.block_model.proofs.Times.{eqb_same}
+
+-- a call is refused with an error number
+pub record IsRefusal (here : Here) (t : ℕ) (c : CallDone) : Type 0 where
+  pub errno : ℕ
+  pub least : 1 ≤ errno
+  pub most : errno ≤ 4095
+  pub is : c ≡ said here t (negative errno)
+
+-- the file of the call's thread after it
+abbrev own_file : Here → ℕ → CallDone → Saved
+own_file here t c = file_among c.files t (here.file t)
+
+-- a call that gives an error is refused
+abbrev pub TellsErrors : Here → ℕ → CallDone → Type 0
+TellsErrors here t c =
+    c.ended ≡ None → is_live t c.kernel.threads ≡ true → IsError (register (own_file here t c).file 10)
+    → IsRefusal here t c
+
+either : (here : Here) (t : ℕ) (b : Bool) (x y : CallDone) → TellsErrors here t x → TellsErrors here t y
+    → TellsErrors here t (cond b x y)
+either here t true x y p q = p
+either here t false x y p q = q
+
+-- a refusal
+tells_refused : (here : Here) (t : ℕ) (errno : Errno) → 1 ≤ errno.0 → errno.0 ≤ 4095
+    → TellsErrors here t (refused here t errno)
+tells_refused here t errno least most goes lives error =
+    record { errno = errno.0; least = least; most = most; is = refl }
+
+unless_refused : (here : Here) (t : ℕ) (errno : Errno) (b : Bool) (y : CallDone)
+    → 1 ≤ errno.0 → errno.0 ≤ 4095 → TellsErrors here t y
+    → TellsErrors here t (cond b (refused here t errno) y)
+unless_refused here t errno b y least most q =
+    either here t b (refused here t errno) y (tells_refused here t errno least most) q
+
+-- what is put into a list is found there, or nothing is
+put_low : (xs : List ℕ) (i v : ℕ) → get_or (set xs i v) i 0 ≤ v
+put_low [] i v = omega arith
+put_low (x ∷ xs) zero v = omega arith
+put_low (x ∷ xs) (suc i) v = put_low xs i v
+
+-- a small answer is no error
+low_no_error : (value n : ℕ) → value ≤ n → n < 2 ^ 32 → IsError value → ⊥
+low_no_error value n low small error =
+    let least = error.least in
+    let most = error.most in
+    let is = error.is in
+    omega arith
+
+answer_low : (f : Saved) (n : ℕ) → register (returned n f).file 10 ≤ n
+answer_low f n = put_low f.file.x 10 n
+
+own_first : (t : ℕ) (x f : Saved) (rest : List (ℕ × Saved)) → file_among ((t, x) ∷ rest) t f ≡ x
+own_first t x f rest = ap (λ b. cond b x (file_among rest t f)) (eqb_same t)
+
+-- a call that answers with a small number
+abbrev answering : Here → ℕ → ℕ → List (ℕ × Saved) → List Write → Kernel → CallDone
+answering here t n rest entered k = record {
+  files = (t, returned n (here.file t)) ∷ rest;
+  entered = entered;
+  kernel = k;
+  ended = None;
+}
+
+answers_low : (here : Here) (t n : ℕ) (rest : List (ℕ × Saved)) (entered : List Write) (k : Kernel)
+    → n < 2 ^ 32 → TellsErrors here t (answering here t n rest entered k)
+answers_low here t n rest entered k small goes lives error =
+    let x = returned n (here.file t) in
+    let there = ap (λ (f : Saved). register f.file 10) (own_first t x (here.file t) rest) in
+    let low = answer_low (here.file t) n in
+    absurd (low_no_error (register x.file 10) n low small (subst IsError there error))
+
+answers_small : (here : Here) (t n : ℕ) → n < 2 ^ 32 → TellsErrors here t (said here t n)
+answers_small here t n small = answers_low here t n [] [] here.kernel small
+
+-- a call that ends the process
+ends_all : (here : Here) (t : ℕ) (c : CallDone) (e : End) → c.ended ≡ Some e → TellsErrors here t c
+ends_all here t c e is goes lives error = let no : None ≡ Some e = sym goes ∙ is in absurd cc
+
+-- write(2) and writev(2)
+tells_write_spans : (here : Here) (t : ℕ) (spans : List Span) → TellsErrors here t (write_spans here t spans)
+tells_write_spans here t spans =
+    let bytes = bytes_of (memory here) spans in
+    let some = take (room here) bytes in
+    let few = length-take (room here) bytes in
+    let held = length here.kernel.console in
+    either here t (eqb (total spans) 0) _ _ (answers_small here t 0 (omega arith))
+    (unless_refused here t EFAULT (not (all_readable here spans)) _ (omega arith) (omega arith)
+    (unless_refused here t ENOSPC (leb CONSOLE_ROOM held) _ (omega arith) (omega arith)
+    (answers_low here t (length some) [] [] (printed some here.kernel) (omega arith))))
+
+tells_write : (here : Here) (t : ℕ) → TellsErrors here t (write here t)
+tells_write here t =
+    unless_refused here t EBADF (is_elsewhere here t) _ (omega arith) (omega arith)
+    (tells_write_spans here t (record { at = argument here t 1; len = argument here t 2 } ∷ []))
+
+tells_writev : (here : Here) (t : ℕ) → TellsErrors here t (writev here t)
+tells_writev here t =
+    let iov = argument here t 1 in
+    let n = argument here t 2 in
+    unless_refused here t EBADF (is_elsewhere here t) _ (omega arith) (omega arith)
+    (unless_refused here t EINVAL (ltb 1024 n) _ (omega arith) (omega arith)
+    (unless_refused here t EFAULT (not (are_readable here iov (16 * n))) _ (omega arith) (omega arith)
+    (unless_refused here t EINVAL (leb (2 ^ 31) (total (spans_at here iov n))) _ (omega arith) (omega arith)
+    (tells_write_spans here t (spans_at here iov n)))))
+
+-- exit(2): the thread is gone
+not_gone : (t : ℕ) (k : Kernel) → is_live t (gone t k).threads ≡ false
+not_gone t k =
+    ap (λ (o : Option Thread). is_some o) (filtered_same (λ (th : Thread). th.tid) t k.threads.live)
+
+tells_one : (here : Here) (t : ℕ) → TellsErrors here t (one_exits here t)
+tells_one here t goes lives error =
+    absurd (false≢true (sym (not_gone t (woken_at_exit here t).kernel) ∙ lives))
+
+tells_exit : (here : Here) (t : ℕ) → TellsErrors here t (exit here t)
+tells_exit here t =
+    either here t (is_last here) _ _ (ends_all here t (last_exits here t) _ refl) (tells_one here t)
+
+-- futex(2): no more are woken than asked
+abbrev woken_next : ℕ → ℕ → Kernel → Option ℕ → Woken
+woken_next n at k o =
+    option_map_or (λ u. woken_first u (wake n at (woken u k))) o (record { threads = []; kernel = k })
+
+woken_few_one : (n at : ℕ) (k : Kernel) (o : Option ℕ)
+    → ((u : ℕ) → length (wake n at (woken u k)).threads ≤ n) → length (woken_next n at k o).threads ≤ suc n
+woken_few_one n at k None rest = omega arith
+woken_few_one n at k (Some u) rest = let few = rest u in omega arith
+
+woken_few : (n at : ℕ) (k : Kernel) → length (wake n at k).threads ≤ n
+woken_few zero at k = omega arith
+woken_few (suc n) at k =
+    woken_few_one n at k (longest_waiter at k.threads) (λ u. woken_few n at (woken u k))
+
+tells_wake : (here : Here) (t : ℕ) → TellsErrors here t (futex_wake here t)
+tells_wake here t =
+    let n = int_argument here t 2 in
+    let done = wake n (argument here t 0) here.kernel in
+    let few = woken_few n (argument here t 0) here.kernel in
+    let small : n < 2 ^ 32 = mod-lt (argument here t 2) (omega arith) in
+    let others = map (answered_wait here) done.threads in
+    answers_low here t (length done.threads) others [] done.kernel (omega arith)
+
+tells_wait : (here : Here) (t : ℕ) → TellsErrors here t (futex_wait here t)
+tells_wait here t =
+    let p = argument here t 0 in
+    let same = eqb (number_at here p 4) (int_argument here t 2) in
+    unless_refused here t EINVAL (not (eqb (argument here t 3) 0)) _ (omega arith) (omega arith)
+    (unless_refused here t EFAULT (not (are_readable here p 4)) _ (omega arith) (omega arith)
+    (unless_refused here t EAGAIN (not same) _ (omega arith) (omega arith)
+    (answers_low here t 0 [] [] (waited t p here.kernel) (omega arith))))
+
+tells_futex : (here : Here) (t : ℕ) → TellsErrors here t (futex here t)
+tells_futex here t =
+    let p = argument here t 0 in
+    let op = operation (int_argument here t 1) in
+    unless_refused here t ENOSYS (not (leb op 1)) _ (omega arith) (omega arith)
+    (unless_refused here t EINVAL (not (eqb (p % 4) 0)) _ (omega arith) (omega arith)
+    (unless_refused here t EFAULT (leb USER_END p) _ (omega arith) (omega arith)
+    (either here t (eqb op 0) _ _ (tells_wait here t) (tells_wake here t))))
+
+-- sched_setaffinity(2), sched_getaffinity(2), sched_yield(2) and getcpu(2)
+tells_setaffinity : (here : Here) (t : ℕ) → TellsErrors here t (sched_setaffinity here t)
+tells_setaffinity here t =
+    let tid = int_argument here t 0 in
+    let len = int_argument here t 1 in
+    let p = argument here t 2 in
+    let set = harts_in (set_at here p len) here.setting.limits.harts in
+    unless_refused here t EFAULT (not (are_readable here p (min len 8))) _ (omega arith) (omega arith)
+    (unless_refused here t ESRCH (names_nobody here tid) _ (omega arith) (omega arith)
+    (unless_refused here t EPERM (not (eqb tid 0 || eqb tid t)) _ (omega arith) (omega arith)
+    (unless_refused here t EINVAL (eqb set 0) _ (omega arith) (omega arith)
+    (answers_low here t 0 [] [] (moved_off here t set) (omega arith)))))
+
+tells_getaffinity : (here : Here) (t : ℕ) → TellsErrors here t (sched_getaffinity here t)
+tells_getaffinity here t =
+    let tid = int_argument here t 0 in
+    let len = int_argument here t 1 in
+    let p = argument here t 2 in
+    unless_refused here t EINVAL (ltb len 8 || not (eqb (len % 8) 0)) _ (omega arith) (omega arith)
+    (unless_refused here t ESRCH (names_nobody here tid) _ (omega arith) (omega arith)
+    (unless_refused here t EFAULT (not (are_writable here p 8)) _ (omega arith) (omega arith)
+    (answers_low here t 8 [] _ here.kernel (omega arith))))
+
+tells_getcpu : (here : Here) (t : ℕ) → TellsErrors here t (getcpu here t)
+tells_getcpu here t =
+    let cpu = argument here t 0 in
+    let node = argument here t 1 in
+    let usable = is_usable here cpu && is_usable here node in
+    unless_refused here t EFAULT (not usable) _ (omega arith) (omega arith)
+    (answers_low here t 0 [] _ here.kernel (omega arith))
+
+-- clone(2), where few numbers were given
+tells_clone : (here : Here) (t : ℕ) → here.kernel.threads.given < 2 ^ 31 → TellsErrors here t (clone here t)
+tells_clone here t few =
+    let flags = argument here t 0 in
+    let own = may_write here flags clone_parent_settid (argument here t 2) in
+    let theirs = may_write here flags clone_child_settid (argument here t 4) in
+    let child = next_number here.kernel in
+    unless_refused here t EINVAL (not (are_flags flags)) _ (omega arith) (omega arith)
+    (unless_refused here t EAGAIN (is_full here.kernel.threads) _ (omega arith) (omega arith)
+    (unless_refused here t EFAULT (not (own && theirs)) _ (omega arith) (omega arith)
+    (answers_low here t child ((child, child_file here t) ∷ []) _ (with_new_child here t) (omega arith))))
+
+-- each call of the table, where few numbers were given, also to its thread
+module _ (here : Here) (t : ℕ) (low : t < 2 ^ 32) (few : here.kernel.threads.given < 2 ^ 31) where
+  tells_call_of : (number : ℕ) → TellsErrors here t (call_of number here t)
+  tells_call_of number =
+      let at = argument here t 0 in
+      either here t (eqb number 64) _ _ (tells_write here t)
+      (either here t (eqb number 66) _ _ (tells_writev here t)
+      (either here t (eqb number 93) _ _ (tells_exit here t)
+      (either here t (eqb number 94) _ _ (ends_all here t (exit_group here t) _ refl)
+      (either here t (eqb number 96) _ _ (answers_low here t t [] [] (cleared t at here.kernel) low)
+      (either here t (eqb number 98) _ _ (tells_futex here t)
+      (either here t (eqb number 122) _ _ (tells_setaffinity here t)
+      (either here t (eqb number 123) _ _ (tells_getaffinity here t)
+      (either here t (eqb number 124) _ _ (answers_low here t 0 [] [] (left t here.kernel) (omega arith))
+      (either here t (eqb number 168) _ _ (tells_getcpu here t)
+      (either here t (eqb number 172) _ _ (answers_small here t 1 (omega arith))
+      (either here t (eqb number 178) _ _ (answers_small here t t low)
+      (either here t (eqb number 220) _ _ (tells_clone here t few)
+      (tells_refused here t ENOSYS (omega arith) (omega arith))))))))))))))
+
+  pub tells_errors : TellsErrors here t (called here t)
+  tells_errors = tells_call_of (call_number here t)

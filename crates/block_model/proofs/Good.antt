@@ -1,0 +1,95 @@
+-- What holds at each place of a run, and what an event has to do so that it goes on to hold. No kind of event occurs here.
+use Rattle.std.proofs.Common.{◌≡◌, ◌≢◌, ℕ, ◌+◌, ◌≤◌, ◌<◌, List, [], ◌∷◌, ◌++◌, length, drop, refl, sym, ap, ◌∙◌, arith, subst, Bool, true, false, cond, eqb, Some, None, length-append, length-drop, zero, suc}
+use Rattle.std.specs.List.{AllByRecursion}
+use Rattle.std.proofs.lemmas.Bool.{eqb-true, eqb-false}
+use Rattle.mach_types.specs.Bytes.{each_byte}
+use Rattle.mach_types.specs.Kernel.Pages.{Pages, permission_at, can_write}
+use Rattle.mach_types.specs.Kernel.Record.{Kernel}
+use Rattle.mach_types.specs.Kernel.Threads.{running_on}
+use Rattle.mach_types.specs.declared.kernel_words.TheConstants.{CONSOLE_ROOM}
+use Rattle.mach_types.specs.declared.user_memory.Store.{Store}
+use Rattle.mach_types.specs.declared.user_memory.TheConstants.{STORE_BUFFER_CAPACITY}
+use Rattle.mach_types.specs.declared.threads.Saved.{Saved}
+use Rattle.block_model.specs.Setting.{Setting}
+use Rattle.block_model.specs.History.{file_among}
+use Rattle.block_model.specs.Here.{Here, Done}
+use Rattle.block_model.specs.Plain.{Plain, here_in_plain, apply}
+use Rattle.block_model.proofs.Allowances.{AllAllowed}
+use Rattle.block_model.specs.Tables.{IsTables}
+
+-- a store whose bytes can all be written
+abbrev pub MayEnter : Pages → Store → Type 0
+MayEnter p w = each_byte (λ a. can_write (permission_at p a)) w.at w.size ≡ true
+
+-- the kernel's record, by concern: its tables; the affinities; the console
+pub record IsSound (s : Setting) (k : Kernel) : Type 0 where
+  pub tables : IsTables s.limits.harts k.threads k.scheduling
+  pub allowed : AllAllowed s.limits.harts k.threads k.scheduling
+  pub console : length k.console ≤ CONSOLE_ROOM
+
+-- what waits may enter memory, and as many stores wait as a buffer holds; an idle hart has no waiting store;
+-- an event gives at most one number to a thread
+pub record IsGood (s : Setting) (m : Plain) : Type 0 where
+  pub within : (h : ℕ) → AllByRecursion (MayEnter m.kernel.pages) (m.waiting h)
+  pub few : (h : ℕ) → length (m.waiting h) ≤ STORE_BUFFER_CAPACITY
+  pub idle : (h : ℕ) → running_on h m.kernel.threads ≡ None → m.waiting h ≡ []
+  pub given : m.kernel.threads.given ≤ m.made + 1
+  pub kernel : IsSound s m.kernel
+
+-- the same, at a hart of the machine
+pub record IsGoodHere (here : Here) : Type 0 where
+  pub lt : here.hart < here.setting.limits.harts
+  pub within : AllByRecursion (MayEnter here.kernel.pages) here.waiting
+  pub few : length here.waiting ≤ STORE_BUFFER_CAPACITY
+  pub idle : running_on here.hart here.kernel.threads ≡ None → here.waiting ≡ []
+  pub kernel : IsSound here.setting here.kernel
+
+-- what an event does that keeps it; and it sets no file of a thread that runs on another hart
+pub record IsFit (here : Here) (d : Done) : Type 0 where
+  pub executed : AllByRecursion (MayEnter here.kernel.pages) d.executed
+  pub few : length here.waiting + length d.executed ≤ STORE_BUFFER_CAPACITY
+  pub drained : d.drained ≤ length here.waiting
+  pub idle : running_on here.hart d.kernel.threads ≡ None → drop d.drained (here.waiting ++ d.executed) ≡ []
+  pub others : (k : ℕ) → k ≢ here.hart → running_on k d.kernel.threads ≡ running_on k here.kernel.threads
+  pub apart : (k u : ℕ) (f : Saved) → k ≢ here.hart → running_on k here.kernel.threads ≡ Some u → file_among d.files u f ≡ f
+  pub pages : d.kernel.pages ≡ here.kernel.pages
+  pub given : d.kernel.threads.given ≤ here.kernel.threads.given + 1
+  pub one : d.instructions ≤ 1
+  pub kernel : IsSound here.setting d.kernel
+
+all_append : (P : Store → Type 0) (xs ys : List Store) → AllByRecursion P xs → AllByRecursion P ys → AllByRecursion P (xs ++ ys)
+all_append P [] ys p q = q
+all_append P (x ∷ xs) ys p q = (p.0, all_append P xs ys p.1 q)
+
+all_drop : (P : Store → Type 0) (n : ℕ) (xs : List Store) → AllByRecursion P xs → AllByRecursion P (drop n xs)
+all_drop P zero xs p = p
+all_drop P (suc n) [] p = p
+all_drop P (suc n) (x ∷ xs) p = all_drop P n xs p.1
+
+pub good_here : (s : Setting) (m : Plain) (h : ℕ) → h < s.limits.harts → IsGood s m → IsGoodHere (here_in_plain s m h)
+good_here s m h lt good = record { lt = lt; within = good.within h; few = good.few h; idle = good.idle h; kernel = good.kernel }
+
+pub good_next : (s : Setting) (m : Plain) (h : ℕ) (d : Done) → IsGood s m → IsFit (here_in_plain s m h) d → IsGood s (apply h d m)
+good_next s m h d good fit = record {
+  within = λ k. rw fit.pages (within k (eqb h k) refl);
+  few = λ k. few k (eqb h k) refl;
+  idle = λ k none. idle k (eqb h k) refl none;
+  given = let was = good.given in let now = fit.given in omega arith;
+  kernel = fit.kernel;
+}
+  where
+    within : (k : ℕ) (b : Bool) → eqb h k ≡ b → AllByRecursion (MayEnter m.kernel.pages) (cond b (drop d.drained (m.waiting k ++ d.executed)) (m.waiting k))
+    within k true is = all_drop (MayEnter m.kernel.pages) d.drained (m.waiting k ++ d.executed) (all_append (MayEnter m.kernel.pages) (m.waiting k) d.executed (good.within k) fit.executed)
+    within k false is = good.within k
+
+    few : (k : ℕ) (b : Bool) → eqb h k ≡ b → length (cond b (drop d.drained (m.waiting k ++ d.executed)) (m.waiting k)) ≤ STORE_BUFFER_CAPACITY
+    few k true is =
+        let one : length (m.waiting k) + length d.executed ≤ STORE_BUFFER_CAPACITY = subst (λ j. length (m.waiting j) + length d.executed ≤ STORE_BUFFER_CAPACITY) (eqb-true h k is) fit.few in
+        omega (arith, length-drop d.drained (m.waiting k ++ d.executed), length-append (m.waiting k) d.executed)
+    few k false is = good.few k
+
+    idle : (k : ℕ) (b : Bool) → eqb h k ≡ b → running_on k d.kernel.threads ≡ None → cond b (drop d.drained (m.waiting k ++ d.executed)) (m.waiting k) ≡ []
+    idle k true is none =
+        let same : h ≡ k = eqb-true h k is in
+        subst (λ j. drop d.drained (m.waiting j ++ d.executed) ≡ []) same (fit.idle (ap (λ j. running_on j d.kernel.threads) same ∙ none))
+    idle k false is none = good.idle k (sym (fit.others k (λ e. eqb-false h k is (sym e))) ∙ none)

@@ -1,0 +1,7 @@
+-- For each kind of event: what it does where it is not refused.
+pub mod Calls
+pub mod Drain
+pub mod Exec
+pub mod Preempt
+pub mod Run
+pub mod Unbuilt

@@ -1,0 +1,11 @@
+-- Calls: what each does that is fit.
+pub mod Affinity
+pub mod Cloning
+pub mod Console
+pub mod Ending
+pub mod Fit
+pub mod Futexes
+pub mod Numbers
+pub mod Said
+pub mod Steps
+pub mod Table

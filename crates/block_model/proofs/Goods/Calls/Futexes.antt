@@ -1,0 +1,124 @@
+-- futex(2).
+use Rattle.std.proofs.Common.{◌≡◌, ◌≢◌, ℕ, ◌%◌, [], map, refl, sym, ap, ◌∙◌, true, not, eqb, leb, Option, Some, None, length, zero, suc}
+use Rattle.std.specs.Option.{option_map_or}
+use Rattle.std.proofs.lemmas.Bool.{ne_eqb, false≢true}
+use Rattle.mach_types.specs.declared.address_space.TheConstants.{USER_END}
+use Rattle.mach_types.specs.declared.errors.TheConstants.{EAGAIN, EFAULT, EINVAL, ENOSYS}
+use Rattle.mach_types.specs.declared.threads.Saved.{Saved}
+use Rattle.mach_types.specs.declared.threads.ThreadState.{ThreadState}
+use Rattle.mach_types.specs.declared.threads.ThreadState.TheVariants.{Ready, Running, Waiting}
+use Rattle.mach_types.specs.Kernel.Record.{Kernel}
+use Rattle.mach_types.specs.Kernel.Threads.{Threads, is_waiting_at, longest_waiter, running_on, state_of, waits}
+use Rattle.block_model.specs.Setting.{Setting}
+use Rattle.block_model.specs.Here.{Here, runs}
+use Rattle.block_model.specs.History.{file_among}
+use Rattle.block_model.specs.Kernel.{woken}
+use Rattle.block_model.specs.Calls.Answers.{argument, are_readable, int_argument, number_at, returned}
+use Rattle.block_model.specs.Calls.Futexes.{Woken, answered_wait, futex, futex_wait, futex_wake, operation, wake, woken_first}
+use Rattle.block_model.specs.Tables.{on}
+use Rattle.block_model.proofs.KernelTables.{running_is, found_passes}
+use Rattle.block_model.proofs.Good.{IsGoodHere, IsSound}
+use Rattle.block_model.proofs.Goods.Calls.Fit.{IsFitCall}
+use Rattle.block_model.proofs.Goods.Calls.Said.{IsApart, apart_one, apart_own, either, fit_kept, fit_moved, unless_refused}
+use Rattle.block_model.proofs.Goods.Calls.Steps.{IsKept, kept_still, kept_twice, kept_woken, moved_waited}
+
+-- the longest waiter at an address waits
+waits_there : (at : ℕ) (ts : Threads) (t : ℕ) (o : Option ThreadState) → state_of t ts ≡ o
+    → is_waiting_at at o ≡ true → waits ts t
+waits_there at ts t None was e = absurd (false≢true e)
+waits_there at ts t (Some Ready) was e = absurd (false≢true e)
+waits_there at ts t (Some (Running h)) was e = absurd (false≢true e)
+waits_there at ts t (Some (Waiting b)) was e = (b, was)
+
+longest_waits : (at : ℕ) (ts : Threads) (t : ℕ) → longest_waiter at ts ≡ Some t → waits ts t
+longest_waits at ts t e =
+    let there = found_passes (λ u. is_waiting_at at (state_of u ts)) ts.waiters t e in
+    waits_there at ts t (state_of t ts) refl there
+
+-- who waits doesn't run
+waits_apart : (s : Setting) (h t u : ℕ) (k : Kernel) → IsSound s k → waits k.threads t
+    → running_on h k.threads ≡ Some u → t ≢ u
+waits_apart s h t u k sound waiting runs same =
+    let run = running_is s.limits.harts h u k.threads k.scheduling sound.tables runs in
+    let wait = ap (λ n. state_of n k.threads) (sym same) ∙ waiting.1 in
+    let states : Some (on h) ≡ Some (Waiting waiting.0) = sym run ∙ wait in
+    cc
+
+-- one more is woken before others, where one waits
+abbrev woken_next : ℕ → ℕ → Kernel → Option ℕ → Woken
+woken_next n at k o =
+    option_map_or (λ u. woken_first u (wake n at (woken u k))) o (record { threads = []; kernel = k })
+
+-- what is woken keeps the record sound
+wake_one : (s : Setting) (n at : ℕ) (k : Kernel) → IsSound s k
+    → ((u : ℕ) → waits k.threads u → IsKept s (woken u k) (wake n at (woken u k)).kernel)
+    → (o : Option ℕ) → longest_waiter at k.threads ≡ o → IsKept s k (woken_next n at k o).kernel
+wake_one s n at k sound rest None is = kept_still s k sound
+wake_one s n at k sound rest (Some u) is =
+    let waiting = longest_waits at k.threads u is in
+    let first = kept_woken s u k sound waiting in
+    kept_twice s k (woken u k) (wake n at (woken u k)).kernel first (rest u waiting)
+
+pub kept_wake : (s : Setting) (n at : ℕ) (k : Kernel) → IsSound s k → IsKept s k (wake n at k).kernel
+kept_wake s zero at k sound = kept_still s k sound
+kept_wake s (suc n) at k sound =
+    let sound_then = λ (u : ℕ) (waiting : waits k.threads u). (kept_woken s u k sound waiting).sound in
+    let rest = λ (u : ℕ) (waiting : waits k.threads u). kept_wake s n at (woken u k) (sound_then u waiting) in
+    wake_one s n at k sound rest (longest_waiter at k.threads) refl
+
+-- and sets no file of a thread that runs
+abbrev answered : Here → Woken → ℕ → Saved → Saved
+answered here done u f = file_among (map (answered_wait here) done.threads) u f
+
+answered_one : (s : Setting) (here : Here) (n at h u : ℕ) (f : Saved) (k : Kernel) → IsSound s k
+    → running_on h k.threads ≡ Some u
+    → ((v : ℕ) → waits k.threads v → answered here (wake n at (woken v k)) u f ≡ f)
+    → (o : Option ℕ) → longest_waiter at k.threads ≡ o → answered here (woken_next n at k o) u f ≡ f
+answered_one s here n at h u f k sound runs rest None is = refl
+answered_one s here n at h u f k sound runs rest (Some v) is =
+    let waiting = longest_waits at k.threads v is in
+    rw (ne_eqb v u (waits_apart s h v u k sound waiting runs)) (rest v waiting)
+
+answered_apart : (s : Setting) (here : Here) (n at h u : ℕ) (f : Saved) (k : Kernel) → IsSound s k
+    → running_on h k.threads ≡ Some u
+    → answered here (wake n at k) u f ≡ f
+answered_apart s here zero at h u f k sound runs = refl
+answered_apart s here (suc n) at h u f k sound runs =
+    let rest : (v : ℕ) → waits k.threads v → answered here (wake n at (woken v k)) u f ≡ f =
+    λ v waiting.
+    let kept = kept_woken s v k sound waiting in
+    answered_apart s here n at h u f (woken v k) kept.sound (kept.running h ∙ runs) in
+    answered_one s here n at h u f k sound runs rest (longest_waiter at k.threads) refl
+
+pub apart_woken : (here : Here) (n at : ℕ) → IsGoodHere here
+    → IsApart here (map (answered_wait here) (wake n at here.kernel).threads)
+apart_woken here n at good k u f ne run =
+    answered_apart here.setting here n at k u f here.kernel good.kernel run
+
+fit_wait : (here : Here) (t : ℕ) → IsGoodHere here → runs here ≡ Some t → IsFitCall here (futex_wait here t)
+fit_wait here t good at =
+    let p = argument here t 0 in
+    unless_refused here t EINVAL (not (eqb (argument here t 3) 0)) _ good at (λ _.
+    unless_refused here t EFAULT (not (are_readable here p 4)) _ good at (λ _.
+    unless_refused here t EAGAIN (not (eqb (number_at here p 4) (int_argument here t 2))) _ good at (λ _.
+    let own = apart_one here t (returned 0 (here.file t)) good at in
+    fit_moved here _ own (moved_waited here.setting here.hart t p here.kernel good.kernel at))))
+
+fit_wake : (here : Here) (t : ℕ) → IsGoodHere here → runs here ≡ Some t → IsFitCall here (futex_wake here t)
+fit_wake here t good at =
+    let n = int_argument here t 2 in
+    let p = argument here t 0 in
+    let done = wake n p here.kernel in
+    let theirs = map (answered_wait here) done.threads in
+    let own = returned (length done.threads) (here.file t) in
+    let apart = apart_own here t own theirs good at (apart_woken here n p good) in
+    fit_kept here (futex_wake here t) apart (kept_wake here.setting n p here.kernel good.kernel)
+
+pub fit_futex : (here : Here) (t : ℕ) → IsGoodHere here → runs here ≡ Some t → IsFitCall here (futex here t)
+fit_futex here t good at =
+    let p = argument here t 0 in
+    let op = operation (int_argument here t 1) in
+    unless_refused here t ENOSYS (not (leb op 1)) _ good at (λ _.
+    unless_refused here t EINVAL (not (eqb (p % 4) 0)) _ good at (λ _.
+    unless_refused here t EFAULT (leb USER_END p) _ good at (λ _.
+    either here (eqb op 0) _ _ (λ _. fit_wait here t good at) (λ _. fit_wake here t good at))))

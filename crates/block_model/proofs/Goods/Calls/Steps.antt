@@ -1,0 +1,167 @@
+-- Steps of the kernel's record that calls are made of: what each keeps.
+use Rattle.std.proofs.Common.{◌≡◌, ◌≢◌, ℕ, ◌+◌, ◌≤◌, ◌<◌, ◌^◌, List, refl, ◌∙◌, arith, Some, length, length-append}
+use Rattle.mach_types.specs.declared.kernel_words.TheConstants.{CONSOLE_ROOM}
+use Rattle.mach_types.specs.Kernel.Record.{Kernel}
+use Rattle.mach_types.specs.Kernel.Threads.{running_on, waits}
+use Rattle.block_model.specs.Setting.{Setting}
+use Rattle.block_model.specs.Kernel.{cleared, gone, left, printed, restricted, waited, woken}
+use Rattle.block_model.proofs.Allowances.{AllAllowed, kept_allowed, restricted_allowed, ended_allowed}
+use Rattle.block_model.specs.Tables.{IsTables}
+use Rattle.block_model.proofs.KernelTables.{tables_cleared, cleared_same, tables_left, left_others}
+use Rattle.block_model.proofs.KernelCalls.{tables_allowed, tables_woken, woken_same, tables_waited, waited_others, tables_ended, ended_others}
+use Rattle.block_model.proofs.Good.{IsSound}
+
+-- each hart runs the thread that it ran, the pages stay, no number is given, and the record stays sound
+pub record IsKept (s : Setting) (before after : Kernel) : Type 0 where
+  pub running : (k : ℕ) → running_on k after.threads ≡ running_on k before.threads
+  pub pages : after.pages ≡ before.pages
+  pub given : after.threads.given ≡ before.threads.given
+  pub sound : IsSound s after
+
+-- the same, but for the hart h
+pub record IsMoved (s : Setting) (h : ℕ) (before after : Kernel) : Type 0 where
+  pub others : (k : ℕ) → k ≢ h → running_on k after.threads ≡ running_on k before.threads
+  pub pages : after.pages ≡ before.pages
+  pub given : after.threads.given ≡ before.threads.given
+  pub sound : IsSound s after
+
+-- each thread may run where it might before, if who is live and the affinities stay
+kept_as_was : (s : Setting) (before after : Kernel) → IsSound s before
+    → IsTables s.limits.harts after.threads after.scheduling
+    → after.scheduling.affinities ≡ before.scheduling.affinities
+    → AllAllowed s.limits.harts after.threads after.scheduling
+kept_as_was s before after sound tables same =
+    let harts = s.limits.harts in
+    let ts = before.threads in
+    let sc = before.scheduling in
+    kept_allowed harts ts after.threads sc after.scheduling sound.tables tables same sound.allowed
+
+pub kept_still : (s : Setting) (k : Kernel) → IsSound s k → IsKept s k k
+kept_still s k sound = record { running = λ h. refl; pages = refl; given = refl; sound = sound }
+
+pub kept_twice : (s : Setting) (a b c : Kernel) → IsKept s a b → IsKept s b c → IsKept s a c
+kept_twice s a b c p q = record {
+  running = λ h. q.running h ∙ p.running h;
+  pages = q.pages ∙ p.pages;
+  given = q.given ∙ p.given;
+  sound = q.sound;
+}
+
+pub moved_after : (s : Setting) (h : ℕ) (a b c : Kernel) → IsKept s a b → IsMoved s h b c → IsMoved s h a c
+moved_after s h a b c p q = record {
+  others = λ k ne. q.others k ne ∙ p.running k;
+  pages = q.pages ∙ p.pages;
+  given = q.given ∙ p.given;
+  sound = q.sound;
+}
+
+pub kept_moved : (s : Setting) (h : ℕ) (a b : Kernel) → IsKept s a b → IsMoved s h a b
+kept_moved s h a b p =
+    record { others = λ k ne. p.running k; pages = p.pages; given = p.given; sound = p.sound }
+
+-- bytes that the console has room for
+pub kept_printed : (s : Setting) (bytes : List ℕ) (k : Kernel) → IsSound s k
+    → length k.console + length bytes ≤ CONSOLE_ROOM → IsKept s k (printed bytes k)
+kept_printed s bytes k sound room = record {
+  running = λ h. refl;
+  pages = refl;
+  given = refl;
+  sound = record {
+    tables = sound.tables;
+    allowed = sound.allowed;
+    console = omega (arith, length-append k.console bytes);
+  };
+}
+
+pub kept_cleared : (s : Setting) (t at : ℕ) (k : Kernel) → IsSound s k → IsKept s k (cleared t at k)
+kept_cleared s t at k sound =
+    let harts = s.limits.harts in
+    let after = tables_cleared harts t at k.threads k.scheduling sound.tables in
+    record {
+      running = cleared_same harts t at k.threads k.scheduling sound.tables;
+      pages = refl;
+      given = refl;
+      sound = record {
+        tables = after;
+        allowed = kept_as_was s k (cleared t at k) sound after refl;
+        console = sound.console;
+      };
+    }
+
+pub kept_woken : (s : Setting) (t : ℕ) (k : Kernel) → IsSound s k → waits k.threads t → IsKept s k (woken t k)
+kept_woken s t k sound waiting =
+    let harts = s.limits.harts in
+    let after = tables_woken harts t k.threads k.scheduling sound.tables waiting in
+    record {
+      running = woken_same harts t k.threads k.scheduling sound.tables waiting;
+      pages = refl;
+      given = refl;
+      sound = record {
+        tables = after;
+        allowed = kept_as_was s k (woken t k) sound after refl;
+        console = sound.console;
+      };
+    }
+
+pub kept_restricted : (s : Setting) (t set : ℕ) (k : Kernel) → IsSound s k → set < 2 ^ s.limits.harts
+    → set ≢ 0 → IsKept s k (restricted t set k)
+kept_restricted s t set k sound below some =
+    let harts = s.limits.harts in
+    record {
+      running = λ h. refl;
+      pages = refl;
+      given = refl;
+      sound = record {
+        tables = tables_allowed harts t set k.threads k.scheduling sound.tables;
+        allowed = restricted_allowed harts t set k.threads k.scheduling sound.tables below some sound.allowed;
+        console = sound.console;
+      };
+    }
+
+-- the thread on hart h leaves it: it is ready, it waits, or it is gone
+pub moved_left : (s : Setting) (h t : ℕ) (k : Kernel) → IsSound s k → running_on h k.threads ≡ Some t
+    → IsMoved s h k (left t k)
+moved_left s h t k sound at =
+    let harts = s.limits.harts in
+    let after = tables_left harts h t k.threads k.scheduling sound.tables at in
+    record {
+      others = left_others harts h t k.threads k.scheduling sound.tables at;
+      pages = refl;
+      given = refl;
+      sound = record {
+        tables = after;
+        allowed = kept_as_was s k (left t k) sound after refl;
+        console = sound.console;
+      };
+    }
+
+pub moved_waited : (s : Setting) (h t at : ℕ) (k : Kernel) → IsSound s k → running_on h k.threads ≡ Some t
+    → IsMoved s h k (waited t at k)
+moved_waited s h t at k sound runs =
+    let harts = s.limits.harts in
+    let after = tables_waited harts h t at k.threads k.scheduling sound.tables runs in
+    record {
+      others = waited_others harts h t at k.threads k.scheduling sound.tables runs;
+      pages = refl;
+      given = refl;
+      sound = record {
+        tables = after;
+        allowed = kept_as_was s k (waited t at k) sound after refl;
+        console = sound.console;
+      };
+    }
+
+pub moved_gone : (s : Setting) (h t : ℕ) (k : Kernel) → IsSound s k → running_on h k.threads ≡ Some t
+    → IsMoved s h k (gone t k)
+moved_gone s h t k sound at =
+    let harts = s.limits.harts in
+    record {
+      others = ended_others harts h t k.threads k.scheduling sound.tables at;
+      pages = refl;
+      given = refl;
+      sound = record {
+        tables = tables_ended harts h t k.threads k.scheduling sound.tables at;
+        allowed = ended_allowed harts t k.threads k.scheduling sound.allowed;
+        console = sound.console;
+      };
+    }

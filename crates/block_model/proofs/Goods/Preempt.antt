@@ -1,0 +1,42 @@
+-- A thread leaves its hart.
+use Rattle.std.proofs.Common.{◌≡◌, ℕ, List, [], ◌∷◌, ◌++◌, refl, sym, ap, ◌∙◌, arith, Option, Some, None}
+use Rattle.mach_types.specs.declared.user_memory.Store.{Store}
+use Rattle.block_model.specs.Here.{Here, runs}
+use Rattle.block_model.specs.Events.Preempt.{refusal_preempt, refusal_preempt_by, done_preempt, done_preempt_by, unless_waiting}
+use Rattle.block_model.specs.Kernel.{left}
+use Rattle.block_model.proofs.Allowances.{same_live}
+use Rattle.block_model.proofs.KernelTables.{tables_left, left_others}
+use Rattle.block_model.proofs.Good.{IsGoodHere, IsFit}
+
+none_waits : (ws : List Store) → unless_waiting ws ≡ None → ws ≡ []
+none_waits [] e = refl
+none_waits (w ∷ ws) e = cc
+
+pub good_preempt : (here : Here) → IsGoodHere here → refusal_preempt here ≡ None → IsFit here (done_preempt here)
+good_preempt here good free = go (runs here) refl free
+  where
+    go : (o : Option ℕ) → runs here ≡ o → refusal_preempt_by here o ≡ None → IsFit here (done_preempt_by here o)
+    go None at e = cc
+    go (Some t) at e =
+        let none = none_waits here.waiting e in
+        let tables = good.kernel.tables in
+        let harts = here.setting.limits.harts in
+        let ts = here.kernel.threads in
+        let sc = here.kernel.scheduling in
+        let after = tables_left harts here.hart t ts sc tables at in
+        record {
+          executed = tt;
+          few = let w = good.few in omega arith;
+          drained = omega arith;
+          idle = λ _. ap (λ (ws : List Store). ws ++ []) none;
+          others = λ k ne. left_others harts here.hart t ts sc tables at k ne;
+          apart = λ k u f ne runs. refl;
+          pages = refl;
+          given = omega arith;
+          one = omega arith;
+          kernel = record {
+            tables = after;
+            allowed = λ some u live. good.kernel.allowed some u (sym (same_live harts u ts (left t here.kernel).threads sc (left t here.kernel).scheduling tables after refl) ∙ live);
+            console = good.kernel.console;
+          };
+        }

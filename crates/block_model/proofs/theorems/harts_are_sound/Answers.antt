@@ -1,0 +1,12 @@
+use Rattle.block_model.proofs.theorems.harts_are_sound.Goals as goal
+use Rattle.block_model.specs.Deciding.{history}
+use Rattle.block_model.proofs.Runs.{settled}
+use Rattle.block_model.proofs.Sound.{idle_harts, one_hart, writable_stores}
+
+pub returns : goal.returns
+returns c = record {
+  idle = λ s log h run none. idle_harts s log h run none;
+  few = λ s log h run. (settled s (history s log) run).good.few h;
+  alone = λ s log h k t run here there. one_hart s log h k t run here there;
+  writable = λ s log h run. writable_stores s log h run;
+}

@@ -1,0 +1,10 @@
+use Rattle.block_model.proofs.theorems.one_machine.Goals as goal
+use Rattle.block_model.proofs.Agreement.{agreement, agreement_decide, agreement_end, agreement_here}
+
+pub returns : goal.returns
+returns c = record {
+  state = λ s log run. agreement s log run;
+  here = λ s log h run. agreement_here s log h run;
+  answer = λ s log h choice run. agreement_decide s log h choice run;
+  end = λ s log run. agreement_end s log run;
+}

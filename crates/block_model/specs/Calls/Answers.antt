@@ -1,0 +1,65 @@
+-- System calls of Linux for RISC-V: the number is in a7 (x17), arguments are in a0 to a5 (x10 to x15), the result is in
+-- a0, and an error is its negative number. The pc goes on past the call.
+use Rattle.std.specs.Prelude.{ℕ, ◌+◌, ◌-◌, ◌%◌, ◌^◌, Bool, List, [], ◌∷◌, Option, None, is_some, unwrap_or}
+use Rattle.mach_types.specs.Bytes.{each_byte, word_at}
+use Rattle.mach_types.specs.Registers.{register, with_register}
+use Rattle.mach_types.specs.declared.errors.Errno.{Errno}
+use Rattle.mach_types.specs.declared.limits.End.{End}
+use Rattle.mach_types.specs.declared.threads.Saved.{Saved}
+use Rattle.mach_types.specs.declared.user_memory.Write.{Write}
+use Rattle.mach_types.specs.declared.user_memory.Write.TheVariants.{Stored}
+use Rattle.mach_types.specs.Kernel.Record.{Kernel}
+use Rattle.rv_inst.specs.Words.{sum_64}
+use Rattle.block_model.specs.Here.{Here, memory, is_writable}
+
+-- what a call did: the files of threads that it set; the kernel's writes, in order; the record after it; and how it ended the
+-- process
+pub record CallDone : Type 0 where
+  pub files : List (ℕ × Saved)
+  pub entered : List Write
+  pub kernel : Kernel
+  pub ended : Option End
+
+-- the number of the call of thread t, and its argument k; the same as an `int`, which is the low 32 bits of its register
+abbrev pub call_number : Here → ℕ → ℕ
+call_number here t = register (here.file t).file 17
+
+abbrev pub argument : Here → ℕ → ℕ → ℕ
+argument here t k = register (here.file t).file (10 + k)
+
+abbrev pub int_argument : Here → ℕ → ℕ → ℕ
+int_argument here t k = argument here t k % 2 ^ 32
+
+-- a negative number as a register holds it
+abbrev pub negative : ℕ → ℕ
+negative n = 2 ^ 64 - n
+
+-- the file after a call that answers: the answer is in a0, and the pc goes on past the call
+abbrev pub returned : ℕ → Saved → Saved
+returned n f = record { file = with_register f.file 10 n; pc = sum_64 f.pc 4 }
+
+-- a call that answers, and does nothing else
+abbrev pub said : Here → ℕ → ℕ → CallDone
+said here t n = record { files = (t, returned n (here.file t)) ∷ []; entered = []; kernel = here.kernel; ended = None }
+
+-- so many bytes from an address on can be read, or written; no byte is asked about where there are none
+abbrev pub are_readable : Here → ℕ → ℕ → Bool
+are_readable here at len = each_byte (λ a. is_some (memory here a)) at len
+
+abbrev pub are_writable : Here → ℕ → ℕ → Bool
+are_writable here at len = each_byte (is_writable here) at len
+
+-- the kernel's write of a u32, or of 8 bytes
+abbrev pub word_written : ℕ → ℕ → Write
+word_written at value = Stored (record { at = at; size = 4; value = value })
+
+abbrev pub double_written : ℕ → ℕ → Write
+double_written at value = Stored (record { at = at; size = 8; value = value })
+
+-- the number of so many bytes from an address on, 0 where they can't be read
+abbrev pub number_at : Here → ℕ → ℕ → ℕ
+number_at here at size = unwrap_or (word_at (memory here) at size) 0
+
+-- a call that is refused: nothing changes but a0 and the pc
+abbrev pub refused : Here → ℕ → Errno → CallDone
+refused here t errno = said here t (negative errno.0)

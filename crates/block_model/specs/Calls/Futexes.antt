@@ -1,0 +1,66 @@
+-- futex(2): a thread waits at the address of a word, and others wake it. That the longest waiting is woken first, and that waking
+-- none wakes nobody, is own.
+use Rattle.std.specs.Prelude.{ℕ, ◌-◌, ◌*◌, ◌/◌, ◌%◌, ◌==◌, not, nat_le, zero, suc, List, [], ◌∷◌, length, map, if◌then◌else◌, None}
+use Rattle.std.specs.Option.{option_map_or}
+use Rattle.mach_types.specs.Registers.{with_register}
+use Rattle.mach_types.specs.declared.address_space.TheConstants.{USER_END}
+use Rattle.mach_types.specs.declared.errors.TheConstants.{EAGAIN, EFAULT, EINVAL, ENOSYS}
+use Rattle.mach_types.specs.declared.threads.Saved.{Saved}
+use Rattle.mach_types.specs.Kernel.Record.{Kernel}
+use Rattle.mach_types.specs.Kernel.Threads.{longest_waiter}
+use Rattle.block_model.specs.Here.{Here}
+use Rattle.block_model.specs.Kernel.{waited, woken}
+use Rattle.block_model.specs.Calls.Answers.{CallDone, argument, int_argument, are_readable, number_at, refused, returned, said}
+
+-- a woken thread finds 0 in a0
+abbrev pub answered_wait : Here → ℕ → ℕ × Saved
+answered_wait here u = (u, record (here.file u) { file = with_register (here.file u).file 10 0 })
+
+-- threads that were woken, in order, and the record then
+pub record Woken : Type 0 where
+  pub threads : List ℕ
+  pub kernel : Kernel
+
+-- a thread was woken before others
+abbrev pub woken_first : ℕ → Woken → Woken
+woken_first u rest = record { threads = u ∷ rest.threads; kernel = rest.kernel }
+
+-- of the threads that wait at an address so many are woken, the longest waiting first
+abbrev pub wake : ℕ → ℕ → Kernel → Woken
+wake zero at k = record { threads = []; kernel = k }
+wake (suc n) at k = option_map_or (λ u. woken_first u (wake n at (woken u k))) (longest_waiter at k.threads) (record { threads = []; kernel = k })
+
+-- an operation without its bit 128, by which a futex is private to the process
+abbrev pub operation : ℕ → ℕ
+operation op = op - 128 * ((op / 128) % 2)
+
+-- WAIT: the thread leaves its hart and waits
+abbrev pub futex_wait : Here → ℕ → CallDone
+futex_wait here t =
+    let p = argument here t 0 in
+    if not (argument here t 3 == 0) then refused here t EINVAL
+    else if not (are_readable here p 4) then refused here t EFAULT
+    else if not (number_at here p 4 == int_argument here t 2) then refused here t EAGAIN
+    else record (said here t 0) { kernel = waited t p here.kernel }
+
+-- WAKE: the answer is how many were woken
+abbrev pub futex_wake : Here → ℕ → CallDone
+futex_wake here t =
+    let done = wake (int_argument here t 2) (argument here t 0) here.kernel in
+    record {
+      files = (t, returned (length done.threads) (here.file t)) ∷ map (answered_wait here) done.threads;
+      entered = [];
+      kernel = done.kernel;
+      ended = None;
+    }
+
+-- futex(p, op, val, timeout), number 98
+abbrev pub futex : Here → ℕ → CallDone
+futex here t =
+    let p = argument here t 0 in
+    let op = operation (int_argument here t 1) in
+    if not (nat_le op 1) then refused here t ENOSYS
+    else if not (p % 4 == 0) then refused here t EINVAL
+    else if nat_le USER_END p then refused here t EFAULT
+    else if op == 0 then futex_wait here t
+    else futex_wake here t

@@ -1,0 +1,64 @@
+-- exec: the thread on the hart executes its next instruction, makes its fault, or makes its call.
+use Rattle.std.specs.Prelude.{ℕ, [], ◌∷◌, length, if◌then◌else◌, Option, Some, None, is_some}
+use Rattle.mach_types.specs.Bytes.{all_stored}
+use Rattle.mach_types.specs.declared.events.Why.{Why}
+use Rattle.mach_types.specs.declared.events.Why.TheVariants.{Idle}
+use Rattle.mach_types.specs.declared.limits.End.TheVariants.{Killed}
+use Rattle.rv_inst.specs.declared.effects.Effect.{Effect}
+use Rattle.rv_inst.specs.Execution.{Outcome, outcome, instruction_gate}
+use Rattle.rv_inst.specs.Class.{is_call}
+use Rattle.block_model.specs.Here.{Here, Done, nothing, memory, is_writable, view, runs}
+use Rattle.block_model.specs.Instruction as instruction
+use Rattle.block_model.specs.Calls.{called}
+use Rattle.block_model.specs.Calls.Answers.{CallDone}
+
+-- the next instruction of thread t, and its fault
+abbrev pub next_effect : Here → ℕ → Option Effect
+next_effect here t = instruction.next_effect here.setting.program.pages (here.file t)
+
+abbrev pub next_fault : Here → ℕ → Option ℕ
+next_fault here t = instruction.next_fault here.setting.program.pages (memory here) (is_writable here) (here.file t)
+
+-- the condition that fails: a thread runs, and its next instruction's condition holds
+abbrev pub refusal_exec_by : Here → Option ℕ → Option Why
+refusal_exec_by here None = Some Idle
+refusal_exec_by here (Some t) = instruction_gate (length here.waiting) (next_effect here t) (is_some (next_fault here t))
+
+abbrev pub refusal_exec : Here → Option Why
+refusal_exec here = refusal_exec_by here (runs here)
+
+-- an instruction that changes nothing
+abbrev pub one_instruction : Here → Done
+one_instruction here = record (nothing here) { instructions = 1 }
+
+-- a fault: the process is killed by the signal, and registers and pc stay as they are
+abbrev pub by_fault : Here → ℕ → Done
+by_fault here signal = record (one_instruction here) { ended = Some (Killed signal) }
+
+-- a call, which ends its hart's reservation
+abbrev pub by_call : Here → CallDone → Done
+by_call here c = record (one_instruction here) { files = c.files; entered = c.entered; reserved = None; kernel = c.kernel; ended = c.ended }
+
+-- another instruction
+abbrev pub by_outcome : Here → ℕ → Outcome → Done
+by_outcome here t o = record (one_instruction here) {
+  files = (t, record { file = o.regs; pc = o.pc }) ∷ [];
+  executed = o.executed;
+  entered = all_stored o.entered;
+  reserved = o.reserved;
+}
+
+abbrev pub outcome_of : Here → ℕ → Effect → Outcome
+outcome_of here t e = outcome (view here) (here.file t).file (here.file t).pc here.reserved e
+
+abbrev pub by_effect : Here → ℕ → Option ℕ → Option Effect → Done
+by_effect here t (Some signal) e = by_fault here signal
+by_effect here t None None = one_instruction here
+by_effect here t None (Some e) = if is_call e then by_call here (called here t) else by_outcome here t (outcome_of here t e)
+
+abbrev pub done_exec_by : Here → Option ℕ → Done
+done_exec_by here None = nothing here
+done_exec_by here (Some t) = by_effect here t (next_fault here t) (next_effect here t)
+
+abbrev pub done_exec : Here → Done
+done_exec here = done_exec_by here (runs here)

@@ -1,0 +1,26 @@
+-- preempt: the thread on the hart leaves it, where no store waits, and becomes the last ready thread. The hart's reservation
+-- ends.
+use Rattle.std.specs.Prelude.{ℕ, List, [], ◌∷◌, Option, Some, None}
+use Rattle.mach_types.specs.declared.events.Why.{Why}
+use Rattle.mach_types.specs.declared.events.Why.TheVariants.{Idle, Waiting}
+use Rattle.mach_types.specs.declared.user_memory.Store.{Store}
+use Rattle.block_model.specs.Here.{Here, Done, nothing, runs}
+use Rattle.block_model.specs.Kernel.{left}
+
+abbrev pub unless_waiting : List Store → Option Why
+unless_waiting [] = None
+unless_waiting (w ∷ ws) = Some Waiting
+
+abbrev pub refusal_preempt_by : Here → Option ℕ → Option Why
+refusal_preempt_by here None = Some Idle
+refusal_preempt_by here (Some t) = unless_waiting here.waiting
+
+abbrev pub refusal_preempt : Here → Option Why
+refusal_preempt here = refusal_preempt_by here (runs here)
+
+abbrev pub done_preempt_by : Here → Option ℕ → Done
+done_preempt_by here None = nothing here
+done_preempt_by here (Some t) = record (nothing here) { reserved = None; kernel = left t here.kernel }
+
+abbrev pub done_preempt : Here → Done
+done_preempt here = done_preempt_by here (runs here)

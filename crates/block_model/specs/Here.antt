@@ -1,0 +1,73 @@
+-- What a rule may read at a place of a log, and what an event did.
+use Rattle.std.specs.Prelude.{ℕ, Bool, false, List, [], if◌then◌else◌, Option, Some, None}
+use Rattle.mach_types.specs.declared.limits.End.{End}
+use Rattle.mach_types.specs.declared.threads.Saved.{Saved}
+use Rattle.mach_types.specs.declared.user_memory.Store.{Store}
+use Rattle.mach_types.specs.declared.user_memory.Write.{Write}
+use Rattle.mach_types.specs.Kernel.Record.{Kernel}
+use Rattle.mach_types.specs.Kernel.Pages.{permission_at, can_read, can_write}
+use Rattle.mach_types.specs.Kernel.Threads.{running_on}
+use Rattle.rv_inst.specs.Execution.{seen_byte}
+use Rattle.block_model.specs.Setting.{Setting}
+
+-- the setting; the hart that is asked; the file of each thread; each byte of memory; the hart's waiting stores, the oldest
+-- first; where the aligned 8 bytes begin that it has reserved; and the kernel's record
+pub record Here : Type 0 where
+  pub setting : Setting
+  pub hart : ℕ
+  pub file : ℕ → Saved
+  pub byte : ℕ → ℕ
+  pub waiting : List Store
+  pub reserved : Option ℕ
+  pub kernel : Kernel
+
+-- a byte of memory, where it can be read
+abbrev pub memory_in : Kernel → (ℕ → ℕ) → ℕ → Option ℕ
+memory_in k byte a = if can_read (permission_at k.pages a) then Some (byte a) else None
+
+abbrev pub memory : Here → ℕ → Option ℕ
+memory here = memory_in here.kernel here.byte
+
+-- whether the byte at an address can be written
+abbrev pub writable_in : Kernel → ℕ → Bool
+writable_in k a = can_write (permission_at k.pages a)
+
+abbrev pub is_writable : Here → ℕ → Bool
+is_writable here = writable_in here.kernel
+
+-- a byte as the hart sees it: its youngest waiting store that has it, or else memory's
+abbrev pub view : Here → ℕ → Option ℕ
+view here = seen_byte here.waiting (memory here)
+
+-- the thread that runs on the hart
+abbrev pub runs : Here → Option ℕ
+runs here = running_on here.hart here.kernel.threads
+
+-- what an event did: the files of threads that it set; the plain store that it executed (none or one); how many waiting
+-- stores of its hart entered memory; the writes that entered memory in it, in order; its hart's reservation after it;
+-- whether a thread began to run; how many instructions were executed (none or one); the kernel's record after it; and how
+-- it ended the process
+pub record Done : Type 0 where
+  pub files : List (ℕ × Saved)
+  pub executed : List Store
+  pub drained : ℕ
+  pub entered : List Write
+  pub reserved : Option ℕ
+  pub started : Bool
+  pub instructions : ℕ
+  pub kernel : Kernel
+  pub ended : Option End
+
+-- an event that does nothing but stand in the log
+abbrev pub nothing : Here → Done
+nothing here = record {
+  files = [];
+  executed = [];
+  drained = 0;
+  entered = [];
+  reserved = here.reserved;
+  started = false;
+  instructions = 0;
+  kernel = here.kernel;
+  ended = None;
+}

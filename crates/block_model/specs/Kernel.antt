@@ -1,0 +1,63 @@
+-- What happens to the kernel's record: steps that touch one of its parts or several, and the record at the start.
+use Rattle.std.specs.Prelude.{ℕ, ◌+◌, ◌-◌, List, [], ◌++◌, length}
+use Rattle.mach_types.specs.declared.address_space.TheConstants.{STACK_PAGES}
+use Rattle.mach_types.specs.declared.threads.ThreadState.TheVariants.{Ready, Running}
+use Rattle.mach_types.specs.Kernel.Record.{Kernel}
+use Rattle.mach_types.specs.Kernel.Threads.{start_threads, with_state, with_clear, with_waiter, with_woken, with_child, without}
+use Rattle.mach_types.specs.Kernel.Scheduling.{start_scheduling, with_ready, without_ready, with_thread, with_affinity, forget}
+use Rattle.elf_load.specs.Start.{start_runs}
+use Rattle.block_model.specs.Setting.{Setting}
+
+-- at the start thread 1 is ready and may run on every hart; the program, the stack and the return page are mapped, each page in a
+-- frame of its own; nothing stands on the console
+abbrev pub first_kernel : Setting → Kernel
+first_kernel s = record {
+  threads = start_threads;
+  scheduling = start_scheduling s.limits.harts;
+  pages = record {
+    runs = start_runs s.program.pages;
+    free = s.limits.frames - (length s.program.pages + STACK_PAGES + 1);
+    break_at = s.program.break_at;
+  };
+  console = [];
+}
+
+-- a ready thread begins to run on hart h
+abbrev pub ran : ℕ → ℕ → Kernel → Kernel
+ran t h k = record k { threads = with_state t (Running (record { 0 = h })) k.threads; scheduling = without_ready t k.scheduling }
+
+-- a running thread leaves its hart, and is the last ready thread
+abbrev pub left : ℕ → Kernel → Kernel
+left t k = record k { threads = with_state t Ready k.threads; scheduling = with_ready t k.scheduling }
+
+-- a running thread leaves its hart, and waits at an address behind all that wait
+abbrev pub waited : ℕ → ℕ → Kernel → Kernel
+waited t at k = record k { threads = with_waiter t at k.threads }
+
+-- a waiting thread waits no longer, and is the last ready thread
+abbrev pub woken : ℕ → Kernel → Kernel
+woken t k = record k { threads = with_woken t k.threads; scheduling = with_ready t k.scheduling }
+
+-- a running thread is gone
+abbrev pub gone : ℕ → Kernel → Kernel
+gone t k = record k { threads = without t k.threads; scheduling = forget t k.scheduling }
+
+-- the number of the next thread
+abbrev pub next_number : Kernel → ℕ
+next_number k = k.threads.given + 1
+
+-- a thread has a child, which has its affinity and is the last ready thread
+abbrev pub had_child : ℕ → Kernel → Kernel
+had_child t k = record k { threads = with_child k.threads; scheduling = with_ready (next_number k) (with_thread t (next_number k) k.scheduling) }
+
+-- a thread may run on these harts alone
+abbrev pub restricted : ℕ → ℕ → Kernel → Kernel
+restricted t set k = record k { scheduling = with_affinity t set k.scheduling }
+
+-- a thread has another address that its exit clears
+abbrev pub cleared : ℕ → ℕ → Kernel → Kernel
+cleared t at k = record k { threads = with_clear t at k.threads }
+
+-- bytes come to the console
+abbrev pub printed : List ℕ → Kernel → Kernel
+printed bytes k = record k { console = k.console ++ bytes }

@@ -1,0 +1,22 @@
+-- What holds of the threads of a process and of their scheduling together at each place of a block run.
+use Rattle.std.specs.Prelude.{ℕ, ◌≡◌, ◌<◌, if◌then◌else◌, Some, map}
+use Rattle.std.specs.List.{list_any}
+use Rattle.mach_types.specs.declared.events.Hart.{Hart}
+use Rattle.mach_types.specs.declared.threads.ThreadState.{ThreadState}
+use Rattle.mach_types.specs.declared.threads.ThreadState.TheVariants.{Running}
+use Rattle.mach_types.specs.Kernel.Threads.{Threads, IsThreads, state_of, is_ready, is_live, numbers, times}
+use Rattle.mach_types.specs.Kernel.Scheduling.{Scheduling, is_of}
+
+-- the state of a thread that runs on hart h
+abbrev pub on : ℕ → ThreadState
+on h = Running (record { 0 = h })
+
+-- a hart runs at most one thread, and only the machine's harts run one; a thread is once in the ready list where it is ready,
+-- and else not; and the threads that have an affinity are the live ones, in the same order
+pub record IsTables (harts : ℕ) (ts : Threads) (sc : Scheduling) : Type 0 where
+  pub threads : IsThreads ts
+  pub one : (h t u : ℕ) → state_of t ts ≡ Some (on h) → state_of u ts ≡ Some (on h) → t ≡ u
+  pub below : (t : ℕ) (k : Hart) → state_of t ts ≡ Some (Running k) → k.0 < harts
+  pub ready : (t : ℕ) → times t sc.order ≡ (if is_ready t ts then 1 else 0)
+  pub held : (t : ℕ) → list_any (is_of t) sc.affinities ≡ is_live t ts
+  pub alike : map (λ pair. pair.0) sc.affinities ≡ numbers ts.live

@@ -1,0 +1,107 @@
+//! The pool.
+
+ghost use Rattle.std.specs.Prelude.{◌≡◌, ◌↔◌, length, replicate, slice_get, slice_set, Option, Some, None, IfNone, IfOk, IfSome, IsNone};
+ghost use Rattle.std.specs.Borrow.{sem};
+ghost use Rattle.frame_pool.specs.Lending.{LendsFrame};
+ghost use Rattle.frame_pool.specs.Pool.{IsTaken, free_count, fresh};
+
+use crate::frame::Frame;
+use std::alloc::{AllocError, Global};
+use std::marker::Model;
+
+/// All frames of guest memory, by number: the bytes of each frame that is taken, and nothing for one that is free.
+#[derive(Drop)]
+pub struct FramePool {
+    region: Vec<[u8; 4096]>,
+    taken: Vec<bool>,
+    free: Vec<u32>,
+}
+
+impl Model for FramePool {
+    ghost use Rattle.std.specs.Prelude.{ℕ, List, Option};
+    ghost use Rattle.std.specs.Vec.{vec_capacity};
+    ghost use Rattle.frame_pool.specs.Layout.{IsLaidOut, frames_of};
+
+    ghost Value = { List (Option (List ℕ)) };
+
+    ghost view = { λ p. frames_of p.taken.items p.region.items };
+
+    ghost invariant = { λ p. IsLaidOut p.region.items p.taken.items p.free.items (vec_capacity p.free) };
+}
+
+impl FramePool {
+    /// A pool of so many frames, all free. It has all the memory that it ever takes.
+    pub fn new(alloc: Global, frames: u32) -> Result<FramePool, AllocError>
+        ensures frames { IfOk result (λ p. p ≡ replicate frames None) }
+        ensures free { IfOk result (λ p. free_count p ≡ frames) }
+    {
+        let count = frames as usize;
+        let mut pool = FramePool {
+            region: vec![in alloc; [0; 4096]; count]?,
+            taken: vec![in alloc; true; count]?,
+            free: Vec::with_capacity(alloc, count)?,
+        };
+        for number in 0..frames {
+            pool.give(Frame::new(number));
+        }
+        Ok(pool)
+    }
+
+    /// How many frames are free.
+    pub fn free(&self) -> u32
+        ensures { result ≡ free_count self.now }
+    {
+        self.free.len() as u32
+    }
+
+    /// A free frame, which has zero bytes and is now taken; None exactly where none is free. It takes no memory.
+    pub fn take(&mut self) -> Option<Frame>
+        ensures none { IsNone result ↔ (free_count self.old ≡ 0) }
+        ensures unchanged { IfNone result (self.new ≡ self.old) }
+        ensures was_free { IfSome result (λ n. slice_get self.old n ≡ Some None) }
+        ensures taken { IfSome result (λ n. self.new ≡ slice_set self.old n (Some fresh)) }
+    {
+        let number = self.free.pop()?;
+        self.taken[number as usize] = true;
+        clear(&mut self.region[number as usize]);
+        Some(Frame::new(number))
+    }
+
+    /// Takes a frame back, which is then free.
+    pub fn give(&mut self, frame: Frame)
+        requires { IsTaken self.old frame }
+        ensures { self.new ≡ slice_set self.old frame None }
+    {
+        let number = frame.into_number();
+        self.taken[number as usize] = false;
+        let _ = self.free.push(number);
+    }
+
+    /// The 4,096 bytes of a taken frame.
+    pub fn bytes(&self, frame: &Frame) -> &[u8]
+        requires { IsTaken self.now frame.now }
+        ensures bytes { slice_get self.now frame.now ≡ Some (Some result.now) }
+        ensures size { length result.now ≡ 4096 }
+    {
+        &self.region[frame.place()]
+    }
+
+    /// The 4,096 bytes of a taken frame, to be written. No other frame changes.
+    pub fn bytes_mut(&mut self, frame: &Frame) -> &mut [u8]
+        requires { IsTaken self.old frame.now }
+        ensures* writes_back { sem 𝓛 (LendsFrame self.entry frame.now result) }
+        ensures bytes { slice_get self.old frame.now ≡ Some (Some result.now) }
+        ensures size { length result.now ≡ 4096 }
+    {
+        prove!(self.bytes(frame).len() == 4096);
+        let place = frame.place();
+        self.region[place].as_mut_slice()
+    }
+}
+
+/// Makes each byte of a frame zero.
+fn clear(frame: &mut [u8; 4096])
+    ensures { frame.new ≡ fresh }
+{
+    *frame = [0; 4096];
+}

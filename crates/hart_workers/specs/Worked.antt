@@ -1,0 +1,13 @@
+-- What a worker does in one turn.
+use Rattle.std.specs.Prelude.{ℕ, Bool, List, Option}
+use Rattle.mach_types.specs.declared.events.Advance.{Advance}
+use Rattle.mach_types.specs.declared.events.Entry.{Entry}
+use Rattle.mach_types.specs.declared.events.Hart.{Hart}
+use Rattle.machine_lock.specs.Logs.{Adds, Advances}
+
+-- what was worked on comes first: so many of its entries were appended, and then the hart tried once to go on
+pub record GoesOn (next : List Entry → Hart → Option Entry) (ended : List Entry → Bool) (hart : Hart) (old new : List Entry) (advance : Advance) : Type 0 where
+  pub middle : List Entry
+  pub count : ℕ
+  pub appended : Adds next hart count old middle
+  pub advanced : Advances next ended hart middle new advance

@@ -1,0 +1,9 @@
+//! Workers: one thread a hart drives a machine that lies in a turnstile.
+#![tactic(auto)]
+
+#[cfg(test)]
+mod tests;
+mod turns;
+mod workers;
+
+pub use workers::drive;

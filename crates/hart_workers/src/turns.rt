@@ -1,0 +1,121 @@
+//! What one worker does: turns of one hart, and between them the work of what it was lent.
+ghost use Rattle.std.specs.Prelude.{◌≡◌, true, false, List, IfOk};
+ghost use Rattle.std.specs.Option.{ForSome};
+ghost use Rattle.mach_types.specs.declared.events.Advance.TheVariants.{Ended};
+ghost use Rattle.mach_types.specs.declared.events.Entry.{Entry};
+ghost use Rattle.mach_types.specs.declared.events.Hart.{Hart};
+ghost use Rattle.machine_lock.specs.Logs.{Adds};
+ghost use Rattle.machine_lock.specs.Turnstiles.{IsOf, origin_of, start_of};
+ghost use Rattle.hart_workers.specs.Growth.{Looked, Grew};
+ghost use Rattle.hart_workers.specs.Worked.{GoesOn};
+
+use mach_types::{Advance, Hart};
+use machine_lock::{Chronicle, Pass, Turnstile};
+use outside::Gate;
+use std::alloc::{AllocError, Global};
+use std::sync::Wait;
+
+/// Takes the code out, in one turn that makes no entry.
+pub(crate) fn take_code<R: Wait, M: Chronicle>(
+    alloc: Global,
+    rt: &R,
+    lock: &Turnstile<M>,
+    pass: &mut Pass<M>,
+) -> Result<M::Code, AllocError>
+    requires own { IsOf lock.now pass.old }
+    requires idle { pass.old.out ≡ false }
+    ensures looked { Looked M.setting M.log M.next (origin_of lock.now) pass.old pass.new }
+    ensures code { IfOk result (λ code. M.serves code (start_of lock.now)) }
+{
+    let turn = lock.take_turn(rt, pass);
+    let code = turn.machine.code(alloc);
+    lock.give_turn(pass, turn);
+    code
+}
+
+/// Appends what was worked on, if there is something, and answers how many entries that was.
+fn append_worked<M: Chronicle>(machine: &mut M, hart: Hart, worked: Option<M::Stretch>) -> u32
+    requires fits { ForSome worked (λ x. M.fits x machine.old hart (M.log machine.old)) }
+    ensures setting { M.setting machine.new ≡ M.setting machine.old }
+    ensures appended { Adds (M.next (M.setting machine.old)) hart result
+        (M.log machine.old) (M.log machine.new) }
+{
+    match worked {
+        Some(stretch) => machine.append(hart, stretch),
+        None => 0,
+    }
+}
+
+/// What a hart does in one turn: what was worked on is appended before any other event.
+fn go_on<M: Chronicle>(machine: &mut M, hart: Hart, worked: Option<M::Stretch>) -> Advance
+    requires fits { ForSome worked (λ x. M.fits x machine.old hart (M.log machine.old)) }
+    ensures setting { M.setting machine.new ≡ M.setting machine.old }
+    ensures went_on { GoesOn (M.next (M.setting machine.old)) (M.ended (M.setting machine.old)) hart
+        (M.log machine.old) (M.log machine.new) result }
+{
+    append_worked(machine, hart, worked);
+    machine.advance(hart)
+}
+
+/// One turn of a hart, and the stretch that it is lent at the end of it.
+fn turn<R: Wait, M: Chronicle>(
+    rt: &R,
+    lock: &Turnstile<M>,
+    pass: &mut Pass<M>,
+    hart: Hart,
+    worked: Option<M::Stretch>,
+) -> (Advance, Option<M::Stretch>)
+    requires own { IsOf lock.now pass.old }
+    requires idle { pass.old.out ≡ false }
+    requires fits { ForSome worked (λ x. M.fits x (start_of lock.now) hart pass.old.seen) }
+    ensures grew { Grew M.setting M.log M.next (origin_of lock.now) pass.old pass.new }
+    ensures ended { result.0 ≡ Ended → M.ended (M.setting (start_of lock.now)) pass.new.seen ≡ true }
+    ensures lent { ForSome result.1 (λ x. M.fits x (start_of lock.now) hart pass.new.seen) }
+{
+    let mut turn = lock.take_turn(rt, pass);
+    let advance = go_on(&mut turn.machine, hart, worked);
+    let lent = turn.machine.lend(hart);
+    lock.give_turn(pass, turn);
+    (advance, lent)
+}
+
+/// Does the work of a stretch, if there is one.
+fn work_on<M: Chronicle>(code: &M::Code, lent: Option<M::Stretch>) -> Option<M::Stretch>
+    ensures { (machine : M) (hart : Hart) (log : List Entry) → M.serves code.now machine
+        → ForSome lent (λ x. M.fits x machine hart log) → ForSome result (λ x. M.fits x machine hart log) }
+{
+    match lent {
+        Some(mut stretch) => {
+            M::work(code, &mut stretch);
+            Some(stretch)
+        }
+        None => None,
+    }
+}
+
+/// Drives one hart until the run has ended.
+pub(crate) fn drive_one<R: Wait, M: Chronicle, G: Gate>(
+    rt: &R,
+    lock: &Turnstile<M>,
+    code: &M::Code,
+    gate: &G,
+    pass: &mut Pass<M>,
+    hart: Hart,
+)
+    requires own { IsOf lock.now pass.old }
+    requires idle { pass.old.out ≡ false }
+    requires code { M.serves code.now (start_of lock.now) }
+    ensures grew { Grew M.setting M.log M.next (origin_of lock.now) pass.old pass.new }
+    ensures ended { M.ended (M.setting (start_of lock.now)) pass.new.seen ≡ true }
+{
+    let mut worked = None;
+    for _ in rt.forever() {
+        gate.pass(hart);
+        let (advance, lent) = turn(rt, lock, pass, hart, worked);
+        if advance == Advance::Ended {
+            return;
+        }
+        worked = work_on::<M>(code, lent);
+    }
+    unreachable!()
+}

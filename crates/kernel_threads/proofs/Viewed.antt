@@ -1,0 +1,157 @@
+-- A change of the rows is the change of the threads, and of what is saved, that it stands for.
+use Rattle.std.proofs.Common.{ℕ, ◌+◌, ◌-◌, ◌<◌, ◌≡◌, ◌^◌, Bool, true, false, not, cond, eqb, List, [], ◌∷◌, ◌++◌, map, filter, Some, is_some, refl, sym, ap, ◌∙◌, subst}
+use Rattle.std.proofs.lemmas.List.{map_push}
+use Rattle.kernel_threads.specs.Rows.{state_at, kept_at, thread_in, saved_in, threads_in, all_saved_in, is_row, stage_if, clear_row_if, table_in}
+use Rattle.kernel_threads.specs.Table.{Table, IsTable, is_of, saved_if, with_saved, with_start, forget, has_saved, wants_saved}
+use Rattle.kernel_threads.specs.declared.rows.Row.{Row}
+use Rattle.kernel_threads.specs.declared.rows.Stage.{Stage}
+use Rattle.kernel_threads.specs.declared.rows.Stage.TheVariants as stage
+use Rattle.kernel_threads.proofs.Lists.{map_commutes, map_stays, map_filters}
+use Rattle.kernel_threads.proofs.Processes.{is_waiting, IsThreads-child, IsThreads-without, IsThreads-with_state, IsThreads-with_clear, IsThreads-woken, IsThreads-waiter}
+use Rattle.mach_types.specs.Kernel.Threads.{IsThreads, Thread, Threads, is_running_state, is_thread, state_of, state_if, clear_if, with_state, with_clear, with_child, is_full, without, with_waiter, with_woken, no_waiter}
+use Rattle.mach_types.specs.declared.events.Hart.{Hart}
+use Rattle.mach_types.specs.declared.threads.Saved.{Saved}
+use Rattle.mach_types.specs.declared.threads.ThreadState.{ThreadState}
+use Rattle.mach_types.specs.declared.threads.ThreadState.TheVariants.{Ready, Running, Waiting}
+
+abbrev pub of_live : List Thread → ℕ → List ℕ → Threads
+of_live live given waiters = record { live = live; given = given; waiters = waiters }
+
+pub stage_threads : (n : ℕ) (st : Stage) (rows : List Row) → threads_in (map (stage_if n st) rows) ≡ map (state_if n (state_at st)) (threads_in rows)
+stage_threads n st rows =
+    map_commutes thread_in (stage_if n st) (state_if n (state_at st))
+    (λ row. elim (eqb row.number n) as (λ b. thread_in (cond b (record row { stage = st }) row) ≡ cond b (record (thread_in row) { state = state_at st }) (thread_in row)) [ true ↦ refl | false ↦ refl ])
+    rows
+
+pub stage_saved : (n : ℕ) (st : Stage) (rows : List Row) → all_saved_in (map (stage_if n st) rows) ≡ with_saved n (kept_at st) (all_saved_in rows)
+stage_saved n st rows =
+    map_commutes saved_in (stage_if n st) (saved_if n (kept_at st))
+    (λ row. elim (eqb row.number n) as (λ b. saved_in (cond b (record row { stage = st }) row) ≡ cond b (row.number, kept_at st) (saved_in row)) [ true ↦ refl | false ↦ refl ])
+    rows
+
+pub clear_threads : (n at : ℕ) (rows : List Row) → threads_in (map (clear_row_if n at) rows) ≡ map (clear_if n at) (threads_in rows)
+clear_threads n at rows =
+    map_commutes thread_in (clear_row_if n at) (clear_if n at)
+    (λ row. elim (eqb row.number n) as (λ b. thread_in (cond b (record row { clear_at = at }) row) ≡ cond b (record (thread_in row) { clear_at = at }) (thread_in row)) [ true ↦ refl | false ↦ refl ])
+    rows
+
+pub clear_saved : (n at : ℕ) (rows : List Row) → all_saved_in (map (clear_row_if n at) rows) ≡ all_saved_in rows
+clear_saved n at rows =
+    map_stays saved_in (clear_row_if n at)
+    (λ row. elim (eqb row.number n) as (λ b. saved_in (cond b (record row { clear_at = at }) row) ≡ saved_in row) [ true ↦ refl | false ↦ refl ])
+    rows
+
+-- what is saved of a row is what its stage wants
+abbrev numbered : ℕ → Bool → ℕ × Bool
+numbered n b = (n, b)
+
+stage_fits : (st : Stage) → is_some (kept_at st) ≡ not (is_running_state (state_at st))
+stage_fits (stage.Ready kept) = refl
+stage_fits (stage.Running h) = refl
+stage_fits (stage.Waiting at kept) = refl
+
+saved_fits : (rows : List Row) → map has_saved (all_saved_in rows) ≡ map wants_saved (threads_in rows)
+saved_fits [] = refl
+saved_fits (row ∷ rows) =
+    let rest = saved_fits rows in
+    let here = stage_fits row.stage in
+    (λ i. numbered row.number (here i) ∷ rest i)
+
+pub IsTable-rows : (rows : List Row) (given : ℕ) (waiters : List ℕ) → IsThreads (of_live (threads_in rows) given waiters) → IsTable (table_in rows given waiters)
+IsTable-rows rows given waiters h = record { threads = h; saved = saved_fits rows }
+
+-- the table after each change of the rows
+module _ (rows changed : List Row) (given : ℕ) (waiters : List ℕ) where
+  pub moved_threads : (n : ℕ) (st : Stage) (t : Table) → changed ≡ map (stage_if n st) rows → table_in rows given waiters ≡ t
+      → of_live (threads_in changed) given waiters ≡ with_state n (state_at st) t.threads
+  moved_threads n st t e v =
+      ap (λ rs. of_live (threads_in rs) given waiters) e ∙ ap (λ live. of_live live given waiters) (stage_threads n st rows) ∙ ap (λ u. with_state n (state_at st) u.threads) v
+
+  pub moved_saved : (n : ℕ) (st : Stage) (t : Table) → changed ≡ map (stage_if n st) rows → table_in rows given waiters ≡ t → all_saved_in changed ≡ with_saved n (kept_at st) t.saved
+  moved_saved n st t e v = ap all_saved_in e ∙ stage_saved n st rows ∙ ap (λ u. with_saved n (kept_at st) u.saved) v
+
+  pub moved_table : (n : ℕ) (st : Stage) (t : Table) (s : ThreadState) → changed ≡ map (stage_if n st) rows → table_in rows given waiters ≡ t → IsTable (table_in rows given waiters)
+      → is_waiting (Some (state_at st)) ≡ false → state_of n t.threads ≡ Some s → is_waiting (Some s) ≡ false → IsTable (table_in changed given waiters)
+  moved_table n st t s e v h new was old =
+      let before : is_waiting (state_of n (of_live (threads_in rows) given waiters)) ≡ false = ap (λ (u : Table). is_waiting (state_of n u.threads)) v ∙ ap is_waiting was ∙ old in
+      IsTable-rows changed given waiters
+      (subst (λ (ts : Threads). IsThreads ts) (sym (moved_threads n st (table_in rows given waiters) e refl))
+      (IsThreads-with_state n (state_at st) (of_live (threads_in rows) given waiters) h.threads new before))
+
+  pub aimed_threads : (n at : ℕ) (t : Table) → changed ≡ map (clear_row_if n at) rows → table_in rows given waiters ≡ t → of_live (threads_in changed) given waiters ≡ with_clear n at t.threads
+  aimed_threads n at t e v =
+      ap (λ rs. of_live (threads_in rs) given waiters) e ∙ ap (λ live. of_live live given waiters) (clear_threads n at rows) ∙ ap (λ u. with_clear n at u.threads) v
+
+  pub aimed_saved : (n at : ℕ) (t : Table) → changed ≡ map (clear_row_if n at) rows → table_in rows given waiters ≡ t → all_saved_in changed ≡ t.saved
+  aimed_saved n at t e v = ap all_saved_in e ∙ clear_saved n at rows ∙ ap (λ u. u.saved) v
+
+  pub aimed_table : (n at : ℕ) → changed ≡ map (clear_row_if n at) rows → IsTable (table_in rows given waiters) → IsTable (table_in changed given waiters)
+  aimed_table n at e h =
+      IsTable-rows changed given waiters
+      (subst (λ (ts : Threads). IsThreads ts) (sym (aimed_threads n at (table_in rows given waiters) e refl))
+      (IsThreads-with_clear n at (of_live (threads_in rows) given waiters) h.threads))
+
+  -- a new row
+  pub grown_threads : (start : Saved) (t : Table) → changed ≡ rows ++ record { number = given + 1; stage = stage.Ready start; clear_at = 0 } ∷ [] → table_in rows given waiters ≡ t
+      → of_live (threads_in changed) (given + 1) waiters ≡ with_child t.threads
+  grown_threads start t e v =
+      ap (λ rs. of_live (threads_in rs) (given + 1) waiters) e
+      ∙ ap (λ live. of_live live (given + 1) waiters) (map_push thread_in rows (record { number = given + 1; stage = stage.Ready start; clear_at = 0 }))
+      ∙ ap (λ u. with_child u.threads) v
+
+  pub grown_saved : (start : Saved) (t : Table) → changed ≡ rows ++ record { number = given + 1; stage = stage.Ready start; clear_at = 0 } ∷ [] → table_in rows given waiters ≡ t
+      → all_saved_in changed ≡ with_start (t.threads.given + 1) start t.saved
+  grown_saved start t e v =
+      ap all_saved_in e ∙ map_push saved_in rows (record { number = given + 1; stage = stage.Ready start; clear_at = 0 }) ∙ ap (λ u. with_start (u.threads.given + 1) start u.saved) v
+
+  pub grown_table : (start : Saved) → changed ≡ rows ++ record { number = given + 1; stage = stage.Ready start; clear_at = 0 } ∷ [] → IsTable (table_in rows given waiters)
+      → given < 2 ^ 31 - 1 → is_full (of_live (threads_in rows) given waiters) ≡ false → IsTable (table_in changed (given + 1) waiters)
+  grown_table start e h room free =
+      IsTable-rows changed (given + 1) waiters
+      (subst (λ (ts : Threads). IsThreads ts) (sym (grown_threads start (table_in rows given waiters) e refl))
+      (IsThreads-child (of_live (threads_in rows) given waiters) h.threads free))
+
+  -- a row less, and its number no longer among the waiters
+  module _ (fewer : List ℕ) where
+    pub ended_threads : (n : ℕ) (t : Table) → changed ≡ filter (λ row. not (is_row n row)) rows → fewer ≡ no_waiter n waiters → table_in rows given waiters ≡ t
+        → of_live (threads_in changed) given fewer ≡ without n t.threads
+    ended_threads n t e f v =
+        ap (λ rs. of_live (threads_in rs) given fewer) e ∙ ap (λ live. of_live live given fewer) (map_filters thread_in (λ th. not (is_thread n th)) rows)
+        ∙ ap (λ ws. of_live (filter (λ th. not (is_thread n th)) (threads_in rows)) given ws) f ∙ ap (λ u. without n u.threads) v
+
+    pub ended_saved : (n : ℕ) (t : Table) → changed ≡ filter (λ row. not (is_row n row)) rows → table_in rows given waiters ≡ t → all_saved_in changed ≡ forget n t.saved
+    ended_saved n t e v = ap all_saved_in e ∙ map_filters saved_in (λ pair. not (is_of n pair)) rows ∙ ap (λ u. forget n u.saved) v
+
+    pub ended_table : (n : ℕ) → changed ≡ filter (λ row. not (is_row n row)) rows → fewer ≡ no_waiter n waiters → IsTable (table_in rows given waiters) → IsTable (table_in changed given fewer)
+    ended_table n e f h =
+        IsTable-rows changed given fewer
+        (subst (λ (ts : Threads). IsThreads ts) (sym (ended_threads n (table_in rows given waiters) e f refl))
+        (IsThreads-without n (of_live (threads_in rows) given waiters) h.threads))
+
+    -- a thread that is woken
+    pub woken_threads : (n : ℕ) (kept : Saved) (t : Table) → changed ≡ map (stage_if n (stage.Ready kept)) rows → fewer ≡ no_waiter n waiters → table_in rows given waiters ≡ t
+        → of_live (threads_in changed) given fewer ≡ with_woken n t.threads
+    woken_threads n kept t e f v =
+        ap (λ rs. of_live (threads_in rs) given fewer) e ∙ ap (λ live. of_live live given fewer) (stage_threads n (stage.Ready kept) rows)
+        ∙ ap (λ ws. of_live (map (state_if n Ready) (threads_in rows)) given ws) f ∙ ap (λ u. with_woken n u.threads) v
+
+    pub woken_table : (n : ℕ) (kept : Saved) → changed ≡ map (stage_if n (stage.Ready kept)) rows → fewer ≡ no_waiter n waiters → IsTable (table_in rows given waiters) → IsTable (table_in changed given fewer)
+    woken_table n kept e f h =
+        IsTable-rows changed given fewer
+        (subst (λ (ts : Threads). IsThreads ts) (sym (woken_threads n kept (table_in rows given waiters) e f refl))
+        (IsThreads-woken n (of_live (threads_in rows) given waiters) h.threads))
+
+    -- a thread that begins to wait
+    pub waiter_threads : (n at : ℕ) (kept : Saved) (t : Table) → changed ≡ map (stage_if n (stage.Waiting at kept)) rows → fewer ≡ waiters ++ n ∷ [] → table_in rows given waiters ≡ t
+        → of_live (threads_in changed) given fewer ≡ with_waiter n at t.threads
+    waiter_threads n at kept t e f v =
+        ap (λ rs. of_live (threads_in rs) given fewer) e ∙ ap (λ live. of_live live given fewer) (stage_threads n (stage.Waiting at kept) rows)
+        ∙ ap (λ ws. of_live (map (state_if n (Waiting at)) (threads_in rows)) given ws) f ∙ ap (λ u. with_waiter n at u.threads) v
+
+    pub waiter_table : (n at : ℕ) (kept : Saved) (t : Table) (hart : Hart) → changed ≡ map (stage_if n (stage.Waiting at kept)) rows → fewer ≡ waiters ++ n ∷ []
+        → table_in rows given waiters ≡ t → IsTable (table_in rows given waiters) → state_of n t.threads ≡ Some (Running hart) → IsTable (table_in changed given fewer)
+    waiter_table n at kept t hart e f v h was =
+        let run : state_of n (of_live (threads_in rows) given waiters) ≡ Some (Running hart) = ap (λ (u : Table). state_of n u.threads) v ∙ was in
+        IsTable-rows changed given fewer
+        (subst (λ (ts : Threads). IsThreads ts) (sym (waiter_threads n at kept (table_in rows given waiters) e f refl))
+        (IsThreads-waiter n at (of_live (threads_in rows) given waiters) hart h.threads run))

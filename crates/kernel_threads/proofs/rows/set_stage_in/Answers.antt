@@ -1,0 +1,12 @@
+use Rattle.std.proofs.Common.{arith, append-nil}
+use Rattle.std.proofs.lemmas.List.{take_all, drop_all}
+use Rattle.std.proofs.lemmas.List.Edits.{map_over_more}
+use Rattle.std.proofs.lemmas.Grind.{common_steps}
+use Rattle.kernel_threads.specs.Rows.{stage_if}
+use Rattle.kernel_threads.proofs.rows.set_stage_in.Goals as goal
+
+pub loop-row-preserved : goal.loop-row-preserved
+loop-row-preserved c = grind (arith, common_steps, map_over_more (stage_if c.args.number c.args.stage))
+
+pub returns : goal.returns
+returns c = grind (arith, common_steps, take_all, drop_all, append-nil)

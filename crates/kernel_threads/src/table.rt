@@ -1,0 +1,234 @@
+//! The table of threads.
+
+ghost use Rattle.std.specs.Prelude.{◌≡◌, ◌+◌, ◌-◌, ◌^◌, ◌<◌, ◌↔◌, not, filter, length, IfOk, IfErr, OnOk, OnErr, IsErr, IfSome, IfNone, IsTrue, Some, None};
+ghost use Rattle.std.specs.Option.{option_map};
+ghost use Rattle.kernel_threads.specs.Table as spec;
+ghost use Rattle.mach_types.specs.Kernel.Threads as process;
+ghost use Rattle.mach_types.specs.declared.errors.TheConstants.{EAGAIN};
+ghost use Rattle.mach_types.specs.declared.threads.ThreadState.TheVariants.{Ready, Running, Waiting};
+
+use crate::rows::{self, ROOM, Row, Rows, Stage};
+use arrayvec::ArrayVec;
+use mach_types::errors::{EAGAIN, EINTR};
+use mach_types::{Errno, Hart, Saved, ThreadState, Tid};
+use std::alloc::{AllocError, Global};
+use std::marker::Model;
+
+/// The register of a call's answer, a0.
+const A0: u8 = 10;
+
+/// -EINTR, the answer of a wait that a signal broke.
+const INTERRUPTED: u64 = u64::MAX - (EINTR.0 as u64 - 1);
+
+/// The rows of the live threads, and the numbers of those that wait, the longest waiting first.
+#[derive(Drop)]
+struct Slots {
+    rows: Rows,
+    waiters: ArrayVec<u32, ROOM>,
+}
+
+/// The threads of a process: thread 1 and those that it and its children made, at most 64 at a time.
+#[derive(Drop)]
+pub struct Threads {
+    slots: Box<Slots>,
+    given: u32,
+}
+
+impl Model for Threads {
+    ghost use Rattle.kernel_threads.specs.Table.{Table, IsTable};
+
+    ghost Value = { Table };
+
+    ghost use Rattle.kernel_threads.specs.Rows.{table_in};
+
+    ghost view = { λ t. table_in t.slots.value.rows.items t.given t.slots.value.waiters.items };
+
+    ghost invariant = { λ t. IsTable (table_in t.slots.value.rows.items t.given t.slots.value.waiters.items) };
+}
+
+/// What a thread was saved with, with this answer of its call.
+fn answering(saved: Saved, value: u64) -> Saved
+    ensures { result ≡ spec.answering value saved }
+{
+    let mut file = saved.file;
+    file.set(A0, value);
+    Saved { file, pc: saved.pc }
+}
+
+/// Takes a number from the waiters.
+fn remove_waiter(waiters: &mut ArrayVec<u32, ROOM>, number: u32)
+    ensures { waiters.new.items ≡ process.no_waiter number waiters.old.items }
+{
+    waiters.retain(|waiter| *waiter != number);
+}
+
+impl Threads {
+    /// Thread 1 alone, ready with `start`. Fails only where memory is short.
+    pub fn new(alloc: Global, start: Saved) -> Result<Threads, AllocError>
+        ensures start { IfOk result (λ t. t ≡ spec.start_table start) }
+        ensures table { IfOk result (λ t. spec.IsTable t) }
+    {
+        let mut rows = ArrayVec::new();
+        rows.push(Row::new(1, start));
+        let waiters = ArrayVec::new();
+        let slots = Box::new(alloc, Slots { rows, waiters })?;
+        Ok(Threads { slots, given: 1 })
+    }
+
+    /// Makes a child of a live thread, ready with `start`, and answers its number: the next one (clone(2)).
+    /// EAGAIN exactly where as many threads live as may. Fewer than 2^31 - 1 numbers were given.
+    pub fn clone_thread(&mut self, parent: Tid, start: Saved) -> Result<Tid, Errno>
+        requires parent { IsTrue (process.is_live parent.0 self.old.threads) }
+        requires numbers { self.old.threads.given < 2 ^ 31 - 1 }
+        ensures full { IsErr result ↔ IsTrue (process.is_full self.old.threads) }
+        ensures errno { IfErr result (λ e. e ≡ EAGAIN) }
+        ensures unchanged { OnErr result (self.new ≡ self.old) }
+        ensures number { IfOk result (λ t. t.0 ≡ self.old.threads.given + 1) }
+        ensures threads { OnOk result (self.new.threads ≡ process.with_child self.old.threads) }
+        ensures saved { OnOk result (
+            self.new.saved ≡ spec.with_start (self.old.threads.given + 1) start self.old.saved) }
+        ensures table { spec.IsTable self.new }
+    {
+        if self.slots.rows.is_full() {
+            return Err(EAGAIN);
+        }
+        let number = self.given + 1;
+        self.slots.rows.push(Row::new(number, start));
+        self.given = number;
+        Ok(Tid(number))
+    }
+
+    /// Ends a live thread (exit(2)).
+    pub fn exit(&mut self, tid: Tid)
+        requires { IsTrue (process.is_live tid.0 self.old.threads) }
+        ensures threads { self.new.threads ≡ process.without tid.0 self.old.threads }
+        ensures saved { self.new.saved ≡ spec.forget tid.0 self.old.saved }
+        ensures table { spec.IsTable self.new }
+    {
+        rows::remove(&mut self.slots.rows, tid.0);
+        remove_waiter(&mut self.slots.waiters, tid.0);
+    }
+
+    /// Lets a ready thread run on a hart, and answers what it was saved with.
+    pub fn run(&mut self, tid: Tid, hart: Hart) -> Saved
+        requires { process.state_of tid.0 self.old.threads ≡ Some Ready }
+        ensures answer { Some result ≡ spec.saved_of tid.0 self.old.saved }
+        ensures threads { self.new.threads ≡ process.with_state tid.0 (Running hart) self.old.threads }
+        ensures saved { self.new.saved ≡ spec.with_saved tid.0 None self.old.saved }
+        ensures table { spec.IsTable self.new }
+    {
+        let Some(saved) = rows::saved_of(&self.slots.rows, tid.0) else {
+            unreachable!()
+        };
+        rows::set_stage(&mut self.slots.rows, tid.0, Stage::Running(hart));
+        saved
+    }
+
+    /// Makes a running thread ready again, with this.
+    pub fn leave(&mut self, tid: Tid, saved: Saved)
+        requires { process.runs self.old.threads tid.0 }
+        ensures threads { self.new.threads ≡ process.with_state tid.0 Ready self.old.threads }
+        ensures saved { self.new.saved ≡ spec.with_saved tid.0 (Some saved) self.old.saved }
+        ensures table { spec.IsTable self.new }
+    {
+        rows::set_stage(&mut self.slots.rows, tid.0, Stage::Ready(saved));
+    }
+
+    /// Lets a running thread wait at an address, behind all that wait; it goes on with this (futex(2)).
+    pub fn wait(&mut self, tid: Tid, at: u64, saved: Saved)
+        requires { process.runs self.old.threads tid.0 }
+        ensures threads { self.new.threads ≡ process.with_waiter tid.0 at self.old.threads }
+        ensures saved { self.new.saved ≡ spec.with_saved tid.0 (Some saved) self.old.saved }
+        ensures table { spec.IsTable self.new }
+    {
+        rows::set_stage(&mut self.slots.rows, tid.0, Stage::Waiting(at, saved));
+        self.slots.waiters.push(tid.0);
+    }
+
+    /// The number of the thread that waits longest at an address.
+    fn longest_waiter(&self, at: u64) -> Option<u32>
+        ensures longest { result ≡ process.longest_waiter at self.now.threads }
+        ensures table { spec.IsTable self.now }
+    {
+        rows::first_waiting_at(&self.slots.rows, self.slots.waiters.as_slice(), at)
+    }
+
+    /// Makes a waiting thread ready, with this answer of its wait.
+    fn wake(&mut self, number: u32, answer: u64)
+        requires { process.waits self.old.threads number }
+        ensures threads { self.new.threads ≡ process.with_woken number self.old.threads }
+        ensures saved { self.new.saved ≡ spec.with_answer number answer self.old.saved }
+        ensures table { spec.IsTable self.new }
+    {
+        let Some(saved) = rows::saved_of(&self.slots.rows, number) else {
+            unreachable!()
+        };
+        let ready = Stage::Ready(answering(saved, answer));
+        rows::set_stage(&mut self.slots.rows, number, ready);
+        remove_waiter(&mut self.slots.waiters, number);
+    }
+
+    /// Makes the thread that waits longest at an address ready, its wait answering 0, and answers which it is;
+    /// None exactly where nobody waits there (futex(2)).
+    pub fn wake_one(&mut self, at: u64) -> Option<Tid>
+        ensures longest { option_map (λ t. t.0) result ≡ process.longest_waiter at self.old.threads }
+        ensures nobody { IfNone result (self.new ≡ self.old) }
+        ensures threads { IfSome result (λ t. self.new.threads ≡ process.with_woken t.0 self.old.threads) }
+        ensures saved { IfSome result (λ t. self.new.saved ≡ spec.with_answer t.0 0 self.old.saved) }
+        ensures table { spec.IsTable self.new }
+    {
+        let number = self.longest_waiter(at)?;
+        self.wake(number, 0);
+        Some(Tid(number))
+    }
+
+    /// Makes a waiting thread ready, its wait answering -EINTR (futex(2)).
+    pub fn break_wait(&mut self, tid: Tid)
+        requires { process.waits self.old.threads tid.0 }
+        ensures threads { self.new.threads ≡ process.with_woken tid.0 self.old.threads }
+        ensures saved { self.new.saved ≡ spec.with_answer tid.0 spec.interrupted self.old.saved }
+        ensures table { spec.IsTable self.new }
+    {
+        self.wake(tid.0, INTERRUPTED);
+    }
+
+    /// The address of the word that the exit of a live thread clears, 0 where none is set (set_tid_address(2)).
+    pub fn clear_at(&self, tid: Tid) -> u64
+        requires { IsTrue (process.is_live tid.0 self.now.threads) }
+        ensures { result ≡ process.clear_of tid.0 self.now.threads }
+    {
+        rows::clear_of(&self.slots.rows, tid.0)
+    }
+
+    /// Sets that address.
+    pub fn set_clear(&mut self, tid: Tid, at: u64)
+        requires { IsTrue (process.is_live tid.0 self.old.threads) }
+        ensures threads { self.new.threads ≡ process.with_clear tid.0 at self.old.threads }
+        ensures saved { self.new.saved ≡ self.old.saved }
+        ensures table { spec.IsTable self.new }
+    {
+        rows::set_clear(&mut self.slots.rows, tid.0, at);
+    }
+
+    /// How many threads live, at most 64.
+    pub fn live(&self) -> u8
+        ensures count { result ≡ length self.now.threads.live }
+        ensures table { spec.IsTable self.now }
+    {
+        self.slots.rows.len() as u8
+    }
+
+    /// Whether a thread is live, and none is ready or runs.
+    pub fn is_stuck(&self) -> bool
+        ensures { result ≡ process.is_stuck self.now.threads }
+    {
+        self.slots.rows.len() >= 1 && !rows::some_goes_on(&self.slots.rows)
+    }
+
+    /// The state of a thread; None exactly where it isn't live.
+    pub fn state(&self, tid: Tid) -> Option<ThreadState>
+        ensures { result ≡ process.state_of tid.0 self.now.threads }
+    {
+        rows::state_of(&self.slots.rows, tid.0)
+    }
+}

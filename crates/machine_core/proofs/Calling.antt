@@ -1,0 +1,123 @@
+-- A call of the thread on a hart.
+use Rattle.std.proofs.Common.{◌≡◌, ℕ, ◌+◌, ◌-◌, ◌<◌, ◌/◌, ◌^◌, append-nil, length, refl, sym, ap, ◌∙◌, arith, Bool, true, false, cond, Option, Some, None, get_or}
+use Rattle.std.specs.Option.{option_or}
+use Rattle.mach_types.specs.Kernel.Threads.{Threads, is_stuck, running_on}
+use Rattle.mach_types.specs.Registers.{no_registers}
+use Rattle.mach_types.specs.declared.events.Choice.TheVariants as asked
+use Rattle.mach_types.specs.declared.events.Entry.{Entry}
+use Rattle.mach_types.specs.declared.events.Hart.{Hart}
+use Rattle.mach_types.specs.declared.events.Kind.TheVariants as kind
+use Rattle.mach_types.specs.declared.limits.End.{End}
+use Rattle.mach_types.specs.declared.limits.End.TheVariants as over
+use Rattle.mach_types.specs.declared.threads.Saved.{Saved}
+use Rattle.rv_inst.specs.declared.effects.Effect.TheVariants as effect
+use Rattle.hart_state.specs.declared.hart.HartState.{HartState}
+use Rattle.page_map.specs.Map.{Map, can_write_in, may_write, permission_in}
+use Rattle.sys_calls.specs.Made.{IsAt, gives_up, process_end}
+use Rattle.sys_calls.specs.declared.calling.CallEnd.{CallEnd}
+use Rattle.block_model.specs.Calls.{called}
+use Rattle.block_model.specs.Calls.Answers.{CallDone}
+use Rattle.block_model.specs.Deciding.{final, number_of}
+use Rattle.block_model.specs.Events.{done_of}
+use Rattle.block_model.specs.Events.Exec.{by_call}
+use Rattle.block_model.specs.Here.{runs}
+use Rattle.block_model.specs.History.{file_among}
+use Rattle.block_model.specs.Plain.{Plain, here_in_plain, here_of, plain_seen}
+use Rattle.block_model.specs.Setting.{Seen, Setting}
+use Rattle.block_model.specs.Tables.{IsTables}
+use Rattle.block_model.proofs.Laws.{given_few}
+use Rattle.machine_core.specs.Deeds.{entry_from, hart_after_call}
+use Rattle.machine_core.specs.Harts.{file_on, hart_at, hart_in}
+use Rattle.machine_core.specs.Planned.{IsPlanned}
+use Rattle.machine_core.specs.Tied.{IsPlace}
+use Rattle.machine_core.specs.declared.next.Next.{Next}
+use Rattle.machine_core.specs.declared.parts.Parts.{Parts}
+use Rattle.machine_core.proofs.Entries.{entry_exec}
+use Rattle.machine_core.proofs.Executed.{done_call}
+use Rattle.machine_core.proofs.HartTies.{own_after}
+use Rattle.machine_core.proofs.Places.{hart_is, tables_at}
+
+-- a hart after a call, counted
+abbrev after_call : Bool → Saved → HartState → HartState
+after_call b saved x =
+    let z : HartState = cond b (record x { file = no_registers; pc = 0; running = None; reserved = None }) (record x { file = saved.file; pc = saved.pc; reserved = None }) in
+    record z { ran = z.ran + 1; events = z.events + 1 }
+
+-- the hart of the thread after its call
+pub call_own : (s : Setting) (p : Plain) (h t : ℕ) (end : CallEnd) (saved : Saved) (c : CallDone) (x y : HartState) → x ≡ hart_at s p h → runs (here_in_plain s p h) ≡ Some t →
+    running_on h c.kernel.threads ≡ cond (gives_up end) None (Some t) → saved ≡ file_among c.files t (p.file t) →
+    y ≡ record (hart_after_call end saved x) { ran = (hart_after_call end saved x).ran + 1; events = (hart_after_call end saved x).events + 1 } → y ≡ own_after s p h (by_call (here_in_plain s p h) c)
+call_own s p h t end saved c x y at its hart own is = is ∙ rw (at, append-nil) (go (gives_up end) hart)
+  where
+    go : (b : Bool) → running_on h c.kernel.threads ≡ cond b None (Some t) → after_call b saved (hart_at s p h) ≡ hart_in (record (here_in_plain s p h) {
+      file = λ u. file_among c.files u (p.file u);
+      reserved = None;
+      kernel = c.kernel;
+    }) (p.ran h + 1) (p.events h + 1)
+    go true e = rw e refl
+    go false e = rw (e, its, own) refl
+
+-- permissions stay where pages do
+pub may_write_still : (m m' : Map) → ((n : ℕ) → permission_in m' n ≡ permission_in m n) → (a : ℕ) → can_write_in m' a ≡ can_write_in m a
+may_write_still m m' same a = ap may_write (same (a / 4096))
+
+-- how the run has ended
+pub ended_after : (end : CallEnd) (c : CallDone) (o : Option End) (b : Bool) → process_end end ≡ c.ended → b ≡ is_stuck c.kernel.threads → o ≡ option_or (process_end end) (cond b (Some over.Stuck) None) → o ≡ final c.ended c.kernel
+ended_after end c o b process stuck is = is ∙ rw (process, stuck) refl
+
+-- what a call finds
+pub record IsCalling (v : Seen) (m : Parts) (h : Hart) (harts : ℕ) (x : HartState) (e : Entry) : Type 0 where
+  pub own : x ≡ hart_at v.setting (plain_seen v) h.0
+  pub runs : runs (here_of v h.0) ≡ Some e.tid.0
+  pub at : IsAt (here_of v h.0) m.kernel m.pages h harts e.tid (record { file = x.file; pc = x.pc })
+  pub done : done_of asked.Exec (here_of v h.0) ≡ by_call (here_of v h.0) (called (here_of v h.0) e.tid.0)
+
+abbrev pub call_next : Next
+call_next = record { effect = Some effect.Call; fault = None }
+
+pub calling : (v : Seen) (m : Parts) (h : Hart) (harts : ℕ) (x : HartState) (e : Entry) → IsPlace v m h.0 → IsPlanned v h.0 call_next → harts ≡ length m.harts.items → x ≡ get_or m.harts.items h.0 x → e ≡ entry_from h kind.Exec x.running x.pc → IsCalling v m h harts x e
+calling v m h harts x e place plan all value is =
+    let own = hart_is v m h.0 x place value in
+    let named : e.tid.0 ≡ number_of (runs (here_of v h.0)) = ap (λ (z : Entry). z.tid.0) (is ∙ entry_exec v.setting (plain_seen v) h x own) in
+    let its : plan.thread ≡ e.tid.0 = sym (named ∙ ap number_of plan.at) in
+    let at : runs (here_of v h.0) ≡ Some e.tid.0 = plan.at ∙ ap Some its in
+    record {
+      own = own;
+      runs = at;
+      at = record {
+        hart = refl;
+        count = sym (all ∙ place.tied.all_harts);
+        threads = place.tied.threads;
+        scheduling = place.tied.scheduling;
+        console = place.tied.console;
+        bytes = place.tied.bytes;
+        writable = place.tied.writable;
+        file = ap (λ (y : HartState). record { file = y.file; pc = y.pc }) own ∙ ap (file_on (here_of v h.0)) at;
+      };
+      done = done_call (here_of v h.0) plan.thread plan.at (sym plan.fault) (sym plan.effect) ∙ ap (λ t. by_call (here_of v h.0) (called (here_of v h.0) t)) its;
+    }
+
+-- a further number can be given
+pub numbers_left : (v : Seen) (m : Parts) (h : ℕ) → IsPlace v m h → m.kernel.threads.threads.given < 2 ^ 31 - 1
+numbers_left v m h place =
+    let few = given_few v place.run in let same = ap (λ (ts : Threads). ts.given) place.tied.threads in
+    let room = place.room in let steps = place.limits.most_steps in omega arith
+
+-- the tables that it finds
+pub tables_found : (v : Seen) (m : Parts) (h harts : ℕ) → IsPlace v m h → harts ≡ length m.harts.items → IsTables harts m.kernel.threads.threads m.kernel.ready
+tables_found v m h harts place all = rw (all, place.tied.all_harts, place.tied.threads, place.tied.scheduling) (tables_at v m h place)
+
+-- it counts nothing by itself
+pub same_ran : (end : CallEnd) (saved : Saved) (x : HartState) → (hart_after_call end saved x).ran ≡ x.ran
+same_ran end saved x = go (gives_up end)
+  where
+    go : (b : Bool) → (cond b (record x { file = no_registers; pc = 0; running = None; reserved = None }) (record x { file = saved.file; pc = saved.pc; reserved = None })).ran ≡ x.ran
+    go true = refl
+    go false = refl
+
+pub same_events : (end : CallEnd) (saved : Saved) (x : HartState) → (hart_after_call end saved x).events ≡ x.events
+same_events end saved x = go (gives_up end)
+  where
+    go : (b : Bool) → (cond b (record x { file = no_registers; pc = 0; running = None; reserved = None }) (record x { file = saved.file; pc = saved.pc; reserved = None })).events ≡ x.events
+    go true = refl
+    go false = refl

@@ -1,0 +1,90 @@
+-- What ties the parts after an event, for every kind: what is to be shown of each part.
+use Rattle.std.proofs.Common.{◌≡◌, ℕ, List, [], ◌∷◌, length, refl, sym, ap, ◌∙◌, Bool, true, false, cond, eqb, Option, Some, None, slice_get, set, suc, is_some}
+use Rattle.std.specs.Option.{option_map, option_or}
+use Rattle.std.proofs.lemmas.List.{length-set}
+use Rattle.mach_types.specs.Bytes.{written}
+use Rattle.mach_types.specs.Kernel.Threads.{is_stuck}
+use Rattle.mach_types.specs.declared.limits.End.{End}
+use Rattle.mach_types.specs.declared.limits.End.TheVariants as over
+use Rattle.hart_state.specs.declared.hart.HartState.{HartState}
+use Rattle.kernel_threads.specs.Table.{IsTable}
+use Rattle.page_map.specs.Map.{byte_in, can_write_in}
+use Rattle.sys_calls.specs.Made.{AreSaved}
+use Rattle.block_model.specs.Setting.{Seen}
+use Rattle.block_model.specs.Here.{Done}
+use Rattle.block_model.specs.History.{file_among}
+use Rattle.block_model.specs.Deciding.{final}
+use Rattle.block_model.specs.Plain.{Plain, here_of, plain_seen}
+use Rattle.block_model.proofs.Laws.{IsFit}
+use Rattle.machine_core.specs.Losing.{lost_unless}
+use Rattle.machine_core.specs.Tied.{IsPlace, IsAfter}
+use Rattle.machine_core.specs.declared.parts.Parts.{Parts}
+use Rattle.machine_core.proofs.HartTies.{own_after, harts_tied}
+use Rattle.machine_core.proofs.MemoryTies.{memory_after, writable_after}
+
+-- lists with the same places filled are equally long
+pub same_length : (xs ys : List HartState) → ((k : ℕ) → is_some (slice_get ys k) ≡ is_some (slice_get xs k)) → length ys ≡ length xs
+same_length [] [] same = refl
+same_length [] (y ∷ ys) same = let bad : true ≡ false = same 0 in absurd (cc)
+same_length (x ∷ xs) [] same = let bad : false ≡ true = same 0 in absurd (cc)
+same_length (x ∷ xs) (y ∷ ys) same = ap suc (same_length xs ys (λ k. same (suc k)))
+
+-- each hart but one lost what was written
+abbrev pub HaveLost : ℕ → Done → List HartState → List HartState → Type 0
+HaveLost h d xs ys = (k : ℕ) → slice_get ys k ≡ option_map (lost_unless (eqb k h) d.entered) (slice_get xs k)
+
+mapped_is : (f : HartState → HartState) (o : Option HartState) → is_some (option_map f o) ≡ is_some o
+mapped_is f None = refl
+mapped_is f (Some x) = refl
+
+-- where nothing was written they are as they were
+pub none_lost : (h : ℕ) (d : Done) (xs : List HartState) → d.entered ≡ [] → HaveLost h d xs xs
+none_lost h d xs none k = rw none (keep (eqb k h) (slice_get xs k))
+  where
+    keep : (b : Bool) (o : Option HartState) → o ≡ option_map (lost_unless b []) o
+    keep true None = refl
+    keep false None = refl
+    keep true (Some x) = refl
+    keep false (Some x) = refl
+
+-- the parts changed as an event does: its hart is y
+pub record IsChange (v : Seen) (h : ℕ) (d : Done) (m m' : Parts) (y : HartState) : Type 0 where
+  pub own : y ≡ own_after v.setting (plain_seen v) h d
+  pub harts : HaveLost h d (set m.harts.items h y) m'.harts.items
+  pub bytes : (a : ℕ) → byte_in m'.pages a ≡ option_map (written d.entered a) (byte_in m.pages a)
+  pub writable : (a : ℕ) → can_write_in m'.pages a ≡ can_write_in m.pages a
+  pub threads : m'.kernel.threads.threads ≡ d.kernel.threads
+  pub scheduling : m'.kernel.ready ≡ d.kernel.scheduling
+  pub console : m'.kernel.console ≡ d.kernel.console
+  pub table : IsTable m'.kernel.threads
+  pub saved : AreSaved (λ t. file_among d.files t ((plain_seen v).file t)) m'.kernel.threads
+  pub ended : m'.ended ≡ final d.ended d.kernel
+
+-- no event has ended the process where the run goes on
+pub open_process : (process : Option End) (rest : Option End) → option_or process rest ≡ None → process ≡ None
+open_process None rest goes = refl
+open_process (Some e) rest goes = cc
+
+or_none : (o p : Option End) → p ≡ None → option_or o p ≡ o
+or_none None p none = none
+or_none (Some e) p none = refl
+
+pub changed : (v : Seen) (h : ℕ) (d : Done) (m m' : Parts) (y : HartState) → IsPlace v m h → IsFit (here_of v h) d → IsChange v h d m m' y → IsAfter v h d m'
+changed v h d m m' y place fit is = record {
+  all_harts = same_length (set m.harts.items h y) m'.harts.items (λ k. ap is_some (is.harts k) ∙ mapped_is (lost_unless (eqb k h) d.entered) (slice_get (set m.harts.items h y) k)) ∙ (length-set m.harts.items h y ∙ place.tied.all_harts);
+  harts = harts_tied v.setting p h d m.harts.items m'.harts.items y place.tied.harts place.lt fit is.own is.harts;
+  bytes = memory_after (byte_in m.pages) (byte_in m'.pages) p.kernel d.kernel p.byte d.entered place.tied.bytes is.bytes fit.pages;
+  writable = writable_after (can_write_in m.pages) (can_write_in m'.pages) p.kernel d.kernel place.tied.writable is.writable fit.pages;
+  threads = is.threads;
+  scheduling = is.scheduling;
+  console = is.console;
+  table = is.table;
+  saved = is.saved;
+  ended = is.ended ∙ ap (λ o. final o d.kernel) (sym (or_none d.ended p.ended (open_process p.ended (if_stuck (is_stuck p.kernel.threads)) place.goes)));
+}
+  where
+    p : Plain
+    p = plain_seen v
+
+    if_stuck : Bool → Option End
+    if_stuck b = cond b (Some over.Stuck) None

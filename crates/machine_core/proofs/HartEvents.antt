@@ -1,0 +1,106 @@
+-- The own hart after each kind of event.
+use Rattle.std.proofs.Common.{◌≡◌, ℕ, ◌+◌, ◌<◌, List, ◌∷◌, drop, refl, ◌∙◌, arith, true, false, Option, Some, None, append-nil, eq-eqb}
+use Rattle.std.specs.Option.{option_map}
+use Rattle.mach_types.specs.Registers.{no_registers}
+use Rattle.mach_types.specs.declared.threads.Saved.{Saved}
+use Rattle.mach_types.specs.declared.user_memory.Store.{Store}
+use Rattle.mach_types.specs.Kernel.Threads.{is_ready}
+use Rattle.hart_state.specs.declared.hart.HartState.{HartState}
+use Rattle.hart_state.specs.State.{hart_after}
+use Rattle.rv_inst.specs.Execution.{Outcome}
+use Rattle.block_model.specs.Setting.{Setting}
+use Rattle.block_model.specs.Here.{runs}
+use Rattle.block_model.specs.Kernel.{ran}
+use Rattle.block_model.specs.Tables.{IsTables}
+use Rattle.block_model.specs.Plain.{Plain, here_in_plain}
+use Rattle.block_model.specs.Sights.{thread}
+use Rattle.block_model.specs.Events.Exec.{by_fault, by_outcome}
+use Rattle.block_model.specs.Events.Drain.{done_drain_of}
+use Rattle.block_model.specs.Events.Preempt.{done_preempt_by}
+use Rattle.block_model.specs.Events.Run.{done_run}
+use Rattle.block_model.proofs.Laws.{left_idle, ran_runs}
+use Rattle.machine_core.specs.Harts.{file_on, hart_at}
+use Rattle.machine_core.proofs.HartTies.{own_after}
+
+zero_more : (n : ℕ) → n + 0 ≡ n
+zero_more n = omega arith
+
+-- drain
+pub drain_own : (s : Setting) (p : Plain) (h : ℕ) (w : Store) (ws : List Store) (x y : HartState) → x ≡ hart_at s p h →
+    y ≡ record x { buffer = drop 1 x.buffer; events = x.events + 1 } → y ≡ own_after s p h (done_drain_of (here_in_plain s p h) (w ∷ ws))
+drain_own s p h w ws x y at is = is ∙ rw (at, append-nil, zero_more (p.ran h)) (go (runs (here_in_plain s p h)))
+  where
+    go : (o : Option ℕ) → (let a : HartState = record {
+      file = (file_on (here_in_plain s p h) o).file;
+      pc = (file_on (here_in_plain s p h) o).pc;
+      buffer = drop 1 (p.waiting h);
+      running = option_map thread o;
+      requests = 0;
+      restart = false;
+      waits = None;
+      reserved = p.reserved h;
+      ran = p.ran h;
+      credit = 0;
+      events = p.events h + 1;
+      cid = 0;
+    } in a) ≡ (let b : HartState = record {
+      file = (file_on (here_in_plain s p h) o).file;
+      pc = (file_on (here_in_plain s p h) o).pc;
+      buffer = drop 1 (p.waiting h);
+      running = option_map thread o;
+      requests = 0;
+      restart = false;
+      waits = None;
+      reserved = p.reserved h;
+      ran = p.ran h;
+      credit = 0;
+      events = p.events h + 1;
+      cid = 0;
+    } in b)
+    go None = refl
+    go (Some t) = refl
+
+-- a hart of these parts
+abbrev made_of : Saved → Option ℕ → List Store → Option ℕ → ℕ → ℕ → HartState
+made_of f o buffer reserved ran events = record {
+  file = f.file;
+  pc = f.pc;
+  buffer = buffer;
+  running = option_map thread o;
+  requests = 0;
+  restart = false;
+  waits = None;
+  reserved = reserved;
+  ran = ran;
+  credit = 0;
+  events = events;
+  cid = 0;
+}
+
+-- preempt
+pub preempt_own : (s : Setting) (p : Plain) (h t : ℕ) (x y : HartState) → x ≡ hart_at s p h → IsTables s.limits.harts p.kernel.threads p.kernel.scheduling → runs (here_in_plain s p h) ≡ Some t →
+    y ≡ record x { file = no_registers; pc = 0; running = None; reserved = None; events = x.events + 1 } → y ≡ own_after s p h (done_preempt_by (here_in_plain s p h) (Some t))
+preempt_own s p h t x y at tables runs is =
+    is ∙ rw (at, append-nil, zero_more (p.ran h), left_idle s.limits.harts h t p.kernel.threads p.kernel.scheduling tables runs) refl
+
+-- run
+pub run_own : (s : Setting) (p : Plain) (h t : ℕ) (saved : Saved) (x y : HartState) → x ≡ hart_at s p h → IsTables s.limits.harts p.kernel.threads p.kernel.scheduling →
+    is_ready t p.kernel.threads ≡ true → runs (here_in_plain s p h) ≡ None → h < s.limits.harts → saved ≡ p.file t →
+    y ≡ record x { file = saved.file; pc = saved.pc; running = Some (thread t); reserved = None; ran = 0; events = x.events + 1 } → y ≡ own_after s p h (done_run (here_in_plain s p h) t)
+run_own s p h t saved x y at tables ready idle lt kept is =
+    is ∙ rw (at, append-nil, ran_runs s.limits.harts h t p.kernel.threads p.kernel.scheduling tables ready idle lt, kept) refl
+
+-- a fault
+pub fault_own : (s : Setting) (p : Plain) (h signal : ℕ) (x y : HartState) → x ≡ hart_at s p h →
+    y ≡ record x { ran = x.ran + 1; events = x.events + 1 } → y ≡ own_after s p h (by_fault (here_in_plain s p h) signal)
+fault_own s p h signal x y at is = is ∙ rw (at, append-nil) (go (runs (here_in_plain s p h)))
+  where
+    go : (o : Option ℕ) → made_of (file_on (here_in_plain s p h) o) o (p.waiting h) (p.reserved h) (p.ran h + 1) (p.events h + 1)
+        ≡ made_of (file_on (here_in_plain s p h) o) o (p.waiting h) (p.reserved h) (p.ran h + 1) (p.events h + 1)
+    go None = refl
+    go (Some t) = refl
+
+-- an instruction other than a call
+pub plain_own : (s : Setting) (p : Plain) (h t : ℕ) (o : Outcome) (x y : HartState) → x ≡ hart_at s p h → runs (here_in_plain s p h) ≡ Some t →
+    y ≡ record (hart_after x o) { ran = x.ran + 1; events = x.events + 1 } → y ≡ own_after s p h (by_outcome (here_in_plain s p h) t o)
+plain_own s p h t o x y at runs is = is ∙ rw (at, runs, eq-eqb t t refl) refl

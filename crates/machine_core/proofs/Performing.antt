@@ -1,0 +1,67 @@
+-- An instruction that is performed.
+use Rattle.std.proofs.Common.{◌≡◌, ℕ, List, [], refl, sym, ap, false, Option, Some, None, get_or}
+use Rattle.std.specs.Option.{option_map}
+use Rattle.mach_types.specs.Bytes.{all_stored, overlay, written}
+use Rattle.mach_types.specs.declared.user_memory.Store.{Store}
+use Rattle.mach_types.specs.declared.events.Choice.TheVariants as asked
+use Rattle.rv_inst.specs.Class.{is_call}
+use Rattle.rv_inst.specs.Execution.{Outcome, fault_in}
+use Rattle.rv_inst.specs.declared.effects.Effect.{Effect}
+use Rattle.hart_state.specs.State.{exec_refusal, outcome_on}
+use Rattle.hart_state.specs.declared.hart.HartState.{HartState}
+use Rattle.page_map.specs.Map.{byte_in, can_write_in}
+use Rattle.block_model.specs.Deciding.{final}
+use Rattle.block_model.specs.Events.{done_of}
+use Rattle.block_model.specs.Events.Exec.{by_outcome, outcome_of}
+use Rattle.block_model.specs.Plain.{here_of, plain_seen}
+use Rattle.block_model.specs.Setting.{Seen}
+use Rattle.machine_core.specs.Harts.{hart_at}
+use Rattle.machine_core.specs.Planned.{IsPlanned}
+use Rattle.machine_core.specs.Tied.{IsPlace}
+use Rattle.machine_core.specs.declared.next.Next.{Next}
+use Rattle.machine_core.specs.declared.parts.Parts.{Parts}
+use Rattle.machine_core.proofs.Executed.{done_plain, no_fault, not_refused, outcome_same}
+use Rattle.machine_core.proofs.MemoryTies.{written_stored}
+use Rattle.machine_core.proofs.Places.{goes_on, hart_is, was_not_stuck}
+
+abbrev pub plain_next : Effect → Next
+plain_next e = record { effect = Some e; fault = None }
+
+pub record IsPerforming (v : Seen) (m : Parts) (h t : ℕ) (x : HartState) (e : Effect) : Type 0 where
+  pub own : x ≡ hart_at v.setting (plain_seen v) h
+  pub outcome : Outcome
+  pub same : outcome_on x (byte_in m.pages) e ≡ outcome
+  pub done : done_of asked.Exec (here_of v h) ≡ by_outcome (here_of v h) t outcome
+  pub ended : m.ended ≡ final None (plain_seen v).kernel
+
+pub performing : (v : Seen) (m : Parts) (h : ℕ) (x : HartState) (e : Effect) → IsPlace v m h → (plan : IsPlanned v h (plain_next e)) → is_call e ≡ false → x ≡ get_or m.harts.items h x → IsPerforming v m h plan.thread x e
+performing v m h x e place plan other value =
+    let own = hart_is v m h x place value in
+    record {
+      own = own;
+      outcome = outcome_of (here_of v h) plan.thread e;
+      same = outcome_same v.setting (plain_seen v) h plan.thread x (byte_in m.pages) e own plan.at place.tied.bytes;
+      done = done_plain (here_of v h) plan.thread e plan.at (sym plan.fault) (sym plan.effect) other;
+      ended = goes_on v m h (plain_seen v).kernel place (was_not_stuck v m h place);
+    }
+
+-- what it asks for
+pub record MayPerform (m : Parts) (x : HartState) (e : Effect) : Type 0 where
+  pub allowed : exec_refusal x (Some e) false ≡ None
+  pub no_fault : fault_in (byte_in m.pages) (can_write_in m.pages) e ≡ None
+
+pub may_perform : (v : Seen) (m : Parts) (h : ℕ) (x : HartState) (e : Effect) → IsPlace v m h → IsPlanned v h (plain_next e) → x ≡ get_or m.harts.items h x → MayPerform m x e
+may_perform v m h x e place plan value = record {
+  allowed = not_refused v.setting (plain_seen v) h plan.thread x e (hart_is v m h x place value) plan.at (sym plan.fault) (sym plan.effect) plan.free;
+  no_fault = no_fault (here_of v h) plan.thread (byte_in m.pages) (can_write_in m.pages) e place.tied.bytes place.tied.writable (sym plan.fault) (sym plan.effect);
+}
+
+-- stores that enter memory as writes
+pub as_writes : (ss : List Store) (a : ℕ) (o : Option ℕ) → option_map (overlay ss a) o ≡ option_map (written (all_stored ss) a) o
+as_writes ss a None = refl
+as_writes ss a (Some b) = ap Some (sym (written_stored ss a b))
+
+-- and where none enters
+pub as_no_writes : (ss : List Store) (a : ℕ) (o : Option ℕ) → ss ≡ [] → option_map (overlay ss a) o ≡ o
+as_no_writes ss a None none = refl
+as_no_writes ss a (Some b) none = rw none refl

@@ -1,0 +1,65 @@
+-- One step: what is decided at a place, and a machine that made the event.
+use Rattle.std.proofs.Common.{◌≡◌, ℕ, ◌<◌, [], ◌∷◌, ◌++◌, length, sym, ap, ◌∙◌, subst, Option, Some, None, Ok, Err, Result}
+use Rattle.mach_types.specs.Events.{choice_of}
+use Rattle.mach_types.specs.declared.events.Choice.{Choice}
+use Rattle.mach_types.specs.declared.events.Entry.{Entry}
+use Rattle.mach_types.specs.declared.events.Hart.{Hart}
+use Rattle.mach_types.specs.declared.events.Why.{Why}
+use Rattle.block_model.specs.declared.refusals.Refused.TheVariants.{NotEnabled}
+use Rattle.block_model.specs.Deciding.{decide, entry_in, history, unless}
+use Rattle.block_model.specs.Events.{done_of, refusal_of}
+use Rattle.block_model.specs.Plain.{apply, here_of, plain_after, plain_seen}
+use Rattle.block_model.specs.Run.{IsBlockRun}
+use Rattle.block_model.specs.Setting.{Seen}
+use Rattle.block_model.proofs.Laws.{at_kind, decided_is, next_event, run_on}
+use Rattle.machine_core.specs.Tied.{IsAfter, IsMachine, IsPlace, IsTied, answer_to, answered, seen}
+use Rattle.machine_core.specs.declared.machine.Machine.TheInside.{Inside}
+use Rattle.machine_core.specs.declared.parts.Parts.{Parts}
+
+answer_ok : (made e : Entry) (o : Option Why) → answered made o ≡ Ok e → unless made o ≡ Ok e
+answer_ok made e None is = cc
+answer_ok made e (Some why) is = cc
+
+answer_err : (made : Entry) (why : Why) (o : Option Why) → answered made o ≡ Err why → unless made o ≡ Err (NotEnabled why)
+answer_err made why None is = cc
+answer_err made why (Some other) is = cc
+
+-- a choice that is refused
+pub refused : (v : Seen) (m : Parts) (h : ℕ) (c : Choice) (r : Result Entry Why) (why : Why) → IsPlace v m h → r ≡ answer_to v h c → r ≡ Err why → decide v.setting (history v.setting v.log) h c ≡ Err (NotEnabled why)
+refused v m h c r why place answer is =
+    at_kind v h c place.run place.goes place.room place.lt ∙ answer_err (entry_in c (here_of v h)) why (refusal_of c (here_of v h)) (sym answer ∙ is)
+
+-- a choice that is made
+pub record IsStep (v : Seen) (h : Hart) (c : Choice) (e : Entry) (m' : Parts) : Type 0 where
+  pub decided : decide v.setting (history v.setting v.log) h.0 c ≡ Ok e
+  pub hart : e.hart ≡ h
+  pub choice : choice_of e ≡ c
+  pub run : IsBlockRun v.setting (v.log ++ e ∷ [])
+  pub tied : IsTied v.setting (plain_after v.setting (v.log ++ e ∷ [])) m'
+
+pub stepped : (v : Seen) (m m' : Parts) (h : Hart) (c : Choice) (r : Result Entry Why) (e : Entry) → IsPlace v m h.0 → r ≡ answer_to v h.0 c → r ≡ Ok e → IsAfter v h.0 (done_of c (here_of v h.0)) m' → IsStep v h c e m'
+stepped v m m' h c r e place answer is after =
+    let decided = at_kind v h.0 c place.run place.goes place.room place.lt ∙ answer_ok (entry_in c (here_of v h.0)) e (refusal_of c (here_of v h.0)) (sym answer ∙ is) in
+    let of = decided_is v.setting (history v.setting v.log) h.0 c e decided in
+    let d = done_of c (here_of v h.0) in
+    let asked = ap (λ k. decide v.setting (history v.setting v.log) k (choice_of e)) of.0 ∙ (ap (decide v.setting (history v.setting v.log) h.0) of.1 ∙ decided) in
+    let done : d ≡ done_of (choice_of e) (here_of v e.hart.0) = sym (ap (λ k. done_of (choice_of e) (here_of v k)) of.0 ∙ ap (λ z. done_of z (here_of v h.0)) of.1) in
+    let next = (next_event v e d place.run asked done).next ∙ ap (λ k. apply k d (plain_seen v)) of.0 in
+    record {
+      decided = decided;
+      hart = ap (λ n. record { 0 = n }) of.0;
+      choice = of.1;
+      run = run_on v h.0 c e place.run decided;
+      tied = subst (λ p. IsTied v.setting p m') (sym next) after;
+    }
+
+-- the place of a machine whose run goes on
+pub place_of : (m : Inside) (h : ℕ) → IsMachine m → m.parts.ended ≡ None → length m.log.items < m.limits.steps → h < m.limits.harts → IsPlace (seen m) m.parts h
+place_of m h machine goes room lt = record {
+  run = machine.run;
+  tied = machine.tied;
+  limits = machine.limits;
+  goes = sym machine.tied.ended ∙ goes;
+  room = room;
+  lt = lt;
+}

@@ -1,0 +1,38 @@
+use Rattle.std.proofs.Common.{arith, refl, sym, ◌∙◌}
+use Rattle.mach_types.specs.declared.events.Choice.TheVariants as asked
+use Rattle.block_model.specs.Events.Exec.{by_fault}
+use Rattle.block_model.specs.Plain.{here_of, plain_seen}
+use Rattle.machine_core.proofs.Entries.{changed_as, entry_exec}
+use Rattle.machine_core.proofs.Events.{none_lost}
+use Rattle.machine_core.proofs.Executed.{done_fault}
+use Rattle.machine_core.proofs.HartEvents.{fault_own}
+use Rattle.machine_core.proofs.Places.{events_fit, hart_is, ran_fits, same_byte}
+use Rattle.machine_core.proofs.parts.Parts.fault.Goals as goal
+
+pub overflow_add-state : goal.overflow_add-state
+overflow_add-state c = let plan = c.requires.1 in let few = ran_fits plan.seen c.args.self.now c.args.hart.0 c.index_mut-state.result.now plan.place c.index_mut-state.ensures.value in omega (arith, few)
+
+pub overflow_add-state-2 : goal.overflow_add-state-2
+overflow_add-state-2 c = let plan = c.requires.1 in let few = events_fit plan.seen c.args.self.now c.args.hart.0 c.index_mut-state.result.now plan.place c.index_mut-state.ensures.value in omega (arith, few)
+
+pub returns : goal.returns
+returns c effect = record {
+  entry = λ v place plan. c.entry_of-entry.ensures ∙ entry_exec v.setting (plain_seen v) c.args.hart c.index_mut-state.result.now (hart_is v c.args.self.now c.args.hart.0 c.index_mut-state.result.now place c.index_mut-state.ensures.value);
+  after = λ v place plan.
+      let h = c.args.hart.0 in
+      let m = c.args.self.now in
+      let x = c.index_mut-state.result.now in
+      let here = here_of v h in
+      changed_as v h asked.Exec (by_fault here c.args.signal) m _ _ place plan.free (done_fault here plan.thread c.args.signal plan.at (sym plan.fault)) (record {
+        own = fault_own v.setting (plain_seen v) h c.args.signal x _ (hart_is v m h x place c.index_mut-state.ensures.value) refl;
+        harts = none_lost h (by_fault here c.args.signal) _ refl;
+        bytes = λ a. same_byte _ a;
+        writable = λ a. refl;
+        threads = place.tied.threads;
+        scheduling = place.tied.scheduling;
+        console = place.tied.console;
+        table = place.tied.table;
+        saved = place.tied.saved;
+        ended = refl;
+      });
+}

@@ -1,0 +1,137 @@
+//! Events by which stores enter memory, and threads begin to run and leave.
+
+ghost use Rattle.std.specs.Prelude.{◌≡◌, None, IfOk, OnErr};
+ghost use Rattle.block_model.specs.Setting.{Seen};
+ghost use Rattle.block_model.specs.Events.{done_of, refusal_of};
+ghost use Rattle.block_model.specs.Plain.{here_of};
+ghost use Rattle.machine_core.specs.Tied.{IsPlace, HasPlace, MayMake, IsAfter, IsEvent, answer_to};
+
+use crate::parts::{Parts, entry_of};
+use crate::reservations::lose_others;
+use mach_types::{Choice, Entry, Hart, Kind, Tid, Why, Write};
+
+impl Parts {
+    /// Why no store of a hart can enter memory.
+    fn refusal_drain(&self, hart: Hart) -> Option<Why>
+        requires { HasPlace self.now hart.0 }
+        ensures { (v : Seen) → IsPlace v self.now hart.0 → result ≡ refusal_of Choice.Drain (here_of v hart.0) }
+    {
+        if self.harts[hart.0 as usize].buffer.len() == 0 {
+            Some(Why::NoStore)
+        } else {
+            None
+        }
+    }
+
+    /// The oldest waiting store of a hart enters memory.
+    fn drained(&mut self, hart: Hart) -> Entry
+        requires { MayMake self.old hart.0 Choice.Drain }
+        ensures { IsEvent self.old hart.0 Choice.Drain result self.new }
+    {
+        let state = &mut self.harts[hart.0 as usize];
+        let entry = entry_of(hart, Kind::Drain, state);
+        let entered = state.drain(&mut self.pages);
+        state.events += 1;
+        if let Some(store) = entered {
+            lose_others(&mut self.harts, hart, &[Write::Stored(store)]);
+        }
+        entry
+    }
+
+    /// `drain`.
+    pub fn drain(&mut self, hart: Hart) -> Result<Entry, Why>
+        requires { HasPlace self.old hart.0 }
+        ensures answer { (v : Seen) → IsPlace v self.old hart.0 → result ≡ answer_to v hart.0 Choice.Drain }
+        ensures after { (v : Seen) → IsPlace v self.old hart.0 → IfOk result (λ e. IsAfter v hart.0 (done_of Choice.Drain (here_of v hart.0)) self.new) }
+        ensures err { OnErr result (self.new ≡ self.old) }
+    {
+        match self.refusal_drain(hart) {
+            Some(why) => Err(why),
+            None => Ok(self.drained(hart)),
+        }
+    }
+
+    /// Why the thread on a hart can't leave it.
+    fn refusal_preempt(&self, hart: Hart) -> Option<Why>
+        requires { HasPlace self.now hart.0 }
+        ensures { (v : Seen) → IsPlace v self.now hart.0 → result ≡ refusal_of Choice.Preempt (here_of v hart.0) }
+    {
+        let state = &self.harts[hart.0 as usize];
+        if state.is_idle() {
+            Some(Why::Idle)
+        } else if state.buffer.len() != 0 {
+            Some(Why::Waiting)
+        } else {
+            None
+        }
+    }
+
+    /// The thread on a hart leaves it, and is the last ready one.
+    fn left(&mut self, hart: Hart) -> Entry
+        requires { MayMake self.old hart.0 Choice.Preempt }
+        ensures { IsEvent self.old hart.0 Choice.Preempt result self.new }
+    {
+        let state = &mut self.harts[hart.0 as usize];
+        let entry = entry_of(hart, Kind::Preempt, state);
+        let saved = state.leave();
+        state.events += 1;
+        self.kernel.threads.leave(entry.tid, saved);
+        self.kernel.ready.push(entry.tid);
+        entry
+    }
+
+    /// `preempt`.
+    pub fn preempt(&mut self, hart: Hart) -> Result<Entry, Why>
+        requires { HasPlace self.old hart.0 }
+        ensures answer { (v : Seen) → IsPlace v self.old hart.0 → result ≡ answer_to v hart.0 Choice.Preempt }
+        ensures after { (v : Seen) → IsPlace v self.old hart.0 → IfOk result (λ e. IsAfter v hart.0 (done_of Choice.Preempt (here_of v hart.0)) self.new) }
+        ensures err { OnErr result (self.new ≡ self.old) }
+    {
+        match self.refusal_preempt(hart) {
+            Some(why) => Err(why),
+            None => Ok(self.left(hart)),
+        }
+    }
+
+    /// Why a thread can't begin to run on a hart.
+    fn refusal_run(&self, hart: Hart, tid: Tid) -> Option<Why>
+        requires { HasPlace self.now hart.0 }
+        ensures { (v : Seen) → IsPlace v self.now hart.0 → result ≡ refusal_of (Choice.Run tid) (here_of v hart.0) }
+    {
+        if !self.harts[hart.0 as usize].is_idle() {
+            Some(Why::Busy)
+        } else if !self.is_ready(tid) {
+            Some(Why::NotReady)
+        } else if !self.kernel.ready.allows(tid, hart) {
+            Some(Why::NotAllowed)
+        } else {
+            None
+        }
+    }
+
+    /// A ready thread begins to run on an idle hart.
+    fn begun(&mut self, hart: Hart, tid: Tid) -> Entry
+        requires { MayMake self.old hart.0 (Choice.Run tid) }
+        ensures { IsEvent self.old hart.0 (Choice.Run tid) result self.new }
+    {
+        let saved = self.kernel.threads.run(tid, hart);
+        let _ready = self.kernel.ready.take(tid);
+        let state = &mut self.harts[hart.0 as usize];
+        state.enter(tid, saved);
+        state.events += 1;
+        entry_of(hart, Kind::Run, state)
+    }
+
+    /// `run`.
+    pub fn run(&mut self, hart: Hart, tid: Tid) -> Result<Entry, Why>
+        requires { HasPlace self.old hart.0 }
+        ensures answer { (v : Seen) → IsPlace v self.old hart.0 → result ≡ answer_to v hart.0 (Choice.Run tid) }
+        ensures after { (v : Seen) → IsPlace v self.old hart.0 → IfOk result (λ e. IsAfter v hart.0 (done_of (Choice.Run tid) (here_of v hart.0)) self.new) }
+        ensures err { OnErr result (self.new ≡ self.old) }
+    {
+        match self.refusal_run(hart, tid) {
+            Some(why) => Err(why),
+            None => Ok(self.begun(hart, tid)),
+        }
+    }
+}

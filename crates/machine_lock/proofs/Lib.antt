@@ -1,0 +1,6 @@
+mod Keeps
+pub mod Laws
+mod LogLemmas
+mod NumberLemmas
+mod PassLemmas
+mod Totals

@@ -1,0 +1,7 @@
+pub mod Numbers
+pub mod Logs
+pub mod Views
+pub mod Rule
+pub mod Steps
+pub mod Passes
+pub mod Turnstiles

@@ -1,0 +1,6 @@
+pub mod Layout
+pub mod Map
+pub mod MapLaws
+pub mod Mapping
+pub mod Starting
+pub mod Table

@@ -1,0 +1,164 @@
+//! The pages of a process at its start.
+
+ghost use Rattle.std.specs.Prelude.{◌≡◌, ℕ, ◌+◌, ◌*◌, ◌/◌, ◌<◌, ◌≤◌, ◌^◌, ◌==◌, true, if◌then◌else◌, Some, None, All, IfOk, IfSome, length, slice_index};
+ghost use Rattle.std.specs.List.Sorted.{IsStrictlyIncreasing};
+ghost use Rattle.std.specs.Option.{option_map};
+ghost use Rattle.mach_types.specs.Bytes.{overlay};
+ghost use Rattle.mach_types.specs.Kernel.Pages.{can_read, is_in, permission_of};
+ghost use Rattle.elf_load.specs.Images.{IsBootable, IsPermission, numbers};
+ghost use Rattle.elf_load.specs.Start.{code_byte, program_of, return_byte, start_byte, start_runs, stack_run, start_words, stored_from};
+ghost use Rattle.frame_pool.specs.Pool.{free_count, fresh};
+ghost use Rattle.page_map.specs.Map.{break_in, byte_in, can_write_in, code_in, free_in, page_in, permission_in};
+ghost use Rattle.page_map.specs.Starting.{IsStartPage, image_page, stack_page};
+
+use crate::map::PageMap;
+use byte_views::write_word;
+use elf_load::{Image, ImagePage};
+use frame_pool::FramePool;
+use mach_types::UserMem;
+use mach_types::address_space::{
+    FIRST_STACK_PAGE, NAME_AT, PAGE_SIZE, RETURN_PAGE, STACK_PAGES, START_SP,
+};
+use std::alloc::{AllocError, Global};
+
+/// The permission of the stack's pages: to read and to write.
+const STACK_PERMISSION: u8 = 6;
+
+/// The permission of the page that signal handlers return to: to read and to execute.
+const RETURN_PERMISSION: u8 = 5;
+
+/// The program's name as a word.
+const NAME: u64 = 0x74_7365_7567;
+
+/// The bytes of an empty page.
+fn zeros() -> [u8; 4096]
+    ensures { result ≡ fresh }
+{
+    [0; 4096]
+}
+
+/// The bytes of the page that signal handlers return to: `addi x17, x0, 139`, `ecall`, and zeros.
+fn return_bytes() -> [u8; 4096]
+    ensures long { length result ≡ 4096 }
+    ensures bytes { (k : ℕ) → slice_index result k ≡ return_byte k }
+{
+    let mut bytes = zeros();
+    let _ = write_word(&mut bytes, 0, 4, 0x08B0_0893);
+    let _ = write_word(&mut bytes, 4, 4, 0x0000_0073);
+    bytes
+}
+
+/// The words that stand on the stack from the stack pointer on: the argument count, the arguments and the environment
+/// with their ends, and the auxiliary vector.
+fn stack_words(image: &Image) -> [u64; 22]
+    ensures { result ≡ start_words (program_of image.now) }
+{
+    [
+        1,
+        NAME_AT,
+        0,
+        0,
+        3,
+        image.phdr,
+        4,
+        56,
+        5,
+        u64::from(image.phnum),
+        6,
+        PAGE_SIZE,
+        9,
+        image.entry,
+        25,
+        NAME_AT + 16,
+        27,
+        28,
+        28,
+        32,
+        0,
+        0,
+    ]
+}
+
+impl PageMap {
+    /// The pages with which a loaded program starts: its own, the stack with what the kernel writes on it (System V
+    /// ABI, "Process Initialization"), and the page that signal handlers return to (own). The other frames of the pool
+    /// stay free. It has all the memory that it ever takes.
+    pub fn boot(alloc: Global, pool: FramePool, image: &Image) -> Result<PageMap, AllocError>
+        requires { IsBootable (free_count pool) image.now }
+        ensures permissions { IfOk result (λ m. (n : ℕ) → permission_in m n
+            ≡ permission_of (start_runs image.now.pages.items) n) }
+        ensures bytes { IfOk result (λ m. (a : ℕ) → byte_in m a
+            ≡ (if can_read (permission_of (start_runs image.now.pages.items) (a / 4096))
+            then Some (start_byte (program_of image.now) a) else None)) }
+        ensures code { IfOk result (λ m. (a : ℕ) → code_in m a ≡ code_byte image.now.pages.items a) }
+        ensures free { IfOk result (λ m. free_in m + 65 + length image.now.pages.items ≡ free_count pool) }
+        ensures break_at { IfOk result (λ m. break_in m ≡ image.now.break_at) }
+    {
+        let mut map = PageMap::empty(alloc, pool)?;
+        map.lay_out(image);
+        map.set_break(image.break_at);
+        let words = stack_words(image);
+        map.write_words(START_SP, &words);
+        map.write_words(NAME_AT, &[NAME]);
+        Ok(map)
+    }
+
+    /// Maps the pages of an image, the stack, and the page that signal handlers return to.
+    fn lay_out(&mut self, image: &Image)
+        requires image { IsBootable (free_in self.old) image.now }
+        requires empty { (n : ℕ) → page_in self.old n ≡ None }
+        ensures pages { (n : ℕ) → IsStartPage image.now.pages.items n (page_in self.new n) }
+        ensures free { free_in self.new + 65 + length image.now.pages.items ≡ free_in self.old }
+    {
+        self.add_image(&image.pages);
+        self.add_stack();
+        self.add(RETURN_PAGE, RETURN_PERMISSION, &return_bytes());
+    }
+
+    /// Maps the pages of an image.
+    fn add_image(&mut self, pages: &[ImagePage])
+        requires rising { IsStrictlyIncreasing (numbers pages.now) }
+        requires below { All (λ page. page.number < 33554432) pages.now }
+        requires sizes { All (λ page. length page.bytes ≡ 4096) pages.now }
+        requires permissions { All (λ page. IsPermission page.perm) pages.now }
+        requires free { length pages.now ≤ free_in self.old }
+        requires empty { (n : ℕ) → page_in self.old n ≡ None }
+        ensures pages { (n : ℕ) → page_in self.new n ≡ image_page pages.now n }
+        ensures small { (n : ℕ) → IfSome (page_in self.new n) (λ p. (k : ℕ) → slice_index p.bytes k < 256) }
+        ensures free { free_in self.new + length pages.now ≡ free_in self.old }
+    {
+        for page in pages {
+            self.add(page.number, page.perm, &page.bytes);
+        }
+    }
+
+    /// Maps the pages of the stack, all zero.
+    fn add_stack(&mut self)
+        requires free { 64 ≤ free_in self.old }
+        requires unmapped { (n : ℕ) → is_in stack_run n ≡ true → page_in self.old n ≡ None }
+        ensures pages { (n : ℕ) → page_in self.new n
+            ≡ (if is_in stack_run n then Some stack_page else page_in self.old n) }
+        ensures free { free_in self.new + 64 ≡ free_in self.old }
+    {
+        let bytes = zeros();
+        for k in 0..STACK_PAGES {
+            self.add(FIRST_STACK_PAGE + k, STACK_PERMISSION, &bytes);
+        }
+    }
+
+    /// Writes words one behind the other, which can all be written.
+    fn write_words(&mut self, at: u64, words: &[u64])
+        requires end { at + 8 * length words.now ≤ 2 ^ 64 }
+        requires room { (k : ℕ) → k < 8 * length words.now → can_write_in self.old (at + k) ≡ true }
+        ensures bytes { (a : ℕ) → byte_in self.new a
+            ≡ option_map (overlay (stored_from at words.now) a) (byte_in self.old a) }
+        ensures permissions { (n : ℕ) → permission_in self.new n ≡ permission_in self.old n }
+        ensures code { (a : ℕ) → code_in self.new a ≡ code_in self.old a }
+        ensures free { free_in self.new ≡ free_in self.old }
+        ensures break_at { break_in self.new ≡ break_in self.old }
+    {
+        for (k, word) in words.iter().enumerate() {
+            let _ = self.set(at + 8 * k as u64, 8, *word);
+        }
+    }
+}

@@ -1,0 +1,18 @@
+//! The pages of a process: which of them are mapped, with which permission, and their bytes.
+//!
+//! Each page that is mapped has a frame of its own. How pages are found is own. Only [`PageTable::new`] and
+//! [`PageMap::boot`] take memory.
+#![tactic(auto)]
+
+mod access;
+mod boot;
+mod map;
+mod mapped_page;
+mod table;
+#[cfg(test)]
+mod tests;
+mod theorems;
+
+pub use map::PageMap;
+pub use table::PageTable;
+pub use theorems::{addresses_end, code_is_bytes, permission_decides};

@@ -1,0 +1,243 @@
+//! The pages of a process, each with a frame of its own.
+
+ghost use Rattle.std.specs.Prelude.{◌≡◌, ◌==◌, ◌&&◌, ◌≤◌, ℕ, ◌+◌, ◌/◌, ◌%◌, ◌<◌, if◌then◌else◌, [], ◌++◌, ◌∷◌, Some, None, true, false, IfOk, IfSome, IsSome, is_some, length, slice_get, slice_index, slice_set, vec_capacity, vec_len};
+ghost use Rattle.std.specs.Option.{option_copied, option_map};
+ghost use Rattle.byte_views.specs.Words.{with_word};
+ghost use Rattle.mach_types.specs.Bytes.{IsAccessSize};
+ghost use Rattle.mach_types.specs.Kernel.Pages.{can_execute, can_read, can_write};
+ghost use Rattle.elf_load.specs.Images.{IsPermission};
+ghost use Rattle.frame_pool.specs.Held.{AreHeld};
+ghost use Rattle.frame_pool.specs.Pool.{IsTaken, free_count};
+ghost use Rattle.page_map.specs.Map.{break_in, bytes_if, frame_bytes, free_in, page_at, page_in, page_with, permission_in};
+ghost use Rattle.page_map.specs.Mapping.{CanLie, IsGap, frames_of};
+
+use crate::mapped_page::MappedPage;
+use crate::table::PageTable;
+use byte_views::write_word;
+use frame_pool::{Frame, FramePool};
+use mach_types::address_space::PAGE_SIZE;
+use std::alloc::{AllocError, Global};
+use std::marker::Model;
+
+/// The bit of a permission to read.
+pub(crate) const READ: u8 = 4;
+
+/// The bit of a permission to write.
+pub(crate) const WRITE: u8 = 2;
+
+/// The bit of a permission to execute.
+pub(crate) const EXECUTE: u8 = 1;
+
+/// The pages of a process that are mapped, by number, and its break. It holds their frames, and all frames that are
+/// free.
+///
+/// A page that can be written can be read and can't be executed, and no page lies between the stack and the page that
+/// signal handlers return to.
+pub struct PageMap {
+    pool: FramePool,
+    mapped: Vec<MappedPage>,
+    table: PageTable,
+    break_at: u64,
+}
+
+impl Model for PageMap {
+    ghost use Rattle.std.specs.Prelude.{vec_capacity};
+    ghost use Rattle.page_map.specs.Map.{Map};
+    ghost use Rattle.page_map.specs.Mapping.{IsMap};
+
+    ghost Value = { Map };
+
+    ghost view = { λ m. record { pool = m.pool; mapped = m.mapped.items; table = m.table; break_at = m.break_at } };
+
+    ghost invariant = { λ m. IsMap (record { pool = m.pool; mapped = m.mapped.items; table = m.table; break_at = m.break_at })
+        (vec_capacity m.mapped) };
+}
+
+impl Drop for PageMap {
+    fn drop(self) {
+        let PageMap {
+            pool,
+            mapped,
+            table: _table,
+            break_at: _break_at,
+        } = self;
+        give_all(pool, mapped);
+    }
+}
+
+/// Gives the frames of pages back to their pool.
+fn give_all(mut pool: FramePool, mut mapped: Vec<MappedPage>)
+    requires { AreHeld pool (frames_of mapped.items) }
+{
+    while let Some(page) = mapped.pop() {
+        pool.give(page.into_frame());
+    }
+    mapped.destroy_empty();
+}
+
+impl PageMap {
+    /// No pages, over a pool. It has all the memory that it ever takes.
+    pub(crate) fn empty(alloc: Global, pool: FramePool) -> Result<PageMap, AllocError>
+        ensures pages { IfOk result (λ m. (n : ℕ) → page_in m n ≡ None) }
+        ensures free { IfOk result (λ m. free_in m ≡ free_count pool) }
+    {
+        let frames = pool.free();
+        let table = PageTable::new(alloc, frames)?;
+        let mapped = Vec::with_capacity(alloc, frames as usize)?;
+        Ok(PageMap {
+            pool,
+            mapped,
+            table,
+            break_at: 0,
+        })
+    }
+
+    /// Maps a page with these bytes.
+    pub(crate) fn add(&mut self, number: u64, permission: u8, bytes: &[u8])
+        requires number { CanLie number }
+        requires permission { IsPermission permission }
+        requires bytes { length bytes.now ≡ 4096 }
+        requires free { 0 < free_in self.old }
+        requires unmapped { page_in self.old number ≡ None }
+        ensures pages { (n : ℕ) → page_in self.new n
+            ≡ (if n == number then Some (record { permission = permission; bytes = bytes.now }) else page_in self.old n) }
+        ensures free { free_in self.new + 1 ≡ free_in self.old }
+        ensures small { (k : ℕ) → slice_index bytes.now k < 256 }
+    {
+        let frame = filled(&mut self.pool, bytes);
+        let place = self.mapped.len() as u32;
+        keep(&mut self.mapped, MappedPage { frame, permission });
+        self.table.insert(number, place);
+    }
+
+    /// Sets the break.
+    pub(crate) fn set_break(&mut self, at: u64)
+        ensures pages { (n : ℕ) → page_in self.new n ≡ page_in self.old n }
+        ensures free { free_in self.new ≡ free_in self.old }
+        ensures break_at { break_in self.new ≡ at }
+    {
+        self.break_at = at;
+    }
+
+    /// The frame and the permission of a page, where it is mapped.
+    pub(crate) fn find(&self, number: u64) -> Option<&MappedPage>
+        ensures page { option_map (page_at self.now.pool) (option_copied result) ≡ page_in self.now number }
+        ensures taken { IfSome result (λ p. IsTaken self.now.pool p.now.frame) }
+        ensures permission { IfSome result (λ p. IsPermission p.now.permission) }
+    {
+        let place = self.table.get(number)?;
+        Some(&self.mapped[place as usize])
+    }
+
+    /// The permission of the page of an address: 4 to read, 2 to write, 1 to execute; None exactly where no page is.
+    pub fn perm(&self, at: u64) -> Option<u8>
+        ensures { result ≡ permission_in self.now (at / 4096) }
+    {
+        Some(self.find(at / PAGE_SIZE)?.permission)
+    }
+
+    /// The bytes of a page whose permission has a bit.
+    pub(crate) fn bytes_if(&self, bit: u8, number: u64) -> Option<&[u8]>
+        ensures bytes { option_copied result ≡ bytes_if bit (page_in self.now number) }
+        ensures size { IfSome result (λ bytes. length bytes.now ≡ 4096) }
+    {
+        let page = self.find(number)?;
+        if page.permission & bit != 0 {
+            Some(self.pool.bytes(&page.frame))
+        } else {
+            None
+        }
+    }
+
+    /// Writes the low `size` bytes of `value`, the lowest first, in a page that is mapped.
+    pub(crate) fn write_in_page(&mut self, at: u64, size: u8, value: u64)
+        requires size { IsAccessSize size }
+        requires page { at % 4096 + size ≤ 4096 }
+        requires mapped { IsSome (page_in self.old (at / 4096)) }
+        ensures pages { (n : ℕ) → page_in self.new n
+            ≡ (if n == at / 4096 then option_map (page_with (at % 4096) size value) (page_in self.old n)
+            else page_in self.old n) }
+        ensures free { free_in self.new ≡ free_in self.old }
+        ensures break_at { break_in self.new ≡ break_in self.old }
+        ensures size { IfSome (page_in self.old (at / 4096)) (λ p. length p.bytes ≡ 4096) }
+        ensures permission { IfSome (page_in self.old (at / 4096)) (λ p. IsPermission p.permission) }
+    {
+        match self.table.get(at / PAGE_SIZE) {
+            Some(place) => {
+                let page = &self.mapped[place as usize];
+                write_frame(
+                    &mut self.pool,
+                    &page.frame,
+                    (at % PAGE_SIZE) as usize,
+                    size,
+                    value,
+                );
+            }
+            None => unreachable!(),
+        }
+    }
+
+    /// It does nothing; its clauses say what each page map keeps.
+    pub fn keeps(&self)
+        ensures writable { (n : ℕ) → can_write (permission_in self.now n) ≡ true
+            → (can_read (permission_in self.now n) ≡ true) × (can_execute (permission_in self.now n) ≡ false) }
+        ensures gap { (n : ℕ) → IsGap n → permission_in self.now n ≡ None }
+    {
+        let _ = &self.pool;
+    }
+
+    /// How many frames are free.
+    pub fn free(&self) -> u32
+        ensures { result ≡ free_in self.now }
+    {
+        self.pool.free()
+    }
+
+    /// The break: the first address behind the data of the process.
+    pub fn break_at(&self) -> u64
+        ensures { result ≡ break_in self.now }
+    {
+        self.break_at
+    }
+}
+
+/// A frame of the pool, which is now taken, with these bytes.
+fn filled(pool: &mut FramePool, bytes: &[u8]) -> Frame
+    requires free { 0 < free_count pool.old }
+    requires size { length bytes.now ≡ 4096 }
+    ensures was_free { slice_get pool.old result ≡ Some None }
+    ensures taken { pool.new ≡ slice_set pool.old result (Some bytes.now) }
+    ensures small { (k : ℕ) → slice_index bytes.now k < 256 }
+{
+    match pool.take() {
+        Some(frame) => {
+            pool.bytes_mut(&frame).copy_from_slice(bytes);
+            frame
+        }
+        None => unreachable!(),
+    }
+}
+
+/// Appends a page, for which there is room.
+fn keep(mapped: &mut Vec<MappedPage>, page: MappedPage)
+    requires { vec_len mapped.old < vec_capacity mapped.old }
+    ensures items { mapped.new.items ≡ mapped.old.items ++ page ∷ [] }
+    ensures capacity { vec_capacity mapped.old ≤ vec_capacity mapped.new }
+{
+    match mapped.push(page) {
+        Ok(()) => {}
+        Err(_) => unreachable!(),
+    }
+}
+
+/// Writes the low `size` bytes of `value` into a frame, the lowest first.
+fn write_frame(pool: &mut FramePool, frame: &Frame, at: usize, size: u8, value: u64)
+    requires taken { IsTaken pool.old frame.now }
+    requires size { IsAccessSize size }
+    requires within { at + size ≤ 4096 }
+    ensures written { pool.new
+        ≡ slice_set pool.old frame.now (Some (with_word (frame_bytes (slice_get pool.old frame.now)) at size value)) }
+    ensures whole { length (frame_bytes (slice_get pool.old frame.now)) ≡ 4096 }
+{
+    let _ = write_word(pool.bytes_mut(frame), at, size as usize, value);
+}

@@ -1,0 +1,147 @@
+//! The ready list and the affinities.
+
+ghost use Rattle.std.specs.Prelude.{◌≡◌, ◌≤◌, ◌<◌, ◌↔◌, false, length, option_map, IsTrue, IsErr, IfErr, OnOk, OnErr, ◌==◌, not, filter};
+ghost use Rattle.std.specs.Bool.{OnTrue, OnFalse};
+ghost use Rattle.mach_types.specs.Kernel.Scheduling as scheduling;
+ghost use Rattle.mach_types.specs.declared.errors.TheConstants.{EINVAL};
+ghost use Rattle.mach_types.specs.declared.kernel_words.TheConstants.{MOST_THREADS};
+ghost use Rattle.scheduler.specs.Holding.{is_held, is_ready};
+
+use crate::affinities::{self, ROOM};
+use crate::hart_sets::{all_harts, harts_in, has_hart};
+use arrayvec::ArrayVec;
+use mach_types::errors::EINVAL;
+use mach_types::{Errno, Hart, Tid};
+use std::marker::Model;
+
+/// The ready threads in order, and the harts of each thread that is held, at most 64.
+#[derive(Drop)]
+pub struct Ready {
+    order: ArrayVec<u32, ROOM>,
+    affinities: ArrayVec<(u32, u8), ROOM>,
+}
+
+impl Model for Ready {
+    ghost use Rattle.mach_types.specs.Kernel.Scheduling.{Scheduling};
+    ghost use Rattle.scheduler.specs.Holding.{IsScheduling};
+
+    ghost Value = { Scheduling };
+
+    ghost view = { λ r. record { order = r.order.items; affinities = r.affinities.items } };
+
+    ghost invariant = { λ r. IsScheduling (record { order = r.order.items; affinities = r.affinities.items }) };
+}
+
+/// Takes a thread's number out of the ready ones.
+fn remove_number(order: &mut ArrayVec<u32, ROOM>, tid: u32)
+    ensures { order.new.items ≡ filter (λ u. not (u == tid)) order.old.items }
+{
+    order.retain(|number| *number != tid);
+}
+
+impl Ready {
+    /// Thread 1 alone, ready, with the first so many harts: 1 to 8.
+    pub fn new(harts: u8) -> Ready
+        requires some_hart { 1 ≤ harts }
+        requires eight_harts { harts ≤ 8 }
+        ensures { result ≡ scheduling.start_scheduling harts }
+    {
+        let mut order = ArrayVec::new();
+        order.push(1);
+        let mut affinities = ArrayVec::new();
+        affinities.push((1, all_harts(harts)));
+        Ready { order, affinities }
+    }
+
+    /// Holds a new thread, with its parent's harts. It isn't ready.
+    pub fn add(&mut self, parent: Tid, tid: Tid)
+        requires parent { IsTrue (is_held parent.0 self.old) }
+        requires not_held { is_held tid.0 self.old ≡ false }
+        requires room { length self.old.affinities < MOST_THREADS }
+        ensures { self.new ≡ scheduling.with_thread parent.0 tid.0 self.old }
+    {
+        let set = self.affinity(parent);
+        self.affinities.push((tid.0, set));
+    }
+
+    /// Forgets a thread that isn't ready.
+    pub fn remove(&mut self, tid: Tid)
+        requires held { IsTrue (is_held tid.0 self.old) }
+        requires not_ready { is_ready tid.0 self.old ≡ false }
+        ensures { self.new ≡ scheduling.forget tid.0 self.old }
+    {
+        affinities::remove(&mut self.affinities, tid.0);
+    }
+
+    /// Makes a thread ready, as the last one.
+    pub fn push(&mut self, tid: Tid)
+        requires held { IsTrue (is_held tid.0 self.old) }
+        requires not_ready { is_ready tid.0 self.old ≡ false }
+        ensures { self.new ≡ scheduling.with_ready tid.0 self.old }
+    {
+        self.order.push(tid.0);
+    }
+
+    /// Takes a thread out of the ready ones. False exactly where it isn't ready, and then nothing changes.
+    pub fn take(&mut self, tid: Tid) -> bool
+        ensures ready { result ≡ is_ready tid.0 self.old }
+        ensures taken { OnTrue result (self.new ≡ scheduling.without_ready tid.0 self.old) }
+        ensures unchanged { OnFalse result (self.new ≡ self.old) }
+    {
+        if !self.is_ready(tid) {
+            return false;
+        }
+        remove_number(&mut self.order, tid.0);
+        true
+    }
+
+    /// Whether a thread is ready.
+    pub fn is_ready(&self, tid: Tid) -> bool
+        ensures { result ≡ is_ready tid.0 self.now }
+    {
+        self.order.contains(&tid.0)
+    }
+
+    /// Whether a thread may run on a hart; a thread that isn't held may run on none.
+    pub fn allows(&self, tid: Tid, hart: Hart) -> bool
+        ensures { result ≡ scheduling.has_hart (scheduling.affinity_of tid.0 self.now) hart.0 }
+    {
+        has_hart(affinities::set_of(&self.affinities, tid.0), hart.0)
+    }
+
+    /// The first ready thread that may run on a hart; None exactly where there is none.
+    pub fn first_for(&self, hart: Hart) -> Option<Tid>
+        ensures { option_map (λ t. t.0) result ≡ scheduling.first_for hart.0 self.now }
+    {
+        let first = affinities::first_allowed(&self.order, &self.affinities, hart.0)?;
+        Some(Tid(first))
+    }
+
+    /// The harts of a thread, one bit each.
+    pub fn affinity(&self, tid: Tid) -> u8
+        requires { IsTrue (is_held tid.0 self.now) }
+        ensures { result ≡ scheduling.affinity_of tid.0 self.now }
+    {
+        affinities::set_of(&self.affinities, tid.0)
+    }
+
+    /// Lets a thread run on those of the first `harts` harts, 1 to 8, that are in the set. EINVAL exactly where
+    /// there is none, and then nothing changes (sched_setaffinity(2)).
+    pub fn set_affinity(&mut self, tid: Tid, set: u8, harts: u8) -> Result<(), Errno>
+        requires held { IsTrue (is_held tid.0 self.old) }
+        requires some_hart { 1 ≤ harts }
+        requires eight_harts { harts ≤ 8 }
+        ensures no_hart { IsErr result ↔ (scheduling.harts_in set harts ≡ 0) }
+        ensures errno { IfErr result (λ e. e ≡ EINVAL) }
+        ensures ok { OnOk result (
+            self.new ≡ scheduling.with_affinity tid.0 (scheduling.harts_in set harts) self.old) }
+        ensures err { OnErr result (self.new ≡ self.old) }
+    {
+        let allowed = harts_in(set, harts);
+        if allowed == 0 {
+            return Err(EINVAL);
+        }
+        affinities::change(&mut self.affinities, tid.0, allowed);
+        Ok(())
+    }
+}

@@ -1,0 +1,87 @@
+-- clone(2): a child is new, and is ready.
+use Rattle.std.proofs.Common.{◌≡◌, ◌≢◌, ℕ, ◌+◌, Bool, true, false, cond, eqb, [], ◌∷◌, Option, Some, None, is_some, refl, sym, ap, ◌∙◌}
+use Rattle.std.proofs.lemmas.Bool.{eqb-true, eqb-false}
+use Rattle.std.specs.List.{list_any}
+use Rattle.std.specs.Option.{option_map, option_map_or}
+use Rattle.mach_types.specs.Kernel.Scheduling.{Scheduling, is_of, with_thread}
+use Rattle.mach_types.specs.Kernel.Threads.{IsThreads, Thread, Threads, is_full, is_live, is_ready_state, running_on, thread_of, with_child, with_clear}
+use Rattle.mach_types.specs.declared.threads.Saved.{Saved}
+use Rattle.mach_types.specs.declared.threads.ThreadState.TheVariants.{Ready}
+use Rattle.kernel_threads.specs.Table.{IsTable, Table, saved_of, with_start}
+use Rattle.kernel_threads.proofs.Laws.{next_is_new, saved_of-child, saved_of-with_start_other, state_of-with_child_same}
+use Rattle.block_model.specs.Here.{Here}
+use Rattle.block_model.specs.History.{file_among}
+use Rattle.block_model.specs.Calls.Answers.{argument}
+use Rattle.block_model.specs.Kernel.{cleared, had_child, next_number}
+use Rattle.block_model.proofs.Laws.{child_not_held, child_same, ready_listed}
+use Rattle.sys_calls.specs.declared.kernel.Kernel.{Kernel}
+use Rattle.sys_calls.specs.Answered.{AreTables}
+use Rattle.sys_calls.specs.Made.{AreSaved}
+use Rattle.sys_calls.proofs.Tables.{cleared_runs, live_in}
+
+-- the next number isn't held, nor ready
+pub next_not_held : (parent u : ℕ) (k : Kernel) → AreTables k → is_full k.threads.threads ≡ false → u ≡ k.threads.threads.given + 1 → list_any (is_of u) k.ready.affinities ≡ false
+next_not_held parent u k tables free is =
+    ap (λ n. list_any (is_of n) k.ready.affinities) is ∙ child_not_held tables.0 parent k.threads.threads k.ready tables.1 free
+
+pub next_unlisted : (parent u : ℕ) (k : Kernel) (s : Scheduling) → AreTables k → u ≡ k.threads.threads.given + 1 → s ≡ with_thread parent u k.ready → list_any (λ v. eqb v u) s.order ≡ false
+next_unlisted parent u k s tables is after =
+    let ts = k.threads.threads in
+    let new : thread_of (ts.given + 1) ts ≡ None = next_is_new ts tables.1.threads in
+    ap (λ (x : Scheduling). list_any (λ v. eqb v u) x.order) after ∙ ap (λ n. list_any (λ v. eqb v n) k.ready.order) is
+    ∙ ready_listed tables.0 (ts.given + 1) ts k.ready tables.1
+    ∙ ap (λ (o : Option Thread). option_map_or is_ready_state (option_map (λ th. th.state) o) false) new
+
+-- a child lives
+pub child_lives : (u : ℕ) (ts after : Threads) → IsThreads ts → u ≡ ts.given + 1 → after ≡ with_child ts → is_live u after ≡ true
+child_lives u ts after holds is same =
+    ap (is_live u) same ∙ ap (λ n. is_live n (with_child ts)) is ∙ live_in (ts.given + 1) (with_child ts) Ready (state_of-with_child_same ts holds)
+
+-- who lives isn't the next one
+pub lives_other : (t : ℕ) (ts : Threads) → IsThreads ts → is_live t ts ≡ true → t ≢ ts.given + 1
+lives_other t ts holds live same =
+    let none : is_live t ts ≡ false = ap (λ n. is_live n ts) same ∙ ap is_some (next_is_new ts holds) in
+    let no : true ≡ false = sym live ∙ none in
+    cc
+
+-- the threads of the record, where an address is set
+pub asked_threads : (h : Here) (t u : ℕ) (b : Bool) → u ≡ next_number h.kernel
+    → (cond b (cleared (next_number h.kernel) (argument h t 4) (had_child t h.kernel)) (had_child t h.kernel)).threads ≡ cond b (with_clear u (argument h t 4) (with_child h.kernel.threads)) (with_child h.kernel.threads)
+asked_threads h t u true is = ap (λ n. with_clear n (argument h t 4) (with_child h.kernel.threads)) (sym is)
+asked_threads h t u false is = refl
+
+pub asked_scheduling : (h : Here) (t : ℕ) (b : Bool)
+    → (cond b (cleared (next_number h.kernel) (argument h t 4) (had_child t h.kernel)) (had_child t h.kernel)).scheduling ≡ (had_child t h.kernel).scheduling
+asked_scheduling h t true = refl
+asked_scheduling h t false = refl
+
+pub asked_console : (h : Here) (t : ℕ) (b : Bool) → (cond b (cleared (next_number h.kernel) (argument h t 4) (had_child t h.kernel)) (had_child t h.kernel)).console ≡ h.kernel.console
+asked_console h t true = refl
+asked_console h t false = refl
+
+-- who runs where
+pub asked_runs : (j u at : ℕ) (ts : Threads) (b : Bool) → running_on j (cond b (with_clear u at ts) ts) ≡ running_on j ts
+asked_runs j u at ts true = cleared_runs j u at ts
+asked_runs j u at ts false = refl
+
+pub child_runs : (j parent : ℕ) (k : Kernel) → AreTables k → is_full k.threads.threads ≡ false → running_on j (with_child k.threads.threads) ≡ running_on j k.threads.threads
+child_runs j parent k tables free = child_same tables.0 parent k.threads.threads k.ready tables.1 free j
+
+-- what is kept, with what the child starts with
+pub kept_started : (file : ℕ → Saved) (t : ℕ) (x : Saved) (before after : Table) → IsTable before → t ≡ before.threads.given + 1 → after.saved ≡ with_start t x before.saved
+    → AreSaved file before → AreSaved (λ u. file_among ((t, x) ∷ []) u (file u)) after
+kept_started file t x before after holds is same all u y at = go (eqb t u) refl
+  where
+    there : saved_of u (with_start t x before.saved) ≡ Some y
+    there = ap (saved_of u) (sym same) ∙ at
+
+    go : (b : Bool) → eqb t u ≡ b → y ≡ cond b x (file u)
+    go true own =
+        let first : saved_of t (with_start t x before.saved) ≡ Some x = ap (λ n. saved_of n (with_start n x before.saved)) is ∙ saved_of-child x before holds ∙ refl in
+        let read : saved_of t (with_start t x before.saved) ≡ Some y = ap (λ n. saved_of n (with_start t x before.saved)) (eqb-true t u own) ∙ there in
+        let e : Some y ≡ Some x = sym read ∙ first in
+        cc
+    go false other = all u y (sym (saved_of-with_start_other t u (λ e. eqb-false t u other (sym e)) x before.saved) ∙ there)
+
+pub quiet_started : (t u : ℕ) (x : Saved) (before after : Table) → t ≢ u → after.saved ≡ with_start u x before.saved → saved_of t before.saved ≡ None → saved_of t after.saved ≡ None
+quiet_started t u x before after ne same none = ap (saved_of t) same ∙ saved_of-with_start_other u t ne x before.saved ∙ none

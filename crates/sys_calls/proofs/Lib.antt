@@ -1,0 +1,10 @@
+pub mod Children
+pub mod Dispatched
+pub mod Entering
+pub mod Leaving
+pub mod Reading
+pub mod Saying
+pub mod Spans
+pub mod Tables
+pub mod Waking
+pub mod Written

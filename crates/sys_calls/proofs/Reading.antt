@@ -1,0 +1,50 @@
+-- What a rule reads of the page map and of the caller's registers, and the choice that a test makes.
+use Rattle.std.proofs.Common.{◌≡◌, ℕ, ◌+◌, ◌%◌, ◌^◌, Bool, true, false, not, cond, Option, is_some, unwrap_or, refl, ap, ◌∙◌}
+use Rattle.mach_types.specs.Bytes.{each_byte, word_at}
+use Rattle.mach_types.specs.Registers.{register}
+use Rattle.mach_types.specs.declared.threads.Saved.{Saved}
+use Rattle.page_map.specs.Map.{Map, byte_in, can_write_in}
+use Rattle.block_model.specs.Here.{Here}
+use Rattle.block_model.specs.Calls.Answers.{argument, are_readable, are_writable, int_argument, number_at}
+use Rattle.sys_calls.specs.Answered.{IsRead}
+
+pub if_true : {A : Type 0} (b : Bool) (x y : A) → b ≡ true → cond b x y ≡ x
+if_true true x y e = refl
+if_true false x y e = cc
+
+pub if_false : {A : Type 0} (b : Bool) (x y : A) → b ≡ false → cond b x y ≡ y
+if_false true x y e = cc
+if_false false x y e = refl
+
+pub readable_is : (h : Here) (m : Map) (t : ℕ) (saved : Saved) → IsRead h m t saved → (at len : ℕ) → each_byte (λ a. is_some (byte_in m a)) at len ≡ are_readable h at len
+readable_is h m t saved read at len = ap (λ (byte : ℕ → Option ℕ). each_byte (λ a. is_some (byte a)) at len) read.bytes
+
+pub writable_is : (h : Here) (m : Map) (t : ℕ) (saved : Saved) → IsRead h m t saved → (at len : ℕ) → each_byte (can_write_in m) at len ≡ are_writable h at len
+writable_is h m t saved read at len = ap (λ (test : ℕ → Bool). each_byte test at len) read.writable
+
+pub number_is : (h : Here) (m : Map) (t : ℕ) (saved : Saved) → IsRead h m t saved → (at size : ℕ) → unwrap_or (word_at (byte_in m) at size) 0 ≡ number_at h at size
+number_is h m t saved read at size = ap (λ (byte : ℕ → Option ℕ). unwrap_or (word_at byte at size) 0) read.bytes
+
+pub argument_is : (h : Here) (t : ℕ) (saved : Saved) → saved ≡ h.file t → (k : ℕ) → register saved.file (10 + k) ≡ argument h t k
+argument_is h t saved file k = ap (λ (f : Saved). register f.file (10 + k)) file
+
+pub int_argument_is : (h : Here) (t : ℕ) (saved : Saved) → saved ≡ h.file t → (k : ℕ) → register saved.file (10 + k) % 2 ^ 32 ≡ int_argument h t k
+int_argument_is h t saved file k = ap (λ (n : ℕ). n % 2 ^ 32) (argument_is h t saved file k)
+
+pub readable_at : (h : Here) (m : Map) (t : ℕ) (saved : Saved) → IsRead h m t saved → (at at' len len' : ℕ) → at ≡ at' → len ≡ len'
+    → each_byte (λ a. is_some (byte_in m a)) at len ≡ are_readable h at' len'
+readable_at h m t saved read at at' len len' p q =
+    readable_is h m t saved read at len ∙ ap (λ (a : ℕ). are_readable h a len) p ∙ ap (are_readable h at') q
+
+pub writable_at : (h : Here) (m : Map) (t : ℕ) (saved : Saved) → IsRead h m t saved → (at at' len : ℕ) → at ≡ at' → each_byte (can_write_in m) at len ≡ are_writable h at' len
+writable_at h m t saved read at at' len p = writable_is h m t saved read at len ∙ ap (λ (a : ℕ). are_writable h a len) p
+
+pub number_there : (h : Here) (m : Map) (t : ℕ) (saved : Saved) → IsRead h m t saved → (at at' size : ℕ) → at ≡ at' → unwrap_or (word_at (byte_in m) at size) 0 ≡ number_at h at' size
+number_there h m t saved read at at' size p = number_is h m t saved read at size ∙ ap (λ (a : ℕ). number_at h a size) p
+
+-- what a test isn't
+pub not_false : (b : Bool) → b ≡ false → not b ≡ true
+not_false b e = ap not e
+
+pub not_true : (b : Bool) → b ≡ true → not b ≡ false
+not_true b e = ap not e

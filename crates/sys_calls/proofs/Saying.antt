@@ -1,0 +1,139 @@
+-- Calls whose threads go on: an answer, with bytes printed, or with writes; and what a call comes to that answers.
+use Rattle.std.proofs.Common.{◌≡◌, ℕ, Bool, true, false, cond, eqb, List, [], ◌∷◌, ◌++◌, length, Some, None, Result, refl, sym, ap, subst, ◌∙◌}
+use Rattle.std.proofs.lemmas.Bool.{eqb-true, eqb-false, eq-eqb}
+use Rattle.mach_types.specs.declared.errors.Errno.{Errno}
+use Rattle.mach_types.specs.declared.threads.Saved.{Saved}
+use Rattle.mach_types.specs.declared.user_memory.Write.{Write}
+use Rattle.mach_types.specs.Kernel.Scheduling.{Scheduling}
+use Rattle.mach_types.specs.Kernel.Threads.{running_on}
+use Rattle.kernel_threads.specs.Table.{Table, forget, saved_of}
+use Rattle.kernel_threads.proofs.Laws.{saved_of-forget_other, saved_of-forget_same}
+use Rattle.std.specs.Option.{option_map}
+use Rattle.mach_types.specs.Bytes.{written as written_by}
+use Rattle.page_map.specs.Map.{Map, byte_in}
+use Rattle.block_model.specs.Here.{Here}
+use Rattle.block_model.specs.History.{file_among}
+use Rattle.block_model.specs.Calls.Answers.{CallDone, said, returned}
+use Rattle.block_model.specs.Calls.Console.{wrote}
+use Rattle.sys_calls.specs.declared.calling.CallEnd.{CallEnd}
+use Rattle.sys_calls.specs.declared.kernel.Kernel.{Kernel}
+use Rattle.sys_calls.specs.Answered.{IsAnswered, IsCaller, IsEntered, IsTold, answer_of}
+use Rattle.sys_calls.specs.Made.{AreSaved, IsAnswer, IsMade, gives_up, process_end}
+use Rattle.sys_calls.proofs.Entering.{entered_none}
+
+-- an answer, and writes
+pub answered_wrote : (h : Here) (t : ℕ) (k : Kernel) (m m' : Map) (answer : Result ℕ Errno) (ws : List Write) → IsTold h k → IsEntered m m' ws
+    → IsAnswered h t k m k m' ws answer (record (said h t (answer_of answer)) { entered = ws })
+answered_wrote h t k m m' answer ws told entered = record {
+  threads = told.threads;
+  scheduling = told.scheduling;
+  console = told.console;
+  pages = entered;
+  told = refl;
+  hart = refl;
+  goes_on = refl;
+  others = [];
+  files = refl;
+  kept = λ all. all;
+  quiet = λ q. q;
+}
+
+-- an answer, and nothing else
+pub answered_said : (h : Here) (t : ℕ) (k : Kernel) (m : Map) (answer : Result ℕ Errno) (c : CallDone) → IsTold h k → c ≡ said h t (answer_of answer)
+    → IsAnswered h t k m k m [] answer c
+answered_said h t k m answer c told is =
+    subst (λ (d : CallDone). IsAnswered h t k m k m [] answer d) (sym is) (answered_wrote h t k m m answer [] told (entered_none m))
+
+-- an answer, and bytes on the console
+pub answered_printed : (h : Here) (t : ℕ) (k k' : Kernel) (m : Map) (answer : Result ℕ Errno) (bytes : List ℕ) (c : CallDone) → IsTold h k → k'.threads ≡ k.threads → k'.ready ≡ k.ready
+    → k'.console ≡ k.console ++ bytes → answer_of answer ≡ length bytes → c ≡ wrote h t bytes → IsAnswered h t k m k' m [] answer c
+answered_printed h t k k' m answer bytes c told threads ready console count is =
+    subst (λ (d : CallDone). IsAnswered h t k m k' m [] answer d) (sym is) (record {
+      threads = ap (λ (table : Table). table.threads) threads ∙ told.threads;
+      scheduling = ready ∙ told.scheduling;
+      console = console ∙ ap (λ (c : List ℕ). c ++ bytes) told.console;
+      pages = entered_none m;
+      told = refl;
+      hart = refl;
+      goes_on = refl;
+      others = [];
+      files = ap (λ n. (t, returned n (h.file t)) ∷ []) (sym count);
+      kept = λ all. subst (AreSaved h.file) (sym threads) all;
+      quiet = λ q. ap (λ (table : Table). saved_of t table.saved) threads ∙ q;
+    })
+
+-- nothing is kept of the caller, whose file comes first
+own_kept : (t u : ℕ) (x f y : Saved) (others : List (ℕ × Saved)) (table : Table) → saved_of t table.saved ≡ None → saved_of u table.saved ≡ Some y
+    → y ≡ file_among others u f → (b : Bool) → eqb t u ≡ b → y ≡ cond b x (file_among others u f)
+own_kept t u x f y others table quiet at is true same =
+    let none : saved_of u table.saved ≡ None = ap (λ n. saved_of n table.saved) (sym (eqb-true t u same)) ∙ quiet in
+    let no : Some y ≡ None = sym at ∙ none in
+    cc
+own_kept t u x f y others table quiet at is false other = is
+
+pub kept_own : (t : ℕ) (x : Saved) (file : ℕ → Saved) (others : List (ℕ × Saved)) (table : Table) → saved_of t table.saved ≡ None
+    → AreSaved (λ u. file_among others u (file u)) table → AreSaved (λ u. file_among ((t, x) ∷ others) u (file u)) table
+kept_own t x file others table quiet all u y at = own_kept t u x (file u) y others table quiet at (all u y at) (eqb t u) refl
+
+pub own_first : (t : ℕ) (x f : Saved) (others : List (ℕ × Saved)) → file_among ((t, x) ∷ others) t f ≡ x
+own_first t x f others = rw (eq-eqb t t refl) refl
+
+-- what a call comes to that answers
+pub made_answered : (h : Here) (t here : ℕ) (k k' : Kernel) (m m' : Map) (saved saved' : Saved) (written : List Write) (answer : Result ℕ Errno) (end : CallEnd) (c : CallDone)
+    → h.hart ≡ here → IsTold h k → saved ≡ h.file t → IsCaller k here t → IsAnswered h t k m k' m' written answer c
+    → saved' ≡ returned (answer_of answer) saved → gives_up end ≡ false → process_end end ≡ None → IsAnswer end saved' → IsMade h t k m k' m' saved' end c
+made_answered h t here k k' m m' saved saved' written answer end c hart told file caller done after stays ends answers =
+    let own : List (ℕ × Saved) = (t, returned (answer_of answer) (h.file t)) ∷ done.others in
+    let files : c.files ≡ own = done.files in
+    record {
+      threads = done.threads;
+      scheduling = done.scheduling;
+      console = done.console;
+      kept = λ all. subst (λ (fs : List (ℕ × Saved)). AreSaved (λ u. file_among fs u (h.file u)) k'.threads) (sym files)
+          (kept_own t (returned (answer_of answer) (h.file t)) h.file done.others k'.threads (done.quiet caller.quiet) (done.kept all));
+      own = after ∙ ap (returned (answer_of answer)) file ∙ sym (own_first t (returned (answer_of answer) (h.file t)) (h.file t) done.others)
+          ∙ ap (λ (fs : List (ℕ × Saved)). file_among fs t (h.file t)) (sym files);
+      bytes = λ a. subst (λ (ws : List Write). byte_in m' a ≡ option_map (written_by ws a) (byte_in m a)) done.told (done.pages.bytes a);
+      permissions = done.pages.permissions;
+      free = done.pages.free;
+      break_at = done.pages.break_at;
+      hart = done.hart ∙ ap (λ n. running_on n h.kernel.threads) hart ∙ ap (running_on here) (sym told.threads) ∙ caller.runs
+          ∙ ap (λ (b : Bool). cond b None (Some t)) (sym stays);
+      ended = ends ∙ sym done.goes_on;
+      answer = answers;
+    }
+
+-- what is kept of threads hangs on what is saved alone
+pub saved_alike : (file : ℕ → Saved) (before after : Table) → after.saved ≡ before.saved → AreSaved file before → AreSaved file after
+saved_alike file before after same all u x at = all u x (ap (saved_of u) (sym same) ∙ at)
+
+-- an answer, and another scheduling
+pub answered_scheduled : (h : Here) (t : ℕ) (k k' : Kernel) (m : Map) (answer : Result ℕ Errno) (sc : Scheduling) → IsTold h k → k'.threads ≡ k.threads → k'.ready ≡ sc → k'.console ≡ k.console
+    → IsAnswered h t k m k' m [] answer (record (said h t (answer_of answer)) { kernel = record h.kernel { scheduling = sc } })
+answered_scheduled h t k k' m answer sc told threads ready console = record {
+  threads = ap (λ (table : Table). table.threads) threads ∙ told.threads;
+  scheduling = ready;
+  console = console ∙ told.console;
+  pages = entered_none m;
+  told = refl;
+  hart = refl;
+  goes_on = refl;
+  others = [];
+  files = refl;
+  kept = λ all. subst (AreSaved h.file) (sym threads) all;
+  quiet = λ q. ap (λ (table : Table). saved_of t table.saved) threads ∙ q;
+}
+
+-- what is kept of the others, once one is gone
+pub kept_gone : (t : ℕ) (file : ℕ → Saved) (before after : Table) → after.saved ≡ forget t before.saved → AreSaved file before → AreSaved file after
+kept_gone t file before after is all u x at = go (eqb u t) refl
+  where
+    there : saved_of u (forget t before.saved) ≡ Some x
+    there = ap (saved_of u) (sym is) ∙ at
+
+    go : (b : Bool) → eqb u t ≡ b → x ≡ file u
+    go true same =
+        let none : saved_of u (forget t before.saved) ≡ None = ap (λ n. saved_of n (forget t before.saved)) (eqb-true u t same) ∙ saved_of-forget_same t before.saved in
+        let no : Some x ≡ None = sym there ∙ none in
+        cc
+    go false other = all u x (sym (saved_of-forget_other t u (eqb-false u t other) before.saved) ∙ there)

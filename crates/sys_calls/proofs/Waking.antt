@@ -1,0 +1,214 @@
+-- futex(2), wake: one after the other, the longest waiting first.
+use Rattle.std.proofs.Common.{◌≡◌, ◌≢◌, ℕ, zero, suc, ◌+◌, ◌-◌, ◌<◌, Bool, true, false, cond, eqb, List, [], ◌∷◌, ◌++◌, length, map, Option, Some, None, refl, sym, ap, subst, ◌∙◌, arith, append_assoc, append-nil, length-append}
+use Rattle.std.proofs.lemmas.Bool.{eqb-true, eqb-false, eq-eqb, ne_eqb, false≢true}
+use Rattle.std.proofs.lemmas.List.{set-set}
+use Rattle.std.specs.List.{find}
+use Rattle.std.specs.Option.{option_map, option_map_or}
+use Rattle.mach_types.specs.Kernel.Record.{Kernel}
+use Rattle.mach_types.specs.Kernel.Scheduling.{Scheduling, with_ready}
+use Rattle.mach_types.specs.Kernel.Threads.{Threads, is_waiting_at, longest_waiter, running_on, state_of, waits, with_woken}
+use Rattle.mach_types.specs.declared.threads.Saved.{Saved}
+use Rattle.mach_types.specs.declared.threads.ThreadState.{ThreadState}
+use Rattle.mach_types.specs.declared.threads.ThreadState.TheVariants.{Ready, Running, Waiting}
+use Rattle.kernel_threads.specs.Table.{Table, answering, saved_of, with_answer}
+use Rattle.kernel_threads.proofs.Laws.{saved_of-answered, saved_of-with_answer_other}
+use Rattle.block_model.specs.Here.{Here}
+use Rattle.block_model.specs.History.{file_among}
+use Rattle.block_model.specs.Kernel.{woken}
+use Rattle.block_model.specs.Calls.Futexes.{Woken, answered_wait, wake, woken_first}
+use Rattle.block_model.specs.Tables.{IsTables, on}
+use Rattle.block_model.proofs.Laws.{running_is, tables_woken, woken_same}
+use Rattle.sys_calls.specs.declared.kernel.Kernel.{Kernel as Tables}
+use Rattle.sys_calls.specs.Answered.{IsTold}
+use Rattle.sys_calls.specs.Made.{AreSaved}
+use Rattle.sys_calls.specs.Woken.{IsOnward, IsWoken}
+
+-- the longest waiter at an address waits
+found_passes : (p : ℕ → Bool) (us : List ℕ) (t : ℕ) → find p us ≡ Some t → p t ≡ true
+found_passes p [] t e = cc
+found_passes p (u ∷ us) t e = go (found_passes p us t) (p u) refl e
+  where
+    go : (find p us ≡ Some t → p t ≡ true) → (b : Bool) → p u ≡ b → cond b (Some u) (find p us) ≡ Some t → p t ≡ true
+    go rest true is e = let same : u ≡ t = cc in ap p (sym same) ∙ is
+    go rest false is e = rest e
+
+waits_there : (at : ℕ) (ts : Threads) (t : ℕ) (o : Option ThreadState) → state_of t ts ≡ o → is_waiting_at at o ≡ true → waits ts t
+waits_there at ts t None was e = absurd (false≢true e)
+waits_there at ts t (Some Ready) was e = absurd (false≢true e)
+waits_there at ts t (Some (Running h)) was e = absurd (false≢true e)
+waits_there at ts t (Some (Waiting b)) was e = (b, was)
+
+pub longest_waits : (at : ℕ) (ts : Threads) (t : ℕ) → longest_waiter at ts ≡ Some t → waits ts t
+longest_waits at ts t e = waits_there at ts t (state_of t ts) refl (found_passes (λ u. is_waiting_at at (state_of u ts)) ts.waiters t e)
+
+-- who waits doesn't run
+waits_apart : (harts h t u : ℕ) (ts : Threads) (k : Kernel) → IsTables harts k.threads k.scheduling → waits k.threads t → running_on h k.threads ≡ Some u → t ≢ u
+waits_apart harts h t u ts k tables waiting runs same =
+    let run = running_is harts h u k.threads k.scheduling tables runs in
+    let wait = ap (λ n. state_of n k.threads) (sym same) ∙ waiting.1 in
+    let states : Some (on h) ≡ Some (Waiting waiting.0) = sym run ∙ wait in
+    cc
+
+-- threads that were woken before others
+abbrev pub woken_before : List ℕ → Woken → Woken
+woken_before us rest = record { threads = us ++ rest.threads; kernel = rest.kernel }
+
+-- where nobody waits, nobody is woken; else one more is
+abbrev wake_by : ℕ → ℕ → Kernel → Option ℕ → Woken
+wake_by n at k o = option_map_or (λ u. woken_first u (wake n at (woken u k))) o (record { threads = []; kernel = k })
+
+pub wake_nobody : (n at : ℕ) (k : Kernel) → longest_waiter at k.threads ≡ None → wake n at k ≡ record { threads = []; kernel = k }
+wake_nobody zero at k none = refl
+wake_nobody (suc n) at k none = ap (wake_by n at k) none
+
+pub wake_next : (n at u : ℕ) (k : Kernel) → longest_waiter at k.threads ≡ Some u → wake (suc n) at k ≡ woken_first u (wake n at (woken u k))
+wake_next n at u k is = ap (wake_by n at k) is
+
+-- what of the longest waiting is woken next is woken behind the ones before
+pub before_next : (us : List ℕ) (n at u : ℕ) (k : Kernel) → longest_waiter at k.threads ≡ Some u
+    → woken_before us (wake (suc n) at k) ≡ woken_before (us ++ u ∷ []) (wake n at (woken u k))
+before_next us n at u k is =
+    let rest = wake n at (woken u k) in
+    ap (woken_before us) (wake_next n at u k is) ∙ ap (λ (ts : List ℕ). record { threads = ts; kernel = rest.kernel }) (sym (append_assoc us (u ∷ []) rest.threads))
+
+-- an answer that is given twice is the same
+twice : (x : Saved) → answering 0 (answering 0 x) ≡ answering 0 x
+twice x = ap (λ (r : List ℕ). record { file = record { x = r }; pc = x.pc }) (set-set x.file.x 10 0 0)
+
+-- the file of a thread, of which one more was woken
+pub after_own : (h : Here) (us : List ℕ) (u : ℕ) (f : Saved) → f ≡ h.file u
+    → file_among (map (answered_wait h) (us ++ u ∷ [])) u f ≡ answering 0 (file_among (map (answered_wait h) us) u f)
+after_own h [] u f is = rw (eq-eqb u u refl) (ap (answering 0) (sym is))
+after_own h (v ∷ us) u f is = go (after_own h us u f is) (eqb v u)
+  where
+    go : file_among (map (answered_wait h) (us ++ u ∷ [])) u f ≡ answering 0 (file_among (map (answered_wait h) us) u f) → (b : Bool) → cond b (answering 0 (h.file v)) (file_among (map (answered_wait h) (us ++ u ∷ [])) u f) ≡ answering 0 (cond b (answering 0 (h.file v)) (file_among (map (answered_wait h) us) u f))
+    go rest true = sym (twice (h.file v))
+    go rest false = rest
+
+pub after_other : (h : Here) (us : List ℕ) (u v : ℕ) (f : Saved) → u ≢ v → file_among (map (answered_wait h) (us ++ u ∷ [])) v f ≡ file_among (map (answered_wait h) us) v f
+after_other h [] u v f ne = rw (ne_eqb u v ne) refl
+after_other h (w ∷ us) u v f ne = go (after_other h us u v f ne) (eqb w v)
+  where
+    go : file_among (map (answered_wait h) (us ++ u ∷ [])) v f ≡ file_among (map (answered_wait h) us) v f → (b : Bool) → cond b (answering 0 (h.file w)) (file_among (map (answered_wait h) (us ++ u ∷ [])) v f) ≡ cond b (answering 0 (h.file w)) (file_among (map (answered_wait h) us) v f)
+    go rest true = refl
+    go rest false = rest
+
+-- what is kept, once one more was woken
+answered_some : (x : Saved) (f : Saved) (o : Option Saved) → option_map (answering 0) o ≡ Some x → ((y : Saved) → o ≡ Some y → y ≡ f) → x ≡ answering 0 f
+answered_some x f None e all = cc
+answered_some x f (Some y) e all = let is : answering 0 y ≡ x = cc in sym is ∙ ap (answering 0) (all y refl)
+
+pub kept_woken : (h : Here) (us : List ℕ) (u : ℕ) (before after : Table) → after.saved ≡ with_answer u 0 before.saved
+    → AreSaved (λ v. file_among (map (answered_wait h) us) v (h.file v)) before → AreSaved (λ v. file_among (map (answered_wait h) (us ++ u ∷ [])) v (h.file v)) after
+kept_woken h us u before after is all v x at = go (eqb u v) refl
+  where
+    there : saved_of v (with_answer u 0 before.saved) ≡ Some x
+    there = ap (saved_of v) (sym is) ∙ at
+
+    go : (b : Bool) → eqb u v ≡ b → x ≡ file_among (map (answered_wait h) (us ++ u ∷ [])) v (h.file v)
+    go true same =
+        let e = eqb-true u v same in
+        subst (λ n. saved_of n (with_answer u 0 before.saved) ≡ Some x → ((y : Saved) → saved_of n before.saved ≡ Some y → y ≡ file_among (map (answered_wait h) us) n (h.file n)) → x ≡ file_among (map (answered_wait h) (us ++ u ∷ [])) n (h.file n)) e
+        (λ p q. answered_some x (file_among (map (answered_wait h) us) u (h.file u)) (saved_of u before.saved) (sym (saved_of-answered u 0 before.saved) ∙ p) q ∙ sym (after_own h us u (h.file u) refl))
+        there (all v)
+    go false other =
+        let ne : v ≢ u = λ e. eqb-false u v other (sym e) in
+        all v x (sym (saved_of-with_answer_other u v ne 0 before.saved) ∙ there) ∙ sym (after_other h us u v (h.file v) (λ e. ne (sym e)))
+
+-- nothing is saved of who had nothing saved
+pub quiet_woken : (t u : ℕ) (before after : Table) → after.saved ≡ with_answer u 0 before.saved → saved_of t before.saved ≡ None → saved_of t after.saved ≡ None
+quiet_woken t u before after is none = ap (saved_of t) is ∙ go (eqb u t) refl
+  where
+    go : (b : Bool) → eqb u t ≡ b → saved_of t (with_answer u 0 before.saved) ≡ None
+    go true same =
+        ap (λ n. saved_of n (with_answer u 0 before.saved)) (sym (eqb-true u t same)) ∙ saved_of-answered u 0 before.saved
+        ∙ ap (option_map (answering 0)) (ap (λ n. saved_of n before.saved) (eqb-true u t same) ∙ none)
+    go false other = saved_of-with_answer_other u t (λ e. eqb-false u t other (sym e)) 0 before.saved ∙ none
+
+-- who runs isn't woken
+alone_by : (harts h t at n : ℕ) (here : Here) (f : Saved) (k : Kernel) → IsTables harts k.threads k.scheduling → running_on h k.threads ≡ Some t
+    → ((u : ℕ) → waits k.threads u → file_among (map (answered_wait here) (wake n at (woken u k)).threads) t f ≡ f)
+    → (o : Option ℕ) → longest_waiter at k.threads ≡ o → file_among (map (answered_wait here) (wake_by n at k o).threads) t f ≡ f
+alone_by harts h t at n here f k tables runs rest None is = refl
+alone_by harts h t at n here f k tables runs rest (Some u) is =
+    let waiting = longest_waits at k.threads u is in
+    rw (ne_eqb u t (waits_apart harts h u t k.threads k tables waiting runs)) (rest u waiting)
+
+pub runs_alone : (harts h t at n : ℕ) (here : Here) (f : Saved) (k : Kernel) → IsTables harts k.threads k.scheduling → running_on h k.threads ≡ Some t
+    → file_among (map (answered_wait here) (wake n at k).threads) t f ≡ f
+runs_alone harts h t at zero here f k tables runs = refl
+runs_alone harts h t at (suc n) here f k tables runs =
+    alone_by harts h t at n here f k tables runs
+    (λ u waiting. runs_alone harts h t at n here f (woken u k) (tables_woken harts u k.threads k.scheduling tables waiting) (woken_same harts u k.threads k.scheduling tables waiting h ∙ runs))
+    (longest_waiter at k.threads) refl
+
+-- the kernel's record, with these tables
+abbrev pub kernel_now : Here → Tables → Kernel
+kernel_now h k = record { threads = k.threads.threads; scheduling = k.ready; pages = h.kernel.pages; console = k.console }
+
+pub kernel_told : (h : Here) (k : Tables) → IsTold h k → kernel_now h k ≡ h.kernel
+kernel_told h k told =
+    ap (λ (ts : Threads). record { threads = ts; scheduling = k.ready; pages = h.kernel.pages; console = k.console }) told.threads
+    ∙ ap (λ (sc : Scheduling). record { threads = h.kernel.threads; scheduling = sc; pages = h.kernel.pages; console = k.console }) told.scheduling
+    ∙ ap (λ (c : List ℕ). record { threads = h.kernel.threads; scheduling = h.kernel.scheduling; pages = h.kernel.pages; console = c }) told.console
+
+-- so many of the threads were woken, these ones; what is left to wake is woken behind them
+pub record IsWaking (h : Here) (k : Tables) (k' : Tables) (most : ℕ) (at : ℕ) (count : ℕ) : Type 0 where
+  pub us : List ℕ
+  pub number : length us ≡ count
+  pub rest : wake most at h.kernel ≡ woken_before us (wake (most - count) at (kernel_now h k'))
+  pub kept : AreSaved h.file k.threads → AreSaved (λ u. file_among (map (answered_wait h) us) u (h.file u)) k'.threads
+
+-- at first none was
+pub waking_none : (h : Here) (k : Tables) (most at : ℕ) → IsTold h k → IsWaking h k k most at 0
+waking_none h k most at told = record {
+  us = [];
+  number = refl;
+  rest = ap (wake most at) (sym (kernel_told h k told)) ∙ ap (λ (n : ℕ). wake n at (kernel_now h k)) (let e : most ≡ most - 0 = omega arith in e);
+  kept = λ all. all;
+}
+
+-- then one more was
+pub waking_more : (h : Here) (k k' k'' : Tables) (most at count u : ℕ) → count < most → IsWaking h k k' most at count → longest_waiter at k'.threads.threads ≡ Some u
+    → k''.threads.threads ≡ with_woken u k'.threads.threads → k''.threads.saved ≡ with_answer u 0 k'.threads.saved → k''.ready ≡ with_ready u k'.ready → k''.console ≡ k'.console
+    → IsWaking h k k'' most at (count + 1)
+waking_more h k k' k'' most at count u lt waking longest threads saved ready console =
+    let left : most - count ≡ suc (most - (count + 1)) = omega arith in
+    let now : woken u (kernel_now h k') ≡ kernel_now h k'' =
+    ap (λ (ts : Threads). record { threads = ts; scheduling = with_ready u k'.ready; pages = h.kernel.pages; console = k'.console }) (sym threads)
+    ∙ ap (λ (sc : Scheduling). record { threads = k''.threads.threads; scheduling = sc; pages = h.kernel.pages; console = k'.console }) (sym ready)
+    ∙ ap (λ (c : List ℕ). record { threads = k''.threads.threads; scheduling = k''.ready; pages = h.kernel.pages; console = c }) (sym console) in
+    record {
+      us = waking.us ++ u ∷ [];
+      number = length-append waking.us (u ∷ []) ∙ ap (λ (n : ℕ). n + 1) waking.number;
+      rest = waking.rest ∙ ap (λ (n : ℕ). woken_before waking.us (wake n at (kernel_now h k'))) left ∙ before_next waking.us (most - (count + 1)) at u (kernel_now h k') longest
+          ∙ ap (λ (r : Kernel). woken_before (waking.us ++ u ∷ []) (wake (most - (count + 1)) at r)) now;
+      kept = λ all. kept_woken h waking.us u k'.threads k''.threads saved (waking.kept all);
+    }
+
+-- at last nobody waits any more, or all were woken
+pub woken_all : (h : Here) (k k' : Tables) (most at count : ℕ) → IsWaking h k k' most at count → wake (most - count) at (kernel_now h k') ≡ record { threads = []; kernel = kernel_now h k' }
+    → IsWoken h k k' most at count
+woken_all h k k' most at count waking over =
+    let is : wake most at h.kernel ≡ record { threads = waking.us; kernel = kernel_now h k' } =
+    waking.rest ∙ ap (woken_before waking.us) over ∙ ap (λ (us : List ℕ). record { threads = us; kernel = kernel_now h k' }) (append-nil waking.us) in
+    record {
+      number = sym waking.number ∙ ap (λ (w : Woken). length w.threads) (sym is);
+      threads = ap (λ (w : Woken). w.kernel.threads) (sym is);
+      scheduling = ap (λ (w : Woken). w.kernel.scheduling) (sym is);
+      console = ap (λ (w : Woken). w.kernel.console) (sym is);
+      kept = λ all. subst (λ (us : List ℕ). AreSaved (λ u. file_among (map (answered_wait h) us) u (h.file u)) k'.threads) (ap (λ (w : Woken). w.threads) (sym is)) (waking.kept all);
+    }
+
+-- the tables go on
+pub onward_still : (k : Tables) → IsOnward k k
+onward_still k = record { tables = λ harts holds. holds; running = λ j. refl; quiet = λ t q. q }
+
+pub onward_more : (k k' k'' : Tables) (harts u : ℕ) → IsTables harts k.threads.threads k.ready → IsOnward k k' → waits k'.threads.threads u
+    → k''.threads.threads ≡ with_woken u k'.threads.threads → k''.threads.saved ≡ with_answer u 0 k'.threads.saved → k''.ready ≡ with_ready u k'.ready → IsOnward k k''
+onward_more k k' k'' harts u holds onward waiting threads saved ready = record {
+  tables = λ n all. subst (λ (ts : Threads). IsTables n ts k''.ready) (sym threads) (subst (λ (sc : Scheduling). IsTables n (with_woken u k'.threads.threads) sc) (sym ready)
+      (tables_woken n u k'.threads.threads k'.ready (onward.tables n all) waiting));
+  running = λ j. ap (running_on j) threads ∙ woken_same harts u k'.threads.threads k'.ready (onward.tables harts holds) waiting j ∙ onward.running j;
+  quiet = λ t q. quiet_woken t u k'.threads k''.threads saved (onward.quiet t q);
+}

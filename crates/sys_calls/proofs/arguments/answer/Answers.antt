@@ -1,0 +1,7 @@
+-- a0 is a register.
+use Rattle.std.proofs.Common.{arith}
+use Rattle.std.proofs.lemmas.List.{get_or-set_same}
+use Rattle.sys_calls.proofs.arguments.answer.Goals as goal
+
+pub returns-clause-a0 : goal.returns-clause-a0
+returns-clause-a0 c = get_or-set_same c.args.saved.now.file.x 10 c.args.value 0 (omega arith)

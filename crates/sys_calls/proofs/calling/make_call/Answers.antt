@@ -1,0 +1,7 @@
+-- The thread runs on its hart.
+use Rattle.block_model.proofs.Laws.{running_is}
+use Rattle.sys_calls.proofs.calling.make_call.Goals as goal
+
+pub has_nothing_saved-requires : goal.has_nothing_saved-requires
+has_nothing_saved-requires c =
+    (c.args.here, running_is c.args.harts c.args.here.0 c.args.tid.0 c.args.kernel.now.threads.threads c.args.kernel.now.ready c.requires.tables c.requires.runs)

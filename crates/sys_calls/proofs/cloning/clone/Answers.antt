@@ -1,0 +1,38 @@
+-- The child is there, and its number is written.
+use Rattle.std.proofs.Common.{◌≡◌, ℕ, ◌+◌, [], ◌∷◌, refl, sym, ap, subst, ◌∙◌}
+use Rattle.std.specs.Prelude.{Ok}
+use Rattle.mach_types.specs.Kernel.Threads.{Threads, running_on}
+use Rattle.kernel_threads.specs.Table.{with_start}
+use Rattle.block_model.specs.Kernel.{next_number}
+use Rattle.block_model.specs.Calls.Answers.{CallDone, returned}
+use Rattle.block_model.specs.Calls.Cloning.{child_file}
+use Rattle.sys_calls.specs.Answered.{IsAnswered}
+use Rattle.sys_calls.specs.Cloned.{cloned, numbers_written}
+use Rattle.sys_calls.proofs.Children.{kept_started, lives_other, quiet_started}
+use Rattle.sys_calls.proofs.cloning.clone.Goals as goal
+
+pub returns-clause-answered : goal.returns-clause-answered
+returns-clause-answered c = λ h told read.
+    let t = c.args.tid.0 in
+    let k = c.args.kernel.now in
+    let k' = c.make_child.new.kernel in
+    let u = c.in_ok-child.child.0 in
+    let child = c.in_ok-child.ensures.made h told read.file in
+    let same : k.threads.threads.given + 1 ≡ next_number h.kernel = ap (λ (ts : Threads). ts.given + 1) told.threads in
+    let next : u ≡ next_number h.kernel = c.in_ok-child.ensures.number ∙ same in
+    let saved : k'.threads.saved ≡ with_start u (child_file h t) k.threads.saved = child.saved ∙ ap (λ (n : ℕ). with_start n (child_file h t) k.threads.saved) (sym next) in
+    let ne = lives_other t k.threads.threads c.requires.tables.1.threads c.requires.live in
+    let done : IsAnswered h t k c.args.pages.now k' c.write_numbers.new.pages c.write_numbers.new.written.items (Ok u) (cloned h t) = record {
+      threads = child.threads;
+      scheduling = child.scheduling;
+      console = child.console;
+      pages = c.write_numbers.ensures.entered;
+      told = c.write_numbers.ensures.told h t read.file ∙ ap (numbers_written h t) next;
+      hart = ap (running_on h.hart) (sym child.threads) ∙ child.running h.hart ∙ ap (running_on h.hart) told.threads;
+      goes_on = refl;
+      others = (u, child_file h t) ∷ [];
+      files = ap (λ (n : ℕ). (t, returned n (h.file t)) ∷ (n, child_file h t) ∷ []) (sym next);
+      kept = λ all. kept_started h.file u (child_file h t) k.threads k'.threads c.in_ok-may_clone.ensures.table c.in_ok-child.ensures.number saved all;
+      quiet = λ q. quiet_started t u (child_file h t) k.threads k'.threads (λ e. ne (e ∙ c.in_ok-child.ensures.number)) saved q;
+    } in
+    subst (λ (d : CallDone). IsAnswered h t k c.args.pages.now k' c.write_numbers.new.pages c.write_numbers.new.written.items (Ok u) d) (sym (c.in_ok-may_clone.ensures.made h t told read)) done

@@ -1,0 +1,39 @@
+-- The child lives, and the record has it.
+use Rattle.std.proofs.Common.{◌≡◌, ℕ, ◌+◌, sym, ap, ◌∙◌}
+use Rattle.mach_types.specs.Kernel.Scheduling.{Scheduling, with_ready, with_thread}
+use Rattle.mach_types.specs.Kernel.Threads.{Threads, running_on, with_child}
+use Rattle.mach_types.specs.Registers.{register}
+use Rattle.mach_types.specs.declared.threads.Saved.{Saved}
+use Rattle.kernel_threads.specs.Table.{with_start}
+use Rattle.block_model.specs.Kernel.{next_number}
+use Rattle.block_model.specs.Calls.Answers.{argument}
+use Rattle.block_model.specs.Calls.Cloning.{clone_child_cleartid, has_flag}
+use Rattle.sys_calls.specs.Cloned.{clear_asked}
+use Rattle.sys_calls.proofs.Children.{asked_console, asked_runs, asked_scheduling, asked_threads, child_lives, child_runs}
+use Rattle.sys_calls.proofs.cloning.make_child.Goals as goal
+
+pub set_clear_if-requires : goal.set_clear_if-requires
+set_clear_if-requires c =
+    child_lives c.in_ok-child.child.0 c.args.kernel.now.threads.threads c.add_child.new.kernel.threads.threads c.requires.tables.1.threads c.in_ok-child.ensures.number c.in_ok-child.ensures.threads
+
+pub returns-clause-made : goal.returns-clause-made
+returns-clause-made c = λ h told file.
+    let t = c.args.tid.0 in
+    let k = c.args.kernel.now in
+    let u = c.in_ok-child.child.0 in
+    let saved = c.args.saved.now in
+    let same : k.threads.threads.given + 1 ≡ next_number h.kernel = ap (λ (ts : Threads). ts.given + 1) told.threads in
+    let next : u ≡ next_number h.kernel = c.in_ok-child.ensures.number ∙ same in
+    let b = has_flag (argument h t 0) clone_child_cleartid in
+    record {
+      threads = c.set_clear_if.ensures.threads ∙ ap (clear_asked saved u) (c.in_ok-child.ensures.threads ∙ ap with_child told.threads)
+          ∙ ap (λ (x : Saved). clear_asked x u (with_child h.kernel.threads)) file ∙ sym (asked_threads h t u b next);
+      scheduling = c.in_ok-child.ensures.ready ∙ ap (λ (n : ℕ). with_ready n (with_thread t n k.ready)) same ∙ ap (λ (s : Scheduling). with_ready (next_number h.kernel) (with_thread t (next_number h.kernel) s)) told.scheduling
+          ∙ sym (asked_scheduling h t b);
+      console = c.in_ok-child.ensures.console ∙ told.console ∙ sym (asked_console h t b);
+      saved = c.set_clear_if.ensures.saved ∙ c.in_ok-child.ensures.saved ∙ ap (λ (n : ℕ). with_start n c.child_file.result k.threads.saved) same
+          ∙ ap (λ (x : Saved). with_start (next_number h.kernel) x k.threads.saved) (c.child_file.ensures h t file);
+      running = λ j. ap (running_on j) c.set_clear_if.ensures.threads
+          ∙ asked_runs j u (register saved.file 14) c.add_child.new.kernel.threads.threads (has_flag (register saved.file 10) clone_child_cleartid)
+          ∙ ap (running_on j) c.in_ok-child.ensures.threads ∙ child_runs j t k c.requires.tables c.requires.room;
+    }

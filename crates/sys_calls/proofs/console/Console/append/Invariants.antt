@@ -1,0 +1,8 @@
+-- So far the first bytes were appended.
+use Rattle.std.proofs.Common.{◌≡◌, ◌++◌}
+use Rattle.page_map.specs.Map.{byte_in}
+use Rattle.block_model.specs.Calls.Console.{bytes_from}
+use Rattle.sys_calls.proofs.console.Console.append.Given as goal
+
+abbrev pub invariant-loop-k : goal.invariant-loop-k
+invariant-loop-k l = l.self ≡ l.fn.self ++ bytes_from (byte_in l.pages) l.at l.k

@@ -1,0 +1,48 @@
+-- A thread that runs goes on running while others are woken, and then is gone.
+use Rattle.std.proofs.Common.{ℕ, sym, ap, subst, ◌∙◌}
+use Rattle.mach_types.specs.Kernel.Scheduling.{Scheduling, forget}
+use Rattle.mach_types.specs.Kernel.Threads.{Threads, running_on, without}
+use Rattle.block_model.specs.Tables.{IsTables}
+use Rattle.block_model.proofs.Laws.{ended_idle}
+use Rattle.sys_calls.specs.declared.kernel.Kernel.{Kernel}
+use Rattle.sys_calls.specs.Answered.{IsCaller}
+use Rattle.sys_calls.specs.Woken.{IsOnward}
+use Rattle.sys_calls.proofs.Saying.{kept_gone}
+use Rattle.sys_calls.proofs.Tables.{caller_held, caller_lives, caller_unlisted}
+use Rattle.sys_calls.proofs.Waking.{runs_alone}
+use Rattle.sys_calls.proofs.ending.go.Goals as goal
+
+-- the caller calls still
+still : (k k' : Kernel) (here t : ℕ) → IsOnward k k' → IsCaller k here t → IsCaller k' here t
+still k k' here t onward caller = record {
+  tables = (caller.tables.0, onward.tables caller.tables.0 caller.tables.1);
+  runs = onward.running here ∙ caller.runs;
+  quiet = onward.quiet t caller.quiet;
+}
+
+pub exit-requires : goal.exit-requires
+exit-requires c = caller_lives c.wake.new.kernel c.args.here.0 c.args.tid.0 (still c.args.kernel.now c.wake.new.kernel c.args.here.0 c.args.tid.0 c.wake.ensures.onward c.requires)
+
+pub remove-requires-clause-held : goal.remove-requires-clause-held
+remove-requires-clause-held c = caller_held c.wake.new.kernel c.args.here.0 c.args.tid.0 (still c.args.kernel.now c.wake.new.kernel c.args.here.0 c.args.tid.0 c.wake.ensures.onward c.requires)
+
+pub remove-requires-clause-not_ready : goal.remove-requires-clause-not_ready
+remove-requires-clause-not_ready c = caller_unlisted c.wake.new.kernel c.args.here.0 c.args.tid.0 (still c.args.kernel.now c.wake.new.kernel c.args.here.0 c.args.tid.0 c.wake.ensures.onward c.requires)
+
+pub returns : goal.returns
+returns c = λ h told.
+    let t = c.args.tid.0 in
+    let k = c.args.kernel.now in
+    let k1 = c.wake.new.kernel in
+    let woken = c.wake.ensures.woken h told in
+    let caller : IsCaller k1 c.args.here.0 t = still k k1 c.args.here.0 t c.wake.ensures.onward c.requires in
+    let tables = subst (λ (ts : Threads). IsTables c.requires.tables.0 ts k.ready) told.threads c.requires.tables.1 in
+    let sound = subst (λ (sc : Scheduling). IsTables c.requires.tables.0 h.kernel.threads sc) told.scheduling tables in
+    record {
+      threads = c.exit.ensures.threads ∙ ap (without t) woken.threads;
+      scheduling = c.remove.ensures ∙ ap (forget t) woken.scheduling;
+      console = woken.console;
+      kept = λ all. kept_gone t _ k1.threads c.exit.new.self c.exit.ensures.saved (woken.kept all);
+      idle = ap (running_on c.args.here.0) c.exit.ensures.threads ∙ ended_idle caller.tables.0 c.args.here.0 t k1.threads.threads k1.ready caller.tables.1 caller.runs;
+      alone = runs_alone c.requires.tables.0 c.args.here.0 t c.args.at c.args.most h (h.file t) h.kernel sound (ap (running_on c.args.here.0) (sym told.threads) ∙ c.requires.runs);
+    }

@@ -1,0 +1,16 @@
+-- The record as a rule reads it.
+use Rattle.std.proofs.Common.{◌≡◌, ℕ, ◌+◌, ◌*◌, Option, unwrap_or, ap, ◌∙◌}
+use Rattle.mach_types.specs.Bytes.{word_at}
+use Rattle.page_map.specs.Map.{byte_in}
+use Rattle.block_model.specs.Here.{Here, memory}
+use Rattle.block_model.specs.Calls.Answers.{number_at}
+use Rattle.sys_calls.proofs.writing.Records.get.Goals as goal
+
+there : (h : Here) (byte : ℕ → Option ℕ) (at size : ℕ) → byte ≡ memory h → unwrap_or (word_at byte at size) 0 ≡ number_at h at size
+there h byte at size same = ap (λ (b : ℕ → Option ℕ). unwrap_or (word_at b at size) 0) same
+
+pub returns-clause-at : goal.returns-clause-at
+returns-clause-at c = λ h same. c.number_at.ensures ∙ there h (byte_in c.args.pages.now) (c.args.self.at + 16 * c.args.index) 8 same
+
+pub returns-clause-len : goal.returns-clause-len
+returns-clause-len c = λ h same. c.number_at-2.ensures ∙ there h (byte_in c.args.pages.now) (c.args.self.at + 16 * c.args.index + 8) 8 same

@@ -1,0 +1,40 @@
+-- The records, and then the spans that they name.
+use Rattle.std.proofs.Common.{◌≡◌, ℕ, ◌*◌, true, false, not, ltb, [], sym, ap, subst, ◌∙◌, arith}
+use Rattle.std.specs.Prelude.{Err}
+use Rattle.std.proofs.lemmas.Bool.{le-ltb}
+use Rattle.mach_types.specs.declared.errors.TheConstants.{EFAULT}
+use Rattle.block_model.specs.Calls.Answers.{CallDone, argument, are_readable}
+use Rattle.block_model.specs.Calls.Console.{is_elsewhere, spans_at, writev}
+use Rattle.sys_calls.specs.Answered.{IsAnswered}
+use Rattle.sys_calls.specs.Joined.{write_joined}
+use Rattle.sys_calls.proofs.Reading.{argument_is, if_false, if_true, not_false, not_true, readable_at}
+use Rattle.sys_calls.proofs.Saying.{answered_said}
+use Rattle.sys_calls.proofs.Spans.{readable_end}
+use Rattle.sys_calls.proofs.writing.writev.Goals as goal
+
+pub returns-then-not-readable-clause-answered : goal.returns-then-not-readable-clause-answered
+returns-then-not-readable-clause-answered c = λ h t told read.
+    let at : c.argument.result ≡ argument h t 1 = c.argument.ensures ∙ argument_is h t c.args.saved.now read.file 1 in
+    let n : c.argument-2.result ≡ argument h t 2 = c.argument-2.ensures ∙ argument_is h t c.args.saved.now read.file 2 in
+    let here : is_elsewhere h t ≡ false = sym (c.is_elsewhere.ensures h t read.file) ∙ c.if-is_elsewhere.false in
+    let few : ltb 1024 (argument h t 2) ≡ false = le-ltb 1024 (argument h t 2) (omega arith) in
+    let cannot : are_readable h (argument h t 1) (16 * argument h t 2) ≡ false =
+    sym (readable_at h c.args.pages.now t c.args.saved.now read c.argument.result (argument h t 1) (16 * c.argument-2.result) (16 * argument h t 2) at (ap (λ (x : ℕ). 16 * x) n)) ∙ sym c.readable.ensures ∙ c.if-not-readable.true in
+    answered_said h t c.args.kernel.now c.args.pages.now (Err EFAULT) (writev h t) told
+    (if_false (is_elsewhere h t) _ _ here ∙ if_false (ltb 1024 (argument h t 2)) _ _ few ∙ if_true (not (are_readable h (argument h t 1) (16 * argument h t 2))) _ _ (not_false _ cannot))
+
+pub write_records-requires : goal.write_records-requires
+write_records-requires c = record { end = readable_end c.args.pages.now c.argument.result (16 * c.argument-2.result) c.argument.type_inv (sym c.readable.ensures ∙ c.if-not-readable.false) }
+
+pub returns-clause-answered : goal.returns-clause-answered
+returns-clause-answered c = λ h t told read.
+    let at : c.argument.result ≡ argument h t 1 = c.argument.ensures ∙ argument_is h t c.args.saved.now read.file 1 in
+    let n : c.argument-2.result ≡ argument h t 2 = c.argument-2.ensures ∙ argument_is h t c.args.saved.now read.file 2 in
+    let here : is_elsewhere h t ≡ false = sym (c.is_elsewhere.ensures h t read.file) ∙ c.if-is_elsewhere.false in
+    let few : ltb 1024 (argument h t 2) ≡ false = le-ltb 1024 (argument h t 2) (omega arith) in
+    let can : are_readable h (argument h t 1) (16 * argument h t 2) ≡ true =
+    sym (readable_at h c.args.pages.now t c.args.saved.now read c.argument.result (argument h t 1) (16 * c.argument-2.result) (16 * argument h t 2) at (ap (λ (x : ℕ). 16 * x) n)) ∙ sym c.readable.ensures ∙ c.if-not-readable.false in
+    let is : writev h t ≡ write_joined h t (spans_at h c.argument.result c.argument-2.result) =
+    if_false (is_elsewhere h t) _ _ here ∙ if_false (ltb 1024 (argument h t 2)) _ _ few ∙ if_false (not (are_readable h (argument h t 1) (16 * argument h t 2))) _ _ (not_true _ can)
+    ∙ ap (λ (a : ℕ). write_joined h t (spans_at h a (argument h t 2))) (sym at) ∙ ap (λ (x : ℕ). write_joined h t (spans_at h c.argument.result x)) (sym n) in
+    subst (λ (d : CallDone). IsAnswered h t c.args.kernel.now c.args.pages.now c.write_records.new.kernel c.args.pages.now [] c.write_records.result d) (sym is) (c.write_records.ensures.answered h t told read.bytes)

@@ -1,0 +1,79 @@
+-- A call over the tables, the page map and the caller's registers, as the definitions of calls say it.
+use Rattle.std.specs.Prelude.{ℕ, ◌≡◌, Bool, true, false, if◌then◌else◌, Option, Some, None}
+use Rattle.std.specs.Option.{option_map}
+use Rattle.std.specs.Int.{cast_unsigned, w64}
+use Rattle.mach_types.specs.Bytes.{written}
+use Rattle.mach_types.specs.Registers.{register}
+use Rattle.mach_types.specs.declared.events.Hart.{Hart}
+use Rattle.mach_types.specs.declared.events.Tid.{Tid}
+use Rattle.mach_types.specs.declared.limits.End.{End}
+use Rattle.mach_types.specs.declared.threads.Saved.{Saved}
+use Rattle.mach_types.specs.Kernel.Threads.{running_on}
+use Rattle.kernel_threads.specs.Table.{Table, saved_of}
+use Rattle.page_map.specs.Map.{Map, byte_in, can_write_in, permission_in, free_in, break_in}
+use Rattle.block_model.specs.Here.{Here, memory, is_writable}
+use Rattle.block_model.specs.History.{file_among}
+use Rattle.block_model.specs.Calls.Answers.{CallDone}
+use Rattle.sys_calls.specs.declared.kernel.Kernel.{Kernel}
+use Rattle.sys_calls.specs.declared.calling.CallEnd.{CallEnd}
+use Rattle.sys_calls.specs.declared.calling.CallEnd.TheVariants as over
+
+-- what is kept of each thread that doesn't run is its file
+abbrev pub AreSaved : (ℕ → Saved) → Table → Type 0
+AreSaved file table = (u : ℕ) (x : Saved) → saved_of u table.saved ≡ Some x → x ≡ file u
+
+-- a rule may read here what the tables, the page map and the caller's registers hold
+pub record IsAt (h : Here) (k : Kernel) (m : Map) (here : Hart) (harts : ℕ) (tid : Tid) (saved : Saved) : Type 0 where
+  pub hart : h.hart ≡ here.0
+  pub count : h.setting.limits.harts ≡ harts
+  pub threads : k.threads.threads ≡ h.kernel.threads
+  pub scheduling : k.ready ≡ h.kernel.scheduling
+  pub console : k.console ≡ h.kernel.console
+  pub bytes : byte_in m ≡ memory h
+  pub writable : can_write_in m ≡ is_writable h
+  pub file : saved ≡ h.file tid.0
+
+-- whether the thread gave up its hart
+abbrev pub gives_up : CallEnd → Bool
+gives_up (over.Return answer) = false
+gives_up over.Block = true
+gives_up (over.Leave answer) = true
+gives_up over.Resume = false
+gives_up (over.Barrier targets restart) = false
+gives_up over.ThreadEnd = true
+gives_up (over.ProcessEnd e) = false
+
+-- how the process ended
+abbrev pub process_end : CallEnd → Option End
+process_end (over.Return answer) = None
+process_end over.Block = None
+process_end (over.Leave answer) = None
+process_end over.Resume = None
+process_end (over.Barrier targets restart) = None
+process_end over.ThreadEnd = None
+process_end (over.ProcessEnd e) = Some e
+
+-- the answer that is told is the one in a0
+abbrev pub IsAnswer : CallEnd → Saved → Type 0
+IsAnswer (over.Return answer) x = cast_unsigned w64 answer ≡ register x.file 10
+IsAnswer over.Block x = Unit {0}
+IsAnswer (over.Leave answer) x = cast_unsigned w64 answer ≡ register x.file 10
+IsAnswer over.Resume x = Unit {0}
+IsAnswer (over.Barrier targets restart) x = Unit {0}
+IsAnswer over.ThreadEnd x = Unit {0}
+IsAnswer (over.ProcessEnd e) x = Unit {0}
+
+-- the tables, the page map and the caller's registers were changed as the call did, and nothing else was; and so the call ended
+pub record IsMade (h : Here) (t : ℕ) (k : Kernel) (m : Map) (k' : Kernel) (m' : Map) (saved : Saved) (end : CallEnd) (c : CallDone) : Type 0 where
+  pub threads : k'.threads.threads ≡ c.kernel.threads
+  pub scheduling : k'.ready ≡ c.kernel.scheduling
+  pub console : k'.console ≡ c.kernel.console
+  pub kept : AreSaved h.file k.threads → AreSaved (λ u. file_among c.files u (h.file u)) k'.threads
+  pub own : saved ≡ file_among c.files t (h.file t)
+  pub bytes : (a : ℕ) → byte_in m' a ≡ option_map (written c.entered a) (byte_in m a)
+  pub permissions : (n : ℕ) → permission_in m' n ≡ permission_in m n
+  pub free : free_in m' ≡ free_in m
+  pub break_at : break_in m' ≡ break_in m
+  pub hart : running_on h.hart c.kernel.threads ≡ (if gives_up end then None else Some t)
+  pub ended : process_end end ≡ c.ended
+  pub answer : IsAnswer end saved

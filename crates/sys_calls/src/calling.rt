@@ -1,0 +1,208 @@
+//! One call.
+
+ghost use Rattle.std.specs.Prelude.{◌≡◌, ◌<◌, ◌≤◌, ◌-◌, ◌^◌, [], Some, None, IfErr, IsTrue};
+ghost use Rattle.kernel_threads.specs.Table.{IsTable, saved_of};
+ghost use Rattle.mach_types.specs.Kernel.Threads.{is_live, running_on, runs};
+ghost use Rattle.block_model.specs.Here.{Here};
+ghost use Rattle.block_model.specs.Calls.{call_of, called as call_done};
+ghost use Rattle.block_model.specs.Tables.{IsTables};
+ghost use Rattle.sys_calls.specs.Answered.{AreTables, IsAnswered, IsCaller, IsRead, IsTold};
+ghost use Rattle.sys_calls.specs.Numbers.{IsOther};
+ghost use Rattle.sys_calls.specs.Made.{IsAt, IsMade};
+
+use crate::affinity::{getcpu, sched_getaffinity, sched_setaffinity, sched_yield};
+use crate::arguments::{call_number, go_on};
+use crate::cloning::clone;
+use crate::ending::{exit, exit_group};
+use crate::futexes::futex;
+use crate::kernel::Kernel;
+use crate::memory::Written;
+use crate::numbers::set_tid_address;
+use crate::writing::{write, writev};
+use arrayvec::ArrayVec;
+use kernel_threads::Threads;
+use mach_types::errors::ENOSYS;
+use mach_types::{End, Errno, Hart, Saved, Tid, Write};
+use page_map::PageMap;
+
+/// The numbers of the calls (Linux for RISC-V).
+const WRITE: u64 = 64;
+
+const WRITEV: u64 = 66;
+
+const EXIT: u64 = 93;
+
+const EXIT_GROUP: u64 = 94;
+
+const SET_TID_ADDRESS: u64 = 96;
+
+const FUTEX: u64 = 98;
+
+const SCHED_SETAFFINITY: u64 = 122;
+
+const SCHED_GETAFFINITY: u64 = 123;
+
+const SCHED_YIELD: u64 = 124;
+
+const GETCPU: u64 = 168;
+
+const GETPID: u64 = 172;
+
+const GETTID: u64 = 178;
+
+const CLONE: u64 = 220;
+
+/// What a call comes to.
+#[derive(Clone, Copy, Debug, PartialEq, Eq, Drop)]
+pub enum CallEnd {
+    /// The thread goes on with this answer.
+    Return(i64),
+    /// The thread gave up its hart and waits.
+    Block,
+    /// The thread gave up its hart with this answer, and is ready.
+    Leave(i64),
+    /// The thread goes on with the registers that a signal frame had.
+    Resume,
+    /// The thread waits in a barrier for these harts, one bit each, each of which is asked to restart a sequence or not.
+    Barrier { targets: u8, restart: bool },
+    /// The thread ended.
+    ThreadEnd,
+    /// The process ended so.
+    ProcessEnd(End),
+}
+
+/// What a call came to, and the writes to memory that the kernel made in it, in order.
+#[derive(Drop)]
+pub struct Called {
+    /// How the call ended.
+    pub end: CallEnd,
+    /// The writes.
+    pub written: ArrayVec<Write, 4>,
+}
+
+/// The call of thread `tid`, as [`call`], with the kernel's writes: the caller ends the reservations on their bytes.
+pub fn make_call(
+    kernel: &mut Kernel,
+    pages: &mut PageMap,
+    here: Hart,
+    running: u8,
+    harts: u8,
+    tid: Tid,
+    saved: &mut Saved,
+    cid: u8,
+) -> Called
+    requires some_hart { 1 ≤ harts }
+    requires eight_harts { harts ≤ 8 }
+    requires hart { here.0 < harts }
+    requires runs { running_on here.0 kernel.old.threads.threads ≡ Some tid.0 }
+    requires numbers { kernel.old.threads.threads.given < 2 ^ 31 - 1 }
+    requires tables { IsTables harts kernel.old.threads.threads kernel.old.ready }
+    ensures made { (h : Here) → IsAt h kernel.old pages.old here harts tid saved.old
+        → IsMade h tid.0 kernel.old pages.old kernel.new pages.new saved.new result.end (call_done h tid.0) }
+    ensures table { IsTable kernel.new.threads }
+    ensures written { (h : Here) → IsAt h kernel.old pages.old here harts tid saved.old → result.written.items ≡ (call_done h tid.0).entered }
+{
+    has_nothing_saved(&kernel.threads, tid);
+    let mut written = ArrayVec::new();
+    let end = dispatch(kernel, pages, &mut written, here, harts, tid, saved);
+    let _ = kernel.threads.live();
+    Called { end, written }
+}
+
+/// Nothing is saved of a thread that runs.
+fn has_nothing_saved(threads: &Threads, tid: Tid)
+    requires { runs threads.now.threads tid.0 }
+    ensures { saved_of tid.0 threads.now.saved ≡ None }
+{
+    let _ = threads.live();
+}
+
+/// The call that the number in a7 names.
+fn dispatch(
+    kernel: &mut Kernel,
+    pages: &mut PageMap,
+    written: &mut Written,
+    here: Hart,
+    harts: u8,
+    tid: Tid,
+    saved: &mut Saved,
+) -> CallEnd
+    requires some_hart { 1 ≤ harts }
+    requires eight_harts { harts ≤ 8 }
+    requires caller { IsCaller kernel.old here.0 tid.0 }
+    requires numbers { kernel.old.threads.threads.given < 2 ^ 31 - 1 }
+    requires fresh { written.old.items ≡ [] }
+    ensures made { (h : Here) → IsAt h kernel.old pages.old here harts tid saved.old
+        → IsMade h tid.0 kernel.old pages.old kernel.new pages.new saved.new result (call_done h tid.0) }
+    ensures told { (h : Here) → IsAt h kernel.old pages.old here harts tid saved.old → written.new.items ≡ (call_done h tid.0).entered }
+{
+    match call_number(saved) {
+        EXIT => exit(kernel, pages, written, here, tid, saved),
+        EXIT_GROUP => exit_group(saved),
+        FUTEX => futex(kernel, pages, here, tid, saved),
+        SCHED_SETAFFINITY => sched_setaffinity(kernel, pages, here, harts, tid, saved),
+        SCHED_YIELD => sched_yield(kernel, here, tid, saved),
+        number => {
+            let outcome = answered(number, kernel, pages, written, here, tid, saved);
+            go_on(saved, outcome)
+        }
+    }
+}
+
+/// The answer of a call whose thread goes on; ENOSYS where the number is none of those.
+fn answered(
+    number: u64,
+    kernel: &mut Kernel,
+    pages: &mut PageMap,
+    written: &mut Written,
+    here: Hart,
+    tid: Tid,
+    saved: &Saved,
+) -> Result<u32, Errno>
+    requires tables { AreTables kernel.old }
+    requires live { IsTrue (is_live tid.0 kernel.old.threads.threads) }
+    requires numbers { kernel.old.threads.threads.given < 2 ^ 31 - 1 }
+    requires fresh { written.old.items ≡ [] }
+    requires others { IsOther number }
+    ensures errno { IfErr result (λ e. 1 ≤ e.0) }
+    ensures answered { (h : Here) → h.hart ≡ here.0 → IsTold h kernel.old → IsRead h pages.old tid.0 saved.now
+        → IsAnswered h tid.0 kernel.old pages.old kernel.new pages.new written.new.items result (call_of number h tid.0) }
+{
+    match number {
+        WRITE => write(kernel, pages, saved),
+        WRITEV => writev(kernel, pages, saved),
+        SET_TID_ADDRESS => Ok(set_tid_address(kernel, tid, saved)),
+        SCHED_GETAFFINITY => sched_getaffinity(kernel, pages, written, tid, saved),
+        GETCPU => getcpu(pages, written, here, saved),
+        GETPID => Ok(1),
+        GETTID => Ok(tid.0),
+        CLONE => clone(kernel, pages, written, tid, saved),
+        _ => Err(ENOSYS),
+    }
+}
+
+/// The call of thread `tid`, which runs on hart `here` with the registers `saved`: its number is in a7, its arguments in a0 to a5.
+///
+/// `running` is the set of harts on which a thread runs, and `cid` the id that the calling thread holds; no call asks for them yet.
+/// Refusals come in the order of the manual pages, and a refused call changes a0 and the pc alone.
+pub fn call(
+    kernel: &mut Kernel,
+    pages: &mut PageMap,
+    here: Hart,
+    running: u8,
+    harts: u8,
+    tid: Tid,
+    saved: &mut Saved,
+    cid: u8,
+) -> CallEnd
+    requires some_hart { 1 ≤ harts }
+    requires eight_harts { harts ≤ 8 }
+    requires hart { here.0 < harts }
+    requires runs { running_on here.0 kernel.old.threads.threads ≡ Some tid.0 }
+    requires numbers { kernel.old.threads.threads.given < 2 ^ 31 - 1 }
+    requires tables { IsTables harts kernel.old.threads.threads kernel.old.ready }
+    ensures made { (h : Here) → IsAt h kernel.old pages.old here harts tid saved.old
+        → IsMade h tid.0 kernel.old pages.old kernel.new pages.new saved.new result (call_done h tid.0) }
+{
+    make_call(kernel, pages, here, running, harts, tid, saved, cid).end
+}

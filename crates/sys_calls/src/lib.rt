@@ -1,0 +1,20 @@
+//! The system calls of Linux for RISC-V: one call over the kernel's tables, the page map and the caller's registers.
+//!
+//! Nothing here takes memory but [`Console::new`].
+#![tactic(auto)]
+
+mod affinity;
+mod arguments;
+mod calling;
+mod cloning;
+mod console;
+mod ending;
+mod futexes;
+mod kernel;
+mod memory;
+mod numbers;
+mod writing;
+
+pub use calling::{CallEnd, Called, call, make_call};
+pub use console::Console;
+pub use kernel::Kernel;

@@ -1,0 +1,67 @@
+//! Numbers in the memory of the process.
+
+ghost use Rattle.std.specs.Prelude.{◌≡◌, ℕ, ◌+◌, ◌<◌, ◌^◌, ◌++◌, length, [], ◌∷◌, unwrap_or, IsTrue};
+ghost use Rattle.mach_types.specs.Bytes.{IsAccessSize, each_byte, word_at};
+ghost use Rattle.page_map.specs.Map.{byte_in, can_write_in};
+ghost use Rattle.block_model.specs.Calls.Answers.{double_written, word_written};
+ghost use Rattle.sys_calls.specs.Answered.{IsEntered};
+
+use arrayvec::ArrayVec;
+use mach_types::{Store, UserMem, Write};
+use page_map::PageMap;
+
+/// The kernel's writes to memory in a call, in order.
+pub type Written = ArrayVec<Write, 4>;
+
+/// The number of `size` bytes, 1, 2, 4 or 8, from an address on; 0 where one of them can't be read.
+pub fn number_at(pages: &PageMap, at: u64, size: u8) -> u64
+    requires { IsAccessSize size }
+    ensures { result ≡ unwrap_or (word_at (byte_in pages.now) at size) 0 }
+{
+    pages.get(at, size).unwrap_or(0)
+}
+
+/// A byte, 0 where it can't be read.
+pub fn byte_at(pages: &PageMap, at: u64) -> u8
+    ensures { result ≡ unwrap_or (byte_in pages.now at) 0 }
+{
+    number_at(pages, at, 1) as u8
+}
+
+/// The byte so many past an address, 0 where it can't be read.
+pub fn byte_after(pages: &PageMap, at: u64, k: u64) -> u8
+    ensures { result ≡ unwrap_or (byte_in pages.now (at + k)) 0 }
+{
+    match at.checked_add(k) {
+        Some(address) => byte_at(pages, address),
+        None => 0,
+    }
+}
+
+/// Writes a u32.
+pub fn write_word(pages: &mut PageMap, written: &mut Written, at: u64, value: u32)
+    requires writable { IsTrue (each_byte (can_write_in pages.old) at 4) }
+    requires room { length written.old.items < 4 }
+    ensures entered { IsEntered pages.old pages.new (word_written at value ∷ []) }
+    ensures same { (a : ℕ) → can_write_in pages.new a ≡ can_write_in pages.old a }
+    ensures told { written.new.items ≡ written.old.items ++ word_written at value ∷ [] }
+{
+    let store = Store {
+        at,
+        size: 4,
+        value: u64::from(value),
+    };
+    let _ = pages.set(at, 4, store.value);
+    written.push(Write::Stored(store));
+}
+
+/// Writes a u64.
+pub fn write_double(pages: &mut PageMap, written: &mut Written, at: u64, value: u64)
+    requires writable { IsTrue (each_byte (can_write_in pages.old) at 8) }
+    requires room { length written.old.items < 4 }
+    ensures entered { IsEntered pages.old pages.new (double_written at value ∷ []) }
+    ensures told { written.new.items ≡ written.old.items ++ double_written at value ∷ [] }
+{
+    let _ = pages.set(at, 8, value);
+    written.push(Write::Stored(Store { at, size: 8, value }));
+}
