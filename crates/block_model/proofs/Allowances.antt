@@ -9,8 +9,7 @@ use Rattle.std.proofs.Math.Nat.{pow-suc}
 use Rattle.mach_types.specs.Kernel.Scheduling.{Scheduling, is_of, has_hart, harts_in, affinity_of, all_harts, set_if, start_scheduling, with_affinity, with_ready, with_thread, forget}
 use Rattle.mach_types.specs.Kernel.Threads.{Thread, Threads, is_live, is_thread, thread_of, running_on, new_thread, start_threads, with_child, without}
 use Rattle.mach_types.specs.declared.threads.ThreadState.{ThreadState}
-use Rattle.block_model.proofs.Lists.{differs, filtered_same, filtered_other, found_at_end, not_at_end}
-use Rattle.block_model.proofs.Times.{eqb_same, eqb_other}
+use Rattle.mach_types.proofs.Laws.{differs, filtered_same, filtered_other, found_at_end, not_at_end, eqb_same, eqb_other}
 use Rattle.block_model.specs.Tables.{IsTables, on}
 use Rattle.block_model.proofs.KernelTables.{running_is}
 

@@ -25,8 +25,7 @@ use Rattle.block_model.specs.Calls.Console.{Span, all_readable, bytes_of, is_els
 use Rattle.block_model.specs.Calls.Ending.{exit, exit_group, is_last, last_exits, one_exits, woken_at_exit}
 use Rattle.block_model.specs.Calls.Futexes.{Woken, answered_wait, futex, futex_wait, futex_wake, operation, wake, woken_first}
 use Rattle.block_model.specs.ErrorCalls.{IsError}
-use Rattle.block_model.proofs.Lists.{filtered_same}
-use Rattle.block_model.proofs.Times.{eqb_same}
+use Rattle.mach_types.proofs.Laws.{filtered_same, eqb_same}
 
 -- a call is refused with an error number
 pub record IsRefusal (here : Here) (t : ℕ) (c : CallDone) : Type 0 where

@@ -25,7 +25,7 @@ use Rattle.block_model.proofs.Entries.{given_below, thread_given}
 use Rattle.block_model.proofs.ErrorCalls.{IsRefusal, tells_errors}
 use Rattle.block_model.proofs.Replay.{history-more}
 use Rattle.block_model.proofs.Runs.{run_before, settled}
-use Rattle.block_model.proofs.Times.{eqb_same}
+use Rattle.mach_types.proofs.Laws.{eqb_same}
 
 -- the thread of an exec that is allowed runs
 exec_runs : (here : Here) (r : Option ℕ) → refusal_exec_by here r ≡ None → r ≡ Some (number_of r)

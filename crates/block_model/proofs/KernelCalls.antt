@@ -4,8 +4,7 @@ use Rattle.std.specs.List.{list_any}
 use Rattle.std.specs.Option.{option_map}
 use Rattle.std.proofs.lemmas.Bool.Decides.{eqb_tells, Decides-eqb}
 use Rattle.std.proofs.lemmas.List.{length-map, map_push}
-use Rattle.block_model.proofs.Lists.{map_stays, map_filters}
-use Rattle.block_model.proofs.Processes.{IsThreads-child, IsThreads-without, IsThreads-woken, IsThreads-waiter, same_numbers, state_of-with_state_other, state_of-without_same, state_of-without_other, state_of-with_child_same, state_of-with_child_other, next_is_new}
+use Rattle.mach_types.proofs.Laws.{map_stays, map_filters, IsThreads-child, IsThreads-without, IsThreads-woken, IsThreads-waiter, same_numbers, state_of-with_state_other, state_of-without_same, state_of-without_other, state_of-with_child_same, state_of-with_child_other, next_is_new}
 use Rattle.block_model.specs.Tables.{IsTables, on}
 use Rattle.block_model.proofs.KernelTables.{once, its_ready, held_from_alike, joined, running_is, stopped_idle, stopped_others, runs_once, not_running, state_now}
 use Rattle.mach_types.specs.Kernel.Threads.{Thread, Threads, new_thread, state_of, is_full, with_child, without, with_waiter, with_woken, waits, numbers, is_ready, running_on, times}

@@ -7,8 +7,7 @@ use Rattle.std.specs.Ordering.{nat_cmp}
 use Rattle.std.proofs.lemmas.Bool.{false≢true}
 use Rattle.std.proofs.lemmas.Bool.Decides.{nat_tests, eqb_tells, Decides-eqb}
 use Rattle.std.proofs.lemmas.Map.Keys.{sorted_from_strictly_increasing}
-use Rattle.block_model.proofs.Times.{times_push, times_one, times_one_other, times_filtered_same, times_filtered_other, eqb_same}
-use Rattle.block_model.proofs.Processes.{IsThreads-start, IsThreads-with_state, IsThreads-with_clear, same_numbers, same_clear_numbers, state_of-with_state_same, state_of-with_state_other, state_of-with_clear}
+use Rattle.mach_types.proofs.Laws.{times_push, times_one, times_one_other, times_filtered_same, times_filtered_other, eqb_same, IsThreads-start, IsThreads-with_state, IsThreads-with_clear, same_numbers, same_clear_numbers, state_of-with_state_same, state_of-with_state_other, state_of-with_clear}
 use Rattle.mach_types.specs.Kernel.Threads.{Thread, Threads, IsThreads, start_threads, is_thread, thread_of, state_of, is_live, with_state, with_clear, numbers, is_ready, is_ready_state, is_waiting_state, is_running_state, is_running_on, is_on, running_on, times}
 use Rattle.mach_types.specs.Kernel.Scheduling.{Scheduling, start_scheduling, is_of, with_ready, without_ready}
 use Rattle.block_model.specs.Tables.{IsTables, on}

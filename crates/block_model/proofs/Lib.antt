@@ -14,18 +14,15 @@ mod KernelCalls
 mod KernelTables
 mod LawExamples
 pub mod Laws
-mod Lists
 mod OneImage
 mod Open
 mod Pcs
 mod PlainRuns
 mod PlainSolo
-mod Processes
 mod Proper
 mod ProperCalls
 mod Replay
 mod Rules
 mod Runs
 mod Sound
-mod Times
 mod Walks

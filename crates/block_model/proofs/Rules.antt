@@ -37,7 +37,7 @@ use Rattle.block_model.specs.Tables.{IsTables, on}
 use Rattle.block_model.proofs.KernelTables.{found_passes, found_sorted, running_none}
 use Rattle.block_model.proofs.Open.{decide-open, is_open}
 use Rattle.block_model.proofs.Runs.{settled}
-use Rattle.block_model.proofs.Times.{eqb_same, times_cons}
+use Rattle.mach_types.proofs.Laws.{eqb_same, times_cons}
 
 -- the choice by what is read of the hart: whether a thread runs there, the first ready thread, and whether it may execute
 abbrev rule_by : Option ℕ → Option ℕ → Option Why → Option Choice

@@ -27,7 +27,7 @@ use Rattle.block_model.specs.Setting.{Setting}
 use Rattle.block_model.specs.Walks.{AreOfWalk, IsOfWalk, IsPlainExec, IsWalk, Answer, answer_in, answered, answers, computed, file_by, file_next, file_of, is_exec}
 use Rattle.block_model.proofs.Replay.{history-more}
 use Rattle.block_model.proofs.Runs.{fit_at, run_before}
-use Rattle.block_model.proofs.Times.{eqb_same}
+use Rattle.mach_types.proofs.Laws.{eqb_same}
 
 -- what an entry of a walk does to the file of the walk's thread, and that the thread still runs on its hart
 record IsStep (s : Setting) (h t : ℕ) (before : History) (e : Entry) : Type 0 where

@@ -1,5 +1,5 @@
 -- The stack of the numbers of the free frames.
-use Rattle.std.proofs.Common.{◌≡◌, ◌≢◌, ℕ, zero, suc, ◌+◌, ◌<◌, Bool, true, false, List, [], ◌∷◌, ◌++◌, Some, None, length, replicate, get_or, slice_get, slice_set, refl, sym, ap, ◌∙◌, subst, arith}
+use Rattle.std.proofs.Common.{◌≡◌, ◌≢◌, ℕ, ◌+◌, ◌<◌, Bool, true, false, List, [], ◌∷◌, ◌++◌, Some, None, length, get_or, slice_get, slice_set, refl, sym, ap, ◌∙◌, subst, arith}
 use Rattle.std.specs.List.{AllByRecursion}
 use Rattle.std.proofs.lemmas.List.{length-set, set_comm, set-set}
 use Rattle.std.proofs.lemmas.List.Sums.{sum_by-cons}
@@ -14,10 +14,10 @@ use Rattle.frame_pool.specs.Pool.{free_count}
 two_marks : (taken : List Bool) (m n : ℕ) → slice_get taken m ≡ Some false → slice_get taken n ≡ Some true → m ≢ n
 two_marks taken m n free mark same = let e : slice_get taken m ≡ Some true = rw same mark in cc
 
--- where no number is left, all frames are taken
-pub replicate-AreFree : (n : ℕ) → AreFree (replicate n true) []
-replicate-AreFree zero = tt
-replicate-AreFree (suc n) = (refl, replicate-AreFree n)
+-- where no number is left, one more frame is taken
+pub AreFree-more : (taken : List Bool) → AreFree taken [] → AreFree (taken ++ true ∷ []) []
+AreFree-more [] all = (refl, tt)
+AreFree-more (t ∷ taken) all = (all.0, AreFree-more taken all.1)
 
 -- the last number is that of a free frame, and the others are those that are free once it is taken
 pub AreFree-last : (taken : List Bool) (rest : List ℕ) (n : ℕ) → AreFree taken (rest ++ n ∷ [])

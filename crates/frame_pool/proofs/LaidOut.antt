@@ -1,13 +1,14 @@
 -- A pool as it lies in memory, where frames are taken, given back and written.
-use Rattle.std.proofs.Common.{◌≡◌, ℕ, ◌+◌, ◌^◌, ◌<◌, ◌≤◌, Bool, true, false, List, [], ◌∷◌, ◌++◌, Option, Some, None, length, get_or, slice_get, slice_set, sym, ap, ◌∙◌, subst, arith}
+use Rattle.std.proofs.Common.{◌≡◌, ℕ, ◌+◌, ◌-◌, ◌<◌, ◌≤◌, Bool, true, false, List, [], ◌∷◌, ◌++◌, Option, Some, None, length, get_or, slice_get, slice_set, refl, sym, ap, ◌∙◌, subst, arith, length-append}
 use Rattle.std.proofs.lemmas.List.{length-set}
 use Rattle.std.proofs.lemmas.List.Sums.{count_by-le-length}
 use Rattle.std.proofs.lemmas.Option.{get_or_from_slice_get, slice_get-get_or, slice_get_within}
 use Rattle.std.specs.Prelude.{is_none}
 use Rattle.frame_pool.proofs.Counting.{free_count-giving}
 use Rattle.frame_pool.proofs.Frames.{frames_of-at, frames_of-mark, frames_of-set, frames_of-taken, frames_of-write, length-frames_of}
-use Rattle.frame_pool.proofs.FreeNumbers.{AreFree-last, AreFree-push, free_count-frames_of}
-use Rattle.frame_pool.specs.Layout.{AreFree, IsLaidOut, frames_of}
+use Rattle.frame_pool.proofs.FreeNumbers.{AreFree-last, AreFree-more, AreFree-push, free_count-frames_of}
+use Rattle.frame_pool.proofs.Pools.{free_count-pool_of, length-pool_of, pool_of-at, pool_of-next, pool_of-push, pool_of-set, pool_of-taken}
+use Rattle.frame_pool.specs.Layout.{AreFree, IsLaidOut, frames_of, pool_of}
 use Rattle.frame_pool.specs.Pool.{IsTaken, free_count}
 
 -- a frame has one number of bytes, however often they are read
@@ -17,44 +18,45 @@ held-size pool n bytes again here there size =
     let same : bytes ≡ again = cc in
     ap length (sym same) ∙ size
 
-module _ {region : List (List ℕ)} {taken : List Bool} {free : List ℕ} {room : ℕ} {pool : List (Option (List ℕ))}
-    (shown : frames_of taken region ≡ pool) (laid : IsLaidOut region taken free room) where
-  -- as many frames are free as the stack has numbers
-  pub free_count-is : free_count pool ≡ length free
+module _ {frames : ℕ} {region : List (List ℕ)} {taken : List Bool} {free : List ℕ} {pool : List (Option (List ℕ))}
+    (shown : pool_of frames taken region ≡ pool) (laid : IsLaidOut frames region taken free) where
+  -- as many frames are free as the stack has numbers, and as were never taken
+  pub free_count-is : free_count pool ≡ length free + (frames - length region)
   free_count-is =
-      subst (λ (p : List (Option (List ℕ))). free_count p ≡ length free) shown
-      (free_count-frames_of taken region free laid.frames laid.stack)
+      omega (arith, ap free_count shown, free_count-pool_of frames taken region, free_count-frames_of taken region free laid.marks laid.stack)
 
-  pub length-is : length pool ≡ length taken
-  length-is = ap length (sym shown) ∙ length-frames_of taken region laid.frames
+  pub length-is : length pool ≡ frames
+  length-is = ap length (sym shown) ∙ length-pool_of frames taken region laid.marks laid.within
 
-  -- which a u32 counts
-  pub free-fits : length free < 2 ^ 32
-  free-fits =
-      let counted : free_count pool ≤ length pool = count_by-le-length is_none pool in
-      let numbers : length taken < 2 ^ 32 = laid.numbers in
-      omega (arith, free_count-is, length-is)
+  -- they are no more than all frames
+  pub free-fits : length free + (frames - length region) ≤ frames
+  free-fits = let counted : free_count pool ≤ length pool = count_by-le-length is_none pool in omega (arith, free_count-is, length-is)
+
+  shown-length : length (frames_of taken region) ≡ length region
+  shown-length = length-frames_of taken region laid.marks ∙ sym laid.marks
 
   -- the mark and the bytes of a taken frame
   module _ (n : ℕ) (held : IsTaken pool n) where
+    held-shown : slice_get (frames_of taken region) n ≡ Some (Some held.0)
+    held-shown = pool_of-taken frames taken region n held.0 (ap (λ p. slice_get p n) shown ∙ held.1)
+
     pub held-marked : slice_get taken n ≡ Some true
-    held-marked = (frames_of-taken taken region n held.0 (ap (λ p. slice_get p n) shown ∙ held.1)).0
+    held-marked = (frames_of-taken taken region n held.0 held-shown).0
 
     pub held-bytes : slice_get region n ≡ Some held.0
-    held-bytes = (frames_of-taken taken region n held.0 (ap (λ p. slice_get p n) shown ∙ held.1)).1
+    held-bytes = (frames_of-taken taken region n held.0 held-shown).1
 
     pub held-within : n < length taken
     held-within = slice_get_within taken n true held-marked
 
     pub held-inside : n < length region
-    held-inside = let same : length region ≡ length taken = laid.frames in omega (arith, held-within)
+    held-inside = slice_get_within region n held.0 held-bytes
 
     -- the stack has room for its number
-    pub held-room : length free < room
+    pub held-room : length free < frames
     held-room =
         let more : free_count (slice_set pool n None) ≡ free_count pool + 1 = free_count-giving pool n held in
         let counted : free_count (slice_set pool n None) ≤ length (slice_set pool n None) = count_by-le-length is_none (slice_set pool n None) in
-        let enough : length taken ≤ room = laid.enough in
         omega (arith, free_count-is, length-is, length-set pool n None)
 
     -- what is read where its bytes stand
@@ -64,26 +66,32 @@ module _ {region : List (List ℕ)} {taken : List Bool} {free : List ℕ} {room 
         held.1 ∙ ap (λ b. Some (Some b)) (sym is)
 
     -- its bytes are written
-    pub held-written : (place : ℕ) (bytes : List ℕ) → place ≡ n → frames_of taken (slice_set region place bytes) ≡ slice_set pool n (Some bytes)
+    pub held-written : (place : ℕ) (bytes : List ℕ) → place ≡ n
+        → pool_of frames taken (slice_set region place bytes) ≡ slice_set pool n (Some bytes)
     held-written place bytes same =
         let mark : slice_get taken place ≡ Some true = rw same held-marked in
-        frames_of-write taken region place bytes mark ∙ (λ i. slice_set (shown i) (same i) (Some bytes))
+        let inside : place < length (frames_of taken region) = omega (arith, held-inside, shown-length) in
+        pool_of-set frames taken taken region (slice_set region place bytes) place (Some bytes) (length-set region place bytes) inside
+        (frames_of-write taken region place bytes mark)
+        ∙ (λ i. slice_set (shown i) (same i) (Some bytes))
 
     -- it is given back
-    pub given-laid : (place : ℕ) (stack : List ℕ) (space : ℕ) → place ≡ n → stack ≡ free ++ place ∷ [] → room ≤ space
-        → IsLaidOut region (slice_set taken place false) stack space
-    given-laid place stack space same pushed roomy =
+    pub given-laid : (place : ℕ) (stack : List ℕ) → place ≡ n → stack ≡ free ++ place ∷ []
+        → IsLaidOut frames region (slice_set taken place false) stack
+    given-laid place stack same pushed =
         let mark : slice_get taken place ≡ Some true = rw same held-marked in
-        let size : length (slice_set taken place false) ≡ length taken = length-set taken place false in
         record {
-          frames = laid.frames ∙ sym size;
-          numbers = let numbers : length taken < 2 ^ 32 = laid.numbers in omega arith;
-          enough = let enough : length taken ≤ room = laid.enough in omega arith;
+          marks = laid.marks ∙ sym (length-set taken place false);
+          within = laid.within;
+          numbers = laid.numbers;
           stack = rw pushed (AreFree-push taken free place mark laid.stack);
         }
 
-    pub given-shown : (place : ℕ) → place ≡ n → frames_of (slice_set taken place false) region ≡ slice_set pool n None
-    given-shown place same = frames_of-mark taken region place false ∙ (λ i. slice_set (shown i) (same i) None)
+    pub given-shown : (place : ℕ) → place ≡ n → pool_of frames (slice_set taken place false) region ≡ slice_set pool n None
+    given-shown place same =
+        let inside : place < length (frames_of taken region) = omega (arith, held-inside, shown-length) in
+        pool_of-set frames taken (slice_set taken place false) region region place None refl inside (frames_of-mark taken region place false)
+        ∙ (λ i. slice_set (shown i) (same i) None)
 
   -- the frame with the last number of the stack
   module _ (rest : List ℕ) (n : ℕ) (last : free ≡ rest ++ n ∷ []) where
@@ -97,25 +105,60 @@ module _ {region : List (List ℕ)} {taken : List Bool} {free : List ℕ} {room 
     last-within = slice_get_within taken n false last-marked
 
     pub last-inside : n < length region
-    last-inside = let same : length region ≡ length taken = laid.frames in omega (arith, last-within)
+    last-inside = let same : length region ≡ length taken = laid.marks in omega (arith, last-within)
+
+    last-front : n < length (frames_of taken region)
+    last-front = omega (arith, last-inside, shown-length)
 
     pub last-free : slice_get pool n ≡ Some None
     last-free =
         ap (λ p. slice_get p n) (sym shown)
+        ∙ pool_of-at frames taken region n last-front
         ∙ frames_of-at taken region n false (get_or region n []) last-marked (slice_get-get_or region n [] last-inside)
 
+    pub last-counted : 0 < free_count pool
+    last-counted = omega (arith, free_count-is, ap length last, length-append rest (n ∷ []))
+
     -- it is taken
-    pub taken-laid : (bytes : List ℕ) (space : ℕ) → space ≡ room → IsLaidOut (slice_set region n bytes) (slice_set taken n true) rest space
-    taken-laid bytes space same =
-        let size : length (slice_set taken n true) ≡ length taken = length-set taken n true in
+    pub taken-laid : (bytes : List ℕ) → IsLaidOut frames (slice_set region n bytes) (slice_set taken n true) rest
+    taken-laid bytes =
+        let size : length (slice_set region n bytes) ≡ length region = length-set region n bytes in
         record {
-          frames = length-set region n bytes ∙ laid.frames ∙ sym size;
-          numbers = let numbers : length taken < 2 ^ 32 = laid.numbers in omega arith;
-          enough = let enough : length taken ≤ room = laid.enough in omega arith;
+          marks = size ∙ laid.marks ∙ sym (length-set taken n true);
+          within = let within : length region ≤ frames = laid.within in omega arith;
+          numbers = laid.numbers;
           stack = (AreFree-last taken rest n last-stack).1;
         }
 
     pub taken-shown : (place : ℕ) (bytes clean : List ℕ) → n ≡ place → bytes ≡ clean
-        → frames_of (slice_set taken n true) (slice_set region n bytes) ≡ slice_set pool place (Some clean)
+        → pool_of frames (slice_set taken n true) (slice_set region n bytes) ≡ slice_set pool place (Some clean)
     taken-shown place bytes clean same cleared =
-        frames_of-set taken region n true bytes ∙ (λ i. slice_set (shown i) (same i) (Some (cleared i)))
+        pool_of-set frames taken (slice_set taken n true) region (slice_set region n bytes) n (Some bytes) (length-set region n bytes) last-front
+        (frames_of-set taken region n true bytes)
+        ∙ (λ i. slice_set (shown i) (same i) (Some (cleared i)))
+
+  -- where the stack is empty, the first frame that was never taken
+  module _ (empty : free ≡ []) (more : length region < frames) where
+    pub next-free : slice_get pool (length region) ≡ Some None
+    next-free = ap (λ p. slice_get p (length region)) (sym shown) ∙ pool_of-next frames taken region laid.marks more
+
+    -- it is taken
+    module _ (bytes : List ℕ) (after : List (List ℕ)) (marks : List Bool) (pushed : after ≡ region ++ bytes ∷ [])
+        (marked : marks ≡ taken ++ true ∷ []) where
+      pub next-laid : (stack : List ℕ) → stack ≡ [] → IsLaidOut frames after marks stack
+      next-laid stack none =
+          let same : length region ≡ length taken = laid.marks in
+          let size : length after ≡ length region + 1 = ap length pushed ∙ length-append region (bytes ∷ []) in
+          record {
+            marks = omega (arith, ap length marked, length-append taken (true ∷ []));
+            within = omega arith;
+            numbers = laid.numbers;
+            stack = let all : AreFree taken [] = subst (λ (ns : List ℕ). AreFree taken ns) empty laid.stack in rw (marked, none) (AreFree-more taken all);
+          }
+
+      pub next-shown : (place : ℕ) (clean : List ℕ) → length region ≡ place → bytes ≡ clean
+          → pool_of frames marks after ≡ slice_set pool place (Some clean)
+      next-shown place clean same cleared =
+          (λ i. pool_of frames (marked i) (pushed i))
+          ∙ pool_of-push frames taken region bytes laid.marks more
+          ∙ (λ i. slice_set (shown i) (same i) (Some (cleared i)))

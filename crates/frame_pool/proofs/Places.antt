@@ -1,5 +1,5 @@
--- What stands in a list where a place was written.
-use Rattle.std.proofs.Common.{◌≡◌, ◌≢◌, ℕ, zero, suc, List, [], ◌∷◌, Some, slice_get, slice_set, refl, ap}
+-- What stands in a list where a place was written, or where others follow.
+use Rattle.std.proofs.Common.{◌≡◌, ◌≢◌, ℕ, zero, suc, ◌<◌, List, [], ◌∷◌, ◌++◌, Some, length, slice_get, slice_set, refl, ap, arith}
 
 pub slice_get-set_same : {X : Type 0} (xs : List X) (i : ℕ) (x y : X) → slice_get xs i ≡ Some x → slice_get (slice_set xs i y) i ≡ Some y
 slice_get-set_same [] i x y here = cc
@@ -18,3 +18,14 @@ pub slice_set-same : {X : Type 0} (xs : List X) (i : ℕ) (x : X) → slice_get 
 slice_set-same [] i x here = refl
 slice_set-same (z ∷ xs) zero x here = cc
 slice_set-same (z ∷ xs) (suc i) x here = ap (λ ys. z ∷ ys) (slice_set-same xs i x here)
+
+-- what stands among the first of two lists
+pub slice_get-append_left : {X : Type 0} (xs ys : List X) (i : ℕ) → i < length xs → slice_get (xs ++ ys) i ≡ slice_get xs i
+slice_get-append_left [] ys i within = absurd (omega arith)
+slice_get-append_left (x ∷ xs) ys zero within = refl
+slice_get-append_left (x ∷ xs) ys (suc i) within = slice_get-append_left xs ys i (omega arith)
+
+-- what stands first behind them
+pub slice_get-append_seam : {X : Type 0} (xs : List X) (y : X) (ys : List X) → slice_get (xs ++ y ∷ ys) (length xs) ≡ Some y
+slice_get-append_seam [] y ys = refl
+slice_get-append_seam (x ∷ xs) y ys = slice_get-append_seam xs y ys

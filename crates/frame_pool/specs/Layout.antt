@@ -1,6 +1,6 @@
--- How a pool lies in memory (own): the frames of the region in order, which of them are taken, and a stack of the numbers
--- of those that are free.
-use Rattle.std.specs.Prelude.{◌≡◌, ◌<◌, ◌≤◌, ◌^◌, ℕ, Bool, true, false, List, [], ◌∷◌, Option, Some, None, if◌then◌else◌, length, slice_get, slice_set}
+-- How a pool lies in memory (own): in order of their numbers the frames that were ever taken, which of them are taken
+-- now, and a stack of the numbers of the others. The frames behind them were never taken, and no bytes stand for them.
+use Rattle.std.specs.Prelude.{◌≡◌, ◌-◌, ◌<◌, ◌≤◌, ◌^◌, ℕ, Bool, true, false, List, [], ◌∷◌, ◌++◌, Option, Some, None, if◌then◌else◌, length, replicate, slice_get, slice_set}
 use Rattle.std.specs.List.{AllByRecursion}
 
 -- a frame of the region
@@ -13,14 +13,25 @@ frames_of [] frames = []
 frames_of (t ∷ ts) [] = []
 frames_of (t ∷ ts) (bytes ∷ frames) = frame_of t bytes ∷ frames_of ts frames
 
--- the numbers are those of the free frames, each once: they can be taken one after another, and then all frames are taken
+-- all frames: those of the region, and then those that were never taken
+abbrev pub pool_of : ℕ → List Bool → List (List ℕ) → List (Option (List ℕ))
+pool_of frames taken region = frames_of taken region ++ replicate (frames - length region) None
+
+-- the numbers are those of the free frames of the region, each once: they can be taken one after another, and then all of
+-- them are taken
 abbrev pub AreFree : List Bool → List ℕ → Type 0
 AreFree taken [] = AllByRecursion (λ t. t ≡ true) taken
 AreFree taken (n ∷ rest) = (slice_get taken n ≡ Some false) × AreFree (slice_set taken n true) rest
 
--- the region has as many frames as are marked, which a u32 numbers, and the stack has room for all their numbers
-pub record IsLaidOut (region : List (List ℕ)) (taken : List Bool) (free : List ℕ) (room : ℕ) : Type 0 where
-  pub frames : length region ≡ length taken
-  pub numbers : length taken < 2 ^ 32
-  pub enough : length taken ≤ room
+-- the region has as many frames as are marked, and no more than all, which a u32 numbers
+pub record IsLaidOut (frames : ℕ) (region : List (List ℕ)) (taken : List Bool) (free : List ℕ) : Type 0 where
+  pub marks : length region ≡ length taken
+  pub within : length region ≤ frames
+  pub numbers : frames < 2 ^ 32
   pub stack : AreFree taken free
+
+-- the region, the marks and the stack each have room for all frames
+pub record HasRoom (frames region taken free : ℕ) : Type 0 where
+  pub bytes : frames ≤ region
+  pub marks : frames ≤ taken
+  pub stack : frames ≤ free

@@ -10,23 +10,27 @@ use std::alloc::{AllocError, Global};
 use std::marker::Model;
 
 /// All frames of guest memory, by number: the bytes of each frame that is taken, and nothing for one that is free.
+///
+/// The region has the frames that were ever taken, so that a frame costs nothing before it is taken for the first time.
 #[derive(Drop)]
 pub struct FramePool {
     region: Vec<[u8; 4096]>,
     taken: Vec<bool>,
     free: Vec<u32>,
+    frames: u32,
 }
 
 impl Model for FramePool {
     ghost use Rattle.std.specs.Prelude.{ℕ, List, Option};
     ghost use Rattle.std.specs.Vec.{vec_capacity};
-    ghost use Rattle.frame_pool.specs.Layout.{IsLaidOut, frames_of};
+    ghost use Rattle.frame_pool.specs.Layout.{HasRoom, IsLaidOut, pool_of};
 
     ghost Value = { List (Option (List ℕ)) };
 
-    ghost view = { λ p. frames_of p.taken.items p.region.items };
+    ghost view = { λ p. pool_of p.frames p.taken.items p.region.items };
 
-    ghost invariant = { λ p. IsLaidOut p.region.items p.taken.items p.free.items (vec_capacity p.free) };
+    ghost invariant = { λ p. IsLaidOut p.frames p.region.items p.taken.items p.free.items
+        × HasRoom p.frames (vec_capacity p.region) (vec_capacity p.taken) (vec_capacity p.free) };
 }
 
 impl FramePool {
@@ -36,22 +40,20 @@ impl FramePool {
         ensures free { IfOk result (λ p. free_count p ≡ frames) }
     {
         let count = frames as usize;
-        let mut pool = FramePool {
-            region: vec![in alloc; [0; 4096]; count]?,
-            taken: vec![in alloc; true; count]?,
+        Ok(FramePool {
+            region: Vec::with_capacity(alloc, count)?,
+            taken: Vec::with_capacity(alloc, count)?,
             free: Vec::with_capacity(alloc, count)?,
-        };
-        for number in 0..frames {
-            pool.give(Frame::new(number));
-        }
-        Ok(pool)
+            frames,
+        })
     }
 
     /// How many frames are free.
     pub fn free(&self) -> u32
         ensures { result ≡ free_count self.now }
     {
-        self.free.len() as u32
+        let never_taken = self.frames - self.region.len() as u32;
+        never_taken + self.free.len() as u32
     }
 
     /// A free frame, which has zero bytes and is now taken; None exactly where none is free. It takes no memory.
@@ -61,9 +63,17 @@ impl FramePool {
         ensures was_free { IfSome result (λ n. slice_get self.old n ≡ Some None) }
         ensures taken { IfSome result (λ n. self.new ≡ slice_set self.old n (Some fresh)) }
     {
-        let number = self.free.pop()?;
-        self.taken[number as usize] = true;
-        clear(&mut self.region[number as usize]);
+        if let Some(number) = self.free.pop() {
+            self.taken[number as usize] = true;
+            self.region[number as usize] = zeros();
+            return Some(Frame::new(number));
+        }
+        let number = self.region.len() as u32;
+        if number == self.frames {
+            return None;
+        }
+        let _ = self.region.push(zeros());
+        let _ = self.taken.push(true);
         Some(Frame::new(number))
     }
 
@@ -99,9 +109,9 @@ impl FramePool {
     }
 }
 
-/// Makes each byte of a frame zero.
-fn clear(frame: &mut [u8; 4096])
-    ensures { frame.new ≡ fresh }
+/// The bytes of a frame that is taken.
+fn zeros() -> [u8; 4096]
+    ensures { result ≡ fresh }
 {
-    *frame = [0; 4096];
+    [0; 4096]
 }

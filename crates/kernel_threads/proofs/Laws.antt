@@ -9,7 +9,6 @@ use Rattle.mach_types.specs.Kernel.Threads.{state_of}
 use Rattle.kernel_threads.specs.Table.{Table, IsTable, SavedList, is_of, saved_of, with_saved}
 use Rattle.kernel_threads.proofs.SavedAfter as after
 use Rattle.kernel_threads.proofs.SavedThere as there
-pub use Rattle.kernel_threads.proofs.Processes.{next_is_new, state_of-with_child_same}
 pub use Rattle.kernel_threads.proofs.SavedAfter.{saved_of-answered, saved_of-child, saved_of-forget_other, saved_of-forget_same, saved_of-with_answer_other, saved_of-with_start_other}
 
 -- what happens to one thread leaves what is saved of another

@@ -12,7 +12,7 @@ use Rattle.kernel_threads.specs.declared.rows.Stage.TheVariants as stage
 use Rattle.kernel_threads.specs.declared.table.Slots.{Slots}
 use Rattle.kernel_threads.proofs.RowsRead.{state_of_rows, saved_of_rows}
 use Rattle.kernel_threads.proofs.Viewed.{of_live}
-use Rattle.kernel_threads.proofs.Processes.{room_for_waiter}
+use Rattle.mach_types.proofs.Laws.{room_for_waiter}
 use Rattle.mach_types.specs.Kernel.Threads.{Threads, is_running_state, is_thread, state_of, is_full, longest_waiter, is_waiting_at, waits}
 use Rattle.mach_types.specs.declared.events.Hart.{Hart}
 use Rattle.mach_types.specs.declared.threads.Saved.{Saved}

@@ -4,7 +4,7 @@ use Rattle.std.specs.Option.{option_map, option_map_or, option_and_then}
 use Rattle.kernel_threads.specs.Rows.{state_at, kept_at, thread_in, saved_in, threads_in, all_saved_in, is_row}
 use Rattle.kernel_threads.specs.Table.{saved_of, is_of}
 use Rattle.kernel_threads.specs.declared.rows.Row.{Row}
-use Rattle.kernel_threads.proofs.Lists.{map_finds}
+use Rattle.mach_types.proofs.Laws.{map_finds}
 use Rattle.mach_types.specs.Kernel.Threads as process
 use Rattle.mach_types.specs.declared.threads.Saved.{Saved}
 use Rattle.mach_types.specs.declared.threads.ThreadState.{ThreadState}

@@ -2,9 +2,7 @@
 use Rattle.std.proofs.Common.{ℕ, ◌+◌, ◌≡◌, ◌≢◌, true, false, List, find, Option, Some, None, is_some, refl, sym, ap, ◌∙◌}
 use Rattle.std.specs.Option.{option_map, option_and_then}
 use Rattle.kernel_threads.specs.Table.{Table, IsTable, is_of, saved_of, with_saved, with_start, with_answer, answering, forget}
-use Rattle.kernel_threads.proofs.Lists.{changed_same, changed_other, filtered_same, filtered_other, found_at_end, not_at_end}
-use Rattle.kernel_threads.proofs.Times.{eqb_same, eqb_other}
-use Rattle.kernel_threads.proofs.Processes.{next_is_new}
+use Rattle.mach_types.proofs.Laws.{changed_same, changed_other, filtered_same, filtered_other, found_at_end, not_at_end, eqb_same, eqb_other, next_is_new}
 use Rattle.kernel_threads.proofs.SavedThere.{entry_of_live, entry_of_dead}
 use Rattle.std.proofs.lemmas.Bool.{false≢true}
 use Rattle.mach_types.specs.Kernel.Threads.{is_live}

@@ -3,7 +3,7 @@ use Rattle.std.proofs.Common.{ℕ, ◌≡◌, Bool, true, false, not, eqb, List,
 use Rattle.std.specs.Option.{option_map, option_and_then, IsSome}
 use Rattle.std.proofs.lemmas.Bool.{false≢true}
 use Rattle.kernel_threads.specs.Table.{Table, IsTable, is_of, saved_of, has_saved, wants_saved}
-use Rattle.kernel_threads.proofs.Lists.{map_finds}
+use Rattle.mach_types.proofs.Laws.{map_finds}
 use Rattle.mach_types.specs.Kernel.Threads.{Thread, is_thread, thread_of, is_live, state_of, is_running_state}
 use Rattle.mach_types.specs.declared.events.Hart.{Hart}
 use Rattle.mach_types.specs.declared.threads.Saved.{Saved}

@@ -6,8 +6,7 @@ use Rattle.kernel_threads.specs.Table.{Table, IsTable, is_of, saved_if, with_sav
 use Rattle.kernel_threads.specs.declared.rows.Row.{Row}
 use Rattle.kernel_threads.specs.declared.rows.Stage.{Stage}
 use Rattle.kernel_threads.specs.declared.rows.Stage.TheVariants as stage
-use Rattle.kernel_threads.proofs.Lists.{map_commutes, map_stays, map_filters}
-use Rattle.kernel_threads.proofs.Processes.{is_waiting, IsThreads-child, IsThreads-without, IsThreads-with_state, IsThreads-with_clear, IsThreads-woken, IsThreads-waiter}
+use Rattle.mach_types.proofs.Laws.{map_commutes, map_stays, map_filters, is_waiting, IsThreads-child, IsThreads-without, IsThreads-with_state, IsThreads-with_clear, IsThreads-woken, IsThreads-waiter}
 use Rattle.mach_types.specs.Kernel.Threads.{IsThreads, Thread, Threads, is_running_state, is_thread, state_of, state_if, clear_if, with_state, with_clear, with_child, is_full, without, with_waiter, with_woken, no_waiter}
 use Rattle.mach_types.specs.declared.events.Hart.{Hart}
 use Rattle.mach_types.specs.declared.threads.Saved.{Saved}

@@ -1,1 +1,5 @@
 pub mod Examples
+pub mod Laws
+mod Lists
+mod Processes
+mod Times

@@ -1,6 +1,6 @@
 //! What an instruction asks, by its effect.
 
-ghost use Rattle.std.specs.Prelude.{◌≡◌};
+ghost use Rattle.std.specs.Prelude.{◌≡◌, Some, true};
 ghost use Rattle.rv_inst.specs.Class as class;
 
 use crate::class::{Access, Asks};
@@ -70,6 +70,26 @@ fn conditional_write(at: u64, size: u8) -> Access
     }
 }
 
+/// An instruction that waits until no store of its hart waits, and asks for nothing else.
+const EMPTY_BUFFER: Asks = Asks {
+    access: None,
+    wants_empty: true,
+    is_plain_store: false,
+    is_call: false,
+    sets_register: false,
+    fault: None,
+};
+
+/// An instruction whose access goes to memory at once, past no waiting store.
+fn at_once(access: Access) -> Asks
+    ensures { result ≡ record class.nothing { access = Some access; wants_empty = true } }
+{
+    Asks {
+        access: Some(access),
+        ..EMPTY_BUFFER
+    }
+}
+
 /// What an instruction with this effect asks of its hart and of memory, before it is executed.
 ///
 /// Accesses, fences and traps are those of the RISC-V Unprivileged ISA (chapters RV32I, RV64I, "A",
@@ -91,38 +111,21 @@ pub fn asks(effect: &Effect) -> Asks
             is_plain_store: true,
             ..NOTHING
         },
-        Effect::Amo { at, size, .. } => Asks {
-            access: Some(atomic_write(at, size)),
-            wants_empty: true,
-            ..NOTHING
-        },
-        Effect::Lr { at, size, .. } => Asks {
-            access: Some(reserving_read(at, size)),
-            wants_empty: true,
-            ..NOTHING
-        },
-        Effect::Sc { at, size, .. } => Asks {
-            access: Some(conditional_write(at, size)),
-            wants_empty: true,
-            ..NOTHING
-        },
+        Effect::Amo { at, size, .. } => at_once(atomic_write(at, size)),
+        Effect::Lr { at, size, .. } => at_once(reserving_read(at, size)),
+        Effect::Sc { at, size, .. } => at_once(conditional_write(at, size)),
         Effect::Fence { full } => Asks {
             wants_empty: full,
             ..NOTHING
         },
-        Effect::FenceI => Asks {
-            wants_empty: true,
-            ..NOTHING
-        },
+        Effect::FenceI => EMPTY_BUFFER,
         Effect::Call => Asks {
-            wants_empty: true,
             is_call: true,
-            ..NOTHING
+            ..EMPTY_BUFFER
         },
         Effect::Break => Asks {
-            wants_empty: true,
             fault: Some(SIGTRAP),
-            ..NOTHING
+            ..EMPTY_BUFFER
         },
         Effect::Misaligned => Asks {
             fault: Some(SIGBUS),

@@ -8,7 +8,8 @@ use Rattle.mach_types.specs.Kernel.Threads.{IsThreads, Thread, Threads, is_full,
 use Rattle.mach_types.specs.declared.threads.Saved.{Saved}
 use Rattle.mach_types.specs.declared.threads.ThreadState.TheVariants.{Ready}
 use Rattle.kernel_threads.specs.Table.{IsTable, Table, saved_of, with_start}
-use Rattle.kernel_threads.proofs.Laws.{next_is_new, saved_of-child, saved_of-with_start_other, state_of-with_child_same}
+use Rattle.mach_types.proofs.Laws.{next_is_new, state_of-with_child_same}
+use Rattle.kernel_threads.proofs.Laws.{saved_of-child, saved_of-with_start_other}
 use Rattle.block_model.specs.Here.{Here}
 use Rattle.block_model.specs.History.{file_among}
 use Rattle.block_model.specs.Calls.Answers.{argument}

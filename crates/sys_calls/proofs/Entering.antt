@@ -11,7 +11,7 @@ none_written None a = refl
 none_written (Some b) a = refl
 
 pub entered_none : (m : Map) → IsEntered m m []
-entered_none m = record { bytes = λ a. none_written (byte_in m a) a; permissions = λ n. refl; free = refl; break_at = refl }
+entered_none m = record { bytes = λ a. none_written (byte_in m a) a; code = λ a. refl; permissions = λ n. refl; free = refl; break_at = refl }
 
 written_twice : (v : List Write) (w : List Write) (a b : ℕ) → written w a (written v a b) ≡ written (v ++ w) a b
 written_twice [] w a b = refl
@@ -24,6 +24,7 @@ twice v w a (Some b) = ap Some (written_twice v w a b)
 pub entered_twice : (m n o : Map) (v w : List Write) → IsEntered m n v → IsEntered n o w → IsEntered m o (v ++ w)
 entered_twice m n o v w first second = record {
   bytes = λ a. second.bytes a ∙ ap (option_map (written w a)) (first.bytes a) ∙ twice v w a (byte_in m a);
+  code = λ a. second.code a ∙ first.code a;
   permissions = λ k. second.permissions k ∙ first.permissions k;
   free = second.free ∙ first.free;
   break_at = second.break_at ∙ first.break_at;

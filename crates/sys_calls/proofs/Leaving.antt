@@ -4,7 +4,7 @@ use Rattle.std.proofs.lemmas.Bool.{eqb-true, eqb-false}
 use Rattle.mach_types.specs.declared.threads.Saved.{Saved}
 use Rattle.mach_types.specs.Kernel.Record as record_of
 use Rattle.mach_types.specs.Kernel.Scheduling.{with_ready}
-use Rattle.mach_types.specs.Kernel.Threads.{Threads, running_on, with_state}
+use Rattle.mach_types.specs.Kernel.Threads.{Threads, running_on, state_of, with_state}
 use Rattle.mach_types.specs.Registers.{register}
 use Rattle.mach_types.specs.declared.threads.ThreadState.TheVariants.{Ready}
 use Rattle.kernel_threads.specs.Table.{Table, saved_of, with_saved}
@@ -14,14 +14,16 @@ use Rattle.block_model.specs.Here.{Here}
 use Rattle.block_model.specs.History.{file_among}
 use Rattle.block_model.specs.Calls.Answers.{said, returned}
 use Rattle.block_model.specs.Kernel.{left}
-use Rattle.block_model.proofs.Laws.{left_idle}
+use Rattle.block_model.specs.Tables.{on}
+use Rattle.block_model.proofs.Laws.{left_idle, state_now}
 use Rattle.sys_calls.specs.Answered.{IsCaller}
 use Rattle.sys_calls.specs.declared.calling.CallEnd.{CallEnd}
 use Rattle.sys_calls.specs.declared.calling.CallEnd.TheVariants as over
 use Rattle.sys_calls.specs.declared.kernel.Kernel.{Kernel}
-use Rattle.sys_calls.specs.Made.{AreSaved, IsAnswer, IsMade, gives_up, process_end}
+use Rattle.sys_calls.specs.Made.{AreSaved, IsAnswer, IsMade, StandsSo, gives_up, process_end}
 use Rattle.sys_calls.proofs.Entering.{entered_none}
 use Rattle.sys_calls.proofs.Saying.{own_first}
+use Rattle.sys_calls.proofs.Tables.{runs_there}
 
 -- what is kept of a thread that left is its file
 left_one : (t u : ℕ) (x f y : Saved) (saved : List (ℕ × Option Saved)) → saved_of u (with_saved t (Some x) saved) ≡ Some y
@@ -39,9 +41,9 @@ kept_left t x file before after is all u y at =
 -- a call whose thread gave up its hart with the answer 0, and which changed the record so
 pub made_gone : (h : Here) (t here : ℕ) (k k' : Kernel) (m : Map) (saved' : Saved) (end : CallEnd) (after : record_of.Kernel) → h.hart ≡ here
     → k'.threads.threads ≡ after.threads → k'.ready ≡ after.scheduling → k'.console ≡ after.console → k'.threads.saved ≡ with_saved t (Some saved') k.threads.saved
-    → saved' ≡ returned 0 (h.file t) → running_on here after.threads ≡ None → gives_up end ≡ true → process_end end ≡ None → IsAnswer end saved'
+    → saved' ≡ returned 0 (h.file t) → running_on here after.threads ≡ None → gives_up end ≡ true → StandsSo end t after.threads → process_end end ≡ None → IsAnswer end saved'
     → IsMade h t k m k' m saved' end (record (said h t 0) { kernel = after })
-made_gone h t here k k' m saved' end after hart threads ready console kept file idle gives ends answers =
+made_gone h t here k k' m saved' end after hart threads ready console kept file idle gives stands ends answers =
     let none = entered_none m in
     record {
       threads = threads;
@@ -50,10 +52,12 @@ made_gone h t here k k' m saved' end after hart threads ready console kept file 
       kept = λ all. kept_left t (returned 0 (h.file t)) h.file k.threads k'.threads (kept ∙ ap (λ (x : Saved). with_saved t (Some x) k.threads.saved) file) all;
       own = file ∙ sym (own_first t (returned 0 (h.file t)) (h.file t) []);
       bytes = none.bytes;
+      code = none.code;
       permissions = none.permissions;
       free = none.free;
       break_at = none.break_at;
       hart = ap (λ n. running_on n after.threads) hart ∙ idle ∙ ap (λ (b : Bool). cond b None (Some t)) (sym gives);
+      stands = stands;
       ended = ends;
       answer = answers;
     }
@@ -65,9 +69,10 @@ pub made_left : (h : Here) (t here : ℕ) (k k1 k' : Kernel) (m : Map) (saved sa
     → k'.ready ≡ with_ready t k1.ready → k'.console ≡ k1.console → end ≡ over.Leave (pos 0) → register saved'.file 10 ≡ 0
     → IsMade h t k m k' m saved' end (record (said h t 0) { kernel = left t before })
 made_left h t here k k1 k' m saved saved' end before hart file threads ready console same caller after threads' saved'is ready' console' is a0 =
+    let ready_now = ap (λ (ts : Threads). state_of t (with_state t Ready ts)) (sym threads) ∙ state_now t Ready (on here) k1.threads.threads (runs_there k1 here t caller) in
     let idle = left_idle caller.tables.0 here t k1.threads.threads k1.ready caller.tables.1 caller.runs in
     made_gone h t here k k' m saved' end (left t before) hart
     (threads' ∙ ap (with_state t Ready) threads) (ready' ∙ ap (with_ready t) ready) (console' ∙ console)
     (saved'is ∙ ap (with_saved t (Some saved')) same) (after ∙ ap (returned 0) file)
     (ap (λ (ts : Threads). running_on here (with_state t Ready ts)) (sym threads) ∙ idle)
-    (ap gives_up is) (ap process_end is) (subst (λ (e : CallEnd). IsAnswer e saved') (sym is) (sym a0))
+    (ap gives_up is) (subst (λ (e : CallEnd). StandsSo e t (left t before).threads) (sym is) ready_now) (ap process_end is) (subst (λ (e : CallEnd). IsAnswer e saved') (sym is) (sym a0))

@@ -1,7 +1,8 @@
 pub mod Children
 pub mod Dispatched
 pub mod Entering
-pub mod Leaving
+pub mod Keeping
+mod Leaving
 pub mod Reading
 pub mod Saying
 pub mod Spans

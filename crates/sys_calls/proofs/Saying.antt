@@ -5,7 +5,7 @@ use Rattle.mach_types.specs.declared.errors.Errno.{Errno}
 use Rattle.mach_types.specs.declared.threads.Saved.{Saved}
 use Rattle.mach_types.specs.declared.user_memory.Write.{Write}
 use Rattle.mach_types.specs.Kernel.Scheduling.{Scheduling}
-use Rattle.mach_types.specs.Kernel.Threads.{running_on}
+use Rattle.mach_types.specs.Kernel.Threads.{Threads, running_on, runs}
 use Rattle.kernel_threads.specs.Table.{Table, forget, saved_of}
 use Rattle.kernel_threads.proofs.Laws.{saved_of-forget_other, saved_of-forget_same}
 use Rattle.std.specs.Option.{option_map}
@@ -15,10 +15,12 @@ use Rattle.block_model.specs.Here.{Here}
 use Rattle.block_model.specs.History.{file_among}
 use Rattle.block_model.specs.Calls.Answers.{CallDone, said, returned}
 use Rattle.block_model.specs.Calls.Console.{wrote}
+use Rattle.block_model.specs.Tables.{IsTables}
+use Rattle.block_model.proofs.Laws.{running_is}
 use Rattle.sys_calls.specs.declared.calling.CallEnd.{CallEnd}
 use Rattle.sys_calls.specs.declared.kernel.Kernel.{Kernel}
-use Rattle.sys_calls.specs.Answered.{IsAnswered, IsCaller, IsEntered, IsTold, answer_of}
-use Rattle.sys_calls.specs.Made.{AreSaved, IsAnswer, IsMade, gives_up, process_end}
+use Rattle.sys_calls.specs.Answered.{AreTables, IsAnswered, IsCaller, IsEntered, IsTold, answer_of}
+use Rattle.sys_calls.specs.Made.{AreSaved, IsAnswer, IsMade, StandsSo, gives_up, process_end}
 use Rattle.sys_calls.proofs.Entering.{entered_none}
 
 -- an answer, and writes
@@ -78,11 +80,20 @@ kept_own t x file others table quiet all u y at = own_kept t u x (file u) y othe
 pub own_first : (t : ℕ) (x f : Saved) (others : List (ℕ × Saved)) → file_among ((t, x) ∷ others) t f ≡ x
 own_first t x f others = rw (eq-eqb t t refl) refl
 
+-- the caller of a call that answers runs on
+pub answered_runs : (h : Here) (t here : ℕ) (k k' : Kernel) (m m' : Map) (written : List Write) (answer : Result ℕ Errno) (c : CallDone) → h.hart ≡ here → IsTold h k → IsCaller k here t
+    → IsAnswered h t k m k' m' written answer c → AreTables k' → runs c.kernel.threads t
+answered_runs h t here k k' m m' written answer c hart told caller done tables =
+    let holds = subst (λ (ts : Threads). IsTables tables.0 ts k'.ready) done.threads tables.1 in
+    let there : running_on here c.kernel.threads ≡ Some t =
+    ap (λ n. running_on n c.kernel.threads) (sym hart) ∙ done.hart ∙ ap (λ n. running_on n h.kernel.threads) hart ∙ ap (running_on here) (sym told.threads) ∙ caller.runs in
+    (record { 0 = here }, running_is tables.0 here t c.kernel.threads k'.ready holds there)
+
 -- what a call comes to that answers
 pub made_answered : (h : Here) (t here : ℕ) (k k' : Kernel) (m m' : Map) (saved saved' : Saved) (written : List Write) (answer : Result ℕ Errno) (end : CallEnd) (c : CallDone)
-    → h.hart ≡ here → IsTold h k → saved ≡ h.file t → IsCaller k here t → IsAnswered h t k m k' m' written answer c
-    → saved' ≡ returned (answer_of answer) saved → gives_up end ≡ false → process_end end ≡ None → IsAnswer end saved' → IsMade h t k m k' m' saved' end c
-made_answered h t here k k' m m' saved saved' written answer end c hart told file caller done after stays ends answers =
+    → h.hart ≡ here → IsTold h k → saved ≡ h.file t → IsCaller k here t → IsAnswered h t k m k' m' written answer c → AreTables k'
+    → saved' ≡ returned (answer_of answer) saved → gives_up end ≡ false → ((u : ℕ) (ts : Threads) → runs ts u → StandsSo end u ts) → process_end end ≡ None → IsAnswer end saved' → IsMade h t k m k' m' saved' end c
+made_answered h t here k k' m m' saved saved' written answer end c hart told file caller done tables after stays runs_on ends answers =
     let own : List (ℕ × Saved) = (t, returned (answer_of answer) (h.file t)) ∷ done.others in
     let files : c.files ≡ own = done.files in
     record {
@@ -94,11 +105,13 @@ made_answered h t here k k' m m' saved saved' written answer end c hart told fil
       own = after ∙ ap (returned (answer_of answer)) file ∙ sym (own_first t (returned (answer_of answer) (h.file t)) (h.file t) done.others)
           ∙ ap (λ (fs : List (ℕ × Saved)). file_among fs t (h.file t)) (sym files);
       bytes = λ a. subst (λ (ws : List Write). byte_in m' a ≡ option_map (written_by ws a) (byte_in m a)) done.told (done.pages.bytes a);
+      code = done.pages.code;
       permissions = done.pages.permissions;
       free = done.pages.free;
       break_at = done.pages.break_at;
       hart = done.hart ∙ ap (λ n. running_on n h.kernel.threads) hart ∙ ap (running_on here) (sym told.threads) ∙ caller.runs
           ∙ ap (λ (b : Bool). cond b None (Some t)) (sym stays);
+      stands = runs_on t c.kernel.threads (answered_runs h t here k k' m m' written answer c hart told caller done tables);
       ended = ends ∙ sym done.goes_on;
       answer = answers;
     }

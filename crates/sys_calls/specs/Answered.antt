@@ -7,7 +7,7 @@ use Rattle.mach_types.specs.declared.errors.Errno.{Errno}
 use Rattle.mach_types.specs.declared.threads.Saved.{Saved}
 use Rattle.mach_types.specs.declared.user_memory.Write.{Write}
 use Rattle.kernel_threads.specs.Table.{saved_of}
-use Rattle.page_map.specs.Map.{Map, break_in, byte_in, can_write_in, free_in, permission_in}
+use Rattle.page_map.specs.Map.{Map, break_in, byte_in, can_write_in, code_in, free_in, permission_in}
 use Rattle.block_model.specs.Here.{Here, memory, is_writable}
 use Rattle.block_model.specs.History.{file_among}
 use Rattle.block_model.specs.Tables.{IsTables}
@@ -35,6 +35,7 @@ pub record IsTold (h : Here) (k : Kernel) : Type 0 where
 -- these writes entered memory, and nothing else of the page map changed
 pub record IsEntered (m : Map) (m' : Map) (writes : List Write) : Type 0 where
   pub bytes : (a : ℕ) → byte_in m' a ≡ option_map (written writes a) (byte_in m a)
+  pub code : (a : ℕ) → code_in m' a ≡ code_in m a
   pub permissions : (n : ℕ) → permission_in m' n ≡ permission_in m n
   pub free : free_in m' ≡ free_in m
   pub break_at : break_in m' ≡ break_in m
@@ -57,6 +58,10 @@ pub record IsAnswered (h : Here) (t : ℕ) (k : Kernel) (m : Map) (k' : Kernel) 
 -- the tables hold what holds at each place of a run
 abbrev pub AreTables : Kernel → Type 0
 AreTables k = (harts : ℕ) × IsTables harts k.threads.threads k.ready
+
+-- where the tables held, they hold
+abbrev pub KeepsTables : Kernel → Kernel → Type 0
+KeepsTables k k' = (harts : ℕ) → IsTables harts k.threads.threads k.ready → IsTables harts k'.threads.threads k'.ready
 
 -- a thread calls: the tables hold, it runs on the hart, and nothing is saved of it
 pub record IsCaller (k : Kernel) (here : ℕ) (t : ℕ) : Type 0 where

@@ -8,9 +8,10 @@ use Rattle.mach_types.specs.declared.events.Hart.{Hart}
 use Rattle.mach_types.specs.declared.events.Tid.{Tid}
 use Rattle.mach_types.specs.declared.limits.End.{End}
 use Rattle.mach_types.specs.declared.threads.Saved.{Saved}
-use Rattle.mach_types.specs.Kernel.Threads.{running_on}
+use Rattle.mach_types.specs.declared.threads.ThreadState.TheVariants.{Ready}
+use Rattle.mach_types.specs.Kernel.Threads.{Threads, running_on, runs, state_of, waits}
 use Rattle.kernel_threads.specs.Table.{Table, saved_of}
-use Rattle.page_map.specs.Map.{Map, byte_in, can_write_in, permission_in, free_in, break_in}
+use Rattle.page_map.specs.Map.{Map, byte_in, can_write_in, code_in, permission_in, free_in, break_in}
 use Rattle.block_model.specs.Here.{Here, memory, is_writable}
 use Rattle.block_model.specs.History.{file_among}
 use Rattle.block_model.specs.Calls.Answers.{CallDone}
@@ -53,6 +54,17 @@ process_end (over.Barrier targets restart) = None
 process_end over.ThreadEnd = None
 process_end (over.ProcessEnd e) = Some e
 
+-- how the thread stands once its call ended so: it runs on, it waits, it is ready, or it is gone; one that
+-- ends the process still runs. No call of the table goes on from a signal frame or waits in a barrier
+abbrev pub StandsSo : CallEnd → ℕ → Threads → Type 0
+StandsSo (over.Return answer) t ts = runs ts t
+StandsSo over.Block t ts = waits ts t
+StandsSo (over.Leave answer) t ts = state_of t ts ≡ Some Ready
+StandsSo over.Resume t ts = ⊥
+StandsSo (over.Barrier targets restart) t ts = ⊥
+StandsSo over.ThreadEnd t ts = state_of t ts ≡ None
+StandsSo (over.ProcessEnd e) t ts = runs ts t
+
 -- the answer that is told is the one in a0
 abbrev pub IsAnswer : CallEnd → Saved → Type 0
 IsAnswer (over.Return answer) x = cast_unsigned w64 answer ≡ register x.file 10
@@ -71,9 +83,11 @@ pub record IsMade (h : Here) (t : ℕ) (k : Kernel) (m : Map) (k' : Kernel) (m' 
   pub kept : AreSaved h.file k.threads → AreSaved (λ u. file_among c.files u (h.file u)) k'.threads
   pub own : saved ≡ file_among c.files t (h.file t)
   pub bytes : (a : ℕ) → byte_in m' a ≡ option_map (written c.entered a) (byte_in m a)
+  pub code : (a : ℕ) → code_in m' a ≡ code_in m a
   pub permissions : (n : ℕ) → permission_in m' n ≡ permission_in m n
   pub free : free_in m' ≡ free_in m
   pub break_at : break_in m' ≡ break_in m
   pub hart : running_on h.hart c.kernel.threads ≡ (if gives_up end then None else Some t)
+  pub stands : StandsSo end t c.kernel.threads
   pub ended : process_end end ≡ c.ended
   pub answer : IsAnswer end saved

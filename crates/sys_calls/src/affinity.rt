@@ -14,7 +14,7 @@ ghost use Rattle.block_model.specs.Here.{Here};
 ghost use Rattle.block_model.specs.Calls.Affinity.{getcpu, moved_off, sched_getaffinity, sched_setaffinity, sched_yield, set_at, written_unless_zero};
 ghost use Rattle.block_model.specs.Calls.Answers.{argument as argument_of, int_argument as int_argument_of, refused, returned, said};
 ghost use Rattle.block_model.specs.Tables.{IsTables};
-ghost use Rattle.sys_calls.specs.Answered.{AreTables, IsAnswered, IsCaller, IsEntered, IsRead, IsTold};
+ghost use Rattle.sys_calls.specs.Answered.{AreTables, IsAnswered, IsCaller, IsEntered, IsRead, IsTold, KeepsTables};
 ghost use Rattle.sys_calls.specs.Chosen.{setaffinity_with};
 ghost use Rattle.sys_calls.specs.Made.{IsMade};
 ghost use Rattle.sys_calls.specs.declared.kernel.Kernel.{Kernel as Tables};
@@ -80,6 +80,7 @@ fn leave(kernel: &mut Kernel, here: Hart, tid: Tid, saved: &mut Saved) -> CallEn
     ensures console { kernel.new.console ≡ kernel.old.console }
     ensures end { result ≡ over.Leave (pos 0) }
     ensures a0 { register saved.new.file 10 ≡ 0 }
+    ensures tables { KeepsTables kernel.old kernel.new }
 {
     answer(saved, 0);
     kernel.threads.leave(tid, *saved);
@@ -100,7 +101,8 @@ pub fn sched_setaffinity(
     requires some_hart { 1 ≤ harts }
     requires eight_harts { harts ≤ 8 }
     requires caller { IsCaller kernel.old here.0 tid.0 }
-    ensures { (h : Here) → h.hart ≡ here.0 → h.setting.limits.harts ≡ harts → IsTold h kernel.old → IsRead h pages.now tid.0 saved.old
+    ensures tables { KeepsTables kernel.old kernel.new }
+    ensures made { (h : Here) → h.hart ≡ here.0 → h.setting.limits.harts ≡ harts → IsTold h kernel.old → IsRead h pages.now tid.0 saved.old
         → IsMade h tid.0 kernel.old pages.now kernel.new pages.now saved.new result (sched_setaffinity h tid.0) }
 {
     match asked_set(kernel, pages, tid, saved) {
@@ -121,7 +123,8 @@ fn restrict(
     requires some_hart { 1 ≤ harts }
     requires eight_harts { harts ≤ 8 }
     requires caller { IsCaller kernel.old here.0 tid.0 }
-    ensures { (h : Here) (m : Map) → h.hart ≡ here.0 → h.setting.limits.harts ≡ harts → IsTold h kernel.old → saved.old ≡ h.file tid.0
+    ensures tables { KeepsTables kernel.old kernel.new }
+    ensures made { (h : Here) (m : Map) → h.hart ≡ here.0 → h.setting.limits.harts ≡ harts → IsTold h kernel.old → saved.old ≡ h.file tid.0
         → IsMade h tid.0 kernel.old m kernel.new m saved.new result (setaffinity_with h tid.0 set) }
 {
     if let Err(errno) = kernel.ready.set_affinity(tid, set, harts) {
@@ -136,7 +139,8 @@ fn restrict(
 /// sched_yield(): the thread leaves its hart, and is ready.
 pub fn sched_yield(kernel: &mut Kernel, here: Hart, tid: Tid, saved: &mut Saved) -> CallEnd
     requires { IsCaller kernel.old here.0 tid.0 }
-    ensures { (h : Here) (m : Map) → h.hart ≡ here.0 → IsTold h kernel.old → saved.old ≡ h.file tid.0
+    ensures tables { KeepsTables kernel.old kernel.new }
+    ensures made { (h : Here) (m : Map) → h.hart ≡ here.0 → IsTold h kernel.old → saved.old ≡ h.file tid.0
         → IsMade h tid.0 kernel.old m kernel.new m saved.new result (sched_yield h tid.0) }
 {
     leave(kernel, here, tid, saved)

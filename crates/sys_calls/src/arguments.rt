@@ -1,11 +1,12 @@
 //! What a call asks, and what it answers: the number is in a7, arguments are in a0 to a5, and the answer is in a0 (Linux
 //! for RISC-V, syscall(2)).
 
-ghost use Rattle.std.specs.Prelude.{◌≡◌, ◌≤◌, ◌<◌, ◌+◌, ◌%◌, ◌^◌, false, None, IfErr};
+ghost use Rattle.std.specs.Prelude.{◌≡◌, ◌≤◌, ◌<◌, ◌+◌, ◌%◌, ◌^◌, ℕ, false, None, IfErr};
+ghost use Rattle.mach_types.specs.Kernel.Threads.{Threads, runs};
 ghost use Rattle.mach_types.specs.Registers.{register};
 ghost use Rattle.block_model.specs.Calls.Answers.{negative, returned};
 ghost use Rattle.sys_calls.specs.Answered.{answer_of};
-ghost use Rattle.sys_calls.specs.Made.{IsAnswer, gives_up, process_end};
+ghost use Rattle.sys_calls.specs.Made.{IsAnswer, StandsSo, gives_up, process_end};
 
 use crate::calling::CallEnd;
 use mach_types::{Errno, Saved};
@@ -73,6 +74,7 @@ pub fn go_on(saved: &mut Saved, outcome: Result<u32, Errno>) -> CallEnd
     ensures saved { saved.new ≡ returned (answer_of outcome) saved.old }
     ensures answer { IsAnswer result saved.new }
     ensures stays { gives_up result ≡ false }
+    ensures runs_on { (t : ℕ) (threads : Threads) → runs threads t → StandsSo result t threads }
     ensures ends { process_end result ≡ None }
 {
     let value = value_of(outcome);

@@ -6,7 +6,7 @@ ghost use Rattle.mach_types.specs.Kernel.Threads.{is_live, running_on, runs};
 ghost use Rattle.block_model.specs.Here.{Here};
 ghost use Rattle.block_model.specs.Calls.{call_of, called as call_done};
 ghost use Rattle.block_model.specs.Tables.{IsTables};
-ghost use Rattle.sys_calls.specs.Answered.{AreTables, IsAnswered, IsCaller, IsRead, IsTold};
+ghost use Rattle.sys_calls.specs.Answered.{AreTables, IsAnswered, IsCaller, IsRead, IsTold, KeepsTables};
 ghost use Rattle.sys_calls.specs.Numbers.{IsOther};
 ghost use Rattle.sys_calls.specs.Made.{IsAt, IsMade};
 
@@ -100,6 +100,7 @@ pub fn make_call(
     ensures made { (h : Here) → IsAt h kernel.old pages.old here harts tid saved.old
         → IsMade h tid.0 kernel.old pages.old kernel.new pages.new saved.new result.end (call_done h tid.0) }
     ensures table { IsTable kernel.new.threads }
+    ensures tables { IsTables harts kernel.new.threads.threads kernel.new.ready }
     ensures written { (h : Here) → IsAt h kernel.old pages.old here harts tid saved.old → result.written.items ≡ (call_done h tid.0).entered }
 {
     has_nothing_saved(&kernel.threads, tid);
@@ -132,6 +133,7 @@ fn dispatch(
     requires caller { IsCaller kernel.old here.0 tid.0 }
     requires numbers { kernel.old.threads.threads.given < 2 ^ 31 - 1 }
     requires fresh { written.old.items ≡ [] }
+    ensures tables { KeepsTables kernel.old kernel.new }
     ensures made { (h : Here) → IsAt h kernel.old pages.old here harts tid saved.old
         → IsMade h tid.0 kernel.old pages.old kernel.new pages.new saved.new result (call_done h tid.0) }
     ensures told { (h : Here) → IsAt h kernel.old pages.old here harts tid saved.old → written.new.items ≡ (call_done h tid.0).entered }
@@ -165,6 +167,7 @@ fn answered(
     requires fresh { written.old.items ≡ [] }
     requires others { IsOther number }
     ensures errno { IfErr result (λ e. 1 ≤ e.0) }
+    ensures tables { KeepsTables kernel.old kernel.new }
     ensures answered { (h : Here) → h.hart ≡ here.0 → IsTold h kernel.old → IsRead h pages.old tid.0 saved.now
         → IsAnswered h tid.0 kernel.old pages.old kernel.new pages.new written.new.items result (call_of number h tid.0) }
 {

@@ -9,7 +9,7 @@ ghost use Rattle.page_map.specs.Map.{can_write_in};
 ghost use Rattle.block_model.specs.Here.{Here};
 ghost use Rattle.block_model.specs.Calls.Answers.{refused};
 ghost use Rattle.block_model.specs.Calls.Cloning.{are_flags, child_file, clone, has_flag, set_if, written_if};
-ghost use Rattle.sys_calls.specs.Answered.{AreTables, IsAnswered, IsEntered, IsRead, IsTold};
+ghost use Rattle.sys_calls.specs.Answered.{AreTables, IsAnswered, IsEntered, IsRead, IsTold, KeepsTables};
 ghost use Rattle.sys_calls.specs.Cloned.{CanWriteNumbers, HasChild, can_write_numbers, clear_asked, cloned, numbers_written};
 
 use crate::arguments::{answer, argument};
@@ -168,6 +168,7 @@ fn make_child(kernel: &mut Kernel, tid: Tid, saved: &Saved) -> Result<Tid, Errno
     requires room { is_full kernel.old.threads.threads ≡ false }
     ensures child { IsOk result }
     ensures number { IfOk result (λ t. t.0 ≡ kernel.old.threads.threads.given + 1) }
+    ensures tables { KeepsTables kernel.old kernel.new }
     ensures made { (h : Here) → IsTold h kernel.old → saved.now ≡ h.file tid.0 → HasChild h tid.0 kernel.old kernel.new }
 {
     let child = add_child(kernel, tid, child_file(saved))?;
@@ -215,6 +216,7 @@ pub fn clone(
     requires live { IsTrue (is_live tid.0 kernel.old.threads.threads) }
     requires numbers { kernel.old.threads.threads.given < 2 ^ 31 - 1 }
     ensures errno { IfErr result (λ e. 1 ≤ e.0) }
+    ensures tables { KeepsTables kernel.old kernel.new }
     ensures answered { (h : Here) → IsTold h kernel.old → IsRead h pages.old tid.0 saved.now
         → IsAnswered h tid.0 kernel.old pages.old kernel.new pages.new written.new.items result (clone h tid.0) }
 {

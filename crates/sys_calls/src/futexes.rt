@@ -9,7 +9,7 @@ ghost use Rattle.block_model.specs.Here.{Here};
 ghost use Rattle.block_model.specs.Calls.Answers.{argument as argument_of, refused, said};
 ghost use Rattle.block_model.specs.Calls.Futexes.{futex, futex_wait, operation};
 ghost use Rattle.block_model.specs.Kernel.{waited};
-ghost use Rattle.sys_calls.specs.Answered.{AreTables, IsCaller, IsRead, IsTold};
+ghost use Rattle.sys_calls.specs.Answered.{AreTables, IsCaller, IsRead, IsTold, KeepsTables};
 ghost use Rattle.sys_calls.specs.Made.{IsMade};
 ghost use Rattle.sys_calls.specs.Woken.{IsOnward, IsWoken, futex_of};
 
@@ -122,7 +122,8 @@ fn may_wait(pages: &PageMap, saved: &Saved) -> Result<(), Errno>
 /// The thread leaves its hart and waits, unless it is refused.
 fn wait(kernel: &mut Kernel, pages: &PageMap, here: Hart, tid: Tid, saved: &mut Saved) -> CallEnd
     requires { IsCaller kernel.old here.0 tid.0 }
-    ensures { (h : Here) → h.hart ≡ here.0 → IsTold h kernel.old → IsRead h pages.now tid.0 saved.old
+    ensures tables { KeepsTables kernel.old kernel.new }
+    ensures made { (h : Here) → h.hart ≡ here.0 → IsTold h kernel.old → IsRead h pages.now tid.0 saved.old
         → IsMade h tid.0 kernel.old pages.now kernel.new pages.now saved.new result (futex_wait h tid.0) }
 {
     match may_wait(pages, saved) {
@@ -145,7 +146,8 @@ pub fn futex(
     saved: &mut Saved,
 ) -> CallEnd
     requires { IsCaller kernel.old here.0 tid.0 }
-    ensures { (h : Here) → h.hart ≡ here.0 → IsTold h kernel.old → IsRead h pages.now tid.0 saved.old
+    ensures tables { KeepsTables kernel.old kernel.new }
+    ensures made { (h : Here) → h.hart ≡ here.0 → IsTold h kernel.old → IsRead h pages.now tid.0 saved.old
         → IsMade h tid.0 kernel.old pages.now kernel.new pages.now saved.new result (futex h tid.0) }
 {
     match asked(saved) {

@@ -7,7 +7,7 @@ ghost use Rattle.block_model.specs.Here.{Here, memory};
 ghost use Rattle.block_model.specs.Calls.Answers.{number_at as number_there};
 ghost use Rattle.block_model.specs.Calls.Console.{all_readable, bytes_from, bytes_of, is_elsewhere, spans_at, total, write, writev};
 ghost use Rattle.sys_calls.specs.Joined.{write_joined};
-ghost use Rattle.sys_calls.specs.Answered.{IsAnswered, IsRead, IsTold};
+ghost use Rattle.sys_calls.specs.Answered.{IsAnswered, IsRead, IsTold, KeepsTables};
 
 use crate::arguments::{argument, int_argument};
 use crate::console::Console;
@@ -49,6 +49,7 @@ fn is_elsewhere(saved: &Saved) -> bool
 /// write(fd, buf, len): appends the first bytes that fit, and answers how many. EBADF, EFAULT, ENOSPC in this order.
 pub fn write(kernel: &mut Kernel, pages: &PageMap, saved: &Saved) -> Result<u32, Errno>
     ensures errno { IfErr result (λ e. 1 ≤ e.0) }
+    ensures tables { KeepsTables kernel.old kernel.new }
     ensures answered { (h : Here) (t : ℕ) → IsTold h kernel.old → IsRead h pages.now t saved.now
         → IsAnswered h t kernel.old pages.now kernel.new pages.now [] result (write h t) }
 {
@@ -153,6 +154,7 @@ impl Records {
 /// more than 1,024 records, EFAULT for the records, EINVAL for 2^31 bytes or more, and then as write: in this order.
 pub fn writev(kernel: &mut Kernel, pages: &PageMap, saved: &Saved) -> Result<u32, Errno>
     ensures errno { IfErr result (λ e. 1 ≤ e.0) }
+    ensures tables { KeepsTables kernel.old kernel.new }
     ensures answered { (h : Here) (t : ℕ) → IsTold h kernel.old → IsRead h pages.now t saved.now
         → IsAnswered h t kernel.old pages.now kernel.new pages.now [] result (writev h t) }
 {
@@ -176,6 +178,7 @@ pub fn writev(kernel: &mut Kernel, pages: &PageMap, saved: &Saved) -> Result<u32
 fn write_records(kernel: &mut Kernel, pages: &PageMap, records: Records) -> Result<u32, Errno>
     requires end { records.at + 16 * records.count ≤ 2 ^ 64 }
     ensures errno { IfErr result (λ e. 1 ≤ e.0) }
+    ensures tables { KeepsTables kernel.old kernel.new }
     ensures answered { (h : Here) (t : ℕ) → IsTold h kernel.old → byte_in pages.now ≡ memory h
         → IsAnswered h t kernel.old pages.now kernel.new pages.now [] result (write_joined h t (spans_at h records.at records.count)) }
 {

@@ -16,7 +16,7 @@ use Rattle.block_model.proofs.Allowances.{child_allowed, running_live}
 use Rattle.block_model.specs.Tables.{on}
 use Rattle.block_model.proofs.KernelTables.{running_is}
 use Rattle.block_model.proofs.KernelCalls.{child_not_held, child_same, tables_child}
-use Rattle.block_model.proofs.Processes.{next_is_new}
+use Rattle.mach_types.proofs.Laws.{next_is_new}
 use Rattle.block_model.proofs.Good.{IsGoodHere, IsSound}
 use Rattle.block_model.proofs.Goods.Calls.Fit.{IsFitCall}
 use Rattle.block_model.proofs.Goods.Calls.Said.{IsApart, apart_own, unless_refused}

@@ -3,8 +3,8 @@ use Rattle.std.proofs.Common.{refl}
 use Rattle.sys_calls.proofs.Leaving.{made_left}
 use Rattle.sys_calls.proofs.affinity.sched_yield.Goals as goal
 
-pub returns : goal.returns
-returns c = λ h m hart told file.
+pub returns-clause-made : goal.returns-clause-made
+returns-clause-made c = λ h m hart told file.
     let k = c.args.kernel.now in
     made_left h c.args.tid.0 c.args.here.0 k k c.leave.new.kernel m c.args.saved.now c.leave.new.saved c.leave.result h.kernel hart file
     told.threads told.scheduling told.console refl c.requires

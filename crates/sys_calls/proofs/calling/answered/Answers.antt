@@ -18,7 +18,7 @@ returns-in-96-clause-answered c = λ h hart told read.
     let k' = c.set_tid_address.new.kernel in
     let m = c.args.pages.now in
     subst (λ (w : List Write). IsAnswered h t k m k' m w (Ok c.set_tid_address.result) (call_of c.args.number h t)) (sym c.requires.fresh)
-    (subst (λ (n : ℕ). IsAnswered h t k m k' m [] (Ok c.set_tid_address.result) (call_of n h t)) (sym c.in-96.is) (c.set_tid_address.ensures h m told read))
+    (subst (λ (n : ℕ). IsAnswered h t k m k' m [] (Ok c.set_tid_address.result) (call_of n h t)) (sym c.in-96.is) (c.set_tid_address.ensures.answered h m told read))
 
 pub returns-in-123-clause-answered : goal.returns-in-123-clause-answered
 returns-in-123-clause-answered c = λ h hart told read.

@@ -1,6 +1,6 @@
 -- Each call by its number.
 use Rattle.std.proofs.Common.{◌≡◌, ℕ, refl, sym, ap, subst, ◌∙◌}
-use Rattle.mach_types.specs.Kernel.Threads.{running_on}
+use Rattle.mach_types.specs.Kernel.Threads.{Threads, running_on, runs}
 use Rattle.mach_types.specs.declared.threads.Saved.{Saved}
 use Rattle.page_map.specs.Map.{Map}
 use Rattle.block_model.specs.Here.{Here}
@@ -15,7 +15,7 @@ use Rattle.sys_calls.specs.Made.{IsMade}
 use Rattle.sys_calls.proofs.Dispatched.{numbered, read_at, silent_futex, silent_setaffinity, told_at}
 use Rattle.sys_calls.proofs.Entering.{entered_none}
 use Rattle.sys_calls.proofs.Saying.{made_answered}
-use Rattle.sys_calls.proofs.Tables.{caller_lives}
+use Rattle.sys_calls.proofs.Tables.{caller_lives, caller_runs}
 use Rattle.sys_calls.proofs.calling.dispatch.Goals as goal
 
 -- the process ends
@@ -29,10 +29,12 @@ made_group h t here k m end told hart caller is =
       kept = λ all. all;
       own = refl;
       bytes = none.bytes;
+      code = none.code;
       permissions = none.permissions;
       free = none.free;
       break_at = none.break_at;
       hart = ap (λ n. running_on n h.kernel.threads) hart ∙ ap (running_on here) (sym told.threads) ∙ caller.runs;
+      stands = subst (λ (ts : Threads). runs ts t) told.threads (caller_runs k here t caller);
       ended = refl;
       answer = tt;
     })
@@ -70,7 +72,7 @@ returns-in-98-clause-made c = λ h at.
     let told = told_at h c.args.kernel.now c.args.pages.now c.args.here c.args.harts c.args.tid c.args.saved.now at in
     let read = read_at h c.args.kernel.now c.args.pages.now c.args.here c.args.harts c.args.tid c.args.saved.now at in
     subst (λ (d : CallDone). IsMade h t c.args.kernel.now c.args.pages.now c.futex.new.kernel c.args.pages.now c.futex.new.saved c.futex.result d)
-    (sym (numbered h t c.call_number.result 98 c.args.saved.now at.file c.call_number.ensures c.in-98.is)) (c.futex.ensures h at.hart told read)
+    (sym (numbered h t c.call_number.result 98 c.args.saved.now at.file c.call_number.ensures c.in-98.is)) (c.futex.ensures.made h at.hart told read)
 
 pub returns-in-98-clause-told : goal.returns-in-98-clause-told
 returns-in-98-clause-told c = λ h at.
@@ -82,7 +84,7 @@ returns-in-122-clause-made c = λ h at.
     let told = told_at h c.args.kernel.now c.args.pages.now c.args.here c.args.harts c.args.tid c.args.saved.now at in
     let read = read_at h c.args.kernel.now c.args.pages.now c.args.here c.args.harts c.args.tid c.args.saved.now at in
     subst (λ (d : CallDone). IsMade h t c.args.kernel.now c.args.pages.now c.sched_setaffinity.new.kernel c.args.pages.now c.sched_setaffinity.new.saved c.sched_setaffinity.result d)
-    (sym (numbered h t c.call_number.result 122 c.args.saved.now at.file c.call_number.ensures c.in-122.is)) (c.sched_setaffinity.ensures h at.hart at.count told read)
+    (sym (numbered h t c.call_number.result 122 c.args.saved.now at.file c.call_number.ensures c.in-122.is)) (c.sched_setaffinity.ensures.made h at.hart at.count told read)
 
 pub returns-in-122-clause-told : goal.returns-in-122-clause-told
 returns-in-122-clause-told c = λ h at.
@@ -93,7 +95,7 @@ returns-in-124-clause-made c = λ h at.
     let t = c.args.tid.0 in
     let told = told_at h c.args.kernel.now c.args.pages.now c.args.here c.args.harts c.args.tid c.args.saved.now at in
     subst (λ (d : CallDone). IsMade h t c.args.kernel.now c.args.pages.now c.sched_yield.new.kernel c.args.pages.now c.sched_yield.new.saved c.sched_yield.result d)
-    (sym (numbered h t c.call_number.result 124 c.args.saved.now at.file c.call_number.ensures c.in-124.is)) (c.sched_yield.ensures h c.args.pages.now at.hart told at.file)
+    (sym (numbered h t c.call_number.result 124 c.args.saved.now at.file c.call_number.ensures c.in-124.is)) (c.sched_yield.ensures.made h c.args.pages.now at.hart told at.file)
 
 pub returns-in_default-clause-made : goal.returns-in_default-clause-made
 returns-in_default-clause-made c = λ h at.
@@ -104,7 +106,9 @@ returns-in_default-clause-made c = λ h at.
     let read = read_at h k m c.args.here c.args.harts c.args.tid c.args.saved.now at in
     let done = c.answered-outcome.ensures.answered h at.hart told read in
     let made = made_answered h t c.args.here.0 k c.answered-outcome.new.kernel m c.answered-outcome.new.pages c.args.saved.now c.go_on.new.saved c.answered-outcome.new.written.items c.answered-outcome.result c.go_on.result
-    (call_of c.call_number.result h t) at.hart told at.file c.requires.caller done c.go_on.ensures.saved c.go_on.ensures.stays c.go_on.ensures.ends c.go_on.ensures.answer in
+    (call_of c.call_number.result h t) at.hart told at.file c.requires.caller done
+    (c.requires.caller.tables.0, c.answered-outcome.ensures.tables c.requires.caller.tables.0 c.requires.caller.tables.1)
+    c.go_on.ensures.saved c.go_on.ensures.stays c.go_on.ensures.runs_on c.go_on.ensures.ends c.go_on.ensures.answer in
     subst (λ (d : CallDone). IsMade h t k m c.answered-outcome.new.kernel c.answered-outcome.new.pages c.go_on.new.saved c.go_on.result d)
     (sym (numbered h t c.call_number.result c.call_number.result c.args.saved.now at.file c.call_number.ensures refl)) made
 

@@ -1,5 +1,5 @@
 -- The child lives, and the record has it.
-use Rattle.std.proofs.Common.{◌≡◌, ℕ, ◌+◌, sym, ap, ◌∙◌}
+use Rattle.std.proofs.Common.{◌≡◌, ℕ, ◌+◌, refl, sym, ap, ◌∙◌}
 use Rattle.mach_types.specs.Kernel.Scheduling.{Scheduling, with_ready, with_thread}
 use Rattle.mach_types.specs.Kernel.Threads.{Threads, running_on, with_child}
 use Rattle.mach_types.specs.Registers.{register}
@@ -8,13 +8,30 @@ use Rattle.kernel_threads.specs.Table.{with_start}
 use Rattle.block_model.specs.Kernel.{next_number}
 use Rattle.block_model.specs.Calls.Answers.{argument}
 use Rattle.block_model.specs.Calls.Cloning.{clone_child_cleartid, has_flag}
+use Rattle.block_model.proofs.Laws.{tables_child}
+use Rattle.sys_calls.specs.declared.kernel.Kernel.{Kernel}
 use Rattle.sys_calls.specs.Cloned.{clear_asked}
+use Rattle.sys_calls.proofs.Keeping.{keeps_by, keeps_twice, tables_asked}
 use Rattle.sys_calls.proofs.Children.{asked_console, asked_runs, asked_scheduling, asked_threads, child_lives, child_runs}
 use Rattle.sys_calls.proofs.cloning.make_child.Goals as goal
 
 pub set_clear_if-requires : goal.set_clear_if-requires
 set_clear_if-requires c =
     child_lives c.in_ok-child.child.0 c.args.kernel.now.threads.threads c.add_child.new.kernel.threads.threads c.requires.tables.1.threads c.in_ok-child.ensures.number c.in_ok-child.ensures.threads
+
+pub returns-clause-tables : goal.returns-clause-tables
+returns-clause-tables c =
+    let t = c.args.tid.0 in
+    let k = c.args.kernel.now in
+    let k1 = c.add_child.new.kernel in
+    let k' : Kernel = record { threads = c.set_clear_if.new.threads; ready = k1.ready; console = k1.console } in
+    let next = k.threads.threads.given + 1 in
+    let saved = c.args.saved.now in
+    keeps_twice k k1 k'
+    (keeps_by k k1 (with_child k.threads.threads) (with_ready next (with_thread t next k.ready)) c.in_ok-child.ensures.threads c.in_ok-child.ensures.ready
+    (λ harts holds. tables_child harts t k.threads.threads k.ready holds c.requires.room))
+    (keeps_by k1 k' (clear_asked saved c.in_ok-child.child.0 k1.threads.threads) k1.ready c.set_clear_if.ensures.threads refl
+    (λ harts holds. tables_asked harts c.in_ok-child.child.0 (register saved.file 14) k1.threads.threads k1.ready (has_flag (register saved.file 10) clone_child_cleartid) holds))
 
 pub returns-clause-made : goal.returns-clause-made
 returns-clause-made c = λ h told file.

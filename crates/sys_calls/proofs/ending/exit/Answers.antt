@@ -4,21 +4,22 @@ use Rattle.std.proofs.lemmas.Bool.{le-leb, lt-leb}
 use Rattle.std.specs.Int.{from_bool}
 use Rattle.std.specs.Option.{option_map}
 use Rattle.mach_types.specs.Bytes.{each_byte, written}
-use Rattle.mach_types.specs.Kernel.Threads.{Threads, clear_of, running_on}
+use Rattle.mach_types.specs.Kernel.Threads.{Threads, clear_of, running_on, runs}
 use Rattle.mach_types.specs.declared.limits.End.{End}
 use Rattle.mach_types.specs.declared.threads.Saved.{Saved}
 use Rattle.mach_types.specs.declared.user_memory.Write.{Write}
 use Rattle.page_map.specs.Map.{Map, byte_in, can_write_in}
 use Rattle.block_model.specs.Here.{Here}
 use Rattle.block_model.specs.Calls.Answers.{CallDone, are_writable, word_written}
-use Rattle.block_model.specs.Calls.Ending.{clearing, clears, ended_with, is_last, last_exits, one_exits}
+use Rattle.block_model.specs.Calls.Ending.{clearing, clears, ended_with, is_last, last_exits, one_exits, woken_at_exit}
+use Rattle.mach_types.proofs.Laws.{state_of-without_same}
 use Rattle.sys_calls.specs.declared.calling.CallEnd.TheVariants as over
 use Rattle.sys_calls.specs.declared.kernel.Kernel.{Kernel}
 use Rattle.sys_calls.specs.Answered.{IsCaller, IsEntered, IsRead, IsTold}
 use Rattle.sys_calls.specs.Ended.{IsGone}
 use Rattle.sys_calls.specs.Made.{IsMade}
 use Rattle.sys_calls.proofs.Reading.{if_false, if_true, writable_at}
-use Rattle.sys_calls.proofs.Tables.{caller_lives}
+use Rattle.sys_calls.proofs.Tables.{caller_lives, caller_runs}
 use Rattle.sys_calls.proofs.ending.exit.Goals as goal
 
 -- whether the word is cleared, and its write
@@ -44,10 +45,12 @@ made_last h t here k m m' saved ws e hart told file caller entered writes end = 
   kept = λ all. all;
   own = file;
   bytes = λ a. subst (λ (w : List Write). byte_in m' a ≡ option_map (written w a) (byte_in m a)) writes (entered.bytes a);
+  code = entered.code;
   permissions = entered.permissions;
   free = entered.free;
   break_at = entered.break_at;
   hart = ap (λ n. running_on n h.kernel.threads) hart ∙ ap (running_on here) (sym told.threads) ∙ caller.runs;
+  stands = subst (λ (ts : Threads). runs ts t) told.threads (caller_runs k here t caller);
   ended = ap Some end;
   answer = tt;
 }
@@ -62,10 +65,12 @@ made_one h t here k k' m m' saved ws hart file entered writes gone = record {
   kept = gone.kept;
   own = file ∙ sym gone.alone;
   bytes = λ a. subst (λ (w : List Write). byte_in m' a ≡ option_map (written w a) (byte_in m a)) writes (entered.bytes a);
+  code = entered.code;
   permissions = entered.permissions;
   free = entered.free;
   break_at = entered.break_at;
   hart = ap (running_on h.hart) (sym gone.threads) ∙ ap (λ n. running_on n k'.threads.threads) hart ∙ gone.idle;
+  stands = state_of-without_same t (woken_at_exit h t).kernel.threads;
   ended = refl;
   answer = tt;
 }
@@ -122,7 +127,7 @@ returns-clause-made c = λ h hart told read.
     let writes = clearing_is h t c.clear_at-at.result c.clear_word-is_cleared.result c.clear_word-is_cleared.new.written.items at clear c.clear_word-is_cleared.ensures.told in
     let last = last_is h k c.live.result false told c.live.ensures.count (lt-leb c.live.result 1 c.if-live-le1.false) in
     let most : c.from.result ≡ cond (clears h t) 1 0 = c.from.ensures ∙ byte_is c.clear_word-is_cleared.result ∙ ap (λ (b : Bool). how_many b) clear in
-    let there = subst (λ (n : ℕ). IsGone h k c.go.new.kernel t n c.clear_at-at.result c.args.here.0) most (c.go.ensures h told) in
+    let there = subst (λ (n : ℕ). IsGone h k c.go.new.kernel t n c.clear_at-at.result c.args.here.0) most (c.go.ensures.gone h told) in
     let gone = subst (λ (a : ℕ). IsGone h k c.go.new.kernel t (cond (clears h t) 1 0) a c.args.here.0) at there in
     let made = made_one h t c.args.here.0 k c.go.new.kernel c.args.pages.now m' c.args.saved.now c.clear_word-is_cleared.new.written.items hart read.file c.clear_word-is_cleared.ensures.entered writes gone in
     subst (λ (d : CallDone). IsMade h t k c.args.pages.now c.go.new.kernel m' c.args.saved.now over.ThreadEnd d) (sym (if_false (is_last h) (last_exits h t) (one_exits h t) last)) made

@@ -3,10 +3,11 @@ use Rattle.std.proofs.Common.{ℕ, sym, ap, subst, ◌∙◌}
 use Rattle.mach_types.specs.Kernel.Scheduling.{Scheduling, forget}
 use Rattle.mach_types.specs.Kernel.Threads.{Threads, running_on, without}
 use Rattle.block_model.specs.Tables.{IsTables}
-use Rattle.block_model.proofs.Laws.{ended_idle}
+use Rattle.block_model.proofs.Laws.{ended_idle, tables_ended}
 use Rattle.sys_calls.specs.declared.kernel.Kernel.{Kernel}
 use Rattle.sys_calls.specs.Answered.{IsCaller}
 use Rattle.sys_calls.specs.Woken.{IsOnward}
+use Rattle.sys_calls.proofs.Keeping.{keeps_by, keeps_twice}
 use Rattle.sys_calls.proofs.Saying.{kept_gone}
 use Rattle.sys_calls.proofs.Tables.{caller_held, caller_lives, caller_unlisted}
 use Rattle.sys_calls.proofs.Waking.{runs_alone}
@@ -29,8 +30,19 @@ remove-requires-clause-held c = caller_held c.wake.new.kernel c.args.here.0 c.ar
 pub remove-requires-clause-not_ready : goal.remove-requires-clause-not_ready
 remove-requires-clause-not_ready c = caller_unlisted c.wake.new.kernel c.args.here.0 c.args.tid.0 (still c.args.kernel.now c.wake.new.kernel c.args.here.0 c.args.tid.0 c.wake.ensures.onward c.requires)
 
-pub returns : goal.returns
-returns c = λ h told.
+pub returns-clause-tables : goal.returns-clause-tables
+returns-clause-tables c =
+    let t = c.args.tid.0 in
+    let k = c.args.kernel.now in
+    let k1 = c.wake.new.kernel in
+    let k' : Kernel = record { threads = c.exit.new.self; ready = c.remove.new.self; console = k1.console } in
+    let caller : IsCaller k1 c.args.here.0 t = still k k1 c.args.here.0 t c.wake.ensures.onward c.requires in
+    keeps_twice k k1 k' c.wake.ensures.onward.tables
+    (keeps_by k1 k' (without t k1.threads.threads) (forget t k1.ready) c.exit.ensures.threads c.remove.ensures
+    (λ harts holds. tables_ended harts c.args.here.0 t k1.threads.threads k1.ready holds caller.runs))
+
+pub returns-clause-gone : goal.returns-clause-gone
+returns-clause-gone c = λ h told.
     let t = c.args.tid.0 in
     let k = c.args.kernel.now in
     let k1 = c.wake.new.kernel in

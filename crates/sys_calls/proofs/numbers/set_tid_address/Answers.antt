@@ -5,13 +5,23 @@ use Rattle.mach_types.specs.Registers.{register}
 use Rattle.mach_types.specs.declared.threads.Saved.{Saved}
 use Rattle.kernel_threads.specs.Table.{saved_of}
 use Rattle.block_model.specs.Calls.Answers.{argument}
+use Rattle.block_model.proofs.Laws.{tables_cleared}
+use Rattle.sys_calls.specs.declared.kernel.Kernel.{Kernel}
+use Rattle.sys_calls.proofs.Keeping.{keeps_by}
 use Rattle.sys_calls.proofs.Entering.{entered_none}
 use Rattle.sys_calls.proofs.Saying.{saved_alike}
 use Rattle.sys_calls.proofs.Tables.{cleared_runs}
 use Rattle.sys_calls.proofs.numbers.set_tid_address.Goals as goal
 
-pub returns : goal.returns
-returns c = λ h m told read.
+pub returns-clause-tables : goal.returns-clause-tables
+returns-clause-tables c =
+    let k = c.args.kernel.now in
+    let k' : Kernel = record { threads = c.set_clear.new.self; ready = k.ready; console = k.console } in
+    keeps_by k k' (with_clear c.args.tid.0 c.argument.result k.threads.threads) k.ready c.set_clear.ensures.threads refl
+    (λ harts holds. tables_cleared harts c.args.tid.0 c.argument.result k.threads.threads k.ready holds)
+
+pub returns-clause-answered : goal.returns-clause-answered
+returns-clause-answered c = λ h m told read.
     let at : c.argument.result ≡ argument h c.args.tid.0 0 = c.argument.ensures ∙ ap (λ (f : Saved). register f.file 10) read.file in
     record {
       threads = c.set_clear.ensures.threads ∙ ap (λ (a : ℕ). with_clear c.args.tid.0 a c.args.kernel.now.threads.threads) at

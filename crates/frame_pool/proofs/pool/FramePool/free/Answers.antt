@@ -1,14 +1,25 @@
-use Rattle.std.proofs.Common.{◌<◌, ◌^◌, length, sym, ◌∙◌, arith}
+use Rattle.std.proofs.Common.{◌≡◌, ◌+◌, ◌-◌, ◌^◌, ◌<◌, ◌≤◌, length, arith}
 use Rattle.frame_pool.proofs.LaidOut.{free-fits, free_count-is}
+use Rattle.frame_pool.specs.Pool.{free_count}
 use Rattle.frame_pool.proofs.pool.FramePool.free.Goals as goal
 
 pub overflow_cast-result : goal.overflow_cast-result
 overflow_cast-result c =
     let p = c.self.inside in
-    let fits : length p.free.items < 2 ^ 32 = free-fits c.self.view_is c.self.invariant in
-    omega (arith, p.free.ok.0)
+    let fits : length p.free.items + (p.frames - length p.region.items) ≤ p.frames = free-fits c.self.view_is c.self.invariant.0 in
+    let numbers : p.frames < 2 ^ 32 = c.self.invariant.0.numbers in
+    omega (arith, p.free.ok.0, c.len-2.ensures)
+
+pub overflow_add-result : goal.overflow_add-result
+overflow_add-result c =
+    let p = c.self.inside in
+    let fits : length p.free.items + (p.frames - length p.region.items) ≤ p.frames = free-fits c.self.view_is c.self.invariant.0 in
+    let numbers : p.frames < 2 ^ 32 = c.self.invariant.0.numbers in
+    omega (arith, p.free.ok.0, p.region.ok.0, c.len.ensures, c.len-2.ensures)
 
 pub returns : goal.returns
 returns c =
     let p = c.self.inside in
-    c.len.ensures ∙ p.free.ok.0 ∙ sym (free_count-is c.self.view_is c.self.invariant)
+    let counted : free_count c.args.self.now ≡ length p.free.items + (p.frames - length p.region.items) =
+    free_count-is c.self.view_is c.self.invariant.0 in
+    omega (arith, p.free.ok.0, p.region.ok.0, c.len.ensures, c.len-2.ensures)

@@ -1,47 +1,104 @@
-use Rattle.std.proofs.Common.{◌≡◌, ◌+◌, ◌<◌, ◌∷◌, [], length, slice_get, sym, ap, ◌∙◌, rules, arith, length-append}
-use Rattle.frame_pool.proofs.LaidOut.{free_count-is, last-free, last-inside, last-within, taken-laid, taken-shown}
-use Rattle.frame_pool.specs.Pool.{free_count}
+use Rattle.std.proofs.Common.{◌≡◌, ◌+◌, ◌-◌, ◌<◌, ◌≤◌, true, is_ok, length, slice_get, refl, sym, ap, ◌∙◌, arith}
+use Rattle.std.specs.Vec.{vec_capacity}
+use Rattle.std.proofs.lemmas.List.{nil_from_length}
+use Rattle.frame_pool.proofs.LaidOut.{free_count-is, last-counted, last-free, last-inside, last-within, next-free, next-laid, next-shown, taken-laid, taken-shown}
+use Rattle.frame_pool.specs.Pool.{free_count, fresh}
 use Rattle.frame_pool.proofs.pool.FramePool.take.Goals as goal
-
-pub returns-in_err-number-clause-none : goal.returns-in_err-number-clause-none
-returns-in_err-number-clause-none c =
-    let p = c.self.inside in
-    let counted : free_count c.args.self.now ≡ length p.free.items = free_count-is c.self.view_is c.self.invariant in
-    (λ _. omega (arith, p.free.ok.0, c.in_err-number.ensures.cases.0), λ _. search rules)
 
 pub index_mut-requires : goal.index_mut-requires
 index_mut-requires c =
     let p = c.self.inside in
-    let within : c.in_ok-number.number < length p.taken.items =
-    last-within c.self.view_is c.self.invariant c.pop.new.self.items c.in_ok-number.number c.in_ok-number.ensures.items in
+    let within : c.in-Some.number < length p.taken.items =
+    last-within c.self.view_is c.self.invariant.0 c.pop.new.self.items c.in-Some.number c.in-Some.ensures.items in
     omega (arith, p.taken.ok.0)
 
-pub index_mut-requires-2 : goal.index_mut-requires-2
-index_mut-requires-2 c =
+pub index_mut-requires-in-Some : goal.index_mut-requires-in-Some
+index_mut-requires-in-Some c =
     let p = c.self.inside in
-    let inside : c.in_ok-number.number < length p.region.items =
-    last-inside c.self.view_is c.self.invariant c.pop.new.self.items c.in_ok-number.number c.in_ok-number.ensures.items in
+    let inside : c.in-Some.number < length p.region.items =
+    last-inside c.self.view_is c.self.invariant.0 c.pop.new.self.items c.in-Some.number c.in-Some.ensures.items in
     omega (arith, p.region.ok.0)
+
+pub invariant_of-self : goal.invariant_of-self
+invariant_of-self c =
+    let enough : c.self.inside.frames ≤ vec_capacity c.self.inside.free = c.self.invariant.1.stack in (
+      taken-laid c.self.view_is c.self.invariant.0 c.pop.new.self.items c.in-Some.number c.in-Some.ensures.items c.zeros.result,
+      record {
+        bytes = c.self.invariant.1.bytes;
+        marks = c.self.invariant.1.marks;
+        stack = omega (arith, c.in-Some.ensures.capacity);
+      },
+    )
+
+pub returns-in-Some-clause-none : goal.returns-in-Some-clause-none
+returns-in-Some-clause-none c =
+    let some : 0 < free_count c.args.self.now =
+    last-counted c.self.view_is c.self.invariant.0 c.pop.new.self.items c.in-Some.number c.in-Some.ensures.items in
+    (λ wrong. cc, λ none. absurd (omega arith))
+
+pub returns-in-Some-clause-was_free : goal.returns-in-Some-clause-was_free
+returns-in-Some-clause-was_free c =
+    ap (λ k. slice_get c.args.self.now k) c.new.ensures
+    ∙ last-free c.self.view_is c.self.invariant.0 c.pop.new.self.items c.in-Some.number c.in-Some.ensures.items
+
+pub returns-in-Some-clause-taken : goal.returns-in-Some-clause-taken
+returns-in-Some-clause-taken c =
+    taken-shown c.self.view_is c.self.invariant.0 c.pop.new.self.items c.in-Some.number c.in-Some.ensures.items c.new.result
+    c.zeros.result fresh (sym c.new.ensures) c.zeros.ensures
+
+pub returns-then-number-self-clause-none : goal.returns-then-number-self-clause-none
+returns-then-number-self-clause-none c =
+    let p = c.self.inside in
+    let counted : free_count c.args.self.now ≡ length p.free.items + (p.frames - length p.region.items) =
+    free_count-is c.self.view_is c.self.invariant.0 in
+    (λ _. omega (arith, p.free.ok.0, p.region.ok.0, c.in_default.ensures.cases.0, c.len-number.ensures), λ _. refl)
 
 pub invariant_of-self-2 : goal.invariant_of-self-2
 invariant_of-self-2 c =
-    taken-laid c.self.view_is c.self.invariant c.pop.new.self.items c.in_ok-number.number c.in_ok-number.ensures.items _ _
-    c.in_ok-number.ensures.capacity
-
-pub returns-clause-none : goal.returns-clause-none
-returns-clause-none c =
     let p = c.self.inside in
-    let counted : free_count c.args.self.now ≡ length p.free.items = free_count-is c.self.view_is c.self.invariant in
-    let some : length p.free.items ≡ length c.pop.new.self.items + 1 =
-    ap length c.in_ok-number.ensures.items ∙ length-append c.pop.new.self.items (c.in_ok-number.number ∷ []) in
-    (λ wrong. cc, λ none. absurd (omega arith))
+    let within : length p.region.items ≤ p.frames = c.self.invariant.0.within in
+    let more : length p.region.items < p.frames = omega (arith, p.region.ok.0, c.len-number.ensures) in
+    let none : length p.free.items ≡ 0 = omega (arith, p.free.ok.0, c.in_default.ensures.cases.0) in
+    let still : length c.pop.new.self.items ≡ 0 = omega (arith, c.pop.new.self.ok.0, c.in_default.ensures.cases.1) in
+    let enough : p.frames ≤ vec_capacity p.region = c.self.invariant.1.bytes in
+    let fits : p.frames ≤ vec_capacity p.taken = c.self.invariant.1.marks in
+    let roomy : p.frames ≤ vec_capacity p.free = c.self.invariant.1.stack in
+    let same : length p.region.items ≡ length p.taken.items = c.self.invariant.0.marks in
+    let ok : is_ok c.push.result ≡ true = c.push.ensures.succeeds (omega (arith, p.region.ok.0)) in
+    let ok_too : is_ok c.push-2.result ≡ true = c.push-2.ensures.succeeds (omega (arith, p.taken.ok.0)) in
+    let pushed = rw ok at c.push.ensures.items in
+    let marked = rw ok_too at c.push-2.ensures.items in (
+      next-laid c.self.view_is c.self.invariant.0 (nil_from_length p.free.items none) more c.zeros-2.result c.push.new.self.items
+          c.push-2.new.self.items pushed marked c.pop.new.self.items (nil_from_length c.pop.new.self.items still),
+      record {
+        bytes = omega (arith, c.push.ensures.capacity);
+        marks = omega (arith, c.push-2.ensures.capacity);
+        stack = omega (arith, c.in_default.ensures.capacity);
+      },
+    )
 
 pub returns-clause-was_free : goal.returns-clause-was_free
 returns-clause-was_free c =
-    ap (λ k. slice_get c.args.self.now k) c.new.ensures
-    ∙ last-free c.self.view_is c.self.invariant c.pop.new.self.items c.in_ok-number.number c.in_ok-number.ensures.items
+    let p = c.self.inside in
+    let within : length p.region.items ≤ p.frames = c.self.invariant.0.within in
+    let place : c.new-2.result ≡ length p.region.items = c.new-2.ensures ∙ c.len-number.ensures ∙ p.region.ok.0 in
+    let more : length p.region.items < p.frames = omega (arith, p.region.ok.0, c.len-number.ensures) in
+    let none : length p.free.items ≡ 0 = omega (arith, p.free.ok.0, c.in_default.ensures.cases.0) in
+    ap (λ k. slice_get c.args.self.now k) place ∙ next-free c.self.view_is c.self.invariant.0 (nil_from_length p.free.items none) more
 
 pub returns-clause-taken : goal.returns-clause-taken
 returns-clause-taken c =
-    taken-shown c.self.view_is c.self.invariant c.pop.new.self.items c.in_ok-number.number c.in_ok-number.ensures.items
-    c.new.result _ _ (sym c.new.ensures) c.clear.ensures
+    let p = c.self.inside in
+    let within : length p.region.items ≤ p.frames = c.self.invariant.0.within in
+    let place : c.new-2.result ≡ length p.region.items = c.new-2.ensures ∙ c.len-number.ensures ∙ p.region.ok.0 in
+    let more : length p.region.items < p.frames = omega (arith, p.region.ok.0, c.len-number.ensures) in
+    let none : length p.free.items ≡ 0 = omega (arith, p.free.ok.0, c.in_default.ensures.cases.0) in
+    let enough : p.frames ≤ vec_capacity p.region = c.self.invariant.1.bytes in
+    let fits : p.frames ≤ vec_capacity p.taken = c.self.invariant.1.marks in
+    let same : length p.region.items ≡ length p.taken.items = c.self.invariant.0.marks in
+    let ok : is_ok c.push.result ≡ true = c.push.ensures.succeeds (omega (arith, p.region.ok.0)) in
+    let ok_too : is_ok c.push-2.result ≡ true = c.push-2.ensures.succeeds (omega (arith, p.taken.ok.0)) in
+    let pushed = rw ok at c.push.ensures.items in
+    let marked = rw ok_too at c.push-2.ensures.items in
+    next-shown c.self.view_is c.self.invariant.0 (nil_from_length p.free.items none) more c.zeros-2.result c.push.new.self.items
+    c.push-2.new.self.items pushed marked c.new-2.result fresh (sym place) c.zeros-2.ensures

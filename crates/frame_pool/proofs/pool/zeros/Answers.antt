@@ -1,6 +1,6 @@
 use Rattle.std.proofs.Common.{refl}
 use Rattle.frame_pool.specs.Pool.{fresh}
-use Rattle.frame_pool.proofs.pool.clear.Goals as goal
+use Rattle.frame_pool.proofs.pool.zeros.Goals as goal
 
 pub returns : goal.returns
 unfolding fresh

@@ -6,7 +6,7 @@ use Rattle.std.proofs.lemmas.Bool.Decides.{nat_tests, eqb_tells}
 use Rattle.std.proofs.lemmas.List.{length-append, length_push, get_or_append_left, get_or_push}
 use Rattle.std.proofs.lemmas.List.Elements.{filter-append, All-get_or}
 use Rattle.mach_types.specs.Kernel.Threads.{times}
-use Rattle.block_model.proofs.Lists.{differs}
+use Rattle.mach_types.proofs.Lists.{differs}
 
 abbrev once : Bool → ℕ
 once b = cond b 1 0

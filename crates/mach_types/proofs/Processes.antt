@@ -7,8 +7,8 @@ use Rattle.std.proofs.lemmas.List.{length-map, map_push, length_push}
 use Rattle.std.proofs.lemmas.List.Elements.{All-head, All-tail, All-cons, All-nil, All-push, All-weaker, All-filter}
 use Rattle.std.proofs.lemmas.List.Filters.{length-filter_both}
 use Rattle.std.proofs.lemmas.List.Kept.{IsStrictlyIncreasing-filter}
-use Rattle.kernel_threads.proofs.Lists.{map_stays, map_filters, changed_same, changed_other, filtered_same, filtered_other, found_at_end, not_at_end}
-use Rattle.kernel_threads.proofs.Times.{times_push, times_one, times_one_other, times_filtered_same, times_filtered_other, found_times, length_le_from_times, IsStrictlyIncreasing-push, times_cons, eqb_same, eqb_other}
+use Rattle.mach_types.proofs.Lists.{map_stays, map_filters, changed_same, changed_other, filtered_same, filtered_other, found_at_end, not_at_end}
+use Rattle.mach_types.proofs.Times.{times_push, times_one, times_one_other, times_filtered_same, times_filtered_other, found_times, length_le_from_times, IsStrictlyIncreasing-push, times_cons, eqb_same, eqb_other}
 use Rattle.mach_types.specs.Kernel.Threads.{IsThreads, times, is_waiting_state, Thread, Threads, new_thread, start_threads, is_thread, thread_of, state_of, state_if, clear_if, with_state, with_clear, with_child, is_full, no_waiter, without, with_waiter, with_woken, numbers}
 use Rattle.mach_types.specs.declared.events.Hart.{Hart}
 use Rattle.mach_types.specs.declared.threads.ThreadState.{ThreadState}

@@ -1,0 +1,55 @@
+-- Threads are woken, or the operation is refused.
+use Rattle.std.proofs.Common.{◌≡◌, ℕ, List, [], ◌∷◌, map, refl, sym, ap, subst, ◌∙◌}
+use Rattle.std.specs.Prelude.{Ok, Err}
+use Rattle.mach_types.specs.Kernel.Threads.{running_on}
+use Rattle.mach_types.specs.declared.threads.Saved.{Saved}
+use Rattle.block_model.specs.Calls.Answers.{CallDone, argument, int_argument, returned}
+use Rattle.block_model.specs.Calls.Futexes.{answered_wait, futex, futex_wake, wake}
+use Rattle.sys_calls.specs.declared.futexes.Operation.{Operation}
+use Rattle.sys_calls.specs.Answered.{AreTables, IsAnswered}
+use Rattle.sys_calls.specs.Made.{IsMade}
+use Rattle.sys_calls.specs.Woken.{IsWoken, futex_of}
+use Rattle.sys_calls.proofs.Entering.{entered_none}
+use Rattle.sys_calls.proofs.Reading.{argument_is, int_argument_is}
+use Rattle.sys_calls.proofs.Saying.{answered_said, made_answered}
+use Rattle.sys_calls.proofs.futexes.futex.Goals as goal
+
+pub returns-in-Ok-Wake-clause-made : goal.returns-in-Ok-Wake-clause-made
+returns-in-Ok-Wake-clause-made c = λ h hart told read.
+    let t = c.args.tid.0 in
+    let k = c.args.kernel.now in
+    let k' = c.wake-woken.new.kernel in
+    let m = c.args.pages.now in
+    let count = c.wake-woken.result in
+    let most : c.int_argument-most.result ≡ int_argument h t 2 = c.int_argument-most.ensures ∙ int_argument_is h t c.args.saved.now read.file 2 in
+    let at : c.argument.result ≡ argument h t 0 = c.argument.ensures ∙ argument_is h t c.args.saved.now read.file 0 in
+    let some = subst (λ (n : ℕ). IsWoken h k k' n c.argument.result count) most (c.wake-woken.ensures.woken h told) in
+    let woken = subst (λ (a : ℕ). IsWoken h k k' (int_argument h t 2) a count) at some in
+    let others : List (ℕ × Saved) = map (answered_wait h) (wake (int_argument h t 2) (argument h t 0) h.kernel).threads in
+    let done : IsAnswered h t k m k' m [] (Ok count) (futex_wake h t) = record {
+      threads = woken.threads;
+      scheduling = woken.scheduling;
+      console = woken.console;
+      pages = entered_none m;
+      told = refl;
+      hart = ap (running_on h.hart) (sym woken.threads) ∙ c.wake-woken.ensures.onward.running h.hart ∙ ap (running_on h.hart) told.threads;
+      goes_on = refl;
+      others = others;
+      files = ap (λ (n : ℕ). (t, returned n (h.file t)) ∷ others) (sym woken.number);
+      kept = woken.kept;
+      quiet = c.wake-woken.ensures.onward.quiet t;
+    } in
+    let tables : AreTables k' = (c.requires.tables.0, c.wake-woken.ensures.onward.tables c.requires.tables.0 c.requires.tables.1) in
+    let made = made_answered h t c.args.here.0 k k' m m c.args.saved.now c.go_on.new.saved [] (Ok count) c.go_on.result (futex_wake h t) hart told read.file c.requires done tables
+    c.go_on.ensures.saved c.go_on.ensures.stays c.go_on.ensures.runs_on c.go_on.ensures.ends c.go_on.ensures.answer in
+    let is : futex h t ≡ futex_wake h t = c.in-Ok-Wake.ensures.asked h t read.file ∙ ap (λ (op : Operation). futex_of op h t) c.in-Ok-Wake.field-0-is in
+    subst (λ (d : CallDone). IsMade h t k m k' m c.go_on.new.saved c.go_on.result d) (sym is) made
+
+pub returns-in-Err-clause-made : goal.returns-in-Err-clause-made
+returns-in-Err-clause-made c = λ h hart told read.
+    let t = c.args.tid.0 in
+    let k = c.args.kernel.now in
+    let m = c.args.pages.now in
+    let done = answered_said h t k m (Err c.in-Err.errno) (futex h t) told (c.in-Err.ensures.refused h t read.file) in
+    made_answered h t c.args.here.0 k k m m c.args.saved.now c.go_on-in-Err.new.saved [] (Err c.in-Err.errno) c.go_on-in-Err.result (futex h t) hart told read.file c.requires done c.requires.tables
+    c.go_on-in-Err.ensures.saved c.go_on-in-Err.ensures.stays c.go_on-in-Err.ensures.runs_on c.go_on-in-Err.ensures.ends c.go_on-in-Err.ensures.answer
