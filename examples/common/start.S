@@ -1,5 +1,6 @@
 # The entry of the C examples: main is given the words that stand at sp when a program starts (argc, argv, environment,
 # auxiliary vector), and what it answers is the exit status.
+    .file   "start.S"
     .globl  _start
 _start:
     .option push

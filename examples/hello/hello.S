@@ -1,4 +1,5 @@
 # Writes a greeting (call 64, write) and exits with 0 (call 93, exit).
+    .file   "hello.S"
     .section .rodata
 greeting:
     .ascii  "Hello, hart\n"

@@ -1,5 +1,6 @@
 # Stores a number, adds one to it by LR and SC, tried again until SC succeeds, and prints how many tries that took. On one hart it
 # is one. A thread that is moved to another hart between LR and SC needs one more.
+    .file   "moves.S"
     .data
 number:
     .dword  0

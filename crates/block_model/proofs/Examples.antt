@@ -710,7 +710,7 @@ two_wait = record {
   credit = 0;
 }
 
-sight_of_two : sight_in (sees stores_nine two_stores) (ran 0 (history stores_nine two_stores)) ≡ two_wait
+sight_of_two : sight_in (sees stores_nine two_stores) (ran 0 (history stores_nine two_stores)) 0 ≡ two_wait
 unfolding history done is_register_only meaning row_of rows lui_rows auipc_rows jal_rows jalr_rows branch_rows load_rows store_rows op_imm_rows op_imm_32_rows op_rows op_32_rows misc_mem_rows amo_rows system_rows
 sight_of_two = refl
 

@@ -1,14 +1,22 @@
--- Worked examples of the laws' words: a call that gives an error, an exit that doesn't, and a walk.
-use Rattle.std.proofs.Common.{◌≡◌, ◌≢◌, ℕ, ◌-◌, ◌^◌, List, [], ◌∷◌, ◌++◌, replicate, refl, arith, None, inl, inr}
+-- Worked examples of the laws' words: a call that gives an error, an exit that doesn't, a walk, and the choices of `run`.
+use Rattle.std.proofs.Common.{◌≡◌, ◌≢◌, ℕ, ◌-◌, ◌^◌, List, [], ◌∷◌, ◌++◌, ◌&&◌, Bool, true, false, replicate, take, refl, ap, ◌∙◌, arith, Option, Some, None, inl, inr}
+use Rattle.std.specs.Option.{option_map}
+use Rattle.mach_types.specs.declared.events.Choice.{Choice}
+use Rattle.mach_types.specs.declared.events.Choice.TheVariants as asked
 use Rattle.mach_types.specs.declared.events.Entry.{Entry}
 use Rattle.mach_types.specs.declared.events.Kind.{Kind}
 use Rattle.mach_types.specs.declared.events.Kind.TheVariants as kind
 use Rattle.mach_types.specs.Registers.{register}
+use Rattle.rv_inst.specs.Local.{is_register_only}
 use Rattle.rv_inst.specs.Meaning.{meaning}
 use Rattle.rv_inst.specs.Table.{row_of, rows, lui_rows, auipc_rows, jal_rows, jalr_rows, branch_rows, load_rows, store_rows, op_imm_rows, op_imm_32_rows, op_rows, op_32_rows, misc_mem_rows, amo_rows, system_rows}
-use Rattle.block_model.specs.Deciding.{done, history}
+use Rattle.chooser.specs.Cases.{pick}
+use Rattle.chooser.specs.Generators.{first_generator, next_generator, word}
+use Rattle.chooser.specs.declared.chooser.Pick.{Pick}
+use Rattle.block_model.specs.Choosing.{IsChosen, Luck, choice_at, has_ended, is_choice, luck, luck_after, next_entry, pick_with, sight_with}
+use Rattle.block_model.specs.Deciding.{done, entry_in, history}
 use Rattle.block_model.specs.ErrorCalls.{GivesError}
-use Rattle.block_model.specs.History.{file}
+use Rattle.block_model.specs.History.{History, file, here_in_history}
 use Rattle.block_model.specs.Setting.{Setting}
 use Rattle.block_model.specs.Walks.{IsWalk, answers, computed}
 
@@ -97,3 +105,100 @@ is_walk = record {
 loaded : register (computed stores.program.pages (file stores 1 (history stores before_walk)) (answers stores 0 (history stores before_walk) walk)).file 7 ≡ 9
 unfolding history done meaning row_of rows lui_rows auipc_rows jal_rows jalr_rows branch_rows load_rows store_rows op_imm_rows op_imm_32_rows op_rows op_32_rows misc_mem_rows amo_rows system_rows
 loaded = refl
+
+-- the choices of `run`: at the start each hart of the machine would run thread 1; once hart 0 runs it, hart 1 has none
+chooses_first : next_entry stores 0 (history stores []) ≡ Some (entry kind.Run 0x100B0)
+unfolding history done is_register_only has_ended choice_at next_entry pick meaning row_of rows lui_rows auipc_rows jal_rows jalr_rows branch_rows load_rows store_rows op_imm_rows op_imm_32_rows op_rows op_32_rows misc_mem_rows amo_rows system_rows
+chooses_first = refl
+
+chooses_at_hart_1 : choice_at stores 1 (history stores []) ≡ Some (asked.Run (record { 0 = 1 }))
+unfolding history done is_register_only has_ended choice_at next_entry pick meaning row_of rows lui_rows auipc_rows jal_rows jalr_rows branch_rows load_rows store_rows op_imm_rows op_imm_32_rows op_rows op_32_rows misc_mem_rows amo_rows system_rows
+chooses_at_hart_1 = refl
+
+none_for_hart_1 : choice_at stores 1 (history stores before_walk) ≡ None
+unfolding history done is_register_only has_ended choice_at next_entry pick meaning row_of rows lui_rows auipc_rows jal_rows jalr_rows branch_rows load_rows store_rows op_imm_rows op_imm_32_rows op_rows op_32_rows misc_mem_rows amo_rows system_rows
+none_for_hart_1 = refl
+
+-- no word is drawn for a thread that begins to run
+none_drawn : luck stores 0 (history stores before_walk) ≡ record { drawn = 0; credit = 0 }
+unfolding history done is_register_only has_ended choice_at next_entry pick meaning row_of rows lui_rows auipc_rows jal_rows jalr_rows branch_rows load_rows store_rows op_imm_rows op_imm_32_rows op_rows op_32_rows misc_mem_rows amo_rows system_rows
+none_drawn = refl
+
+-- a hart has no choice where a thread runs there, but the machine has no such hart; nor where the run has ended
+abbrev other_hart : List Entry
+other_hart = record (entry kind.Run 0x100B0) { hart = record { 0 = 1 } } ∷ []
+
+no_second_hart : choice_at (record stores { limits = record stores.limits { harts = 1 } }) 1 (history stores other_hart) ≡ None
+unfolding history done is_register_only has_ended choice_at next_entry pick meaning row_of rows lui_rows auipc_rows jal_rows jalr_rows branch_rows load_rows store_rows op_imm_rows op_imm_32_rows op_rows op_32_rows misc_mem_rows amo_rows system_rows
+no_second_hart = refl
+
+none_after_the_end : choice_at exits 0 (history exits (before_exit ++ entry kind.Exec 0x100B8 ∷ [])) ≡ None
+unfolding history done is_register_only has_ended choice_at next_entry pick meaning row_of rows lui_rows auipc_rows jal_rows jalr_rows branch_rows load_rows store_rows op_imm_rows op_imm_32_rows op_rows op_32_rows misc_mem_rows amo_rows system_rows
+none_after_the_end = refl
+
+-- hart 0 after so many events of the walk: the history, the pick with this luck, and the luck after it
+abbrev place : ℕ → History
+place n = history stores (before_walk ++ take n walk)
+
+abbrev picks : ℕ → Luck → Option Pick
+picks n l = pick_with stores 0 (place n) l
+
+abbrev and_then : Choice → ℕ → Luck → Luck
+and_then c n l = luck_after c (sight_with stores 0 (place n) l) (picks n l) l
+
+abbrev is_picked : ℕ → Luck → Choice → Bool
+is_picked n l c = is_choice (option_map (λ (p : Pick). p.choice) (picks n l)) c
+
+-- the whole walk is chosen where these are the first words of hart 0, as the seed 1 gives them: the first, which `lui` draws, gives the credit on
+-- which `addi` is executed; `sw` and `lw` draw one each; then nothing is fetched that has a row, and a fault waits for the store
+module _ (first : word (first_generator 1 0) ≡ 0xcfc5d07f6f03c29b)
+    (second : word (next_generator (first_generator 1 0)) ≡ 0xbf424132963fe08d)
+    (third : word (next_generator (next_generator (first_generator 1 0))) ≡ 0x19a37d5757aaf520) where
+  credit_given : luck stores 0 (place 1) ≡ record { drawn = 1; credit = 1 }
+  unfolding history done is_register_only has_ended choice_at next_entry pick meaning row_of rows lui_rows auipc_rows jal_rows jalr_rows branch_rows load_rows store_rows op_imm_rows op_imm_32_rows op_rows op_32_rows misc_mem_rows amo_rows system_rows
+  credit_given = rw first refl
+
+  credit_used : luck stores 0 (place 2) ≡ record { drawn = 1; credit = 0 }
+  unfolding history done is_register_only has_ended choice_at next_entry pick meaning row_of rows lui_rows auipc_rows jal_rows jalr_rows branch_rows load_rows store_rows op_imm_rows op_imm_32_rows op_rows op_32_rows misc_mem_rows amo_rows system_rows
+  credit_used = ap (and_then asked.Exec 1) credit_given
+
+  word_without_credit : luck stores 0 (place 3) ≡ record { drawn = 2; credit = 0 }
+  unfolding history done is_register_only has_ended choice_at next_entry pick meaning row_of rows lui_rows auipc_rows jal_rows jalr_rows branch_rows load_rows store_rows op_imm_rows op_imm_32_rows op_rows op_32_rows misc_mem_rows amo_rows system_rows
+  word_without_credit = ap (and_then asked.Exec 2) credit_used ∙ rw second refl
+
+  credit_again : luck stores 0 (place 4) ≡ record { drawn = 3; credit = 2 }
+  unfolding history done is_register_only has_ended choice_at next_entry pick meaning row_of rows lui_rows auipc_rows jal_rows jalr_rows branch_rows load_rows store_rows op_imm_rows op_imm_32_rows op_rows op_32_rows misc_mem_rows amo_rows system_rows
+  credit_again = ap (and_then asked.Exec 3) word_without_credit ∙ rw third refl
+
+  drains_when_held_up : next_entry stores 0 (place 4) ≡ Some (entry kind.Drain 0x100C0)
+  unfolding history done is_register_only has_ended choice_at next_entry pick meaning row_of rows lui_rows auipc_rows jal_rows jalr_rows branch_rows load_rows store_rows op_imm_rows op_imm_32_rows op_rows op_32_rows misc_mem_rows amo_rows system_rows
+  drains_when_held_up =
+      ap (λ l. option_map (λ c. entry_in c (here_in_history stores (place 4) 0)) (option_map (λ (p : Pick). p.choice) (picks 4 l))) credit_again
+
+  -- no credit is left after a drain, and no word is drawn for it
+  credit_ends : luck stores 0 (place 5) ≡ record { drawn = 3; credit = 0 }
+  unfolding history done is_register_only has_ended choice_at next_entry pick meaning row_of rows lui_rows auipc_rows jal_rows jalr_rows branch_rows load_rows store_rows op_imm_rows op_imm_32_rows op_rows op_32_rows misc_mem_rows amo_rows system_rows
+  credit_ends = ap (and_then asked.Drain 4) credit_again
+
+  -- a drain in place of the load draws no word, and leaves no credit
+  other_event_draws_none : and_then asked.Drain 3 (luck stores 0 (place 3)) ≡ record { drawn = 2; credit = 0 }
+  unfolding history done is_register_only has_ended choice_at next_entry pick meaning row_of rows lui_rows auipc_rows jal_rows jalr_rows branch_rows load_rows store_rows op_imm_rows op_imm_32_rows op_rows op_32_rows misc_mem_rows amo_rows system_rows
+  other_event_draws_none = ap (and_then asked.Drain 3) word_without_credit ∙ rw third refl
+
+  walk_is_chosen : IsChosen stores (before_walk ++ walk)
+  unfolding IsChosen history done is_register_only has_ended choice_at next_entry pick meaning row_of rows lui_rows auipc_rows jal_rows jalr_rows branch_rows load_rows store_rows op_imm_rows op_imm_32_rows op_rows op_32_rows misc_mem_rows amo_rows system_rows
+  walk_is_chosen =
+      let lui : is_picked 0 (record { drawn = 0; credit = 0 }) asked.Exec ≡ true = rw first refl in
+      let addi : is_picked 1 (luck stores 0 (place 1)) asked.Exec ≡ true = ap (λ l. is_picked 1 l asked.Exec) credit_given in
+      let sw : is_picked 2 (luck stores 0 (place 2)) asked.Exec ≡ true = ap (λ l. is_picked 2 l asked.Exec) credit_used ∙ rw second refl in
+      let lw : is_picked 3 (luck stores 0 (place 3)) asked.Exec ≡ true = ap (λ l. is_picked 3 l asked.Exec) word_without_credit ∙ rw third refl in
+      let drain : is_picked 4 (luck stores 0 (place 4)) asked.Drain ≡ true = ap (λ l. is_picked 4 l asked.Drain) credit_again in
+      all_five lui addi sw lw drain
+    where
+      all_five : {a b c d e : Bool} → a ≡ true → b ≡ true → c ≡ true → d ≡ true → e ≡ true → (a && b && c && d && e) ≡ true
+      all_five lui addi sw lw drain = rw (lui, addi, sw, lw, drain) refl
+
+  -- a drain in place of the load isn't the choice
+  early_drain_is_not : is_choice (choice_at stores 0 (place 3)) asked.Drain ≡ false
+  unfolding history done is_register_only has_ended choice_at next_entry pick meaning row_of rows lui_rows auipc_rows jal_rows jalr_rows branch_rows load_rows store_rows op_imm_rows op_imm_32_rows op_rows op_32_rows misc_mem_rows amo_rows system_rows
+  early_drain_is_not = ap (λ l. is_picked 3 l asked.Drain) word_without_credit ∙ rw third refl

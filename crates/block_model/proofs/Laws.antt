@@ -1,5 +1,5 @@
 -- The laws that crates above cite: what is decided at a place, what an event that is allowed did, and where a log begins.
-use Rattle.std.proofs.Common.{◌≡◌, ◌≢◌, ℕ, ◌+◌, ◌≤◌, ◌<◌, ◌-◌, ◌^◌, List, [], ◌∷◌, ◌++◌, length, map, All, eqb, arith, refl, sym, ap, ◌∙◌, subst, true, is_some, Option, Some, None, Ok, Err}
+use Rattle.std.proofs.Common.{◌≡◌, ◌≢◌, ℕ, ◌+◌, ◌≤◌, ◌<◌, ◌-◌, ◌^◌, ◌&&◌, List, [], ◌∷◌, ◌++◌, length, map, All, eqb, arith, refl, sym, ap, ◌∙◌, subst, true, is_some, Option, Some, None, Ok, Err}
 use Rattle.std.proofs.lemmas.Bool.{le-leb, lt-leb}
 use Rattle.std.specs.Result.{IsOk}
 use Rattle.std.specs.List.{list_any}
@@ -25,6 +25,7 @@ use Rattle.block_model.specs.Events.{refusal_of, done_of}
 use Rattle.block_model.specs.ErrorCalls.{GivesError, GivesErrorAlone}
 use Rattle.block_model.specs.History.{History, ended, events, file, here_in_history, ran, running}
 use Rattle.block_model.specs.Walks.{IsWalk, answers, computed}
+use Rattle.block_model.specs.Choosing.{IsChosen, all_chosen, choice_at, has_ended, is_choice, luck, luck_after, next_entry, pick_with, sight_with}
 use Rattle.block_model.specs.Deciding.{decide, decide_in, end_of, entry_in, event, history, over_at, unless}
 use Rattle.block_model.specs.Replay.{Ask, AllAnswer, IsFirstBad, IsFirstRefused, play_line, played, played_read, script_of}
 use Rattle.block_model.specs.Run.{IsBlockRun, IsRunHistory}
@@ -37,6 +38,7 @@ use Rattle.block_model.proofs.Agreement as agrees
 use Rattle.block_model.proofs.Agreement.{agreement_decide, agreement_end, agreement_here, good_after, plain-append, plain-made}
 use Rattle.block_model.proofs.Allowed.{IsAllowed, allowed}
 use Rattle.block_model.proofs.Allowed as decisions
+use Rattle.block_model.proofs.Choosing as choices
 use Rattle.block_model.proofs.Counts as counts
 use Rattle.block_model.proofs.Goods.Run as run_laws_of
 use Rattle.block_model.proofs.KernelCalls as call_laws
@@ -285,12 +287,61 @@ start_solo s = solo_runs.IsSolo-nil s
 pub rule_stops : (s : Setting) (log : List Entry) → s.limits.harts ≡ 1 → IsBlockRun s log → solo_choice s (history s log) ≡ None → end_of s (history s log) ≢ Unended
 rule_stops s log one run none end = rules.rule_stops s log one run none end
 
--- its choice is the one by what a scheduler sees of hart 0, which is read from the log or from the plain machine
-pub rule_is_read : (s : Setting) (log : List Entry) (seen : Sight) → seen ≡ sight_in (here_in_history s (history s log) 0) (ran 0 (history s log)) → solo_choice s (history s log) ≡ solo_rule seen
-rule_is_read s log seen is = ap solo_rule (sym is)
+-- its choice is the one by what a scheduler sees of hart 0
+pub rule_is_read : (s : Setting) (log : List Entry) (credit : ℕ) (seen : Sight) → seen ≡ sight_in (here_in_history s (history s log) 0) (ran 0 (history s log)) credit → solo_choice s (history s log) ≡ solo_rule seen
+rule_is_read s log credit seen is = ap solo_rule (sym is)
 
-pub rule_is_seen : (v : Seen) (seen : Sight) → IsBlockRun v.setting v.log → seen ≡ sight_in (here_of v 0) ((plain_seen v).ran 0) → solo_choice v.setting (history v.setting v.log) ≡ solo_rule seen
-rule_is_seen v seen run is = sym (same_rule v run) ∙ ap solo_rule (sym is)
+-- the choice of `run`
+
+-- it is allowed, and its entry is the one that is decided
+pub choice_is_allowed : (s : Setting) (log : List Entry) (h : ℕ) (c : Choice) → IsBlockRun s log → choice_at s h (history s log) ≡ Some c
+    → refusal_of c (here_in_history s (history s log) h) ≡ None
+choice_is_allowed s log h c run chosen = choices.choice_is_allowed s log h c run chosen
+
+pub choice_decides : (s : Setting) (log : List Entry) (h : ℕ) (c : Choice) → IsBlockRun s log → choice_at s h (history s log) ≡ Some c
+    → decide s (history s log) h c ≡ Ok (entry_in c (here_in_history s (history s log) h))
+choice_decides s log h c run chosen = choices.choice_decides s log h c run chosen
+
+-- the luck of a hart after one more entry, of another hart or its own
+pub luck_of_other : (s : Setting) (log : List Entry) (h : ℕ) (e : Entry) → e.hart.0 ≢ h
+    → luck s h (history s (log ++ e ∷ [])) ≡ luck s h (history s log)
+luck_of_other s log h e other = choices.luck_of_other s log h e other
+
+pub luck_of_own : (s : Setting) (log : List Entry) (h : ℕ) (e : Entry) → e.hart.0 ≡ h
+    → luck s h (history s (log ++ e ∷ []))
+    ≡ luck_after (choice_of e) (sight_with s h (history s log) (luck s h (history s log))) (pick_with s h (history s log) (luck s h (history s log))) (luck s h (history s log))
+luck_of_own s log h e own = choices.luck_of_own s log h e own
+
+-- whether each entry is the choice of its hart, with one more entry
+pub all_chosen_next : (s : Setting) (log : List Entry) (e : Entry)
+    → all_chosen s (history s (log ++ e ∷ [])) ≡ (all_chosen s (history s log) && is_choice (choice_at s e.hart.0 (history s log)) (choice_of e))
+all_chosen_next s log e = choices.all_chosen_next s log e
+
+-- whether two choices are one
+pub is_choice_same : (c : Choice) → is_choice (Some c) c ≡ true
+is_choice_same c = choices.is_choice_same c
+
+pub is_choice_is : (a b : Choice) → is_choice (Some a) b ≡ true → a ≡ b
+is_choice_is a b same = choices.is_choice_is a b same
+
+-- a log of choices begins empty, goes on by the entry that a hart makes next, and begins with logs of choices
+pub chosen_start : (s : Setting) → IsChosen s []
+chosen_start s = choices.chosen_start s
+
+pub chosen_more : (s : Setting) (log : List Entry) (h : ℕ) (e : Entry) → IsBlockRun s log → IsChosen s log → next_entry s h (history s log) ≡ Some e
+    → IsBlockRun s (log ++ e ∷ []) × IsChosen s (log ++ e ∷ []) × (e.hart.0 ≡ h)
+chosen_more s log h e run chosen next = choices.chosen_more s log h e run chosen next
+
+pub chosen_shorter : (s : Setting) (log more : List Entry) → IsChosen s (log ++ more) → IsChosen s log
+chosen_shorter s log more chosen = choices.chosen_shorter s log more chosen
+
+-- where the run has ended no hart makes an entry
+pub next_is_none : (s : Setting) (log : List Entry) (h : ℕ) → has_ended s (history s log) ≡ true → next_entry s h (history s log) ≡ None
+next_is_none s log h over = choices.next_is_none s log h over
+
+-- a credit is at most 7
+pub credit_is_small : (s : Setting) (h : ℕ) (before : History) → (luck s h before).credit ≤ 7
+credit_is_small s h before = choices.credit_is_small s h before
 
 -- images
 

@@ -2,6 +2,7 @@ mod Agreement
 mod Allowances
 mod Allowed
 mod Applied
+mod Choosing
 mod Counts
 mod Ends
 mod Entries

@@ -66,7 +66,7 @@ pub found_is_in : (p : ℕ → Bool) (t : ℕ) (us : List ℕ) → find p us ≡
 found_is_in p t [] found = absurd cc
 found_is_in p t (u ∷ us) found = subst (λ n. 0 < n) (sym (times_cons t u us)) (in_step p t u us (p u) found (λ f. found_is_in p t us f))
 
-found_where_any : (p : Thread → Bool) (live : List Thread) → list_any p live ≡ true → is_some (find p live) ≡ true
+pub found_where_any : (p : Thread → Bool) (live : List Thread) → list_any p live ≡ true → is_some (find p live) ≡ true
 found_where_any p [] any = absurd (false≢true any)
 found_where_any p (th ∷ live) any =
     any_step (p th) (find p live) (list_any p live) any (found_where_any p live)
@@ -76,7 +76,7 @@ found_where_any p (th ∷ live) any =
     any_step false o more any rest = rest any
 
 -- where the machine has one hart, which is idle, and threads aren't stuck, the first ready thread that may run there is one
-goes_somewhere : (ts : Threads) → is_stuck ts ≡ false → 0 < length ts.live → list_any goes_on ts.live ≡ true
+pub goes_somewhere : (ts : Threads) → is_stuck ts ≡ false → 0 < length ts.live → list_any goes_on ts.live ≡ true
 goes_somewhere ts unstuck some = go (list_any goes_on ts.live) (sym (ap (λ b. b && not (list_any goes_on ts.live)) (le-leb 1 (length ts.live) some)) ∙ unstuck)
   where
     go : (b : Bool) → (true && not b) ≡ false → b ≡ true
@@ -135,7 +135,7 @@ chooses_by s here None at first = idle_choice (first_for 0 here.kernel.schedulin
 chooses_by s here (Some t) at first = busy_choice (is_none (refusal_exec here))
 
 -- a place where nothing ended the run is not stuck
-ended_parts : (process : Option End) (stuck : Bool) → option_or process (cond stuck (Some over.Stuck) None) ≡ None → (process ≡ None) × (stuck ≡ false)
+pub ended_parts : (process : Option End) (stuck : Bool) → option_or process (cond stuck (Some over.Stuck) None) ≡ None → (process ≡ None) × (stuck ≡ false)
 ended_parts (Some e) stuck is = absurd cc
 ended_parts None true is = absurd cc
 ended_parts None false is = (refl, refl)
@@ -156,7 +156,7 @@ ready_bool : (b : Bool) → 0 < cond {A = ℕ} b 1 0 → b ≡ true
 ready_bool true some = refl
 ready_bool false some = absurd (omega arith)
 
-run_free : (here : Here) (t : ℕ) → IsSound here.setting here.kernel → runs here ≡ None → first_for here.hart here.kernel.scheduling ≡ Some t → refusal_of (asked.Run (thread t)) here ≡ None
+pub run_free : (here : Here) (t : ℕ) → IsSound here.setting here.kernel → runs here ≡ None → first_for here.hart here.kernel.scheduling ≡ Some t → refusal_of (asked.Run (thread t)) here ≡ None
 run_free here t sound idle first =
     let k = here.kernel in
     let listed = found_is_in (λ u. has_hart (affinity_of u k.scheduling) here.hart) t k.scheduling.order first in
@@ -165,7 +165,7 @@ run_free here t sound idle first =
     ap (refusal_run_by here t) idle ∙ rw (ready, may) refl
 
 -- where an instruction isn't allowed a store waits
-gate_waits : (ws : List Store) (o : Option Effect) (faults : Bool) (why : Why) → instruction_gate (length ws) o faults ≡ Some why → refusal_drain_of ws ≡ None
+pub gate_waits : (ws : List Store) (o : Option Effect) (faults : Bool) (why : Why) → instruction_gate (length ws) o faults ≡ Some why → refusal_drain_of ws ≡ None
 gate_waits [] o faults why held = absurd cc
 gate_waits (w ∷ ws) o faults why held = refl
 

@@ -1,4 +1,5 @@
 pub mod Calls
+pub mod Choosing
 pub mod Deciding
 pub mod ErrorCalls
 pub mod Events

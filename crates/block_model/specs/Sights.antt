@@ -32,10 +32,10 @@ thread t = record { 0 = t }
 abbrev pub first_ready : Here → Option Tid
 first_ready here = option_map thread (scheduling.first_for here.hart here.kernel.scheduling)
 
--- what a scheduler sees of the hart, which executed so many instructions since a thread began to run there. No barrier, no
--- request and no signal can come yet, and no choice has given a credit
-abbrev pub sight_in : Here → ℕ → Sight
-sight_in here ran = record {
+-- what a scheduler sees of the hart, which executed so many instructions since a thread began to run there, and which has this
+-- credit. No barrier, no request and no signal can come yet
+abbrev pub sight_in : Here → ℕ → ℕ → Sight
+sight_in here ran credit = record {
   idle = is_none (runs here);
   first_ready = first_ready here;
   in_barrier = false;
@@ -46,5 +46,5 @@ sight_in here ran = record {
   exec_enabled = is_none (refusal_exec here);
   local = is_local_on here (runs here);
   ran = ran;
-  credit = 0;
+  credit = credit;
 }

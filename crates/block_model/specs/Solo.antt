@@ -27,8 +27,9 @@ pub record Sighted : Type 0 where
   pub here : Here
   pub ran : ℕ
 
+-- the choice of the rule, which no credit matters to
 abbrev pub solo_choice_in : Sighted → Option Choice
-solo_choice_in seen = solo_rule (sight_in seen.here seen.ran)
+solo_choice_in seen = solo_rule (sight_in seen.here seen.ran 0)
 
 -- the choice of hart 0 at a place
 abbrev pub solo_choice : Setting → History → Option Choice

@@ -1,6 +1,6 @@
 //! Laws of runs, each as the contract of a function that does nothing.
 
-ghost use Rattle.std.specs.Prelude.{ℕ, List, [], ◌∷◌, ◌++◌, ◌≡◌, ◌≢◌, ◌↔◌, ◌<◌, ◌≤◌, ◌+◌, ◌-◌, ◌^◌, All, IsOk, IsSome, IsTrue, true, Ok, Err, None, Some, Option, length, map, if◌then◌else◌};
+ghost use Rattle.std.specs.Prelude.{ℕ, List, [], ◌∷◌, ◌++◌, ◌≡◌, ◌≢◌, ◌↔◌, ◌<◌, ◌≤◌, ◌+◌, ◌-◌, ◌^◌, All, IsOk, IsSome, IsTrue, true, false, Ok, Err, None, Some, Option, length, map, if◌then◌else◌};
 ghost use Rattle.std.specs.List.Sorted.{IsStrictlyIncreasing};
 ghost use Rattle.mach_types.specs.Bytes.{each_byte};
 ghost use Rattle.mach_types.specs.Kernel.Scheduling.{affinity_of, has_hart};
@@ -15,7 +15,8 @@ ghost use Rattle.mach_types.specs.declared.user_memory.Store.{Store};
 ghost use Rattle.mach_types.specs.declared.user_memory.TheConstants.{STORE_BUFFER_CAPACITY};
 ghost use Rattle.elf_load.specs.declared.image.Image.{Image};
 ghost use Rattle.elf_load.specs.Images.{IsImage};
-ghost use Rattle.block_model.specs.Deciding.{decide, end_of, history};
+ghost use Rattle.block_model.specs.Choosing.{IsChosen, choice_at, has_ended, next_entry};
+ghost use Rattle.block_model.specs.Deciding.{decide, end_of, entry_in, history};
 ghost use Rattle.block_model.specs.ErrorCalls.{GivesError, GivesErrorAlone};
 ghost use Rattle.block_model.specs.History.{can_be_written, console, ended, file, here_in_history, kernel, running, waiting};
 ghost use Rattle.block_model.specs.Kernel.{first_kernel};
@@ -178,6 +179,27 @@ pub fn rule_has_a_choice()
     // Where hart 0 may execute its next instruction, that is the choice.
     ensures allowed { (s : Setting) (log : List Entry) (entry : Entry) → decide s (history s log) 0 asked.Exec ≡ Ok entry
         → solo_choice s (history s log) ≡ Some asked.Exec }
+{}
+
+/// What `run` chooses for a hart at a place of a block run is allowed there.
+pub fn choices_are_allowed()
+    ensures { (s : Setting) (log : List Entry) (h : ℕ) (c : Choice) → IsBlockRun s log → choice_at s h (history s log) ≡ Some c
+        → decide s (history s log) h c ≡ Ok (entry_in c (here_in_history s (history s log) h)) }
+{}
+
+/// At each place of a block run that hasn't ended some hart makes an entry by the choice of `run`.
+pub fn some_hart_has_a_choice()
+    ensures { (s : Setting) (log : List Entry) → IsBlockRun s log → 0 < s.limits.harts → has_ended s (history s log) ≡ false
+        → (h : ℕ) × (h < s.limits.harts) × IsSome (next_entry s h (history s log)) }
+{}
+
+/// A log of choices begins empty, and goes on by the entry that a hart makes next; what it begins with is one too.
+pub fn chosen_runs_go_on()
+    ensures start { (s : Setting) → IsChosen s [] }
+    ensures more { (s : Setting) (log : List Entry) (h : ℕ) (e : Entry) → IsBlockRun s log → IsChosen s log
+        → next_entry s h (history s log) ≡ Some e
+        → IsBlockRun s (log ++ e ∷ []) × IsChosen s (log ++ e ∷ []) × (e.hart.0 ≡ h) }
+    ensures shorter { (s : Setting) (log more : List Entry) → IsChosen s (log ++ more) → IsChosen s log }
 {}
 
 /// A file starts one setting, whichever image of it is taken.

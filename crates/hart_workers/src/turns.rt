@@ -7,7 +7,7 @@ ghost use Rattle.mach_types.specs.declared.events.Hart.{Hart};
 ghost use Rattle.machine_lock.specs.Logs.{Adds};
 ghost use Rattle.machine_lock.specs.Turnstiles.{IsOf, origin_of, start_of};
 ghost use Rattle.hart_workers.specs.Growth.{Looked, Grew};
-ghost use Rattle.hart_workers.specs.Worked.{GoesOn};
+ghost use Rattle.hart_workers.specs.Worked.{GoesOn, WentOn};
 
 use mach_types::{Advance, Hart};
 use machine_lock::{Chronicle, Pass, Turnstile};
@@ -69,6 +69,8 @@ fn turn<R: Wait, M: Chronicle>(
     requires idle { pass.old.out ≡ false }
     requires fits { ForSome worked (λ x. M.fits x (start_of lock.now) hart pass.old.seen) }
     ensures grew { Grew M.setting M.log M.next (origin_of lock.now) pass.old pass.new }
+    ensures went_on { WentOn (M.next (M.setting (start_of lock.now))) (M.ended (M.setting (start_of lock.now)))
+        hart pass.old.seen pass.new.seen result.0 }
     ensures ended { result.0 ≡ Ended → M.ended (M.setting (start_of lock.now)) pass.new.seen ≡ true }
     ensures lent { ForSome result.1 (λ x. M.fits x (start_of lock.now) hart pass.new.seen) }
 {

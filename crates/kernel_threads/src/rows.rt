@@ -167,28 +167,23 @@ pub fn clear_of(rows: &Rows, number: u32) -> u64
     }
 }
 
-/// The row, in another stage where it has this number.
-fn with_stage_if(row: Row, number: u32, stage: Stage) -> Row
-    ensures { result ≡ stage_if number stage row }
+/// Puts a row in another stage where it has this number.
+#[inline]
+fn set_stage_if(row: &mut Row, number: u32, stage: Stage)
+    ensures { row.new ≡ stage_if number stage row.old }
 {
     if row.number == number {
-        Row { stage, ..row }
-    } else {
-        row
+        row.stage = stage;
     }
 }
 
-/// The row, with another address to clear where it has this number.
-fn with_clear_if(row: Row, number: u32, at: u64) -> Row
-    ensures { result ≡ clear_row_if number at row }
+/// Sets the address that a row has to clear where it has this number.
+#[inline]
+fn set_clear_if(row: &mut Row, number: u32, at: u64)
+    ensures { row.new ≡ clear_row_if number at row.old }
 {
     if row.number == number {
-        Row {
-            clear_at: at,
-            ..row
-        }
-    } else {
-        row
+        row.clear_at = at;
     }
 }
 
@@ -197,7 +192,7 @@ fn set_stage_in(rows: &mut [Row], number: u32, stage: Stage)
     ensures { rows.new ≡ map (stage_if number stage) rows.old }
 {
     for row in rows.iter_mut() {
-        *row = with_stage_if(*row, number, stage);
+        set_stage_if(row, number, stage);
     }
 }
 
@@ -206,7 +201,7 @@ fn set_clear_in(rows: &mut [Row], number: u32, at: u64)
     ensures { rows.new ≡ map (clear_row_if number at) rows.old }
 {
     for row in rows.iter_mut() {
-        *row = with_clear_if(*row, number, at);
+        set_clear_if(row, number, at);
     }
 }
 

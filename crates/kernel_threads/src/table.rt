@@ -218,6 +218,13 @@ impl Threads {
         self.slots.rows.len() as u8
     }
 
+    /// How many numbers were given: those of thread 1 and of each child, live or gone.
+    pub fn numbers_given(&self) -> u32
+        ensures { result ≡ self.now.threads.given }
+    {
+        self.given
+    }
+
     /// Whether a thread is live, and none is ready or runs.
     pub fn is_stuck(&self) -> bool
         ensures { result ≡ process.is_stuck self.now.threads }

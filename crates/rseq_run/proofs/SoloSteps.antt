@@ -100,11 +100,11 @@ executed_by_rule v (Err why) answer = tt
 -- the rule's choice is what it chooses by what is seen
 abbrev IsSeenBy : Seen → Sight → Type 0
 IsSeenBy m seen = seen ≡ sight_in (here_in_history m.setting (history m.setting m.log) 0)
-    (ran 0 (history m.setting m.log))
+    (ran 0 (history m.setting m.log)) 0
 
 pub choice_is_seen : (m : Seen) (seen : Sight) (choice : Choice) → IsSeenBy m seen
     → solo_rule seen ≡ Some choice → solo_choice m.setting (history m.setting m.log) ≡ Some choice
-choice_is_seen m seen choice sight is = rule_is_read m.setting m.log seen sight ∙ is
+choice_is_seen m seen choice sight is = rule_is_read m.setting m.log 0 seen sight ∙ is
 
 -- a turn by the rule's choice
 turn_by_choice : (v w : Seen) (choice : Choice) (r : Result Entry Refused) → 0 < v.setting.limits.harts
@@ -156,5 +156,5 @@ turn_stopped m seen one far sight none = record {
   so_far = far;
   room = λ made. absurd cc;
   longer = λ made. absurd cc;
-  over = λ stopped. rule_stops m.setting m.log one far.block_run (rule_is_read m.setting m.log seen sight ∙ none);
+  over = λ stopped. rule_stops m.setting m.log one far.block_run (rule_is_read m.setting m.log 0 seen sight ∙ none);
 }

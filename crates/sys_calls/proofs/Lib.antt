@@ -4,6 +4,7 @@ pub mod Entering
 pub mod Keeping
 mod Leaving
 pub mod Reading
+mod Running
 pub mod Saying
 pub mod Spans
 pub mod Tables

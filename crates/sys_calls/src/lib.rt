@@ -13,6 +13,8 @@ mod futexes;
 mod kernel;
 mod memory;
 mod numbers;
+#[cfg(test)]
+mod tests;
 mod writing;
 
 pub use calling::{CallEnd, Called, call, make_call};

@@ -52,7 +52,7 @@ impl Machine {
     pub fn sight(&self, hart: Hart) -> Sight
         requires { hart.0 < self.now.setting.limits.harts }
         ensures { result ≡ sight_in (here_in_history self.now.setting (history self.now.setting self.now.log) hart.0)
-            (ran hart.0 (history self.now.setting self.now.log)) }
+            (ran hart.0 (history self.now.setting self.now.log)) 0 }
     {
         let state = self.hart(hart);
         let next = next_of(&self.code, &self.parts.pages, state);

@@ -1,0 +1,478 @@
+-- The choice of `run`: it is allowed, some hart has one while the run goes on, and a log of choices goes on by the entry that a
+-- hart makes next.
+use Rattle.std.proofs.Common.{◌≡◌, ◌≢◌, ℕ, ◌+◌, ◌%◌, ◌<◌, ◌≤◌, ◌&&◌, ◌||◌, List, [], ◌∷◌, ◌++◌, length, find, refl, sym, ap, ◌∙◌, subst, arith, Bool, true, false, not, cond, eqb, ltb, leb, Option, Some, None, Ok, is_none, is_some}
+use Rattle.std.proofs.lemmas.Bool.{and_parts, cond-false, cond-true, cond_both, eq-eqb, eqb-true, false≢true, leb-false, lt-ltb, ltb-true, ne_eqb}
+use Rattle.std.proofs.lemmas.List.Sums.{fold-append}
+use Rattle.std.proofs.lemmas.Map.Keys.{sorted_from_strictly_increasing}
+use Rattle.std.specs.List.{fold}
+use Rattle.std.specs.Option.{option_map, option_map_or}
+use Rattle.mach_types.specs.Events.{choice_of}
+use Rattle.mach_types.specs.Kernel.Record.{Kernel}
+use Rattle.mach_types.specs.Kernel.Scheduling.{affinity_of, first_for, has_hart}
+use Rattle.mach_types.specs.Kernel.Threads.{Thread, goes_on, is_live, is_ready, is_ready_state, is_stuck, is_waiting_state, numbers, running_on, state_of, thread_of, times}
+use Rattle.mach_types.specs.declared.events.Choice.{Choice}
+use Rattle.mach_types.specs.declared.events.Choice.TheVariants as asked
+use Rattle.mach_types.specs.declared.events.Entry.{Entry}
+use Rattle.mach_types.specs.declared.events.Sight.{Sight}
+use Rattle.mach_types.specs.declared.events.Tid.{Tid}
+use Rattle.mach_types.specs.declared.events.Why.{Why}
+use Rattle.mach_types.specs.declared.events.Why.TheVariants.{Waiting, FullBuffer}
+use Rattle.mach_types.specs.declared.limits.End.{End}
+use Rattle.mach_types.specs.declared.threads.Saved.{Saved}
+use Rattle.mach_types.specs.declared.threads.ThreadState.{ThreadState}
+use Rattle.mach_types.specs.declared.threads.ThreadState.TheVariants as state
+use Rattle.mach_types.specs.declared.user_memory.Store.{Store}
+use Rattle.rv_inst.proofs.Laws.{local-rows}
+use Rattle.rv_inst.specs.Class.{sets_register}
+use Rattle.rv_inst.specs.Execution.{fault_in, instruction_gate}
+use Rattle.rv_inst.specs.Local.{is_register_only}
+use Rattle.rv_inst.specs.Meaning.{meaning}
+use Rattle.rv_inst.specs.declared.effects.Effect.{Effect}
+use Rattle.rv_inst.specs.declared.effects.Effect.TheVariants as effect
+use Rattle.rv_inst.specs.declared.instruction.Inst.{Inst}
+use Rattle.chooser.specs.Cases.{draws, by_word, credit_of, drains_by, has_credit, has_stores, leaves_by, on_credit, pick, pick_in, plainly, when_held_up, when_idle, when_in_barrier}
+use Rattle.chooser.specs.Generators.{after_words, first_generator, word}
+use Rattle.chooser.specs.declared.cases.Case.{Case}
+use Rattle.chooser.specs.declared.cases.Case.TheVariants.{Settled, Open}
+use Rattle.chooser.specs.declared.chooser.Pick.{Pick}
+use Rattle.block_model.specs.Choosing.{IsChosen, Luck, all_chosen, choice_at, has_ended, is_choice, luck, luck_after, next_entry, number_of_choice, pick_at, pick_with, sight_with}
+use Rattle.block_model.specs.Deciding.{decide, entry_in, event, history, over_at, unless}
+use Rattle.block_model.specs.Events.{refusal_of}
+use Rattle.block_model.specs.Events.Drain.{refusal_drain_of}
+use Rattle.block_model.specs.Events.Exec.{next_effect, next_fault, refusal_exec, refusal_exec_by}
+use Rattle.block_model.specs.Events.Preempt.{refusal_preempt_by, unless_waiting}
+use Rattle.block_model.specs.Here.{Here, is_writable, memory, runs}
+use Rattle.block_model.specs.History.{History, ended, here_in_history, is_of_hart, kernel, ran}
+use Rattle.block_model.specs.Instruction.{fault_by, fetched, instruction_of}
+use Rattle.block_model.specs.Run.{IsBlockRun, IsRunHistory}
+use Rattle.block_model.specs.Setting.{Setting}
+use Rattle.block_model.specs.Sights.{is_local_on, sight_in, thread}
+use Rattle.block_model.proofs.Allowed.{decided_is}
+use Rattle.block_model.proofs.Ends.{some_live}
+use Rattle.block_model.proofs.Good.{IsSound}
+use Rattle.block_model.proofs.KernelTables.{found_passes, found_sorted, running_there}
+use Rattle.block_model.proofs.Open.{IsOpen, decide-open}
+use Rattle.block_model.proofs.Rules.{ended_parts, found_where, found_where_any, gate_waits, goes_somewhere, run_free}
+use Rattle.block_model.proofs.Runs.{IsBlockRun-append, history-append, history-nil, settled}
+
+-- what is picked isn't refused
+
+-- whether what is picked is allowed, where something is
+abbrev IsFree : Here → Option Pick → Type 0
+IsFree here None = Unit {0}
+IsFree here (Some p) = refusal_of p.choice here ≡ None
+
+-- an instruction that sets a register and the pc alone may be executed whatever waits
+free_gate : (some full : Bool)
+    → cond (some && false) (Some Waiting) (cond (full && false) (Some FullBuffer) None) ≡ None
+free_gate true true = refl
+free_gate true false = refl
+free_gate false true = refl
+free_gate false false = refl
+
+free_effect : (waiting : ℕ) (byte : ℕ → Option ℕ) (writable : ℕ → Bool) (e : Effect) → sets_register e ≡ true
+    → instruction_gate waiting (Some e) (is_some (fault_in byte writable e)) ≡ None
+free_effect waiting byte writable (effect.Next rd value pc) sets = free_gate (ltb 0 waiting) _
+free_effect waiting byte writable (effect.Load at size is_signed rd) sets = absurd (false≢true sets)
+free_effect waiting byte writable (effect.Store at size value) sets = absurd (false≢true sets)
+free_effect waiting byte writable (effect.Amo op at size value rd) sets = absurd (false≢true sets)
+free_effect waiting byte writable (effect.Lr at size rd) sets = absurd (false≢true sets)
+free_effect waiting byte writable (effect.Sc at size value rd) sets = absurd (false≢true sets)
+free_effect waiting byte writable (effect.Fence full) sets = absurd (false≢true sets)
+free_effect waiting byte writable effect.FenceI sets = absurd (false≢true sets)
+free_effect waiting byte writable effect.Call sets = absurd (false≢true sets)
+free_effect waiting byte writable effect.Break sets = absurd (false≢true sets)
+free_effect waiting byte writable effect.Misaligned sets = absurd (false≢true sets)
+
+-- so may one that touches registers alone and doesn't fault
+free_row : (waiting : ℕ) (byte : ℕ → Option ℕ) (writable : ℕ → Bool) (fetched_word : Option ℕ) (f : Saved) (o : Option Inst)
+    → (option_map_or is_register_only o false && is_none (fault_by byte writable f.pc fetched_word (option_map (λ i. meaning i f.file f.pc) o))) ≡ true
+    → instruction_gate waiting (option_map (λ i. meaning i f.file f.pc) o)
+    (is_some (fault_by byte writable f.pc fetched_word (option_map (λ i. meaning i f.file f.pc) o))) ≡ None
+free_row waiting byte writable fetched_word f None is = absurd (false≢true is)
+free_row waiting byte writable fetched_word f (Some i) is =
+    free_effect waiting byte writable (meaning i f.file f.pc) (sym (local-rows i f.file f.pc byte writable) ∙ is)
+
+local_free : (here : Here) (t : ℕ) → runs here ≡ Some t → is_local_on here (runs here) ≡ true → refusal_exec here ≡ None
+local_free here t busy is =
+    ap (refusal_exec_by here) busy
+    ∙ free_row (length here.waiting) (memory here) (is_writable here) (fetched here.setting.program.pages (here.file t).pc) (here.file t)
+    (instruction_of (fetched here.setting.program.pages (here.file t).pc)) (sym (ap (is_local_on here) busy) ∙ is)
+
+-- a test for no value
+none_is : {A : Type 0} (o : Option A) → is_none o ≡ true → o ≡ None
+none_is None none = refl
+none_is (Some x) none = absurd (false≢true none)
+
+-- the oldest store may enter memory where one waits, and the thread may leave where none does
+drain_free : (stores : List Store) → ltb 0 (length stores) ≡ true → refusal_drain_of stores ≡ None
+drain_free [] some = absurd (false≢true some)
+drain_free (w ∷ stores) some = refl
+
+leave_free : (stores : List Store) → eqb (length stores) 0 ≡ true → unless_waiting stores ≡ None
+leave_free [] none = refl
+leave_free (w ∷ stores) none = let bad = eqb-true (length (w ∷ stores)) 0 none in absurd (omega arith)
+
+-- what an idle hart picks
+free_when_idle : (here : Here) (first : Option ℕ) → IsSound here.setting here.kernel → runs here ≡ None
+    → first_for here.hart here.kernel.scheduling ≡ first
+    → IsFree here (option_map plainly (option_map asked.Run (option_map thread first)))
+free_when_idle here None sound idle found = tt
+free_when_idle here (Some t) sound idle found = run_free here t sound idle found
+
+-- what a hart picks that is held up
+free_when_held_up : (here : Here) (some : Bool) → ltb 0 (length here.waiting) ≡ some
+    → IsFree here (option_map plainly (cond some (Some asked.Drain) None))
+free_when_held_up here true is = drain_free here.waiting is
+free_when_held_up here false is = tt
+
+-- what a word picks
+free_by_word : (here : Here) (t r : ℕ) (seen : Sight) → runs here ≡ Some t → refusal_exec here ≡ None
+    → seen.stores ≡ length here.waiting → IsFree here (Some (by_word r seen))
+free_by_word here t r seen busy free same =
+    cond_both (leaves_by r seen) (plainly asked.Preempt) (cond (drains_by r seen) (plainly asked.Drain) (record { choice = asked.Exec; credit = credit_of r }))
+    (λ p. IsFree here (Some p))
+    (λ leaves. ap (refusal_preempt_by here) busy ∙ leave_free here.waiting (rw (← same) (no_store leaves)))
+    (λ stays. cond_both (drains_by r seen) (plainly asked.Drain) (record { choice = asked.Exec; credit = credit_of r }) (λ p. IsFree here (Some p))
+    (λ drains. drain_free here.waiting (rw (← same) (and_parts (eqb (r % 4) 1) (has_stores seen) drains).1))
+    (λ executes. free))
+  where
+    no_store : leaves_by r seen ≡ true → eqb seen.stores 0 ≡ true
+    no_store leaves =
+        let front = (and_parts (eqb (r % 8) 0 && leb 16 seen.ran && eqb seen.stores 0) (is_some seen.first_ready) leaves).0 in
+        (and_parts (eqb (r % 8) 0 && leb 16 seen.ran) (eqb seen.stores 0) front).1
+
+-- the cases by what is seen of a hart: no barrier, no request and no signal can come yet
+abbrev busy_case : Sight → Case
+busy_case seen =
+    cond (has_credit seen) (Settled (Some (on_credit seen)))
+    (cond seen.exec_enabled Open (Settled (option_map plainly (when_held_up seen))))
+
+abbrev case_by : Bool → Sight → Case
+case_by idle seen = cond idle (Settled (option_map plainly (option_map asked.Run seen.first_ready))) (busy_case seen)
+
+-- whatever the word and the credit are
+free_when_busy : (here : Here) (t since credit r : ℕ) → runs here ≡ Some t
+    → IsFree here (pick_in (busy_case (sight_in here since credit)) r (sight_in here since credit))
+free_when_busy here t since credit r busy =
+    let seen = sight_in here since credit in
+    let after : Case = cond seen.exec_enabled Open (Settled (option_map plainly (when_held_up seen))) in
+    cond_both (has_credit seen) (Settled (Some (on_credit seen))) after (λ c. IsFree here (pick_in c r seen))
+    (λ credited. local_free here t busy (and_parts (ltb 0 credit) seen.«local» credited).1)
+    (λ uncredited. cond_both seen.exec_enabled Open (Settled (option_map plainly (when_held_up seen)))
+    (λ c. IsFree here (pick_in c r seen))
+    (λ enabled. free_by_word here t r seen busy (none_is (refusal_exec here) enabled) refl)
+    (λ held. free_when_held_up here (has_stores seen) refl))
+
+free_by : (here : Here) (since credit r : ℕ) (running : Option ℕ) → IsSound here.setting here.kernel
+    → runs here ≡ running
+    → IsFree here (pick_in (case_by (is_none running) (sight_in here since credit)) r (sight_in here since credit))
+free_by here since credit r None sound idle =
+    free_when_idle here (first_for here.hart here.kernel.scheduling) sound idle refl
+free_by here since credit r (Some t) sound busy = free_when_busy here t since credit r busy
+
+pick_is_free : (here : Here) (since credit r : ℕ) → IsSound here.setting here.kernel
+    → IsFree here (pick (sight_in here since credit) r)
+unfolding pick
+pick_is_free here since credit r sound = free_by here since credit r (runs here) sound refl
+
+-- so what is chosen isn't refused
+free_choice : (here : Here) (o : Option Pick) (c : Choice) → IsFree here o
+    → option_map (λ (p : Pick). p.choice) o ≡ Some c → refusal_of c here ≡ None
+free_choice here None c free is = absurd cc
+free_choice here (Some p) c free is =
+    let it : p.choice ≡ c = cc in
+    subst (λ x. refusal_of x here ≡ None) it free
+
+-- a run that hasn't ended goes on, and its log has room
+open_parts : (s : Setting) (before : History) (o : Option End) → over_at s before ≡ o
+    → (is_some o || leb s.limits.steps (length before)) ≡ false → IsOpen s before
+open_parts s before (Some e) at is = absurd (false≢true (sym is))
+open_parts s before None at is = record { goes = at; room = leb-false s.limits.steps (length before) is }
+
+goes_on_where : (s : Setting) (before : History) → has_ended s before ≡ false → IsOpen s before
+unfolding has_ended
+goes_on_where s before is = open_parts s before (over_at s before) refl is
+
+-- a place where a hart has a choice
+record HasChoice (s : Setting) (h : ℕ) (before : History) (c : Choice) : Type 0 where
+  pub goes : has_ended s before ≡ false
+  pub lt : h < s.limits.harts
+  pub picked : option_map (λ (p : Pick). p.choice) (pick_at s h before) ≡ Some c
+
+choice_by : (s : Setting) (h : ℕ) (before : History) (c : Choice) (over known : Bool) → has_ended s before ≡ over
+    → ltb h s.limits.harts ≡ known
+    → cond over None (cond known (option_map (λ (p : Pick). p.choice) (pick_at s h before)) None) ≡ Some c
+    → HasChoice s h before c
+choice_by s h before c true known at lt is = absurd cc
+choice_by s h before c false false at lt is = absurd cc
+choice_by s h before c false true at lt is = record { goes = at; lt = ltb-true h s.limits.harts lt; picked = is }
+
+has_choice : (s : Setting) (h : ℕ) (before : History) (c : Choice) → choice_at s h before ≡ Some c
+    → HasChoice s h before c
+unfolding choice_at
+has_choice s h before c is = choice_by s h before c (has_ended s before) (ltb h s.limits.harts) refl refl is
+
+-- the choice is allowed
+pub choice_is_allowed : (s : Setting) (log : List Entry) (h : ℕ) (c : Choice) → IsBlockRun s log
+    → choice_at s h (history s log) ≡ Some c
+    → refusal_of c (here_in_history s (history s log) h) ≡ None
+choice_is_allowed s log h c run chosen =
+    let before = history s log in
+    let l = luck s h before in
+    free_choice (here_in_history s before h) (pick_at s h before) c
+    (pick_is_free (here_in_history s before h) (ran h before) l.credit (word (after_words l.drawn (first_generator s.seed h))) (settled s before run).good.kernel)
+    (has_choice s h before c chosen).picked
+
+pub choice_decides : (s : Setting) (log : List Entry) (h : ℕ) (c : Choice) → IsBlockRun s log
+    → choice_at s h (history s log) ≡ Some c
+    → decide s (history s log) h c ≡ Ok (entry_in c (here_in_history s (history s log) h))
+choice_decides s log h c run chosen =
+    let has = has_choice s h (history s log) c chosen in
+    decide-open s (history s log) h c (goes_on_where s (history s log) has.goes) has.lt
+    ∙ ap (unless (entry_in c (here_in_history s (history s log) h))) (choice_is_allowed s log h c run chosen)
+
+-- some hart has a choice
+
+-- a hart with a thread has one: where it may not execute, a store waits
+held_up_picks : (stores : List Store) → refusal_drain_of stores ≡ None
+    → is_some (option_map plainly (cond (ltb 0 (length stores)) (Some asked.Drain) None)) ≡ true
+held_up_picks [] some = absurd cc
+held_up_picks (w ∷ stores) some = rw (lt-ltb 0 (length (w ∷ stores)) (omega arith)) refl
+
+busy_by : (here : Here) (t since credit r : ℕ) (why : Option Why) → runs here ≡ Some t → refusal_exec here ≡ why
+    → is_some (pick_in (cond (is_none why) Open (Settled (option_map plainly (when_held_up (sight_in here since credit))))) r (sight_in here since credit)) ≡ true
+busy_by here t since credit r None busy at = refl
+busy_by here t since credit r (Some why) busy at =
+    let gate : refusal_exec_by here (Some t) ≡ Some why = sym (ap (refusal_exec_by here) busy) ∙ at in
+    held_up_picks here.waiting (gate_waits here.waiting (next_effect here t) (is_some (next_fault here t)) why gate)
+
+picks_when_busy : (here : Here) (t since credit r : ℕ) → runs here ≡ Some t
+    → is_some (pick_in (busy_case (sight_in here since credit)) r (sight_in here since credit)) ≡ true
+picks_when_busy here t since credit r busy =
+    let seen = sight_in here since credit in
+    let after : Case = cond seen.exec_enabled Open (Settled (option_map plainly (when_held_up seen))) in
+    cond_both (has_credit seen) (Settled (Some (on_credit seen))) after (λ c. is_some (pick_in c r seen) ≡ true)
+    (λ credited. refl) (λ uncredited. busy_by here t since credit r (refusal_exec here) busy refl)
+
+-- an idle hart has one where a ready thread may run there
+picks_when_idle : (first : Option ℕ) → is_some first ≡ true
+    → is_some (option_map plainly (option_map asked.Run (option_map thread first))) ≡ true
+picks_when_idle None some = absurd (false≢true some)
+picks_when_idle (Some t) some = refl
+
+picks_by : (here : Here) (since credit r : ℕ) (running : Option ℕ) → runs here ≡ running
+    → (running ≡ None → is_some (first_for here.hart here.kernel.scheduling) ≡ true)
+    → is_some (pick_in (case_by (is_none running) (sight_in here since credit)) r (sight_in here since credit)) ≡ true
+picks_by here since credit r None at first = picks_when_idle (first_for here.hart here.kernel.scheduling) (first refl)
+picks_by here since credit r (Some t) at first = picks_when_busy here t since credit r at
+
+something_picked : (here : Here) (since credit r : ℕ)
+    → (runs here ≡ None → is_some (first_for here.hart here.kernel.scheduling) ≡ true)
+    → is_some (pick (sight_in here since credit) r) ≡ true
+unfolding pick
+something_picked here since credit r first = picks_by here since credit r (runs here) refl first
+
+-- a hart that a thread runs on, or that a ready thread may run on
+record GoesOnAt (s : Setting) (k : Kernel) : Type 0 where
+  pub hart : ℕ
+  pub lt : hart < s.limits.harts
+  pub first : running_on hart k.threads ≡ None → is_some (first_for hart k.scheduling) ≡ true
+
+goes_on_by : (s : Setting) (k : Kernel) (t : ℕ) (st : ThreadState) → IsSound s k → 0 < s.limits.harts
+    → is_live t k.threads ≡ true
+    → state_of t k.threads ≡ Some st → not (is_waiting_state st) ≡ true → GoesOnAt s k
+goes_on_by s k t state.Ready sound harts live is goes =
+    let at = sound.allowed harts t live in
+    let ready : is_ready t k.threads ≡ true = ap (λ o. option_map_or is_ready_state o false) is in
+    let once : times t k.scheduling.order ≡ 1 = sound.tables.ready t ∙ ap (λ b. cond b 1 0) ready in
+    record {
+      hart = at.0;
+      lt = at.1;
+      first = λ idle. found_where (λ u. has_hart (affinity_of u k.scheduling) at.0) t k.scheduling.order (omega arith) at.2;
+    }
+goes_on_by s k t (state.Running h) sound harts live is goes =
+    let there : running_on h.0 k.threads ≡ Some t = running_there s.limits.harts h.0 t k.threads k.scheduling sound.tables is in
+    record { hart = h.0; lt = sound.tables.below t h is; first = λ idle. absurd (false≢true (ap is_some (sym idle ∙ there))) }
+goes_on_by s k t (state.Waiting at) sound harts live is goes = absurd (false≢true goes)
+
+goes_on_of : (s : Setting) (k : Kernel) (o : Option Thread) → IsSound s k → 0 < s.limits.harts
+    → find goes_on k.threads.live ≡ o → is_some o ≡ true → GoesOnAt s k
+goes_on_of s k None sound harts found some = absurd (false≢true some)
+goes_on_of s k (Some th) sound harts found some =
+    let there : thread_of th.tid k.threads ≡ Some th = found_sorted goes_on k.threads.live th (sorted_from_strictly_increasing (numbers k.threads.live) sound.tables.threads.rising) found in
+    goes_on_by s k th.tid th.state sound harts (ap is_some there) (ap (λ (o : Option Thread). option_map (λ th. th.state) o) there) (found_passes goes_on k.threads.live th found)
+
+goes_on_at : (s : Setting) (before : History) → IsRunHistory s before → 0 < s.limits.harts → IsOpen s before
+    → GoesOnAt s (kernel s before)
+goes_on_at s before run harts x =
+    let goes = ended_parts (ended before) (is_stuck (kernel s before).threads) x.goes in
+    let k = kernel s before in
+    goes_on_of s k (find goes_on k.threads.live) (settled s before run).good.kernel harts refl
+    (found_where_any goes_on k.threads.live (goes_somewhere k.threads goes.1 (some_live s before run goes.0)))
+
+-- where something is picked, an entry comes next
+entry_of : (here : Here) (o : Option Pick) → is_some o ≡ true
+    → is_some (option_map (λ c. entry_in c here) (option_map (λ (p : Pick). p.choice) o)) ≡ true
+entry_of here None some = absurd (false≢true some)
+entry_of here (Some p) some = refl
+
+next_where : (s : Setting) (h : ℕ) (before : History) → has_ended s before ≡ false → h < s.limits.harts
+    → is_some (pick_at s h before) ≡ true → is_some (next_entry s h before) ≡ true
+unfolding next_entry choice_at
+next_where s h before goes lt some = rw (goes, lt-ltb h s.limits.harts lt) (entry_of (here_in_history s before h) (pick_at s h before) some)
+
+pub some_hart_goes_on : (s : Setting) (log : List Entry) → IsBlockRun s log → 0 < s.limits.harts
+    → has_ended s (history s log) ≡ false
+    → (h : ℕ) × (h < s.limits.harts) × (is_some (next_entry s h (history s log)) ≡ true)
+some_hart_goes_on s log run harts goes =
+    let before = history s log in
+    let at = goes_on_at s before run harts (goes_on_where s before goes) in
+    let l = luck s at.hart before in (
+      at.hart,
+      at.lt,
+      next_where s at.hart before goes at.lt (something_picked (here_in_history s before at.hart) (ran at.hart before) l.credit
+          (word (after_words l.drawn (first_generator s.seed at.hart))) at.first),
+    )
+
+-- logs of choices
+
+-- the luck of a hart after one more entry
+pub luck_of_other : (s : Setting) (log : List Entry) (h : ℕ) (e : Entry) → e.hart.0 ≢ h
+    → luck s h (history s (log ++ e ∷ [])) ≡ luck s h (history s log)
+luck_of_other s log h e other =
+    let before = history s log in
+    ap (luck s h) (history-append s log e)
+    ∙ cond-false (eqb e.hart.0 h) (luck_after (choice_of e) (sight_with s h before (luck s h before)) (pick_with s h before (luck s h before)) (luck s h before)) (luck s h before)
+    (ne_eqb e.hart.0 h other)
+
+pub luck_of_own : (s : Setting) (log : List Entry) (h : ℕ) (e : Entry) → e.hart.0 ≡ h
+    → luck s h (history s (log ++ e ∷ []))
+    ≡ luck_after (choice_of e) (sight_with s h (history s log) (luck s h (history s log))) (pick_with s h (history s log) (luck s h (history s log))) (luck s h (history s log))
+luck_of_own s log h e own =
+    let before = history s log in
+    ap (luck s h) (history-append s log e)
+    ∙ cond-true (eqb e.hart.0 h) (luck_after (choice_of e) (sight_with s h before (luck s h before)) (pick_with s h before (luck s h before)) (luck s h before)) (luck s h before)
+    (eq-eqb e.hart.0 h own)
+
+-- whether each entry is the choice of its hart, with one more entry
+pub all_chosen_next : (s : Setting) (log : List Entry) (e : Entry)
+    → all_chosen s (history s (log ++ e ∷ [])) ≡ (all_chosen s (history s log) && is_choice (choice_at s e.hart.0 (history s log)) (choice_of e))
+all_chosen_next s log e = ap (all_chosen s) (history-append s log e)
+
+-- whether two choices are one
+pub is_choice_same : (c : Choice) → is_choice (Some c) c ≡ true
+is_choice_same c = eq-eqb (number_of_choice c) (number_of_choice c) refl
+
+same_thread : (t u : Tid) → 6 + t.0 ≡ 6 + u.0 → t ≡ u
+same_thread t u is = let same : t.0 ≡ u.0 = omega arith in ap thread same
+
+pub is_choice_is : (a b : Choice) → is_choice (Some a) b ≡ true → a ≡ b
+is_choice_is a b same = one_choice a b (eqb-true (number_of_choice a) (number_of_choice b) same)
+  where
+    one_choice : (a b : Choice) → number_of_choice a ≡ number_of_choice b → a ≡ b
+    one_choice asked.Exec asked.Exec is = refl
+    one_choice asked.Drain asked.Drain is = refl
+    one_choice asked.Take asked.Take is = refl
+    one_choice asked.Done asked.Done is = refl
+    one_choice asked.Preempt asked.Preempt is = refl
+    one_choice asked.Signal asked.Signal is = refl
+    one_choice (asked.Run t) (asked.Run u) is = ap asked.Run (same_thread t u is)
+    one_choice a b is = absurd (omega arith)
+
+pub chosen_start : (s : Setting) → IsChosen s []
+unfolding IsChosen
+chosen_start s = ap (all_chosen s) (history-nil s)
+
+-- the choice of a next entry
+next_of : (s : Setting) (h : ℕ) (before : History) (o : Option Choice) (e : Entry)
+    → option_map (λ c. entry_in c (here_in_history s before h)) o ≡ Some e
+    → (c : Choice) × (o ≡ Some c) × (e ≡ entry_in c (here_in_history s before h))
+next_of s h before None e is = absurd cc
+next_of s h before (Some c) e is = (c, refl, cc)
+
+choice_of_next : (s : Setting) (h : ℕ) (before : History) (e : Entry) → next_entry s h before ≡ Some e
+    → (c : Choice) × (choice_at s h before ≡ Some c) × (e ≡ entry_in c (here_in_history s before h))
+unfolding next_entry
+choice_of_next s h before e is = next_of s h before (choice_at s h before) e is
+
+chosen_next : (s : Setting) (log : List Entry) (e : Entry) → IsChosen s log
+    → choice_at s e.hart.0 (history s log) ≡ Some (choice_of e) → IsChosen s (log ++ e ∷ [])
+unfolding IsChosen
+chosen_next s log e chosen is = all_chosen_next s log e ∙ rw (chosen, is) (is_choice_same (choice_of e))
+
+pub chosen_more : (s : Setting) (log : List Entry) (h : ℕ) (e : Entry) → IsBlockRun s log → IsChosen s log
+    → next_entry s h (history s log) ≡ Some e
+    → IsBlockRun s (log ++ e ∷ []) × IsChosen s (log ++ e ∷ []) × (e.hart.0 ≡ h)
+chosen_more s log h e run chosen next =
+    let at = choice_of_next s h (history s log) e next in
+    let made : decide s (history s log) h at.0 ≡ Ok e = choice_decides s log h at.0 run at.1 ∙ ap Ok (sym at.2) in
+    let own = decided_is s (history s log) h at.0 e made in
+    let it : choice_at s e.hart.0 (history s log) ≡ Some (choice_of e) = ap (λ k. choice_at s k (history s log)) own.0 ∙ at.1 ∙ ap Some (sym own.1) in
+    (IsBlockRun-append s log h at.0 e run made, chosen_next s log e chosen it, own.0)
+
+chosen_before : (s : Setting) (rest : List Entry) (before : History)
+    → all_chosen s (fold (λ b e. event s b e ∷ b) before rest) ≡ true → all_chosen s before ≡ true
+chosen_before s [] before chosen = chosen
+chosen_before s (e ∷ rest) before chosen =
+    (and_parts (all_chosen s before) (is_choice (choice_at s e.hart.0 before) (choice_of e)) (chosen_before s rest (event s before e ∷ before) chosen)).0
+
+pub chosen_shorter : (s : Setting) (log more : List Entry) → IsChosen s (log ++ more) → IsChosen s log
+unfolding IsChosen history
+chosen_shorter s log more chosen =
+    chosen_before s more (history s log) (sym (ap (all_chosen s) (fold-append (λ before e. event s before e ∷ before) [] log more)) ∙ chosen)
+
+-- where the run has ended no hart makes an entry
+pub next_is_none : (s : Setting) (log : List Entry) (h : ℕ) → has_ended s (history s log) ≡ true
+    → next_entry s h (history s log) ≡ None
+unfolding next_entry choice_at
+next_is_none s log h over = rw over refl
+
+-- credits
+
+-- a pick gives at most 7
+plain_credit : (o : Option Choice) → option_map_or (λ (p : Pick). p.credit) (option_map plainly o) 0 ≤ 7
+plain_credit None = omega arith
+plain_credit (Some c) = omega arith
+
+word_credit : (r : ℕ) (seen : Sight) → (by_word r seen).credit ≤ 7
+word_credit r seen =
+    cond_both (leaves_by r seen) (plainly asked.Preempt) (cond (drains_by r seen) (plainly asked.Drain) (record { choice = asked.Exec; credit = credit_of r }))
+    (λ p. p.credit ≤ 7) (λ leaves. omega arith)
+    (λ stays. cond_both (drains_by r seen) (plainly asked.Drain) (record { choice = asked.Exec; credit = credit_of r }) (λ p. p.credit ≤ 7)
+    (λ drains. omega arith) (λ executes. omega arith))
+
+-- the credit after a case is at most 7
+abbrev IsSmall : Sight → ℕ → Case → Type 0
+IsSmall seen r c = option_map_or (λ (p : Pick). p.credit) (pick_in c r seen) 0 ≤ 7
+
+small_of : (seen : Sight) (r : ℕ) (b : Bool) (x y : Case) → IsSmall seen r x → IsSmall seen r y
+    → IsSmall seen r (cond b x y)
+small_of seen r true x y p q = p
+small_of seen r false x y p q = q
+
+pick_credit : (seen : Sight) (r : ℕ) → seen.credit ≤ 7 → option_map_or (λ (p : Pick). p.credit) (pick seen r) 0 ≤ 7
+unfolding pick
+pick_credit seen r small =
+    small_of seen r seen.idle _ _ (plain_credit (when_idle seen))
+    (small_of seen r seen.in_barrier _ _ (plain_credit (when_in_barrier seen))
+    (small_of seen r (has_credit seen) _ _ (omega (arith, small))
+    (small_of seen r seen.requested _ _ (omega arith)
+    (small_of seen r seen.deliverable _ _ (omega arith)
+    (small_of seen r seen.exec_enabled _ _ (word_credit r seen) (plain_credit (when_held_up seen)))))))
+
+-- the luck after an event, picked or not
+small_after : (c : Choice) (seen : Sight) (r : ℕ) (l : Luck) → seen.credit ≤ 7 → (luck_after c seen (pick seen r) l).credit ≤ 7
+small_after c seen r l small =
+    cond_both (is_choice (option_map (λ (p : Pick). p.choice) (pick seen r)) c)
+    (record { drawn = cond (draws seen) (l.drawn + 1) l.drawn; credit = option_map_or (λ (p : Pick). p.credit) (pick seen r) 0 })
+    (record { drawn = l.drawn; credit = 0 }) (λ (x : Luck). x.credit ≤ 7)
+    (λ picked. pick_credit seen r small) (λ other. omega arith)
+
+pub credit_is_small : (s : Setting) (h : ℕ) (before : History) → (luck s h before).credit ≤ 7
+credit_is_small s h [] = omega arith
+credit_is_small s h (e ∷ before) =
+    let l = luck s h before in
+    cond_both (is_of_hart h e) (luck_after (choice_of e.entry) (sight_with s h before l) (pick_with s h before l) l) l (λ (x : Luck). x.credit ≤ 7)
+    (λ own. small_after (choice_of e.entry) (sight_with s h before l) (word (after_words l.drawn (first_generator s.seed h))) l (credit_is_small s h before))
+    (λ other. credit_is_small s h before)

@@ -1,0 +1,9 @@
+use Rattle.block_model.proofs.theorems.chosen_runs_go_on.Goals as goal
+use Rattle.block_model.proofs.Choosing.{chosen_start, chosen_more, chosen_shorter}
+
+pub returns : goal.returns
+returns c = record {
+  start = λ s. chosen_start s;
+  more = λ s log h e run chosen next. chosen_more s log h e run chosen next;
+  shorter = λ s log more chosen. chosen_shorter s log more chosen;
+}

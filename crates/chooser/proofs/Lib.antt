@@ -1,0 +1,5 @@
+mod Credits
+mod Draws
+mod Examples
+pub mod Laws
+mod Picks

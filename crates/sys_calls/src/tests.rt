@@ -1,0 +1,8 @@
+//! Tests: each refusal of each call beside a call that succeeds, with answers from the manual pages; and
+//! calls of many threads.
+
+mod bench;
+mod numbers;
+mod refusals;
+mod threads;
+mod waiters;

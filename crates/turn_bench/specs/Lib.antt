@@ -1,0 +1,3 @@
+pub mod Orders
+pub mod Quotas
+pub mod Tallies

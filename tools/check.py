@@ -1,0 +1,57 @@
+#!/usr/bin/env python3
+"""Runs the tests of the tools, and says where packages lack that they stand on.
+
+    tools/check.py
+
+Ends with 0 where every test passed, or where they can't be run here; with 1 where one failed. RSEQ_RUN
+names a built program other than crates/rseq_run/out/rseq_run; the tests that need one are left out where
+there is none.
+"""
+import os
+import pathlib
+import shutil
+import subprocess
+import sys
+
+TOOLS = pathlib.Path(__file__).resolve().parent
+PYTHON = '/usr/bin/python3' if pathlib.Path('/usr/bin/python3').exists() else sys.executable
+PARTS = ('lens', 'sweep')
+
+
+def lacking():
+    """Debian's packages that lack."""
+    elftools = subprocess.run([PYTHON, '-c', 'import elftools'], stderr=subprocess.DEVNULL)
+    tools = {'riscv64-unknown-elf-objdump': 'binutils-riscv64-unknown-elf', 'parallel': 'parallel'}
+    return (['python3-pyelftools'] if elftools.returncode else []) + [
+        package for tool, package in tools.items() if shutil.which(tool) is None
+    ]
+
+
+def passes(part):
+    """Whether the tests of a part pass."""
+    path = os.pathsep.join(str(TOOLS / name) for name in (part, *PARTS))
+    print(f'tools/{part}:', flush=True)
+    words = [
+        PYTHON,
+        '-m',
+        'unittest',
+        'discover',
+        '--top-level-directory',
+        part,
+        '--start-directory',
+        f'{part}/tests',
+    ]
+    return subprocess.run(words, cwd=TOOLS, env={**os.environ, 'PYTHONPATH': path}).returncode == 0
+
+
+def main():
+    packages = lacking()
+    if packages:
+        print(
+            f'tools: not tested here, since {", ".join(packages)} lack (apt-get install {" ".join(packages)})'
+        )
+        return 0
+    return 0 if all([passes(part) for part in PARTS]) else 1
+
+
+sys.exit(main())

@@ -1,0 +1,52 @@
+"""Calls the program `rseq_run` to play scripts."""
+from __future__ import annotations
+
+import os
+import subprocess
+import tempfile
+from dataclasses import dataclass
+from pathlib import Path
+
+from .faults import LensFault
+from .output import Output, parse_output
+
+REPOSITORY = Path(__file__).resolve().parents[3]
+BUILT = Path(os.environ.get('RSEQ_RUN', REPOSITORY / 'crates' / 'rseq_run' / 'out' / 'rseq_run'))
+"""The program that is called where no other is named: that of the repository, or what RSEQ_RUN says."""
+DONE, SCRIPT_REFUSED = 0, 4
+SECONDS = 120
+
+
+@dataclass(frozen=True)
+class Machine:
+    """A built program, the file that it runs, and the limits that it is given."""
+
+    program: str
+    elf: str
+    options: tuple[str, ...]
+
+    def play(self, lines: list[str]) -> Output | int:
+        """The run of a script, or the number of the first of its lines that is refused."""
+        with tempfile.NamedTemporaryFile('w', suffix='.script') as script:
+            script.writelines(f'{line}\n' for line in lines)
+            script.flush()
+            status, text = self.answer(['play', self.elf, script.name, *self.options])
+        if status == DONE:
+            return parse_output(self.elf, text)
+        words = text.decode('ascii', 'replace').split()
+        if status == SCRIPT_REFUSED and len(words) == 3:
+            return int(words[2])
+        raise LensFault(f'{self.program} can\'t play {self.elf}: status {status}, "{" ".join(words)}"')
+
+    def answer(self, words: list[str]) -> tuple[int, bytes]:
+        try:
+            ran = subprocess.run(
+                [self.program, *words], stdin=subprocess.DEVNULL, stdout=subprocess.PIPE, timeout=SECONDS
+            )
+        except OSError as error:
+            raise LensFault(
+                f'{self.program}: {error.strerror} (`rt ci` builds it; --program names another)'
+            ) from None
+        except subprocess.TimeoutExpired:
+            raise LensFault(f'{self.program} had not ended after {SECONDS} seconds') from None
+        return ran.returncode, ran.stdout

@@ -1,0 +1,192 @@
+"""Reads an output text of rseq_run: the console, the lines of the log, and the end."""
+from __future__ import annotations
+
+import sys
+from dataclasses import dataclass
+from pathlib import Path
+
+from .faults import LensFault
+
+RUN, EXEC, DRAIN, PREEMPT, TAKE, DONE, SIGNAL = 'run', 'exec', 'drain', 'preempt', 'take', 'done', 'signal'
+KINDS = (RUN, EXEC, DRAIN, PREEMPT, TAKE, DONE, SIGNAL)
+HARTS = 8
+PC_DIGITS = 16
+CONSOLE_SHOWN = 60
+
+
+@dataclass(frozen=True)
+class Step:
+    """One line of the log: the event of a hart, and its thread and pc before the event. Steps count from
+    1."""
+
+    number: int
+    hart: int
+    kind: str
+    thread: int
+    pc: int
+
+    def line(self) -> str:
+        return f'{self.hart} {self.kind} {self.thread} {self.pc:0{PC_DIGITS}x}'
+
+    def short_line(self) -> str:
+        """The same event, without the thread and the pc that the program would compare."""
+        return f'{self.hart} {self.kind} {self.thread}' if self.kind == RUN else f'{self.hart} {self.kind}'
+
+
+@dataclass(frozen=True)
+class Output:
+    """The parts of an output text."""
+
+    name: str
+    console: bytes
+    steps: list[Step]
+    end: str
+
+    @property
+    def harts(self) -> list[int]:
+        """The harts that did something, in order."""
+        return sorted({step.hart for step in self.steps})
+
+    @property
+    def threads(self) -> list[int]:
+        """The threads that ran, in order."""
+        return sorted({step.thread for step in self.steps if step.thread})
+
+    @property
+    def was_killed(self) -> bool:
+        return self.end.startswith('killed')
+
+
+@dataclass(frozen=True)
+class Outline:
+    """An output text, its log not yet taken apart."""
+
+    name: str
+    console: bytes
+    lines: list[bytes]
+    end: str
+
+    @property
+    def log(self) -> bytes:
+        """The log as it stands in the text, which is a script."""
+        return b''.join(line + b'\n' for line in self.lines)
+
+    def output(self) -> Output:
+        """The same with each line of the log read."""
+        return Output(
+            self.name,
+            self.console,
+            [self.step(number) for number in range(1, len(self.lines) + 1)],
+            self.end,
+        )
+
+    def step(self, number: int) -> Step:
+        line = self.lines[number - 1].decode('ascii', 'replace')
+        step = read_step(number, line)
+        if step is None:
+            raise LensFault(
+                f'{self.name}: line {number} of its log is {line[:40]!r}, and "HART KIND THREAD PC" is due'
+            )
+        return step
+
+
+class Reader:
+    """Takes an output text apart from its beginning, and says where it isn't one."""
+
+    def __init__(self, name: str, text: bytes):
+        self.name = name
+        self.rest = text
+
+    def fault(self, words: str) -> LensFault:
+        return LensFault(f'{self.name}: {words}')
+
+    def line(self, due: str) -> str:
+        line, newline, rest = self.rest.partition(b'\n')
+        if not newline:
+            raise self.fault(f'it is cut off: {due} is due where it ends')
+        self.rest = rest
+        return line.decode('ascii', 'replace')
+
+    def number(self, word: str) -> int:
+        """The number of a line `WORD N`."""
+        line = self.line(f'a line "{word} N"')
+        found, _, digits = line.partition(' ')
+        if found != word or not digits.isdecimal():
+            raise self.fault(
+                f'it is no output of rseq_run: a line "{word} N" is due, and {line[:40]!r} came'
+            )
+        return int(digits)
+
+    def console(self) -> bytes:
+        length = self.number('console')
+        console, newline = self.rest[:length], self.rest[length : length + 1]
+        if newline != b'\n':
+            raise self.fault(
+                f'it is cut off or changed: {length} bytes of the console and a newline are due'
+            )
+        self.rest = self.rest[length + 1 :]
+        return console
+
+    def log(self) -> list[bytes]:
+        length = self.number('log')
+        lines = self.rest.split(b'\n', length)
+        if len(lines) <= length:
+            raise self.fault(
+                f'it is cut off: line {len(lines)} of the {length} of its log is due where it ends'
+            )
+        self.rest = lines.pop()
+        return lines
+
+    def end(self) -> str:
+        line = self.line('the line of its end')
+        if not line.startswith('end ') or self.rest:
+            raise self.fault(f'a line "end REASON" is due behind the log, and {line[:40]!r} came')
+        return line.removeprefix('end ')
+
+
+def read_step(number: int, line: str) -> Step | None:
+    """The step of a line `HART KIND THREAD PC`; None where the line isn't of this form."""
+    fields = line.split(' ')
+    if len(fields) != 4:
+        return None
+    hart, kind, thread, pc = fields
+    if not (
+        len(hart) == 1 and hart.isdecimal() and int(hart) < HARTS and kind in KINDS and thread.isdecimal()
+    ):
+        return None
+    if len(pc) != PC_DIGITS or not all(digit in '0123456789abcdef' for digit in pc):
+        return None
+    return Step(number, int(hart), kind, int(thread), int(pc, 16))
+
+
+def outline(name: str, text: bytes) -> Outline:
+    """The parts of a text; a fault that names it where it is no whole output."""
+    if text.startswith(b'fault '):
+        first = text.splitlines()[0].decode('ascii', 'replace')
+        raise LensFault(
+            f'{name}: the program refused what it was asked ("{first}"), so there is no run to show'
+        )
+    reader = Reader(name, text)
+    return Outline(name, reader.console(), reader.log(), reader.end())
+
+
+def parse_output(name: str, text: bytes) -> Output:
+    """The parts of a text with each line of its log; a fault that names it where it is no whole output."""
+    return outline(name, text).output()
+
+
+def read_output(path: str) -> Output:
+    """Reads the output text in a file, or on standard input where the path is `-`."""
+    if path == '-':
+        return parse_output('standard input', sys.stdin.buffer.read())
+    try:
+        return parse_output(path, Path(path).read_bytes())
+    except OSError as error:
+        raise LensFault(f'{path}: {error.strerror}') from None
+
+
+def shown_console(console: bytes) -> str:
+    """The bytes as a literal, the first of them where there are many."""
+    more = len(console) - CONSOLE_SHOWN
+    text = repr(console[:CONSOLE_SHOWN])[1:]
+    return f'{text} and {more} bytes more' if more > 0 else text

@@ -1,0 +1,179 @@
+"""The ELF file of a run: its instructions, its symbols and its source lines."""
+from __future__ import annotations
+
+import re
+from bisect import bisect_right
+from dataclasses import dataclass
+from functools import cache
+
+from elftools.common.exceptions import ELFError
+from elftools.elf.constants import P_FLAGS
+from elftools.elf.elffile import ELFFile
+
+from .disassembly import disassemble
+from .faults import LensFault
+from .instructions import SIZE, Instruction
+from .source import Lines, Place
+
+SYMBOL_KINDS = ('STT_FUNC', 'STT_NOTYPE')
+MARK = re.compile(r'\$[adtx].*|\.L.*')
+SYMBOL_AND_OFFSET = re.compile(r'(?P<symbol>[^+]+?)(\+(?P<offset>0x[0-9a-fA-F]+|[0-9]+))?')
+SOURCE_LINE = re.compile(r'(?P<file>[^:]+):(?P<line>[0-9]+)')
+ADDRESS = re.compile(r'0x[0-9a-fA-F]+')
+
+
+@dataclass(frozen=True)
+class Symbol:
+    """A function or a label of the code."""
+
+    address: int
+    name: str
+    is_function: bool
+
+
+@dataclass(frozen=True)
+class Code:
+    """The bytes of a segment that may be executed."""
+
+    start: int
+    content: bytes
+
+    def has(self, address: int) -> bool:
+        return 0 <= address - self.start <= len(self.content) - SIZE
+
+    def word(self, address: int) -> int:
+        at = address - self.start
+        return int.from_bytes(self.content[at : at + SIZE], 'little')
+
+
+class Program:
+    """What a listing needs of an ELF file."""
+
+    def __init__(self, path: str):
+        self.path = path
+        try:
+            with open(path, 'rb') as file:
+                self.read(ELFFile(file))
+        except OSError as error:
+            raise LensFault(f'{path}: {error.strerror}') from None
+        except ELFError as error:
+            raise LensFault(f'{path}: it is no ELF file ({error})') from None
+        self.texts = disassemble(path)
+
+    def read(self, elf: ELFFile) -> None:
+        if elf.get_machine_arch() != 'RISC-V' or elf.elfclass != 64:
+            raise LensFault(f'{self.path}: it is no program for 64-bit RISC-V')
+        self.entry = elf.header.e_entry
+        self.code = [
+            Code(segment['p_vaddr'], segment.data())
+            for segment in elf.iter_segments('PT_LOAD')
+            if segment['p_flags'] & P_FLAGS.PF_X
+        ]
+        self.symbols = sorted(
+            code_symbols(elf, self.code), key=lambda symbol: (symbol.address, symbol.is_function)
+        )
+        if not self.symbols:
+            raise LensFault(
+                f'{self.path}: it has no symbols: build it without -s (and with -g for its source lines)'
+            )
+        self.starts = [symbol.address for symbol in self.symbols]
+        self.lines = Lines(elf, self.path)
+        # (a log comes by the same few addresses again and again)
+        self.instruction = cache(self.find_instruction)
+        self.where = cache(self.find_where)
+        self.source = cache(self.find_source)
+
+    def has(self, address: int) -> bool:
+        return any(code.has(address) for code in self.code)
+
+    def find_instruction(self, address: int) -> Instruction | None:
+        """The instruction at an address; None where the file has no code there."""
+        code = next((code for code in self.code if code.has(address)), None)
+        if code is None:
+            return None
+        word = code.word(address)
+        return Instruction(address, word, self.texts.get(address, f'.word {word:#010x}'))
+
+    def symbol(self, address: int) -> Symbol | None:
+        """The last function or label at or before an address."""
+        index = bisect_right(self.starts, address)
+        return self.symbols[index - 1] if index else None
+
+    def function(self, address: int) -> str:
+        symbol = self.symbol(address)
+        return symbol.name if symbol and self.has(address) else f'{address:#x}'
+
+    def find_where(self, address: int) -> str:
+        """An address as function+offset."""
+        symbol = self.symbol(address)
+        if symbol is None or not self.has(address):
+            return f'{address:#x}'
+        offset = address - symbol.address
+        return f'{symbol.name}+{offset:#x}' if offset else symbol.name
+
+    def place(self, address: int) -> Place | None:
+        """The source line of an address, where the file says it."""
+        return self.lines.at(address) if self.has(address) else None
+
+    def find_source(self, address: int) -> str:
+        """The source line of an address as `file.c:21 TEXT`, the text where the file is found; empty
+        where the file says no line."""
+        place = self.place(address)
+        return f'{place.name}  {self.lines.text(place)}'.rstrip() if place else ''
+
+    def addresses(self, words: str) -> list[int]:
+        """The addresses that `function+0x10`, a label, `file.c:21` or `0x10140` name: for a line of the
+        source all of its instructions, else one."""
+        if ADDRESS.fullmatch(words):
+            return self.checked(words, [int(words, 16)])
+        if found := SOURCE_LINE.fullmatch(words):
+            return self.line_addresses(words, found['file'], int(found['line']))
+        found = SYMBOL_AND_OFFSET.fullmatch(words)
+        named = [symbol.address for symbol in self.symbols if found and symbol.name == found['symbol']]
+        if not named:
+            raise LensFault(f'{self.path} has no function or label {words!r}')
+        return self.checked(words, [address + int(found['offset'] or '0', 0) for address in named])
+
+    def checked(self, words: str, addresses: list[int]) -> list[int]:
+        if not all(self.has(address) and address % SIZE == 0 for address in addresses):
+            raise LensFault(f'{self.path} has no instruction at {words}')
+        return addresses
+
+    def line_addresses(self, words: str, file: str, line: int) -> list[int]:
+        if not self.lines.rows:
+            raise LensFault(f'{self.path} has no source lines, and {words!r} needs them: build it with -g')
+        every = (
+            address
+            for code in self.code
+            for address in range(code.start, code.start + len(code.content) - SIZE + 1, SIZE)
+        )
+        places = ((address, self.lines.at(address)) for address in every)
+        found = [
+            address
+            for address, place in places
+            if place and place.line == line and is_named(place.file, file)
+        ]
+        if not found:
+            raise LensFault(f'{self.path} has no instruction of the line {words}')
+        return found
+
+
+def is_named(path: str, name: str) -> bool:
+    """Whether a path is the one that a person names by its last parts."""
+    parts, wanted = path.split('/'), name.split('/')
+    return parts[-len(wanted) :] == wanted
+
+
+def code_symbols(elf: ELFFile, code: list[Code]):
+    """The functions and labels of the code, without the assembler's own marks."""
+    table = elf.get_section_by_name('.symtab')
+    for symbol in table.iter_symbols() if table else ():
+        kind = symbol['st_info']['type']
+        is_of_code = any(part.has(symbol['st_value']) for part in code)
+        is_kept = (
+            symbol.name
+            and not MARK.fullmatch(symbol.name)
+            and symbol['st_shndx'] not in ('SHN_ABS', 'SHN_UNDEF')
+        )
+        if kind in SYMBOL_KINDS and is_of_code and is_kept:
+            yield Symbol(symbol['st_value'], symbol.name, kind == 'STT_FUNC')

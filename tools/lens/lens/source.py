@@ -1,0 +1,94 @@
+"""Which line of the source an address comes from, by the file's DWARF line tables."""
+from __future__ import annotations
+
+from bisect import bisect_right
+from dataclasses import dataclass
+from functools import cache
+from pathlib import Path, PurePosixPath
+
+from elftools.common.exceptions import DWARFError, ELFError
+from elftools.elf.elffile import ELFFile
+
+from .faults import LensFault
+
+DWARF_WITH_DIRECTORY_ZERO = 5
+
+
+@dataclass(frozen=True)
+class Place:
+    """A line of a source file. The folder is where the compiler ran, and the file is named from there."""
+
+    folder: str
+    file: str
+    line: int
+
+    @property
+    def name(self) -> str:
+        return f'{PurePosixPath(self.file).name}:{self.line}'
+
+
+@dataclass(frozen=True)
+class Row:
+    """The addresses from here to the next row come from this place, or from none."""
+
+    address: int
+    place: Place | None
+
+
+class Lines:
+    """The line tables of a file."""
+
+    def __init__(self, elf: ELFFile, path: str):
+        self.path = Path(path).resolve()
+        try:
+            rows = list(line_rows(elf)) if elf.has_dwarf_info() else []
+        except (DWARFError, ELFError, KeyError, IndexError) as error:
+            raise LensFault(f'{path}: its line tables can\'t be read ({error})') from None
+        self.rows = sorted(rows, key=lambda row: (row.address, row.place is not None))
+        self.addresses = [row.address for row in self.rows]
+
+    def at(self, address: int) -> Place | None:
+        index = bisect_right(self.addresses, address)
+        return self.rows[index - 1].place if index else None
+
+    def text(self, place: Place) -> str:
+        """The text of a line, where its file is found: where the compiler read it, or by its name from a
+        folder round the ELF file."""
+        named = PurePosixPath(place.folder) / place.file
+        roots = (Path('/'),) if named.is_absolute() else tuple(self.path.parents)
+        lines = read_lines(named, roots)
+        return lines[place.line - 1].strip() if place.line <= len(lines) else ''
+
+
+@cache
+def read_lines(named: PurePosixPath, roots: tuple[Path, ...]) -> tuple[str, ...]:
+    """The lines of a file in the first of the folders that has it."""
+    found = next((root / named for root in roots if (root / named).is_file()), None)
+    return tuple(found.read_text(errors='replace').splitlines()) if found else ()
+
+
+def line_rows(elf: ELFFile):
+    """The rows of all line tables, with one of no place at the end of each stretch of code."""
+    info = elf.get_dwarf_info()
+    for unit in info.iter_CUs():
+        program = info.line_program_for_CU(unit)
+        if program is None:
+            continue
+        folder = unit.get_top_DIE().attributes.get('DW_AT_comp_dir')
+        folder = folder.value.decode() if folder else ''
+        states = (entry.state for entry in program.get_entries() if entry.state is not None)
+        for state in states:
+            named = None if state.end_sequence or not state.line else file_name(program, state.file)
+            yield Row(state.address, Place(folder, named, state.line) if named else None)
+
+
+def file_name(program, number: int) -> str:
+    """The path of a file of a line table. Before DWARF 5 files and directories count from 1, and
+    directory 0 is the compiler's own."""
+    header = program.header
+    counts_from_zero = header.version >= DWARF_WITH_DIRECTORY_ZERO
+    entry = header.file_entry[number if counts_from_zero else number - 1]
+    directories = [name.decode() for name in header.include_directory]
+    if not counts_from_zero:
+        directories.insert(0, '')
+    return str(PurePosixPath(directories[entry.dir_index]) / entry.name.decode())

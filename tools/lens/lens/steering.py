@@ -1,0 +1,295 @@
+"""Makes a script that `play` takes from one as a person writes it.
+
+A line of it is empty, a comment (`# ..`, also behind an event), an event as in any script, or one of
+
+    HART exec xN                 N times this event (`drain` and other events too)
+    HART exec until PLACE        instructions until the thread on HART stands at PLACE; none where it stands there
+    HART exec all                instructions until one isn't allowed: stores wait and it is a call or a fence, or the
+                                 thread has left the hart, or the process is over
+    HART drain all               each store that waits on HART
+
+PLACE is a function or label, function+0x10, file.c:21, or an address 0x10140.
+"""
+from __future__ import annotations
+
+import re
+from dataclasses import dataclass, field
+from pathlib import Path
+
+from .faults import LensFault
+from .history import History, make_history
+from .instructions import Instruction
+from .listing import deed
+from .machine import Machine
+from .output import DRAIN, EXEC, HARTS, KINDS, PREEMPT, RUN, Step
+from .program import Program
+
+TIMES = re.compile(r'x([1-9][0-9]*)')
+UNTIL, ALL = 'until', 'all'
+TRIES = (64, 1_024, 16_384, 262_144, 1_048_576)
+STORES = 8
+OPEN, LIMIT = 'open', 'limit'
+
+
+@dataclass(frozen=True)
+class Order:
+    """A line of a steer: which event, how often, or up to which place; and the comment before it or on
+    it."""
+
+    number: int
+    words: str
+    hart: int
+    kind: str
+    thread: str | None = None
+    times: int = 1
+    until: str | None = None
+    is_all: bool = False
+
+    @property
+    def event(self) -> str:
+        return f'{self.hart} {self.kind}' + (f' {self.thread}' if self.thread else '')
+
+
+@dataclass(frozen=True)
+class Remark:
+    """A comment of a steer."""
+
+    number: int
+    words: str
+
+
+@dataclass
+class Script:
+    """The script so far, and before which of its lines each comment stands."""
+
+    lines: list[str] = field(default_factory=list)
+    remarks: list[tuple[int, str]] = field(default_factory=list)
+
+    def text(self) -> str:
+        return ''.join(f'{line}\n' for line in self.lines)
+
+    def notes(self) -> str:
+        return ''.join(f'{number}: {words}\n' for number, words in self.remarks)
+
+
+@dataclass(frozen=True)
+class Standing:
+    """What a hart is at: its thread and pc, where one runs, and the stores that wait."""
+
+    thread: int | None
+    pc: int | None
+    waiting: list[Step]
+
+
+def read_steer(path: str) -> list[Order | Remark]:
+    """The orders and comments of a file, in order."""
+    try:
+        lines = Path(path).read_text().splitlines()
+    except (OSError, UnicodeDecodeError) as error:
+        raise LensFault(f'{path}: {getattr(error, "strerror", None) or "it is no text"}') from None
+    return [part for number, line in enumerate(lines, 1) for part in read_line(path, number, line)]
+
+
+def read_line(path: str, number: int, line: str) -> list[Order | Remark]:
+    words, mark, comment = line.partition('#')
+    parts: list[Order | Remark] = [Remark(number, comment.strip())] if mark else []
+    if words.strip():
+        parts.append(read_order(path, number, ' '.join(words.split())))
+    return parts
+
+
+def read_order(path: str, number: int, words: str) -> Order:
+    """The order of a line; a fault that names the line where it is none."""
+    match words.split(' '):
+        case [hart, kind] if is_event(hart, kind) and kind != RUN:
+            return Order(number, words, int(hart), kind)
+        case [hart, 'run', thread] if is_event(hart, RUN) and thread.isdecimal():
+            return Order(number, words, int(hart), RUN, thread)
+        case [hart, kind, times] if is_event(hart, kind) and kind != RUN and TIMES.fullmatch(times):
+            return Order(number, words, int(hart), kind, times=int(times[1:]))
+        case [hart, 'exec', 'until', place] if is_event(hart, EXEC):
+            return Order(number, words, int(hart), EXEC, until=place)
+        case [hart, 'exec' | 'drain' as kind, 'all'] if is_event(hart, kind):
+            return Order(number, words, int(hart), kind, is_all=True)
+    raise LensFault(
+        f'{path}, line {number}: {words!r} is no order; orders are "0 run 1", "0 exec", "0 exec x8", '
+        '"0 exec until main+0x10", "0 exec all", "0 drain", "0 drain all", "0 preempt"'
+    )
+
+
+def is_event(hart: str, kind: str) -> bool:
+    return len(hart) == 1 and hart.isdecimal() and int(hart) < HARTS and kind in KINDS
+
+
+class Steering:
+    """Goes through the orders of a steer, and asks the machine where each leads."""
+
+    def __init__(self, path: str, program: Program, machine: Machine):
+        self.path = path
+        self.program = program
+        self.machine = machine
+        self.script = Script()
+
+    def follow(self, parts: list[Order | Remark]) -> Script:
+        for part in parts:
+            match part:
+                case Remark(words=words):
+                    self.script.remarks.append((len(self.script.lines) + 1, words))
+                case Order():
+                    self.obey(part)
+        return self.script
+
+    def obey(self, order: Order) -> None:
+        self.script.lines += [order.event] * self.times(order)
+
+    def times(self, order: Order) -> int:
+        """How often the event of an order is made, each time allowed."""
+        if order.until is not None:
+            return self.times_until(order, set(self.program.addresses(order.until)))
+        if order.is_all and order.kind == EXEC:
+            return self.times_allowed(order)
+        times = len(self.standing(order.hart).waiting) if order.is_all else order.times
+        answer = self.machine.play(self.script.lines + [order.event] * times)
+        if isinstance(answer, int):
+            raise self.refusal(order, answer)
+        return times
+
+    # What the machine says
+
+    def history(self, lines: list[str]) -> History:
+        """The run of lines that the machine takes."""
+        answer = self.machine.play(lines)
+        if isinstance(answer, int):
+            raise LensFault(
+                f'{self.path}: line {answer} of the script was taken before, and is refused now'
+            )
+        return make_history(answer, self.program)
+
+    def standing(self, hart: int, lines: list[str] | None = None) -> Standing:
+        """Where a hart stands behind some lines. Of `drain` and `preempt` one is allowed on a hart with a
+        thread, and its line in the log has the thread and the pc."""
+        before = self.script.lines if lines is None else lines
+        history = self.history(before)
+        waiting = [store for store in history.waiting if store.hart == hart]
+        asked = self.machine.play([*before, f'{hart} {DRAIN if waiting else PREEMPT}'])
+        if isinstance(asked, int) or not asked.steps:
+            return Standing(None, None, waiting)
+        return Standing(asked.steps[-1].thread, asked.steps[-1].pc, waiting)
+
+    # `exec until` and `exec all`
+
+    def allowed_of(self, order: Order, count: int) -> int:
+        """How many of `count` events of an order the machine takes."""
+        answer = self.machine.play(self.script.lines + [order.event] * count)
+        return answer - 1 - len(self.script.lines) if isinstance(answer, int) else count
+
+    def times_until(self, order: Order, places: set[int]) -> int:
+        """How many instructions lead to the first of the places."""
+        for count in TRIES:
+            allowed = self.allowed_of(order, count)
+            found = self.reached(order, places, allowed)
+            if found is not None:
+                return found
+            if allowed < count:
+                raise self.refusal(order, len(self.script.lines) + allowed + 1)
+        raise self.fault(order, f'{order.until} isn\'t reached in {TRIES[-1]} instructions')
+
+    def times_allowed(self, order: Order) -> int:
+        """How many instructions are allowed one behind the other; at least one must be."""
+        for count in TRIES:
+            allowed = self.allowed_of(order, count)
+            if allowed < count:
+                is_cut = self.history(self.script.lines + [order.event] * allowed).output.end == LIMIT
+                if is_cut or not allowed:
+                    raise self.refusal(order, len(self.script.lines) + allowed + 1)
+                return allowed
+        raise self.fault(order, f'it goes on for more than {TRIES[-1]} instructions')
+
+    def reached(self, order: Order, places: set[int], allowed: int) -> int | None:
+        """After how many of the allowed instructions the hart first stands at one of the places."""
+        lines = self.script.lines + [order.event] * allowed
+        steps = self.history(lines).output.steps[len(self.script.lines) :]
+        found = next((count for count, step in enumerate(steps) if step.pc in places), None)
+        return allowed if found is None and self.standing(order.hart, lines).pc in places else found
+
+    # What can't be done, in words
+
+    def fault(self, order: Order, words: str) -> LensFault:
+        return LensFault(f'{self.path}, line {order.number}: {order.words!r}: {words}')
+
+    def refusal(self, order: Order, line: int) -> LensFault:
+        """Why the line of the script that the machine refuses can't be made, as far as the run before it
+        shows."""
+        before = self.script.lines + [order.event] * (line - 1 - len(self.script.lines))
+        done = len(before) - len(self.script.lines)
+        after = f'after {done} of these events ' if done else ''
+        return self.fault(order, f'{after}{self.reason(order, before)} (the program: fault script {line})')
+
+    def reason(self, order: Order, before: list[str]) -> str:
+        history = self.history(before)
+        if history.output.end != OPEN:
+            return f'the run is over: end {history.output.end}'
+        standing = self.standing(order.hart, before)
+        if order.kind == RUN:
+            return self.why_no_run(order, history, standing)
+        if order.kind == DRAIN and not standing.waiting:
+            return f'no store waits on hart {order.hart}'
+        if standing.thread is None or standing.pc is None:
+            return f'hart {order.hart} isn\'t running a thread{self.why_idle(order.hart, history)}'
+        here = f'hart {order.hart} stands at {self.spot(standing.pc)} with thread {standing.thread}'
+        instruction = self.program.instruction(standing.pc)
+        return f'{here}, {self.why_no_event(order, standing, instruction)}'
+
+    def spot(self, pc: int) -> str:
+        instruction, place = self.program.instruction(pc), self.program.place(pc)
+        text = f' ({instruction.text})' if instruction else ''
+        return f'{self.program.where(pc)}{text}' + (f', {place.name},' if place else '')
+
+    @staticmethod
+    def why_no_event(order: Order, standing: Standing, instruction: Instruction | None) -> str:
+        count = len(standing.waiting)
+        if not count:
+            return f'where `{order.kind}` isn\'t allowed'
+        stores = f'{count} stores still wait' if count > 1 else '1 store still waits'
+        if count == STORES and order.kind == EXEC and instruction and instruction.is_plain_store:
+            return f'and {stores}, which is as many as may'
+        needs = {EXEC: 'this instruction comes', PREEMPT: 'a thread leaves'}.get(
+            order.kind, f'`{order.kind}`'
+        )
+        return f'and {stores}: {needs} only where none waits ("{order.hart} drain all")'
+
+    def why_no_run(self, order: Order, history: History, standing: Standing) -> str:
+        if standing.thread is not None:
+            return f'hart {order.hart} runs thread {standing.thread} already'
+        last = next(
+            (step for step in reversed(history.output.steps) if str(step.thread) == order.thread), None
+        )
+        if last is None:
+            return f'thread {order.thread} isn\'t there yet, or not allowed on hart {order.hart}'
+        on = next(
+            (
+                hart
+                for hart in range(HARTS)
+                if str(self.standing(hart, self.lines_of(history)).thread) == order.thread
+            ),
+            None,
+        )
+        if on is not None:
+            return f'thread {order.thread} runs on hart {on}'
+        return f'thread {order.thread} isn\'t ready: it last made {deed(history, last)} at {self.spot(last.pc)}'
+
+    @staticmethod
+    def lines_of(history: History) -> list[str]:
+        return [step.line() for step in history.output.steps]
+
+    @staticmethod
+    def why_idle(hart: int, history: History) -> str:
+        last = next((step for step in reversed(history.output.steps) if step.hart == hart), None)
+        if last is None:
+            return f' (begin with "{hart} run THREAD")'
+        return f': thread {last.thread} left it at step {last.number} ({deed(history, last)})'
+
+
+def steer(path: str, program: Program, machine: Machine) -> Script:
+    """The script that the orders in a file make."""
+    return Steering(path, program, machine).follow(read_steer(path))

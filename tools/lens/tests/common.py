@@ -1,0 +1,74 @@
+"""What the tests share: the examples of the repository, the command, and small programs that are
+assembled here."""
+from __future__ import annotations
+
+import subprocess
+import unittest
+from pathlib import Path
+
+from lens.disassembly import find_objdump
+from lens.history import History, make_history
+from lens.machine import BUILT
+from lens.output import read_output
+from lens.program import Program
+
+ROOT = Path(__file__).resolve().parents[3]
+EXAMPLES = ROOT / 'examples'
+GOLDEN = Path(__file__).with_name('golden')
+LENS = ROOT / 'tools' / 'bin' / 'lens'
+PETERSON = EXAMPLES / 'peterson' / 'peterson.elf'
+FENCED = EXAMPLES / 'peterson_fenced' / 'peterson_fenced.elf'
+FOUND = EXAMPLES / 'peterson' / 'found.output'
+
+START = 0x10078
+
+PROGRAM = BUILT.resolve()
+"""The built program, or what RSEQ_RUN says."""
+
+OBJDUMP = '2.40'
+"""The one whose words the kept listings have (binutils of Debian 12); later ones write `addi` for `add`."""
+
+
+def objdump_version() -> str:
+    """The version of the objdump that `lens` calls."""
+    ran = subprocess.run([find_objdump() or 'objdump', '--version'], capture_output=True, text=True)
+    return ran.stdout.splitlines()[0].split()[-1]
+
+
+needs_objdump = unittest.skipUnless(objdump_version().startswith(OBJDUMP), f'objdump isn\'t {OBJDUMP}')
+needs_program = unittest.skipUnless(PROGRAM.is_file(), f'{PROGRAM} isn\'t built')
+
+
+def found() -> History:
+    """The run of the lock without a fence in which an addition is lost."""
+    return history(FOUND, PETERSON)
+
+
+def history(run: Path, elf: Path) -> History:
+    return make_history(read_output(str(run)), Program(str(elf)))
+
+
+def lens(*words: object, cwd: Path = ROOT, stdin: bytes = b'') -> subprocess.CompletedProcess:
+    """What the command answers to some words."""
+    return subprocess.run([LENS, *map(str, words)], cwd=cwd, input=stdin, capture_output=True, timeout=300)
+
+
+def toolchain(tool: str, *words: object) -> None:
+    subprocess.run([f'riscv64-unknown-elf-{tool}', *map(str, words)], check=True, capture_output=True)
+
+
+def assemble(folder: Path, source: str) -> Path:
+    """A program of these instructions, from START on."""
+    text, made, elf = folder / 'made.S', folder / 'made.o', folder / 'made.elf'
+    text.write_text(f'.globl _start\n_start:\n{source}\n')
+    toolchain('as', '-march=rv64ima', '-mabi=lp64', '-mno-relax', '-o', made, text)
+    toolchain('ld', f'-Ttext={START:#x}', '-o', elf, made)
+    return elf
+
+
+def output_text(lines: list[str], end: str = 'open', console: str = '') -> str:
+    return (
+        f'console {len(console)}\n{console}\nlog {len(lines)}\n'
+        + ''.join(f'{line}\n' for line in lines)
+        + f'end {end}\n'
+    )

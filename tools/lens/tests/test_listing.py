@@ -1,0 +1,105 @@
+"""The listing, against one that was read line by line and kept; and the lines of a run as a script."""
+import tempfile
+import unittest
+from pathlib import Path
+
+from lens.listing import Selection, list_run
+
+from .common import (
+    EXAMPLES,
+    FOUND,
+    GOLDEN,
+    PETERSON,
+    assemble,
+    found,
+    history,
+    lens,
+    needs_objdump,
+    output_text,
+)
+
+
+class Listing(unittest.TestCase):
+    maxDiff = None
+
+    @needs_objdump
+    def test_golden(self):
+        self.assertEqual(
+            lens('list', FOUND, PETERSON).stdout.decode(), (GOLDEN / 'found.listing').read_text()
+        )
+
+    @needs_objdump
+    def test_golden_of_calls(self):
+        answer = lens('list', EXAMPLES / 'threads' / 'sleeps.output', EXAMPLES / 'threads' / 'threads.elf')
+        self.assertEqual(answer.stdout.decode(), (GOLDEN / 'sleeps.listing').read_text())
+
+    def rows(self, **chosen):
+        return list(list_run(found(), Selection(**chosen)))[1:-2]
+
+    def test_choosing(self):
+        every = self.rows()
+        self.assertEqual(len(every), 276)
+        self.assertEqual(
+            [row.split()[0] for row in self.rows(around=60, context=3)], list(map(str, range(57, 64)))
+        )
+        one, other = self.rows(thread=1), self.rows(thread=2)
+        self.assertEqual(len(one) + len(other), 276)
+        self.assertTrue(all(row.split()[1] == '2' for row in other))
+        self.assertEqual(len(self.rows(hart=0)) + len(self.rows(hart=1)), 276)
+
+    def test_a_step_that_is_not_there(self):
+        answer = lens('list', FOUND, PETERSON, '--around', 277)
+        self.assertEqual(
+            (answer.returncode, answer.stderr.decode()),
+            (2, f'lens: {FOUND} has 276 steps, and no step 277\n'),
+        )
+
+    def test_standard_input(self):
+        answer = lens('list', '-', PETERSON, '--around', 1, stdin=FOUND.read_bytes())
+        self.assertIn('_start', answer.stdout.decode())
+
+
+class Drains(unittest.TestCase):
+    def test_drains_enter_stores_in_order(self):
+        made = found()
+        pairs = [(store.hart, store.number, drain) for drain, store in made.drained.items()]
+        for hart in (0, 1):
+            stores = [store for at, store, _ in pairs if at == hart]
+            self.assertEqual(stores, sorted(stores))
+        self.assertTrue(all(store < drain for _, store, drain in pairs))
+        self.assertEqual(made.waiting, [])
+
+    def test_a_store_that_faults_waits_nowhere(self):
+        with tempfile.TemporaryDirectory() as name:
+            folder = Path(name)
+            elf = assemble(folder, 'sd a0, 0(sp)\nsd a0, 0(zero)')
+            lines = [
+                f'0 {what} 1 {pc:016x}'
+                for what, pc in (('run', 0x10078), ('exec', 0x10078), ('exec', 0x1007C))
+            ]
+            run = folder / 'run'
+            run.write_text(output_text(lines, 'killed 11'))
+            self.assertEqual([store.number for store in history(run, elf).waiting], [2])
+
+
+class Cutting(unittest.TestCase):
+    def test_first_lines(self):
+        log = FOUND.with_suffix('.script').read_bytes().splitlines(keepends=True)
+        self.assertEqual(lens('cut', FOUND, '--to', 40).stdout, b''.join(log[:40]))
+        self.assertEqual(lens('cut', FOUND, '--to', 276).stdout, b''.join(log))
+        self.assertEqual(lens('cut', FOUND, '--to', 0).stdout, b'')
+
+    def test_short(self):
+        cut = lens('cut', FOUND, '--to', 34, '--short').stdout.decode().splitlines()
+        self.assertEqual(cut[32:], ['0 run 2', '1 preempt'])
+
+    def test_more_than_there_are(self):
+        answer = lens('cut', FOUND, '--to', 277)
+        self.assertEqual(
+            (answer.returncode, answer.stderr.decode()),
+            (2, f'lens: {FOUND} has 276 lines, and 277 are wanted\n'),
+        )
+
+
+if __name__ == '__main__':
+    unittest.main()

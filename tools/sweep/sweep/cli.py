@@ -1,0 +1,138 @@
+"""The command `sweep`."""
+from __future__ import annotations
+
+import argparse
+import hashlib
+import shlex
+import sys
+from pathlib import Path
+
+from lens.arguments import add_program, limits_of, positive
+from lens.faults import LensFault
+from lens.output import shown_console
+
+from .jobs import Parallel, Swept, make_jobs, seconds_of_jobs, sweep_jobs
+from .limits import jobs_that_fit, mebibytes_a_run
+from .records import Folder
+
+FAULT_STATUS, INTERRUPTED_STATUS = 2, 130
+SEEDS = 1 << 64
+
+
+def make_parser() -> argparse.ArgumentParser:
+    parser = argparse.ArgumentParser(
+        prog='sweep',
+        description='Runs a program many times, each time with another seed, '
+        'and says which outcomes came how often. The same command goes on with a sweep '
+        'that was interrupted.',
+    )
+    parser.add_argument('elf', metavar='ELF')
+    parser.add_argument('-o', '--out', metavar='FOLDER', required=True, help='where the sweep is kept')
+    parser.add_argument('--runs', type=positive, default=1000, metavar='N', help='how many seeds (1000)')
+    parser.add_argument('--first-seed', type=int, default=1, metavar='S', help='the first of them (1)')
+    parser.add_argument(
+        '--seeds-a-job', type=positive, default=50, metavar='K', help='seeds run by one process (50)'
+    )
+    parser.add_argument(
+        '--jobs', type=positive, metavar='J', help='how many at once (one a processor, as memory allows)'
+    )
+    parser.add_argument(
+        '--seconds', type=float, default=600, metavar='T', help='how long a run may take (600)'
+    )
+    parser.add_argument(
+        '--sshlogin',
+        action='append',
+        default=[],
+        metavar='LOGIN',
+        help='a machine, as GNU parallel '
+        'has it (`:` is this one); it needs the same files at the same paths; may be given again',
+    )
+    add_program(parser)
+    return parser
+
+
+def digest(path: str) -> str:
+    try:
+        return hashlib.sha256(Path(path).read_bytes()).hexdigest()
+    except OSError as error:
+        raise LensFault(f'{path}: {error.strerror}') from None
+
+
+def asked_of(arguments: argparse.Namespace) -> dict:
+    """What makes two sweeps the same one."""
+    return {
+        'program': digest(arguments.program),
+        'elf': digest(arguments.elf),
+        'runs': arguments.runs,
+        'first seed': arguments.first_seed,
+        'seeds a job': arguments.seeds_a_job,
+        'limits': limits_of(arguments),
+    }
+
+
+def sweep(arguments: argparse.Namespace) -> int:
+    if not 0 <= arguments.first_seed <= SEEDS - arguments.runs:
+        raise LensFault(f'a seed is a number from 0 to {SEEDS - 1}')
+    folder = Folder(arguments.out)
+    folder.open(asked_of(arguments))
+    mebibytes = mebibytes_a_run(arguments.frames, arguments.steps)
+    program, elf = (str(Path(path).resolve()) for path in (arguments.program, arguments.elf))
+    command = [str(arguments.seconds), program, elf, *limits_of(arguments)]
+    parallel = Parallel(jobs_that_fit(arguments.jobs, mebibytes), mebibytes, arguments.sshlogin, command)
+    jobs = make_jobs(arguments.first_seed, arguments.runs, arguments.seeds_a_job)
+    swept = sweep_jobs(parallel, folder, jobs)
+    if not swept.is_whole:
+        print(
+            f'sweep: {swept.runs} of {arguments.runs} runs are kept in {folder.path}; the same command goes on',
+            file=sys.stderr,
+        )
+        return INTERRUPTED_STATUS if swept.was_interrupted else FAULT_STATUS
+    table = table_of(swept, folder, arguments)
+    folder.table.write_text(table)
+    print(table, end='')
+    print(
+        f'\nThe jobs took {seconds_of_jobs(folder):.1f} seconds, added up, with {parallel.jobs_at_once} at once.'
+    )
+    return 0
+
+
+def table_of(swept: Swept, folder: Folder, arguments: argparse.Namespace) -> str:
+    """The outcomes, the most frequent one first, and how each is seen again."""
+    rows = sorted(swept.tally.items(), key=lambda row: (-row[1].runs, row[0].end, row[0].console))
+    lines = [
+        f'{swept.runs} runs of {arguments.elf}, {len(rows)} outcome{"s" if len(rows) != 1 else ""}',
+        f'{"runs":>9}  {"end":<12}  {"steps":>9}  console',
+    ]
+    lines += [
+        f'{met.runs:>9}  {outcome.end:<12}  {met.rank.steps:>9}  {shown_console(outcome.console)}'
+        for outcome, met in rows
+    ]
+    lines += [
+        '',
+        'The shortest run of each, again ("steps" are its steps; its text is in the file .output beside):',
+    ]
+    lines += [
+        shlex.join(
+            [
+                arguments.program,
+                'play',
+                arguments.elf,
+                str(folder.script_of(outcome)),
+                *limits_of(arguments),
+            ]
+        )
+        for outcome, _ in rows
+    ]
+    return ''.join(f'{line}\n' for line in lines)
+
+
+def main() -> int:
+    """Does what the words ask; 2 and one line on standard error where it can't."""
+    try:
+        return sweep(make_parser().parse_args())
+    except LensFault as fault:
+        print(f'sweep: {fault}', file=sys.stderr)
+        return FAULT_STATUS
+    except KeyboardInterrupt:
+        print('sweep: interrupted', file=sys.stderr)
+        return INTERRUPTED_STATUS

@@ -1,0 +1,143 @@
+"""Runs the jobs of a sweep by GNU parallel."""
+from __future__ import annotations
+
+import shlex
+import shutil
+import signal
+import subprocess
+import sys
+from collections.abc import Iterator
+from dataclasses import dataclass
+from pathlib import Path
+
+from lens.faults import LensFault
+
+from .records import Folder, Record, Tally, note, read_record
+
+WORKER = Path(__file__).with_name('worker.py')
+PYTHON = '/usr/bin/python3'
+PARALLEL = 'parallel'
+
+
+@dataclass(frozen=True)
+class Job:
+    """Some seeds that are run one behind the other. Its number is that of its line in the file of jobs,
+    from 1."""
+
+    number: int
+    first: int
+    count: int
+
+
+def make_jobs(first: int, runs: int, seeds_a_job: int) -> list[Job]:
+    starts = range(first, first + runs, seeds_a_job)
+    return [
+        Job(number, start, min(seeds_a_job, first + runs - start)) for number, start in enumerate(starts, 1)
+    ]
+
+
+@dataclass(frozen=True)
+class Parallel:
+    """How GNU parallel is called."""
+
+    jobs_at_once: int
+    mebibytes: int
+    logins: list[str]
+    command: list[str]
+    """The words of a job behind its first seed and its count."""
+
+    def words(self, folder: Folder) -> list[str]:
+        worker = shlex.join([python(), str(WORKER)])
+        job = f'{worker} {{1}} {{2}} {shlex.join(self.command)}'
+        logins = [word for login in self.logins for word in ('--sshlogin', login)]
+        bar = ['--bar'] if sys.stderr.isatty() else []
+        return [
+            PARALLEL,
+            '--will-cite',
+            '--jobs',
+            str(self.jobs_at_once),
+            '--memfree',
+            f'{self.mebibytes}M',
+            '--joblog',
+            str(folder.job_log),
+            '--resume',
+            '--halt',
+            'soon,fail=1',
+            *bar,
+            *logins,
+            '--colsep',
+            ' ',
+            '--arg-file',
+            str(folder.jobs),
+            job,
+        ]
+
+
+def python() -> str:
+    return PYTHON if Path(PYTHON).exists() else sys.executable
+
+
+@dataclass
+class Swept:
+    """What a sweep has: the outcomes that were met, whether every job gave its record, and whether it was
+    interrupted."""
+
+    tally: Tally
+    is_whole: bool = False
+    was_interrupted: bool = False
+
+    @property
+    def runs(self) -> int:
+        return sum(met.runs for met in self.tally.values())
+
+
+def sweep_jobs(parallel: Parallel, folder: Folder, jobs: list[Job]) -> Swept:
+    """Runs the jobs whose records aren't kept yet."""
+    if shutil.which(PARALLEL) is None:
+        raise LensFault('GNU parallel isn\'t installed: apt-get install parallel')
+    kept = folder.records()
+    swept = Swept({})
+    for record in kept.values():
+        for outcome, met in record.tally.items():
+            note(swept.tally, outcome, met)
+    folder.jobs.write_text(''.join(f'{job.first} {job.count}\n' for job in jobs))
+    prune_job_log(folder, {str(job.number) for job in jobs if job.first in kept})
+    for record in records_of(parallel.words(folder), swept):
+        if record.first not in kept:
+            folder.keep(record, swept.tally)
+            kept[record.first] = record
+    swept.is_whole = all(job.first in kept for job in jobs)
+    return swept
+
+
+def prune_job_log(folder: Folder, numbers: set[str]) -> None:
+    """Takes jobs out of the job log whose records weren't kept, so that GNU parallel makes them again."""
+    if folder.job_log.exists():
+        heading, *lines = folder.job_log.read_text().splitlines(keepends=True) or ['']
+        left = [line for line in lines if line.endswith('\n') and line.split('\t')[0] in numbers]
+        folder.job_log.write_text(''.join([heading, *left]))
+
+
+def records_of(words: list[str], swept: Swept) -> Iterator[Record]:
+    """The records that GNU parallel prints, as they come. An interruption is handed on to it, and what it
+    still prints is taken."""
+    with subprocess.Popen(words, stdin=subprocess.DEVNULL, stdout=subprocess.PIPE, text=True) as running:
+        while line := next_line(running, swept):
+            record = read_record(line)
+            if record:
+                yield record
+
+
+def next_line(running: subprocess.Popen, swept: Swept) -> str:
+    while True:
+        try:
+            return running.stdout.readline()
+        except KeyboardInterrupt:
+            swept.was_interrupted = True
+            running.send_signal(signal.SIGINT)
+
+
+def seconds_of_jobs(folder: Folder) -> float:
+    """What the jobs of the job log took, added up."""
+    lines = folder.job_log.read_text().splitlines()[1:] if folder.job_log.exists() else []
+    return sum(float(line.split('\t')[3]) for line in lines)

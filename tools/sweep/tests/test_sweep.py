@@ -1,0 +1,217 @@
+"""The sweep over a program that stands in for rseq_run (stand_in.py): one seed in seven loses."""
+from __future__ import annotations
+
+import json
+import os
+import signal
+import subprocess
+import tempfile
+import time
+import unittest
+from pathlib import Path
+
+from lens.output import read_output
+from sweep.jobs import Job, make_jobs
+from sweep.limits import available_mebibytes, jobs_that_fit, mebibytes_a_run
+from sweep.records import Folder, Met, Outcome, Rank, Record, note, read_record
+
+TOOLS = Path(__file__).resolve().parents[2]
+SWEEP = TOOLS / 'bin' / 'sweep'
+STAND_IN = Path(__file__).with_name('stand_in.py')
+RUNS, SEEDS_A_JOB = 30, 5
+FAULT_STATUS, INTERRUPTED_STATUS = 2, 130
+
+
+class Sweeps(unittest.TestCase):
+    def setUp(self):
+        made = tempfile.TemporaryDirectory()
+        self.addCleanup(made.cleanup)
+        self.room = Path(made.name)
+        self.elf = self.file('0')
+
+    def file(self, line: str) -> Path:
+        """The file whose first line the stand-in reads."""
+        path = self.room / 'it.elf'
+        path.write_text(f'{line}\n')
+        return path
+
+    def words(self, *more: object, runs: int = RUNS) -> list[str]:
+        return [
+            str(word)
+            for word in (
+                SWEEP,
+                self.elf,
+                '--program',
+                STAND_IN,
+                '--runs',
+                runs,
+                '--seeds-a-job',
+                SEEDS_A_JOB,
+                *more,
+            )
+        ]
+
+    def sweep(self, *more: object, **options) -> subprocess.CompletedProcess:
+        return subprocess.run(self.words(*more, **options), capture_output=True, text=True, timeout=300)
+
+    def table(self, folder: Path) -> str:
+        """The table of a sweep, with its folder's name left out."""
+        return (folder / 'table.txt').read_text().replace(str(folder), 'FOLDER')
+
+    def test_table(self):
+        folder = self.room / 'swept'
+        answer = self.sweep('-o', folder, '--harts', 2)
+        self.assertEqual((answer.returncode, answer.stderr), (0, ''))
+        lines = answer.stdout.splitlines()
+        self.assertEqual(lines[0], f'{RUNS} runs of {self.elf}, 2 outcomes')
+        self.assertEqual(
+            [line.split(maxsplit=4) for line in lines[2:4]],
+            [['26', 'exit', '0', '4', "'count 2\\n'"], ['4', 'exit', '1', '4', "'count 1\\n'"]],
+        )
+        self.assertTrue(answer.stdout.startswith((folder / 'table.txt').read_text()))
+        again = [line.split() for line in lines if ' play ' in line]
+        self.assertEqual(
+            [words[:3] + words[4:] for words in again],
+            [[str(STAND_IN), 'play', str(self.elf), '--harts=2']] * 2,
+        )
+        for words, end in zip(again, ('exit 0', 'exit 1')):
+            script = Path(words[3])
+            run = read_output(str(script.with_suffix('.output')))
+            self.assertEqual((run.end, len(run.steps)), (end, 4))
+            self.assertEqual(script.read_text(), ''.join(f'{step.line()}\n' for step in run.steps))
+
+    def test_interrupted_and_taken_up_again(self):
+        self.file('0.1')
+        whole, cut = self.room / 'whole', self.room / 'cut'
+        self.assertEqual(self.sweep('-o', whole).returncode, 0)
+        made = self.interrupt(cut)
+        self.assertTrue(0 < made < RUNS)
+        self.assertFalse((cut / 'table.txt').exists())
+        self.assertEqual(self.sweep('-o', cut).returncode, 0)
+        self.assertEqual(self.table(cut), self.table(whole))
+        for kept in whole.glob('exit-*'):
+            self.assertEqual((cut / kept.name).read_bytes(), kept.read_bytes())
+
+    def interrupt(self, folder: Path) -> int:
+        """Interrupts a sweep as a terminal does, when it has made some jobs; how many runs it kept."""
+        running = subprocess.Popen(
+            self.words('-o', folder, '--jobs', 2),
+            stdout=subprocess.DEVNULL,
+            stderr=subprocess.PIPE,
+            text=True,
+            start_new_session=True,
+        )
+        results = folder / 'results'
+        while running.poll() is None and (not results.exists() or not results.read_text()):
+            time.sleep(0.02)
+        os.killpg(running.pid, signal.SIGINT)
+        said = running.communicate(timeout=300)[1]
+        self.assertEqual(running.returncode, INTERRUPTED_STATUS)
+        self.assertIn(f'of {RUNS} runs are kept in {folder}; the same command goes on', said)
+        return int(said.split('sweep: ')[1].split()[0])
+
+    def test_a_whole_sweep_runs_nothing_again(self):
+        folder = self.room / 'swept'
+        first = self.sweep('-o', folder)
+        log = (folder / 'job.log').read_bytes()
+        self.assertEqual(self.sweep('-o', folder).stdout, first.stdout)
+        self.assertEqual((folder / 'job.log').read_bytes(), log)
+
+    def test_a_job_without_its_record_is_made_again(self):
+        """As where the sweep was killed between a job's end and the keeping of its record."""
+        folder = self.room / 'swept'
+        self.sweep('-o', folder)
+        table, results = self.table(folder), folder / 'results'
+        lines = results.read_text().splitlines(keepends=True)
+        results.write_text(''.join(lines[:-2]) + lines[-1][:20])
+        self.assertEqual(self.sweep('-o', folder).returncode, 0)
+        self.assertEqual(self.table(folder), table)
+        self.assertEqual(len(results.read_text().splitlines()), len(lines))
+
+    def test_a_run_that_gives_no_output(self):
+        self.file('0 20')
+        folder = self.room / 'swept'
+        answer = self.sweep('-o', folder, '--jobs', 1)
+        self.assertEqual(answer.returncode, FAULT_STATUS)
+        self.assertIn('sweep: the run of seed 20 gave status 7, "fault memory"', answer.stderr)
+        self.assertFalse((folder / 'table.txt').exists())
+
+    def test_another_sweep_in_the_folder(self):
+        folder = self.room / 'swept'
+        self.sweep('-o', folder)
+        self.file('0.0')
+        answer = self.sweep('-o', folder, runs=7)
+        self.assertEqual(
+            (answer.returncode, answer.stderr),
+            (
+                FAULT_STATUS,
+                f'sweep: {folder} holds a sweep that differs in elf, runs: name another folder\n',
+            ),
+        )
+        other = self.room / 'other'
+        other.mkdir()
+        (other / 'file').touch()
+        self.assertIn('holds something else than a sweep', self.sweep('-o', other).stderr)
+
+    def test_machines(self):
+        """Over this machine by name, as over others; `:` is what GNU parallel calls it."""
+        local, named = self.room / 'local', self.room / 'named'
+        self.sweep('-o', local)
+        answer = self.sweep('-o', named, '--sshlogin', '2/:')
+        self.assertEqual((answer.returncode, answer.stderr), (0, ''))
+        self.assertEqual(self.table(named), self.table(local))
+
+    def test_words(self):
+        for more, said in (
+            (('--runs', '0'), 'number from 1 on'),
+            (('--first-seed', '-1'), 'a seed is a number from 0'),
+            (('--first-seed', str(2**64)), 'a seed is a number from 0'),
+            (('--program', self.room / 'nothing'), 'No such file or directory'),
+        ):
+            with self.subTest(more=more):
+                answer = self.sweep('-o', self.room / 'swept', *more)
+                self.assertEqual(answer.returncode, FAULT_STATUS)
+                self.assertIn(said, answer.stderr)
+
+    def test_the_last_seeds_of_all(self):
+        folder = self.room / 'swept'
+        self.assertEqual(self.sweep('-o', folder, '--first-seed', 2**64 - 4, runs=4).returncode, 0)
+        self.assertEqual(json.loads((folder / 'results').read_text())['first'], 2**64 - 4)
+
+
+class Parts(unittest.TestCase):
+    def test_jobs(self):
+        self.assertEqual(make_jobs(5, 7, 3), [Job(1, 5, 3), Job(2, 8, 3), Job(3, 11, 1)])
+
+    def test_the_shortest_run_is_kept(self):
+        tally = {}
+        lost = Outcome('exit 1', b'\xff')
+        for steps, seed in ((9, 1), (4, 8), (4, 3), (5, 0)):
+            note(tally, lost, Met(1, Rank(steps, seed), str(seed).encode()))
+        self.assertEqual(tally, {lost: Met(4, Rank(4, 3), b'3')})
+
+    def test_records(self):
+        record = Record(7, {Outcome('exit 1', b'\xff\n'): Met(2, Rank(3, 7), b'text')})
+        self.assertEqual(read_record(record.line(has_texts=True)), record)
+        self.assertEqual(
+            read_record(record.line(has_texts=False)).tally[Outcome('exit 1', b'\xff\n')].text, b''
+        )
+        for line in ('', '\n', '3\n', '{}\n', '{"first": 1, "outcomes": [{}]}\n', record.line(True)[:30]):
+            with self.subTest(line=line):
+                self.assertIsNone(read_record(line))
+
+    def test_memory(self):
+        self.assertGreaterEqual(mebibytes_a_run(16_384, 1_000_000), 2 * 64 + 16 + 26)
+        self.assertEqual(jobs_that_fit(3, 1), 3)
+        self.assertEqual(jobs_that_fit(64, available_mebibytes() or 1), 1 if available_mebibytes() else 64)
+
+    def test_names_differ(self):
+        names = {
+            Outcome(end, console).name for end in ('exit 1', 'killed 1') for console in (b'', b'1', b' 1')
+        }
+        self.assertEqual(len(names), 6)
+        self.assertEqual(Folder('it').output_of(Outcome('stuck', b'')).suffix, '.output')
+
+
+if __name__ == '__main__':
+    unittest.main()
