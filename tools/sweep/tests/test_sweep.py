@@ -22,6 +22,11 @@ RUNS, SEEDS_A_JOB = 30, 5
 FAULT_STATUS, INTERRUPTED_STATUS = 2, 130
 
 
+def heed_interrupts() -> None:
+    """A terminal's interrupt counts, also where this test runs in the background, where a shell has it ignored."""
+    signal.signal(signal.SIGINT, signal.SIG_DFL)
+
+
 class Sweeps(unittest.TestCase):
     def setUp(self):
         made = tempfile.TemporaryDirectory()
@@ -100,6 +105,7 @@ class Sweeps(unittest.TestCase):
             stderr=subprocess.PIPE,
             text=True,
             start_new_session=True,
+            preexec_fn=heed_interrupts,
         )
         results = folder / 'results'
         while running.poll() is None and (not results.exists() or not results.read_text()):
