@@ -10,7 +10,10 @@ For each example NAME:
 - its log lines, played, give the same text;
 - the same log lines on hart 1 of two give the same text but for the number of the hart;
 - each NAME/*.script, played on two harts, gives the *.output beside it (with status 4 where that is a fault line), and the log
-  lines that it prints, played, give the same text again.
+  lines that it prints, played, give the same text again;
+- `run`, with each of SEEDS on 1, 2, 4 and 8 harts, prints the same console and end, or those of NAME/outcomes/*.console with the
+  *.end beside it (else the example's), where they hang on the interleaving; and the log lines that it prints, played on as many
+  harts, give the same text.
 """
 import pathlib
 import subprocess
@@ -20,6 +23,8 @@ import tempfile
 HERE = pathlib.Path(__file__).resolve().parent
 BUILT = HERE.parent / 'crates' / 'rseq_run' / 'out' / 'rseq_run'
 STEPS = '1000000'
+SEEDS = range(1, 11)
+HARTS = ('1', '2', '4', '8')
 SECONDS = 120
 DONE, SCRIPT_REFUSED = 0, 4
 
@@ -125,6 +130,27 @@ def check_script(program, elf, script):
         check_replay(program, elf, text, '2')
 
 
+def outcomes(folder):
+    """The consoles with which a run of the example may end, each with its end."""
+    end = (folder / 'end.expected').read_bytes()
+    yield (folder / 'console.expected').read_bytes(), end
+    for console in folder.glob('outcomes/*.console'):
+        own = console.with_suffix('.end')
+        yield console.read_bytes(), own.read_bytes() if own.is_file() else end
+
+
+def check_runs(program, folder, elf, harts):
+    """`run` on so many harts, with each seed: it ends as the example may end, and its log replays."""
+    allowed = set(outcomes(folder))
+    for seed in SEEDS:
+        status, text = run(program, 'run', elf, '--harts', harts, '--seed', str(seed), '--steps', STEPS)
+        want(f'its status with seed {seed}', status, DONE)
+        output = Output(text)
+        if (output.console, output.end) not in allowed:
+            raise Difference(f'with seed {seed} it prints {output.console[:60]!r} and {output.end!r}')
+        check_replay(program, elf, text, harts)
+
+
 def checks(program, folder):
     """The checks of one example, each with its name."""
     elf = folder / f'{folder.name}.elf'
@@ -140,6 +166,8 @@ def checks(program, folder):
         yield 'on hart 1', lambda: check_other_hart(program, elf, text)
     for script in sorted(folder.glob('*.script')):
         yield script.name, lambda: check_script(program, elf, script)
+    for harts in HARTS:
+        yield f'run on {harts}', lambda: check_runs(program, folder, elf, harts)
 
 
 def passes(program, folder):

@@ -26,4 +26,5 @@ mod Replay
 mod Rules
 mod Runs
 mod Sound
+mod Stretches
 mod Walks

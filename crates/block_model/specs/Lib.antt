@@ -15,5 +15,6 @@ pub mod Run
 pub mod Setting
 pub mod Sights
 pub mod Solo
+pub mod Stretches
 pub mod Tables
 pub mod Walks

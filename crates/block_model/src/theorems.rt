@@ -15,10 +15,10 @@ ghost use Rattle.mach_types.specs.declared.user_memory.Store.{Store};
 ghost use Rattle.mach_types.specs.declared.user_memory.TheConstants.{STORE_BUFFER_CAPACITY};
 ghost use Rattle.elf_load.specs.declared.image.Image.{Image};
 ghost use Rattle.elf_load.specs.Images.{IsImage};
-ghost use Rattle.block_model.specs.Choosing.{IsChosen, choice_at, has_ended, next_entry};
+ghost use Rattle.block_model.specs.Choosing.{IsChosen, choice_at, has_ended, luck, next_entry};
 ghost use Rattle.block_model.specs.Deciding.{decide, end_of, entry_in, history};
 ghost use Rattle.block_model.specs.ErrorCalls.{GivesError, GivesErrorAlone};
-ghost use Rattle.block_model.specs.History.{can_be_written, console, ended, file, here_in_history, kernel, running, waiting};
+ghost use Rattle.block_model.specs.History.{can_be_written, console, ended, events, file, here_in_history, kernel, running, waiting};
 ghost use Rattle.block_model.specs.Kernel.{first_kernel};
 ghost use Rattle.block_model.specs.Plain.{here_in_plain, log_made, plain_after, plain_decide, plain_end, plain_run, plain_solo};
 ghost use Rattle.block_model.specs.PlainOf.{plain_of};
@@ -200,6 +200,16 @@ pub fn chosen_runs_go_on()
         → next_entry s h (history s log) ≡ Some e
         → IsBlockRun s (log ++ e ∷ []) × IsChosen s (log ++ e ∷ []) × (e.hart.0 ≡ h) }
     ensures shorter { (s : Setting) (log more : List Entry) → IsChosen s (log ++ more) → IsChosen s log }
+{}
+
+/// While a hart makes no event, the thread that runs on it stays there with its file, and so do the words that the hart's
+/// generator gave and the hart's credit. So a stretch that was lent of it can be appended later.
+pub fn hart_stays_as_it_is()
+    ensures { (s : Setting) (log more : List Entry) (h t : ℕ) → IsBlockRun s (log ++ more) → running s h (history s log) ≡ Some t
+        → events h (history s (log ++ more)) ≡ events h (history s log)
+        → (running s h (history s (log ++ more)) ≡ Some t)
+        × (file s t (history s (log ++ more)) ≡ file s t (history s log))
+        × (luck s h (history s (log ++ more)) ≡ luck s h (history s log)) }
 {}
 
 /// A file starts one setting, whichever image of it is taken.

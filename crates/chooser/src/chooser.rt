@@ -81,4 +81,22 @@ impl Chooser {
             Case::Open => Some(by_word(sight, self.generators[hart.0 as usize].next_word())),
         }
     }
+
+    /// What [`Chooser::next`] would answer. No word is taken.
+    #[inline]
+    #[tactic(auto, unfolding(crate::specs::Cases::pick, crate::specs::Generators::word, crate::specs::Generators::next_generator))]
+    pub fn peek(&self, hart: Hart, sight: &Sight) -> Option<Pick>
+        requires { hart.0 < 8 }
+        ensures { result ≡ pick sight.now (word (generator_in self.now hart.0)) }
+    {
+        match case_of(sight) {
+            Case::Settled(pick) => pick,
+            Case::Open => {
+                let Ok(mut generator) = self.generators[hart.0 as usize].clone() else {
+                    unreachable!()
+                };
+                Some(by_word(sight, generator.next_word()))
+            }
+        }
+    }
 }

@@ -101,3 +101,14 @@ AreHeld-apart pool (m ∷ rest) (suc i) zero n held first second =
     let same : m ≡ n = cc in
     absurd (given_apart pool m n held.0 (AreHeld-at (slice_set pool m None) rest i n held.1 first) (sym same))
 AreHeld-apart pool (m ∷ rest) (suc i) (suc j) n held first second = ap suc (AreHeld-apart (slice_set pool m None) rest i j n held.1 first second)
+
+-- frames that are taken, of which no two are one, are held
+pub AreHeld-of : (pool : List (Option (List ℕ))) (frames : List ℕ) → ((k n : ℕ) → slice_get frames k ≡ Some n → IsTaken pool n)
+    → ((j k n : ℕ) → slice_get frames j ≡ Some n → slice_get frames k ≡ Some n → j ≡ k) → AreHeld pool frames
+AreHeld-of pool [] taken apart = tt
+AreHeld-of pool (m ∷ rest) taken apart = (
+  taken 0 m refl,
+  AreHeld-of (slice_set pool m None) rest
+      (λ k n at. IsTaken-other pool m n None (taken (suc k) n at) (λ e. let same : 0 ≡ suc k = apart 0 (suc k) m refl (at ∙ ap Some e) in omega arith))
+      (λ j k n first second. let same : suc j ≡ suc k = apart (suc j) (suc k) n first second in omega arith),
+)

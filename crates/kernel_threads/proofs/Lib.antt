@@ -1,7 +1,10 @@
-mod GoingOn
+mod Addresses
+mod Kept
 pub mod Laws
 mod Opened
+mod Places
 mod RowsRead
 mod SavedAfter
 mod SavedThere
+mod Stuck
 mod Viewed

@@ -1,11 +1,12 @@
 -- The rows of the table, one for each live thread, as the plain values that they stand for.
-use Rattle.std.specs.Prelude.{not, ℕ, ◌==◌, Bool, List, map, find, if◌then◌else◌, Option, Some, None}
+use Rattle.std.specs.Prelude.{ℕ, ◌==◌, Bool, List, map, find, if◌then◌else◌, Option, Some, None}
+use Rattle.std.specs.List.Sorted.{IsStrictlyIncreasing}
 use Rattle.std.specs.Option.{option_map, option_map_or}
 use Rattle.kernel_threads.specs.declared.rows.Row.{Row}
 use Rattle.kernel_threads.specs.declared.rows.Stage.{Stage}
 use Rattle.kernel_threads.specs.declared.rows.Stage.TheVariants as stage
 use Rattle.kernel_threads.specs.Table.{Table, SavedList}
-use Rattle.mach_types.specs.Kernel.Threads.{Thread, is_thread, is_waiting_state}
+use Rattle.mach_types.specs.Kernel.Threads.{Thread, is_thread}
 use Rattle.mach_types.specs.declared.threads.Saved.{Saved}
 use Rattle.mach_types.specs.declared.threads.ThreadState.{ThreadState}
 use Rattle.mach_types.specs.declared.threads.ThreadState.TheVariants.{Ready, Running, Waiting}
@@ -41,6 +42,10 @@ state_in n rows = option_map (λ th. th.state) (find (is_thread n) (threads_in r
 abbrev pub clear_in : ℕ → List Row → ℕ
 clear_in n rows = option_map_or (λ th. th.clear_at) (find (is_thread n) (threads_in rows)) 0
 
+-- the numbers of rows rise
+abbrev pub are_rising : List Row → Type 0
+are_rising rows = IsStrictlyIncreasing (map (λ row. row.number) rows)
+
 abbrev pub is_row : ℕ → Row → Bool
 is_row n row = row.number == n
 
@@ -57,7 +62,3 @@ table_in rows given waiters = record {
   threads = record { live = threads_in rows; given = given; waiters = waiters };
   saved = all_saved_in rows;
 }
-
--- whether the thread of a row is ready or runs
-abbrev pub row_goes_on : Row → Bool
-row_goes_on row = not (is_waiting_state (state_at row.stage))

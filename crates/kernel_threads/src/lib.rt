@@ -7,6 +7,7 @@
 mod rows;
 mod table;
 mod theorems;
+mod waiters;
 
 pub use mach_types::{Saved, ThreadState};
 pub use table::Threads;

@@ -7,7 +7,8 @@ ghost use Rattle.mach_types.specs.Kernel.Threads as process;
 ghost use Rattle.mach_types.specs.declared.errors.TheConstants.{EAGAIN};
 ghost use Rattle.mach_types.specs.declared.threads.ThreadState.TheVariants.{Ready, Running, Waiting};
 
-use crate::rows::{self, ROOM, Row, Rows, Stage};
+use crate::rows::{self, Row, Rows, Stage};
+use crate::waiters::{self, Waiter, Waiters};
 use arrayvec::ArrayVec;
 use mach_types::errors::{EAGAIN, EINTR};
 use mach_types::{Errno, Hart, Saved, ThreadState, Tid};
@@ -20,11 +21,11 @@ const A0: u8 = 10;
 /// -EINTR, the answer of a wait that a signal broke.
 const INTERRUPTED: u64 = u64::MAX - (EINTR.0 as u64 - 1);
 
-/// The rows of the live threads, and the numbers of those that wait, the longest waiting first.
+/// The rows of the live threads, and those that wait, the longest waiting first.
 #[derive(Drop)]
 struct Slots {
     rows: Rows,
-    waiters: ArrayVec<u32, ROOM>,
+    waiters: Waiters,
 }
 
 /// The threads of a process: thread 1 and those that it and its children made, at most 64 at a time.
@@ -35,15 +36,16 @@ pub struct Threads {
 }
 
 impl Model for Threads {
-    ghost use Rattle.kernel_threads.specs.Table.{Table, IsTable};
+    ghost use Rattle.kernel_threads.specs.Table.{Table};
 
     ghost Value = { Table };
 
     ghost use Rattle.kernel_threads.specs.Rows.{table_in};
+    ghost use Rattle.kernel_threads.specs.Waits.{IsKept, numbers_of};
 
-    ghost view = { λ t. table_in t.slots.value.rows.items t.given t.slots.value.waiters.items };
+    ghost view = { λ t. table_in t.slots.value.rows.items t.given (numbers_of t.slots.value.waiters.items) };
 
-    ghost invariant = { λ t. IsTable (table_in t.slots.value.rows.items t.given t.slots.value.waiters.items) };
+    ghost invariant = { λ t. IsKept t.slots.value.rows.items t.given t.slots.value.waiters.items };
 }
 
 /// What a thread was saved with, with this answer of its call.
@@ -53,13 +55,6 @@ fn answering(saved: Saved, value: u64) -> Saved
     let mut file = saved.file;
     file.set(A0, value);
     Saved { file, pc: saved.pc }
-}
-
-/// Takes a number from the waiters.
-fn remove_waiter(waiters: &mut ArrayVec<u32, ROOM>, number: u32)
-    ensures { waiters.new.items ≡ process.no_waiter number waiters.old.items }
-{
-    waiters.retain(|waiter| *waiter != number);
 }
 
 impl Threads {
@@ -106,7 +101,7 @@ impl Threads {
         ensures table { spec.IsTable self.new }
     {
         rows::remove(&mut self.slots.rows, tid.0);
-        remove_waiter(&mut self.slots.waiters, tid.0);
+        waiters::take_out(&mut self.slots.waiters, tid.0);
     }
 
     /// Lets a ready thread run on a hart, and answers what it was saved with.
@@ -142,7 +137,7 @@ impl Threads {
         ensures table { spec.IsTable self.new }
     {
         rows::set_stage(&mut self.slots.rows, tid.0, Stage::Waiting(at, saved));
-        self.slots.waiters.push(tid.0);
+        self.slots.waiters.push(Waiter { number: tid.0, at });
     }
 
     /// The number of the thread that waits longest at an address.
@@ -150,7 +145,7 @@ impl Threads {
         ensures longest { result ≡ process.longest_waiter at self.now.threads }
         ensures table { spec.IsTable self.now }
     {
-        rows::first_waiting_at(&self.slots.rows, self.slots.waiters.as_slice(), at)
+        waiters::first_at(self.slots.waiters.as_slice(), at)
     }
 
     /// Makes a waiting thread ready, with this answer of its wait.
@@ -165,7 +160,7 @@ impl Threads {
         };
         let ready = Stage::Ready(answering(saved, answer));
         rows::set_stage(&mut self.slots.rows, number, ready);
-        remove_waiter(&mut self.slots.waiters, number);
+        waiters::take_out(&mut self.slots.waiters, number);
     }
 
     /// Makes the thread that waits longest at an address ready, its wait answering 0, and answers which it is;
@@ -225,11 +220,12 @@ impl Threads {
         self.given
     }
 
-    /// Whether a thread is live, and none is ready or runs.
+    /// Whether a thread is live, and none is ready or runs: then all wait.
     pub fn is_stuck(&self) -> bool
         ensures { result ≡ process.is_stuck self.now.threads }
     {
-        self.slots.rows.len() >= 1 && !rows::some_goes_on(&self.slots.rows)
+        let live = self.slots.rows.len();
+        live >= 1 && self.slots.waiters.len() == live
     }
 
     /// The state of a thread; None exactly where it isn't live.

@@ -124,6 +124,26 @@ fn clear_address_is_kept(rt: HostRuntime) -> Result<(), Fail> {
 }
 
 #[test]
+fn all_wait_where_it_is_stuck(rt: HostRuntime) -> Result<(), Fail> {
+    let mut threads = Threads::new(rt.alloc(), saved(0x1000, 7))?;
+    assert_eq!(rt; child(&rt, &mut threads), Ok(Tid(2)));
+    assert!(rt; !threads.is_stuck());
+    run_and_wait(&rt, &mut threads, Tid(1), 0x40);
+    assert!(rt; !threads.is_stuck());
+    run_and_wait(&rt, &mut threads, Tid(2), 0x48);
+    assert!(rt; threads.is_stuck());
+    expect_live(&rt, &threads, Tid(2));
+    threads.exit(Tid(2));
+    assert!(rt; threads.is_stuck());
+    assert_eq!(rt; threads.wake_one(0x40), Some(Tid(1)));
+    assert!(rt; !threads.is_stuck());
+    expect_live(&rt, &threads, Tid(1));
+    threads.exit(Tid(1));
+    assert!(rt; !threads.is_stuck());
+    Ok(())
+}
+
+#[test]
 fn sixty_four_threads_live(rt: HostRuntime) -> Result<(), Fail> {
     let mut threads = Threads::new(rt.alloc(), saved(0x1000, 7))?;
     for number in 2..65 {
@@ -135,6 +155,19 @@ fn sixty_four_threads_live(rt: HostRuntime) -> Result<(), Fail> {
     threads.exit(Tid(5));
     assert_eq!(rt; threads.live(), 63);
     assert_eq!(rt; child(&rt, &mut threads), Ok(Tid(65)));
-    assert_eq!(rt; threads.state(Tid(5)), None);
+    for number in [0, 5, 66] {
+        assert_eq!(rt; threads.state(Tid(number)), None);
+    }
+    for number in [1, 2, 4, 6, 33, 64, 65] {
+        assert_eq!(rt; threads.state(Tid(number)), Some(ThreadState::Ready));
+    }
+    run_and_wait(&rt, &mut threads, Tid(33), 0x40);
+    for (number, state) in [
+        (32, ThreadState::Ready),
+        (33, ThreadState::Waiting(0x40)),
+        (34, ThreadState::Ready),
+    ] {
+        assert_eq!(rt; threads.state(Tid(number)), Some(state));
+    }
     Ok(())
 }

@@ -1,5 +1,12 @@
+mod AreasKept
 pub mod Examples
+mod FlatBytes
+mod HartSets
 pub mod Laws
 mod Lists
+pub mod PageExamples
+mod PageWords
 mod Processes
+pub mod SignalExamples
 mod Times
+mod WordsRead

@@ -61,6 +61,10 @@ abbrev pub written : List Write → ℕ → ℕ → ℕ
 written [] a below = below
 written (w ∷ ws) a below = written ws a (byte_after w a below)
 
+-- the byte at an address after these writes in order, where it is readable
+abbrev pub after_writes : List Write → (ℕ → Option ℕ) → ℕ → Option ℕ
+after_writes ws byte a = option_map (written ws a) (byte a)
+
 -- stores as writes
 abbrev pub all_stored : List Store → List Write
 all_stored [] = []

@@ -2,4 +2,9 @@
 pub mod Threads
 pub mod Scheduling
 pub mod Pages
+pub mod PageCalls
+pub mod Signals
+pub mod SignalFrames
 pub mod Record
+pub mod Areas
+pub mod Barriers

@@ -15,8 +15,14 @@ pub const STACK_PAGES: u64 = 64;
 /// The number of the page that signal handlers return to, which begins at 0x3FFFFF0000.
 pub const RETURN_PAGE: u64 = 0x3FF_FFF0;
 
+/// Where signal handlers return to: the first address of that page.
+pub const HANDLER_RETURN: u64 = 0x3F_FFFF_0000;
+
 /// Mappings lie from this address upwards, and segments of a program below it: 2^37.
 pub const MAPPING_START: u64 = 0x20_0000_0000;
+
+/// The number of the first page at which a mapping can lie.
+pub const FIRST_MAPPING_PAGE: u64 = MAPPING_START / PAGE_SIZE;
 
 /// The stack pointer at the start: there stands the argument count.
 pub const START_SP: u64 = 0x3F_FFF3_FF30;

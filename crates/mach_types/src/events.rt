@@ -7,6 +7,17 @@ ghost use Rattle.mach_types.specs.Events.{kind_of, choice_of};
 #[derive(Clone, Copy, Debug, PartialEq, Eq, PartialOrd, Ord, Drop)]
 pub struct Hart(pub u8);
 
+impl Hart {
+    ghost use Rattle.mach_types.specs.Kernel.Scheduling.{has_hart};
+
+    /// Whether the hart is in a set of harts, whose bit h stands for hart h.
+    pub fn is_in(self, set: u8) -> bool
+        ensures { result ≡ has_hart set self.0 }
+    {
+        self.0 < 8 && (set >> self.0) % 2 == 1
+    }
+}
+
 /// A thread, by its number from 1 on. Numbers aren't used again.
 #[derive(Clone, Copy, Debug, PartialEq, Eq, PartialOrd, Ord, Drop)]
 pub struct Tid(pub u32);

@@ -27,7 +27,7 @@ use Rattle.block_model.specs.Setting.{Seen, Setting}
 use Rattle.block_model.specs.Tables.{IsTables}
 use Rattle.block_model.proofs.Laws.{given_few}
 use Rattle.machine_core.specs.Deeds.{entry_from, hart_after_call}
-use Rattle.machine_core.specs.Harts.{file_on, hart_at, hart_in}
+use Rattle.machine_core.specs.Harts.{credit_of, file_on, hart_at, hart_in}
 use Rattle.machine_core.specs.Planned.{IsPlanned}
 use Rattle.machine_core.specs.Tied.{IsPlace}
 use Rattle.machine_core.specs.declared.next.Next.{Next}
@@ -44,16 +44,16 @@ after_call b saved x =
     record z { ran = z.ran + 1; events = z.events + 1 }
 
 -- the hart of the thread after its call
-pub call_own : (s : Setting) (p : Plain) (h t : ℕ) (end : CallEnd) (saved : Saved) (c : CallDone) (x y : HartState) → x ≡ hart_at s p h → runs (here_in_plain s p h) ≡ Some t →
+pub call_own : (credit : ℕ) (s : Setting) (p : Plain) (h t : ℕ) (end : CallEnd) (saved : Saved) (c : CallDone) (x y : HartState) → x ≡ hart_at s p h credit → runs (here_in_plain s p h) ≡ Some t →
     running_on h c.kernel.threads ≡ cond (gives_up end) None (Some t) → saved ≡ file_among c.files t (p.file t) →
-    y ≡ record (hart_after_call end saved x) { ran = (hart_after_call end saved x).ran + 1; events = (hart_after_call end saved x).events + 1 } → y ≡ own_after s p h (by_call (here_in_plain s p h) c)
-call_own s p h t end saved c x y at its hart own is = is ∙ rw (at, append-nil) (go (gives_up end) hart)
+    y ≡ record (hart_after_call end saved x) { ran = (hart_after_call end saved x).ran + 1; events = (hart_after_call end saved x).events + 1 } → y ≡ own_after s p h (by_call (here_in_plain s p h) c) credit
+call_own credit s p h t end saved c x y at its hart own is = is ∙ rw (at, append-nil) (go (gives_up end) hart)
   where
-    go : (b : Bool) → running_on h c.kernel.threads ≡ cond b None (Some t) → after_call b saved (hart_at s p h) ≡ hart_in (record (here_in_plain s p h) {
+    go : (b : Bool) → running_on h c.kernel.threads ≡ cond b None (Some t) → after_call b saved (hart_at s p h credit) ≡ hart_in (record (here_in_plain s p h) {
       file = λ u. file_among c.files u (p.file u);
       reserved = None;
       kernel = c.kernel;
-    }) (p.ran h + 1) (p.events h + 1)
+    }) (p.ran h + 1) (p.events h + 1) credit
     go true e = rw e refl
     go false e = rw (e, its, own) refl
 
@@ -67,7 +67,7 @@ ended_after end c o b process stuck is = is ∙ rw (process, stuck) refl
 
 -- what a call finds
 pub record IsCalling (v : Seen) (m : Parts) (h : Hart) (harts : ℕ) (x : HartState) (e : Entry) : Type 0 where
-  pub own : x ≡ hart_at v.setting (plain_seen v) h.0
+  pub own : x ≡ hart_at v.setting (plain_seen v) h.0 (credit_of m.harts.items h.0)
   pub runs : runs (here_of v h.0) ≡ Some e.tid.0
   pub at : IsAt (here_of v h.0) m.kernel m.pages h harts e.tid (record { file = x.file; pc = x.pc })
   pub done : done_of asked.Exec (here_of v h.0) ≡ by_call (here_of v h.0) (called (here_of v h.0) e.tid.0)
@@ -78,7 +78,7 @@ call_next = record { effect = Some effect.Call; fault = None }
 pub calling : (v : Seen) (m : Parts) (h : Hart) (harts : ℕ) (x : HartState) (e : Entry) → IsPlace v m h.0 → IsPlanned v h.0 call_next → harts ≡ length m.harts.items → x ≡ get_or m.harts.items h.0 x → e ≡ entry_from h kind.Exec x.running x.pc → IsCalling v m h harts x e
 calling v m h harts x e place plan all value is =
     let own = hart_is v m h.0 x place value in
-    let named : e.tid.0 ≡ number_of (runs (here_of v h.0)) = ap (λ (z : Entry). z.tid.0) (is ∙ entry_exec v.setting (plain_seen v) h x own) in
+    let named : e.tid.0 ≡ number_of (runs (here_of v h.0)) = ap (λ (z : Entry). z.tid.0) (is ∙ entry_exec _ v.setting (plain_seen v) h x own) in
     let its : plan.thread ≡ e.tid.0 = sym (named ∙ ap number_of plan.at) in
     let at : runs (here_of v h.0) ≡ Some e.tid.0 = plan.at ∙ ap Some its in
     record {

@@ -12,7 +12,7 @@ use Rattle.block_model.specs.Events.{refusal_of}
 use Rattle.block_model.specs.Plain.{here_of, plain_seen}
 use Rattle.block_model.specs.Setting.{Seen}
 use Rattle.block_model.proofs.Laws.{MayEnter, place_good}
-use Rattle.machine_core.specs.Harts.{hart_at}
+use Rattle.machine_core.specs.Harts.{credit_of, hart_at}
 use Rattle.machine_core.specs.Tied.{IsPlace}
 use Rattle.machine_core.specs.declared.parts.Parts.{Parts}
 use Rattle.machine_core.proofs.Entries.{oldest}
@@ -31,7 +31,7 @@ can_enter v m h x place value =
 
 -- it is the oldest that waits
 pub record IsDraining (v : Seen) (m : Parts) (h : ℕ) (x : HartState) (w : Store) : Type 0 where
-  pub own : x ≡ hart_at v.setting (plain_seen v) h
+  pub own : x ≡ hart_at v.setting (plain_seen v) h (credit_of m.harts.items h)
   pub later : List Store
   pub at : (here_of v h).waiting ≡ w ∷ later
   pub buffer : x.buffer ≡ w ∷ later

@@ -30,14 +30,14 @@ entry_own : (here : Here) (h : Hart) (k : Kind) (o : Option ℕ) (x : HartState)
 entry_own here h k None x hart running pc = rw (running, hart) refl
 entry_own here h k (Some t) x hart running pc = rw (running, hart, pc) refl
 
-pub entry_exec : (s : Setting) (p : Plain) (h : Hart) (x : HartState) → x ≡ hart_at s p h.0 → entry_from h kind.Exec x.running x.pc ≡ entry_in asked.Exec (here_in_plain s p h.0)
-entry_exec s p h x is = entry_own (here_in_plain s p h.0) h kind.Exec (runs (here_in_plain s p h.0)) x refl (ap (λ (y : HartState). y.running) is) (ap (λ (y : HartState). y.pc) is)
+pub entry_exec : (credit : ℕ) (s : Setting) (p : Plain) (h : Hart) (x : HartState) → x ≡ hart_at s p h.0 credit → entry_from h kind.Exec x.running x.pc ≡ entry_in asked.Exec (here_in_plain s p h.0)
+entry_exec credit s p h x is = entry_own (here_in_plain s p h.0) h kind.Exec (runs (here_in_plain s p h.0)) x refl (ap (λ (y : HartState). y.running) is) (ap (λ (y : HartState). y.pc) is)
 
-pub entry_drain : (s : Setting) (p : Plain) (h : Hart) (x : HartState) → x ≡ hart_at s p h.0 → entry_from h kind.Drain x.running x.pc ≡ entry_in asked.Drain (here_in_plain s p h.0)
-entry_drain s p h x is = entry_own (here_in_plain s p h.0) h kind.Drain (runs (here_in_plain s p h.0)) x refl (ap (λ (y : HartState). y.running) is) (ap (λ (y : HartState). y.pc) is)
+pub entry_drain : (credit : ℕ) (s : Setting) (p : Plain) (h : Hart) (x : HartState) → x ≡ hart_at s p h.0 credit → entry_from h kind.Drain x.running x.pc ≡ entry_in asked.Drain (here_in_plain s p h.0)
+entry_drain credit s p h x is = entry_own (here_in_plain s p h.0) h kind.Drain (runs (here_in_plain s p h.0)) x refl (ap (λ (y : HartState). y.running) is) (ap (λ (y : HartState). y.pc) is)
 
-pub entry_preempt : (s : Setting) (p : Plain) (h : Hart) (x : HartState) → x ≡ hart_at s p h.0 → entry_from h kind.Preempt x.running x.pc ≡ entry_in asked.Preempt (here_in_plain s p h.0)
-entry_preempt s p h x is = entry_own (here_in_plain s p h.0) h kind.Preempt (runs (here_in_plain s p h.0)) x refl (ap (λ (y : HartState). y.running) is) (ap (λ (y : HartState). y.pc) is)
+pub entry_preempt : (credit : ℕ) (s : Setting) (p : Plain) (h : Hart) (x : HartState) → x ≡ hart_at s p h.0 credit → entry_from h kind.Preempt x.running x.pc ≡ entry_in asked.Preempt (here_in_plain s p h.0)
+entry_preempt credit s p h x is = entry_own (here_in_plain s p h.0) h kind.Preempt (runs (here_in_plain s p h.0)) x refl (ap (λ (y : HartState). y.running) is) (ap (λ (y : HartState). y.pc) is)
 
 -- where a thread can leave a hart, one runs there
 pub leaver : (here : Here) → refusal_of asked.Preempt here ≡ None → (t : ℕ) × (runs here ≡ Some t)
@@ -56,6 +56,6 @@ oldest here free = go here.waiting refl free
     go (w ∷ ws) at e = (w, (ws, at))
 
 -- the parts after an event that is known to have done this
-pub changed_as : (v : Seen) (h : ℕ) (c : Choice) (d : Done) (m m' : Parts) (y : HartState) → IsPlace v m h → refusal_of c (here_of v h) ≡ None → done_of c (here_of v h) ≡ d → IsChange v h d m m' y → IsAfter v h (done_of c (here_of v h)) m'
+pub changed_as : (v : Seen) (h : ℕ) (c : Choice) (d : Done) (m m' : Parts) (y : HartState) → IsPlace v m h → refusal_of c (here_of v h) ≡ None → done_of c (here_of v h) ≡ d → IsChange v h d m m' y → IsAfter v h (done_of c (here_of v h)) m m'
 changed_as v h c d m m' y place free same is =
-    subst (λ e. IsAfter v h e m') (sym same) (changed v h d m m' y place (subst (IsFit (here_of v h)) same (fit_at v m h c place free)) is)
+    subst (λ e. IsAfter v h e m m') (sym same) (changed v h d m m' y place (subst (IsFit (here_of v h)) same (fit_at v m h c place free)) is)

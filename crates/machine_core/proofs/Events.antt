@@ -14,12 +14,13 @@ use Rattle.block_model.specs.Setting.{Seen}
 use Rattle.block_model.specs.Here.{Done}
 use Rattle.block_model.specs.History.{file_among}
 use Rattle.block_model.specs.Deciding.{final}
-use Rattle.block_model.specs.Plain.{Plain, here_of, plain_seen}
+use Rattle.block_model.specs.Plain.{Plain, apply, here_of, plain_seen}
 use Rattle.block_model.proofs.Laws.{IsFit}
 use Rattle.machine_core.specs.Losing.{lost_unless}
-use Rattle.machine_core.specs.Tied.{IsPlace, IsAfter}
+use Rattle.machine_core.specs.Harts.{credit_of}
+use Rattle.machine_core.specs.Tied.{IsPlace, IsAfter, IsTied}
 use Rattle.machine_core.specs.declared.parts.Parts.{Parts}
-use Rattle.machine_core.proofs.HartTies.{own_after, harts_tied}
+use Rattle.machine_core.proofs.HartTies.{credits_kept, own_after, harts_tied}
 use Rattle.machine_core.proofs.MemoryTies.{memory_after, writable_after}
 
 -- lists with the same places filled are equally long
@@ -49,7 +50,7 @@ none_lost h d xs none k = rw none (keep (eqb k h) (slice_get xs k))
 
 -- the parts changed as an event does: its hart is y
 pub record IsChange (v : Seen) (h : ℕ) (d : Done) (m m' : Parts) (y : HartState) : Type 0 where
-  pub own : y ≡ own_after v.setting (plain_seen v) h d
+  pub own : y ≡ own_after v.setting (plain_seen v) h d (credit_of m.harts.items h)
   pub harts : HaveLost h d (set m.harts.items h y) m'.harts.items
   pub bytes : (a : ℕ) → byte_in m'.pages a ≡ option_map (written d.entered a) (byte_in m.pages a)
   pub writable : (a : ℕ) → can_write_in m'.pages a ≡ can_write_in m.pages a
@@ -69,22 +70,25 @@ or_none : (o p : Option End) → p ≡ None → option_or o p ≡ o
 or_none None p none = none
 or_none (Some e) p none = refl
 
-pub changed : (v : Seen) (h : ℕ) (d : Done) (m m' : Parts) (y : HartState) → IsPlace v m h → IsFit (here_of v h) d → IsChange v h d m m' y → IsAfter v h d m'
-changed v h d m m' y place fit is = record {
-  all_harts = same_length (set m.harts.items h y) m'.harts.items (λ k. ap is_some (is.harts k) ∙ mapped_is (lost_unless (eqb k h) d.entered) (slice_get (set m.harts.items h y) k)) ∙ (length-set m.harts.items h y ∙ place.tied.all_harts);
-  harts = harts_tied v.setting p h d m.harts.items m'.harts.items y place.tied.harts place.lt fit is.own is.harts;
-  bytes = memory_after (byte_in m.pages) (byte_in m'.pages) p.kernel d.kernel p.byte d.entered place.tied.bytes is.bytes fit.pages;
-  writable = writable_after (can_write_in m.pages) (can_write_in m'.pages) p.kernel d.kernel place.tied.writable is.writable fit.pages;
-  threads = is.threads;
-  scheduling = is.scheduling;
-  console = is.console;
-  table = is.table;
-  saved = is.saved;
-  ended = is.ended ∙ ap (λ o. final o d.kernel) (sym (or_none d.ended p.ended (open_process p.ended (if_stuck (is_stuck p.kernel.threads)) place.goes)));
-}
+pub changed : (v : Seen) (h : ℕ) (d : Done) (m m' : Parts) (y : HartState) → IsPlace v m h → IsFit (here_of v h) d → IsChange v h d m m' y → IsAfter v h d m m'
+changed v h d m m' y place fit is = record { tied = tied; credits = credits_kept h d m.harts.items m'.harts.items y (ap (λ (x : HartState). x.credit) is.own) is.harts }
   where
     p : Plain
     p = plain_seen v
 
     if_stuck : Bool → Option End
     if_stuck b = cond b (Some over.Stuck) None
+
+    tied : IsTied v.setting (apply h d p) m'
+    tied = record {
+      all_harts = same_length (set m.harts.items h y) m'.harts.items (λ k. ap is_some (is.harts k) ∙ mapped_is (lost_unless (eqb k h) d.entered) (slice_get (set m.harts.items h y) k)) ∙ (length-set m.harts.items h y ∙ place.tied.all_harts);
+      harts = harts_tied v.setting p h d m.harts.items m'.harts.items y place.tied.harts place.lt fit is.own is.harts;
+      bytes = memory_after (byte_in m.pages) (byte_in m'.pages) p.kernel d.kernel p.byte d.entered place.tied.bytes is.bytes fit.pages;
+      writable = writable_after (can_write_in m.pages) (can_write_in m'.pages) p.kernel d.kernel place.tied.writable is.writable fit.pages;
+      threads = is.threads;
+      scheduling = is.scheduling;
+      console = is.console;
+      table = is.table;
+      saved = is.saved;
+      ended = is.ended ∙ ap (λ o. final o d.kernel) (sym (or_none d.ended p.ended (open_process p.ended (if_stuck (is_stuck p.kernel.threads)) place.goes)));
+    }

@@ -34,14 +34,14 @@ pub done_plain : (here : Here) (t : ℕ) (e : Effect) → runs here ≡ Some t �
 done_plain here t e at fault is no_call = rw (at, fault, is, no_call) refl
 
 -- what it does on the hart that is kept is what it does at the place
-pub outcome_same : (s : Setting) (p : Plain) (h t : ℕ) (x : HartState) (byte : ℕ → Option ℕ) (e : Effect) → x ≡ hart_at s p h → runs (here_in_plain s p h) ≡ Some t → byte ≡ memory (here_in_plain s p h) →
+pub outcome_same : (credit : ℕ) (s : Setting) (p : Plain) (h t : ℕ) (x : HartState) (byte : ℕ → Option ℕ) (e : Effect) → x ≡ hart_at s p h credit → runs (here_in_plain s p h) ≡ Some t → byte ≡ memory (here_in_plain s p h) →
     outcome_on x byte e ≡ outcome_of (here_in_plain s p h) t e
-outcome_same s p h t x byte e at runs same = rw (at, same, runs) refl
+outcome_same credit s p h t x byte e at runs same = rw (at, same, runs) refl
 
 -- what the hart asks before it performs it
-pub not_refused : (s : Setting) (p : Plain) (h t : ℕ) (x : HartState) (e : Effect) → x ≡ hart_at s p h → runs (here_in_plain s p h) ≡ Some t → next_fault (here_in_plain s p h) t ≡ None → next_effect (here_in_plain s p h) t ≡ Some e →
+pub not_refused : (credit : ℕ) (s : Setting) (p : Plain) (h t : ℕ) (x : HartState) (e : Effect) → x ≡ hart_at s p h credit → runs (here_in_plain s p h) ≡ Some t → next_fault (here_in_plain s p h) t ≡ None → next_effect (here_in_plain s p h) t ≡ Some e →
     refusal_of asked.Exec (here_in_plain s p h) ≡ None → exec_refusal x (Some e) false ≡ None
-not_refused s p h t x e at runs fault is free = rw (at, runs) (gate (rw runs at free))
+not_refused credit s p h t x e at runs fault is free = rw (at, runs) (gate (rw runs at free))
   where
     gate : refusal_exec_by (here_in_plain s p h) (Some t) ≡ None → instruction_gate (length (p.waiting h)) (Some e) false ≡ None
     gate g = ap (λ o. instruction_gate (length (p.waiting h)) o false) (sym is) ∙ (ap (λ o. instruction_gate (length (p.waiting h)) (next_effect (here_in_plain s p h) t) (is_some o)) (sym fault) ∙ g)

@@ -17,7 +17,7 @@ in_page : (pages : List ImagePage) (a n o : ℕ) → a / 4096 ≡ n → a % 4096
 in_page pages a n o num off = ap (λ m. code_in pages m (a % 4096)) num ∙ ap (code_in pages n) off
 
 -- the four bytes of an aligned word
-four_bytes : (pages : List ImagePage) (a : ℕ) → a % 4 ≡ 0 →
+pub four_bytes : (pages : List ImagePage) (a : ℕ) → a % 4 ≡ 0 →
     code_word pages a ≡ joined (code_in pages (a / 4096) (a % 4096)) (joined (code_in pages (a / 4096) (a % 4096 + 1)) (joined (code_in pages (a / 4096) (a % 4096 + 2)) (joined (code_in pages (a / 4096) (a % 4096 + 3)) (Some 0))))
 four_bytes pages a aligned =
     let e0 : code_byte pages a ≡ code_in pages (a / 4096) (a % 4096) = in_page pages a (a / 4096) (a % 4096) refl refl in

@@ -26,9 +26,9 @@ zero_more : (n : ℕ) → n + 0 ≡ n
 zero_more n = omega arith
 
 -- drain
-pub drain_own : (s : Setting) (p : Plain) (h : ℕ) (w : Store) (ws : List Store) (x y : HartState) → x ≡ hart_at s p h →
-    y ≡ record x { buffer = drop 1 x.buffer; events = x.events + 1 } → y ≡ own_after s p h (done_drain_of (here_in_plain s p h) (w ∷ ws))
-drain_own s p h w ws x y at is = is ∙ rw (at, append-nil, zero_more (p.ran h)) (go (runs (here_in_plain s p h)))
+pub drain_own : (credit : ℕ) (s : Setting) (p : Plain) (h : ℕ) (w : Store) (ws : List Store) (x y : HartState) → x ≡ hart_at s p h credit →
+    y ≡ record x { buffer = drop 1 x.buffer; events = x.events + 1 } → y ≡ own_after s p h (done_drain_of (here_in_plain s p h) (w ∷ ws)) credit
+drain_own credit s p h w ws x y at is = is ∙ rw (at, append-nil, zero_more (p.ran h)) (go (runs (here_in_plain s p h)))
   where
     go : (o : Option ℕ) → (let a : HartState = record {
       file = (file_on (here_in_plain s p h) o).file;
@@ -40,7 +40,7 @@ drain_own s p h w ws x y at is = is ∙ rw (at, append-nil, zero_more (p.ran h))
       waits = None;
       reserved = p.reserved h;
       ran = p.ran h;
-      credit = 0;
+      credit = credit;
       events = p.events h + 1;
       cid = 0;
     } in a) ≡ (let b : HartState = record {
@@ -53,7 +53,7 @@ drain_own s p h w ws x y at is = is ∙ rw (at, append-nil, zero_more (p.ran h))
       waits = None;
       reserved = p.reserved h;
       ran = p.ran h;
-      credit = 0;
+      credit = credit;
       events = p.events h + 1;
       cid = 0;
     } in b)
@@ -61,8 +61,8 @@ drain_own s p h w ws x y at is = is ∙ rw (at, append-nil, zero_more (p.ran h))
     go (Some t) = refl
 
 -- a hart of these parts
-abbrev made_of : Saved → Option ℕ → List Store → Option ℕ → ℕ → ℕ → HartState
-made_of f o buffer reserved ran events = record {
+abbrev made_of : Saved → Option ℕ → List Store → Option ℕ → ℕ → ℕ → ℕ → HartState
+made_of f o buffer reserved ran events credit = record {
   file = f.file;
   pc = f.pc;
   buffer = buffer;
@@ -72,35 +72,35 @@ made_of f o buffer reserved ran events = record {
   waits = None;
   reserved = reserved;
   ran = ran;
-  credit = 0;
+  credit = credit;
   events = events;
   cid = 0;
 }
 
 -- preempt
-pub preempt_own : (s : Setting) (p : Plain) (h t : ℕ) (x y : HartState) → x ≡ hart_at s p h → IsTables s.limits.harts p.kernel.threads p.kernel.scheduling → runs (here_in_plain s p h) ≡ Some t →
-    y ≡ record x { file = no_registers; pc = 0; running = None; reserved = None; events = x.events + 1 } → y ≡ own_after s p h (done_preempt_by (here_in_plain s p h) (Some t))
-preempt_own s p h t x y at tables runs is =
+pub preempt_own : (credit : ℕ) (s : Setting) (p : Plain) (h t : ℕ) (x y : HartState) → x ≡ hart_at s p h credit → IsTables s.limits.harts p.kernel.threads p.kernel.scheduling → runs (here_in_plain s p h) ≡ Some t →
+    y ≡ record x { file = no_registers; pc = 0; running = None; reserved = None; events = x.events + 1 } → y ≡ own_after s p h (done_preempt_by (here_in_plain s p h) (Some t)) credit
+preempt_own credit s p h t x y at tables runs is =
     is ∙ rw (at, append-nil, zero_more (p.ran h), left_idle s.limits.harts h t p.kernel.threads p.kernel.scheduling tables runs) refl
 
 -- run
-pub run_own : (s : Setting) (p : Plain) (h t : ℕ) (saved : Saved) (x y : HartState) → x ≡ hart_at s p h → IsTables s.limits.harts p.kernel.threads p.kernel.scheduling →
+pub run_own : (credit : ℕ) (s : Setting) (p : Plain) (h t : ℕ) (saved : Saved) (x y : HartState) → x ≡ hart_at s p h credit → IsTables s.limits.harts p.kernel.threads p.kernel.scheduling →
     is_ready t p.kernel.threads ≡ true → runs (here_in_plain s p h) ≡ None → h < s.limits.harts → saved ≡ p.file t →
-    y ≡ record x { file = saved.file; pc = saved.pc; running = Some (thread t); reserved = None; ran = 0; events = x.events + 1 } → y ≡ own_after s p h (done_run (here_in_plain s p h) t)
-run_own s p h t saved x y at tables ready idle lt kept is =
+    y ≡ record x { file = saved.file; pc = saved.pc; running = Some (thread t); reserved = None; ran = 0; events = x.events + 1 } → y ≡ own_after s p h (done_run (here_in_plain s p h) t) credit
+run_own credit s p h t saved x y at tables ready idle lt kept is =
     is ∙ rw (at, append-nil, ran_runs s.limits.harts h t p.kernel.threads p.kernel.scheduling tables ready idle lt, kept) refl
 
 -- a fault
-pub fault_own : (s : Setting) (p : Plain) (h signal : ℕ) (x y : HartState) → x ≡ hart_at s p h →
-    y ≡ record x { ran = x.ran + 1; events = x.events + 1 } → y ≡ own_after s p h (by_fault (here_in_plain s p h) signal)
-fault_own s p h signal x y at is = is ∙ rw (at, append-nil) (go (runs (here_in_plain s p h)))
+pub fault_own : (credit : ℕ) (s : Setting) (p : Plain) (h signal : ℕ) (x y : HartState) → x ≡ hart_at s p h credit →
+    y ≡ record x { ran = x.ran + 1; events = x.events + 1 } → y ≡ own_after s p h (by_fault (here_in_plain s p h) signal) credit
+fault_own credit s p h signal x y at is = is ∙ rw (at, append-nil) (go (runs (here_in_plain s p h)))
   where
-    go : (o : Option ℕ) → made_of (file_on (here_in_plain s p h) o) o (p.waiting h) (p.reserved h) (p.ran h + 1) (p.events h + 1)
-        ≡ made_of (file_on (here_in_plain s p h) o) o (p.waiting h) (p.reserved h) (p.ran h + 1) (p.events h + 1)
+    go : (o : Option ℕ) → made_of (file_on (here_in_plain s p h) o) o (p.waiting h) (p.reserved h) (p.ran h + 1) (p.events h + 1) credit
+        ≡ made_of (file_on (here_in_plain s p h) o) o (p.waiting h) (p.reserved h) (p.ran h + 1) (p.events h + 1) credit
     go None = refl
     go (Some t) = refl
 
 -- an instruction other than a call
-pub plain_own : (s : Setting) (p : Plain) (h t : ℕ) (o : Outcome) (x y : HartState) → x ≡ hart_at s p h → runs (here_in_plain s p h) ≡ Some t →
-    y ≡ record (hart_after x o) { ran = x.ran + 1; events = x.events + 1 } → y ≡ own_after s p h (by_outcome (here_in_plain s p h) t o)
-plain_own s p h t o x y at runs is = is ∙ rw (at, runs, eq-eqb t t refl) refl
+pub plain_own : (credit : ℕ) (s : Setting) (p : Plain) (h t : ℕ) (o : Outcome) (x y : HartState) → x ≡ hart_at s p h credit → runs (here_in_plain s p h) ≡ Some t →
+    y ≡ record (hart_after x o) { ran = x.ran + 1; events = x.events + 1 } → y ≡ own_after s p h (by_outcome (here_in_plain s p h) t o) credit
+plain_own credit s p h t o x y at runs is = is ∙ rw (at, runs, eq-eqb t t refl) refl

@@ -1,8 +1,9 @@
 -- The harts after an event: the own one is as the event left it, and the others have lost what was written.
 use Rattle.std.proofs.Common.{◌≡◌, ◌≢◌, ℕ, ◌+◌, ◌<◌, List, [], ◌∷◌, ◌++◌, drop, refl, sym, ap, ◌∙◌, subst, Bool, true, false, cond, eqb, Option, Some, None, slice_get, eq-eqb, set, ◌⊎◌, inl, inr, zero, suc}
-use Rattle.std.specs.Option.{option_map}
+use Rattle.std.specs.Option.{option_map, option_map_or}
 use Rattle.std.proofs.lemmas.Bool.{ne_eqb, cases_eq}
 use Rattle.mach_types.specs.Kernel.Threads.{running_on}
+use Rattle.mach_types.specs.declared.user_memory.Write.{Write}
 use Rattle.hart_state.specs.declared.hart.HartState.{HartState}
 use Rattle.block_model.specs.Setting.{Setting}
 use Rattle.block_model.specs.Here.{Done}
@@ -10,24 +11,24 @@ use Rattle.block_model.specs.History.{file_among, lost_after}
 use Rattle.block_model.specs.Plain.{Plain, apply, here_in_plain}
 use Rattle.block_model.specs.Sights.{thread}
 use Rattle.block_model.proofs.Laws.{IsFit}
-use Rattle.machine_core.specs.Harts.{file_on, hart_at, hart_in}
+use Rattle.machine_core.specs.Harts.{credit_of, file_on, hart_at, hart_in}
 use Rattle.machine_core.specs.Losing.{lost_by_all, lost_unless}
 
 -- the own hart
-abbrev pub own_after : Setting → Plain → ℕ → Done → HartState
-own_after s p h d = hart_in (record (here_in_plain s p h) {
+abbrev pub own_after : Setting → Plain → ℕ → Done → ℕ → HartState
+own_after s p h d credit = hart_in (record (here_in_plain s p h) {
   file = λ t. file_among d.files t (p.file t);
   waiting = drop d.drained (p.waiting h ++ d.executed);
   reserved = d.reserved;
   kernel = d.kernel;
-}) (cond d.started 0 (p.ran h) + d.instructions) (p.events h + 1)
+}) (cond d.started 0 (p.ran h) + d.instructions) (p.events h + 1) credit
 
-pub hart_own : (s : Setting) (p : Plain) (h : ℕ) (d : Done) → hart_at s (apply h d p) h ≡ own_after s p h d
-hart_own s p h d = rw (eq-eqb h h refl) refl
+pub hart_own : (s : Setting) (p : Plain) (h : ℕ) (d : Done) (credit : ℕ) → hart_at s (apply h d p) h credit ≡ own_after s p h d credit
+hart_own s p h d credit = rw (eq-eqb h h refl) refl
 
 -- another hart
-pub hart_other : (s : Setting) (p : Plain) (h k : ℕ) (d : Done) → k ≢ h → IsFit (here_in_plain s p h) d → hart_at s (apply h d p) k ≡ lost_by_all d.entered (hart_at s p k)
-hart_other s p h k d ne fit = rw (ne_eqb h k (λ e. ne (sym e)), fit.others k ne) (go (running_on k p.kernel.threads) refl)
+pub hart_other : (s : Setting) (p : Plain) (h k : ℕ) (d : Done) (credit : ℕ) → k ≢ h → IsFit (here_in_plain s p h) d → hart_at s (apply h d p) k credit ≡ lost_by_all d.entered (hart_at s p k credit)
+hart_other s p h k d credit ne fit = rw (ne_eqb h k (λ e. ne (sym e)), fit.others k ne) (go (running_on k p.kernel.threads) refl)
   where
     go : (o : Option ℕ) → running_on k p.kernel.threads ≡ o →
         (let x : HartState = record {
@@ -40,7 +41,7 @@ hart_other s p h k d ne fit = rw (ne_eqb h k (λ e. ne (sym e)), fit.others k ne
           waits = None;
           reserved = lost_after d.entered (p.reserved k);
           ran = p.ran k;
-          credit = 0;
+          credit = credit;
           events = p.events k;
           cid = 0;
         } in x) ≡ (let y : HartState = record {
@@ -53,19 +54,19 @@ hart_other s p h k d ne fit = rw (ne_eqb h k (λ e. ne (sym e)), fit.others k ne
           waits = None;
           reserved = lost_after d.entered (p.reserved k);
           ran = p.ran k;
-          credit = 0;
+          credit = credit;
           events = p.events k;
           cid = 0;
         } in y)
     go None at = refl
     go (Some u) at = let same = fit.apart k u (p.file u) ne at in rw same refl
 
-get_set_same : (xs : List HartState) (i : ℕ) (x y : HartState) → slice_get xs i ≡ Some x → slice_get (set xs i y) i ≡ Some y
+pub get_set_same : (xs : List HartState) (i : ℕ) (x y : HartState) → slice_get xs i ≡ Some x → slice_get (set xs i y) i ≡ Some y
 get_set_same [] i x y at = cc
 get_set_same (z ∷ xs) zero x y at = refl
 get_set_same (z ∷ xs) (suc i) x y at = get_set_same xs i x y at
 
-get_set_other : (xs : List HartState) (i j : ℕ) (y : HartState) → j ≢ i → slice_get (set xs i y) j ≡ slice_get xs j
+pub get_set_other : (xs : List HartState) (i j : ℕ) (y : HartState) → j ≢ i → slice_get (set xs i y) j ≡ slice_get xs j
 get_set_other [] i j y ne = refl
 get_set_other (z ∷ xs) zero zero y ne = absurd (ne refl)
 get_set_other (z ∷ xs) zero (suc j) y ne = refl
@@ -74,29 +75,39 @@ get_set_other (z ∷ xs) (suc i) (suc j) y ne = get_set_other xs i j y (λ e. ne
 
 -- the harts are those of the plain machine
 abbrev pub AreHarts : Setting → Plain → List HartState → Type 0
-AreHarts s p xs = (k : ℕ) → k < s.limits.harts → slice_get xs k ≡ Some (hart_at s p k)
+AreHarts s p xs = (k : ℕ) → k < s.limits.harts → slice_get xs k ≡ Some (hart_at s p k (credit_of xs k))
+
+-- credits stay where the own hart keeps its, and the others lose a reservation at most
+credit_set : (xs : List HartState) (h k : ℕ) (y : HartState) → y.credit ≡ credit_of xs h → credit_of (set xs h y) k ≡ credit_of xs k
+credit_set [] h k y same = refl
+credit_set (z ∷ xs) zero zero y same = same
+credit_set (z ∷ xs) zero (suc k) y same = refl
+credit_set (z ∷ xs) (suc h) zero y same = refl
+credit_set (z ∷ xs) (suc h) (suc k) y same = credit_set xs h k y same
+
+credit_lost : (b : Bool) (ws : List Write) (o : Option HartState) → option_map_or (λ (x : HartState). x.credit) (option_map (lost_unless b ws) o) 0 ≡ option_map_or (λ (x : HartState). x.credit) o 0
+credit_lost b ws None = refl
+credit_lost true ws (Some x) = refl
+credit_lost false ws (Some x) = refl
+
+pub credits_kept : (h : ℕ) (d : Done) (xs ys : List HartState) (y : HartState) → y.credit ≡ credit_of xs h →
+    ((k : ℕ) → slice_get ys k ≡ option_map (lost_unless (eqb k h) d.entered) (slice_get (set xs h y) k)) → (k : ℕ) → credit_of ys k ≡ credit_of xs k
+credits_kept h d xs ys y same lose k =
+    ap (λ o. option_map_or (λ (x : HartState). x.credit) o 0) (lose k)
+    ∙ (credit_lost (eqb k h) d.entered (slice_get (set xs h y) k) ∙ credit_set xs h k y same)
 
 -- all harts, where the others lost what was written
-pub harts_tied : (s : Setting) (p : Plain) (h : ℕ) (d : Done) (xs ys : List HartState) (y : HartState) → AreHarts s p xs → h < s.limits.harts → IsFit (here_in_plain s p h) d → y ≡ own_after s p h d →
+pub harts_tied : (s : Setting) (p : Plain) (h : ℕ) (d : Done) (xs ys : List HartState) (y : HartState) → AreHarts s p xs → h < s.limits.harts → IsFit (here_in_plain s p h) d → y ≡ own_after s p h d (credit_of xs h) →
     ((k : ℕ) → slice_get ys k ≡ option_map (lost_unless (eqb k h) d.entered) (slice_get (set xs h y) k)) → AreHarts s (apply h d p) ys
-harts_tied s p h d xs ys y tied lt fit own lose k below = go (cases_eq k h)
+harts_tied s p h d xs ys y tied lt fit own lose k below =
+    go (cases_eq k h) ∙ ap (λ n. Some (hart_at s (apply h d p) k n)) (sym (credits_kept h d xs ys y (ap (λ (x : HartState). x.credit) own) lose k))
   where
     own_lost : option_map (lost_unless (eqb h h) d.entered) (slice_get (set xs h y) h) ≡ Some y
-    own_lost = rw (eq-eqb h h refl, get_set_same xs h (hart_at s p h) y (tied h lt)) refl
+    own_lost = rw (eq-eqb h h refl, get_set_same xs h (hart_at s p h (credit_of xs h)) y (tied h lt)) refl
 
-    other_lost : k ≢ h → option_map (lost_unless (eqb k h) d.entered) (slice_get (set xs h y) k) ≡ Some (lost_by_all d.entered (hart_at s p k))
-    other_lost ne = rw (ne_eqb k h ne, get_set_other xs h k y ne, tied k below) refl
+    other_lost : k ≢ h → option_map (lost_unless (eqb k h) d.entered) (slice_get (set xs h y) k) ≡ Some (lost_by_all d.entered (hart_at s p k (credit_of xs k)))
+    other_lost ne = rw (ne_eqb k h ne, get_set_other xs h k y ne) (ap (option_map (lost_by_all d.entered)) (tied k below))
 
-    go : (k ≡ h) ⊎ (k ≢ h) → slice_get ys k ≡ Some (hart_at s (apply h d p) k)
-    go (inl same) = subst (λ j. slice_get ys j ≡ Some (hart_at s (apply h d p) j)) (sym same) (lose h ∙ own_lost ∙ ap Some (own ∙ sym (hart_own s p h d)))
-    go (inr ne) = lose k ∙ other_lost ne ∙ ap Some (sym (hart_other s p h k d ne fit))
-
--- the same, where nothing was written
-pub harts_kept : (s : Setting) (p : Plain) (h : ℕ) (d : Done) (xs : List HartState) (y : HartState) → AreHarts s p xs → h < s.limits.harts → IsFit (here_in_plain s p h) d → y ≡ own_after s p h d → d.entered ≡ [] → AreHarts s (apply h d p) (set xs h y)
-harts_kept s p h d xs y tied lt fit own none = harts_tied s p h d xs (set xs h y) y tied lt fit own (λ k. rw none (keep (eqb k h) (slice_get (set xs h y) k)))
-  where
-    keep : (b : Bool) (o : Option HartState) → o ≡ option_map (lost_unless b []) o
-    keep true None = refl
-    keep false None = refl
-    keep true (Some x) = refl
-    keep false (Some x) = refl
+    go : (k ≡ h) ⊎ (k ≢ h) → slice_get ys k ≡ Some (hart_at s (apply h d p) k (credit_of xs k))
+    go (inl same) = subst (λ j. slice_get ys j ≡ Some (hart_at s (apply h d p) j (credit_of xs j))) (sym same) (lose h ∙ own_lost ∙ ap Some (own ∙ sym (hart_own s p h d (credit_of xs h))))
+    go (inr ne) = lose k ∙ other_lost ne ∙ ap Some (sym (hart_other s p h k d (credit_of xs k) ne fit))

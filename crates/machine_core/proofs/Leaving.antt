@@ -17,7 +17,7 @@ use Rattle.block_model.specs.Deciding.{number_of}
 use Rattle.block_model.specs.Plain.{here_of, plain_seen}
 use Rattle.block_model.proofs.Laws.{ready_listed, running_is}
 use Rattle.machine_core.specs.Deeds.{entry_from}
-use Rattle.machine_core.specs.Harts.{file_on, hart_at}
+use Rattle.machine_core.specs.Harts.{credit_of, file_on, hart_at}
 use Rattle.machine_core.specs.Tied.{IsPlace}
 use Rattle.machine_core.specs.declared.parts.Parts.{Parts}
 use Rattle.machine_core.proofs.Entries.{entry_preempt, leaver}
@@ -26,7 +26,7 @@ use Rattle.machine_core.proofs.Places.{hart_is, tables_at}
 
 -- the entry names the thread that runs on the hart, which is live and held, and isn't in the ready list; its file is the hart's
 pub record IsLeaving (v : Seen) (m : Parts) (h : Hart) (x : HartState) (e : Entry) : Type 0 where
-  pub own : x ≡ hart_at v.setting (plain_seen v) h.0
+  pub own : x ≡ hart_at v.setting (plain_seen v) h.0 (credit_of m.harts.items h.0)
   pub at : runs (here_of v h.0) ≡ Some e.tid.0
   pub runs : state_of e.tid.0 m.kernel.threads.threads ≡ Some (Running h)
   pub live : is_live e.tid.0 (plain_seen v).kernel.threads ≡ true
@@ -38,7 +38,7 @@ pub leaving : (v : Seen) (m : Parts) (h : Hart) (x : HartState) (e : Entry) → 
 leaving v m h x e place free value is =
     let own = hart_is v m h.0 x place value in
     let some = leaver (here_of v h.0) free in
-    let named : e.tid.0 ≡ number_of (runs (here_of v h.0)) = ap (λ (z : Entry). z.tid.0) (is ∙ entry_preempt v.setting (plain_seen v) h x own) in
+    let named : e.tid.0 ≡ number_of (runs (here_of v h.0)) = ap (λ (z : Entry). z.tid.0) (is ∙ entry_preempt _ v.setting (plain_seen v) h x own) in
     let its : e.tid.0 ≡ some.0 = named ∙ ap number_of some.1 in
     let at : runs (here_of v h.0) ≡ Some e.tid.0 = some.1 ∙ ap Some (sym its) in
     let harts = v.setting.limits.harts in

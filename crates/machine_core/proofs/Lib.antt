@@ -1,4 +1,8 @@
+mod Advanced
+mod Appending
 mod Calling
+mod Chosen
+mod Codes
 mod Draining
 mod Entries
 mod Events
@@ -7,7 +11,9 @@ mod Fetches
 mod HartEvents
 mod HartTies
 mod KernelTies
+pub mod Laws
 mod Leaving
+mod Lending
 mod Lookups
 mod Losing
 mod MemoryTies
@@ -16,6 +22,9 @@ mod Performing
 mod Places
 mod Planning
 mod Readings
+mod Ready
+mod Settled
 mod Sighted
 mod Starting
 mod Stepping
+mod Worked

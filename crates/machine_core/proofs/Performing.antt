@@ -15,7 +15,7 @@ use Rattle.block_model.specs.Events.{done_of}
 use Rattle.block_model.specs.Events.Exec.{by_outcome, outcome_of}
 use Rattle.block_model.specs.Plain.{here_of, plain_seen}
 use Rattle.block_model.specs.Setting.{Seen}
-use Rattle.machine_core.specs.Harts.{hart_at}
+use Rattle.machine_core.specs.Harts.{credit_of, hart_at}
 use Rattle.machine_core.specs.Planned.{IsPlanned}
 use Rattle.machine_core.specs.Tied.{IsPlace}
 use Rattle.machine_core.specs.declared.next.Next.{Next}
@@ -28,7 +28,7 @@ abbrev pub plain_next : Effect → Next
 plain_next e = record { effect = Some e; fault = None }
 
 pub record IsPerforming (v : Seen) (m : Parts) (h t : ℕ) (x : HartState) (e : Effect) : Type 0 where
-  pub own : x ≡ hart_at v.setting (plain_seen v) h
+  pub own : x ≡ hart_at v.setting (plain_seen v) h (credit_of m.harts.items h)
   pub outcome : Outcome
   pub same : outcome_on x (byte_in m.pages) e ≡ outcome
   pub done : done_of asked.Exec (here_of v h) ≡ by_outcome (here_of v h) t outcome
@@ -40,7 +40,7 @@ performing v m h x e place plan other value =
     record {
       own = own;
       outcome = outcome_of (here_of v h) plan.thread e;
-      same = outcome_same v.setting (plain_seen v) h plan.thread x (byte_in m.pages) e own plan.at place.tied.bytes;
+      same = outcome_same _ v.setting (plain_seen v) h plan.thread x (byte_in m.pages) e own plan.at place.tied.bytes;
       done = done_plain (here_of v h) plan.thread e plan.at (sym plan.fault) (sym plan.effect) other;
       ended = goes_on v m h (plain_seen v).kernel place (was_not_stuck v m h place);
     }
@@ -52,7 +52,7 @@ pub record MayPerform (m : Parts) (x : HartState) (e : Effect) : Type 0 where
 
 pub may_perform : (v : Seen) (m : Parts) (h : ℕ) (x : HartState) (e : Effect) → IsPlace v m h → IsPlanned v h (plain_next e) → x ≡ get_or m.harts.items h x → MayPerform m x e
 may_perform v m h x e place plan value = record {
-  allowed = not_refused v.setting (plain_seen v) h plan.thread x e (hart_is v m h x place value) plan.at (sym plan.fault) (sym plan.effect) plan.free;
+  allowed = not_refused _ v.setting (plain_seen v) h plan.thread x e (hart_is v m h x place value) plan.at (sym plan.fault) (sym plan.effect) plan.free;
   no_fault = no_fault (here_of v h) plan.thread (byte_in m.pages) (can_write_in m.pages) e place.tied.bytes place.tied.writable (sym plan.fault) (sym plan.effect);
 }
 

@@ -18,7 +18,7 @@ use Rattle.block_model.specs.Events.{refusal_of, done_of}
 use Rattle.block_model.specs.Plain.{here_of, plain_seen}
 use Rattle.block_model.specs.Tables.{IsTables}
 use Rattle.block_model.proofs.Laws.{IsFit, events_few, place_fit, place_good, ran_few, running_is}
-use Rattle.machine_core.specs.Harts.{hart_at}
+use Rattle.machine_core.specs.Harts.{credit_of, hart_at}
 use Rattle.machine_core.specs.Tied.{IsPlace}
 use Rattle.machine_core.specs.declared.parts.Parts.{Parts}
 
@@ -27,8 +27,8 @@ pub in_list : (v : Seen) (m : Parts) (h : ℕ) → IsPlace v m h → h < length 
 in_list v m h place = let lt = place.lt in let all = place.tied.all_harts in omega arith
 
 -- and it is the plain machine's
-pub hart_is : (v : Seen) (m : Parts) (h : ℕ) (x : HartState) → IsPlace v m h → x ≡ get_or m.harts.items h x → x ≡ hart_at v.setting (plain_seen v) h
-hart_is v m h x place value = got x (hart_at v.setting (plain_seen v) h) (sym (slice_get-get_or m.harts.items h x (in_list v m h place) ∙ ap Some (sym value)) ∙ place.tied.harts h place.lt)
+pub hart_is : (v : Seen) (m : Parts) (h : ℕ) (x : HartState) → IsPlace v m h → x ≡ get_or m.harts.items h x → x ≡ hart_at v.setting (plain_seen v) h (credit_of m.harts.items h)
+hart_is v m h x place value = got x (hart_at v.setting (plain_seen v) h (credit_of m.harts.items h)) (sym (slice_get-get_or m.harts.items h x (in_list v m h place) ∙ ap Some (sym value)) ∙ place.tied.harts h place.lt)
   where
     got : (a b : HartState) → Some a ≡ Some b → a ≡ b
     got a b same = cc

@@ -5,12 +5,13 @@ use Rattle.mach_types.specs.Bytes.{word_at}
 use Rattle.hart_state.specs.declared.hart.HartState.{HartState}
 use Rattle.page_map.specs.Map.{byte_in, can_write_in}
 use Rattle.rv_inst.specs.Execution.{seen_byte}
+use Rattle.block_model.specs.Choosing.{credit_at}
 use Rattle.block_model.specs.Here.{Here, is_writable, memory, view}
 use Rattle.block_model.specs.History.{History, console, events, here_in_history, ran}
 use Rattle.block_model.specs.Deciding.{history, over_at}
 use Rattle.block_model.specs.Plain.{Plain, plain_over, plain_seen}
 use Rattle.block_model.proofs.Laws.{same_here, same_state}
-use Rattle.machine_core.specs.Harts.{hart_at, hart_in}
+use Rattle.machine_core.specs.Harts.{credit_of, hart_at, hart_in}
 use Rattle.machine_core.specs.Tied.{IsMachine, seen, setting_of}
 use Rattle.machine_core.specs.declared.machine.Machine.TheInside.{Inside}
 
@@ -22,12 +23,13 @@ abbrev pub here_read : Inside → ℕ → Here
 here_read m h = here_in_history (setting_of m) (history_of m) h
 
 -- a hart of the machine
-pub hart_read : (m : Inside) (h : ℕ) (x : HartState) → IsMachine m → h < m.limits.harts → x ≡ get_or m.parts.harts.items h x → x ≡ hart_in (here_read m h) (ran h (history_of m)) (events h (history_of m))
+pub hart_read : (m : Inside) (h : ℕ) (x : HartState) → IsMachine m → h < m.limits.harts → x ≡ get_or m.parts.harts.items h x → x ≡ hart_in (here_read m h) (ran h (history_of m)) (events h (history_of m)) (credit_at (setting_of m) h (history_of m))
 hart_read m h x machine lt value =
     let all = machine.tied.all_harts in
     let in_list : h < length m.parts.harts.items = omega (arith, all, lt) in
-    same_Some x (hart_at (setting_of m) (plain_seen (seen m)) h) (sym (slice_get-get_or m.parts.harts.items h x in_list ∙ ap Some (sym value)) ∙ machine.tied.harts h lt)
-    ∙ ap (λ (p : Plain). hart_at (setting_of m) p h) (same_state (seen m) machine.run)
+    same_Some x (hart_at (setting_of m) (plain_seen (seen m)) h (credit_of m.parts.harts.items h)) (sym (slice_get-get_or m.parts.harts.items h x in_list ∙ ap Some (sym value)) ∙ machine.tied.harts h lt)
+    ∙ ap (λ (p : Plain). hart_at (setting_of m) p h (credit_of m.parts.harts.items h)) (same_state (seen m) machine.run)
+    ∙ ap (hart_in (here_read m h) (ran h (history_of m)) (events h (history_of m))) (machine.credits h lt)
 
 -- the bytes that were written to the console
 pub console_read : (m : Inside) → IsMachine m → m.parts.kernel.console ≡ console (setting_of m) (history_of m)
@@ -42,8 +44,8 @@ pub bytes_read : (m : Inside) (h : ℕ) → IsMachine m → byte_in m.parts.page
 bytes_read m h machine = machine.tied.bytes ∙ ap memory (same_here (seen m) h machine.run)
 
 -- a word behind the waiting stores of a hart is that of its view
-pub word_read : (m : Inside) (h : ℕ) (x : HartState) (n k at size : ℕ) → IsMachine m → x ≡ hart_in (here_read m h) n k → word_at (seen_byte x.buffer (byte_in m.parts.pages)) at size ≡ word_at (view (here_read m h)) at size
-word_read m h x n k at size machine is =
+pub word_read : (m : Inside) (h : ℕ) (x : HartState) (n k credit at size : ℕ) → IsMachine m → x ≡ hart_in (here_read m h) n k credit → word_at (seen_byte x.buffer (byte_in m.parts.pages)) at size ≡ word_at (view (here_read m h)) at size
+word_read m h x n k credit at size machine is =
     ap (λ (y : HartState). word_at (seen_byte y.buffer (byte_in m.parts.pages)) at size) is
     ∙ ap (λ (b : ℕ → Option ℕ). word_at (seen_byte (here_read m h).waiting b) at size) (bytes_read m h machine)
 

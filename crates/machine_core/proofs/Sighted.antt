@@ -25,8 +25,8 @@ effect_by : (here : Here) (o : Option ℕ) → is_some (option_map thread o) ≡
 effect_by here None busy = cc
 effect_by here (Some t) busy = refl
 
-pub effect_read : (here : Here) (x : HartState) (n k : ℕ) → x ≡ hart_in here n k → is_some x.running ≡ true → next_effect here.setting.program.pages (file_of x) ≡ effect_here here
-effect_read here x n k is busy =
+pub effect_read : (here : Here) (x : HartState) (n k credit : ℕ) → x ≡ hart_in here n k credit → is_some x.running ≡ true → next_effect here.setting.program.pages (file_of x) ≡ effect_here here
+effect_read here x n k credit is busy =
     ap (λ (y : HartState). next_effect here.setting.program.pages (file_of y)) is
     ∙ effect_by here (runs here) (sym (ap (λ (y : HartState). is_some y.running) is) ∙ busy)
 
@@ -35,8 +35,8 @@ idle_by : (o : Option ℕ) → not (is_some (option_map thread o)) ≡ is_none o
 idle_by None = refl
 idle_by (Some t) = refl
 
-pub idle_read : (here : Here) (x : HartState) (n k : ℕ) → x ≡ hart_in here n k → not (is_some x.running) ≡ is_none (runs here)
-idle_read here x n k is = ap (λ (y : HartState). not (is_some y.running)) is ∙ idle_by (runs here)
+pub idle_read : (here : Here) (x : HartState) (n k credit : ℕ) → x ≡ hart_in here n k credit → not (is_some x.running) ≡ is_none (runs here)
+idle_read here x n k credit is = ap (λ (y : HartState). not (is_some y.running)) is ∙ idle_by (runs here)
 
 -- the condition of an instruction that fails
 gate_by : (here : Here) (o : Option ℕ) →
@@ -46,12 +46,12 @@ gate_by : (here : Here) (o : Option ℕ) →
 gate_by here None = refl
 gate_by here (Some t) = refl
 
-pub gate_read : (here : Here) (x : HartState) (n k : ℕ) (byte : ℕ → Option ℕ) (writable : ℕ → Bool) → x ≡ hart_in here n k → byte ≡ memory here → writable ≡ is_writable here →
+pub gate_read : (here : Here) (x : HartState) (n k credit : ℕ) (byte : ℕ → Option ℕ) (writable : ℕ → Bool) → x ≡ hart_in here n k credit → byte ≡ memory here → writable ≡ is_writable here →
     exec_refusal x (next_effect here.setting.program.pages (file_of x)) (is_some (next_fault here.setting.program.pages byte writable (file_of x))) ≡ refusal_exec here
-gate_read here x n k byte writable is bytes writables =
+gate_read here x n k credit byte writable is bytes writables =
     ap (λ (y : HartState). exec_refusal y (next_effect here.setting.program.pages (file_of y)) (is_some (next_fault here.setting.program.pages byte writable (file_of y)))) is
-    ∙ ap (λ (b : ℕ → Option ℕ). exec_refusal (hart_in here n k) (next_effect here.setting.program.pages (file_of (hart_in here n k))) (is_some (next_fault here.setting.program.pages b writable (file_of (hart_in here n k))))) bytes
-    ∙ ap (λ (w : ℕ → Bool). exec_refusal (hart_in here n k) (next_effect here.setting.program.pages (file_of (hart_in here n k))) (is_some (next_fault here.setting.program.pages (memory here) w (file_of (hart_in here n k))))) writables
+    ∙ ap (λ (b : ℕ → Option ℕ). exec_refusal (hart_in here n k credit) (next_effect here.setting.program.pages (file_of (hart_in here n k credit))) (is_some (next_fault here.setting.program.pages b writable (file_of (hart_in here n k credit))))) bytes
+    ∙ ap (λ (w : ℕ → Bool). exec_refusal (hart_in here n k credit) (next_effect here.setting.program.pages (file_of (hart_in here n k credit))) (is_some (next_fault here.setting.program.pages (memory here) w (file_of (hart_in here n k credit))))) writables
     ∙ gate_by here (runs here)
 
 -- an instruction touches registers alone, and has no fault, where its effect sets a register and does no more
@@ -68,8 +68,8 @@ local_by : (here : Here) (o : Option ℕ) → (is_some (option_map thread o) && 
 local_by here None = refl
 local_by here (Some t) = next_local (memory here) (is_writable here) here.setting.program.pages (here.file t)
 
-pub local_read : (here : Here) (x : HartState) (n k : ℕ) → x ≡ hart_in here n k → (is_some x.running && option_map_or sets_register (next_effect here.setting.program.pages (file_of x)) false) ≡ is_local_on here (runs here)
-local_read here x n k is = ap (λ (y : HartState). is_some y.running && option_map_or sets_register (next_effect here.setting.program.pages (file_of y)) false) is ∙ local_by here (runs here)
+pub local_read : (here : Here) (x : HartState) (n k credit : ℕ) → x ≡ hart_in here n k credit → (is_some x.running && option_map_or sets_register (next_effect here.setting.program.pages (file_of x)) false) ≡ is_local_on here (runs here)
+local_read here x n k credit is = ap (λ (y : HartState). is_some y.running && option_map_or sets_register (next_effect here.setting.program.pages (file_of y)) false) is ∙ local_by here (runs here)
 
 -- a test that is made on a hart with a thread alone
 pub tested : (busy idle answer test : Bool) → idle ≡ not busy → idle ≡ false → answer ≡ test → answer ≡ (busy && test)

@@ -2,7 +2,7 @@
 use Rattle.std.proofs.Common.{◌≡◌, ℕ, nat_eq, zero, suc, ◌/◌, ◌<◌, arith, List, [], ◌∷◌, length, map, refl, sym, ap, ◌∙◌, cond, Bool, true, false, Option, Some, None, slice_get}
 use Rattle.std.specs.List.{All}
 use Rattle.std.proofs.lemmas.Option.{same_Some}
-use Rattle.std.specs.Option.{option_and_then}
+use Rattle.std.specs.Option.{option_and_then, option_map_or}
 use Rattle.mach_types.specs.Kernel.Pages.{can_read, can_write, is_in, permission_of}
 use Rattle.mach_types.specs.declared.limits.Limits.{Limits}
 use Rattle.mach_types.specs.declared.threads.Saved.{Saved}
@@ -10,6 +10,7 @@ use Rattle.elf_load.specs.Images.{IsPermission}
 use Rattle.elf_load.specs.Start.{image_run, program_of, return_run, stack_run, start_byte, start_file, start_runs}
 use Rattle.elf_load.specs.declared.image.Image.{Image}
 use Rattle.elf_load.specs.declared.image.ImagePage.{ImagePage}
+use Rattle.hart_state.specs.declared.hart.HartState.{HartState}
 use Rattle.hart_state.specs.State.{idle_hart}
 use Rattle.kernel_threads.specs.Table.{IsTable, saved_of, start_table}
 use Rattle.page_map.specs.Map.{byte_in, may_write, permission_in}
@@ -17,8 +18,11 @@ use Rattle.page_map.proofs.Laws.{write_alone}
 use Rattle.block_model.specs.Kernel.{first_kernel}
 use Rattle.block_model.specs.Plain.{plain_start}
 use Rattle.block_model.specs.Setting.{Setting, setting_of as setting_by}
-use Rattle.machine_core.specs.Harts.{hart_at}
-use Rattle.machine_core.specs.Tied.{IsTied}
+use Rattle.chooser.specs.Generators.{first_generators, generator_in}
+use Rattle.block_model.specs.Choosing.{all_chosen, credit_at}
+use Rattle.block_model.specs.Deciding.{history}
+use Rattle.machine_core.specs.Harts.{credit_of, hart_at}
+use Rattle.machine_core.specs.Tied.{IsTied, generator_at}
 use Rattle.machine_core.specs.declared.parts.Parts.{Parts}
 use mathlib.Core.Path.{fun_ext}
 
@@ -29,7 +33,7 @@ each x (y ∷ ys) zero all lt = ap Some (all zero y (omega arith))
 each x (y ∷ ys) (suc i) all lt = each x ys i (λ k d less. all (suc k) d (omega arith)) (omega arith)
 
 -- an idle hart is what the plain machine says at its start
-idle : (s : Setting) (h : ℕ) → idle_hart ≡ hart_at s (plain_start s) h
+idle : (s : Setting) (h : ℕ) → idle_hart ≡ hart_at s (plain_start s) h 0
 idle s h = refl
 
 alone_if : (b : Bool) (p : ℕ) (o : Option ℕ) → may_write (Some p) ≡ can_write (Some p) → may_write o ≡ can_write o → may_write (cond b (Some p) o) ≡ can_write (cond b (Some p) o)
@@ -65,7 +69,10 @@ pub tied-start : (image : Image) (limits : Limits) (seed : ℕ) (m : Parts) → 
     IsTied (setting_by image limits seed) (plain_start (setting_by image limits seed)) m
 tied-start image limits seed m allowed permissions bytes count idles threads ready console table ended = record {
   all_harts = count;
-  harts = λ h lt. each idle_hart m.harts.items h idles (omega (arith, count)) ∙ ap Some (idle (setting_by image limits seed) h);
+  harts = λ h lt.
+      let at = each idle_hart m.harts.items h idles (omega (arith, count)) in
+      let none : credit_of m.harts.items h ≡ 0 = ap (λ o. option_map_or (λ (x : HartState). x.credit) o 0) at in
+      at ∙ (ap Some (idle (setting_by image limits seed) h) ∙ ap (λ n. Some (hart_at (setting_by image limits seed) (plain_start (setting_by image limits seed)) h n)) (sym none));
   bytes = fun_ext bytes;
   writable = fun_ext (λ a. ap may_write (permissions (a / 4096)) ∙ start_alone image.pages.items (a / 4096) allowed);
   threads = ap (λ t. t.threads) threads;
@@ -75,3 +82,26 @@ tied-start image limits seed m allowed permissions bytes count idles threads rea
   saved = λ u x is. saved_start (start_file (program_of image)) u x (ap (λ t. saved_of u t.saved) (sym threads) ∙ is);
   ended = ended;
 }
+
+-- no entry is of another choice at the start
+pub none_made : (s : Setting) → true ≡ all_chosen s (history s [])
+unfolding history
+none_made s = refl
+
+-- no hart has a credit there
+pub credits_start : (s : Setting) (harts : List HartState) (h : ℕ) → All (λ hart. hart ≡ idle_hart) harts → h < length harts → credit_of harts h ≡ credit_at s h (history s [])
+unfolding credit_at history
+credits_start s harts h idles lt = ap (λ o. option_map_or (λ (x : HartState). x.credit) o 0) (each idle_hart harts h idles lt)
+
+-- and no generator gave a word
+pub generators_start : (s : Setting) (h : ℕ) → h < 8 → generator_in (first_generators s.seed) h ≡ generator_at s h (history s [])
+unfolding history
+generators_start s zero lt = refl
+generators_start s (suc zero) lt = refl
+generators_start s (suc (suc zero)) lt = refl
+generators_start s (suc (suc (suc zero))) lt = refl
+generators_start s (suc (suc (suc (suc zero)))) lt = refl
+generators_start s (suc (suc (suc (suc (suc zero))))) lt = refl
+generators_start s (suc (suc (suc (suc (suc (suc zero)))))) lt = refl
+generators_start s (suc (suc (suc (suc (suc (suc (suc zero))))))) lt = refl
+generators_start s (suc (suc (suc (suc (suc (suc (suc (suc h)))))))) lt = absurd (omega (arith, lt))

@@ -37,7 +37,7 @@ pub record IsStep (v : Seen) (h : Hart) (c : Choice) (e : Entry) (m' : Parts) : 
   pub run : IsBlockRun v.setting (v.log ++ e ∷ [])
   pub tied : IsTied v.setting (plain_after v.setting (v.log ++ e ∷ [])) m'
 
-pub stepped : (v : Seen) (m m' : Parts) (h : Hart) (c : Choice) (r : Result Entry Why) (e : Entry) → IsPlace v m h.0 → r ≡ answer_to v h.0 c → r ≡ Ok e → IsAfter v h.0 (done_of c (here_of v h.0)) m' → IsStep v h c e m'
+pub stepped : (v : Seen) (m m' : Parts) (h : Hart) (c : Choice) (r : Result Entry Why) (e : Entry) → IsPlace v m h.0 → r ≡ answer_to v h.0 c → r ≡ Ok e → IsAfter v h.0 (done_of c (here_of v h.0)) m m' → IsStep v h c e m'
 stepped v m m' h c r e place answer is after =
     let decided = at_kind v h.0 c place.run place.goes place.room place.lt ∙ answer_ok (entry_in c (here_of v h.0)) e (refusal_of c (here_of v h.0)) (sym answer ∙ is) in
     let of = decided_is v.setting (history v.setting v.log) h.0 c e decided in
@@ -50,7 +50,7 @@ stepped v m m' h c r e place answer is after =
       hart = ap (λ n. record { 0 = n }) of.0;
       choice = of.1;
       run = run_on v h.0 c e place.run decided;
-      tied = subst (λ p. IsTied v.setting p m') (sym next) after;
+      tied = subst (λ p. IsTied v.setting p m') (sym next) after.tied;
     }
 
 -- the place of a machine whose run goes on

@@ -1,6 +1,6 @@
 -- What is kept of one hart, as a rule may read it at a place.
-use Rattle.std.specs.Prelude.{ℕ, false, Option, Some, None}
-use Rattle.std.specs.Option.{option_map}
+use Rattle.std.specs.Prelude.{ℕ, false, List, Option, Some, None, slice_get}
+use Rattle.std.specs.Option.{option_map, option_map_or}
 use Rattle.mach_types.specs.Registers.{no_registers}
 use Rattle.mach_types.specs.declared.threads.Saved.{Saved}
 use Rattle.hart_state.specs.declared.hart.HartState.{HartState}
@@ -15,10 +15,10 @@ file_on here None = record { file = no_registers; pc = 0 }
 file_on here (Some t) = here.file t
 
 -- the state of the hart: its thread, that thread's registers and pc; its waiting stores and its reservation; how many
--- instructions it executed since a thread began to run there, and how many events it made. No barrier asks for anything,
--- no thread holds another id than 0, and no choice has given a credit
-abbrev pub hart_in : Here → ℕ → ℕ → HartState
-hart_in here ran events = record {
+-- instructions it executed since a thread began to run there, how many events it made, and its credit. No barrier asks for
+-- anything, and no thread holds another id than 0
+abbrev pub hart_in : Here → ℕ → ℕ → ℕ → HartState
+hart_in here ran events credit = record {
   file = (file_on here (runs here)).file;
   pc = (file_on here (runs here)).pc;
   buffer = here.waiting;
@@ -28,7 +28,7 @@ hart_in here ran events = record {
   waits = None;
   reserved = here.reserved;
   ran = ran;
-  credit = 0;
+  credit = credit;
   events = events;
   cid = 0;
 }
@@ -37,6 +37,10 @@ hart_in here ran events = record {
 abbrev pub file_of : HartState → Saved
 file_of x = record { file = x.file; pc = x.pc }
 
--- the state of hart h of the plain machine
-abbrev pub hart_at : Setting → Plain → ℕ → HartState
-hart_at s p h = hart_in (here_in_plain s p h) (p.ran h) (p.events h)
+-- the state of hart h of the plain machine, which knows no credit, with this one
+abbrev pub hart_at : Setting → Plain → ℕ → ℕ → HartState
+hart_at s p h credit = hart_in (here_in_plain s p h) (p.ran h) (p.events h) credit
+
+-- the credit of hart h among harts
+abbrev pub credit_of : List HartState → ℕ → ℕ
+credit_of harts h = option_map_or (λ (x : HartState). x.credit) (slice_get harts h) 0

@@ -31,4 +31,4 @@ pub record HasPlan (m : Parts) (h : ℕ) (next : Next) : Type 0 where
 -- at each place where this is planned the entry is that of the event, and the parts are those after it
 pub record IsExecuted (m : Parts) (h : ℕ) (next : Next) (made : Entry) (m' : Parts) : Type 0 where
   pub entry : (v : Seen) → IsPlace v m h → IsPlanned v h next → made ≡ entry_in asked.Exec (here_of v h)
-  pub after : (v : Seen) → IsPlace v m h → IsPlanned v h next → IsAfter v h (done_of asked.Exec (here_of v h)) m'
+  pub after : (v : Seen) → IsPlace v m h → IsPlanned v h next → IsAfter v h (done_of asked.Exec (here_of v h)) m m'

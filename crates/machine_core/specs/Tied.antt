@@ -1,5 +1,5 @@
 -- How what a machine keeps is tied to its log, by way of the plain machine.
-use Rattle.std.specs.Prelude.{ℕ, ◌≡◌, ◌≤◌, ◌<◌, List, length, Option, Some, None, Result, Ok, Err, slice_get, vec_capacity}
+use Rattle.std.specs.Prelude.{ℕ, ◌≡◌, ◌≤◌, ◌<◌, true, List, length, Option, Some, None, Result, Ok, Err, slice_get, vec_capacity}
 use Rattle.mach_types.specs.Limits.{InRange}
 use Rattle.mach_types.specs.declared.events.Choice.{Choice}
 use Rattle.mach_types.specs.declared.events.Entry.{Entry}
@@ -12,17 +12,20 @@ use Rattle.block_model.specs.Setting.{Setting, Seen}
 use Rattle.block_model.specs.Here.{Done, memory_in, writable_in}
 use Rattle.block_model.specs.Events.{refusal_of, done_of}
 use Rattle.block_model.specs.Plain.{Plain, apply, here_of, plain_over, plain_seen}
-use Rattle.block_model.specs.Deciding.{entry_in}
+use Rattle.chooser.specs.Generators.{Generator, after_words, first_generator, generator_in}
+use Rattle.block_model.specs.Choosing.{all_chosen, credit_at, luck}
+use Rattle.block_model.specs.Deciding.{entry_in, history}
+use Rattle.block_model.specs.History.{History}
 use Rattle.block_model.specs.Run.{IsBlockRun}
-use Rattle.machine_core.specs.Harts.{hart_at}
+use Rattle.machine_core.specs.Harts.{credit_of, hart_at}
 use Rattle.machine_core.specs.declared.parts.Parts.{Parts}
 use Rattle.machine_core.specs.declared.machine.Machine.TheInside.{Inside}
 
--- each part is that of the plain machine: the harts; memory; the threads with their files, the ready list and the console; and
+-- each part is that of the plain machine: the harts, but for their credits; memory; the threads with their files, the ready list and the console; and
 -- how the run has ended
 pub record IsTied (s : Setting) (p : Plain) (m : Parts) : Type 0 where
   pub all_harts : length m.harts.items ≡ s.limits.harts
-  pub harts : (h : ℕ) → h < s.limits.harts → slice_get m.harts.items h ≡ Some (hart_at s p h)
+  pub harts : (h : ℕ) → h < s.limits.harts → slice_get m.harts.items h ≡ Some (hart_at s p h (credit_of m.harts.items h))
   pub bytes : byte_in m.pages ≡ memory_in p.kernel p.byte
   pub writable : can_write_in m.pages ≡ writable_in p.kernel
   pub threads : m.kernel.threads.threads ≡ p.kernel.threads
@@ -65,14 +68,15 @@ answered entry (Some why) = Err why
 abbrev pub answer_to : Seen → ℕ → Choice → Result Entry Why
 answer_to v h c = answered (entry_in c (here_of v h)) (refusal_of c (here_of v h))
 
--- the parts after an event of hart h that did this
-abbrev pub IsAfter : Seen → ℕ → Done → Parts → Type 0
-IsAfter v h d m = IsTied v.setting (apply h d (plain_seen v)) m
+-- the parts after an event of hart h that did this; no event changes a credit
+pub record IsAfter (v : Seen) (h : ℕ) (d : Done) (m m' : Parts) : Type 0 where
+  pub tied : IsTied v.setting (apply h d (plain_seen v)) m'
+  pub credits : (k : ℕ) → credit_of m'.harts.items k ≡ credit_of m.harts.items k
 
 -- at each place where the choice is allowed this is its entry, and the parts are those after its event
 pub record IsEvent (m : Parts) (h : ℕ) (c : Choice) (made : Entry) (m' : Parts) : Type 0 where
   pub entry : (v : Seen) → IsPlace v m h → refusal_of c (here_of v h) ≡ None → made ≡ entry_in c (here_of v h)
-  pub after : (v : Seen) → IsPlace v m h → refusal_of c (here_of v h) ≡ None → IsAfter v h (done_of c (here_of v h)) m'
+  pub after : (v : Seen) → IsPlace v m h → refusal_of c (here_of v h) ≡ None → IsAfter v h (done_of c (here_of v h)) m m'
 
 -- the setting that a machine keeps
 abbrev pub setting_of : Inside → Setting
@@ -86,9 +90,22 @@ setting_of m = record {
 abbrev pub seen : Inside → Seen
 seen m = record { setting = setting_of m; log = m.log.items }
 
--- the log is a block run to which the parts are tied, and has room for every step
+-- the history of a machine's log
+abbrev pub past_of : Inside → History
+past_of m = history (setting_of m) m.log.items
+
+-- the generator of hart h after the choices of a history
+abbrev pub generator_at : Setting → ℕ → History → Generator
+generator_at s h before = after_words (luck s h before).drawn (first_generator s.seed h)
+
+-- the log is a block run to which the parts are tied, and has room for every step; the credits are those that are shown, and
+-- where every entry was chosen as `run` does, the generators are those after their choices
 pub record IsMachine (m : Inside) : Type 0 where
   pub run : IsBlockRun (setting_of m) m.log.items
   pub tied : IsTied (setting_of m) (plain_seen (seen m)) m.parts
+  pub chosen : m.chosen ≡ all_chosen (setting_of m) (past_of m)
+  pub credits : (h : ℕ) → h < m.limits.harts → credit_of m.parts.harts.items h ≡ credit_at (setting_of m) h (past_of m)
+  pub generators : m.chosen ≡ true → (h : ℕ) → h < m.limits.harts → generator_in m.chooser h ≡ generator_at (setting_of m) h (past_of m)
+  pub held : length m.chooser ≡ 8
   pub limits : InRange m.limits
   pub room : m.limits.steps ≤ vec_capacity m.log

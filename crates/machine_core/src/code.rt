@@ -5,6 +5,7 @@ ghost use Rattle.std.specs.Option.{option_copied};
 ghost use Rattle.std.specs.List.Sorted.{IsStrictlyIncreasing};
 ghost use Rattle.elf_load.specs.Start.{code_word, page_of, return_byte};
 ghost use Rattle.machine_core.specs.Pages.{word_in, word_of, word_of_page};
+ghost use Rattle.machine_core.specs.Stretches.{code_of, is_executable};
 
 use crate::search::place_of;
 use elf_load::ImagePage;
@@ -12,11 +13,12 @@ use mach_types::address_space::{FIRST_STACK_PAGE, RETURN_PAGE, STACK_PAGES};
 use std::alloc::{AllocError, Global};
 use std::marker::Model;
 
-/// The pages of an image in rising order of number, with the numbers beside them for a search.
+/// Pages of a program in rising order of number, with the numbers beside them for a search.
 #[derive(Drop)]
 pub struct Code {
     numbers: Vec<u64>,
-    pages: Vec<ImagePage>,
+    /// The pages.
+    pub pages: Vec<ImagePage>,
 }
 
 impl Model for Code {
@@ -33,19 +35,27 @@ impl Model for Code {
 
 impl Code {
     /// A copy of these pages.
-    pub fn new(alloc: Global, pages: &[ImagePage]) -> Result<Code, AllocError>
+    pub(crate) fn new(alloc: Global, pages: &[ImagePage]) -> Result<Code, AllocError>
         requires { IsStrictlyIncreasing (map (λ p. p.number) pages.now) }
         ensures { IfOk result (λ copied. copied ≡ pages.now) }
     {
+        Code::numbered(alloc, pages.iter().map(copy_of).collect(alloc)?)
+    }
+
+    /// A copy of those of its pages that may be executed.
+    pub(crate) fn executable(&self, alloc: Global) -> Result<Code, AllocError>
+        ensures copied { IfOk result (λ copied. copied ≡ code_of self.now) }
+        ensures rising { IfOk result (λ copied. IsStrictlyIncreasing (map (λ p. p.number) self.now)) }
+    {
+        Code::numbered(alloc, executable_pages(alloc, &self.pages)?)
+    }
+
+    /// These pages, with their numbers.
+    fn numbered(alloc: Global, pages: Vec<ImagePage>) -> Result<Code, AllocError>
+        requires { IsStrictlyIncreasing (map (λ p. p.number) pages.items) }
+        ensures { IfOk result (λ numbered. numbered ≡ pages.items) }
+    {
         let numbers = pages.iter().map(|page| page.number).collect(alloc)?;
-        let pages = pages
-            .iter()
-            .map(|page| ImagePage {
-                number: page.number,
-                perm: page.perm,
-                bytes: page.bytes,
-            })
-            .collect(alloc)?;
         Ok(Code { numbers, pages })
     }
 
@@ -61,7 +71,7 @@ impl Code {
 
     /// The instruction word at an address that is a multiple of 4; None exactly where its bytes may not be
     /// executed.
-    pub fn fetch(&self, at: u64) -> Option<u32>
+    pub(crate) fn fetch(&self, at: u64) -> Option<u32>
         requires { at % 4 ≡ 0 }
         ensures { result ≡ code_word self.now at }
     {
@@ -74,6 +84,37 @@ impl Code {
             executable_word(self.page(number), at % 4096)
         }
     }
+}
+
+/// A copy of a page.
+fn copy_of(page: &ImagePage) -> ImagePage
+    ensures { result ≡ page.now }
+{
+    ImagePage {
+        number: page.number,
+        perm: page.perm,
+        bytes: page.bytes,
+    }
+}
+
+/// A copy of those pages that may be executed.
+fn executable_pages(alloc: Global, pages: &[ImagePage]) -> Result<Vec<ImagePage>, AllocError>
+    ensures { IfOk result (λ copies. copies.items ≡ code_of pages.now) }
+{
+    let mut copies = Vec::new(alloc);
+    for page in pages {
+        if is_executable(page) {
+            copies.push(copy_of(page))?;
+        }
+    }
+    Ok(copies)
+}
+
+/// Whether a page may be executed.
+fn is_executable(page: &ImagePage) -> bool
+    ensures { result ≡ is_executable page.now }
+{
+    page.perm & 1 != 0
 }
 
 /// The word at an offset of a page that may be executed, if there is one.

@@ -89,6 +89,7 @@ impl Parts {
     }
 
     /// A call.
+    #[inline(never)]
     fn call(&mut self, hart: Hart) -> Entry
         requires { HasPlan self.old hart.0 (record { effect = Some Effect.Call; fault = None }) }
         ensures { IsExecuted self.old hart.0 (record { effect = Some Effect.Call; fault = None }) result self.new }
@@ -136,7 +137,7 @@ impl Parts {
         requires { HasCode code.now self.old hart.0 }
         ensures answer { (v : Seen) → IsPlace v self.old hart.0 → code.now ≡ v.setting.program.pages → result ≡ answer_to v hart.0 Choice.Exec }
         ensures after { (v : Seen) → IsPlace v self.old hart.0 → code.now ≡ v.setting.program.pages
-            → IfOk result (λ e. IsAfter v hart.0 (done_of Choice.Exec (here_of v hart.0)) self.new) }
+            → IfOk result (λ e. IsAfter v hart.0 (done_of Choice.Exec (here_of v hart.0)) self.old self.new) }
         ensures err { OnErr result (self.new ≡ self.old) }
     {
         match self.planned(code, hart) {

@@ -5,14 +5,20 @@
 
 mod code;
 mod executing;
+mod following;
 mod machine;
 mod moving;
 mod next;
 mod parts;
 mod reservations;
 mod search;
+mod stretches;
 #[cfg(test)]
 mod tests;
+mod theorems;
 
 pub use block_model::Refused;
+pub use code::Code;
 pub use machine::Machine;
+pub use stretches::{Stretch, work};
+pub use theorems::code_is_enough;

@@ -11,11 +11,15 @@ ghost use Rattle.block_model.specs.History.{console as console_bytes};
 ghost use Rattle.block_model.specs.Deciding.{history, decide, end_of};
 ghost use Rattle.block_model.specs.Run.{IsBlockRun};
 
+mod choosing;
+mod lending;
 mod readers;
 
 use crate::code::Code;
+use crate::following::follow;
 use crate::parts::Parts;
 use block_model::Refused;
+use chooser::Chooser;
 use elf_load::Image;
 use frame_pool::FramePool;
 use hart_state::HartState;
@@ -40,6 +44,8 @@ pub struct Machine {
     seed: u64,
     parts: Parts,
     log: Vec<Entry>,
+    chooser: Chooser,
+    chosen: bool,
 }
 
 impl Model for Machine {
@@ -55,7 +61,7 @@ impl Model for Machine {
 }
 
 /// Appends an entry where there is room.
-fn append(log: &mut Vec<Entry>, entry: Entry)
+pub(crate) fn append(log: &mut Vec<Entry>, entry: Entry)
     requires { vec_len log.old < vec_capacity log.old }
     ensures items { log.new.items ≡ log.old.items ++ entry ∷ [] }
     ensures capacity { vec_capacity log.old ≤ vec_capacity log.new }
@@ -107,6 +113,7 @@ impl Machine {
         let console = Console::new(alloc)?;
         let log = Vec::with_capacity(alloc, limits.steps as usize)?;
         let ready = Ready::new(limits.harts);
+        let chooser = Chooser::new(seed);
         Ok(Machine {
             code,
             entry: image.entry,
@@ -126,6 +133,8 @@ impl Machine {
                 ended: None,
             },
             log,
+            chooser,
+            chosen: true,
         })
     }
 
@@ -172,9 +181,17 @@ impl Machine {
         if hart.0 >= self.limits.harts {
             return Err(Refused::NotEnabled(Why::NoHart));
         }
+        let sight = self.sight_if_chosen(hart);
         match self.parts.make(&self.code, hart, choice) {
             Ok(entry) => {
                 append(&mut self.log, entry);
+                self.chosen = follow(
+                    &mut self.parts.harts,
+                    &mut self.chooser,
+                    hart,
+                    choice,
+                    sight,
+                );
                 Ok(entry)
             }
             Err(why) => Err(Refused::NotEnabled(why)),

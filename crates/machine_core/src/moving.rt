@@ -42,7 +42,7 @@ impl Parts {
     pub fn drain(&mut self, hart: Hart) -> Result<Entry, Why>
         requires { HasPlace self.old hart.0 }
         ensures answer { (v : Seen) → IsPlace v self.old hart.0 → result ≡ answer_to v hart.0 Choice.Drain }
-        ensures after { (v : Seen) → IsPlace v self.old hart.0 → IfOk result (λ e. IsAfter v hart.0 (done_of Choice.Drain (here_of v hart.0)) self.new) }
+        ensures after { (v : Seen) → IsPlace v self.old hart.0 → IfOk result (λ e. IsAfter v hart.0 (done_of Choice.Drain (here_of v hart.0)) self.old self.new) }
         ensures err { OnErr result (self.new ≡ self.old) }
     {
         match self.refusal_drain(hart) {
@@ -84,7 +84,7 @@ impl Parts {
     pub fn preempt(&mut self, hart: Hart) -> Result<Entry, Why>
         requires { HasPlace self.old hart.0 }
         ensures answer { (v : Seen) → IsPlace v self.old hart.0 → result ≡ answer_to v hart.0 Choice.Preempt }
-        ensures after { (v : Seen) → IsPlace v self.old hart.0 → IfOk result (λ e. IsAfter v hart.0 (done_of Choice.Preempt (here_of v hart.0)) self.new) }
+        ensures after { (v : Seen) → IsPlace v self.old hart.0 → IfOk result (λ e. IsAfter v hart.0 (done_of Choice.Preempt (here_of v hart.0)) self.old self.new) }
         ensures err { OnErr result (self.new ≡ self.old) }
     {
         match self.refusal_preempt(hart) {
@@ -126,7 +126,7 @@ impl Parts {
     pub fn run(&mut self, hart: Hart, tid: Tid) -> Result<Entry, Why>
         requires { HasPlace self.old hart.0 }
         ensures answer { (v : Seen) → IsPlace v self.old hart.0 → result ≡ answer_to v hart.0 (Choice.Run tid) }
-        ensures after { (v : Seen) → IsPlace v self.old hart.0 → IfOk result (λ e. IsAfter v hart.0 (done_of (Choice.Run tid) (here_of v hart.0)) self.new) }
+        ensures after { (v : Seen) → IsPlace v self.old hart.0 → IfOk result (λ e. IsAfter v hart.0 (done_of (Choice.Run tid) (here_of v hart.0)) self.old self.new) }
         ensures err { OnErr result (self.new ≡ self.old) }
     {
         match self.refusal_run(hart, tid) {

@@ -67,11 +67,18 @@ fn fault_of_next(
     }
 }
 
+/// What the instruction at a pc asks for, with these registers, where it was fetched and has a row.
+pub fn effect_at(code: &Code, file: &Regs, pc: u64) -> Option<Effect>
+    ensures { result ≡ next_effect code.now (record { file = file.now; pc = pc }) }
+{
+    effect_of_word(fetched(code, pc), file, pc)
+}
+
 /// What the next instruction of the thread on a hart asks for, where it was fetched and has a row.
 pub fn effect_of_next(code: &Code, state: &HartState) -> Option<Effect>
     ensures { result ≡ next_effect code.now (file_of state.now) }
 {
-    effect_of_word(fetched(code, state.pc), &state.file, state.pc)
+    effect_at(code, &state.file, state.pc)
 }
 
 /// Whether an instruction with this effect sets a register and the pc, and does nothing else.
@@ -85,6 +92,7 @@ pub fn is_local(effect: Option<&Effect>) -> bool
 }
 
 /// The next instruction of the thread on a hart.
+#[inline(always)]
 pub fn next_of(code: &Code, pages: &PageMap, state: &HartState) -> Next
     ensures effect { result.effect ≡ next_effect code.now (file_of state.now) }
     ensures fault { result.fault ≡ next_fault code.now (byte_in pages.now) (can_write_in pages.now) (file_of state.now) }

@@ -70,11 +70,12 @@ impl Parts {
     }
 
     /// The event of a choice on a hart, or the first condition that fails; then nothing changes.
+    #[inline]
     pub fn make(&mut self, code: &Code, hart: Hart, choice: Choice) -> Result<Entry, Why>
         requires { HasCode code.now self.old hart.0 }
         ensures answer { (v : Seen) → IsPlace v self.old hart.0 → code.now ≡ v.setting.program.pages → result ≡ answer_to v hart.0 choice }
         ensures after { (v : Seen) → IsPlace v self.old hart.0 → code.now ≡ v.setting.program.pages
-            → IfOk result (λ e. IsAfter v hart.0 (done_of choice (here_of v hart.0)) self.new) }
+            → IfOk result (λ e. IsAfter v hart.0 (done_of choice (here_of v hart.0)) self.old self.new) }
         ensures err { OnErr result (self.new ≡ self.old) }
     {
         match choice {

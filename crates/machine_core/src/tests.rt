@@ -2,8 +2,10 @@
 
 mod bench;
 mod calls;
+mod choosing;
 mod events;
 mod faults;
+mod player;
 mod readers;
 mod reservations;
 mod threads;

@@ -2,7 +2,10 @@ mod Accesses
 mod Keeping
 pub mod Laws
 mod Maps
+mod Protecting
 mod Readings
+mod Removing
+mod Runs
 mod Starts
 mod Stores
 mod Tables

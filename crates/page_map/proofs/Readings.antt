@@ -142,3 +142,13 @@ pub fetch_in_page : (m : Map) (a : ℕ) (bytes : List ℕ) → bytes_if 1 (page_
 fetch_in_page m a bytes page small whole fits =
     sym (read_in_page 1 m a 4 bytes (Some (number_at bytes (a % 4096) 4)) page small whole fits (omega arith, refl))
     ∙ ap Some (number-four bytes (a % 4096))
+
+-- a byte of a page whose permission has a bit is the one that the page holds
+pub if-held : (bit offset : ℕ) (o : Option Page) → option_map (byte_at offset) (bytes_if bit o)
+    ≡ cond (lets bit (option_map (λ (p : Page). p.permission) o)) (option_map (λ (p : Page). byte_at offset p.bytes) o) None
+if-held bit offset None = refl
+if-held bit offset (Some p) = by_bit (lets bit (Some p.permission))
+  where
+    by_bit : (b : Bool) → option_map (byte_at offset) (cond b (Some p.bytes) None) ≡ cond b (Some (byte_at offset p.bytes)) None
+    by_bit true = refl
+    by_bit false = refl

@@ -1,5 +1,5 @@
 -- The pages of a process at its start.
-use Rattle.std.proofs.Common.{◌≡◌, ◌≢◌, ℕ, zero, suc, ◌+◌, ◌-◌, ◌*◌, ◌/◌, ◌%◌, ◌^◌, ◌<◌, ◌≤◌, ◌⊎◌, ◌&&◌, inl, inr, Bool, true, false, cond, List, [], ◌∷◌, ◌++◌, Option, Some, None, length, get_or, map, take, nat_eq, nat_le, nat_lt, slice_index, refl, sym, ap, ◌∙◌, subst, arith, add-one, eq-eqb}
+use Rattle.std.proofs.Common.{◌≡◌, ◌≢◌, ℕ, zero, suc, ◌+◌, ◌-◌, ◌*◌, ◌/◌, ◌%◌, ◌^◌, ◌<◌, ◌≤◌, ◌⊎◌, ◌&&◌, inl, inr, Bool, true, false, cond, List, [], ◌∷◌, ◌++◌, Option, Some, None, is_some, length, get_or, map, take, nat_eq, nat_le, nat_lt, slice_index, refl, sym, ap, ◌∙◌, subst, arith, add-one, eq-eqb}
 use Rattle.std.specs.Prelude.{All, IfSome}
 use Rattle.std.specs.Bool.{OnTrue}
 use Rattle.std.specs.List.Sorted.{IsStrictlyIncreasing}
@@ -9,15 +9,15 @@ use Rattle.std.proofs.lemmas.List.{length-take-le, take_more}
 use Rattle.std.proofs.Math.Nat.{zero-div}
 use Rattle.byte_views.specs.Words.{with_word}
 use Rattle.mach_types.specs.Bytes.{after_write, byte_of, byte_over, each_byte, overlay}
-use Rattle.mach_types.specs.Kernel.Pages.{can_read, is_in, lets, permission_of}
+use Rattle.mach_types.specs.Kernel.Pages.{is_in, lets, pages_of, permission_of}
 use Rattle.mach_types.specs.declared.address_space.TheConstants.{NAME_AT, START_SP}
 use Rattle.mach_types.specs.declared.user_memory.Store.{Store}
-use Rattle.elf_load.specs.Images.{numbers}
+use Rattle.elf_load.specs.Images.{end_of, numbers}
 use Rattle.elf_load.specs.Start.{Program, image_byte, image_run, loaded_byte, page_byte, page_of, return_byte, return_run, name_word, return_words, stack_run, start_byte, start_runs, start_stores, start_words, stored_from}
 use Rattle.elf_load.specs.declared.image.ImagePage.{ImagePage}
 use Rattle.frame_pool.specs.Pool.{fresh}
 use Rattle.frame_pool.proofs.Laws.{fresh-at}
-use Rattle.page_map.specs.Map.{Map, Page, byte_at, byte_if, byte_in, bytes_if, can_write_in, may_write, page_in, permission_in}
+use Rattle.page_map.specs.Map.{Map, Page, byte_at, byte_if, bytes_if, can_write_in, held_in, may_write, page_in, permission_in}
 use Rattle.page_map.specs.Starting.{IsStartPage, image_page, mapped_page, stack_page}
 use Rattle.page_map.proofs.Accesses.{each_byte-all}
 use Rattle.page_map.proofs.Stores.{length-with_word, with_word-after, with_word-before, with_word-inside}
@@ -282,45 +282,85 @@ next_stores at k ws lt =
     ∙ ap (λ n. let q : List Store = stored_from at (take k ws) ++ record { at = at + 8 * n; size = 8; value = get_or ws k 0 } ∷ [] in q) long
 
 -- one word more is written
-pub word_written : (m m' m'' : Map) (at k : ℕ) (ws : List ℕ) (made : Bool) → k < length ws
+pub word_written : (m m' : Map) (byte byte' byte'' : ℕ → Option ℕ) (at k : ℕ) (ws : List ℕ) (made : Bool) → k < length ws
     → ((j : ℕ) → j < 8 * length ws → can_write_in m (at + j) ≡ true)
-    → ((a : ℕ) → byte_in m' a ≡ option_map (overlay (stored_from at (take k ws)) a) (byte_in m a))
+    → ((a : ℕ) → byte' a ≡ option_map (overlay (stored_from at (take k ws)) a) (byte a))
     → ((n : ℕ) → permission_in m' n ≡ permission_in m n)
     → made ≡ each_byte (can_write_in m') (at + 8 * k) 8
-    → ((a : ℕ) → byte_in m'' a ≡ after_write made (record { at = at + 8 * k; size = 8; value = get_or ws k 0 }) (byte_in m') a)
-    → (a : ℕ) → byte_in m'' a ≡ option_map (overlay (stored_from at (take (k + 1) ws)) a) (byte_in m a)
-word_written m m' m'' at k ws made lt room before same answer step a =
+    → ((a : ℕ) → byte'' a ≡ after_write made (record { at = at + 8 * k; size = 8; value = get_or ws k 0 }) byte' a)
+    → (a : ℕ) → byte'' a ≡ option_map (overlay (stored_from at (take (k + 1) ws)) a) (byte a)
+word_written m m' byte byte' byte'' at k ws made lt room before same answer step a =
     let store : Store = record { at = at + 8 * k; size = 8; value = get_or ws k 0 } in
     let done : made ≡ true = answer ∙ each_byte-all (can_write_in m') (at + 8 * k) 8 (λ j few.
     let there : at + 8 * k + j ≡ at + (8 * k + j) = omega arith in
     ap may_write (same ((at + 8 * k + j) / 4096)) ∙ ap (can_write_in m) there ∙ room (8 * k + j) (omega arith)) in
-    step a ∙ ap (λ b. after_write b store (byte_in m') a) done
+    step a ∙ ap (λ b. after_write b store byte' a) done
     ∙ ap (option_map (byte_over store a)) (before a)
-    ∙ two_maps (stored_from at (take k ws)) (store ∷ []) a (byte_in m a)
-    ∙ ap (λ (ss : List Store). option_map (overlay ss a) (byte_in m a)) (sym (next_stores at k ws lt))
+    ∙ two_maps (stored_from at (take k ws)) (store ∷ []) a (byte a)
+    ∙ ap (λ (ss : List Store). option_map (overlay ss a) (byte a)) (sym (next_stores at k ws lt))
 
 mapped_if : (b : Bool) (f : ℕ → ℕ) (x : ℕ) → option_map f (cond b (Some x) None) ≡ cond b (Some (f x)) None
 mapped_if true f x = refl
 mapped_if false f x = refl
-
--- a byte of memory once the kernel has written the stack
-pub booted-byte : (m0 m1 m2 : Map) (p : Program) (words : List ℕ) (a : ℕ) → words ≡ start_words p
-    → IsStartPage p.pages (a / 4096) (page_in m0 (a / 4096))
-    → byte_in m1 a ≡ option_map (overlay (stored_from START_SP words) a) (byte_in m0 a)
-    → byte_in m2 a ≡ option_map (overlay (stored_from NAME_AT (name_word ∷ [])) a) (byte_in m1 a)
-    → byte_in m2 a ≡ cond (can_read (permission_of (start_runs p.pages) (a / 4096))) (Some (start_byte p a)) None
-booted-byte m0 m1 m2 p words a are start first second =
-    let name : List Store = stored_from NAME_AT (name_word ∷ []) in
-    second ∙ ap (option_map (overlay name a)) (first ∙ ap (option_map (overlay (stored_from START_SP words) a)) (laid-byte 4 m0 p.pages a start))
-    ∙ two_maps (stored_from START_SP words) name a (cond (can_read (permission_of (start_runs p.pages) (a / 4096))) (Some (loaded_byte p.pages a)) None)
-    ∙ ap (λ (ws : List ℕ). option_map (overlay (stored_from START_SP ws ++ name) a) (cond (can_read (permission_of (start_runs p.pages) (a / 4096))) (Some (loaded_byte p.pages a)) None)) are
-    ∙ mapped_if (can_read (permission_of (start_runs p.pages) (a / 4096))) (overlay (start_stores p) a) (loaded_byte p.pages a)
 
 -- within a list, the default doesn't matter
 pub get_or-default : (xs : List ImagePage) (i : ℕ) (d : ImagePage) → i < length xs → get_or xs i d ≡ get_or xs i (get_or xs i d)
 get_or-default [] i d lt = absurd (omega arith)
 get_or-default (x ∷ xs) zero d lt = refl
 get_or-default (x ∷ xs) (suc i) d lt = get_or-default xs i d (omega arith)
+
+length-numbers : (pages : List ImagePage) → length (numbers pages) ≡ length pages
+length-numbers [] = refl
+length-numbers (p ∷ pages) = ap suc (length-numbers pages)
+
+-- a byte once the kernel has written the stack
+pub booted : (byte0 byte1 byte2 : Option ℕ) (there : Bool) (p : Program) (words : List ℕ) (a : ℕ) → words ≡ start_words p
+    → byte0 ≡ cond there (Some (loaded_byte p.pages a)) None
+    → byte1 ≡ option_map (overlay (stored_from START_SP words) a) byte0
+    → byte2 ≡ option_map (overlay (stored_from NAME_AT (name_word ∷ [])) a) byte1
+    → byte2 ≡ cond there (Some (start_byte p a)) None
+booted byte0 byte1 byte2 there p words a are start first second =
+    let name : List Store = stored_from NAME_AT (name_word ∷ []) in
+    second ∙ ap (option_map (overlay name a)) (first ∙ ap (option_map (overlay (stored_from START_SP words) a)) start)
+    ∙ two_maps (stored_from START_SP words) name a (cond there (Some (loaded_byte p.pages a)) None)
+    ∙ ap (λ (ws : List ℕ). option_map (overlay (stored_from START_SP ws ++ name) a) (cond there (Some (loaded_byte p.pages a)) None)) are
+    ∙ mapped_if there (overlay (start_stores p) a) (loaded_byte p.pages a)
+
+held-if : (offset byte : ℕ) (o : Option Page) (permission : Option ℕ) → option_map (λ (p : Page). p.permission) o ≡ permission
+    → IfSome o (λ p. slice_index p.bytes offset % 256 ≡ byte) → option_map (λ (p : Page). byte_at offset p.bytes) o ≡ cond (is_some permission) (Some byte) None
+held-if offset byte None permission is there = rw (← is) refl
+held-if offset byte (Some p) permission is there = rw (← is) (ap Some there)
+
+-- a byte before the kernel writes the stack, where its page is mapped
+pub laid-held : (m : Map) (pages : List ImagePage) (a : ℕ) → IsStartPage pages (a / 4096) (page_in m (a / 4096))
+    → held_in m a ≡ cond (is_some (permission_of (start_runs pages) (a / 4096))) (Some (loaded_byte pages a)) None
+laid-held m pages a start =
+    held-if (a % 4096) (loaded_byte pages a) (page_in m (a / 4096)) (permission_of (start_runs pages) (a / 4096)) start.permission
+    (at-offset (page_in m (a / 4096)) (a % 4096) (page_byte pages (a / 4096)) start.bytes)
+
+-- each page of an image lies below the end of its last one
+pub below-end : (pages : List ImagePage) (at : ℕ) → IsStrictlyIncreasing (numbers pages) → at ≡ end_of pages
+    → All (λ (p : ImagePage). p.number < pages_of at) pages
+below-end pages at up is k d lt =
+    let here = number-at pages k (get_or pages k d) (get_or-default pages k d lt) lt in
+    let size : length (numbers pages) ≡ length pages = length-numbers pages in
+    let last : get_or (numbers pages) k 0 ≤ get_or (numbers pages) (length pages - 1) 0 = elim (cases_eq k (length pages - 1)) [
+      | inl same ↦ rw same (omega arith)
+      | inr two ↦ let less = rises (numbers pages) k (length pages - 1) up (omega arith) (omega arith) in omega (arith, less)
+    ] in
+    let number : get_or (numbers pages) k 0 ≡ (get_or pages k d).number = here.0 in
+    omega arith
+
+-- and so the end is at most where mappings begin
+pub end-below : (pages : List ImagePage) → All (λ (p : ImagePage). p.number < 33554432) pages → 0 < length pages → end_of pages ≤ 137438953472
+end-below [] below some = absurd (omega arith)
+end-below (p ∷ pages) below some =
+    let all : List ImagePage = p ∷ pages in
+    let last : ImagePage = get_or all (length all - 1) p in
+    let here = number-at all (length all - 1) last (get_or-default all (length all - 1) p (omega arith)) (omega arith) in
+    let small : last.number < 33554432 = below (length all - 1) p (omega arith) in
+    let number : get_or (numbers all) (length all - 1) 0 ≡ last.number = here.0 in
+    omega arith
 
 -- a page more has small bytes
 pub small-next : (o new : Option Page) (here : Bool) (permission : ℕ) (bytes : List ℕ)

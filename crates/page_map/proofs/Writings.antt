@@ -7,7 +7,7 @@ use Rattle.byte_views.specs.Words.{with_word}
 use Rattle.mach_types.specs.Bytes.{after_write, byte_over, each_byte, stored}
 use Rattle.mach_types.specs.Kernel.Pages.{can_execute, can_write, lets}
 use Rattle.elf_load.specs.Images.{IsPermission}
-use Rattle.page_map.specs.Map.{Map, Page, byte_at, byte_if, byte_in, bytes_if, can_write_in, code_in, may_write, page_in, page_with, permission_in}
+use Rattle.page_map.specs.Map.{Map, Page, byte_at, byte_if, bytes_if, can_write_in, code_in, held_in, may_write, page_in, page_with, permission_in}
 use Rattle.page_map.proofs.Accesses.{each_byte-all, each_byte-at}
 use Rattle.page_map.proofs.Stores.{over-elsewhere, stored-in_page, stored-more}
 
@@ -78,6 +78,26 @@ module _ (m m' : Map) (at size v : ℕ)
     | inr two ↦ ap (λ o. option_map (byte_at (a % 4096)) (bytes_if 1 o)) (page-other (a / 4096) two)
   ]
 
+held-here : (o : Option Page) (a at size v : ℕ) → IfSome o (λ p. length p.bytes ≡ 4096) → at % 4096 + size ≤ 4096 → a / 4096 ≡ at / 4096
+    → option_map (λ (p : Page). byte_at (a % 4096) p.bytes) (option_map (page_with (at % 4096) size v) o)
+    ≡ option_map (byte_over (record { at = at; size = size; value = v }) a) (option_map (λ (p : Page). byte_at (a % 4096) p.bytes) o)
+held-here None a at size v whole fits page = refl
+held-here (Some p) a at size v whole fits page = ap Some (stored-in_page p.bytes a at size v whole fits page)
+
+-- and so the bytes that pages hold are stored, whether or not they can be read
+pub made-held : (m m' : Map) (at size v : ℕ)
+    → ((n : ℕ) → page_in m' n ≡ cond (nat_eq n (at / 4096)) (option_map (page_with (at % 4096) size v) (page_in m n)) (page_in m n))
+    → at % 4096 + size ≤ 4096 → IfSome (page_in m (at / 4096)) (λ p. length p.bytes ≡ 4096) → (a : ℕ)
+    → held_in m' a ≡ stored (record { at = at; size = size; value = v }) (held_in m) a
+made-held m m' at size v pages fits whole a = elim (cases_eq (a / 4096) (at / 4096)) [
+  | inl same ↦
+      ap (option_map (λ (p : Page). byte_at (a % 4096) p.bytes)) (page-here m m' at size v pages (a / 4096) same)
+      ∙ held-here (page_in m (a / 4096)) a at size v (rw same whole) fits same
+  | inr two ↦
+      ap (option_map (λ (p : Page). byte_at (a % 4096) p.bytes)) (page-other m m' at size v pages (a / 4096) two)
+      ∙ kept-over a at size v (held_in m a) fits two
+]
+
 -- a byte of the store can be written
 pub writes_one : (m m' : Map) (at k size next : ℕ) (made : Bool) → next ≡ at + k → k < size → each_byte (can_write_in m) at size ≡ true
     → ((n : ℕ) → permission_in m' n ≡ permission_in m n) → made ≡ each_byte (can_write_in m') next 1 → made ≡ true
@@ -87,12 +107,12 @@ writes_one m m' at k size next made is lt all same answer =
     ap (can_write_in m') here ∙ ap may_write (same ((at + k) / 4096)) ∙ each_byte-at (can_write_in m) at size k all lt)
 
 -- one byte of the store more
-pub step_across : (m m' m'' : Map) (at k v rest next : ℕ) (made : Bool) → next ≡ at + k → made ≡ true → rest ≡ v / 256 ^ k
-    → ((a : ℕ) → byte_in m' a ≡ stored (record { at = at; size = k; value = v }) (byte_in m) a)
-    → ((a : ℕ) → byte_in m'' a ≡ after_write made (record { at = next; size = 1; value = rest }) (byte_in m') a)
-    → (a : ℕ) → byte_in m'' a ≡ stored (record { at = at; size = k + 1; value = v }) (byte_in m) a
-step_across m m' m'' at k v rest next made is done e before step a =
-    step a ∙ ap (λ b. after_write b (record { at = next; size = 1; value = rest }) (byte_in m') a) done
-    ∙ ap (λ x. stored (record { at = x; size = 1; value = rest }) (byte_in m') a) is
+pub step_across : (byte byte' byte'' : ℕ → Option ℕ) (at k v rest next : ℕ) (made : Bool) → next ≡ at + k → made ≡ true → rest ≡ v / 256 ^ k
+    → ((a : ℕ) → byte' a ≡ stored (record { at = at; size = k; value = v }) byte a)
+    → ((a : ℕ) → byte'' a ≡ after_write made (record { at = next; size = 1; value = rest }) byte' a)
+    → (a : ℕ) → byte'' a ≡ stored (record { at = at; size = k + 1; value = v }) byte a
+step_across byte byte' byte'' at k v rest next made is done e before step a =
+    step a ∙ ap (λ b. after_write b (record { at = next; size = 1; value = rest }) byte' a) done
+    ∙ ap (λ x. stored (record { at = x; size = 1; value = rest }) byte' a) is
     ∙ ap (option_map (byte_over (record { at = at + k; size = 1; value = rest }) a)) (before a)
-    ∙ stored-more at k v rest a (byte_in m a) e
+    ∙ stored-more at k v rest a (byte a) e

@@ -3,18 +3,20 @@
 use Rattle.std.specs.Prelude.{ℕ, ◌/◌, ◌%◌, ◌&&◌, Bool, List, [], if◌then◌else◌, Option, Some, None, slice_get, slice_index}
 use Rattle.std.specs.Option.{option_and_then, option_map}
 use Rattle.byte_views.specs.Words.{with_word}
-use Rattle.mach_types.specs.Kernel.Pages.{can_read, can_write, lets}
+use Rattle.mach_types.specs.Kernel.Pages.{PageRun, can_read, can_write, is_in, lets}
 use Rattle.mach_types.specs.declared.address_space.TheConstants.{PAGE_SIZE}
-use Rattle.frame_pool.specs.Pool.{free_count}
+use Rattle.frame_pool.specs.Pool.{free_count, fresh}
 use Rattle.page_map.specs.Table.{Table, place_in}
 use Rattle.page_map.specs.declared.mapped_page.MappedPage.{MappedPage}
 
--- the frames; which frame and which permission stand at each place; the place of each page; and the break
+-- the frames; which page, on which frame and with which permission, stands at each place; the place of each page; the break;
+-- and the lowest break, where the program's own data ends
 pub record Map : Type 0 where
   pub pool : List (Option (List ℕ))
   pub mapped : List MappedPage
   pub table : Table
   pub break_at : ℕ
+  pub break_start : ℕ
 
 -- a page that is mapped
 pub record Page : Type 0 where
@@ -34,6 +36,10 @@ page_at pool p = record { permission = p.permission; bytes = frame_bytes (slice_
 -- a page once the low `size` bytes of a value were written to it, the lowest first
 abbrev pub page_with : ℕ → ℕ → ℕ → Page → Page
 page_with offset size value p = record p { bytes = with_word p.bytes offset size value }
+
+-- a page once it has another permission
+abbrev pub protected_page : ℕ → Page → Page
+protected_page permission p = record p { permission = permission }
 
 -- page n, where it is mapped
 unfoldable pub page_in : Map → ℕ → Option Page
@@ -64,6 +70,10 @@ byte_in m a = byte_if 4 m a
 abbrev pub code_in : Map → ℕ → Option ℕ
 code_in m a = byte_if 1 m a
 
+-- the byte at an address, where its page is mapped, whether or not it can be read
+abbrev pub held_in : Map → ℕ → Option ℕ
+held_in m a = option_map (λ (p : Page). byte_at (a % PAGE_SIZE) p.bytes) (page_in m (a / PAGE_SIZE))
+
 -- what can be written can be read
 abbrev pub may_write : Option ℕ → Bool
 may_write permission = can_read permission && can_write permission
@@ -79,3 +89,19 @@ free_in m = free_count m.pool
 -- the first address behind the data of the process
 abbrev pub break_in : Map → ℕ
 break_in m = m.break_at
+
+-- the lowest break, where the data ended with which the process started
+abbrev pub break_start_in : Map → ℕ
+break_start_in m = m.break_start
+
+-- a page that was just mapped, which is zero
+abbrev pub zero_page : ℕ → Page
+zero_page permission = record { permission = permission; bytes = fresh }
+
+-- page n once a run of pages was mapped, or removed, over these
+abbrev pub page_over : PageRun → (ℕ → Option Page) → ℕ → Option Page
+page_over r page n = if is_in r n then option_map zero_page r.permission else page n
+
+-- the byte that the page of an address holds once a run of pages was mapped, all zero, or removed, over pages that hold these
+abbrev pub held_over : PageRun → (ℕ → Option ℕ) → ℕ → Option ℕ
+held_over r held a = if is_in r (a / PAGE_SIZE) then option_map (λ _. 0) r.permission else held a

@@ -1,14 +1,14 @@
 //! The pages of a process at its start.
 
-ghost use Rattle.std.specs.Prelude.{◌≡◌, ℕ, ◌+◌, ◌*◌, ◌/◌, ◌<◌, ◌≤◌, ◌^◌, ◌==◌, true, if◌then◌else◌, Some, None, All, IfOk, IfSome, length, slice_index};
+ghost use Rattle.std.specs.Prelude.{◌≡◌, ℕ, ◌+◌, ◌*◌, ◌/◌, ◌<◌, ◌≤◌, ◌^◌, ◌==◌, true, if◌then◌else◌, Some, None, All, IfOk, IfSome, is_some, length, slice_index};
 ghost use Rattle.std.specs.List.Sorted.{IsStrictlyIncreasing};
 ghost use Rattle.std.specs.Option.{option_map};
 ghost use Rattle.mach_types.specs.Bytes.{overlay};
-ghost use Rattle.mach_types.specs.Kernel.Pages.{can_read, is_in, permission_of};
+ghost use Rattle.mach_types.specs.Kernel.Pages.{can_read, is_in, pages_of, permission_of};
 ghost use Rattle.elf_load.specs.Images.{IsBootable, IsPermission, numbers};
 ghost use Rattle.elf_load.specs.Start.{code_byte, program_of, return_byte, start_byte, start_runs, stack_run, start_words, stored_from};
 ghost use Rattle.frame_pool.specs.Pool.{free_count, fresh};
-ghost use Rattle.page_map.specs.Map.{break_in, byte_in, can_write_in, code_in, free_in, page_in, permission_in};
+ghost use Rattle.page_map.specs.Map.{break_in, break_start_in, byte_in, can_write_in, code_in, free_in, held_in, page_in, permission_in};
 ghost use Rattle.page_map.specs.Starting.{IsStartPage, image_page, stack_page};
 
 use crate::map::PageMap;
@@ -31,7 +31,7 @@ const RETURN_PERMISSION: u8 = 5;
 const NAME: u64 = 0x74_7365_7567;
 
 /// The bytes of an empty page.
-fn zeros() -> [u8; 4096]
+pub(crate) fn zeros() -> [u8; 4096]
     ensures { result ≡ fresh }
 {
     [0; 4096]
@@ -90,13 +90,16 @@ impl PageMap {
         ensures bytes { IfOk result (λ m. (a : ℕ) → byte_in m a
             ≡ (if can_read (permission_of (start_runs image.now.pages.items) (a / 4096))
             then Some (start_byte (program_of image.now) a) else None)) }
+        ensures held { IfOk result (λ m. (a : ℕ) → held_in m a
+            ≡ (if is_some (permission_of (start_runs image.now.pages.items) (a / 4096))
+            then Some (start_byte (program_of image.now) a) else None)) }
         ensures code { IfOk result (λ m. (a : ℕ) → code_in m a ≡ code_byte image.now.pages.items a) }
         ensures free { IfOk result (λ m. free_in m + 65 + length image.now.pages.items ≡ free_count pool) }
         ensures break_at { IfOk result (λ m. break_in m ≡ image.now.break_at) }
+        ensures break_start { IfOk result (λ m. break_start_in m ≡ image.now.break_at) }
     {
-        let mut map = PageMap::empty(alloc, pool)?;
+        let mut map = PageMap::empty(alloc, pool, image.break_at)?;
         map.lay_out(image);
-        map.set_break(image.break_at);
         let words = stack_words(image);
         map.write_words(START_SP, &words);
         map.write_words(NAME_AT, &[NAME]);
@@ -107,8 +110,12 @@ impl PageMap {
     fn lay_out(&mut self, image: &Image)
         requires image { IsBootable (free_in self.old) image.now }
         requires empty { (n : ℕ) → page_in self.old n ≡ None }
+        requires break_at { break_in self.old ≡ image.now.break_at }
+        requires break_start { break_start_in self.old ≡ image.now.break_at }
         ensures pages { (n : ℕ) → IsStartPage image.now.pages.items n (page_in self.new n) }
         ensures free { free_in self.new + 65 + length image.now.pages.items ≡ free_in self.old }
+        ensures break_at { break_in self.new ≡ break_in self.old }
+        ensures break_start { break_start_in self.new ≡ break_start_in self.old }
     {
         self.add_image(&image.pages);
         self.add_stack();
@@ -119,6 +126,8 @@ impl PageMap {
     fn add_image(&mut self, pages: &[ImagePage])
         requires rising { IsStrictlyIncreasing (numbers pages.now) }
         requires below { All (λ page. page.number < 33554432) pages.now }
+        requires below_break { All (λ page. page.number < pages_of (break_in self.old)) pages.now }
+        requires below_start { All (λ page. page.number < pages_of (break_start_in self.old)) pages.now }
         requires sizes { All (λ page. length page.bytes ≡ 4096) pages.now }
         requires permissions { All (λ page. IsPermission page.perm) pages.now }
         requires free { length pages.now ≤ free_in self.old }
@@ -126,6 +135,8 @@ impl PageMap {
         ensures pages { (n : ℕ) → page_in self.new n ≡ image_page pages.now n }
         ensures small { (n : ℕ) → IfSome (page_in self.new n) (λ p. (k : ℕ) → slice_index p.bytes k < 256) }
         ensures free { free_in self.new + length pages.now ≡ free_in self.old }
+        ensures break_at { break_in self.new ≡ break_in self.old }
+        ensures break_start { break_start_in self.new ≡ break_start_in self.old }
     {
         for page in pages {
             self.add(page.number, page.perm, &page.bytes);
@@ -139,6 +150,8 @@ impl PageMap {
         ensures pages { (n : ℕ) → page_in self.new n
             ≡ (if is_in stack_run n then Some stack_page else page_in self.old n) }
         ensures free { free_in self.new + 64 ≡ free_in self.old }
+        ensures break_at { break_in self.new ≡ break_in self.old }
+        ensures break_start { break_start_in self.new ≡ break_start_in self.old }
     {
         let bytes = zeros();
         for k in 0..STACK_PAGES {
@@ -152,10 +165,13 @@ impl PageMap {
         requires room { (k : ℕ) → k < 8 * length words.now → can_write_in self.old (at + k) ≡ true }
         ensures bytes { (a : ℕ) → byte_in self.new a
             ≡ option_map (overlay (stored_from at words.now) a) (byte_in self.old a) }
+        ensures held { (a : ℕ) → held_in self.new a
+            ≡ option_map (overlay (stored_from at words.now) a) (held_in self.old a) }
         ensures permissions { (n : ℕ) → permission_in self.new n ≡ permission_in self.old n }
         ensures code { (a : ℕ) → code_in self.new a ≡ code_in self.old a }
         ensures free { free_in self.new ≡ free_in self.old }
         ensures break_at { break_in self.new ≡ break_in self.old }
+        ensures break_start { break_start_in self.new ≡ break_start_in self.old }
     {
         for (k, word) in words.iter().enumerate() {
             let _ = self.set(at + 8 * k as u64, 8, *word);

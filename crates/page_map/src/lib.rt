@@ -6,6 +6,8 @@
 
 mod access;
 mod boot;
+mod calls;
+mod changes;
 mod map;
 mod mapped_page;
 mod table;
@@ -15,4 +17,6 @@ mod theorems;
 
 pub use map::PageMap;
 pub use table::PageTable;
-pub use theorems::{addresses_end, code_is_bytes, permission_decides};
+pub use theorems::{
+    addresses_end, code_is_bytes, held_bytes_are_seen, lowest_hole_is_lowest, permission_decides,
+};

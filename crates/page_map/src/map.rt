@@ -1,21 +1,21 @@
 //! The pages of a process, each with a frame of its own.
 
-ghost use Rattle.std.specs.Prelude.{◌≡◌, ◌==◌, ◌&&◌, ◌≤◌, ℕ, ◌+◌, ◌/◌, ◌%◌, ◌<◌, if◌then◌else◌, [], ◌++◌, ◌∷◌, Some, None, true, false, IfOk, IfSome, IsSome, is_some, length, slice_get, slice_index, slice_set, vec_capacity, vec_len};
+ghost use Rattle.std.specs.Prelude.{◌≡◌, ◌==◌, ◌&&◌, ◌≤◌, ℕ, ◌+◌, ◌-◌, ◌/◌, ◌%◌, ◌<◌, if◌then◌else◌, [], ◌++◌, ◌∷◌, Some, None, true, false, IfOk, IfSome, IsSome, is_some, length, slice_get, slice_index, slice_set, vec_capacity, vec_len};
 ghost use Rattle.std.specs.Option.{option_copied, option_map};
 ghost use Rattle.byte_views.specs.Words.{with_word};
 ghost use Rattle.mach_types.specs.Bytes.{IsAccessSize};
-ghost use Rattle.mach_types.specs.Kernel.Pages.{can_execute, can_read, can_write};
+ghost use Rattle.mach_types.specs.Kernel.Pages.{can_execute, can_read, can_write, first_page, pages_of};
 ghost use Rattle.elf_load.specs.Images.{IsPermission};
 ghost use Rattle.frame_pool.specs.Held.{AreHeld};
 ghost use Rattle.frame_pool.specs.Pool.{IsTaken, free_count};
-ghost use Rattle.page_map.specs.Map.{break_in, bytes_if, frame_bytes, free_in, page_at, page_in, page_with, permission_in};
+ghost use Rattle.page_map.specs.Map.{break_in, break_start_in, bytes_if, frame_bytes, free_in, page_at, page_in, page_with, permission_in, protected_page};
 ghost use Rattle.page_map.specs.Mapping.{CanLie, IsGap, frames_of};
 
 use crate::mapped_page::MappedPage;
 use crate::table::PageTable;
 use byte_views::write_word;
 use frame_pool::{Frame, FramePool};
-use mach_types::address_space::PAGE_SIZE;
+use mach_types::address_space::{FIRST_MAPPING_PAGE, MAPPING_START, PAGE_SIZE};
 use std::alloc::{AllocError, Global};
 use std::marker::Model;
 
@@ -38,6 +38,7 @@ pub struct PageMap {
     mapped: Vec<MappedPage>,
     table: PageTable,
     break_at: u64,
+    break_start: u64,
 }
 
 impl Model for PageMap {
@@ -47,9 +48,9 @@ impl Model for PageMap {
 
     ghost Value = { Map };
 
-    ghost view = { λ m. record { pool = m.pool; mapped = m.mapped.items; table = m.table; break_at = m.break_at } };
+    ghost view = { λ m. record { pool = m.pool; mapped = m.mapped.items; table = m.table; break_at = m.break_at; break_start = m.break_start } };
 
-    ghost invariant = { λ m. IsMap (record { pool = m.pool; mapped = m.mapped.items; table = m.table; break_at = m.break_at })
+    ghost invariant = { λ m. IsMap (record { pool = m.pool; mapped = m.mapped.items; table = m.table; break_at = m.break_at; break_start = m.break_start })
         (vec_capacity m.mapped) };
 }
 
@@ -60,6 +61,7 @@ impl Drop for PageMap {
             mapped,
             table: _table,
             break_at: _break_at,
+            break_start: _break_start,
         } = self;
         give_all(pool, mapped);
     }
@@ -76,25 +78,33 @@ fn give_all(mut pool: FramePool, mut mapped: Vec<MappedPage>)
 }
 
 impl PageMap {
-    /// No pages, over a pool. It has all the memory that it ever takes.
-    pub(crate) fn empty(alloc: Global, pool: FramePool) -> Result<PageMap, AllocError>
+    /// No pages, over a pool, with this break, which is the lowest one. It has all the memory that it ever takes.
+    pub(crate) fn empty(
+        alloc: Global,
+        pool: FramePool,
+        break_at: u64,
+    ) -> Result<PageMap, AllocError>
+        requires { break_at ≤ MAPPING_START }
         ensures pages { IfOk result (λ m. (n : ℕ) → page_in m n ≡ None) }
         ensures free { IfOk result (λ m. free_in m ≡ free_count pool) }
+        ensures break_at { IfOk result (λ m. break_in m ≡ break_at) }
+        ensures break_start { IfOk result (λ m. break_start_in m ≡ break_at) }
     {
         let frames = pool.free();
-        let table = PageTable::new(alloc, frames)?;
+        let table = PageTable::new(alloc)?;
         let mapped = Vec::with_capacity(alloc, frames as usize)?;
         Ok(PageMap {
             pool,
             mapped,
             table,
-            break_at: 0,
+            break_at,
+            break_start: break_at,
         })
     }
 
     /// Maps a page with these bytes.
     pub(crate) fn add(&mut self, number: u64, permission: u8, bytes: &[u8])
-        requires number { CanLie number }
+        requires number { CanLie (break_start_in self.old) (break_in self.old) number permission }
         requires permission { IsPermission permission }
         requires bytes { length bytes.now ≡ 4096 }
         requires free { 0 < free_in self.old }
@@ -102,21 +112,79 @@ impl PageMap {
         ensures pages { (n : ℕ) → page_in self.new n
             ≡ (if n == number then Some (record { permission = permission; bytes = bytes.now }) else page_in self.old n) }
         ensures free { free_in self.new + 1 ≡ free_in self.old }
+        ensures break_at { break_in self.new ≡ break_in self.old }
+        ensures break_start { break_start_in self.new ≡ break_start_in self.old }
         ensures small { (k : ℕ) → slice_index bytes.now k < 256 }
     {
         let frame = filled(&mut self.pool, bytes);
         let place = self.mapped.len() as u32;
-        keep(&mut self.mapped, MappedPage { frame, permission });
-        self.table.insert(number, place);
+        keep(
+            &mut self.mapped,
+            MappedPage {
+                number,
+                frame,
+                permission,
+            },
+        );
+        self.table.set(number, Some(place));
     }
 
-    /// Sets the break.
+    /// Maps a page no longer. The last page of the list takes its place there.
+    pub(crate) fn remove(&mut self, number: u64)
+        requires { IsSome (page_in self.old number) }
+        ensures pages { (n : ℕ) → page_in self.new n ≡ (if n == number then None else page_in self.old n) }
+        ensures free { free_in self.new ≡ free_in self.old + 1 }
+        ensures break_at { break_in self.new ≡ break_in self.old }
+        ensures break_start { break_start_in self.new ≡ break_start_in self.old }
+    {
+        match self.table.get(number) {
+            Some(place) => {
+                let last = self.mapped[self.mapped.len() - 1].number;
+                self.table.set(last, Some(place));
+                self.table.set(number, None);
+                let page = self.mapped.swap_remove(place as usize);
+                self.pool.give(page.into_frame());
+            }
+            None => unreachable!(),
+        }
+    }
+
+    /// Gives a page that is mapped another permission, by which it can't be executed.
+    pub(crate) fn set_permission(&mut self, number: u64, permission: u8)
+        requires mapped { IsSome (page_in self.old number) }
+        requires permission { IsPermission permission }
+        requires code { can_execute (Some permission) ≡ false }
+        ensures pages { (n : ℕ) → page_in self.new n
+            ≡ (if n == number then option_map (protected_page permission) (page_in self.old n) else page_in self.old n) }
+        ensures free { free_in self.new ≡ free_in self.old }
+        ensures break_at { break_in self.new ≡ break_in self.old }
+        ensures break_start { break_start_in self.new ≡ break_start_in self.old }
+    {
+        match self.table.get(number) {
+            Some(place) => self.mapped[place as usize].permission = permission,
+            None => unreachable!(),
+        }
+    }
+
+    /// Sets the break, past which no page is mapped below the mappings.
     pub(crate) fn set_break(&mut self, at: u64)
+        requires from { break_start_in self.old ≤ at }
+        requires to { at ≤ MAPPING_START }
+        requires past { (n : ℕ) → pages_of at ≤ n → n < FIRST_MAPPING_PAGE → page_in self.old n ≡ None }
         ensures pages { (n : ℕ) → page_in self.new n ≡ page_in self.old n }
         ensures free { free_in self.new ≡ free_in self.old }
         ensures break_at { break_in self.new ≡ at }
+        ensures break_start { break_start_in self.new ≡ break_start_in self.old }
     {
         self.break_at = at;
+    }
+
+    /// The first page that is mapped, from one page on and before another; None exactly where none is.
+    pub(crate) fn next_mapped(&self, from: u64, end: u64) -> Option<u64>
+        requires { end ≤ 67108864 }
+        ensures { result ≡ first_page (λ n. is_some (permission_in self.now n)) from (end - from) }
+    {
+        self.table.next(from, end)
     }
 
     /// The frame and the permission of a page, where it is mapped.
@@ -127,6 +195,13 @@ impl PageMap {
     {
         let place = self.table.get(number)?;
         Some(&self.mapped[place as usize])
+    }
+
+    /// Whether a page is mapped.
+    pub(crate) fn is_page(&self, number: u64) -> bool
+        ensures { result ≡ is_some (permission_in self.now number) }
+    {
+        self.table.get(number).is_some()
     }
 
     /// The permission of the page of an address: 4 to read, 2 to write, 1 to execute; None exactly where no page is.
@@ -159,6 +234,7 @@ impl PageMap {
             else page_in self.old n) }
         ensures free { free_in self.new ≡ free_in self.old }
         ensures break_at { break_in self.new ≡ break_in self.old }
+        ensures break_start { break_start_in self.new ≡ break_start_in self.old }
         ensures size { IfSome (page_in self.old (at / 4096)) (λ p. length p.bytes ≡ 4096) }
         ensures permission { IfSome (page_in self.old (at / 4096)) (λ p. IsPermission p.permission) }
     {
@@ -182,6 +258,11 @@ impl PageMap {
         ensures writable { (n : ℕ) → can_write (permission_in self.now n) ≡ true
             → (can_read (permission_in self.now n) ≡ true) × (can_execute (permission_in self.now n) ≡ false) }
         ensures gap { (n : ℕ) → IsGap n → permission_in self.now n ≡ None }
+        ensures past_break { (n : ℕ) → pages_of (break_in self.now) ≤ n → n < FIRST_MAPPING_PAGE → page_in self.now n ≡ None }
+        ensures data { (n : ℕ) → pages_of (break_start_in self.now) ≤ n → n < FIRST_MAPPING_PAGE
+            → can_execute (permission_in self.now n) ≡ false }
+        ensures break_from { break_start_in self.now ≤ break_in self.now }
+        ensures break_to { break_in self.now ≤ MAPPING_START }
     {
         let _ = &self.pool;
     }
@@ -198,6 +279,13 @@ impl PageMap {
         ensures { result ≡ break_in self.now }
     {
         self.break_at
+    }
+
+    /// The lowest break, where the data ended with which the process started.
+    pub fn break_start(&self) -> u64
+        ensures { result ≡ break_start_in self.now }
+    {
+        self.break_start
     }
 }
 

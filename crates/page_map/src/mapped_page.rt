@@ -4,8 +4,9 @@ ghost use Rattle.std.specs.Prelude.{◌≡◌};
 
 use frame_pool::Frame;
 
-/// The frame of a page, and its permission: 4 to read, 2 to write, 1 to execute.
+/// The number of a page, its frame, and its permission: 4 to read, 2 to write, 1 to execute.
 pub(crate) struct MappedPage {
+    pub(crate) number: u64,
     pub(crate) frame: Frame,
     pub(crate) permission: u8,
 }
@@ -16,6 +17,7 @@ impl MappedPage {
         ensures { result ≡ self.frame }
     {
         let MappedPage {
+            number: _number,
             frame,
             permission: _permission,
         } = self;

@@ -1,6 +1,7 @@
 //! A table from the numbers of pages to places.
 
-ghost use Rattle.std.specs.Prelude.{◌≡◌, ℕ, ◌+◌, ◌<◌, ◌≤◌, ◌^◌, ◌==◌, if◌then◌else◌, Some, None, IfOk, is_none, length, slice_index, vec_capacity, vec_len};
+ghost use Rattle.std.specs.Prelude.{◌≡◌, ℕ, ◌-◌, ◌<◌, ◌≤◌, ◌^◌, ◌==◌, if◌then◌else◌, None, IfOk, is_some, length, slice_index, vec_capacity, vec_len};
+ghost use Rattle.mach_types.specs.Kernel.Pages.{first_page};
 ghost use Rattle.page_map.specs.Layout.{empty_leaf, directory_with, leaves_with};
 ghost use Rattle.page_map.specs.Table.{place_in};
 
@@ -12,16 +13,16 @@ use std::marker::Model;
 pub const PAGES: u64 = USER_END / PAGE_SIZE;
 
 /// How many pages lie in one chunk.
-pub const CHUNK: u64 = 64;
+pub const CHUNK: u64 = 512;
 
 /// How many chunks there are.
 pub const CHUNKS: u64 = PAGES / CHUNK;
 
-/// The leaf that all chunks without pages share.
+/// The leaf that all chunks without a leaf of their own share.
 const EMPTY_LEAF: u32 = 0;
 
 /// The places of the pages of a chunk.
-type Leaf = [Option<u32>; 64];
+type Leaf = [Option<u32>; 512];
 
 /// A table from the numbers of pages, below 2^26, to places. A page is found in two look-ups, however many there
 /// are.
@@ -29,7 +30,6 @@ type Leaf = [Option<u32>; 64];
 pub struct PageTable {
     directory: Vec<u32>,
     leaves: Vec<Leaf>,
-    room: u32,
 }
 
 impl Model for PageTable {
@@ -39,25 +39,21 @@ impl Model for PageTable {
 
     ghost Value = { Table };
 
-    ghost view = { λ t. record { directory = t.directory.items; leaves = t.leaves.items; room = t.room } };
+    ghost view = { λ t. record { directory = t.directory.items; leaves = t.leaves.items } };
 
-    ghost invariant = { λ t. IsTable t.directory.items t.leaves.items t.room (vec_capacity t.leaves) };
+    ghost invariant = { λ t. IsTable t.directory.items t.leaves.items (vec_capacity t.leaves) };
 }
 
 impl PageTable {
-    /// A table without entries, with room for so many pages. It has all the memory that it ever takes.
-    pub fn new(alloc: Global, pages: u32) -> Result<PageTable, AllocError>
+    /// A table without entries. It has all the memory that it ever takes: room for a leaf of each chunk, which costs
+    /// nothing until it is used.
+    pub fn new(alloc: Global) -> Result<PageTable, AllocError>
         ensures empty { IfOk result (λ t. (n : ℕ) → place_in t n ≡ None) }
-        ensures room { IfOk result (λ t. t.room ≡ pages) }
     {
         let directory = empty_leaves(alloc, CHUNKS as usize)?;
-        let mut leaves = Vec::with_capacity(alloc, pages as usize + 1)?;
+        let mut leaves = Vec::with_capacity(alloc, CHUNKS as usize + 1)?;
         leaves.push(empty_leaf())?;
-        Ok(PageTable {
-            directory,
-            leaves,
-            room: pages,
-        })
+        Ok(PageTable { directory, leaves })
     }
 
     /// The place of a page; None exactly where it has none, as each page whose number is 2^26 or more.
@@ -71,21 +67,36 @@ impl PageTable {
         self.leaves[leaf as usize][(page % CHUNK) as usize]
     }
 
-    /// Gives a page this place, instead of the one that it had, if any. It takes no memory.
-    pub fn insert(&mut self, page: u64, place: u32)
-        requires page { page < PAGES }
-        requires room { place_in self.old page ≡ None → 0 < self.old.room }
-        ensures places { (n : ℕ) → place_in self.new n
-            ≡ (if n == page then Some place else place_in self.old n) }
-        ensures room { self.new.room + (if is_none (place_in self.old page) then 1 else 0) ≡ self.old.room }
+    /// Gives a page this place, or none, instead of the one that it had, if any. It takes no memory.
+    pub fn set(&mut self, page: u64, place: Option<u32>)
+        requires { page < PAGES }
+        ensures { (n : ℕ) → place_in self.new n ≡ (if n == page then place else place_in self.old n) }
     {
-        self.room -= u32::from(self.get(page).is_none());
         let leaf = own_leaf(
             &mut self.directory,
             &mut self.leaves,
             (page / CHUNK) as usize,
         );
-        self.leaves[leaf][(page % CHUNK) as usize] = Some(place);
+        self.leaves[leaf][(page % CHUNK) as usize] = place;
+    }
+
+    /// The first page that has a place, from one page on and before another; None exactly where none has. A chunk that
+    /// never had a page is passed over in one step.
+    pub fn next(&self, from: u64, end: u64) -> Option<u64>
+        requires { end ≤ PAGES }
+        ensures { result ≡ first_page (λ n. is_some (place_in self.now n)) from (end - from) }
+    {
+        let mut page = from;
+        while page < end {
+            if self.directory[(page / CHUNK) as usize] == EMPTY_LEAF {
+                page = (page / CHUNK + 1) * CHUNK;
+            } else if self.get(page).is_some() {
+                return Some(page);
+            } else {
+                page += 1;
+            }
+        }
+        None
     }
 }
 
@@ -118,5 +129,5 @@ fn empty_leaves(alloc: Global, chunks: usize) -> Result<Vec<u32>, AllocError>
 fn empty_leaf() -> Leaf
     ensures { result ≡ empty_leaf }
 {
-    [None; 64]
+    [None; 512]
 }

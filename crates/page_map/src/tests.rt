@@ -3,6 +3,7 @@ ghost use Rattle.std.specs.Prelude.{◌≡◌, ◌<◌, ◌≤◌};
 use crate::PageMap;
 use elf_load::load;
 use frame_pool::FramePool;
+use mach_types::errors::{EACCES, EINVAL, ENOMEM};
 use mach_types::{Limits, UserMem};
 use std::alloc::Global;
 use std::test::Fail;
@@ -28,6 +29,9 @@ const FILE: [u8; 180] = [
     0x00, 0x20, 0x00, 0x00, 0x00, 0x00, 0x00, 0x00, 0x00, 0x10, 0x00, 0x00, 0x00, 0x00, 0x00, 0x00,
     0x73, 0x00, 0x00, 0x00,
 ];
+
+/// Where the first mapping lies.
+const MAPPED: u64 = 0x20_0000_0000;
 
 /// The pages of the program at its start, of 128 frames.
 fn booted(alloc: Global) -> Result<PageMap, Fail> {
@@ -93,5 +97,153 @@ fn bytes_are_written_where_they_can_be(rt: HostRuntime) -> Result<(), Fail> {
     assert!(rt; map.readable(DATA, 0x2000));
     assert!(rt; !map.readable(DATA, 0x2001));
     assert!(rt; map.readable(0, 0));
+    Ok(())
+}
+
+#[test]
+fn mappings_are_refused_and_made(rt: HostRuntime) -> Result<(), Fail> {
+    let rows = [
+        (0, 3, Err(EINVAL)),
+        (1, 8, Err(EINVAL)),
+        (0, 4, Err(EINVAL)),
+        (1, 4, Err(EACCES)),
+        (u64::MAX, 7, Err(EACCES)),
+        (u64::MAX, 3, Err(ENOMEM)),
+        (60 * 0x1000 + 1, 3, Err(ENOMEM)),
+        (60 * 0x1000, 3, Ok(MAPPED)),
+        (1, 0, Ok(MAPPED)),
+    ];
+    for (len, prot, answer) in rows {
+        let mut map = booted(rt.alloc())?;
+        assert_eq!(rt; map.map(len, prot), answer, "{len} {prot}");
+    }
+    Ok(())
+}
+
+#[test]
+fn a_page_that_is_mapped_again_is_zero(rt: HostRuntime) -> Result<(), Fail> {
+    let mut map = booted(rt.alloc())?;
+    assert_eq!(rt; map.map(0x3000, 3), Ok(MAPPED));
+    assert_eq!(rt; map.free(), 57);
+    for page in 0..3 {
+        assert!(rt; map.set(MAPPED + 0x1000 * page, 8, 7 + page));
+    }
+    assert_eq!(rt; map.unmap(MAPPED + 0x1000, 1), Ok(()));
+    assert_eq!(rt; map.free(), 58);
+    assert_eq!(rt; map.perm(MAPPED + 0x1000), None);
+    assert_eq!(rt; map.get(MAPPED + 0x1000, 8), None);
+    assert_eq!(rt; map.map(0x1001, 1), Ok(MAPPED + 0x3000));
+    assert_eq!(rt; map.map(1, 1), Ok(MAPPED + 0x1000));
+    let words = [
+        (MAPPED, Some(7)),
+        (MAPPED + 0x1000, Some(0)),
+        (MAPPED + 0x2000, Some(9)),
+        (MAPPED + 0x4FF8, Some(0)),
+        (MAPPED + 0x5000, None),
+    ];
+    for (at, word) in words {
+        assert_eq!(rt; map.get(at, 8), word, "{at}");
+    }
+    assert_eq!(rt; map.perm(MAPPED + 0x1000), Some(4));
+    assert!(rt; !map.writable(MAPPED + 0x1000, 1));
+    assert_eq!(rt; map.map(55 * 0x1000, 3), Ok(MAPPED + 0x5000));
+    assert_eq!(rt; map.free(), 0);
+    assert_eq!(rt; map.map(1, 3), Err(ENOMEM));
+    assert_eq!(rt; map.unmap(MAPPED, 0x10_0000_0000), Ok(()));
+    assert_eq!(rt; map.free(), 60);
+    assert_eq!(rt; map.map(1, 3), Ok(MAPPED));
+    Ok(())
+}
+
+#[test]
+fn pages_are_removed_or_not(rt: HostRuntime) -> Result<(), Fail> {
+    let rows = [
+        (DATA + 1, 0, Err(EINVAL), 60),
+        (DATA, 0, Err(EINVAL), 60),
+        (DATA, 0x40_0000_0000 - DATA + 1, Err(EINVAL), 60),
+        (DATA, u64::MAX, Err(EINVAL), 60),
+        (0xF000, 0x2000, Err(EACCES), 60),
+        (0, 0x40_0000_0000, Err(EACCES), 60),
+        (0x3F_FFFF_1000, 0xF000, Ok(()), 60),
+        (DATA + 0x2000, 0x1000, Ok(()), 60),
+        (DATA, 1, Ok(()), 61),
+        (DATA, 0x10_0000_0000, Ok(()), 62),
+        (0x3F_FFF0_0000, 0x40000, Ok(()), 124),
+    ];
+    for (at, len, answer, free) in rows {
+        let mut map = booted(rt.alloc())?;
+        assert_eq!(rt; map.unmap(at, len), answer, "{at} {len}");
+        assert_eq!(rt; map.free(), free, "{at} {len}");
+    }
+    Ok(())
+}
+
+#[test]
+fn pages_are_protected_or_not(rt: HostRuntime) -> Result<(), Fail> {
+    let rows = [
+        (DATA + 1, 0, 1, Err(EINVAL), Some(6)),
+        (DATA, 0, 99, Ok(()), Some(6)),
+        (DATA, 1, 8, Err(EINVAL), Some(6)),
+        (DATA, 1, 4, Err(EACCES), Some(6)),
+        (DATA, u64::MAX, 5, Err(EACCES), Some(6)),
+        (DATA, u64::MAX, 1, Err(ENOMEM), Some(6)),
+        (DATA, 0x2001, 1, Err(ENOMEM), Some(6)),
+        (0xF000, 0x2000, 1, Err(ENOMEM), Some(6)),
+        (0x1_0000, 1, 1, Err(EACCES), Some(6)),
+        (DATA, 1, 1, Ok(()), Some(4)),
+        (DATA, 0x2000, 0, Ok(()), Some(0)),
+        (DATA, 0x2000, 2, Ok(()), Some(6)),
+    ];
+    for (at, len, prot, answer, permission) in rows {
+        let mut map = booted(rt.alloc())?;
+        assert_eq!(rt; map.protect(at, len, prot), answer, "{at} {len} {prot}");
+        assert_eq!(rt; map.perm(DATA), permission, "{at} {len} {prot}");
+    }
+    Ok(())
+}
+
+#[test]
+fn bytes_outlast_a_protection(rt: HostRuntime) -> Result<(), Fail> {
+    let mut map = booted(rt.alloc())?;
+    assert!(rt; map.set(DATA, 8, 5));
+    assert_eq!(rt; map.protect(DATA, 1, 0), Ok(()));
+    assert_eq!(rt; map.get(DATA, 8), None);
+    assert!(rt; !map.set(DATA, 8, 6));
+    assert_eq!(rt; map.protect(DATA, 1, 1), Ok(()));
+    assert_eq!(rt; map.get(DATA, 8), Some(5));
+    assert!(rt; map.writable(DATA + 0x1000, 8));
+    Ok(())
+}
+
+#[test]
+fn the_break_moves_round_holes(rt: HostRuntime) -> Result<(), Fail> {
+    let mut map = booted(rt.alloc())?;
+    let moves = [
+        (0, DATA + 0x2000, 60),
+        (DATA + 0x1FFF, DATA + 0x2000, 60),
+        (DATA + 0x2001, DATA + 0x2001, 59),
+        (DATA + 0x3000, DATA + 0x3000, 59),
+        (MAPPED + 1, DATA + 0x3000, 59),
+        (DATA + 0x3E001, DATA + 0x3000, 59),
+        (DATA + 0x3E000, DATA + 0x3E000, 0),
+        (DATA + 0x5000, DATA + 0x5000, 57),
+    ];
+    for (at, answer, free) in moves {
+        assert_eq!(rt; map.move_break(at), answer, "{at}");
+        assert_eq!(rt; map.free(), free, "{at}");
+    }
+    assert!(rt; map.set(DATA + 0x4000, 8, 3));
+    assert_eq!(rt; map.unmap(DATA + 0x3000, 1), Ok(()));
+    assert_eq!(rt; map.move_break(DATA + 0x6000), DATA + 0x6000);
+    assert_eq!(rt; map.perm(DATA + 0x3000), None);
+    assert_eq!(rt; map.get(DATA + 0x4000, 8), Some(3));
+    assert_eq!(rt; map.perm(DATA + 0x5000), Some(6));
+    assert_eq!(rt; map.free(), 57);
+    assert_eq!(rt; map.move_break(DATA + 0x2000), DATA + 0x2000);
+    assert_eq!(rt; map.free(), 60);
+    assert_eq!(rt; map.move_break(DATA + 0x5000), DATA + 0x5000);
+    assert_eq!(rt; map.get(DATA + 0x4000, 8), Some(0));
+    assert_eq!(rt; map.break_at(), DATA + 0x5000);
+    assert_eq!(rt; map.break_start(), DATA + 0x2000);
     Ok(())
 }

@@ -1,8 +1,10 @@
 //! Laws of page maps, each as the contract of a function that does nothing.
 
-ghost use Rattle.std.specs.Prelude.{◌≡◌, ◌≤◌, ◌<◌, ◌/◌, ◌^◌, ℕ, Some, None, is_some};
-ghost use Rattle.mach_types.specs.Kernel.Pages.{can_execute, can_read};
-ghost use Rattle.page_map.specs.Map.{Map, byte_in, can_write_in, code_in, may_write, permission_in};
+ghost use Rattle.std.specs.Prelude.{◌≡◌, ◌≤◌, ◌<◌, ◌/◌, ◌^◌, ℕ, Option, Some, None, true, false, if◌then◌else◌, is_some};
+ghost use Rattle.mach_types.specs.Kernel.Pages.{can_execute, can_read, fits_at, lowest_hole};
+ghost use Rattle.page_map.specs.Map.{Map, byte_in, can_write_in, code_in, held_in, may_write, permission_in};
+
+use mach_types::address_space::FIRST_MAPPING_PAGE;
 
 /// What can be read, written and executed is what the permission of the page lets.
 pub fn permission_decides()
@@ -19,4 +21,20 @@ pub fn addresses_end()
 /// A byte of code is below 256.
 pub fn code_is_bytes()
     ensures { (m : Map) (a b : ℕ) → code_in m a ≡ Some b → b < 256 }
+{}
+
+/// A byte that can be read, or executed, is the one that its page holds.
+pub fn held_bytes_are_seen()
+    ensures bytes { (m : Map) (a : ℕ) → byte_in m a ≡ (if can_read (permission_in m (a / 4096)) then held_in m a else None) }
+    ensures code { (m : Map) (a : ℕ) → code_in m a ≡ (if can_execute (permission_in m (a / 4096)) then held_in m a else None) }
+{}
+
+/// So many pages are mapped at the lowest place of the mappings where they fit, and nowhere exactly where they fit nowhere.
+pub fn lowest_hole_is_lowest()
+    ensures from { (permission : ℕ → Option ℕ) (count n : ℕ) → lowest_hole permission count ≡ Some n → FIRST_MAPPING_PAGE ≤ n }
+    ensures fits { (permission : ℕ → Option ℕ) (count n : ℕ) → lowest_hole permission count ≡ Some n → fits_at permission count n ≡ true }
+    ensures lowest { (permission : ℕ → Option ℕ) (count n : ℕ) → lowest_hole permission count ≡ Some n
+        → (k : ℕ) → FIRST_MAPPING_PAGE ≤ k → k < n → fits_at permission count k ≡ false }
+    ensures nowhere { (permission : ℕ → Option ℕ) (count : ℕ) → 0 < count → lowest_hole permission count ≡ None
+        → (k : ℕ) → FIRST_MAPPING_PAGE ≤ k → fits_at permission count k ≡ false }
 {}

@@ -21,9 +21,9 @@ use Rattle.rseq_run.specs.Programs.{Files, IsFaulty, IsGood, IsProgram, IsReadAs
 use Rattle.rseq_run.specs.Programs.{IsTooBig, asks_of, most_program_bytes, most_script_bytes, start_of}
 use Rattle.rseq_run.specs.Runs.{IsFirstBadLine, IsPlayedRun}
 use Rattle.rseq_run.specs.Statuses.{fault_status}
-use Rattle.rseq_run.specs.Told.{TellsAllowed, TellsBadScript, TellsBig, TellsBigFile, TellsBoth, TellsFaulty}
+use Rattle.rseq_run.specs.Told.{TellsBadScript, TellsBig, TellsBigFile, TellsBoth, TellsFaulty}
 use Rattle.rseq_run.specs.Told.{TellsFaultyProgram, TellsGood, TellsGoodFiles}
-use Rattle.rseq_run.specs.Grammar.{Command, Solo, Play}
+use Rattle.rseq_run.specs.Grammar.{Command, Solo, Play, Run}
 
 -- a file that is told was read as it is
 read_as_told : (files : Files) (name bytes told : List ℕ) → IsReadAs files name bytes → files name ≡ Some told
@@ -105,6 +105,7 @@ used_by_output files None written output = tt
 used_by_output files (Some (Solo program limits)) written output = (output.image, output.taken)
 used_by_output files (Some (Play program script limits)) written output =
     (output.image, output.lines, output.log, output.taken, output.read, output.run)
+used_by_output files (Some (Run program limits seed)) written output = (output.image, output.taken)
 
 -- the program is good
 program_fits : (files : Files) (name bytes : List ℕ) (limits : Limits) → files name ≡ Some bytes

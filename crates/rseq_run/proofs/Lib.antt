@@ -1,4 +1,5 @@
 mod Causing
+mod Chosen
 mod Examples
 mod Exclusions
 mod Gathering
@@ -9,7 +10,9 @@ mod Outcomes
 mod PlainOutputs
 mod Playing
 mod Repeats
+mod Seeds
 mod SoloSteps
+mod Stretches
 mod Taken
 mod Wholes
 mod WordExamples

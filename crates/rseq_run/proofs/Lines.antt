@@ -1,43 +1,48 @@
 -- A line of the grammar and the items that are read from it: each tells the other.
 use Rattle.std.proofs.Common.{◌≡◌, ◌↔◌, ℕ, ◌+◌, ◌<◌, Bool, true, false, cond, ltb, List, [], ◌∷◌, ◌++◌}
 use Rattle.std.proofs.Common.{length, map, Option, Some, None, refl, sym, ap, ◌∙◌, subst, arith, append_assoc}
-use Rattle.std.proofs.Common.{lt-ltb, add-one, drop, take, drop-cons, get_or, ◌⊎◌, inl, inr, codes, suc}
+use Rattle.std.proofs.Common.{lt-ltb, add-one, drop, take, drop-cons, get_or, inl, inr, codes, suc}
 use Rattle.std.proofs.Common.{option_map, length-append}
 use Rattle.std.proofs.lemmas.Bool.{ltb-false, ltb-true, true≢false}
 use Rattle.std.proofs.lemmas.List.{append-nil, take-append-drop, take_all}
 use Rattle.std.proofs.lemmas.List.Sums.{passes_at_first}
 use Rattle.std.proofs.lemmas.Bool.Decides.{nat_tests}
 use Rattle.std.proofs.lemmas.Slice.Eq.{bytes_eq-Decides}
-use Rattle.std.specs.List.{before_first, position, position_or_len}
+use Rattle.std.specs.List.{before_first, position_or_len}
 use Rattle.std.specs.Option.{option_to_list}
 use Rattle.std.specs.Str.{bytes_eq}
 use Rattle.step_log.specs.Script.{◌>>=◌}
-use Rattle.rseq_run.specs.Grammar.{Arguments, AreWritten, Command, Given, IsCommandLine, IsEndedLine, IsLine}
+use Rattle.rseq_run.specs.Grammar.{Arguments, AreWritten, Command, Given, IsCommandLine, IsLine}
 use Rattle.rseq_run.specs.Grammar.{IsWritten, Item, Name, arguments_in, asked_by, at_most_one, names_in}
 use Rattle.rseq_run.specs.Grammar.{values_in, begins_with_dash, command_in, is_option}
-use Rattle.rseq_run.specs.Options.{OptionName, Harts, Frames, Steps, option_named, option_word}
+use Rattle.rseq_run.specs.Options.{OptionName, Harts, Frames, Steps, Seed, option_named, option_word}
 use Rattle.rseq_run.specs.Words.{Reading, Options, Value, Names, arguments_of, behind_equals, command_of}
 use Rattle.rseq_run.specs.Words.{few_arguments, is_equals, items, option_read, word_read}
 
 -- the word that names an option is its word
-named_by : (word : List ℕ) (option : OptionName) (h f s : Bool) → bytes_eq word (option_word Harts) ≡ h
+named_by : (word : List ℕ) (option : OptionName) (h f s d : Bool) → bytes_eq word (option_word Harts) ≡ h
     → bytes_eq word (option_word Frames) ≡ f → bytes_eq word (option_word Steps) ≡ s
-    → cond h (Some Harts) (cond f (Some Frames) (cond s (Some Steps) None)) ≡ Some option
+    → bytes_eq word (option_word Seed) ≡ d
+    → cond h (Some Harts) (cond f (Some Frames) (cond s (Some Steps) (cond d (Some Seed) None)))
+    ≡ Some option
     → word ≡ option_word option
-named_by word option true f s at_harts at_frames at_steps is =
+named_by word option true f s d at_harts at_frames at_steps at_seed is =
     let same : Harts ≡ option = cc in
     (bytes_eq-Decides word (option_word Harts)).0 at_harts ∙ ap option_word same
-named_by word option false true s at_harts at_frames at_steps is =
+named_by word option false true s d at_harts at_frames at_steps at_seed is =
     let same : Frames ≡ option = cc in
     (bytes_eq-Decides word (option_word Frames)).0 at_frames ∙ ap option_word same
-named_by word option false false true at_harts at_frames at_steps is =
+named_by word option false false true d at_harts at_frames at_steps at_seed is =
     let same : Steps ≡ option = cc in
     (bytes_eq-Decides word (option_word Steps)).0 at_steps ∙ ap option_word same
-named_by word option false false false at_harts at_frames at_steps is = absurd cc
+named_by word option false false false true at_harts at_frames at_steps at_seed is =
+    let same : Seed ≡ option = cc in
+    (bytes_eq-Decides word (option_word Seed)).0 at_seed ∙ ap option_word same
+named_by word option false false false false at_harts at_frames at_steps at_seed is = absurd cc
 
 named_word : (word : List ℕ) (option : OptionName) → option_named word ≡ Some option
     → word ≡ option_word option
-named_word word option is = named_by word option _ _ _ refl refl refl is
+named_word word option is = named_by word option _ _ _ _ refl refl refl refl is
 
 -- a word and its first `=`
 no_equals : (word : List ℕ) → behind_equals word ≡ None → before_first is_equals word ≡ word
@@ -267,11 +272,18 @@ joined_read Steps text =
       longer_than 7 (codes "--steps=") text
           (omega arith),
     )
+joined_read Seed text =
+    simp (
+      longer_than 1 (codes "--seed=") text (omega arith),
+      longer_than 6 (codes "--seed=") text
+          (omega arith),
+    )
 
 option_alone : (option : OptionName) → word_read Options (option_word option) ≡ Some (None, Value option)
 option_alone Harts = refl
 option_alone Frames = refl
 option_alone Steps = refl
+option_alone Seed = refl
 
 value_read : (option : OptionName) (text : List ℕ) → begins_with_dash text ≡ false
     → word_read (Value option) text ≡ Some (Some (Given option text), Options)
@@ -335,10 +347,12 @@ line_read found words (inr ended) =
     ∙ ap (λ o. o >>= (λ more. Some (ended.before ++ more))) behind ∙ ap Some (sym ended.all)
 
 -- no command has more than two names
-nothing_asked : (solo play : Bool) → cond {A = Option Command} solo None (cond play None None) ≡ None
-nothing_asked true play = refl
-nothing_asked false true = refl
-nothing_asked false false = refl
+nothing_asked : (solo play run : Bool)
+    → cond {A = Option Command} solo None (cond play None (cond run None None)) ≡ None
+nothing_asked true play run = refl
+nothing_asked false true run = refl
+nothing_asked false false true = refl
+nothing_asked false false false = refl
 
 many_names : (word : List ℕ) (given : Arguments) (names : List (List ℕ)) → given.names ≡ names
     → 2 < length names → asked_by word given ≡ None
@@ -346,17 +360,26 @@ many_names word given [] is many = absurd (omega arith)
 many_names word given (first ∷ []) is many = absurd (omega arith)
 many_names word given (first ∷ second ∷ []) is many = absurd (omega arith)
 many_names word given (first ∷ second ∷ third ∷ more) is many =
-    rw is (nothing_asked (bytes_eq word (codes "solo")) (bytes_eq word (codes "play")))
+    rw is (nothing_asked (bytes_eq word (codes "solo")) (bytes_eq word (codes "play"))
+    (bytes_eq word (codes "run")))
 
-too_many : (word : List ℕ) (names : List (List ℕ)) (h f s : Option (Option (List ℕ))) → 2 < length names
+too_many : (word : List ℕ) (names : List (List ℕ)) (h f s d : Option (Option (List ℕ))) → 2 < length names
     → ((h >>= (λ harts. f
-    >>= (λ frames. s >>= (λ steps. Some
-    (record { names = names; harts = harts; frames = frames; steps = steps }))))) >>= asked_by word) ≡ None
-too_many word names None f s many = refl
-too_many word names (Some harts) None s many = refl
-too_many word names (Some harts) (Some frames) None many = refl
-too_many word names (Some harts) (Some frames) (Some steps) many =
-    many_names word (record { names = names; harts = harts; frames = frames; steps = steps }) names refl many
+    >>= (λ frames. s >>= (λ steps. d >>= (λ seed. Some
+    (record { names = names; harts = harts; frames = frames; steps = steps; seed = seed }))))))
+    >>= asked_by word) ≡ None
+too_many word names None f s d many = refl
+too_many word names (Some harts) None s d many = refl
+too_many word names (Some harts) (Some frames) None d many = refl
+too_many word names (Some harts) (Some frames) (Some steps) None many = refl
+too_many word names (Some harts) (Some frames) (Some steps) (Some seed) many =
+    many_names word (record {
+      names = names;
+      harts = harts;
+      frames = frames;
+      steps = steps;
+      seed = seed;
+    }) names refl many
 
 few_asked : (found : List Item) (word : List ℕ) (many : Bool) → ltb 2 (length (names_in found)) ≡ many
     → (cond many None (arguments_in found) >>= asked_by word) ≡ (arguments_in found >>= asked_by word)
@@ -364,6 +387,7 @@ few_asked found word false at = refl
 few_asked found word true at =
     sym (too_many word (names_in found) (at_most_one (values_in Harts found))
     (at_most_one (values_in Frames found)) (at_most_one (values_in Steps found))
+    (at_most_one (values_in Seed found))
     (ltb-true 2 (length (names_in found)) at))
 
 -- the command of the words behind a command's word

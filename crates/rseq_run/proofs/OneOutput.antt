@@ -1,6 +1,6 @@
 -- Told files have one output.
 use Rattle.std.proofs.Common.{◌≡◌, ℕ, List, [], ◌∷◌, refl, sym, ap, ◌∙◌, subst, ap₂, Option, Some, None, Ok}
-use Rattle.std.proofs.Common.{map}
+use Rattle.std.proofs.Common.{false, map}
 use Rattle.std.specs.Prelude.{IsSome, IfSome}
 use Rattle.mach_types.specs.declared.limits.Limits.{Limits}
 use Rattle.elf_load.specs.declared.image.Image.{Image}
@@ -14,7 +14,8 @@ use Rattle.rseq_run.specs.Outputs.{IsOutputOf, IsPlainOutputOf, IsPlainPlayOutpu
 use Rattle.rseq_run.specs.Outputs.{plain_output}
 use Rattle.rseq_run.specs.Programs.{Files, IsProgram, asks_of, start_of}
 use Rattle.rseq_run.specs.Told.{AreTold, TellsGoodFiles}
-use Rattle.rseq_run.specs.Grammar.{Command, Solo, Play}
+use Rattle.rseq_run.specs.Grammar.{Command, Solo, Play, Run}
+use Rattle.rseq_run.specs.Words.{is_run}
 use Rattle.rseq_run.proofs.Exclusions.{AreUsed, used_by_output}
 use Rattle.rseq_run.proofs.PlainOutputs.{plain_output_of}
 
@@ -62,18 +63,21 @@ one_play files program script limits a b told script_told first second =
     let run : first.run ≡ second.run = cc in
     first.text ∙ ap₂ plain_output start run ∙ sym second.text
 
-one_plain : (files : Files) (command : Option Command) (a b : List ℕ) → AreTold files (needs_of command)
+one_plain : (files : Files) (command : Option Command) (a b : List ℕ) → is_run command ≡ false
+    → AreTold files (needs_of command)
     → IsPlainOutputOf files command a → IsPlainOutputOf files command b → a ≡ b
-one_plain files None a b told first second = absurd first
-one_plain files (Some (Solo program limits)) a b told first second =
+one_plain files None a b no_run told first second = absurd first
+one_plain files (Some (Solo program limits)) a b no_run told first second =
     one_solo files program limits a b told first second
-one_plain files (Some (Play program script limits)) a b told first second =
+one_plain files (Some (Play program script limits)) a b no_run told first second =
     one_play files program script limits a b told.0 told.1 first second
+one_plain files (Some (Run program limits seed)) a b no_run told first second = absurd (cc no_run)
 
-pub one_output : (files : Files) (command : Option Command) (a b : List ℕ) → AreTold files (needs_of command)
+pub one_output : (files : Files) (command : Option Command) (a b : List ℕ) → is_run command ≡ false
+    → AreTold files (needs_of command)
     → IsOutputOf files command a → IsOutputOf files command b → a ≡ b
-one_output files command a b told first second =
-    one_plain files command a b told (plain_output_of files command a first)
+one_output files command a b no_run told first second =
+    one_plain files command a b no_run told (plain_output_of files command a first)
     (plain_output_of files command b second)
 
 -- what was read is what is told
@@ -113,6 +117,7 @@ some_need : (files : Files) (command : Option Command) (written : List ℕ) → 
 some_need files None written output none = absurd output
 some_need files (Some (Solo program limits)) written output none = absurd cc
 some_need files (Some (Play program script limits)) written output none = absurd cc
+some_need files (Some (Run program limits seed)) written output none = absurd cc
 
 pub good_files : (files : Files) (command : Option Command) (written : List ℕ)
     → AreTold files (needs_of command) → IsOutputOf files command written

@@ -1,12 +1,15 @@
 -- The outcome of a call, from what was answered and how it was delivered.
-use Rattle.std.proofs.Common.{◌≡◌, ℕ, ◌≤◌, ◌⊎◌, inl, inr, List, refl, sym, ap, ◌∙◌, subst, arith, Option}
-use Rattle.std.proofs.Common.{Some, None}
+use Rattle.std.proofs.Common.{◌≡◌, ℕ, ◌⊎◌, inl, inr, List, refl, sym, ap, ◌∙◌, subst}
+use Rattle.std.proofs.Common.{None, Result, Ok, Err}
+use Rattle.std.specs.declared.alloc.Global.{Global}
+use Rattle.std.specs.declared.vec.Vec.{Vec}
 use Rattle.outside.specs.Counts.{NeverFalls, NoneFalls}
 use Rattle.rseq_run.specs.declared.faults.Fault.{Fault}
 use Rattle.rseq_run.specs.declared.faults.Fault.TheVariants.{Usage, Read, Memory, Big, Elf, Script}
-use Rattle.rseq_run.specs.Causes.{HasBigFile, IsCause, IsCauseOf, IsRefusalOf, IsScriptRefusalOf, ReadFailed}
+use Rattle.rseq_run.specs.Answers.{IsAnswer, IsTold}
+use Rattle.rseq_run.specs.Causes.{HasBigFile, IsCause, IsCauseOf}
 use Rattle.rseq_run.specs.Delivery.{IsCutShort, IsDelivered, IsWritten}
-use Rattle.rseq_run.specs.Needs.{needs_in, needs_of}
+use Rattle.rseq_run.specs.Needs.{needs_in}
 use Rattle.rseq_run.specs.Outcome.{Call, CouldNotRead, IsDue, IsElfLine, IsOutcome, IsScriptLine, IsStatus}
 use Rattle.rseq_run.specs.Outcome.{Wrote, WroteText}
 use Rattle.rseq_run.specs.Outputs.{IsOutput, IsOutputOf}
@@ -210,18 +213,10 @@ fault_delivered call fault status keeps cause (inr cut) =
     cut_short call (fault_line fault) status keeps
     (inr (record { fault = fault; cause = cause; line = refl })) cut
 
-pub output_outcome : (call : Call) (text given : List ℕ) (status : ℕ) → IsKept call
-    → IsOutput call.files call.words text → given ≡ text → IsDeliveredBy call given 0 status
+-- the outcome of an answer that was told
+pub told_outcome : (call : Call) (answer : Result (Vec ℕ Global) Fault) (status : ℕ) → IsKept call
+    → IsAnswer call.files call.words call.read_faults call.read_faults_after answer
+    → IsTold call.held call.held_after call.write_faults call.write_faults_after answer status
     → IsOutcome call status
-output_outcome call text given status keeps output is delivered =
-    output_delivered call text status keeps output
-    (subst (λ (t : List ℕ). IsDeliveredBy call t 0 status) is delivered)
-
-pub fault_outcome : (call : Call) (fault : Fault) (line : List ℕ) (due status : ℕ) → IsKept call
-    → IsCause call.files call.words call.read_faults call.read_faults_after fault
-    → line ≡ fault_line fault → due ≡ fault_status fault → IsDeliveredBy call line due status
-    → IsOutcome call status
-fault_outcome call fault line due status keeps cause says is delivered =
-    fault_delivered call fault status keeps cause
-    (subst (λ (d : ℕ). IsDeliveredBy call (fault_line fault) d status) is
-    (subst (λ (t : List ℕ). IsDeliveredBy call t due status) says delivered))
+told_outcome call (Ok text) status keeps output told = output_delivered call text.items status keeps output told
+told_outcome call (Err fault) status keeps cause told = fault_delivered call fault status keeps cause told

@@ -4,13 +4,14 @@ use Rattle.mach_types.specs.declared.events.Entry.{Entry}
 use Rattle.mach_types.specs.declared.limits.Limits.{Limits}
 use Rattle.block_model.specs.Plain.{PlainRun, plain_solo}
 use Rattle.block_model.specs.PlainSays.{SaysOf}
-use Rattle.block_model.specs.Setting.{Setting}
-use Rattle.block_model.proofs.Laws.{plain_makes, plain_solo_log, plain_solo_says, run_is_played}
+use Rattle.block_model.specs.Replay.{script_of}
+use Rattle.block_model.specs.Setting.{Setting, setting_of}
+use Rattle.block_model.proofs.Laws.{answers_itself, plain_makes, plain_solo_log, plain_solo_says, run_is_played}
 use Rattle.rseq_run.specs.Outputs.{IsOutputOf, IsPlainOutputOf, IsPlainPlayOutput, IsPlainSoloOutput}
-use Rattle.rseq_run.specs.Outputs.{IsPlayOutput, IsSoloOutput, log_output, plain_output}
+use Rattle.rseq_run.specs.Outputs.{IsPlainRunOutput, IsPlayOutput, IsRunOutput, IsSoloOutput, log_output, plain_output}
 use Rattle.rseq_run.specs.Programs.{Files, start_of}
 use Rattle.rseq_run.specs.Runs.{IsSoloRun}
-use Rattle.rseq_run.specs.Grammar.{Command, Solo, Play}
+use Rattle.rseq_run.specs.Grammar.{Command, Solo, Play, Run}
 
 -- a machine that says of a log what is read from it prints the log's text
 prints_alike : (s : Setting) (log : List Entry) (run : PlainRun) → run.log ≡ log → SaysOf s log run.machine
@@ -53,6 +54,23 @@ plain_play_output files program script limits written output =
           refl made.says;
     }
 
+plain_run_output : (files : Files) (program : List ℕ) (limits : Limits) (seed : ℕ) (written : List ℕ)
+    → IsRunOutput files program limits seed written → IsPlainRunOutput files program limits seed written
+plain_run_output files program limits seed written output =
+    let s = setting_of output.image limits seed in
+    let made = plain_makes s (script_of output.log) output.log
+    (run_is_played s (script_of output.log) output.log output.run.block_run (answers_itself output.log)) in
+    record {
+      image = output.image;
+      taken = output.taken;
+      log = output.log;
+      chosen = output.run;
+      run = record { log = output.log; machine = made.machine };
+      made = made.made;
+      text = output.text ∙ prints_alike s output.log (record { log = output.log; machine = made.machine })
+          refl made.says;
+    }
+
 pub plain_output_of : (files : Files) (command : Option Command) (written : List ℕ)
     → IsOutputOf files command written → IsPlainOutputOf files command written
 plain_output_of files None written output = absurd output
@@ -60,3 +78,5 @@ plain_output_of files (Some (Solo program limits)) written output =
     plain_solo_output files program limits written output
 plain_output_of files (Some (Play program script limits)) written output =
     plain_play_output files program script limits written output
+plain_output_of files (Some (Run program limits seed)) written output =
+    plain_run_output files program limits seed written output

@@ -21,12 +21,13 @@ use Rattle.step_log.specs.Text.{entry_line, entry_text, hex_text, kind_word, new
 use Rattle.step_log.proofs.Laws.{length-decimal_32, length-hex_text, length-kind_word-le, log_meanings}
 use Rattle.block_model.specs.Replay.{script_of}
 use Rattle.block_model.specs.Run.{IsBlockRun}
-use Rattle.block_model.specs.Setting.{Setting}
+use Rattle.block_model.specs.Setting.{Setting, setting_of}
 use Rattle.block_model.proofs.Laws.{all_addresses, all_harts, all_threads, answers_itself, within_limit}
-use Rattle.rseq_run.specs.Outputs.{IsPlayOutput, IsSoloOutput, log_output}
+use Rattle.rseq_run.specs.Outputs.{IsPlayOutput, IsRunOutput, IsSoloOutput, log_output}
 use Rattle.rseq_run.specs.Programs.{Files, IsProgram, IsReadAs, ask_in, ask_of, asks_of, most_script_bytes}
 use Rattle.rseq_run.specs.Programs.{start_of}
 use Rattle.rseq_run.specs.Runs.{IsPlayedRun}
+use Rattle.rseq_run.proofs.Seeds.{reseeded_output, reseeded_run}
 
 -- the entry of a program lies in a segment, and so is an address of 64 bits
 entry_within : (n entry : ℕ) (h : ProgramHeader) → is_misplaced n h ≡ false → has_code entry h ≡ true
@@ -174,3 +175,13 @@ pub play_again : (files later : Files) (program first script : List ℕ) (limits
 play_again files later program first script limits written range same output read =
     output_again files later program script limits written output.image output.log range same output.taken
     output.run.block_run output.text read
+
+-- a run by workers is one without a seed too, with the same text
+pub run_again : (files later : Files) (program script : List ℕ) (limits : Limits) (seed : ℕ) (written : List ℕ)
+    → InRange limits → later program ≡ files program
+    → (output : IsRunOutput files program limits seed written) → IsReadAs later script (log_text output.log)
+    → IsPlayOutput later program script limits written
+run_again files later program script limits seed written range same output read =
+    let s = setting_of output.image limits seed in
+    output_again files later program script limits written output.image output.log range same output.taken
+    (reseeded_run 0 s output.log output.run.block_run) (output.text ∙ sym (reseeded_output 0 s output.log)) read

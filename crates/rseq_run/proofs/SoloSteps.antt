@@ -1,5 +1,5 @@
 -- What a step by the fixed rule keeps, and that it is refused only where the run is over.
-use Rattle.std.proofs.Common.{◌≡◌, ◌≢◌, ℕ, List, ◌+◌, ◌<◌, [], ◌∷◌, ◌++◌, refl, sym, ap, ◌∙◌, subst, Bool}
+use Rattle.std.proofs.Common.{◌≡◌, ◌≢◌, ◌+◌, ◌<◌, [], ◌∷◌, ◌++◌, refl, sym, ap, ◌∙◌, subst, Bool}
 use Rattle.std.proofs.Common.{true, false, Some, None, Result, Ok, Err, length, length-append}
 use Rattle.std.proofs.Common.{arith, ◌≤◌}
 use Rattle.std.specs.Prelude.{IfOk, OnErr}
@@ -14,6 +14,7 @@ use Rattle.mach_types.specs.declared.events.Sight.{Sight}
 use Rattle.block_model.specs.declared.refusals.Refused.{Refused}
 use Rattle.block_model.specs.Setting.{Setting, Seen}
 use Rattle.block_model.specs.Deciding.{history, decide, end_of}
+use Rattle.block_model.specs.Choosing.{credit_at}
 use Rattle.block_model.specs.Sights.{sight_in}
 use Rattle.block_model.specs.Run.{IsBlockRun}
 use Rattle.block_model.specs.History.{here_in_history, ran}
@@ -100,11 +101,11 @@ executed_by_rule v (Err why) answer = tt
 -- the rule's choice is what it chooses by what is seen
 abbrev IsSeenBy : Seen → Sight → Type 0
 IsSeenBy m seen = seen ≡ sight_in (here_in_history m.setting (history m.setting m.log) 0)
-    (ran 0 (history m.setting m.log)) 0
+    (ran 0 (history m.setting m.log)) (credit_at m.setting 0 (history m.setting m.log))
 
 pub choice_is_seen : (m : Seen) (seen : Sight) (choice : Choice) → IsSeenBy m seen
     → solo_rule seen ≡ Some choice → solo_choice m.setting (history m.setting m.log) ≡ Some choice
-choice_is_seen m seen choice sight is = rule_is_read m.setting m.log 0 seen sight ∙ is
+choice_is_seen m seen choice sight is = rule_is_read m.setting m.log (credit_at m.setting 0 (history m.setting m.log)) seen sight ∙ is
 
 -- a turn by the rule's choice
 turn_by_choice : (v w : Seen) (choice : Choice) (r : Result Entry Refused) → 0 < v.setting.limits.harts
@@ -156,5 +157,5 @@ turn_stopped m seen one far sight none = record {
   so_far = far;
   room = λ made. absurd cc;
   longer = λ made. absurd cc;
-  over = λ stopped. rule_stops m.setting m.log one far.block_run (rule_is_read m.setting m.log 0 seen sight ∙ none);
+  over = λ stopped. rule_stops m.setting m.log one far.block_run (rule_is_read m.setting m.log (credit_at m.setting 0 (history m.setting m.log)) seen sight ∙ none);
 }

@@ -4,11 +4,11 @@ use Rattle.mach_types.specs.declared.events.Entry.{Entry}
 use Rattle.mach_types.specs.declared.limits.Limits.{Limits}
 use Rattle.elf_load.specs.declared.image.Image.{Image}
 use Rattle.block_model.specs.Run.{IsBlockRun}
-use Rattle.block_model.specs.Setting.{Setting, Seen}
+use Rattle.block_model.specs.Setting.{Setting, Seen, setting_of}
 use Rattle.block_model.proofs.Laws.{all_harts}
-use Rattle.rseq_run.specs.Outputs.{IsPlayOutput, IsSoloOutput, log_output}
+use Rattle.rseq_run.specs.Outputs.{IsPlayOutput, IsRunOutput, IsSoloOutput, log_output}
 use Rattle.rseq_run.specs.Programs.{Files, IsProgram, IsScript, start_of}
-use Rattle.rseq_run.specs.Runs.{IsPlayedRun, IsWholePlay, IsWholeSolo}
+use Rattle.rseq_run.specs.Runs.{IsPlayedRun, IsWholePlay, IsWholeRun, IsWholeSolo}
 
 -- each hart of a run is a digit
 digits : (s : Setting) (log : List Entry) → s.limits.harts ≤ 8 → IsBlockRun s log
@@ -22,6 +22,11 @@ solo_digits image limits m eight whole = digits (start_of image limits) m.log ei
 pub play_digits : (image : Image) (limits : Limits) (text : List ℕ) (m : Seen) → limits.harts ≤ 8
     → IsWholePlay (start_of image limits) text m → All (λ (e : Entry). e.hart.0 < 8) m.log
 play_digits image limits text m eight whole = digits (start_of image limits) m.log eight whole.run.block_run
+
+pub run_digits : (image : Image) (limits : Limits) (seed : ℕ) (m : Seen) → limits.harts ≤ 8
+    → IsWholeRun (setting_of image limits seed) m → All (λ (e : Entry). e.hart.0 < 8) m.log
+run_digits image limits seed m eight whole =
+    digits (setting_of image limits seed) m.log eight whole.run.block_run
 
 pub solo_output_of : (files : Files) (program : List ℕ) (limits : Limits) (image : Image) (m : Seen)
     (text : List ℕ) → IsProgram files program limits image → IsWholeSolo (start_of image limits) m
@@ -49,3 +54,14 @@ play_output_of files same program script lines given limits image m text is equa
       run = subst (λ t. IsPlayedRun (start_of image limits) t m.log) equal whole.run;
       text = subst (λ (s : Setting). text ≡ log_output s m.log) whole.setting written;
     }
+
+pub run_output_of : (files : Files) (program : List ℕ) (limits : Limits) (seed : ℕ) (image : Image) (m : Seen)
+    (text : List ℕ) → IsProgram files program limits image → IsWholeRun (setting_of image limits seed) m
+    → text ≡ log_output m.setting m.log → IsRunOutput files program limits seed text
+run_output_of files program limits seed image m text taken whole is = record {
+  image = image;
+  taken = taken;
+  log = m.log;
+  run = whole.run;
+  text = subst (λ (s : Setting). text ≡ log_output s m.log) whole.setting is;
+}

@@ -1,7 +1,7 @@
 -- Worked examples of words, by computation.
-use Rattle.std.proofs.Common.{◌≡◌, ℕ, [], ◌∷◌, Option, Some, None, refl, codes}
+use Rattle.std.proofs.Common.{◌≡◌, ℕ, ◌-◌, ◌^◌, [], ◌∷◌, Option, Some, None, refl, codes}
 use Rattle.mach_types.specs.declared.limits.Limits.{Limits}
-use Rattle.rseq_run.specs.Grammar.{Command, Solo, Play}
+use Rattle.rseq_run.specs.Grammar.{Command, Solo, Play, Run}
 use Rattle.rseq_run.specs.Options.{number_of}
 use Rattle.rseq_run.specs.Words.{arguments_of, command_of}
 
@@ -204,3 +204,60 @@ too_few_frames : command_of (codes "play" ∷ codes "F" ∷ codes "S" ∷ codes 
     ≡ None
 unfolding command_of arguments_of
 too_few_frames = refl
+
+-- `run F` has the number of harts and the seed that are given, or else the defaults
+run_defaults : command_of (codes "run" ∷ codes "F" ∷ []) ≡ Some (Run (codes "F") (limits 2 4096 200000) 1)
+unfolding command_of arguments_of
+run_defaults = refl
+
+run_options : command_of
+    (codes "run" ∷ codes "--harts" ∷ codes "3" ∷ codes "F" ∷ codes "--frames=128" ∷ codes "--steps=5"
+    ∷ codes "--seed" ∷ codes "7" ∷ []) ≡ Some (Run (codes "F") (limits 3 128 5) 7)
+unfolding command_of arguments_of
+run_options = refl
+
+least_seed : command_of (codes "run" ∷ codes "F" ∷ codes "--seed=0" ∷ [])
+    ≡ Some (Run (codes "F") (limits 2 4096 200000) 0)
+unfolding command_of arguments_of
+least_seed = refl
+
+largest_seed : command_of
+    (codes "run" ∷ codes "--seed=18446744073709551615" ∷ codes "--" ∷ codes "F" ∷ [])
+    ≡ Some (Run (codes "F") (limits 2 4096 200000) (2 ^ 64 - 1))
+unfolding command_of arguments_of
+largest_seed = refl
+
+seed_too_large : command_of
+    (codes "run" ∷ codes "--seed" ∷ codes "18446744073709551616" ∷ codes "F" ∷ []) ≡ None
+unfolding command_of arguments_of
+seed_too_large = refl
+
+seed_twice : command_of (codes "run" ∷ codes "--seed=1" ∷ codes "--seed=1" ∷ codes "F" ∷ []) ≡ None
+unfolding command_of arguments_of
+seed_twice = refl
+
+run_too_many_harts : command_of (codes "run" ∷ codes "--harts" ∷ codes "9" ∷ codes "F" ∷ []) ≡ None
+unfolding command_of arguments_of
+run_too_many_harts = refl
+
+run_harts_twice : command_of
+    (codes "run" ∷ codes "--harts" ∷ codes "2" ∷ codes "--harts" ∷ codes "2" ∷ codes "F" ∷ []) ≡ None
+unfolding command_of arguments_of
+run_harts_twice = refl
+
+run_no_name : command_of (codes "run" ∷ []) ≡ None
+unfolding command_of arguments_of
+run_no_name = refl
+
+run_two_names : command_of (codes "run" ∷ codes "F" ∷ codes "S" ∷ []) ≡ None
+unfolding command_of arguments_of
+run_two_names = refl
+
+-- `solo` and `play` take no seed
+solo_seed : command_of (codes "solo" ∷ codes "--seed" ∷ codes "1" ∷ codes "F" ∷ []) ≡ None
+unfolding command_of arguments_of
+solo_seed = refl
+
+play_seed : command_of (codes "play" ∷ codes "--seed" ∷ codes "1" ∷ codes "F" ∷ codes "S" ∷ []) ≡ None
+unfolding command_of arguments_of
+play_seed = refl

@@ -5,15 +5,15 @@
 --     item ::= name  |  option value  |  option=value
 --
 -- Names and options stand in any order. Behind `--` each word is a name, a further `--` too.
-use Rattle.std.specs.Prelude.{ℕ, ◌≡◌, Bool, ◌&&◌, false, List, [], ◌∷◌, ◌++◌, ◌⊎◌, length, map, Option, Some}
+use Rattle.std.specs.Prelude.{ℕ, ◌≡◌, Bool, ◌&&◌, ◌||◌, false, List, [], ◌∷◌, ◌++◌, ◌⊎◌, length, map, Option, Some}
 use Rattle.std.specs.Prelude.{None, if◌then◌else◌, nat_lt, nat_eq, codes}
 use Rattle.std.specs.List.{starts_with}
 use Rattle.std.specs.Option.{is_some}
 use Rattle.std.specs.Str.{bytes_eq}
 use Rattle.mach_types.specs.declared.limits.Limits.{Limits}
 use Rattle.step_log.specs.Script.{◌>>=◌}
-use Rattle.rseq_run.specs.Options.{OptionName, Harts, Frames, Steps, option_word, same_option, range_of}
-use Rattle.rseq_run.specs.Options.{chosen}
+use Rattle.rseq_run.specs.Options.{OptionName, Harts, Frames, Steps, Seed, option_word, same_option}
+use Rattle.rseq_run.specs.Options.{chosen, range_of}
 
 -- what a command is given behind its word: a name, or an option with the text of its value
 pub data Item : Type 0 where
@@ -75,6 +75,7 @@ pub record Arguments : Type 0 where
   pub harts : Option (List ℕ)
   pub frames : Option (List ℕ)
   pub steps : Option (List ℕ)
+  pub seed : Option (List ℕ)
 
 -- the value of an option that is given at most once
 abbrev pub at_most_one : List (List ℕ) → Option (Option (List ℕ))
@@ -88,13 +89,15 @@ arguments_in items = do
   harts ← at_most_one (values_in Harts items)
   frames ← at_most_one (values_in Frames items)
   steps ← at_most_one (values_in Steps items)
-  Some (record { names = names_in items; harts = harts; frames = frames; steps = steps })
+  seed ← at_most_one (values_in Seed items)
+  Some (record { names = names_in items; harts = harts; frames = frames; steps = steps; seed = seed })
 
--- what can be asked for: to run a program on one hart by the fixed rule, or on the events of a script; the
--- names are those of the files
+-- what can be asked for: to run a program on one hart by the fixed rule, on the events of a script, or by
+-- workers, one for each hart, that choose by a seed; the names are those of the files
 pub data Command : Type 0 where
   Solo : (program : List ℕ) (limits : Limits) → Command
   Play : (program : List ℕ) (script : List ℕ) (limits : Limits) → Command
+  Run : (program : List ℕ) (limits : Limits) (seed : ℕ) → Command
 
 -- the limits of a run on so many harts
 abbrev pub limits_on : ℕ → Arguments → Option Limits
@@ -103,21 +106,31 @@ limits_on harts given = do
   steps ← chosen (range_of Steps) given.steps
   Some (record { harts = harts; frames = frames; steps = steps })
 
--- `solo FILE` has one hart, and takes no number of harts
+-- `solo FILE` has one hart and chooses nothing: it takes no number of harts, and no seed
 abbrev pub solo_named : List (List ℕ) → Arguments → Option Command
 solo_named (program ∷ []) given =
-    if is_some given.harts then None else do
+    if is_some given.harts || is_some given.seed then None else do
       limits ← limits_on 1 given
       Some (Solo program limits)
 solo_named _ given = None
 
--- `play FILE SCRIPT`
+-- `play FILE SCRIPT` chooses nothing, and takes no seed
 abbrev pub play_named : List (List ℕ) → Arguments → Option Command
-play_named (program ∷ script ∷ []) given = do
+play_named (program ∷ script ∷ []) given =
+    if is_some given.seed then None else do
+      harts ← chosen (range_of Harts) given.harts
+      limits ← limits_on harts given
+      Some (Play program script limits)
+play_named _ given = None
+
+-- `run FILE`
+abbrev pub run_named : List (List ℕ) → Arguments → Option Command
+run_named (program ∷ []) given = do
   harts ← chosen (range_of Harts) given.harts
   limits ← limits_on harts given
-  Some (Play program script limits)
-play_named _ given = None
+  seed ← chosen (range_of Seed) given.seed
+  Some (Run program limits seed)
+run_named _ given = None
 
 -- what the arguments of `solo` ask for
 abbrev pub solo_of : Arguments → Option Command
@@ -127,10 +140,16 @@ solo_of given = solo_named given.names given
 abbrev pub play_of : Arguments → Option Command
 play_of given = play_named given.names given
 
+-- what the arguments of `run` ask for
+abbrev pub run_of : Arguments → Option Command
+run_of given = run_named given.names given
+
 -- what a command's word asks for with these arguments
 abbrev pub asked_by : List ℕ → Arguments → Option Command
 asked_by word given =
-    if bytes_eq word (codes "solo") then solo_of given else if bytes_eq word (codes "play") then play_of given
+    if bytes_eq word (codes "solo") then solo_of given
+    else if bytes_eq word (codes "play") then play_of given
+    else if bytes_eq word (codes "run") then run_of given
     else None
 
 -- what it asks for with these items behind it

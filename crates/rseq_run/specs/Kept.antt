@@ -13,9 +13,9 @@ use Rattle.rseq_run.specs.declared.commands.Command.TheVariants as code
 use Rattle.rseq_run.specs.declared.options.Numbers.{Numbers}
 use Rattle.rseq_run.specs.declared.options.OptionName.{OptionName}
 use Rattle.rseq_run.specs.declared.options.OptionName.TheVariants as option
-use Rattle.rseq_run.specs.Grammar.{Arguments as Stated, Command as Asked, Solo, Play, Item as Shown, Name}
-use Rattle.rseq_run.specs.Grammar.{Given}
-use Rattle.rseq_run.specs.Options.{OptionName as Named, Harts, Frames, Steps, Range}
+use Rattle.rseq_run.specs.Grammar.{Arguments as Stated, Command as Asked, Solo, Play, Run}
+use Rattle.rseq_run.specs.Grammar.{Item as Shown, Name, Given}
+use Rattle.rseq_run.specs.Options.{OptionName as Named, Harts, Frames, Steps, Seed, Range}
 use Rattle.rseq_run.specs.Words.{Reading as Read, Options, Value, Names}
 
 -- an option
@@ -23,6 +23,7 @@ abbrev pub named : OptionName → Named
 named option.Harts = Harts
 named option.Frames = Frames
 named option.Steps = Steps
+named option.Seed = Seed
 
 -- the numbers that an option takes
 abbrev pub range : Numbers → Range
@@ -56,9 +57,11 @@ stated kept = record {
   harts = option_copied kept.harts;
   frames = option_copied kept.frames;
   steps = option_copied kept.steps;
+  seed = option_copied kept.seed;
 }
 
 -- the command, with the texts of its names
 abbrev pub said : Command → Asked
 said (code.Solo program limits) = Solo program.now limits
 said (code.Play program script limits) = Play program.now script.now limits
+said (code.Run program limits seed) = Run program.now limits seed

@@ -1,3 +1,4 @@
+pub mod Answers
 pub mod Causes
 pub mod Delivery
 pub mod Grammar
@@ -10,6 +11,7 @@ pub mod Parts
 pub mod Playing
 pub mod Programs
 pub mod Runs
+pub mod Sharing
 pub mod Statuses
 pub mod Text
 pub mod Told

@@ -3,15 +3,15 @@ use Rattle.std.specs.Prelude.{ℕ, ◌≡◌, List, Option, Some, None, Ok, map}
 use Rattle.mach_types.specs.declared.events.Entry.{Entry}
 use Rattle.mach_types.specs.declared.limits.Limits.{Limits}
 use Rattle.elf_load.specs.declared.image.Image.{Image}
-use Rattle.block_model.specs.Setting.{Setting}
+use Rattle.block_model.specs.Setting.{Setting, setting_of}
 use Rattle.block_model.specs.History.{console}
 use Rattle.block_model.specs.Deciding.{history, end_of}
 use Rattle.block_model.specs.Plain.{PlainRun, plain_end, plain_run, plain_solo}
-use Rattle.block_model.specs.Replay.{Ask}
+use Rattle.block_model.specs.Replay.{Ask, script_of}
 use Rattle.rseq_run.specs.Programs.{Files, IsProgram, IsScript, asks_of, start_of}
-use Rattle.rseq_run.specs.Runs.{IsSoloRun, IsPlayedRun}
+use Rattle.rseq_run.specs.Runs.{IsChosenRun, IsSoloRun, IsPlayedRun}
 use Rattle.rseq_run.specs.Text.{output_text}
-use Rattle.rseq_run.specs.Grammar.{Command, Solo, Play}
+use Rattle.rseq_run.specs.Grammar.{Command, Solo, Play, Run}
 use Rattle.rseq_run.specs.Words.{command_of}
 
 -- the output text of a log: its lines, and the console and the end that it comes to
@@ -37,12 +37,22 @@ pub record IsPlayOutput
   pub run : IsPlayedRun (start_of image limits) lines log
   pub text : written ≡ log_output (start_of image limits) log
 
+-- the text that `run` writes: that of a whole run of the program by workers, whose harts choose by the seed
+pub record IsRunOutput
+    (files : Files) (program : List ℕ) (limits : Limits) (seed : ℕ) (written : List ℕ) : Type 0 where
+  pub image : Image
+  pub taken : IsProgram files program limits image
+  pub log : List Entry
+  pub run : IsChosenRun (setting_of image limits seed) log
+  pub text : written ≡ log_output (setting_of image limits seed) log
+
 -- the output of a command
 abbrev pub IsOutputOf : Files → Option Command → List ℕ → Type 0
 IsOutputOf files None written = ⊥
 IsOutputOf files (Some (Solo program limits)) written = IsSoloOutput files program limits written
 IsOutputOf files (Some (Play program script limits)) written =
     IsPlayOutput files program script limits written
+IsOutputOf files (Some (Run program limits seed)) written = IsRunOutput files program limits seed written
 
 -- the output of the words
 abbrev pub IsOutput : Files → List (List ℕ) → List ℕ → Type 0
@@ -74,12 +84,26 @@ pub record IsPlainPlayOutput
   pub made : plain_run (start_of image limits) asks ≡ Ok run
   pub text : written ≡ plain_output (start_of image limits) run
 
+-- the text of the plain machine's run of the program over the hart and the choice of each entry of a log, which
+-- are those of a whole run by workers
+pub record IsPlainRunOutput
+    (files : Files) (program : List ℕ) (limits : Limits) (seed : ℕ) (written : List ℕ) : Type 0 where
+  pub image : Image
+  pub taken : IsProgram files program limits image
+  pub log : List Entry
+  pub chosen : IsChosenRun (setting_of image limits seed) log
+  pub run : PlainRun
+  pub made : plain_run (setting_of image limits seed) (script_of log) ≡ Ok run
+  pub text : written ≡ plain_output (setting_of image limits seed) run
+
 -- the plain machine's output of a command
 abbrev pub IsPlainOutputOf : Files → Option Command → List ℕ → Type 0
 IsPlainOutputOf files None written = ⊥
 IsPlainOutputOf files (Some (Solo program limits)) written = IsPlainSoloOutput files program limits written
 IsPlainOutputOf files (Some (Play program script limits)) written =
     IsPlainPlayOutput files program script limits written
+IsPlainOutputOf files (Some (Run program limits seed)) written =
+    IsPlainRunOutput files program limits seed written
 
 -- the plain machine's output of the words
 abbrev pub IsPlainOutput : Files → List (List ℕ) → List ℕ → Type 0

@@ -2,12 +2,12 @@
 use Rattle.std.specs.Prelude.{ℕ, List, [], ◌∷◌, ◌++◌, length, Option, Some, None, if◌then◌else◌, nat_lt}
 use Rattle.std.specs.Option.{is_some}
 use Rattle.rseq_run.specs.Options.{OptionName}
-use Rattle.rseq_run.specs.Options.{Harts, Frames, Steps}
+use Rattle.rseq_run.specs.Options.{Harts, Frames, Steps, Seed}
 use Rattle.rseq_run.specs.Grammar.{Arguments, Item, Name, Given}
 
 -- nothing is given
 abbrev pub no_arguments : Arguments
-no_arguments = record { names = []; harts = None; frames = None; steps = None }
+no_arguments = record { names = []; harts = None; frames = None; steps = None; seed = None }
 
 -- a name more, none where there are two
 abbrev pub with_name : Arguments → List ℕ → Option Arguments
@@ -20,6 +20,7 @@ with_value given Harts text = if is_some given.harts then None else Some (record
 with_value given Frames text =
     if is_some given.frames then None else Some (record given { frames = Some text })
 with_value given Steps text = if is_some given.steps then None else Some (record given { steps = Some text })
+with_value given Seed text = if is_some given.seed then None else Some (record given { seed = Some text })
 
 -- what a word ended more
 abbrev pub with_item : Arguments → Option Item → Option Arguments

@@ -2,6 +2,7 @@
 use Rattle.std.specs.Prelude.{ℕ, ◌≡◌, ◌≢◌, ◌+◌, ◌<◌, Bool, false, IsTrue, List, Some, length, map}
 use Rattle.mach_types.specs.declared.events.Entry.{Entry}
 use Rattle.mach_types.specs.declared.limits.End.TheVariants.{Unended}
+use Rattle.block_model.specs.Choosing.{IsChosen}
 use Rattle.block_model.specs.Deciding.{history, end_of}
 use Rattle.block_model.specs.Replay.{Ask, AllAnswer, IsFirstBad}
 use Rattle.block_model.specs.Run.{IsBlockRun}
@@ -14,6 +15,13 @@ use Rattle.rseq_run.specs.Programs.{asks_of}
 pub record IsSoloRun (s : Setting) (log : List Entry) : Type 0 where
   pub block_run : IsBlockRun s log
   pub rule : IsSolo s log
+  pub over : end_of s (history s log) ≢ Unended
+
+-- a whole run by workers: each entry is allowed at its place and is the choice of its hart there, and the run
+-- isn't left open
+pub record IsChosenRun (s : Setting) (log : List Entry) : Type 0 where
+  pub block_run : IsBlockRun s log
+  pub chosen : IsChosen s log
   pub over : end_of s (history s log) ≢ Unended
 
 -- a whole run of a script: each line can be read, each entry is allowed at its place, and the log has one
@@ -47,6 +55,11 @@ pub record IsSoloTurn (old new : Seen) (made : Bool) : Type 0 where
 pub record IsWholeSolo (s : Setting) (m : Seen) : Type 0 where
   pub setting : m.setting ≡ s
   pub run : IsSoloRun s m.log
+
+-- a machine at the end of a whole run by workers from this setting
+pub record IsWholeRun (s : Setting) (m : Seen) : Type 0 where
+  pub setting : m.setting ≡ s
+  pub run : IsChosenRun s m.log
 
 -- a machine at the end of a whole run of a script from this setting
 pub record IsWholePlay (s : Setting) (text : List ℕ) (m : Seen) : Type 0 where

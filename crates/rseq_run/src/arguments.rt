@@ -52,6 +52,8 @@ pub(crate) struct Arguments<'a> {
     pub(crate) frames: Option<&'a str>,
     /// The value of `--steps`.
     pub(crate) steps: Option<&'a str>,
+    /// The value of `--seed`.
+    pub(crate) seed: Option<&'a str>,
 }
 
 impl<'a> Arguments<'a> {
@@ -64,6 +66,7 @@ impl<'a> Arguments<'a> {
             harts: None,
             frames: None,
             steps: None,
+            seed: None,
         }
     }
 
@@ -96,7 +99,11 @@ impl<'a> Arguments<'a> {
                 steps: Some(text),
                 ..self
             }),
-            OptionName::Harts | OptionName::Frames | OptionName::Steps => None,
+            OptionName::Seed if self.seed.is_none() => Some(Arguments {
+                seed: Some(text),
+                ..self
+            }),
+            OptionName::Harts | OptionName::Frames | OptionName::Steps | OptionName::Seed => None,
         }
     }
 

@@ -3,7 +3,7 @@
 ghost use Rattle.std.specs.Prelude.{◌≡◌, ◌≤◌, IfSome, option_map};
 ghost use Rattle.mach_types.specs.Limits.{InRange};
 ghost use Rattle.rseq_run.specs.Kept.{said, stated};
-ghost use Rattle.rseq_run.specs.Grammar.{asked_by, limits_on, play_of, solo_of};
+ghost use Rattle.rseq_run.specs.Grammar.{asked_by, limits_on, play_of, run_of, solo_of};
 ghost use Rattle.rseq_run.specs.Words.{HasItsHarts, command_of, limits_in, texts};
 
 use crate::arguments::{Arguments, FileNames, arguments_of};
@@ -29,12 +29,21 @@ pub enum Command<'a> {
         /// The limits of the run.
         limits: Limits,
     },
+    /// Runs the program in the file of this name by workers, one for each hart.
+    Run {
+        /// The name of the program's file.
+        program: &'a str,
+        /// The limits of the run.
+        limits: Limits,
+        /// The seed of what the harts choose.
+        seed: u64,
+    },
 }
 
 /// What the words ask for; None exactly where they aren't of the grammar.
 ///
-/// The first word is the command: `solo FILE`, with `--frames` and `--steps`, or `play FILE SCRIPT`, with
-/// `--harts` too. Each limit is in its range.
+/// The first word is the command: `solo FILE`, with `--frames` and `--steps`; `play FILE SCRIPT`, with
+/// `--harts` too; or `run FILE`, with `--harts` and `--seed` too. Each limit is in its range.
 #[tactic(auto, unfolding(crate::specs::Words::command_of))]
 pub fn command_of(words: &[String]) -> Option<Command<'_>>
     ensures command { option_map said result ≡ command_of (texts words.now) }
@@ -54,6 +63,7 @@ fn asked_by<'a>(command: &str, arguments: Arguments<'a>) -> Option<Command<'a>>
     match command {
         "solo" => solo_of(arguments),
         "play" => play_of(arguments),
+        "run" => run_of(arguments),
         _ => None,
     }
 }
@@ -75,22 +85,25 @@ fn limits_on(harts: u8, arguments: &Arguments) -> Option<Limits>
     })
 }
 
-/// What the arguments of `solo` ask for: one name, and no number of harts.
+/// What the arguments of `solo` ask for: one name, no number of harts and no seed.
 fn solo_of(arguments: Arguments<'_>) -> Option<Command<'_>>
     ensures command { option_map said result ≡ solo_of (stated arguments.entry) }
     ensures limits { IfSome result (λ command. InRange (limits_in (said command))) }
     ensures harts { IfSome result (λ command. HasItsHarts (said command)) }
 {
-    match arguments.names {
-        FileNames::One(program) if arguments.harts.is_none() => Some(Command::Solo {
-            program,
-            limits: limits_on(1, &arguments)?,
-        }),
-        FileNames::Zero | FileNames::One(_) | FileNames::Two(..) => None,
+    let FileNames::One(program) = arguments.names else {
+        return None;
+    };
+    if arguments.harts.is_some() || arguments.seed.is_some() {
+        return None;
     }
+    Some(Command::Solo {
+        program,
+        limits: limits_on(1, &arguments)?,
+    })
 }
 
-/// What the arguments of `play` ask for: two names.
+/// What the arguments of `play` ask for: two names, and no seed.
 fn play_of(arguments: Arguments<'_>) -> Option<Command<'_>>
     ensures command { option_map said result ≡ play_of (stated arguments.entry) }
     ensures limits { IfSome result (λ command. InRange (limits_in (said command))) }
@@ -99,10 +112,30 @@ fn play_of(arguments: Arguments<'_>) -> Option<Command<'_>>
     let FileNames::Two(program, script) = arguments.names else {
         return None;
     };
+    if arguments.seed.is_some() {
+        return None;
+    }
     let harts = chosen(OptionName::Harts.numbers(), arguments.harts)?;
     Some(Command::Play {
         program,
         script,
         limits: limits_on(u8::try_from(harts).ok()?, &arguments)?,
+    })
+}
+
+/// What the arguments of `run` ask for: one name.
+fn run_of(arguments: Arguments<'_>) -> Option<Command<'_>>
+    ensures command { option_map said result ≡ run_of (stated arguments.entry) }
+    ensures limits { IfSome result (λ command. InRange (limits_in (said command))) }
+    ensures harts { IfSome result (λ command. HasItsHarts (said command)) }
+{
+    let FileNames::One(program) = arguments.names else {
+        return None;
+    };
+    let harts = chosen(OptionName::Harts.numbers(), arguments.harts)?;
+    Some(Command::Run {
+        program,
+        limits: limits_on(u8::try_from(harts).ok()?, &arguments)?,
+        seed: chosen(OptionName::Seed.numbers(), arguments.seed)?,
     })
 }

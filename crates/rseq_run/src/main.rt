@@ -8,6 +8,8 @@ mod faults;
 mod options;
 mod output;
 mod play;
+mod run;
+mod shared;
 mod solo;
 mod sure;
 #[cfg(test)]
@@ -29,13 +31,13 @@ use top_call::rseq_main;
 /// Where the words can't be taken, nothing is printed, and only the exit status tells the fault.
 fn main(rt: HostRuntime) -> ExitCode {
     match command_words(&rt) {
-        Ok(words) => ExitCode::from(run(rt.alloc(), &rt, &words)),
+        Ok(words) => ExitCode::from(answer(rt.alloc(), &rt, &words)),
         Err(fault) => ExitCode::from(fault.status()),
     }
 }
 
 /// Does what the words ask for, with the files of the system and standard output.
-fn run<R: Threads + Wait + Sync + Files + Print + Copy>(
+fn answer<R: Threads + Wait + Sync + Files + Print + Copy>(
     alloc: Global,
     rt: &R,
     words: &[String],

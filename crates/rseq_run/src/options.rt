@@ -15,6 +15,8 @@ pub(crate) enum OptionName {
     Frames,
     /// How many events the log can hold.
     Steps,
+    /// The seed of what the harts choose.
+    Seed,
 }
 
 /// The numbers that an option takes.
@@ -37,6 +39,7 @@ impl OptionName {
             "--harts" => Some(OptionName::Harts),
             "--frames" => Some(OptionName::Frames),
             "--steps" => Some(OptionName::Steps),
+            "--seed" => Some(OptionName::Seed),
             _ => None,
         }
     }
@@ -49,6 +52,7 @@ impl OptionName {
             OptionName::Harts => (1, 8, 2),
             OptionName::Frames => (128, 16_384, 4_096),
             OptionName::Steps => (1, 1_000_000, 200_000),
+            OptionName::Seed => (0, u64::MAX, 1),
         };
         Numbers {
             least,

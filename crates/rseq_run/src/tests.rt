@@ -8,3 +8,4 @@ mod refusals;
 mod replays;
 mod runs;
 mod words;
+mod workers;

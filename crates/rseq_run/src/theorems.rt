@@ -1,15 +1,15 @@
 //! Laws of the outputs, each as the contract of a function that does nothing.
 
-ghost use Rattle.std.specs.Prelude.{◌≡◌, ◌↔◌, ℕ, List, Option, None, Some};
+ghost use Rattle.std.specs.Prelude.{◌≡◌, ◌↔◌, false, ℕ, List, Option, None, Some};
 ghost use Rattle.mach_types.specs.declared.limits.Limits.{Limits};
 ghost use Rattle.mach_types.specs.Limits.{InRange};
 ghost use Rattle.step_log.specs.Grammar.{log_text};
 ghost use Rattle.rseq_run.specs.Needs.{needs_of};
-ghost use Rattle.rseq_run.specs.Outputs.{IsOutput, IsOutputOf, IsPlainOutput, IsPlayOutput, IsSoloOutput};
+ghost use Rattle.rseq_run.specs.Outputs.{IsOutput, IsOutputOf, IsPlainOutput, IsPlayOutput, IsRunOutput, IsSoloOutput};
 ghost use Rattle.rseq_run.specs.Programs.{Files, IsReadAs};
 ghost use Rattle.rseq_run.specs.Told.{AreTold, TellsGoodFiles};
 ghost use Rattle.rseq_run.specs.Grammar.{Command, IsCommandLine};
-ghost use Rattle.rseq_run.specs.Words.{command_of};
+ghost use Rattle.rseq_run.specs.Words.{command_of, is_run};
 
 /// The log lines of an output, read as a script by `play` with the same program and limits, are allowed at
 /// every line and give the same output text. The shelf of the later call has the same program, and those
@@ -24,13 +24,19 @@ pub fn printed_log_replays()
         → (output : IsPlayOutput files program first limits written)
         → IsReadAs later script (log_text output.log)
         → IsPlayOutput later program script limits written }
+    ensures run { (files later : Files) (program script : List ℕ) (limits : Limits) (seed : ℕ)
+        (written : List ℕ) → InRange limits → later program ≡ files program
+        → (output : IsRunOutput files program limits seed written)
+        → IsReadAs later script (log_text output.log)
+        → IsPlayOutput later program script limits written }
 {}
 
-/// Where a shelf tells the files that a command needs, there is one output: which it is depends on their
-/// bytes and the limits alone. And where there is an output, the files are good.
+/// Where a shelf tells the files that `solo` or `play` needs, there is one output: which it is depends on their
+/// bytes and the limits alone. Which one comes of `run` hangs also on the order in which the harts take turns.
+/// And where there is an output, the files are good.
 pub fn told_files_have_one_output()
     ensures one { (files : Files) (command : Option Command) (written other : List ℕ)
-        → AreTold files (needs_of command)
+        → is_run command ≡ false → AreTold files (needs_of command)
         → IsOutputOf files command written → IsOutputOf files command other → written ≡ other }
     ensures good { (files : Files) (command : Option Command) (written : List ℕ)
         → AreTold files (needs_of command)

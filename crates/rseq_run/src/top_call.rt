@@ -1,21 +1,23 @@
 //! The top call: from words, files and a sink to a status.
 
-ghost use Rattle.std.specs.Prelude.{◌≡◌, Some, None, IfOk, IfErr, IfSome, IsSome};
+ghost use Rattle.std.specs.Prelude.{◌≡◌, true, Some, None, IfOk, IfErr, IfNone, IfSome, is_none};
 ghost use Rattle.mach_types.specs.Limits.{InRange};
 ghost use Rattle.elf_load.specs.Images.{IsBootable};
 ghost use Rattle.outside.specs.Counts.{NeverFalls, NoneFalls};
-ghost use Rattle.rseq_run.specs.Causes.{IsCause, IsCauseOf};
+ghost use Rattle.rseq_run.specs.Answers.{IsAnswer, IsTold};
+ghost use Rattle.rseq_run.specs.Causes.{IsCauseOf};
 ghost use Rattle.rseq_run.specs.Delivery.{IsDelivered, IsProgramCause, IsScriptCause};
-ghost use Rattle.rseq_run.specs.Grammar.{Play as PlayOf, Solo as SoloOf};
+ghost use Rattle.rseq_run.specs.Grammar.{Play as PlayOf, Run as RunOf, Solo as SoloOf};
 ghost use Rattle.rseq_run.specs.Outcome.{IsOutcome};
-ghost use Rattle.rseq_run.specs.Outputs.{IsOutput, IsPlayOutput, IsSoloOutput};
+ghost use Rattle.rseq_run.specs.Outputs.{IsPlayOutput, IsRunOutput, IsSoloOutput};
 ghost use Rattle.rseq_run.specs.Programs.{IsProgram, IsScript};
-ghost use Rattle.rseq_run.specs.Words.{command_of as command_in, texts};
+ghost use Rattle.rseq_run.specs.Words.{command_of, is_run, texts};
 
 use crate::commands::{Command, command_of};
 use crate::faults::Fault;
 use crate::output::output_text;
 use crate::play::play;
+use crate::run::run_workers;
 use crate::solo::run_solo;
 use elf_load::{Image, load};
 use mach_types::Limits;
@@ -42,7 +44,7 @@ const WRITE_FAILED: u8 = 6;
 /// at status 0 the output of the command, at every other status one line that names the fault. Where the
 /// sink fails, the status is 6, and it holds a prefix of the text.
 ///
-/// `rt` and `gate` serve commands that run worker threads, of which there are none yet.
+/// `run` alone starts worker threads and waits for them. The gate is passed once before each turn of a worker.
 pub fn rseq_main<R: Threads + Wait + Sync, S: Shelf, K: Sink, G: Gate + Sync>(
     alloc: Global,
     rt: &R,
@@ -62,15 +64,16 @@ pub fn rseq_main<R: Threads + Wait + Sync, S: Shelf, K: Sink, G: Gate + Sync>(
       write_faults = K.faults sink.old;
       write_faults_after = K.faults sink.new;
     }) result }
-    ensures untouched { command_in (texts words.now) ≡ None → shelf.new ≡ shelf.old }
+    ensures untouched { command_of (texts words.now) ≡ None → shelf.new ≡ shelf.old }
 {
     match rseq_quiet(alloc, words, shelf, sink) {
         Some(status) => status,
-        None => unreachable!(),
+        None => tell(sink, run_answer(alloc, rt, words, shelf, gate)),
     }
 }
 
-/// The same for every command that runs no worker threads; None where the words ask for another.
+/// The same for every command but `run`; None exactly where the words are a `run`, and then neither the shelf
+/// nor the sink was called.
 ///
 /// It takes no runtime, so it waits for nobody and returns.
 pub fn rseq_quiet<S: Shelf, K: Sink>(
@@ -79,7 +82,8 @@ pub fn rseq_quiet<S: Shelf, K: Sink>(
     shelf: &mut S,
     sink: &mut K,
 ) -> Option<u8>
-    ensures answers { IsSome result }
+    ensures none { is_none result ≡ is_run (command_of (texts words.now)) }
+    ensures unused { IfNone result ((shelf.new ≡ shelf.old) × (sink.new ≡ sink.old)) }
     ensures outcome { IfSome result (IsOutcome (record {
       words = texts words.now;
       files = S.file shelf.old;
@@ -91,33 +95,63 @@ pub fn rseq_quiet<S: Shelf, K: Sink>(
       write_faults = K.faults sink.old;
       write_faults_after = K.faults sink.new;
     })) }
-    ensures untouched { command_in (texts words.now) ≡ None → shelf.new ≡ shelf.old }
+    ensures untouched { command_of (texts words.now) ≡ None → shelf.new ≡ shelf.old }
 {
-    match answer(alloc, words, shelf) {
-        Ok(text) => Some(deliver(sink, &text, DONE)),
-        Err(fault) => Some(deliver(sink, fault.line().as_str().as_bytes(), fault.status())),
-    }
+    let answer = quiet_answer(alloc, words, shelf)?;
+    Some(tell(sink, answer))
 }
 
-/// The output of the words, or the fault that is due. All memory is taken here.
-fn answer<S: Shelf>(alloc: Global, words: &[String], shelf: &mut S) -> Result<Vec<u8>, Fault>
-    ensures output { IfOk result (λ text. IsOutput (S.file shelf.old) (texts words.now) text.items) }
-    ensures cause { IfErr result
-        (IsCause (S.file shelf.old) (texts words.now) (S.faults shelf.old) (S.faults shelf.new)) }
-    ensures untouched { command_in (texts words.now) ≡ None → shelf.new ≡ shelf.old }
+/// The output of the words, or the fault that is due; None exactly where the words are a `run`. All memory is
+/// taken here.
+fn quiet_answer<S: Shelf>(
+    alloc: Global,
+    words: &[String],
+    shelf: &mut S,
+) -> Option<Result<Vec<u8>, Fault>>
+    ensures none { is_none result ≡ is_run (command_of (texts words.now)) }
+    ensures unused { IfNone result (shelf.new ≡ shelf.old) }
+    ensures answer { IfSome result
+        (IsAnswer (S.file shelf.old) (texts words.now) (S.faults shelf.old) (S.faults shelf.new)) }
+    ensures untouched { command_of (texts words.now) ≡ None → shelf.new ≡ shelf.old }
     ensures files { S.file shelf.new ≡ S.file shelf.old }
     ensures counts { NoneFalls (S.faults shelf.old) (S.faults shelf.new) }
 {
     match command_of(words) {
-        Some(Command::Solo { program, limits }) => solo_text(alloc, program, limits, shelf),
+        Some(Command::Solo { program, limits }) => Some(solo_text(alloc, program, limits, shelf)),
         Some(
             Command::Play {
                 program,
                 script,
                 limits,
             },
-        ) => play_text(alloc, program, script, limits, shelf),
-        None => Err(Fault::Usage),
+        ) => Some(play_text(alloc, program, script, limits, shelf)),
+        Some(Command::Run { .. }) => None,
+        None => Some(Err(Fault::Usage)),
+    }
+}
+
+/// The output of words that are a `run`, or the fault that is due. All memory is taken here.
+fn run_answer<R: Threads + Wait + Sync, S: Shelf, G: Gate + Sync>(
+    alloc: Global,
+    rt: &R,
+    words: &[String],
+    shelf: &mut S,
+    gate: &G,
+) -> Result<Vec<u8>, Fault>
+    requires run { is_run (command_of (texts words.now)) ≡ true }
+    ensures answer { IsAnswer (S.file shelf.old) (texts words.now) (S.faults shelf.old) (S.faults shelf.new) result }
+    ensures files { S.file shelf.new ≡ S.file shelf.old }
+    ensures counts { NoneFalls (S.faults shelf.old) (S.faults shelf.new) }
+{
+    match command_of(words) {
+        Some(
+            Command::Run {
+                program,
+                limits,
+                seed,
+            },
+        ) => run_text(alloc, rt, program, limits, seed, shelf, gate),
+        Some(Command::Solo { .. } | Command::Play { .. }) | None => unreachable!(),
     }
 }
 
@@ -163,6 +197,29 @@ fn play_text<S: Shelf>(
     Ok(output_text(alloc, &machine)?)
 }
 
+/// The text of `run` on the program of this name.
+fn run_text<R: Threads + Wait + Sync, S: Shelf, G: Gate + Sync>(
+    alloc: Global,
+    rt: &R,
+    program: &str,
+    limits: Limits,
+    seed: u64,
+    shelf: &mut S,
+    gate: &G,
+) -> Result<Vec<u8>, Fault>
+    requires { InRange limits }
+    ensures output { IfOk result
+        (λ text. IsRunOutput (S.file shelf.old) program.now limits seed text.items) }
+    ensures cause { let command = Some (RunOf program.now limits seed) in
+        IfErr result (IsCauseOf (S.file shelf.old) command (S.faults shelf.old) (S.faults shelf.new)) }
+    ensures files { S.file shelf.new ≡ S.file shelf.old }
+    ensures counts { NoneFalls (S.faults shelf.old) (S.faults shelf.new) }
+{
+    let image = taken(alloc, program, &limits, shelf)?;
+    let machine = run_workers(alloc, rt, &image, limits, seed, gate)?;
+    Ok(output_text(alloc, &machine)?)
+}
+
 /// The image of the program of this name.
 fn taken<S: Shelf>(
     alloc: Global,
@@ -190,6 +247,18 @@ fn script_read<S: Shelf>(alloc: Global, name: &str, shelf: &mut S) -> Result<Vec
     ensures counts { NoneFalls (S.faults shelf.old) (S.faults shelf.new) }
 {
     Ok(fetch(alloc, shelf, name, MOST_SCRIPT_BYTES)?)
+}
+
+/// Writes the output, or the line of the fault, and gives the status.
+fn tell<K: Sink>(sink: &mut K, answer: Result<Vec<u8>, Fault>) -> u8
+    ensures told { IsTold (K.held sink.old) (K.held sink.new) (K.faults sink.old) (K.faults sink.new)
+        answer result }
+    ensures counts { NeverFalls (K.faults sink.old) (K.faults sink.new) }
+{
+    match answer {
+        Ok(text) => deliver(sink, &text, DONE),
+        Err(fault) => deliver(sink, fault.line().as_str().as_bytes(), fault.status()),
+    }
 }
 
 /// Writes a text, and gives its status, or that of a failed sink.

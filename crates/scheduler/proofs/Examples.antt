@@ -1,6 +1,7 @@
 -- Worked examples: the definitions of the ready list and the affinities, computed.
-use Rattle.std.proofs.Common.{◌≡◌, [], ◌∷◌, Some, None, true, false, refl}
+use Rattle.std.proofs.Common.{◌≡◌, ℕ, List, [], ◌∷◌, Some, None, true, false, refl}
 use Rattle.mach_types.specs.Kernel.Scheduling.{Scheduling, all_harts, has_hart, harts_in, start_scheduling, affinity_of, first_for, with_thread, with_ready, without_ready, with_affinity}
+use Rattle.scheduler.specs.Entries.{set_among, is_last}
 use Rattle.scheduler.specs.Holding.{is_held, is_ready}
 
 pub three_harts : all_harts 3 ≡ 7
@@ -41,3 +42,19 @@ new_thread_is_held = refl
 
 pub new_thread_is_not_ready : is_ready 2 (with_thread 1 2 (start_scheduling 2)) ≡ false
 new_thread_is_not_ready = refl
+
+-- of the entries of threads 2 and 5, the harts of each, and a number above the last one
+abbrev entries : List (ℕ × ℕ)
+entries = (2, 3) ∷ (5, 1) ∷ []
+
+pub harts_of_thread_5 : set_among entries 5 ≡ 1
+harts_of_thread_5 = refl
+
+pub thread_4_has_none : set_among entries 4 ≡ 0
+thread_4_has_none = refl
+
+pub six_comes_last : is_last 6 entries ≡ true
+six_comes_last = refl
+
+pub four_comes_between : is_last 4 entries ≡ false
+four_comes_between = refl

@@ -151,7 +151,7 @@ same_number t set p = go (is_of t p) refl
     go true same = sym ((Decides-eqb p.0 t).0 same)
     go false same = refl
 
-same_numbers : (t set : ℕ) (pairs : List (ℕ × ℕ)) → map (λ pair. pair.0) (map (set_if t set) pairs) ≡ map (λ pair. pair.0) pairs
+pub same_numbers : (t set : ℕ) (pairs : List (ℕ × ℕ)) → map (λ pair. pair.0) (map (set_if t set) pairs) ≡ map (λ pair. pair.0) pairs
 same_numbers t set [] = refl
 same_numbers t set (p ∷ ps) =
     let first = same_number t set p in

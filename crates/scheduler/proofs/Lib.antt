@@ -1,8 +1,11 @@
+mod Copies
 mod Examples
 mod Finds
 mod FirstAllowed
 mod Kept
 pub mod Laws
 mod Lists
+mod Marked
 mod OtherHarts
+mod Places
 mod StaysWhole

@@ -15,7 +15,7 @@ entry_after t set u (p ∷ ps) =
     ap (λ n. cond (eqb n u) (Some (set_if t set p)) (find (is_of u) (map (set_if t set) ps))) (same_number t set p)
     ∙ elim (is_of u p) as (λ b. cond b (Some (set_if t set p)) (find (is_of u) (map (set_if t set) ps)) ≡ option_map (set_if t set) (cond b (Some p) (find (is_of u) ps))) [ true ↦ refl | false ↦ entry_after t set u ps ]
 
-no_entry : (t : ℕ) (pairs : List (ℕ × ℕ)) → find (is_of t) pairs ≡ None → list_any (is_of t) pairs ≡ false
+pub no_entry : (t : ℕ) (pairs : List (ℕ × ℕ)) → find (is_of t) pairs ≡ None → list_any (is_of t) pairs ≡ false
 no_entry t [] e = refl
 no_entry t (p ∷ ps) e = go (is_of t p) e (no_entry t ps)
   where

@@ -1,59 +1,111 @@
 //! The threads that are held, each by its number with the set of its harts.
 
-ghost use Rattle.std.specs.Prelude.{◌≡◌, not, map, filter, find};
+ghost use Rattle.std.specs.Prelude.{◌≡◌, ◌<◌, ◌++◌, ◌∷◌, [], ◌&&◌, not, map, filter, length};
+ghost use Rattle.std.specs.List.{position};
 ghost use Rattle.mach_types.specs.Kernel.Scheduling.{is_of, set_if};
-ghost use Rattle.scheduler.specs.Entries.{set_among, may_run};
+ghost use Rattle.mach_types.specs.declared.kernel_words.TheConstants.{MOST_THREADS};
+ghost use Rattle.scheduler.specs.Entries.{set_among, stand_once, is_last};
 
-use crate::hart_sets::has_hart;
+use crate::entry_list::{self, Entries, Entry};
 use arrayvec::ArrayVec;
-use mach_types::MOST_THREADS;
+use std::marker::Model;
 
-/// How many threads can be held.
-pub const ROOM: usize = MOST_THREADS as usize;
+/// The entries of the threads that are held, in the order in which they came.
+#[derive(Drop)]
+pub struct Affinities {
+    entries: Entries,
+    /// Whether the numbers rise, as they do where each thread that comes has a higher one than all that are held.
+    rising: bool,
+}
 
-/// The harts of a thread; none where it isn't held.
-pub fn set_of(affinities: &[(u32, u8)], tid: u32) -> u8
-    ensures { result ≡ set_among affinities.now tid }
+impl Model for Affinities {
+    ghost use Rattle.std.specs.Prelude.{ℕ, List};
+    ghost use Rattle.scheduler.specs.Entries.{IsMarked};
+
+    ghost Value = { List (ℕ × ℕ) };
+
+    ghost view = { λ a. a.entries.items };
+
+    ghost invariant = { λ a. IsMarked a.rising a.entries.items };
+}
+
+/// Whether a number is above that of the last entry.
+fn is_above_last(entries: &[Entry], tid: u32) -> bool
+    ensures { result ≡ is_last tid entries.now }
 {
-    for pair in affinities {
-        if pair.0 == tid {
-            return pair.1;
+    match entries.last() {
+        Some(last) => last.0 < tid,
+        None => true,
+    }
+}
+
+/// Whether numbers rise, where they did before a thread came as the last one.
+fn stays_rising(rising: bool, entries: &[Entry], tid: u32) -> bool
+    ensures { result ≡ (rising && is_last tid entries.now) }
+{
+    rising && is_above_last(entries, tid)
+}
+
+impl Affinities {
+    /// The entry of thread 1 alone.
+    pub fn new(set: u8) -> Affinities
+        ensures { result ≡ (1, set) ∷ [] }
+    {
+        let mut entries = ArrayVec::new();
+        entries.push((1, set));
+        Affinities {
+            entries,
+            rising: true,
         }
     }
-    0
-}
 
-/// The first of these threads that may run on a hart.
-pub fn first_allowed(order: &[u32], affinities: &[(u32, u8)], hart: u8) -> Option<u32>
-    ensures { result ≡ find (may_run affinities.now hart) order.now }
-{
-    for tid in order {
-        if has_hart(set_of(affinities, *tid), hart) {
-            return Some(*tid);
+    /// Where the entry of a thread stands: found by halving while the numbers rise, else by going over all.
+    fn place_of(&self, tid: u32) -> Option<usize>
+        ensures { result ≡ position (is_of tid) self.now }
+    {
+        if self.rising {
+            self.entries
+                .binary_search_by_key(&tid, |entry| entry.0)
+                .ok()
+        } else {
+            entry_list::place_in(&self.entries, tid)
         }
     }
-    None
-}
 
-/// An entry, with this set where it is the thread's.
-fn changed(pair: (u32, u8), tid: u32, set: u8) -> (u32, u8)
-    ensures { result ≡ set_if tid set pair }
-{
-    if pair.0 == tid { (tid, set) } else { pair }
-}
-
-/// Gives a thread these harts.
-pub fn change(affinities: &mut [(u32, u8)], tid: u32, set: u8)
-    ensures { affinities.new ≡ map (set_if tid set) affinities.old }
-{
-    for pair in affinities.iter_mut() {
-        *pair = changed(*pair, tid, set);
+    /// The harts of a thread; none where it isn't held.
+    pub fn set_of(&self, tid: u32) -> u8
+        ensures { result ≡ set_among self.now tid }
+    {
+        match self.place_of(tid) {
+            Some(place) => self.entries[place].1,
+            None => 0,
+        }
     }
-}
 
-/// Takes a thread's entry away.
-pub fn remove(affinities: &mut ArrayVec<(u32, u8), ROOM>, tid: u32)
-    ensures { affinities.new.items ≡ filter (λ pair. not (is_of tid pair)) affinities.old.items }
-{
-    affinities.retain(|pair| pair.0 != tid);
+    /// Adds the entry of a thread as the last one.
+    pub fn add(&mut self, tid: u32, set: u8)
+        requires { length self.old < MOST_THREADS }
+        ensures { self.new ≡ self.old ++ (tid, set) ∷ [] }
+    {
+        self.rising = stays_rising(self.rising, &self.entries, tid);
+        self.entries.push((tid, set));
+    }
+
+    /// Gives a thread these harts.
+    pub fn change(&mut self, tid: u32, set: u8)
+        requires { stand_once self.old }
+        ensures { self.new ≡ map (set_if tid set) self.old }
+    {
+        let place = self.place_of(tid);
+        entry_list::change_at(&mut self.entries, place, tid, set);
+    }
+
+    /// Takes a thread's entry away.
+    pub fn remove(&mut self, tid: u32)
+        requires { stand_once self.old }
+        ensures { self.new ≡ filter (λ entry. not (is_of tid entry)) self.old }
+    {
+        let place = self.place_of(tid);
+        entry_list::remove_at(&mut self.entries, place, tid);
+    }
 }

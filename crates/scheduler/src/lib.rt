@@ -5,6 +5,7 @@
 #![tactic(auto)]
 
 mod affinities;
+mod entry_list;
 mod hart_sets;
 mod ready;
 mod theorems;

@@ -1,13 +1,14 @@
 //! The ready list and the affinities.
 
-ghost use Rattle.std.specs.Prelude.{◌≡◌, ◌≤◌, ◌<◌, ◌↔◌, false, length, option_map, IsTrue, IsErr, IfErr, OnOk, OnErr, ◌==◌, not, filter};
+ghost use Rattle.std.specs.Prelude.{◌≡◌, ◌≤◌, ◌<◌, ◌↔◌, false, length, option_map, IsTrue, IsErr, IfErr, OnOk, OnErr};
 ghost use Rattle.std.specs.Bool.{OnTrue, OnFalse};
 ghost use Rattle.mach_types.specs.Kernel.Scheduling as scheduling;
 ghost use Rattle.mach_types.specs.declared.errors.TheConstants.{EINVAL};
 ghost use Rattle.mach_types.specs.declared.kernel_words.TheConstants.{MOST_THREADS};
 ghost use Rattle.scheduler.specs.Holding.{is_held, is_ready};
 
-use crate::affinities::{self, ROOM};
+use crate::affinities::Affinities;
+use crate::entry_list::{self, Entries};
 use crate::hart_sets::{all_harts, harts_in, has_hart};
 use arrayvec::ArrayVec;
 use mach_types::errors::EINVAL;
@@ -17,26 +18,20 @@ use std::marker::Model;
 /// The ready threads in order, and the harts of each thread that is held, at most 64.
 #[derive(Drop)]
 pub struct Ready {
-    order: ArrayVec<u32, ROOM>,
-    affinities: ArrayVec<(u32, u8), ROOM>,
+    /// The ready threads, each with a copy of its harts, so that the first one for a hart is seen at once.
+    order: Entries,
+    affinities: Affinities,
 }
 
 impl Model for Ready {
     ghost use Rattle.mach_types.specs.Kernel.Scheduling.{Scheduling};
-    ghost use Rattle.scheduler.specs.Holding.{IsScheduling};
+    ghost use Rattle.scheduler.specs.Entries.{scheduling_in, IsKept};
 
     ghost Value = { Scheduling };
 
-    ghost view = { λ r. record { order = r.order.items; affinities = r.affinities.items } };
+    ghost view = { λ r. scheduling_in r.order.items r.affinities };
 
-    ghost invariant = { λ r. IsScheduling (record { order = r.order.items; affinities = r.affinities.items }) };
-}
-
-/// Takes a thread's number out of the ready ones.
-fn remove_number(order: &mut ArrayVec<u32, ROOM>, tid: u32)
-    ensures { order.new.items ≡ filter (λ u. not (u == tid)) order.old.items }
-{
-    order.retain(|number| *number != tid);
+    ghost invariant = { λ r. IsKept r.order.items r.affinities };
 }
 
 impl Ready {
@@ -46,11 +41,13 @@ impl Ready {
         requires eight_harts { harts ≤ 8 }
         ensures { result ≡ scheduling.start_scheduling harts }
     {
+        let set = all_harts(harts);
         let mut order = ArrayVec::new();
-        order.push(1);
-        let mut affinities = ArrayVec::new();
-        affinities.push((1, all_harts(harts)));
-        Ready { order, affinities }
+        order.push((1, set));
+        Ready {
+            order,
+            affinities: Affinities::new(set),
+        }
     }
 
     /// Holds a new thread, with its parent's harts. It isn't ready.
@@ -61,7 +58,7 @@ impl Ready {
         ensures { self.new ≡ scheduling.with_thread parent.0 tid.0 self.old }
     {
         let set = self.affinity(parent);
-        self.affinities.push((tid.0, set));
+        self.affinities.add(tid.0, set);
     }
 
     /// Forgets a thread that isn't ready.
@@ -70,7 +67,7 @@ impl Ready {
         requires not_ready { is_ready tid.0 self.old ≡ false }
         ensures { self.new ≡ scheduling.forget tid.0 self.old }
     {
-        affinities::remove(&mut self.affinities, tid.0);
+        self.affinities.remove(tid.0);
     }
 
     /// Makes a thread ready, as the last one.
@@ -79,7 +76,8 @@ impl Ready {
         requires not_ready { is_ready tid.0 self.old ≡ false }
         ensures { self.new ≡ scheduling.with_ready tid.0 self.old }
     {
-        self.order.push(tid.0);
+        let set = self.affinities.set_of(tid.0);
+        self.order.push((tid.0, set));
     }
 
     /// Takes a thread out of the ready ones. False exactly where it isn't ready, and then nothing changes.
@@ -88,32 +86,28 @@ impl Ready {
         ensures taken { OnTrue result (self.new ≡ scheduling.without_ready tid.0 self.old) }
         ensures unchanged { OnFalse result (self.new ≡ self.old) }
     {
-        if !self.is_ready(tid) {
-            return false;
-        }
-        remove_number(&mut self.order, tid.0);
-        true
+        entry_list::take_out(&mut self.order, tid.0)
     }
 
     /// Whether a thread is ready.
     pub fn is_ready(&self, tid: Tid) -> bool
         ensures { result ≡ is_ready tid.0 self.now }
     {
-        self.order.contains(&tid.0)
+        entry_list::has(&self.order, tid.0)
     }
 
     /// Whether a thread may run on a hart; a thread that isn't held may run on none.
     pub fn allows(&self, tid: Tid, hart: Hart) -> bool
         ensures { result ≡ scheduling.has_hart (scheduling.affinity_of tid.0 self.now) hart.0 }
     {
-        has_hart(affinities::set_of(&self.affinities, tid.0), hart.0)
+        has_hart(self.affinities.set_of(tid.0), hart.0)
     }
 
     /// The first ready thread that may run on a hart; None exactly where there is none.
     pub fn first_for(&self, hart: Hart) -> Option<Tid>
         ensures { option_map (λ t. t.0) result ≡ scheduling.first_for hart.0 self.now }
     {
-        let first = affinities::first_allowed(&self.order, &self.affinities, hart.0)?;
+        let first = entry_list::first_allowed(&self.order, hart.0)?;
         Some(Tid(first))
     }
 
@@ -122,7 +116,7 @@ impl Ready {
         requires { IsTrue (is_held tid.0 self.now) }
         ensures { result ≡ scheduling.affinity_of tid.0 self.now }
     {
-        affinities::set_of(&self.affinities, tid.0)
+        self.affinities.set_of(tid.0)
     }
 
     /// Lets a thread run on those of the first `harts` harts, 1 to 8, that are in the set. EINVAL exactly where
@@ -141,7 +135,9 @@ impl Ready {
         if allowed == 0 {
             return Err(EINVAL);
         }
-        affinities::change(&mut self.affinities, tid.0, allowed);
+        let place = entry_list::place_in(&self.order, tid.0);
+        entry_list::change_at(&mut self.order, place, tid.0, allowed);
+        self.affinities.change(tid.0, allowed);
         Ok(())
     }
 }

@@ -2,6 +2,7 @@
 
 ghost use Rattle.std.specs.Prelude.{◌≡◌, ◌<◌};
 ghost use Rattle.mach_types.specs.Bytes.{IsAccessSize, word_at};
+ghost use Rattle.block_model.specs.Choosing.{credit_at};
 ghost use Rattle.block_model.specs.Deciding.{history};
 ghost use Rattle.block_model.specs.Here.{view};
 ghost use Rattle.block_model.specs.History.{events, here_in_history, ran};
@@ -15,11 +16,13 @@ use mach_types::{Hart, Sight};
 use rv_inst::Effect;
 
 impl Machine {
-    /// The state of a hart. An idle hart's registers and pc are 0, and so is the credit of every hart.
+    /// The state of a hart. An idle hart's registers and pc are 0. Its credit is that of the choices of `run`, and 0 where an
+    /// entry of the log isn't one of these.
     pub fn hart(&self, hart: Hart) -> &HartState
         requires { hart.0 < self.now.setting.limits.harts }
         ensures { result.now ≡ hart_in (here_in_history self.now.setting (history self.now.setting self.now.log) hart.0)
-            (ran hart.0 (history self.now.setting self.now.log)) (events hart.0 (history self.now.setting self.now.log)) }
+            (ran hart.0 (history self.now.setting self.now.log)) (events hart.0 (history self.now.setting self.now.log))
+            (credit_at self.now.setting hart.0 (history self.now.setting self.now.log)) }
     {
         &self.parts.harts[hart.0 as usize]
     }
@@ -52,7 +55,7 @@ impl Machine {
     pub fn sight(&self, hart: Hart) -> Sight
         requires { hart.0 < self.now.setting.limits.harts }
         ensures { result ≡ sight_in (here_in_history self.now.setting (history self.now.setting self.now.log) hart.0)
-            (ran hart.0 (history self.now.setting self.now.log)) 0 }
+            (ran hart.0 (history self.now.setting self.now.log)) (credit_at self.now.setting hart.0 (history self.now.setting self.now.log)) }
     {
         let state = self.hart(hart);
         let next = next_of(&self.code, &self.parts.pages, state);

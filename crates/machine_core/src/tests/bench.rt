@@ -1,6 +1,6 @@
 //! A machine of two harts that runs a small program.
 
-ghost use Rattle.std.specs.Prelude.{◌≡◌, ◌<◌, IfOk};
+ghost use Rattle.std.specs.Prelude.{◌≡◌, ◌<◌, [], IfOk};
 ghost use Rattle.mach_types.specs.Bytes.{IsAccessSize};
 
 use crate::{Machine, Refused};
@@ -49,6 +49,22 @@ fn file(alloc: Global, words: &[u32]) -> Result<Vec<u8>, AllocError> {
     Ok(file)
 }
 
+/// A machine of two harts that has done nothing yet, over these instructions, with a log of so many entries.
+pub fn boot(alloc: Global, words: &[u32], steps: u32, seed: u64) -> Result<Machine, Fail>
+    requires some { 0 < steps }
+    requires few { steps < 1000 }
+    ensures harts { IfOk result (λ m. m.setting.limits.harts ≡ 2) }
+    ensures log { IfOk result (λ m. m.log ≡ []) }
+{
+    let limits = Limits {
+        harts: 2,
+        frames: 128,
+        steps,
+    };
+    let image = load(alloc, &file(alloc, words)?, &limits)?;
+    Ok(Machine::boot(alloc, &image, limits, seed)?)
+}
+
 /// What is read of one hart.
 #[derive(Clone, Copy, Debug, PartialEq, Eq, Drop)]
 struct Shown {
@@ -92,15 +108,16 @@ impl Bench {
         requires some { 0 < steps }
         requires few { steps < 1000 }
     {
-        let limits = Limits {
-            harts: 2,
-            frames: 128,
-            steps,
-        };
-        let image = load(alloc, &file(alloc, words)?, &limits)?;
         Ok(Bench {
-            machine: Machine::boot(alloc, &image, limits, 0)?,
+            machine: boot(alloc, words, steps, 0)?,
         })
+    }
+
+    /// A machine of two harts, as it stands.
+    pub fn of(machine: Machine) -> Bench
+        requires { machine.setting.limits.harts ≡ 2 }
+    {
+        Bench { machine }
     }
 
     /// Makes an event that must be allowed.

@@ -119,6 +119,7 @@ fn sights(rt: HostRuntime) -> Result<(), Fail> {
             ..NEW
         },
     );
+    // The first words of hart 0 at seed 0, 0x53175d61490b23df and 0x61da6f3dc380d507, let it execute, with credits 5 and 0.
     bench.make(&rt, 0, Choice::Exec);
     bench.expect_sight(
         &rt,
@@ -126,6 +127,7 @@ fn sights(rt: HostRuntime) -> Result<(), Fail> {
         Sight {
             local: false,
             ran: 1,
+            credit: 5,
             ..RUNS
         },
     );

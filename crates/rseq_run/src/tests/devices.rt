@@ -7,7 +7,7 @@ use std::sync::Wait;
 use std::thread::Threads;
 
 /// More bytes than any text here.
-pub(super) const ROOM: usize = 1024;
+pub(super) const ROOM: usize = 16_384;
 
 /// The files of a shelf: a program by the name `F`, and a script by the name `S`.
 #[derive(Clone, Copy, Drop)]

@@ -17,9 +17,10 @@ const PIECE: usize = 64;
 fn each_call_of_the_shelf_may_fail(rt: HostRuntime) -> Result<(), Fail> {
     // A file takes one start and two reads, of which the second is the file's end; the call after them never
     // comes.
-    let table: [(&str, &[u64], u64); 2] = [
+    let table: [(&str, &[u64], u64); 3] = [
         ("solo F", &[1, 2, 3], 4),
         ("play F S", &[1, 2, 3, 4, 5, 6], 7),
+        ("run F --harts 1", &[1, 2, 3], 4),
     ];
     for (line, calls, never) in table {
         for call in calls {
@@ -47,8 +48,14 @@ fn each_call_of_the_shelf_may_fail(rt: HostRuntime) -> Result<(), Fail> {
 
 #[test]
 fn each_call_of_the_sink_may_fail(rt: HostRuntime) -> Result<(), Fail> {
-    // The 131 bytes of the one text and the 185 of the other take three calls each; a fourth never comes.
-    for (line, text) in [("solo F", EXIT_TEXT), ("play F S", MOVED_TEXT)] {
+    // The 131 bytes of the first text and the last and the 185 of the other take three calls each; a fourth never
+    // comes.
+    let table = [
+        ("solo F", EXIT_TEXT),
+        ("play F S", MOVED_TEXT),
+        ("run F --harts 1", EXIT_TEXT),
+    ];
+    for (line, text) in table {
         let mut due = Vec::new(rt.alloc());
         for (call, piece) in [1u64, 2, 3].iter().zip(text.chunks(PIECE)) {
             let failing = Failing {

@@ -70,6 +70,12 @@ fn words_that_are_no_command(rt: HostRuntime) -> Result<(), Fail> {
         "play F S --harts 0",
         "play F S --harts 9",
         "play F S --seed 1",
+        "solo F --seed 1",
+        "run F --harts 9",
+        "run --harts 9 F",
+        "run --harts 2 --harts 2 F",
+        "solo --harts 2 F",
+        "run --seed 18446744073709551616 F",
     ];
     for line in lines {
         expect(rt.alloc(), &rt, line, EXITS, 2, b"fault usage\n")?;
@@ -90,7 +96,7 @@ fn programs_that_are_refused(rt: HostRuntime) -> Result<(), Fail> {
     ];
     for (program, text) in table {
         // The script isn't looked for.
-        for line in ["solo F", "play F S", "play F T"] {
+        for line in ["solo F", "play F S", "play F T", "run F"] {
             let files = Files {
                 program,
                 script: &[],

@@ -22,7 +22,7 @@ fn counted_log(text: &[u8]) -> Option<(usize, &[u8])> {
 }
 
 /// The log lines in the text of a run; none where the text hasn't the form of one.
-fn log_lines(alloc: Global, text: &[u8]) -> Result<Vec<u8>, AllocError> {
+pub(super) fn log_lines(alloc: Global, text: &[u8]) -> Result<Vec<u8>, AllocError> {
     let mut lines = Vec::new(alloc);
     if let Some((count, rest)) = counted_log(text) {
         for line in rest.split_inclusive(|byte: &u8| *byte == b'\n').take(count) {

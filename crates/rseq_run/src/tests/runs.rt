@@ -62,7 +62,33 @@ fn play(
     }
 }
 
-/// The runs.
+/// A run of `run` on one hart, which has one text whatever the seed.
+fn by_worker(options: &'static str, text: &'static [u8]) -> Run {
+    Run {
+        command: "run F --harts 1",
+        again: "play F S --harts 1",
+        options,
+        files: Files {
+            program: &EXIT_WITH_7,
+            script: &[],
+        },
+        text,
+    }
+}
+
+/// The runs by a worker.
+pub(super) fn worker_runs() -> [Run; 6] {
+    [
+        by_worker("--seed 0", EXIT_TEXT),
+        by_worker("--seed 1", EXIT_TEXT),
+        by_worker("--seed 2", EXIT_TEXT),
+        by_worker("--seed 77", EXIT_TEXT),
+        by_worker("--seed=18446744073709551615", EXIT_TEXT),
+        by_worker("--steps 1", ONE_STEP_TEXT),
+    ]
+}
+
+/// The runs without workers.
 pub(super) fn runs() -> [Run; 14] {
     [
         solo("", &EXIT_WITH_7, EXIT_TEXT),

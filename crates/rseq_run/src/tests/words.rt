@@ -39,9 +39,22 @@ fn play(harts: u8, frames: u32, steps: u32) -> Option<Command<'static>> {
     })
 }
 
+/// The command `run` on `F` with this number of harts and this seed.
+fn run(harts: u8, seed: u64) -> Option<Command<'static>> {
+    Some(Command::Run {
+        program: "F",
+        limits: Limits {
+            harts,
+            frames: 4_096,
+            steps: 200_000,
+        },
+        seed,
+    })
+}
+
 #[test]
 fn words_of_the_grammar_name_a_command(rt: HostRuntime) -> Result<(), Fail> {
-    let table: [(&[&str], Option<Command>); 11] = [
+    let table: [(&[&str], Option<Command>); 16] = [
         (&["solo", "F"], solo("F", 4_096, 200_000)),
         (&["solo", "--steps=1", "F"], solo("F", 4_096, 1)),
         (&["solo", "F", "--steps", "1"], solo("F", 4_096, 1)),
@@ -56,6 +69,14 @@ fn words_of_the_grammar_name_a_command(rt: HostRuntime) -> Result<(), Fail> {
         (&["solo", "", "--steps=00001"], solo("", 4_096, 1)),
         (&["play", "F", "S"], play(2, 4_096, 200_000)),
         (&["play", "F", "S", "--harts=8"], play(8, 4_096, 200_000)),
+        (&["run", "F"], run(2, 1)),
+        (&["run", "F", "--harts", "8", "--seed", "7"], run(8, 7)),
+        (&["run", "--seed=0", "F", "--harts=1"], run(1, 0)),
+        (
+            &["run", "--seed=18446744073709551615", "--", "F"],
+            run(2, 18_446_744_073_709_551_615),
+        ),
+        (&["run", "--seed=00000000000000000001", "F"], run(2, 1)),
     ];
     for (words, command) in table {
         let all = strings(rt.alloc(), words)?;
@@ -66,7 +87,7 @@ fn words_of_the_grammar_name_a_command(rt: HostRuntime) -> Result<(), Fail> {
 
 #[test]
 fn other_words_name_none(rt: HostRuntime) -> Result<(), Fail> {
-    let table: [&[&str]; 16] = [
+    let table: [&[&str]; 28] = [
         &[],
         &["Solo", "F"],
         &["solo"],
@@ -83,6 +104,18 @@ fn other_words_name_none(rt: HostRuntime) -> Result<(), Fail> {
         &["solo", "--steps=000000000000000000001", "F"],
         &["play", "F"],
         &["play", "F", "S", "T"],
+        &["play", "--seed", "1", "F", "S"],
+        &["solo", "--seed", "1", "F"],
+        &["run"],
+        &["run", "F", "S"],
+        &["run", "--harts", "9", "F"],
+        &["run", "--harts", "2", "--harts", "2", "F"],
+        &["run", "--harts=2", "--harts", "2", "F"],
+        &["run", "--seed", "1", "--seed=1", "F"],
+        &["run", "--seed", "18446744073709551616", "F"],
+        &["run", "--seed", "-1", "F"],
+        &["run", "--seed=", "F"],
+        &["run", "F", "--seed"],
     ];
     for words in table {
         let all = strings(rt.alloc(), words)?;

@@ -1,12 +1,16 @@
-use Rattle.std.proofs.Common.{arith, append-nil}
-use Rattle.std.proofs.lemmas.List.{take_all, drop_all}
-use Rattle.std.proofs.lemmas.List.Edits.{map_over_more}
-use Rattle.std.proofs.lemmas.Grind.{common_steps}
-use Rattle.kernel_threads.specs.Rows.{stage_if}
+use Rattle.std.proofs.Common.{sym, ◌∙◌}
+use Rattle.kernel_threads.specs.declared.rows.Row.{Row}
+use Rattle.kernel_threads.specs.Rows.{is_row}
+use Rattle.kernel_threads.proofs.Places.{alone, without, once_if_rising}
 use Rattle.kernel_threads.proofs.rows.set_stage_in.Goals as goal
 
-pub loop-row-preserved : goal.loop-row-preserved
-loop-row-preserved c = grind (arith, common_steps, map_over_more (stage_if c.args.number c.args.stage))
+pub returns-in-Some : goal.returns-in-Some
+returns-in-Some c =
+    let there = alone (is_row c.args.number) (λ (row : Row). record row { stage = c.args.stage }) c.args.rows.now c.in-Some.place _
+    (sym c.place_of.ensures ∙ c.in-Some.is) (once_if_rising (λ (row : Row). row.number) c.args.number c.args.rows.now c.requires) in
+    sym there.changed
 
-pub returns : goal.returns
-returns c = grind (arith, common_steps, take_all, drop_all, append-nil)
+pub returns-in_default : goal.returns-in_default
+returns-in_default c =
+    let none = without (is_row c.args.number) (λ (row : Row). record row { stage = c.args.stage }) c.args.rows.now (sym c.place_of.ensures ∙ c.in_default.is) in
+    sym none.changed

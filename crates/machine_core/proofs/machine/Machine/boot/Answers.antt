@@ -1,11 +1,11 @@
 -- A machine at boot is tied to its empty log.
-use Rattle.std.proofs.Common.{◌≡◌, ◌∙◌, ap, refl, None}
+use Rattle.std.proofs.Common.{◌≡◌, ◌∙◌, ap, arith, length, refl, None}
 use Rattle.elf_load.specs.Start.{program_of, start_file}
 use Rattle.kernel_threads.specs.Table.{start_table}
 use Rattle.block_model.proofs.Laws.{start_run, start_plain}
 use Rattle.block_model.specs.Setting.{setting_of as setting_by}
 use Rattle.machine_core.specs.declared.parts.Parts.{Parts}
-use Rattle.machine_core.proofs.Starting.{tied-start}
+use Rattle.machine_core.proofs.Starting.{credits_start, generators_start, none_made, tied-start}
 use Rattle.machine_core.proofs.machine.Machine.boot.Goals as goal
 
 pub invariant_of-result : goal.invariant_of-result
@@ -22,6 +22,10 @@ invariant_of-result c =
     record {
       run = rw (c.in_ok-log.ensures.items, same_pages) (start_run (setting_by c.args.image.now c.args.limits c.args.seed));
       tied = rw (c.in_ok-log.ensures.items, same_pages, start_plain (setting_by c.args.image.now c.args.limits c.args.seed)) tied;
+      chosen = rw (c.in_ok-log.ensures.items, same_pages) (none_made (setting_by c.args.image.now c.args.limits c.args.seed));
+      credits = λ h lt. rw (c.in_ok-log.ensures.items, same_pages) (credits_start (setting_by c.args.image.now c.args.limits c.args.seed) c.in_ok-harts.harts.items h c.in_ok-harts.ensures.idle (omega (arith, lt, c.in_ok-harts.ensures.count)));
+      generators = λ chosen h lt. rw (c.in_ok-log.ensures.items, same_pages, c.new-chooser.ensures) (generators_start (setting_by c.args.image.now c.args.limits c.args.seed) h (omega (arith, lt, c.requires.limits.eight_harts)));
+      held = ap length c.new-chooser.ensures;
       limits = c.requires.limits;
       room = c.in_ok-log.ensures.capacity;
     }

@@ -1,9 +1,16 @@
-use Rattle.std.proofs.Common.{refl, sym, ◌∙◌, arith}
+use Rattle.std.proofs.Common.{◌≡◌, ◌<◌, Some, ap, length, refl, sym, ◌∙◌, arith}
 use Rattle.std.proofs.lemmas.Result.{IfOk-at_ok}
+use Rattle.block_model.specs.Choosing.{IsChosen, credit_at}
 use Rattle.block_model.specs.Events.{done_of}
+use Rattle.block_model.specs.History.{here_in_history, ran}
+use Rattle.block_model.specs.Sights.{sight_in}
 use Rattle.block_model.specs.Plain.{here_of}
 use Rattle.block_model.proofs.Laws.{after_end, at_limit, at_no_hart}
-use Rattle.machine_core.specs.Tied.{IsAfter, seen}
+use Rattle.machine_core.specs.Tied.{IsAfter, past_of, seen, setting_of}
+use Rattle.machine_core.specs.declared.parts.Parts.{Parts}
+use Rattle.machine_core.proofs.Advanced.{all_of}
+use Rattle.machine_core.specs.Credits.{seen_if}
+use Rattle.machine_core.proofs.Settled.{settled}
 use Rattle.machine_core.proofs.Stepping.{place_of, refused, stepped}
 use Rattle.machine_core.proofs.machine.Machine.step.Goals as goal
 
@@ -34,11 +41,21 @@ make-requires c =
 pub invariant_of-self : goal.invariant_of-self
 invariant_of-self c =
     let m = c.self.inside in
-    let place = place_of m c.args.hart.0 c.self.invariant c.in_default.is (omega (arith, c.if-len-self.false, c.len.ensures, m.log.ok.0)) c.if-hart-self.false in
-    let step = stepped (seen m) m.parts c.make.new.self c.args.hart c.args.choice c.make.result c.in-Ok.entry place (c.make.ensures.answer (seen m) place refl) c.in-Ok.is (IfOk-at_ok (λ e. IsAfter (seen m) c.args.hart.0 (done_of c.args.choice (here_of (seen m) c.args.hart.0)) c.make.new.self) c.in-Ok.is (c.make.ensures.after (seen m) place refl)) in
+    let room : length m.log.items < m.limits.steps = omega (arith, c.if-len-self.false, c.len.ensures, m.log.ok.0) in
+    let place = place_of m c.args.hart.0 c.self.invariant c.in_default.is room c.if-hart-self.false in
+    let after = IfOk-at_ok (λ e. IsAfter (seen m) c.args.hart.0 (done_of c.args.choice (here_of (seen m) c.args.hart.0)) m.parts c.make.new.self) c.in-Ok.is (c.make.ensures.after (seen m) place refl) in
+    let step = stepped (seen m) m.parts c.make.new.self c.args.hart c.args.choice c.make.result c.in-Ok.entry place (c.make.ensures.answer (seen m) place refl) c.in-Ok.is after in
+    let sees : c.sight_if_chosen-sight.result ≡ seen_if m.chosen (setting_of m) c.args.hart.0 (past_of m) =
+    (rw (← c.self.view_is) at c.sight_if_chosen-sight.ensures) ∙ ap (λ b. seen_if b (setting_of m) c.args.hart.0 (past_of m)) (sym c.self.invariant.chosen) in
+    let p' : Parts = record c.make.new.self { harts = c.follow-self-inside.new.harts } in
+    let is = settled m c.args.hart c.args.choice c.in-Ok.entry c.make.new.self p' c.sight_if_chosen-sight.result c.self.invariant c.in_default.is room c.if-hart-self.false step after.credits sees c.follow-self-inside.ensures.harts refl refl refl in
     record {
       run = rw c.append.ensures.items step.run;
-      tied = rw c.append.ensures.items step.tied;
+      tied = rw c.append.ensures.items is.tied;
+      chosen = rw c.append.ensures.items (c.follow-self-inside.ensures.followed ∙ is.chosen);
+      credits = rw c.append.ensures.items is.credits;
+      generators = λ followed. rw (c.append.ensures.items, c.follow-self-inside.ensures.generators) (is.generators (sym c.follow-self-inside.ensures.followed ∙ followed));
+      held = ap length c.follow-self-inside.ensures.generators ∙ is.held;
       limits = c.self.invariant.limits;
       room = omega (arith, c.self.invariant.room, c.append.ensures.capacity);
     }
@@ -47,21 +64,21 @@ pub returns-in-Ok-clause-answer : goal.returns-in-Ok-clause-answer
 returns-in-Ok-clause-answer c =
     let m = c.self.inside in
     let place = place_of m c.args.hart.0 c.self.invariant c.in_default.is (omega (arith, c.if-len-self.false, c.len.ensures, m.log.ok.0)) c.if-hart-self.false in
-    let step = stepped (seen m) m.parts c.make.new.self c.args.hart c.args.choice c.make.result c.in-Ok.entry place (c.make.ensures.answer (seen m) place refl) c.in-Ok.is (IfOk-at_ok (λ e. IsAfter (seen m) c.args.hart.0 (done_of c.args.choice (here_of (seen m) c.args.hart.0)) c.make.new.self) c.in-Ok.is (c.make.ensures.after (seen m) place refl)) in
+    let step = stepped (seen m) m.parts c.make.new.self c.args.hart c.args.choice c.make.result c.in-Ok.entry place (c.make.ensures.answer (seen m) place refl) c.in-Ok.is (IfOk-at_ok (λ e. IsAfter (seen m) c.args.hart.0 (done_of c.args.choice (here_of (seen m) c.args.hart.0)) m.parts c.make.new.self) c.in-Ok.is (c.make.ensures.after (seen m) place refl)) in
     rw (← c.self.view_is) (sym step.decided)
 
 pub returns-in-Ok-clause-of : goal.returns-in-Ok-clause-of
 returns-in-Ok-clause-of c =
     let m = c.self.inside in
     let place = place_of m c.args.hart.0 c.self.invariant c.in_default.is (omega (arith, c.if-len-self.false, c.len.ensures, m.log.ok.0)) c.if-hart-self.false in
-    let step = stepped (seen m) m.parts c.make.new.self c.args.hart c.args.choice c.make.result c.in-Ok.entry place (c.make.ensures.answer (seen m) place refl) c.in-Ok.is (IfOk-at_ok (λ e. IsAfter (seen m) c.args.hart.0 (done_of c.args.choice (here_of (seen m) c.args.hart.0)) c.make.new.self) c.in-Ok.is (c.make.ensures.after (seen m) place refl)) in
+    let step = stepped (seen m) m.parts c.make.new.self c.args.hart c.args.choice c.make.result c.in-Ok.entry place (c.make.ensures.answer (seen m) place refl) c.in-Ok.is (IfOk-at_ok (λ e. IsAfter (seen m) c.args.hart.0 (done_of c.args.choice (here_of (seen m) c.args.hart.0)) m.parts c.make.new.self) c.in-Ok.is (c.make.ensures.after (seen m) place refl)) in
     (step.hart, step.choice)
 
 pub returns-in-Ok-clause-block_run : goal.returns-in-Ok-clause-block_run
 returns-in-Ok-clause-block_run c =
     let m = c.self.inside in
     let place = place_of m c.args.hart.0 c.self.invariant c.in_default.is (omega (arith, c.if-len-self.false, c.len.ensures, m.log.ok.0)) c.if-hart-self.false in
-    let step = stepped (seen m) m.parts c.make.new.self c.args.hart c.args.choice c.make.result c.in-Ok.entry place (c.make.ensures.answer (seen m) place refl) c.in-Ok.is (IfOk-at_ok (λ e. IsAfter (seen m) c.args.hart.0 (done_of c.args.choice (here_of (seen m) c.args.hart.0)) c.make.new.self) c.in-Ok.is (c.make.ensures.after (seen m) place refl)) in
+    let step = stepped (seen m) m.parts c.make.new.self c.args.hart c.args.choice c.make.result c.in-Ok.entry place (c.make.ensures.answer (seen m) place refl) c.in-Ok.is (IfOk-at_ok (λ e. IsAfter (seen m) c.args.hart.0 (done_of c.args.choice (here_of (seen m) c.args.hart.0)) m.parts c.make.new.self) c.in-Ok.is (c.make.ensures.after (seen m) place refl)) in
     rw c.append.ensures.items step.run
 
 pub returns-in-Err-clause-answer : goal.returns-in-Err-clause-answer

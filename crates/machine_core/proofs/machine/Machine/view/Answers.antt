@@ -1,6 +1,8 @@
 -- A word as a hart sees it.
 use Rattle.std.proofs.Common.{◌≡◌, ◌∙◌}
+use Rattle.block_model.specs.Choosing.{credit_at}
 use Rattle.block_model.specs.History.{events, ran}
+use Rattle.machine_core.specs.Tied.{setting_of}
 use Rattle.machine_core.specs.Harts.{hart_in}
 use Rattle.machine_core.proofs.Readings.{here_read, history_of, word_read}
 use Rattle.machine_core.proofs.machine.Machine.view.Goals as goal
@@ -10,5 +12,5 @@ returns c =
     let m = c.self.inside in
     let h = c.args.hart.0 in
     let x = c.hart.result.now in
-    let here : x ≡ hart_in (here_read m h) (ran h (history_of m)) (events h (history_of m)) = rw (← c.self.view_is) at c.hart.ensures in
-    rw (← c.self.view_is) (c.look.ensures.seen ∙ word_read m h x _ _ c.args.at c.args.size c.self.invariant here)
+    let here : x ≡ hart_in (here_read m h) (ran h (history_of m)) (events h (history_of m)) (credit_at (setting_of m) h (history_of m)) = rw (← c.self.view_is) at c.hart.ensures in
+    rw (← c.self.view_is) (c.look.ensures.seen ∙ word_read m h x _ _ _ c.args.at c.args.size c.self.invariant here)

@@ -34,7 +34,7 @@ returns c = record {
       let x = c.index_mut-state.result.now in
       let kept = place.tied.saved t c.run-saved.result (sym c.run-saved.ensures.answer) in
       changed v h (done_of (asked.Run c.args.tid) (here_of v h)) c.args.self.now _ _ place (fit_at v c.args.self.now h (asked.Run c.args.tid) place free) (record {
-        own = run_own v.setting p h t c.run-saved.result x _ (hart_is v c.args.self.now h x place c.index_mut-state.ensures.value) tables is.1 is.0 place.lt kept (ap (λ (z : HartState). record z { events = z.events + 1 }) c.enter.ensures);
+        own = run_own _ v.setting p h t c.run-saved.result x _ (hart_is v c.args.self.now h x place c.index_mut-state.ensures.value) tables is.1 is.0 place.lt kept (ap (λ (z : HartState). record z { events = z.events + 1 }) c.enter.ensures);
         harts = none_lost h (done_of (asked.Run c.args.tid) (here_of v h)) _ refl;
         bytes = λ a. same_byte _ a;
         writable = λ a. refl;

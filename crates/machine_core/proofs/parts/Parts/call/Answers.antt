@@ -32,7 +32,7 @@ overflow_add-state-2 c =
 
 pub returns : goal.returns
 returns c = record {
-  entry = λ v place plan. c.entry_of-entry.ensures ∙ entry_exec v.setting (plain_seen v) c.args.hart c.index_mut-state.result.now (hart_is v c.args.self.now c.args.hart.0 c.index_mut-state.result.now place c.index_mut-state.ensures.value);
+  entry = λ v place plan. c.entry_of-entry.ensures ∙ entry_exec _ v.setting (plain_seen v) c.args.hart c.index_mut-state.result.now (hart_is v c.args.self.now c.args.hart.0 c.index_mut-state.result.now place c.index_mut-state.ensures.value);
   after = λ v place plan.
       let h = c.args.hart.0 in
       let m = c.args.self.now in
@@ -46,7 +46,7 @@ returns c = record {
       let harts : Vec HartState Global = with_item m.harts h y in
       let long : length c.lose_others.new.harts ≡ harts.len = c.lose_others.auto.harts ∙ (ap length c.deref_mut.ensures.value ∙ sym harts.ok.0) in
       changed_as v h asked.Exec (by_call here d) m _ y place plan.free is.done (record {
-        own = call_own v.setting (plain_seen v) h t c.make_call-done.result.end c.make_call-done.new.saved d x y is.own is.runs made.hart made.own (ap (λ (z : HartState). record z { ran = z.ran + 1; events = z.events + 1 }) c.end_call.ensures);
+        own = call_own _ v.setting (plain_seen v) h t c.make_call-done.result.end c.make_call-done.new.saved d x y is.own is.runs made.hart made.own (ap (λ (z : HartState). record z { ran = z.ran + 1; events = z.events + 1 }) c.end_call.ensures);
         harts = λ k. ap (λ xs. slice_get xs k) (with_items_is harts c.lose_others.new.harts long) ∙ (c.lose_others.ensures k ∙ (ap (λ ws. option_map (lost_unless (eqb k h) ws) (slice_get c.deref_mut.result.now k)) (c.as_slice.ensures.value ∙ c.make_call-done.ensures.written here is.at) ∙ ap (λ xs. option_map (lost_unless (eqb k h) d.entered) (slice_get xs k)) c.deref_mut.ensures.value));
         bytes = made.bytes;
         writable = may_write_still m.pages c.make_call-done.new.pages made.permissions;

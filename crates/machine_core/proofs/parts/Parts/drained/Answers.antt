@@ -27,7 +27,7 @@ overflow_add-state c =
 
 pub returns-in-Some : goal.returns-in-Some
 returns-in-Some c = record {
-  entry = λ v place free. c.entry_of-entry.ensures ∙ entry_drain v.setting (plain_seen v) c.args.hart c.index_mut-state.result.now (hart_is v c.args.self.now c.args.hart.0 c.index_mut-state.result.now place c.index_mut-state.ensures.value);
+  entry = λ v place free. c.entry_of-entry.ensures ∙ entry_drain _ v.setting (plain_seen v) c.args.hart c.index_mut-state.result.now (hart_is v c.args.self.now c.args.hart.0 c.index_mut-state.result.now place c.index_mut-state.ensures.value);
   after = λ v place free.
       let h = c.args.hart.0 in
       let m = c.args.self.now in
@@ -40,7 +40,7 @@ returns-in-Some c = record {
       let harts : Vec HartState Global = with_item m.harts h y in
       let long : length c.lose_others.new.harts ≡ harts.len = c.lose_others.auto.harts ∙ (ap length c.deref_mut.ensures.value ∙ sym harts.ok.0) in
       changed_as v h asked.Drain d m _ y place free (ap (done_drain_of here) is.at) (record {
-        own = drain_own v.setting (plain_seen v) h w is.later x y is.own (ap (λ (z : HartState). record z { events = z.events + 1 }) c.drain-entered.ensures.hart);
+        own = drain_own _ v.setting (plain_seen v) h w is.later x y is.own (ap (λ (z : HartState). record z { events = z.events + 1 }) c.drain-entered.ensures.hart);
         harts = λ k. ap (λ xs. slice_get xs k) (with_items_is harts c.lose_others.new.harts long) ∙ (c.lose_others.ensures k ∙ ap (λ xs. option_map (lost_unless (eqb k h) (Stored w ∷ [])) (slice_get xs k)) c.deref_mut.ensures.value);
         bytes = λ a. c.drain-entered.ensures.bytes a ∙ ap (λ (ws : List Store). option_map (overlay (take 1 ws) a) (byte_in m.pages a)) is.buffer;
         writable = c.drain-entered.ensures.permissions;

@@ -17,14 +17,14 @@ overflow_add-state-2 c = let plan = c.requires.1 in let few = events_fit plan.se
 
 pub returns : goal.returns
 returns c effect = record {
-  entry = λ v place plan. c.entry_of-entry.ensures ∙ entry_exec v.setting (plain_seen v) c.args.hart c.index_mut-state.result.now (hart_is v c.args.self.now c.args.hart.0 c.index_mut-state.result.now place c.index_mut-state.ensures.value);
+  entry = λ v place plan. c.entry_of-entry.ensures ∙ entry_exec _ v.setting (plain_seen v) c.args.hart c.index_mut-state.result.now (hart_is v c.args.self.now c.args.hart.0 c.index_mut-state.result.now place c.index_mut-state.ensures.value);
   after = λ v place plan.
       let h = c.args.hart.0 in
       let m = c.args.self.now in
       let x = c.index_mut-state.result.now in
       let here = here_of v h in
       changed_as v h asked.Exec (by_fault here c.args.signal) m _ _ place plan.free (done_fault here plan.thread c.args.signal plan.at (sym plan.fault)) (record {
-        own = fault_own v.setting (plain_seen v) h c.args.signal x _ (hart_is v m h x place c.index_mut-state.ensures.value) refl;
+        own = fault_own _ v.setting (plain_seen v) h c.args.signal x _ (hart_is v m h x place c.index_mut-state.ensures.value) refl;
         harts = none_lost h (by_fault here c.args.signal) _ refl;
         bytes = λ a. same_byte _ a;
         writable = λ a. refl;

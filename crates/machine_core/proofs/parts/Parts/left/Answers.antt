@@ -38,7 +38,7 @@ push-requires-clause-not_ready c =
 
 pub returns : goal.returns
 returns c = record {
-  entry = λ v place free. c.entry_of-entry.ensures ∙ entry_preempt v.setting (plain_seen v) c.args.hart c.index_mut-state.result.now (hart_is v c.args.self.now c.args.hart.0 c.index_mut-state.result.now place c.index_mut-state.ensures.value);
+  entry = λ v place free. c.entry_of-entry.ensures ∙ entry_preempt _ v.setting (plain_seen v) c.args.hart c.index_mut-state.result.now (hart_is v c.args.self.now c.args.hart.0 c.index_mut-state.result.now place c.index_mut-state.ensures.value);
   after = λ v place free.
       let h = c.args.hart.0 in
       let p = plain_seen v in
@@ -47,7 +47,7 @@ returns c = record {
       let is = leaving v m c.args.hart x c.entry_of-entry.result place free c.index_mut-state.ensures.value c.entry_of-entry.ensures in
       let t = c.entry_of-entry.result.tid.0 in
       changed_as v h asked.Preempt (done_preempt_by (here_of v h) (Some t)) m _ _ place free (ap (done_preempt_by (here_of v h)) is.at) (record {
-        own = preempt_own v.setting p h t x _ is.own (tables_at v m h place) is.at (ap (λ (z : HartState). record z { events = z.events + 1 }) c.leave-saved.ensures.hart);
+        own = preempt_own _ v.setting p h t x _ is.own (tables_at v m h place) is.at (ap (λ (z : HartState). record z { events = z.events + 1 }) c.leave-saved.ensures.hart);
         harts = none_lost h (done_preempt_by (here_of v h) (Some t)) _ refl;
         bytes = λ a. same_byte _ a;
         writable = λ a. refl;

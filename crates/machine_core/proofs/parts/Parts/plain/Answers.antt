@@ -36,7 +36,7 @@ overflow_add-state-2 c =
 
 pub returns-in-Some : goal.returns-in-Some
 returns-in-Some c = record {
-  entry = λ v place plan. c.entry_of-entry.ensures ∙ entry_exec v.setting (plain_seen v) c.args.hart c.index_mut-state.result.now (hart_is v c.args.self.now c.args.hart.0 c.index_mut-state.result.now place c.index_mut-state.ensures.value);
+  entry = λ v place plan. c.entry_of-entry.ensures ∙ entry_exec _ v.setting (plain_seen v) c.args.hart c.index_mut-state.result.now (hart_is v c.args.self.now c.args.hart.0 c.index_mut-state.result.now place c.index_mut-state.ensures.value);
   after = λ v place plan.
       let h = c.args.hart.0 in
       let m = c.args.self.now in
@@ -49,7 +49,7 @@ returns-in-Some c = record {
       let long : length c.lose_others.new.harts ≡ harts.len = c.lose_others.auto.harts ∙ (ap length c.deref_mut.ensures.value ∙ sym harts.ok.0) in
       let entered : map store_span is.outcome.entered ≡ spans (Some c.in-Some.span) = ap (λ (o : Outcome). map store_span o.entered) (sym is.same) ∙ (c.enters-written.ensures (byte_in m.pages) ∙ ap spans c.in-Some.is) in
       changed_as v h asked.Exec (by_outcome here t is.outcome) m _ y place plan.free is.done (record {
-        own = plain_own v.setting (plain_seen v) h t is.outcome x y is.own plan.at (ap (λ (z : HartState). record z { ran = z.ran + 1; events = z.events + 1 }) (c.perform.ensures.hart ∙ ap (hart_after x) is.same));
+        own = plain_own _ v.setting (plain_seen v) h t is.outcome x y is.own plan.at (ap (λ (z : HartState). record z { ran = z.ran + 1; events = z.events + 1 }) (c.perform.ensures.hart ∙ ap (hart_after x) is.same));
         harts = λ k. ap (λ xs. slice_get xs k) (with_items_is harts c.lose_others.new.harts long) ∙ (c.lose_others.ensures k ∙ (ap (λ (w : Write). option_map (lost_unless (eqb k h) (w ∷ [])) (slice_get c.deref_mut.result.now k)) c.written_at.ensures ∙ (ap (λ xs. option_map (lost_unless (eqb k h) (Stored (record { at = c.in-Some.span.at; size = c.in-Some.span.size; value = 0 }) ∷ [])) (slice_get xs k)) c.deref_mut.ensures.value ∙ lost_by_span (eqb k h) is.outcome.entered c.in-Some.span (slice_get harts.items k) entered)));
         bytes = λ a. c.perform.ensures.bytes a ∙ (ap (λ (o : Outcome). option_map (overlay o.entered a) (byte_in m.pages a)) is.same ∙ as_writes is.outcome.entered a (byte_in m.pages a));
         writable = c.perform.ensures.permissions;
@@ -64,7 +64,7 @@ returns-in-Some c = record {
 
 pub returns-in_default : goal.returns-in_default
 returns-in_default c = record {
-  entry = λ v place plan. c.entry_of-entry.ensures ∙ entry_exec v.setting (plain_seen v) c.args.hart c.index_mut-state.result.now (hart_is v c.args.self.now c.args.hart.0 c.index_mut-state.result.now place c.index_mut-state.ensures.value);
+  entry = λ v place plan. c.entry_of-entry.ensures ∙ entry_exec _ v.setting (plain_seen v) c.args.hart c.index_mut-state.result.now (hart_is v c.args.self.now c.args.hart.0 c.index_mut-state.result.now place c.index_mut-state.ensures.value);
   after = λ v place plan.
       let h = c.args.hart.0 in
       let m = c.args.self.now in
@@ -75,7 +75,7 @@ returns-in_default c = record {
       let y : HartState = record c.perform.new.self { ran = c.perform.new.self.ran + 1; events = c.perform.new.self.events + 1 } in
       let entered : map store_span is.outcome.entered ≡ spans None = ap (λ (o : Outcome). map store_span o.entered) (sym is.same) ∙ (c.enters-written.ensures (byte_in m.pages) ∙ ap spans c.in_default.is) in
       changed_as v h asked.Exec (by_outcome here t is.outcome) m _ y place plan.free is.done (record {
-        own = plain_own v.setting (plain_seen v) h t is.outcome x y is.own plan.at (ap (λ (z : HartState). record z { ran = z.ran + 1; events = z.events + 1 }) (c.perform.ensures.hart ∙ ap (hart_after x) is.same));
+        own = plain_own _ v.setting (plain_seen v) h t is.outcome x y is.own plan.at (ap (λ (z : HartState). record z { ran = z.ran + 1; events = z.events + 1 }) (c.perform.ensures.hart ∙ ap (hart_after x) is.same));
         harts = none_lost h (by_outcome here t is.outcome) _ (nothing_entered is.outcome.entered entered);
         bytes = λ a. c.perform.ensures.bytes a ∙ (ap (λ (o : Outcome). option_map (overlay o.entered a) (byte_in m.pages a)) is.same ∙ as_writes is.outcome.entered a (byte_in m.pages a));
         writable = c.perform.ensures.permissions;

@@ -9,7 +9,7 @@ returns-in-Some-clause-err c v place same =
     let m = c.args.self.now in
     let h = c.args.hart.0 in
     let next : IsNextOn c.args.code.now m x c.next_of-next.result = record { effect = c.next_of-next.ensures.effect; fault = c.next_of-next.ensures.fault; sizes = c.next_of-next.ensures.sizes } in
-    sym (why_not v m h x c.args.code.now c.next_of-next.result place (hart_is v m h x place c.index-state.ensures) same next) ∙ (search rules)
+    sym (why_not _ v m h x c.args.code.now c.next_of-next.result place (hart_is v m h x place c.index-state.ensures) same next) ∙ (search rules)
 
 pub returns-in-None-clause-ok : goal.returns-in-None-clause-ok
 returns-in-None-clause-ok c v place same =
@@ -18,4 +18,4 @@ returns-in-None-clause-ok c v place same =
     let h = c.args.hart.0 in
     let own = hart_is v m h x place c.index-state.ensures in
     let next : IsNextOn c.args.code.now m x c.next_of-next.result = record { effect = c.next_of-next.ensures.effect; fault = c.next_of-next.ensures.fault; sizes = c.next_of-next.ensures.sizes } in
-    planned v m h x c.args.code.now c.next_of-next.result place own same next (sym (why_not v m h x c.args.code.now c.next_of-next.result place own same next) ∙ (search rules))
+    planned _ v m h x c.args.code.now c.next_of-next.result place own same next (sym (why_not _ v m h x c.args.code.now c.next_of-next.result place own same next) ∙ (search rules))

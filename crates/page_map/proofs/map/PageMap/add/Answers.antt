@@ -1,39 +1,44 @@
-use Rattle.std.proofs.Common.{◌≡◌, ◌<◌, ◌+◌, ℕ, List, Option, Some, cond, nat_eq, length, ap, sym, ◌∙◌, subst}
+use Rattle.std.proofs.Common.{◌≡◌, ◌<◌, ◌+◌, ℕ, List, Option, Some, None, cond, nat_eq, length, ap, sym, ◌∙◌, subst}
 use Rattle.std.specs.Vec.{vec_capacity}
 use Rattle.frame_pool.specs.Pool.{free_count}
 use Rattle.frame_pool.proofs.Laws.{free_count-taking}
 use Rattle.page_map.specs.Map.{Map, Page, free_in, page_in}
+use Rattle.page_map.specs.Mapping.{CanLie}
 use Rattle.page_map.specs.Table.{place_in}
-use Rattle.page_map.proofs.Maps.{added-map, added-pages}
+use Rattle.page_map.proofs.Maps.{added-map, added-pages, shown, unmapped-place}
 use Rattle.page_map.proofs.map.PageMap.add.Goals as goal
 
 -- the map as it was
-abbrev before : goal.After-insert → Map
-before c = let was = c.self.inside in record { pool = was.pool; mapped = was.mapped.items; table = was.table; break_at = was.break_at }
+abbrev before : goal.After-set → Map
+before c = shown c.self.inside
 
 -- the table has the new place
-places : (c : goal.After-insert) (n : ℕ)
-    → place_in c.insert.new.self n ≡ cond (nat_eq n c.args.number) (Some (length c.self.inside.mapped.items)) (place_in c.self.inside.table n)
+places : (c : goal.After-set) (n : ℕ)
+    → place_in c.set.new.self n ≡ cond (nat_eq n c.args.number) (Some (length c.self.inside.mapped.items)) (place_in c.self.inside.table n)
 places c n =
     let was = c.self.inside in
     let next : c.len-place.result ≡ length was.mapped.items = c.len-place.ensures ∙ was.mapped.ok.0 in
-    c.insert.ensures.places n ∙ ap (λ (l : ℕ). let q : Option ℕ = cond (nat_eq n c.args.number) (Some l) (place_in was.table n) in q) next
+    c.set.ensures n ∙ ap (λ (l : ℕ). let q : Option ℕ = cond (nat_eq n c.args.number) (Some l) (place_in was.table n) in q) next
 
 pub invariant_of-self : goal.invariant_of-self
 invariant_of-self c =
     let was = c.self.inside in
     let some : 0 < free_count was.pool = subst (λ (m : Map). 0 < free_count m.pool) (sym c.self.view_is) c.requires.free in
+    let unplaced : place_in was.table c.args.number ≡ None =
+    unmapped-place (before c) (vec_capacity was.mapped) c.self.invariant c.args.number (ap (λ (m : Map). page_in m c.args.number) c.self.view_is ∙ c.requires.unmapped) in
+    let lies : CanLie was.break_start was.break_at c.args.number c.args.permission =
+    subst (λ (m : Map). CanLie m.break_start m.break_at c.args.number c.args.permission) (sym c.self.view_is) c.requires.number in
     rw c.filled-frame.ensures.taken
     (added-map (before c) (vec_capacity was.mapped) c.self.invariant c.filled-frame.result c.args.number c.args.permission c.args.bytes.now
-    c.filled-frame.ensures.was_free c.keep.new.mapped.items c.insert.new.self c.keep.ensures.items (places c)
-    (vec_capacity c.keep.new.mapped) c.requires.number c.requires.permission some c.insert.ensures.room c.keep.ensures.capacity)
+    c.filled-frame.ensures.was_free c.keep.new.mapped.items c.set.new.self c.keep.ensures.items (places c)
+    (vec_capacity c.keep.new.mapped) lies c.requires.permission some unplaced c.keep.ensures.capacity)
 
 pub returns-clause-pages : goal.returns-clause-pages
 returns-clause-pages c n =
     let was = c.self.inside in
-    ap (λ (p : List (Option (List ℕ))). page_in (record { pool = p; mapped = c.keep.new.mapped.items; table = c.insert.new.self; break_at = was.break_at }) n) c.filled-frame.ensures.taken
+    ap (λ (p : List (Option (List ℕ))). page_in (record { pool = p; mapped = c.keep.new.mapped.items; table = c.set.new.self; break_at = was.break_at; break_start = was.break_start }) n) c.filled-frame.ensures.taken
     ∙ added-pages (before c) (vec_capacity was.mapped) c.self.invariant c.filled-frame.result c.args.number c.args.permission c.args.bytes.now
-    c.filled-frame.ensures.was_free c.keep.new.mapped.items c.insert.new.self c.keep.ensures.items (places c) n
+    c.filled-frame.ensures.was_free c.keep.new.mapped.items c.set.new.self c.keep.ensures.items (places c) n
     ∙ ap (λ (m : Map). let q : Option Page = cond (nat_eq n c.args.number) (Some (record { permission = c.args.permission; bytes = c.args.bytes.now })) (page_in m n) in q) c.self.view_is
 
 pub returns-clause-free : goal.returns-clause-free

@@ -1,10 +1,10 @@
-use Rattle.std.proofs.Common.{◌≡◌, ◌∙◌, Some, ap, sym, slice_get, subst}
+use Rattle.std.proofs.Common.{◌≡◌, ◌∙◌, arith, Some, ap, sym, slice_get, subst}
 use Rattle.std.specs.Option.{option_copied, option_map}
 use Rattle.std.specs.Vec.{vec_capacity}
 use Rattle.frame_pool.specs.Pool.{IsTaken}
 use Rattle.page_map.specs.Map.{Map, page_at}
 use Rattle.page_map.specs.Table.{place_in}
-use Rattle.page_map.proofs.Maps.{page-none, page-permission, page-some, page-taken, slice_get-read}
+use Rattle.page_map.proofs.Maps.{page-none, page-permission, page-some, page-taken, place-within, shown, slice_get-read}
 use Rattle.page_map.proofs.map.PageMap.find.Goals as goal
 
 pub returns-in_err-place-clause-page : goal.returns-in_err-place-clause-page
@@ -15,9 +15,8 @@ returns-in_err-place-clause-page c =
 -- what stands at the place
 stands : (c : goal.After-index) → slice_get c.self.inside.mapped.items c.in_ok-place.place ≡ Some c.index.result.now
 stands c =
-    let kept = c.self.invariant in
     slice_get-read c.self.inside.mapped.items c.in_ok-place.place c.index.result.now c.index.ensures
-    (kept.placed c.args.number c.in_ok-place.place (sym c.get.ensures ∙ c.in_ok-place.was))
+    (place-within (shown c.self.inside) (vec_capacity c.self.inside.mapped) c.self.invariant c.args.number c.in_ok-place.place (sym c.get.ensures ∙ c.in_ok-place.was))
 
 pub returns-clause-page : goal.returns-clause-page
 returns-clause-page c =
@@ -28,12 +27,14 @@ returns-clause-page c =
 pub returns-clause-taken : goal.returns-clause-taken
 returns-clause-taken c =
     let was = c.self.inside in
-    let shown : Map = record { pool = was.pool; mapped = was.mapped.items; table = was.table; break_at = was.break_at } in
     subst (λ (m : Map). IsTaken m.pool c.index.result.now.frame) c.self.view_is
-    (page-taken shown (vec_capacity was.mapped) c.self.invariant c.in_ok-place.place c.index.result.now (stands c))
+    (page-taken (shown was) (vec_capacity was.mapped) c.self.invariant c.in_ok-place.place c.index.result.now (stands c))
 
 pub returns-clause-permission : goal.returns-clause-permission
 returns-clause-permission c =
     let was = c.self.inside in
-    let shown : Map = record { pool = was.pool; mapped = was.mapped.items; table = was.table; break_at = was.break_at } in
-    page-permission shown (vec_capacity was.mapped) c.self.invariant c.in_ok-place.place c.index.result.now (stands c)
+    page-permission (shown was) (vec_capacity was.mapped) c.self.invariant c.in_ok-place.place c.index.result.now (stands c)
+
+pub index-requires : goal.index-requires
+index-requires c =
+    omega (arith, c.self.inside.mapped.ok.0, place-within (shown c.self.inside) (vec_capacity c.self.inside.mapped) c.self.invariant c.args.number c.in_ok-place.place (sym c.get.ensures ∙ c.in_ok-place.was))

@@ -1,6 +1,6 @@
 -- A number whose bytes are written one by one.
 use Rattle.std.proofs.Common.{◌≡◌, ◌∙◌, ◌+◌, sym, ap, arith}
-use Rattle.page_map.specs.Map.{can_write_in}
+use Rattle.page_map.specs.Map.{byte_in, can_write_in, held_in}
 use Rattle.page_map.proofs.Accesses.{each_byte-at}
 use Rattle.page_map.proofs.Readings.{can_write_in-below}
 use Rattle.page_map.proofs.Stores.{next_rest}
@@ -24,9 +24,11 @@ loop-k-preserved c =
     let done = writes_one m c.loop-k.self c.args.at k c.args.size (c.args.at + c.from.result) c.set_in_page.result next c.loop-k-test.true (sym all) was.permissions set.answer in
     record {
       rest = next_rest c.args.value k c.loop-k.rest was.rest;
-      bytes = step_across m c.loop-k.self c.set_in_page.new.self c.args.at k c.args.value c.loop-k.rest (c.args.at + c.from.result) c.set_in_page.result next done was.rest was.bytes set.bytes;
+      bytes = step_across (byte_in m) (byte_in c.loop-k.self) (byte_in c.set_in_page.new.self) c.args.at k c.args.value c.loop-k.rest (c.args.at + c.from.result) c.set_in_page.result next done was.rest was.bytes set.bytes;
+      held = step_across (held_in m) (held_in c.loop-k.self) (held_in c.set_in_page.new.self) c.args.at k c.args.value c.loop-k.rest (c.args.at + c.from.result) c.set_in_page.result next done was.rest was.held set.held;
       permissions = λ n. set.permissions n ∙ was.permissions n;
       code = λ a. set.code a ∙ was.code a;
       free = set.free ∙ was.free;
       break_at = set.break_at ∙ was.break_at;
+      break_start = set.break_start ∙ was.break_start;
     }

@@ -1,31 +1,26 @@
-use Rattle.std.proofs.Common.{◌≡◌, ◌∙◌, ◌/◌, ◌%◌, List, Option, Some, None, ℕ, is_some, slice_get, nat_eq, cond, ap, sym}
+use Rattle.std.proofs.Common.{◌≡◌, ◌∙◌, arith, ◌/◌, ◌%◌, List, Option, Some, None, ℕ, is_some, slice_get, nat_eq, cond, ap, sym}
 use Rattle.std.specs.Option.{option_map}
 use Rattle.std.specs.Vec.{vec_capacity}
 use Rattle.byte_views.specs.Words.{with_word}
 use Rattle.frame_pool.specs.Pool.{free_count}
 use Rattle.page_map.specs.Map.{Map, Page, frame_bytes, free_in, page_at, page_in, page_with}
 use Rattle.page_map.specs.Table.{place_in}
-use Rattle.page_map.proofs.Maps.{page-none, page-permission, page-some, page-taken, slice_get-read, written-free, written-map, written-with}
-use Rattle.page_map.specs.declared.map.PageMap.TheInside.{Inside}
+use Rattle.page_map.proofs.Maps.{page-none, page-permission, page-some, page-taken, place-within, shown, slice_get-read, written-free, written-map, written-with}
 use Rattle.page_map.proofs.map.PageMap.write_in_page.Goals as goal
-
--- a map by its fields
-abbrev shown : Inside → Map
-shown was = record { pool = was.pool; mapped = was.mapped.items; table = was.table; break_at = was.break_at }
 
 -- what stands at the place of the page
 stands : (c : goal.After-write_frame) → slice_get c.self.inside.mapped.items c.in-Some.place ≡ Some c.index-page.result.now
 stands c =
     let kept = c.self.invariant in
     slice_get-read c.self.inside.mapped.items c.in-Some.place c.index-page.result.now c.index-page.ensures
-    (kept.placed (c.args.at / 4096) c.in-Some.place (sym c.get.ensures ∙ c.in-Some.is))
+    (place-within (shown c.self.inside) (vec_capacity c.self.inside.mapped) kept (c.args.at / 4096) c.in-Some.place (sym c.get.ensures ∙ c.in-Some.is))
 
 pub write_frame-requires-clause-taken : goal.write_frame-requires-clause-taken
 write_frame-requires-clause-taken c =
     let kept = c.self.invariant in
     page-taken (shown c.self.inside) (vec_capacity c.self.inside.mapped) kept c.in-Some.place c.index-page.result.now
     (slice_get-read c.self.inside.mapped.items c.in-Some.place c.index-page.result.now c.index-page.ensures
-    (kept.placed (c.args.at / 4096) c.in-Some.place (sym c.get.ensures ∙ c.in-Some.is)))
+    (place-within (shown c.self.inside) (vec_capacity c.self.inside.mapped) kept (c.args.at / 4096) c.in-Some.place (sym c.get.ensures ∙ c.in-Some.is)))
 
 pub unreachable-requires : goal.unreachable-requires
 unreachable-requires c =
@@ -45,7 +40,7 @@ invariant_of-self c =
 pub returns-clause-pages : goal.returns-clause-pages
 returns-clause-pages c n =
     let was = c.self.inside in
-    ap (λ (p : List (Option (List ℕ))). page_in (record { pool = p; mapped = was.mapped.items; table = was.table; break_at = was.break_at }) n) c.write_frame.ensures.written
+    ap (λ (p : List (Option (List ℕ))). page_in (record { pool = p; mapped = was.mapped.items; table = was.table; break_at = was.break_at; break_start = was.break_start }) n) c.write_frame.ensures.written
     ∙ written-with (shown was) (vec_capacity was.mapped) c.self.invariant (c.args.at / 4096) c.in-Some.place c.index-page.result.now
     (c.args.at % 4096) c.args.size c.args.value (sym c.get.ensures ∙ c.in-Some.is) (stands c) n
     ∙ ap (λ (m : Map). let q : Option Page = cond (nat_eq n (c.args.at / 4096)) (option_map (page_with (c.args.at % 4096) c.args.size c.args.value) (page_in m n)) (page_in m n) in q) c.self.view_is
@@ -70,3 +65,7 @@ returns-clause-size c = rw (page c) c.write_frame.ensures.whole
 pub returns-clause-permission : goal.returns-clause-permission
 returns-clause-permission c =
     rw (page c) (page-permission (shown c.self.inside) (vec_capacity c.self.inside.mapped) c.self.invariant c.in-Some.place c.index-page.result.now (stands c))
+
+pub index-page-requires : goal.index-page-requires
+index-page-requires c =
+    omega (arith, c.self.inside.mapped.ok.0, place-within (shown c.self.inside) (vec_capacity c.self.inside.mapped) c.self.invariant (c.args.at / 4096) c.in-Some.place (sym c.get.ensures ∙ c.in-Some.is))

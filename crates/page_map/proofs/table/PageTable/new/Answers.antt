@@ -7,10 +7,10 @@ use Rattle.page_map.proofs.table.PageTable.new.Goals as goal
 pub invariant_of-result : goal.invariant_of-result
 invariant_of-result c =
     let one : c.push.new.self.items ≡ empty_leaf ∷ [] = c.in_ok-push.ensures.items ∙ (λ i. c.in_ok-leaves.ensures.items i ++ c.empty_leaf.ensures i ∷ []) in
-    new-table c.in_ok-directory.directory.items c.push.new.self.items c.args.pages (vec_capacity c.push.new.self)
-    c.in_ok-directory.ensures.length c.in_ok-directory.ensures.empty one (omega (arith, c.in_ok-leaves.ensures.capacity, c.in_ok-push.ensures.capacity)) (omega arith)
+    new-table c.in_ok-directory.directory.items c.push.new.self.items (vec_capacity c.push.new.self)
+    c.in_ok-directory.ensures.length c.in_ok-directory.ensures.empty one (omega (arith, c.in_ok-leaves.ensures.capacity, c.in_ok-push.ensures.capacity))
 
-pub returns-clause-empty : goal.returns-clause-empty
-returns-clause-empty c =
+pub returns : goal.returns
+returns c =
     let one : c.push.new.self.items ≡ empty_leaf ∷ [] = c.in_ok-push.ensures.items ∙ (λ i. c.in_ok-leaves.ensures.items i ++ c.empty_leaf.ensures i ∷ []) in
-    new-places c.in_ok-directory.directory.items c.push.new.self.items c.args.pages c.in_ok-directory.ensures.empty one
+    record { empty = new-places c.in_ok-directory.directory.items c.push.new.self.items c.in_ok-directory.ensures.empty one }

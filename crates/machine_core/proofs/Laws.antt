@@ -1,0 +1,2 @@
+-- The laws that crates above cite.
+pub use Rattle.machine_core.proofs.Codes.{code_enough}

@@ -1,0 +1,7 @@
+use Rattle.std.proofs.Common.{◌≡◌, ◌++◌, map, take, drop}
+use Rattle.machine_core.specs.Credits.{uncredited}
+use Rattle.machine_core.proofs.following.take_credits.Given as goal
+
+-- the harts so far have no credit, and the others are as they were
+abbrev pub invariant-loop-hart : goal.invariant-loop-hart
+invariant-loop-hart l = l.harts ≡ map uncredited (take l.hart-index l.fn.harts) ++ drop l.hart-index l.fn.harts

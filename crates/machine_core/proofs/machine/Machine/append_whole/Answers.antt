@@ -1,0 +1,106 @@
+use Rattle.std.proofs.Common.{◌++◌, map, ◌≡◌, refl, sym, ap, ◌∙◌, subst, arith, Some, true}
+use Rattle.machine_core.specs.Stretches.{executed, stretch_of}
+use Rattle.machine_core.specs.Tied.{setting_of}
+use Rattle.machine_core.proofs.Advanced.{all_of, chosen_of}
+use Rattle.machine_core.proofs.Ready.{counts_fit, of_machine, ready, taken, with_hart}
+use Rattle.machine_core.proofs.Settled.{IsSettled}
+use Rattle.machine_core.proofs.machine.Machine.append_whole.Goals as goal
+
+pub index_mut-state-requires : goal.index_mut-state-requires
+index_mut-state-requires c =
+    let m = c.self.inside in
+    let lt = of_machine m c.args.hart (stretch_of c.args.stretch) (rw (← c.self.view_is) at c.requires.fits) in
+    let all = c.self.invariant.tied.all_harts in
+    omega (arith, all, lt, m.parts.harts.ok.0)
+
+pub unreachable-requires : goal.unreachable-requires
+unreachable-requires c =
+    let m = c.self.inside in
+    let l = stretch_of c.args.stretch in
+    let is = ready m c.args.hart l c.index_mut-state.result.now c.self.invariant (rw (← c.self.view_is) at c.requires.chosen) (rw (← c.self.view_is) at c.requires.fits)
+    (rw (← c.self.view_is) at c.requires.goes) (rw (← c.self.view_is) at c.requires.events) c.index_mut-state.ensures.value in
+    c.in_default.not-Some is.thread is.way.busy
+
+pub take_in-requires-clause-ran : goal.take_in-requires-clause-ran
+take_in-requires-clause-ran c =
+    let m = c.self.inside in
+    let l = stretch_of c.args.stretch in
+    let is = ready m c.args.hart l c.index_mut-state.result.now c.self.invariant (rw (← c.self.view_is) at c.requires.chosen) (rw (← c.self.view_is) at c.requires.fits)
+    (rw (← c.self.view_is) at c.requires.goes) (rw (← c.self.view_is) at c.requires.events) c.index_mut-state.ensures.value in
+    (counts_fit m c.args.hart l c.index_mut-state.result.now is (rw (← c.self.view_is) at c.requires.room)).0
+
+pub take_in-requires-clause-events : goal.take_in-requires-clause-events
+take_in-requires-clause-events c =
+    let m = c.self.inside in
+    let l = stretch_of c.args.stretch in
+    let is = ready m c.args.hart l c.index_mut-state.result.now c.self.invariant (rw (← c.self.view_is) at c.requires.chosen) (rw (← c.self.view_is) at c.requires.fits)
+    (rw (← c.self.view_is) at c.requires.goes) (rw (← c.self.view_is) at c.requires.events) c.index_mut-state.ensures.value in
+    (counts_fit m c.args.hart l c.index_mut-state.result.now is (rw (← c.self.view_is) at c.requires.room)).1
+
+pub invariant_of-self : goal.invariant_of-self
+invariant_of-self c =
+    let m = c.self.inside in
+    let h = c.args.hart in
+    let l = stretch_of c.args.stretch in
+    let x = c.index_mut-state.result.now in
+    let t = c.in-Some.tid in
+    let is = ready m h l x c.self.invariant (rw (← c.self.view_is) at c.requires.chosen) (rw (← c.self.view_is) at c.requires.fits)
+    (rw (← c.self.view_is) at c.requires.goes) (rw (← c.self.view_is) at c.requires.events) c.index_mut-state.ensures.value in
+    let all = taken m h l x t is (rw (← c.self.view_is) at c.requires.room) c.in-Some.is in
+    let log : c.append_executed.new.log.items ≡ m.log.items ++ map (executed h t) l.pcs =
+    c.append_executed.ensures.items ∙ ap (λ pcs. m.log.items ++ map (executed h t) pcs) c.as_slice.ensures.value in
+    let machine = c.self.invariant in
+    let set = subst (λ y. IsSettled (setting_of m) (m.log.items ++ map (executed h t) l.pcs) (with_hart m h.0 y) m.chooser true) (sym c.take_in.ensures) all.settled in
+    let chosen_so : m.chosen ≡ true = machine.chosen ∙ sym (all_of (setting_of m) m.log.items (rw (← c.self.view_is) at c.requires.chosen)) in
+    record {
+      run = rw log all.run;
+      tied = rw log set.tied;
+      chosen = rw log (chosen_so ∙ set.chosen);
+      credits = rw log set.credits;
+      generators = λ followed. rw log (set.generators refl);
+      held = machine.held;
+      limits = machine.limits;
+      room = omega (arith, machine.room, c.append_executed.ensures.capacity);
+    }
+
+pub returns-clause-log : goal.returns-clause-log
+returns-clause-log c =
+    let m = c.self.inside in
+    let h = c.args.hart in
+    let l = stretch_of c.args.stretch in
+    let x = c.index_mut-state.result.now in
+    let t = c.in-Some.tid in
+    let is = ready m h l x c.self.invariant (rw (← c.self.view_is) at c.requires.chosen) (rw (← c.self.view_is) at c.requires.fits)
+    (rw (← c.self.view_is) at c.requires.goes) (rw (← c.self.view_is) at c.requires.events) c.index_mut-state.ensures.value in
+    let all = taken m h l x t is (rw (← c.self.view_is) at c.requires.room) c.in-Some.is in
+    let log : c.append_executed.new.log.items ≡ m.log.items ++ map (executed h t) l.pcs =
+    c.append_executed.ensures.items ∙ ap (λ pcs. m.log.items ++ map (executed h t) pcs) c.as_slice.ensures.value in
+    rw (← c.self.view_is) (all.log_after ∙ ap Some (sym log))
+
+pub returns-clause-chosen : goal.returns-clause-chosen
+returns-clause-chosen c =
+    let m = c.self.inside in
+    let h = c.args.hart in
+    let l = stretch_of c.args.stretch in
+    let x = c.index_mut-state.result.now in
+    let t = c.in-Some.tid in
+    let is = ready m h l x c.self.invariant (rw (← c.self.view_is) at c.requires.chosen) (rw (← c.self.view_is) at c.requires.fits)
+    (rw (← c.self.view_is) at c.requires.goes) (rw (← c.self.view_is) at c.requires.events) c.index_mut-state.ensures.value in
+    let all = taken m h l x t is (rw (← c.self.view_is) at c.requires.room) c.in-Some.is in
+    let log : c.append_executed.new.log.items ≡ m.log.items ++ map (executed h t) l.pcs =
+    c.append_executed.ensures.items ∙ ap (λ pcs. m.log.items ++ map (executed h t) pcs) c.as_slice.ensures.value in
+    chosen_of (setting_of m) c.append_executed.new.log.items (rw log all.settled.chosen)
+
+pub returns-clause-block_run : goal.returns-clause-block_run
+returns-clause-block_run c =
+    let m = c.self.inside in
+    let h = c.args.hart in
+    let l = stretch_of c.args.stretch in
+    let x = c.index_mut-state.result.now in
+    let t = c.in-Some.tid in
+    let is = ready m h l x c.self.invariant (rw (← c.self.view_is) at c.requires.chosen) (rw (← c.self.view_is) at c.requires.fits)
+    (rw (← c.self.view_is) at c.requires.goes) (rw (← c.self.view_is) at c.requires.events) c.index_mut-state.ensures.value in
+    let all = taken m h l x t is (rw (← c.self.view_is) at c.requires.room) c.in-Some.is in
+    let log : c.append_executed.new.log.items ≡ m.log.items ++ map (executed h t) l.pcs =
+    c.append_executed.ensures.items ∙ ap (λ pcs. m.log.items ++ map (executed h t) pcs) c.as_slice.ensures.value in
+    rw log all.run

@@ -1,0 +1,13 @@
+use Rattle.std.proofs.Common.{sym, ◌∙◌}
+use Rattle.machine_core.proofs.Advanced.{ended_by_room, over_ended}
+use Rattle.machine_core.proofs.machine.Machine.has_ended.Goals as goal
+
+pub returns-then-is_some-clause-answer : goal.returns-then-is_some-clause-answer
+returns-then-is_some-clause-answer c =
+    let m = c.self.inside in
+    rw (← c.self.view_is) (c.if-is_some.true ∙ sym (over_ended m c.self.invariant (sym c.is_some.ensures ∙ c.if-is_some.true)))
+
+pub returns-else-is_some-clause-answer : goal.returns-else-is_some-clause-answer
+returns-else-is_some-clause-answer c =
+    let m = c.self.inside in
+    rw (← c.self.view_is) (ended_by_room m c.len.result c.self.invariant (sym c.if-is_some.false ∙ c.is_some.ensures) (c.len.ensures ∙ m.log.ok.0))

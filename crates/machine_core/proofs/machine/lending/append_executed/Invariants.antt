@@ -1,0 +1,9 @@
+use Rattle.std.proofs.Common.{◌≡◌, ◌≤◌, ◌++◌, map, take}
+use Rattle.std.specs.Prelude.{vec_capacity}
+use Rattle.machine_core.specs.Stretches.{executed}
+use Rattle.machine_core.proofs.machine.lending.append_executed.Given as goal
+
+-- those of the addresses before are appended
+abbrev pub invariant-loop-pc : goal.invariant-loop-pc
+invariant-loop-pc l =
+    (l.log.items ≡ l.fn.log.items ++ map (executed l.hart l.tid) (take l.pc-index l.pcs)) × (vec_capacity l.fn.log ≤ vec_capacity l.log)

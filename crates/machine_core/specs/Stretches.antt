@@ -1,0 +1,53 @@
+-- Stretches as they are handed out, as plain values; and the code by which they are worked.
+use Rattle.std.specs.Prelude.{ℕ, ◌+◌, ◌==◌, ◌||◌, Bool, false, not, List, [], filter, if◌then◌else◌, length, Option, None, Some, is_some}
+use Rattle.std.specs.Option.{option_map_or}
+use Rattle.mach_types.specs.Kernel.Pages.{can_execute}
+use Rattle.mach_types.specs.declared.events.Entry.{Entry}
+use Rattle.mach_types.specs.declared.events.Hart.{Hart}
+use Rattle.mach_types.specs.declared.events.Kind.TheVariants as kind
+use Rattle.mach_types.specs.declared.events.Tid.{Tid}
+use Rattle.elf_load.specs.declared.image.ImagePage.{ImagePage}
+use Rattle.rv_inst.specs.Class.{sets_register}
+use Rattle.hart_state.specs.declared.hart.HartState.{HartState}
+use Rattle.block_model.specs.Instruction.{next_effect}
+use Rattle.block_model.specs.Stretches as plain
+use Rattle.machine_core.specs.Harts.{file_of}
+use Rattle.machine_core.specs.declared.stretches.Stretch.{Stretch}
+
+-- a stretch as a plain value
+abbrev pub stretch_of : Stretch → plain.Stretch
+stretch_of l = record {
+  hart = l.hart.0;
+  events = l.events;
+  file = record { file = l.file; pc = l.pc };
+  credit = l.credit;
+  pcs = l.pcs.items;
+}
+
+-- the pages of a program that may be executed, in their order
+abbrev pub is_executable : ImagePage → Bool
+is_executable p = can_execute (Some p.perm)
+
+abbrev pub code_of : List ImagePage → List ImagePage
+code_of pages = filter is_executable pages
+
+-- the entry of an instruction of a thread at a pc
+abbrev pub executed : Hart → Tid → ℕ → Entry
+executed h t pc = record { hart = h; kind = kind.Exec; tid = t; pc = pc }
+
+-- the stretch of hart h in this state, over this code: none where no thread runs on it, where it has no credit, or where its next
+-- instruction touches more than registers
+abbrev pub stretch_on : List ImagePage → ℕ → HartState → Option plain.Stretch
+stretch_on code h x =
+    if not (is_some x.running) || x.credit == 0 || not (option_map_or sets_register (next_effect code (file_of x)) false) then None
+    else Some (record { hart = h; events = x.events; file = file_of x; credit = x.credit; pcs = [] })
+
+-- a hart as a stretch of its work leaves it: the file and the credit are the stretch's, and each of its instructions counts
+abbrev pub taken_in : plain.Stretch → HartState → HartState
+taken_in l x = record x {
+  file = l.file.file;
+  pc = l.file.pc;
+  credit = l.credit;
+  ran = x.ran + length l.pcs;
+  events = x.events + length l.pcs;
+}

@@ -1,0 +1,120 @@
+//! Pages one behind the other: whether they are mapped and whether one can be executed, and how they are mapped,
+//! protected and removed.
+
+ghost use Rattle.std.specs.Prelude.{◌≡◌, ◌≤◌, ◌<◌, ◌+◌, ◌-◌, ◌&&◌, ℕ, Some, None, false, true, if◌then◌else◌, IsSome, is_some};
+ghost use Rattle.std.specs.Option.{option_map};
+ghost use Rattle.mach_types.specs.Kernel.Pages.{can_execute, is_in, is_mapped, is_without_code, lowest_hole, mapped_count, run};
+ghost use Rattle.elf_load.specs.Images.{IsPermission};
+ghost use Rattle.page_map.specs.Map.{break_in, break_start_in, free_in, page_in, page_over, permission_in, protected_page};
+ghost use Rattle.page_map.specs.Mapping.{CanLie};
+
+use crate::boot::zeros;
+use crate::map::{EXECUTE, PageMap};
+use mach_types::address_space::{FIRST_MAPPING_PAGE, FIRST_STACK_PAGE};
+
+impl PageMap {
+    /// Whether a page can be executed.
+    fn can_execute(&self, number: u64) -> bool
+        ensures { result ≡ can_execute (permission_in self.now number) }
+    {
+        match self.find(number) {
+            Some(page) => page.permission & EXECUTE != 0,
+            None => false,
+        }
+    }
+
+    /// Whether the pages from one number on and before another are all mapped.
+    pub(crate) fn is_mapped(&self, first: u64, count: u64) -> bool
+        requires { first + count ≤ 2251799813685248 }
+        ensures { result ≡ is_mapped (permission_in self.now) first count }
+    {
+        for k in 0..count {
+            if !self.is_page(first + k) {
+                return false;
+            }
+        }
+        true
+    }
+
+    /// Whether none of so many pages from one on can be executed.
+    pub(crate) fn is_without_code(&self, first: u64, count: u64) -> bool
+        requires { first + count ≤ 67108864 }
+        ensures { result ≡ is_without_code (permission_in self.now) first count }
+    {
+        let mut from = first;
+        while let Some(number) = self.next_mapped(from, first + count) {
+            if self.can_execute(number) {
+                return false;
+            }
+            from = number + 1;
+        }
+        true
+    }
+
+    /// The lowest page at which so many pages can be mapped; None exactly where they fit nowhere.
+    pub(crate) fn lowest_hole(&self, count: u64) -> Option<u64>
+        requires some { 0 < count }
+        requires few { count < 4294967296 }
+        ensures { result ≡ lowest_hole (permission_in self.now) count }
+    {
+        let mut first = FIRST_MAPPING_PAGE;
+        while first + count <= FIRST_STACK_PAGE {
+            match self.next_mapped(first, first + count) {
+                Some(number) => first = number + 1,
+                None => return Some(first),
+            }
+        }
+        None
+    }
+
+    /// Maps so many pages from one on, all zero.
+    pub(crate) fn map_zeros(&mut self, first: u64, count: u64, permission: u8)
+        requires end { first + count ≤ 67108864 }
+        requires unmapped { (n : ℕ) → first ≤ n → n < first + count → page_in self.old n ≡ None }
+        requires numbers { (n : ℕ) → first ≤ n → n < first + count
+            → CanLie (break_start_in self.old) (break_in self.old) n permission }
+        requires permission { IsPermission permission }
+        requires free { count ≤ free_in self.old }
+        ensures pages { (n : ℕ) → page_in self.new n ≡ page_over (run first count (Some permission)) (page_in self.old) n }
+        ensures free { free_in self.new ≡ free_in self.old - count }
+        ensures break_at { break_in self.new ≡ break_in self.old }
+        ensures break_start { break_start_in self.new ≡ break_start_in self.old }
+    {
+        let bytes = zeros();
+        for k in 0..count {
+            self.add(first + k, permission, &bytes);
+        }
+    }
+
+    /// Removes the pages that are mapped, of so many from one on.
+    pub(crate) fn remove_pages(&mut self, first: u64, count: u64)
+        requires { first + count ≤ 67108864 }
+        ensures pages { (n : ℕ) → page_in self.new n ≡ page_over (run first count None) (page_in self.old) n }
+        ensures free { free_in self.new ≡ free_in self.old + mapped_count (permission_in self.old) first count }
+        ensures break_at { break_in self.new ≡ break_in self.old }
+        ensures break_start { break_start_in self.new ≡ break_start_in self.old }
+    {
+        let mut from = first;
+        while let Some(number) = self.next_mapped(from, first + count) {
+            self.remove(number);
+            from = number + 1;
+        }
+    }
+
+    /// Gives so many pages from one on, which are all mapped, another permission, by which they can't be executed.
+    pub(crate) fn protect_pages(&mut self, first: u64, count: u64, permission: u8)
+        requires end { first + count ≤ 67108864 }
+        requires mapped { (n : ℕ) → first ≤ n → n < first + count → IsSome (page_in self.old n) }
+        requires permission { IsPermission permission }
+        requires code { can_execute (Some permission) ≡ false }
+        ensures pages { (n : ℕ) → page_in self.new n
+            ≡ (if is_in (run first count (Some permission)) n then option_map (protected_page permission) (page_in self.old n) else page_in self.old n) }
+        ensures free { free_in self.new ≡ free_in self.old }
+        ensures break_at { break_in self.new ≡ break_in self.old }
+        ensures break_start { break_start_in self.new ≡ break_start_in self.old }
+    {
+        for k in 0..count {
+            self.set_permission(first + k, permission);
+        }
+    }
+}

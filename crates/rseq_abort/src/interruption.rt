@@ -1,0 +1,64 @@
+//! What an interruption comes to.
+
+ghost use Rattle.std.specs.Prelude.{◌≡◌, ℕ, [], if◌then◌else◌, Some};
+ghost use Rattle.mach_types.specs.Bytes.{after_writes};
+ghost use Rattle.mach_types.specs.Kernel.Areas.{interruption, is_clearable, outcome_of, pointer_cleared, writes_of};
+
+use mach_types::sequences::RSEQ_CS;
+use mach_types::{Area, BadWhy, Named, Outcome, UserMem};
+use rseq_area::named;
+
+/// Interrupts a thread at a pc, with the area that is registered for it (rseq(2)).
+///
+/// `Nothing` where it has no area or the area names nothing: nothing is written. `Killed` where what the area names is
+/// bad, or else its pointer can't be written: nothing is written, and the process is to be killed. Else the pointer
+/// becomes 0, with no other write; `Aborted` has the address at which a thread that was inside goes on, and `Cleared`
+/// says that it was outside and goes on at its pc.
+pub fn interrupt<M: UserMem>(mem: &mut M, area: Option<Area>, pc: u64) -> Outcome
+    ensures outcome { result ≡ interruption (M.byte mem.old) (M.can_write mem.old) area pc }
+    ensures bytes { (a : ℕ) → M.byte mem.new a ≡ after_writes (writes_of area result) (M.byte mem.old) a }
+    ensures permissions { (a : ℕ) → M.can_write mem.new a ≡ M.can_write mem.old a }
+{
+    match area {
+        Some(area) => {
+            let found = named(mem, &area, pc);
+            interrupt_named(mem, &area, pc, found)
+        }
+        None => Outcome::Nothing,
+    }
+}
+
+/// Interrupts a thread at a pc whose area names this.
+fn interrupt_named<M: UserMem>(mem: &mut M, area: &Area, pc: u64, found: Named) -> Outcome
+    ensures outcome { result ≡ outcome_of (M.can_write mem.old) area.now pc found }
+    ensures bytes { (a : ℕ) → M.byte mem.new a ≡ after_writes (writes_of (Some area.now) result) (M.byte mem.old) a }
+    ensures permissions { (a : ℕ) → M.can_write mem.new a ≡ M.can_write mem.old a }
+{
+    match found {
+        Named::Nothing => Outcome::Nothing,
+        Named::Bad(why) => Outcome::Killed(why),
+        Named::Good(sequence) => {
+            if !clear_pointer(mem, area) {
+                Outcome::Killed(BadWhy::AreaBytes)
+            } else if sequence.is_inside(pc) {
+                Outcome::Aborted(sequence.abort)
+            } else {
+                Outcome::Cleared
+            }
+        }
+    }
+}
+
+/// Lets an area name nothing; false exactly where its pointer can't be written, and then nothing changes.
+fn clear_pointer<M: UserMem>(mem: &mut M, area: &Area) -> bool
+    ensures answer { result ≡ is_clearable (M.can_write mem.old) area.now }
+    ensures bytes { (a : ℕ) →
+        let writes = if result then pointer_cleared (Some area.now) else [] in
+        M.byte mem.new a ≡ after_writes writes (M.byte mem.old) a }
+    ensures permissions { (a : ℕ) → M.can_write mem.new a ≡ M.can_write mem.old a }
+{
+    match area.at.checked_add(RSEQ_CS) {
+        Some(pointer) => mem.set(pointer, 8, 0),
+        None => false,
+    }
+}

@@ -1,0 +1,124 @@
+//! Tests: worked rows, with values found by hand from the layout of the two structures.
+
+use crate::interrupt;
+use mach_types::{Area, BadWhy, FlatMemory, Outcome, UserMem};
+use std::test::Fail;
+
+/// The area of the tests.
+const AREA: Area = Area {
+    at: 0x1000,
+    sig: 0xF140_1073,
+};
+
+/// Where `rseq_cs` of the area stands.
+const POINTER: u64 = 0x1008;
+
+/// Where the descriptor stands, of the sequence of 12 bytes from 0x400000 on with its abort handler at 0x1050.
+const DESCRIPTOR: u64 = 0x1020;
+
+/// Where the word stands whose upper half is the signature before the abort handler.
+const BEFORE_ABORT: u64 = 0x1048;
+
+/// Stores 8 bytes.
+fn put(memory: &mut FlatMemory, at: u64, value: u64) {
+    let _written = memory.set(at, 8, value);
+}
+
+/// A memory in which the area names the sequence.
+fn good_memory() -> FlatMemory {
+    let mut memory = FlatMemory::new(128);
+    put(&mut memory, POINTER, DESCRIPTOR);
+    put(&mut memory, DESCRIPTOR + 8, 0x40_0000);
+    put(&mut memory, DESCRIPTOR + 16, 12);
+    put(&mut memory, DESCRIPTOR + 24, 0x1050);
+    put(&mut memory, BEFORE_ABORT, 0xF140_1073 << 32);
+    memory
+}
+
+/// A pc, what an interruption there comes to, and the pointer after it.
+type Row = (u64, Outcome, u64);
+
+#[test]
+fn inside_and_outside(rt: HostRuntime) -> Result<(), Fail> {
+    let rows: [Row; 6] = [
+        (0x40_0000, Outcome::Aborted(0x1050), 0),
+        (0x40_0004, Outcome::Aborted(0x1050), 0),
+        (0x40_000B, Outcome::Aborted(0x1050), 0),
+        (0x40_000C, Outcome::Cleared, 0),
+        (0x3F_FFFC, Outcome::Cleared, 0),
+        (0, Outcome::Cleared, 0),
+    ];
+    for (pc, outcome, pointer) in rows {
+        let mut memory = good_memory();
+        assert_eq!(rt; interrupt(&mut memory, Some(AREA), pc), outcome, "{pc:x}");
+        assert_eq!(rt; memory.get(POINTER, 8), Some(pointer), "{pc:x}");
+        assert_eq!(rt; memory.get(DESCRIPTOR + 8, 8), Some(0x40_0000), "{pc:x}");
+    }
+    Ok(())
+}
+
+#[test]
+fn nothing_is_named(rt: HostRuntime) -> Result<(), Fail> {
+    let mut memory = good_memory();
+    assert_eq!(rt; interrupt(&mut memory, None, 0x40_0000), Outcome::Nothing);
+    assert_eq!(rt; memory.get(POINTER, 8), Some(DESCRIPTOR));
+    put(&mut memory, POINTER, 0);
+    memory.writable = 0;
+    assert_eq!(rt;
+        interrupt(&mut memory, Some(AREA), 0x40_0000),
+        Outcome::Nothing
+    );
+    Ok(())
+}
+
+/// A word that is changed before, a pc, and what is wrong.
+type BadRow = (u64, u64, u64, BadWhy);
+
+#[test]
+fn bad_areas_kill(rt: HostRuntime) -> Result<(), Fail> {
+    let rows: [BadRow; 5] = [
+        (POINTER, 1 << 38, 0, BadWhy::Pointer),
+        (DESCRIPTOR, 1, 0, BadWhy::Version),
+        (DESCRIPTOR + 24, 0x40_0000, 0, BadWhy::AbortInside),
+        (BEFORE_ABORT, 0, 0, BadWhy::Signature),
+        (DESCRIPTOR, 1 << 32, 0x40_0000, BadWhy::SeqFlags),
+    ];
+    for (at, value, pc, why) in rows {
+        let mut memory = good_memory();
+        put(&mut memory, at, value);
+        let pointer = memory.get(POINTER, 8);
+        assert_eq!(rt;
+            interrupt(&mut memory, Some(AREA), pc),
+            Outcome::Killed(why),
+            "{at:x}"
+        );
+        assert_eq!(rt; memory.get(POINTER, 8), pointer, "{at:x}");
+    }
+    Ok(())
+}
+
+#[test]
+fn pointer_must_be_writable(rt: HostRuntime) -> Result<(), Fail> {
+    let rows = [
+        (15, 0x40_0000, Outcome::Killed(BadWhy::AreaBytes)),
+        (15, 0x40_000C, Outcome::Killed(BadWhy::AreaBytes)),
+        (16, 0x40_0000, Outcome::Aborted(0x1050)),
+    ];
+    for (writable, pc, outcome) in rows {
+        let mut memory = good_memory();
+        memory.writable = writable;
+        assert_eq!(rt;
+            interrupt(&mut memory, Some(AREA), pc),
+            outcome,
+            "{writable} {pc:x}"
+        );
+    }
+    let mut memory = good_memory();
+    let far = Area {
+        at: u64::MAX - 7,
+        sig: 0,
+    };
+    let killed = Outcome::Killed(BadWhy::AreaBytes);
+    assert_eq!(rt; interrupt(&mut memory, Some(far), 0), killed);
+    Ok(())
+}

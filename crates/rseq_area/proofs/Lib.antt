@@ -1,0 +1,4 @@
+mod Descriptors
+mod LowestFree
+mod Readings
+mod WordsWritten

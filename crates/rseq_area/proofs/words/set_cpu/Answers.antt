@@ -1,0 +1,9 @@
+use Rattle.std.proofs.Common.{◌∙◌}
+use Rattle.rseq_area.proofs.WordsWritten.{mm_cid_writable}
+use Rattle.rseq_area.proofs.words.set_cpu.Goals as goal
+
+pub put_word-requires-4 : goal.put_word-requires-4
+put_word-requires-4 g c =
+    mm_cid_writable (g.M.UserMem.can_write c.args.mem.now) (g.M.UserMem.can_write c.put_word-3.new.mem) c.args.area.now
+    (λ a. c.put_word-3.ensures.permissions a ∙ c.put_word-2.ensures.permissions a ∙ c.put_word.ensures.permissions a)
+    c.if-not-can_write_words.ensures.answer

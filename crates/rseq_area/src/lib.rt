@@ -1,0 +1,20 @@
+//! The area that a thread registers for restartable sequences, and what it names (rseq(2); uapi linux/rseq.h).
+//!
+//! A thread registers an area in its memory. The kernel keeps in it on which processor the thread runs; the thread
+//! puts into it the address of a descriptor, which says where a restartable sequence starts and ends and where its
+//! abort handler is. Nothing here takes memory.
+#![tactic(auto)]
+
+mod fields;
+mod ids;
+mod naming;
+mod registration;
+#[cfg(test)]
+mod tests;
+mod words;
+
+pub use ids::lowest_cid;
+pub use mach_types::{Area, BadWhy, Named, Seq};
+pub use naming::named;
+pub use registration::{register, unregister};
+pub use words::set_cpu;

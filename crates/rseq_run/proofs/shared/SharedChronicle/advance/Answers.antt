@@ -1,0 +1,22 @@
+use Rattle.std.proofs.Common.{◌<◌, ◌^◌, ap, sym, subst}
+use Rattle.block_model.specs.Choosing.{IsChosen}
+use Rattle.block_model.specs.Setting.{Seen}
+use Rattle.block_model.proofs.Laws.{within_limit}
+use Rattle.rseq_run.proofs.Chosen.{advanced}
+use Rattle.rseq_run.proofs.shared.SharedChronicle.advance.Goals as goal
+
+pub invariant_of-self : goal.invariant_of-self
+unfolding IsChosen
+invariant_of-self c =
+    let m = c.advance.new.self in
+    record {
+      few = within_limit m.setting m.log c.advance.ensures.block_run;
+      small = subst (λ (v : Seen). v.setting.limits.steps < 2 ^ 32) (sym c.advance.ensures.log) c.args.self.now.small;
+      chosen = c.advance.ensures.chosen;
+    }
+
+pub returns-clause-advanced : goal.returns-clause-advanced
+returns-clause-advanced c =
+    let m = c.args.self.now.machine in
+    advanced m.setting m.log c.args.hart c.advance.result c.advance.new.self.log c.advance.ensures.answer
+    (ap (λ (v : Seen). v.log) c.advance.ensures.log)

@@ -1,0 +1,14 @@
+mod Apart
+mod Deliverable
+mod Ends
+mod Entries
+mod FlatBytes
+mod Kept
+mod Lists
+mod Lowest
+mod Masks
+mod ReadBack
+mod Returning
+mod SignalSets
+mod StaysWhole
+mod Words

@@ -1,0 +1,16 @@
+use Rattle.std.proofs.Common.{◌≡◌, ◌∙◌, map}
+use Rattle.arrayvec.proofs.ArrayVecLemmas.{items-with_items}
+use Rattle.mach_types.specs.Kernel.Signals.{mask_if}
+use Rattle.signals.proofs.Kept.{given_mask, is_mask_of, lists, mapped_length, same_threads}
+use Rattle.signals.proofs.StaysWhole.{with_mask-holds}
+use Rattle.signals.proofs.table.Signals.mask.Goals as goal
+
+pub invariant_of-self : goal.invariant_of-self
+invariant_of-self c =
+    let own = c.self.inside in
+    let mask = c.in-Some.new in
+    let later = c.set_mask.new.threads in
+    let changed : later ≡ map (mask_if c.args.tid.0 mask) own.threads.items = cc in
+    let whole = items-with_items own.threads later (mapped_length _ own.threads.items later changed) in
+    let is_mask = is_mask_of mask _ (given_mask _ mask _ c.in-Some.ensures) in
+    same_threads own.actions _ _ (whole ∙ changed) (with_mask-holds c.args.tid.0 mask (lists own.actions own.threads.items) c.self.invariant is_mask)

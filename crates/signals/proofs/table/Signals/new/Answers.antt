@@ -1,0 +1,13 @@
+use Rattle.std.proofs.Common.{List, [], ◌∷◌, ◌++◌, ap, ◌∙◌, replicate}
+use Rattle.mach_types.specs.Kernel.Signals.{start_signalling}
+use Rattle.mach_types.specs.declared.signal_words.Action.{Action}
+use Rattle.mach_types.specs.declared.signal_words.ThreadSignals.{ThreadSignals}
+use Rattle.signals.proofs.Kept.{same_lists}
+use Rattle.signals.proofs.StaysWhole.{start_signalling-holds}
+use Rattle.signals.proofs.table.Signals.new.Goals as goal
+
+pub invariant_of-result : goal.invariant_of-result
+invariant_of-result c =
+    let threads = c.push.ensures.items ∙ ap (λ (ths : List ThreadSignals). ths ++ c.new_entry.result ∷ []) c.new-threads.ensures
+    ∙ ap (λ (th : ThreadSignals). th ∷ []) c.new_entry.ensures in
+    same_lists _ start_signalling.actions _ start_signalling.threads (ap (λ (a : Action). replicate 31 a) c.default.ensures) threads start_signalling-holds

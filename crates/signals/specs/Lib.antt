@@ -1,0 +1,5 @@
+pub mod Coming
+pub mod Flat
+pub mod Frames
+pub mod Holding
+pub mod Writing

@@ -1,0 +1,160 @@
+//! The threads that are held, each with its mask and what is pending for it.
+
+ghost use Rattle.std.specs.Prelude.{◌≡◌, ◌≤◌, not, map, filter, find};
+ghost use Rattle.std.specs.List.{list_any};
+ghost use Rattle.std.specs.Option.{option_map_or};
+ghost use Rattle.mach_types.specs.Kernel.Signals as spec;
+
+use crate::sets::{joined, less, only};
+use arrayvec::ArrayVec;
+use mach_types::{MOST_THREADS, ThreadSignals};
+
+/// How many threads can be held.
+pub const ROOM: usize = MOST_THREADS as usize;
+
+/// The entry of a new thread: it has this mask, and nothing is pending.
+pub fn new_entry(tid: u32, mask: u64) -> ThreadSignals
+    ensures { result ≡ spec.new_thread tid mask }
+{
+    ThreadSignals {
+        tid,
+        mask,
+        pending: 0,
+    }
+}
+
+/// A thread's entry.
+fn entry_of(threads: &[ThreadSignals], tid: u32) -> Option<ThreadSignals>
+    ensures { result ≡ find (spec.is_of tid) threads.now }
+{
+    for entry in threads {
+        if entry.tid == tid {
+            return Some(*entry);
+        }
+    }
+    None
+}
+
+/// Whether a thread has an entry.
+pub fn is_held(threads: &[ThreadSignals], tid: u32) -> bool
+    ensures { result ≡ list_any (spec.is_of tid) threads.now }
+{
+    threads.iter().any(|entry| entry.tid == tid)
+}
+
+/// What a thread masks; nothing where it isn't held.
+pub fn mask_of(threads: &[ThreadSignals], tid: u32) -> u64
+    ensures { result ≡ option_map_or (λ th. th.mask) (find (spec.is_of tid) threads.now) 0 }
+{
+    match entry_of(threads, tid) {
+        Some(entry) => entry.mask,
+        None => 0,
+    }
+}
+
+/// What is pending for a thread; nothing where it isn't held.
+pub fn pending_of(threads: &[ThreadSignals], tid: u32) -> u64
+    ensures { result ≡ option_map_or (λ th. th.pending) (find (spec.is_of tid) threads.now) 0 }
+{
+    match entry_of(threads, tid) {
+        Some(entry) => entry.pending,
+        None => 0,
+    }
+}
+
+/// An entry, with this mask where it is the thread's.
+fn masked(entry: ThreadSignals, tid: u32, mask: u64) -> ThreadSignals
+    ensures { result ≡ spec.mask_if tid mask entry }
+{
+    if entry.tid == tid {
+        ThreadSignals { mask, ..entry }
+    } else {
+        entry
+    }
+}
+
+/// Gives a thread this mask.
+pub fn set_mask(threads: &mut [ThreadSignals], tid: u32, mask: u64)
+    ensures { threads.new ≡ map (spec.mask_if tid mask) threads.old }
+{
+    for entry in threads.iter_mut() {
+        *entry = masked(*entry, tid, mask);
+    }
+}
+
+/// An entry, with a signal pending where it is the thread's.
+fn with_signal(entry: ThreadSignals, tid: u32, sig: u8) -> ThreadSignals
+    requires lowest { 1 ≤ sig }
+    requires highest { sig ≤ 31 }
+    ensures { result ≡ spec.post_if tid sig entry }
+{
+    if entry.tid == tid {
+        let pending = joined(entry.pending, only(sig));
+        ThreadSignals { pending, ..entry }
+    } else {
+        entry
+    }
+}
+
+/// Makes a signal, 1 to 31, pending for a thread.
+pub fn post(threads: &mut [ThreadSignals], tid: u32, sig: u8)
+    requires lowest { 1 ≤ sig }
+    requires highest { sig ≤ 31 }
+    ensures { threads.new ≡ map (spec.post_if tid sig) threads.old }
+{
+    for entry in threads.iter_mut() {
+        *entry = with_signal(*entry, tid, sig);
+    }
+}
+
+/// An entry without a pending signal.
+fn without_signal(entry: ThreadSignals, sig: u8) -> ThreadSignals
+    requires lowest { 1 ≤ sig }
+    requires highest { sig ≤ 31 }
+    ensures { result ≡ spec.without_signal sig entry }
+{
+    let pending = less(entry.pending, only(sig));
+    ThreadSignals { pending, ..entry }
+}
+
+/// An entry, without a pending signal where it is the thread's.
+fn taken(entry: ThreadSignals, tid: u32, sig: u8) -> ThreadSignals
+    requires lowest { 1 ≤ sig }
+    requires highest { sig ≤ 31 }
+    ensures { result ≡ spec.take_if tid sig entry }
+{
+    if entry.tid == tid {
+        without_signal(entry, sig)
+    } else {
+        entry
+    }
+}
+
+/// Takes a pending signal, 1 to 31, from a thread.
+pub fn take_pending(threads: &mut [ThreadSignals], tid: u32, sig: u8)
+    requires lowest { 1 ≤ sig }
+    requires highest { sig ≤ 31 }
+    ensures { threads.new ≡ map (spec.take_if tid sig) threads.old }
+{
+    for entry in threads.iter_mut() {
+        *entry = taken(*entry, tid, sig);
+    }
+}
+
+/// Drops a pending signal, 1 to 31, for all threads.
+pub fn drop_signal(threads: &mut [ThreadSignals], sig: u8)
+    requires lowest { 1 ≤ sig }
+    requires highest { sig ≤ 31 }
+    ensures { threads.new ≡ map (spec.without_signal sig) threads.old }
+{
+    for entry in threads.iter_mut() {
+        *entry = without_signal(*entry, sig);
+    }
+}
+
+/// Takes a thread's entry away.
+pub fn remove(threads: &mut ArrayVec<ThreadSignals, ROOM>, tid: u32)
+    ensures { threads.new.items ≡ filter (λ th. not (spec.is_of tid th)) threads.old.items }
+{
+    threads.retain(|entry| entry.tid != tid);
+}
