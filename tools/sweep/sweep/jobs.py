@@ -7,6 +7,7 @@ import signal
 import subprocess
 import sys
 from collections.abc import Iterator
+from contextlib import contextmanager
 from dataclasses import dataclass
 from pathlib import Path
 
@@ -91,6 +92,39 @@ class Swept:
         return sum(met.runs for met in self.tally.values())
 
 
+@dataclass
+class Interruption:
+    """Whether an interrupt came, and the process that it is handed on to."""
+
+    came: bool = False
+    running: subprocess.Popen | None = None
+
+    def note(self, *_: object) -> None:
+        self.came = True
+        if self.running:
+            self.running.send_signal(signal.SIGINT)
+
+    def watch(self, running: subprocess.Popen) -> None:
+        """Hands interrupts on to a process, and the one that came while it was started too."""
+        self.running = running
+        if self.came:
+            running.send_signal(signal.SIGINT)
+
+
+@contextmanager
+def noted_interrupts() -> Iterator[Interruption]:
+    """Within it an interrupt is noted, whatever it comes upon, and breaks nothing off. It stays ignored
+    where it was."""
+    interruption = Interruption()
+    before = signal.getsignal(signal.SIGINT)
+    if before is not signal.SIG_IGN:
+        signal.signal(signal.SIGINT, interruption.note)
+    try:
+        yield interruption
+    finally:
+        signal.signal(signal.SIGINT, before)
+
+
 def sweep_jobs(parallel: Parallel, folder: Folder, jobs: list[Job]) -> Swept:
     """Runs the jobs whose records aren't kept yet."""
     if shutil.which(PARALLEL) is None:
@@ -102,10 +136,12 @@ def sweep_jobs(parallel: Parallel, folder: Folder, jobs: list[Job]) -> Swept:
             note(swept.tally, outcome, met)
     folder.jobs.write_text(''.join(f'{job.first} {job.count}\n' for job in jobs))
     prune_job_log(folder, {str(job.number) for job in jobs if job.first in kept})
-    for record in records_of(parallel.words(folder), swept):
-        if record.first not in kept:
-            folder.keep(record, swept.tally)
-            kept[record.first] = record
+    with noted_interrupts() as interruption:
+        for record in records_of(parallel.words(folder), interruption):
+            if record.first not in kept:
+                folder.keep(record, swept.tally)
+                kept[record.first] = record
+    swept.was_interrupted = interruption.came
     swept.is_whole = all(job.first in kept for job in jobs)
     return swept
 
@@ -118,23 +154,15 @@ def prune_job_log(folder: Folder, numbers: set[str]) -> None:
         folder.job_log.write_text(''.join([heading, *left]))
 
 
-def records_of(words: list[str], swept: Swept) -> Iterator[Record]:
-    """The records that GNU parallel prints, as they come. An interruption is handed on to it, and what it
-    still prints is taken."""
+def records_of(words: list[str], interruption: Interruption) -> Iterator[Record]:
+    """The records that GNU parallel prints, as they come; after an interruption, those that it still
+    prints."""
     with subprocess.Popen(words, stdin=subprocess.DEVNULL, stdout=subprocess.PIPE, text=True) as running:
-        while line := next_line(running, swept):
+        interruption.watch(running)
+        for line in running.stdout:
             record = read_record(line)
             if record:
                 yield record
-
-
-def next_line(running: subprocess.Popen, swept: Swept) -> str:
-    while True:
-        try:
-            return running.stdout.readline()
-        except KeyboardInterrupt:
-            swept.was_interrupted = True
-            running.send_signal(signal.SIGINT)
 
 
 def seconds_of_jobs(folder: Folder) -> float:

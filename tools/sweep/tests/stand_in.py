@@ -1,7 +1,9 @@
 #!/usr/bin/python3
 """Stands in for rseq_run in the tests of the sweep: answers `run FILE --seed=S` with an output text that
 depends on the seed alone. One seed in seven loses, and the runs of an outcome have logs of different
-lengths. FILE's first line says how many seconds a run takes, and may say which seed is refused."""
+lengths. FILE's first line says how many seconds a run takes, and may say which seed is refused. With STAND_IN_LAST
+in the environment, runs of later seeds than that don't end."""
+import os
 import sys
 import time
 
@@ -15,6 +17,8 @@ def main():
     with open(file) as text:
         seconds, *refused = text.readline().split()
     time.sleep(float(seconds))
+    while seed > int(os.environ.get('STAND_IN_LAST', seed)):
+        time.sleep(1)
     if str(seed) in refused:
         print('fault memory')
         return 7

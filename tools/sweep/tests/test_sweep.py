@@ -11,9 +11,9 @@ import unittest
 from pathlib import Path
 
 from lens.output import read_output
-from sweep.jobs import Job, make_jobs
+from sweep.jobs import Job, Parallel, make_jobs, sweep_jobs
 from sweep.limits import available_mebibytes, jobs_that_fit, mebibytes_a_run
-from sweep.records import Folder, Met, Outcome, Rank, Record, note, read_record
+from sweep.records import Folder, Met, Outcome, Rank, Record, Tally, note, read_record
 
 TOOLS = Path(__file__).resolve().parents[2]
 SWEEP = TOOLS / 'bin' / 'sweep'
@@ -25,6 +25,14 @@ FAULT_STATUS, INTERRUPTED_STATUS = 2, 130
 def heed_interrupts() -> None:
     """A terminal's interrupt counts, also where this test runs in the background, where a shell has it ignored."""
     signal.signal(signal.SIGINT, signal.SIG_DFL)
+
+
+class InterruptedFolder(Folder):
+    """A folder upon whose keeping of a record an interrupt comes, as from a terminal."""
+
+    def keep(self, record: Record, tally: Tally) -> None:
+        os.kill(os.getpid(), signal.SIGINT)
+        super().keep(record, tally)
 
 
 class Sweeps(unittest.TestCase):
@@ -86,7 +94,6 @@ class Sweeps(unittest.TestCase):
             self.assertEqual(script.read_text(), ''.join(f'{step.line()}\n' for step in run.steps))
 
     def test_interrupted_and_taken_up_again(self):
-        self.file('0.1')
         whole, cut = self.room / 'whole', self.room / 'cut'
         self.assertEqual(self.sweep('-o', whole).returncode, 0)
         made = self.interrupt(cut)
@@ -98,9 +105,11 @@ class Sweeps(unittest.TestCase):
             self.assertEqual((cut / kept.name).read_bytes(), kept.read_bytes())
 
     def interrupt(self, folder: Path) -> int:
-        """Interrupts a sweep as a terminal does, when it has made some jobs; how many runs it kept."""
+        """Interrupts a sweep as a terminal does, when it has made its first job and can't make all of the others; how many
+        runs it kept."""
         running = subprocess.Popen(
             self.words('-o', folder, '--jobs', 2),
+            env={**os.environ, 'STAND_IN_LAST': str(2 * SEEDS_A_JOB)},
             stdout=subprocess.DEVNULL,
             stderr=subprocess.PIPE,
             text=True,
@@ -115,6 +124,20 @@ class Sweeps(unittest.TestCase):
         self.assertEqual(running.returncode, INTERRUPTED_STATUS)
         self.assertIn(f'of {RUNS} runs are kept in {folder}; the same command goes on', said)
         return int(said.split('sweep: ')[1].split()[0])
+
+    def test_interrupted_while_a_record_is_kept(self):
+        """The record is kept whole, and what was swept is known."""
+        self.addCleanup(signal.signal, signal.SIGINT, signal.signal(signal.SIGINT, signal.default_int_handler))
+        self.file('0')
+        os.environ['STAND_IN_LAST'] = str(2 * SEEDS_A_JOB)
+        self.addCleanup(os.environ.pop, 'STAND_IN_LAST')
+        folder = InterruptedFolder(self.room / 'swept')
+        folder.open({})
+        parallel = Parallel(2, 1, [], ['300', str(STAND_IN), str(self.elf)])
+        swept = sweep_jobs(parallel, folder, make_jobs(1, RUNS, SEEDS_A_JOB))
+        self.assertEqual((swept.is_whole, swept.was_interrupted), (False, True))
+        self.assertTrue(0 < swept.runs < RUNS)
+        self.assertEqual(len(folder.records()) * SEEDS_A_JOB, swept.runs)
 
     def test_a_whole_sweep_runs_nothing_again(self):
         folder = self.room / 'swept'
