@@ -85,4 +85,5 @@ def main():
                 before = row(f'play, {threads}', program, ['play', elf, lines, '--steps', MOST_STEPS], path, before)
 
 
-main()
+if __name__ == '__main__':
+    main()

@@ -1,11 +1,11 @@
 -- The choice of `run`: it is allowed, some hart has one while the run goes on, and a log of choices goes on by the entry that a
 -- hart makes next.
-use Rattle.std.proofs.Common.{◌≡◌, ◌≢◌, ℕ, ◌+◌, ◌%◌, ◌<◌, ◌≤◌, ◌&&◌, ◌||◌, List, [], ◌∷◌, ◌++◌, length, find, refl, sym, ap, ◌∙◌, subst, arith, Bool, true, false, not, cond, eqb, ltb, leb, Option, Some, None, Ok, is_none, is_some}
-use Rattle.std.proofs.lemmas.Bool.{and_parts, cond-false, cond-true, cond_both, eq-eqb, eqb-true, false≢true, leb-false, lt-ltb, ltb-true, ne_eqb}
+use Rattle.std.proofs.Common.{◌≡◌, ◌≢◌, ℕ, ◌+◌, ◌%◌, ◌<◌, ◌≤◌, ◌&&◌, ◌||◌, List, [], ◌∷◌, ◌++◌, length, find, refl, sym, ap, ◌∙◌, subst, arith, Bool, true, false, not, cond, eqb, ltb, leb, Option, Some, None, Ok, is_none, is_some, zero, suc, ◌⊎◌, inl, inr}
+use Rattle.std.proofs.lemmas.Bool.{and_parts, cases_eq, cond-false, cond-true, cond_both, eq-eqb, eqb-true, false≢true, leb-false, lt-ltb, ltb-true, ne_eqb}
 use Rattle.std.proofs.lemmas.List.Sums.{fold-append}
 use Rattle.std.proofs.lemmas.Map.Keys.{sorted_from_strictly_increasing}
 use Rattle.std.specs.List.{fold}
-use Rattle.std.specs.Option.{option_map, option_map_or}
+use Rattle.std.specs.Option.{option_map, option_map_or, option_or}
 use Rattle.mach_types.specs.Events.{choice_of}
 use Rattle.mach_types.specs.Kernel.Record.{Kernel}
 use Rattle.mach_types.specs.Kernel.Scheduling.{affinity_of, first_for, has_hart}
@@ -39,10 +39,10 @@ use Rattle.block_model.specs.Choosing.{IsChosen, Luck, all_chosen, choice_at, ha
 use Rattle.block_model.specs.Deciding.{decide, entry_in, event, history, over_at, unless}
 use Rattle.block_model.specs.Events.{refusal_of}
 use Rattle.block_model.specs.Events.Drain.{refusal_drain_of}
-use Rattle.block_model.specs.Events.Exec.{next_effect, next_fault, refusal_exec, refusal_exec_by}
+use Rattle.block_model.specs.Events.Exec.{is_held, next_effect, next_fault, others_gate, refusal_exec, refusal_exec_by}
 use Rattle.block_model.specs.Events.Preempt.{refusal_preempt_by, unless_waiting}
-use Rattle.block_model.specs.Here.{Here, is_writable, memory, runs}
-use Rattle.block_model.specs.History.{History, ended, here_in_history, is_of_hart, kernel, ran}
+use Rattle.block_model.specs.Here.{Here, is_writable, memory, runs, waiting_here}
+use Rattle.block_model.specs.History.{History, ended, here_in_history, is_of_hart, kernel, ran, waiting}
 use Rattle.block_model.specs.Instruction.{fault_by, fetched, instruction_of}
 use Rattle.block_model.specs.Run.{IsBlockRun, IsRunHistory}
 use Rattle.block_model.specs.Setting.{Setting}
@@ -52,7 +52,7 @@ use Rattle.block_model.proofs.Ends.{some_live}
 use Rattle.block_model.proofs.Good.{IsSound}
 use Rattle.block_model.proofs.KernelTables.{found_passes, found_sorted, running_there}
 use Rattle.block_model.proofs.Open.{IsOpen, decide-open}
-use Rattle.block_model.proofs.Rules.{ended_parts, found_where, found_where_any, gate_waits, goes_somewhere, run_free}
+use Rattle.block_model.proofs.Rules.{ended_parts, allowed_where_none_waits, found_where, found_where_any, goes_somewhere, run_free}
 use Rattle.block_model.proofs.Runs.{IsBlockRun-append, history-append, history-nil, settled}
 
 -- what is picked isn't refused
@@ -93,11 +93,38 @@ free_row waiting byte writable fetched_word f None is = absurd (false≢true is)
 free_row waiting byte writable fetched_word f (Some i) is =
     free_effect waiting byte writable (meaning i f.file f.pc) (sym (local-rows i f.file f.pc byte writable) ∙ is)
 
+-- it is no call
+pub no_call_held : (held : Bool) (e : Effect) → sets_register e ≡ true → others_gate held (Some e) ≡ None
+no_call_held held (effect.Next rd value pc) sets = refl
+no_call_held held (effect.Load at size is_signed rd) sets = refl
+no_call_held held (effect.Store at size value) sets = refl
+no_call_held held (effect.Amo op at size value rd) sets = refl
+no_call_held held (effect.Lr at size rd) sets = refl
+no_call_held held (effect.Sc at size value rd) sets = refl
+no_call_held held (effect.Fence full) sets = refl
+no_call_held held effect.FenceI sets = refl
+no_call_held held effect.Call sets = absurd (false≢true sets)
+no_call_held held effect.Break sets = refl
+no_call_held held effect.Misaligned sets = refl
+
+free_others : (held : Bool) (byte : ℕ → Option ℕ) (writable : ℕ → Bool) (fetched_word : Option ℕ) (f : Saved) (o : Option Inst)
+    → (option_map_or is_register_only o false && is_none (fault_by byte writable f.pc fetched_word (option_map (λ i. meaning i f.file f.pc) o))) ≡ true
+    → others_gate held (option_map (λ i. meaning i f.file f.pc) o) ≡ None
+free_others held byte writable fetched_word f None is = absurd (false≢true is)
+free_others held byte writable fetched_word f (Some i) is =
+    no_call_held held (meaning i f.file f.pc) (sym (local-rows i f.file f.pc byte writable) ∙ is)
+
+pub none_of_both : (a b : Option Why) → a ≡ None → b ≡ None → option_or a b ≡ None
+none_of_both a b first second = rw (first, second) refl
+
 local_free : (here : Here) (t : ℕ) → runs here ≡ Some t → is_local_on here (runs here) ≡ true → refusal_exec here ≡ None
 local_free here t busy is =
+    let word = fetched here.setting.program.pages (here.file t).pc in
+    let only = sym (ap (is_local_on here) busy) ∙ is in
     ap (refusal_exec_by here) busy
-    ∙ free_row (length here.waiting) (memory here) (is_writable here) (fetched here.setting.program.pages (here.file t).pc) (here.file t)
-    (instruction_of (fetched here.setting.program.pages (here.file t).pc)) (sym (ap (is_local_on here) busy) ∙ is)
+    ∙ none_of_both (instruction_gate (length (waiting_here here)) (next_effect here t) (is_some (next_fault here t))) (others_gate (is_held here t) (next_effect here t))
+    (free_row (length (waiting_here here)) (memory here) (is_writable here) word (here.file t) (instruction_of word) only)
+    (free_others (is_held here t) (memory here) (is_writable here) word (here.file t) (instruction_of word) only)
 
 -- a test for no value
 none_is : {A : Type 0} (o : Option A) → is_none o ≡ true → o ≡ None
@@ -121,20 +148,20 @@ free_when_idle here None sound idle found = tt
 free_when_idle here (Some t) sound idle found = run_free here t sound idle found
 
 -- what a hart picks that is held up
-free_when_held_up : (here : Here) (some : Bool) → ltb 0 (length here.waiting) ≡ some
+free_when_held_up : (here : Here) (some : Bool) → ltb 0 (length (waiting_here here)) ≡ some
     → IsFree here (option_map plainly (cond some (Some asked.Drain) None))
-free_when_held_up here true is = drain_free here.waiting is
+free_when_held_up here true is = drain_free (waiting_here here) is
 free_when_held_up here false is = tt
 
 -- what a word picks
 free_by_word : (here : Here) (t r : ℕ) (seen : Sight) → runs here ≡ Some t → refusal_exec here ≡ None
-    → seen.stores ≡ length here.waiting → IsFree here (Some (by_word r seen))
+    → seen.stores ≡ length (waiting_here here) → IsFree here (Some (by_word r seen))
 free_by_word here t r seen busy free same =
     cond_both (leaves_by r seen) (plainly asked.Preempt) (cond (drains_by r seen) (plainly asked.Drain) (record { choice = asked.Exec; credit = credit_of r }))
     (λ p. IsFree here (Some p))
-    (λ leaves. ap (refusal_preempt_by here) busy ∙ leave_free here.waiting (rw (← same) (no_store leaves)))
+    (λ leaves. ap (refusal_preempt_by here) busy ∙ leave_free (waiting_here here) (rw (← same) (no_store leaves)))
     (λ stays. cond_both (drains_by r seen) (plainly asked.Drain) (record { choice = asked.Exec; credit = credit_of r }) (λ p. IsFree here (Some p))
-    (λ drains. drain_free here.waiting (rw (← same) (and_parts (eqb (r % 4) 1) (has_stores seen) drains).1))
+    (λ drains. drain_free (waiting_here here) (rw (← same) (and_parts (eqb (r % 4) 1) (has_stores seen) drains).1))
     (λ executes. free))
   where
     no_store : leaves_by r seen ≡ true → eqb seen.stores 0 ≡ true
@@ -234,26 +261,28 @@ choice_decides s log h c run chosen =
 
 -- some hart has a choice
 
--- a hart with a thread has one: where it may not execute, a store waits
-held_up_picks : (stores : List Store) → refusal_drain_of stores ≡ None
+-- a hart with a thread has one, where it may execute, or a store waits
+held_up_picks : (stores : List Store) → ltb 0 (length stores) ≡ true
     → is_some (option_map plainly (cond (ltb 0 (length stores)) (Some asked.Drain) None)) ≡ true
 held_up_picks [] some = absurd cc
-held_up_picks (w ∷ stores) some = rw (lt-ltb 0 (length (w ∷ stores)) (omega arith)) refl
+held_up_picks (w ∷ stores) some = rw some refl
 
-busy_by : (here : Here) (t since credit r : ℕ) (why : Option Why) → runs here ≡ Some t → refusal_exec here ≡ why
+-- a hart that may not execute has a store that waits
+abbrev IsHeldUp : Here → Type 0
+IsHeldUp here = (t : ℕ) (why : Why) → runs here ≡ Some t → refusal_exec here ≡ Some why → ltb 0 (length (waiting_here here)) ≡ true
+
+busy_by : (here : Here) (t since credit r : ℕ) (why : Option Why) → IsHeldUp here → runs here ≡ Some t → refusal_exec here ≡ why
     → is_some (pick_in (cond (is_none why) Open (Settled (option_map plainly (when_held_up (sight_in here since credit))))) r (sight_in here since credit)) ≡ true
-busy_by here t since credit r None busy at = refl
-busy_by here t since credit r (Some why) busy at =
-    let gate : refusal_exec_by here (Some t) ≡ Some why = sym (ap (refusal_exec_by here) busy) ∙ at in
-    held_up_picks here.waiting (gate_waits here.waiting (next_effect here t) (is_some (next_fault here t)) why gate)
+busy_by here t since credit r None held busy at = refl
+busy_by here t since credit r (Some why) held busy at = held_up_picks (waiting_here here) (held t why busy at)
 
-picks_when_busy : (here : Here) (t since credit r : ℕ) → runs here ≡ Some t
+picks_when_busy : (here : Here) (t since credit r : ℕ) → IsHeldUp here → runs here ≡ Some t
     → is_some (pick_in (busy_case (sight_in here since credit)) r (sight_in here since credit)) ≡ true
-picks_when_busy here t since credit r busy =
+picks_when_busy here t since credit r held busy =
     let seen = sight_in here since credit in
     let after : Case = cond seen.exec_enabled Open (Settled (option_map plainly (when_held_up seen))) in
     cond_both (has_credit seen) (Settled (Some (on_credit seen))) after (λ c. is_some (pick_in c r seen) ≡ true)
-    (λ credited. refl) (λ uncredited. busy_by here t since credit r (refusal_exec here) busy refl)
+    (λ credited. refl) (λ uncredited. busy_by here t since credit r (refusal_exec here) held busy refl)
 
 -- an idle hart has one where a ready thread may run there
 picks_when_idle : (first : Option ℕ) → is_some first ≡ true
@@ -261,17 +290,17 @@ picks_when_idle : (first : Option ℕ) → is_some first ≡ true
 picks_when_idle None some = absurd (false≢true some)
 picks_when_idle (Some t) some = refl
 
-picks_by : (here : Here) (since credit r : ℕ) (running : Option ℕ) → runs here ≡ running
+picks_by : (here : Here) (since credit r : ℕ) (running : Option ℕ) → IsHeldUp here → runs here ≡ running
     → (running ≡ None → is_some (first_for here.hart here.kernel.scheduling) ≡ true)
     → is_some (pick_in (case_by (is_none running) (sight_in here since credit)) r (sight_in here since credit)) ≡ true
-picks_by here since credit r None at first = picks_when_idle (first_for here.hart here.kernel.scheduling) (first refl)
-picks_by here since credit r (Some t) at first = picks_when_busy here t since credit r at
+picks_by here since credit r None held at first = picks_when_idle (first_for here.hart here.kernel.scheduling) (first refl)
+picks_by here since credit r (Some t) held at first = picks_when_busy here t since credit r held at
 
-something_picked : (here : Here) (since credit r : ℕ)
+something_picked : (here : Here) (since credit r : ℕ) → IsHeldUp here
     → (runs here ≡ None → is_some (first_for here.hart here.kernel.scheduling) ≡ true)
     → is_some (pick (sight_in here since credit) r) ≡ true
 unfolding pick
-something_picked here since credit r first = picks_by here since credit r (runs here) refl first
+something_picked here since credit r held first = picks_by here since credit r (runs here) held refl first
 
 -- a hart that a thread runs on, or that a ready thread may run on
 record GoesOnAt (s : Setting) (k : Kernel) : Type 0 where
@@ -322,17 +351,59 @@ next_where : (s : Setting) (h : ℕ) (before : History) → has_ended s before �
 unfolding next_entry choice_at
 next_where s h before goes lt some = rw (goes, lt-ltb h s.limits.harts lt) (entry_of (here_in_history s before h) (pick_at s h before) some)
 
+-- a hart on which a store waits, if there is one
+find_waiting : (stores : ℕ → List Store) (n : ℕ)
+    → ((k : ℕ) × (k < n) × (ltb 0 (length (stores k)) ≡ true)) ⊎ ((k : ℕ) → k < n → stores k ≡ [])
+find_waiting stores zero = inr (λ k lt. absurd (omega arith))
+find_waiting stores (suc n) = go (stores n) refl (find_waiting stores n)
+  where
+    go : (ws : List Store) → stores n ≡ ws → ((k : ℕ) × (k < n) × (ltb 0 (length (stores k)) ≡ true)) ⊎ ((k : ℕ) → k < n → stores k ≡ [])
+        → ((k : ℕ) × (k < suc n) × (ltb 0 (length (stores k)) ≡ true)) ⊎ ((k : ℕ) → k < suc n → stores k ≡ [])
+    go (w ∷ ws) is rest = inl (n, omega arith, ap (λ (xs : List Store). ltb 0 (length xs)) is ∙ lt-ltb 0 (length (w ∷ ws)) (omega arith))
+    go [] is (inl found) = let lt = found.1 in inl (found.0, omega arith, found.2)
+    go [] is (inr none) = inr (λ k lt. elim (cases_eq k n) [ inl same ↦ ap stores same ∙ is | inr two ↦ none k (omega arith) ])
+
+-- so some hart has a choice: one on which a store waits, or else any that goes on
+record Picks (s : Setting) (before : History) : Type 0 where
+  pub hart : ℕ
+  pub lt : hart < s.limits.harts
+  pub first : runs (here_in_history s before hart) ≡ None → is_some (first_for hart (kernel s before).scheduling) ≡ true
+  pub held : IsHeldUp (here_in_history s before hart)
+
+stores_wait : (stores : List Store) → stores ≡ [] → ltb 0 (length stores) ≡ true → ⊥
+stores_wait stores none some = false≢true (sym (ap (λ (ws : List Store). ltb 0 (length ws)) none) ∙ some)
+
+picks_at : (s : Setting) (before : History) → IsRunHistory s before → GoesOnAt s (kernel s before)
+    → ((k : ℕ) × (k < s.limits.harts) × (ltb 0 (length (waiting k before)) ≡ true)) ⊎ ((k : ℕ) → k < s.limits.harts → waiting k before ≡ [])
+    → Picks s before
+picks_at s before run at (inl found) = record {
+  hart = found.0;
+  lt = found.1;
+  first = λ idle. absurd (stores_wait (waiting found.0 before) ((settled s before run).good.idle found.0 idle) found.2);
+  held = λ t why busy refused. found.2;
+}
+picks_at s before run at (inr none) = record {
+  hart = at.hart;
+  lt = at.lt;
+  first = at.first;
+  held = λ t why busy refused.
+      let here = here_in_history s before at.hart in
+      let free = allowed_where_none_waits here t (none at.hart at.lt) none in
+      let bad : None ≡ Some why = sym free ∙ sym (ap (refusal_exec_by here) busy) ∙ refused in
+      absurd cc;
+}
+
 pub some_hart_goes_on : (s : Setting) (log : List Entry) → IsBlockRun s log → 0 < s.limits.harts
     → has_ended s (history s log) ≡ false
     → (h : ℕ) × (h < s.limits.harts) × (is_some (next_entry s h (history s log)) ≡ true)
 some_hart_goes_on s log run harts goes =
     let before = history s log in
-    let at = goes_on_at s before run harts (goes_on_where s before goes) in
+    let at = picks_at s before run (goes_on_at s before run harts (goes_on_where s before goes)) (find_waiting (λ k. waiting k before) s.limits.harts) in
     let l = luck s at.hart before in (
       at.hart,
       at.lt,
       next_where s at.hart before goes at.lt (something_picked (here_in_history s before at.hart) (ran at.hart before) l.credit
-          (word (after_words l.drawn (first_generator s.seed at.hart))) at.first),
+          (word (after_words l.drawn (first_generator s.seed at.hart))) at.held at.first),
     )
 
 -- logs of choices

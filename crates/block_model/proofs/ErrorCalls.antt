@@ -1,22 +1,24 @@
 -- Each call of the table is refused, or gives no error at its own entry.
-use Rattle.std.proofs.Common.{◌≡◌, ℕ, ◌*◌, ◌%◌, ◌<◌, ◌≤◌, ◌^◌, List, [], ◌∷◌, length, map, take, min, set, get_or, refl, sym, ap, ◌∙◌, subst, Bool, true, false, not, cond, eqb, leb, ltb, ◌&&◌, ◌||◌, Option, Some, None, is_some, arith, zero, suc, length-take}
+use Rattle.std.proofs.Common.{◌≡◌, ℕ, ◌+◌, ◌-◌, ◌/◌, ◌⊎◌, inl, inr, ◌*◌, ◌%◌, ◌<◌, ◌≤◌, ◌^◌, List, [], ◌∷◌, length, map, take, min, set, get_or, refl, sym, ap, ◌∙◌, subst, Bool, true, false, not, cond, eqb, leb, ltb, ◌&&◌, ◌||◌, Option, Some, None, Result, Err, is_some, arith, zero, suc, length-take}
 use Rattle.std.specs.Option.{option_map_or}
-use Rattle.std.proofs.lemmas.Bool.{false≢true}
+use Rattle.std.proofs.lemmas.Bool.{and_parts, false≢true, leb-true}
 use Rattle.std.proofs.Math.Nat.{mod-lt}
 use Rattle.mach_types.specs.Registers.{register}
-use Rattle.mach_types.specs.declared.address_space.TheConstants.{USER_END}
+use Rattle.mach_types.specs.declared.address_space.TheConstants.{MAPPING_START, USER_END}
 use Rattle.mach_types.specs.declared.errors.Errno.{Errno}
-use Rattle.mach_types.specs.declared.errors.TheConstants.{EAGAIN, EBADF, EFAULT, EINVAL, ENOSPC, ENOSYS, EPERM, ESRCH}
-use Rattle.mach_types.specs.declared.kernel_words.TheConstants.{CONSOLE_ROOM}
+use Rattle.mach_types.specs.declared.errors.TheConstants.{EACCES, EAGAIN, EBADF, EFAULT, EINVAL, ENOMEM, ENOSPC, ENOSYS, EPERM, ESRCH}
+use Rattle.mach_types.specs.declared.kernel_words.TheConstants.{CONSOLE_ROOM, MOST_PROT, PROT_EXEC}
 use Rattle.mach_types.specs.declared.limits.End.{End}
 use Rattle.mach_types.specs.declared.threads.Saved.{Saved}
 use Rattle.mach_types.specs.declared.user_memory.Write.{Write}
+use Rattle.mach_types.specs.Kernel.PageCalls.{address_of, break_run, has_prot}
+use Rattle.mach_types.specs.Kernel.Pages.{Pages, is_mapped, is_without_code, lowest_hole, pages_of}
 use Rattle.mach_types.specs.Kernel.Record.{Kernel}
 use Rattle.mach_types.specs.Kernel.Scheduling.{harts_in}
 use Rattle.mach_types.specs.Kernel.Threads.{Thread, is_full, is_live, longest_waiter}
 use Rattle.block_model.specs.Here.{Here, memory}
 use Rattle.block_model.specs.History.{file_among}
-use Rattle.block_model.specs.Kernel.{cleared, gone, left, next_number, printed, waited, woken}
+use Rattle.block_model.specs.Kernel.{cleared, gone, left, next_number, paged, printed, waited, woken}
 use Rattle.block_model.specs.Calls.{call_of, called}
 use Rattle.block_model.specs.Calls.Affinity.{getcpu, is_usable, moved_off, names_nobody, sched_getaffinity, sched_setaffinity, set_at}
 use Rattle.block_model.specs.Calls.Answers.{CallDone, argument, are_readable, are_writable, call_number, int_argument, negative, number_at, refused, returned, said}
@@ -24,7 +26,10 @@ use Rattle.block_model.specs.Calls.Cloning.{are_flags, child_file, clone, clone_
 use Rattle.block_model.specs.Calls.Console.{Span, all_readable, bytes_of, is_elsewhere, room, spans_at, total, write, write_spans, writev}
 use Rattle.block_model.specs.Calls.Ending.{exit, exit_group, is_last, last_exits, one_exits, woken_at_exit}
 use Rattle.block_model.specs.Calls.Futexes.{Woken, answered_wait, futex, futex_wait, futex_wake, operation, wake, woken_first}
+use Rattle.block_model.specs.Calls.Memory.{are_mapping_flags, brk, changed_unless, mapped_or_refused, may_break, mmap, mprotect, munmap, permission_here, zeros_if_mapped}
 use Rattle.block_model.specs.ErrorCalls.{IsError}
+use Rattle.block_model.proofs.Goods.Calls.Memory.{moved}
+use Rattle.block_model.proofs.Placing.{placed_by}
 use Rattle.mach_types.proofs.Laws.{filtered_same, eqb_same}
 
 -- a call is refused with an error number
@@ -230,6 +235,123 @@ tells_clone here t few =
     (unless_refused here t EFAULT (not (own && theirs)) _ (omega arith) (omega arith)
     (answers_low here t child ((child, child_file here t) ∷ []) _ (with_new_child here t) (omega arith))))
 
+-- munmap(2) and mprotect(2): a refusal is by an error number
+abbrev IsNumbered : Option Errno → Type 0
+IsNumbered o = (e : Errno) → o ≡ Some e → (1 ≤ e.0) × (e.0 ≤ 4095)
+
+numbered_unless : (b : Bool) (e : Errno) (o : Option Errno) → 1 ≤ e.0 → e.0 ≤ 4095 → IsNumbered o → IsNumbered (cond b (Some e) o)
+numbered_unless true e o least most rest f is = let same : e ≡ f = cc in subst (λ (g : Errno). (1 ≤ g.0) × (g.0 ≤ 4095)) same (least, most)
+numbered_unless false e o least most rest f is = rest f is
+
+numbered_none : IsNumbered None
+numbered_none e is = absurd cc
+
+tells_changed : (here : Here) (t : ℕ) (o : Option Errno) (pages : Pages) → IsNumbered o → TellsErrors here t (changed_unless here t o pages)
+tells_changed here t None pages numbered = answers_low here t 0 [] [] (paged pages here.kernel) (omega arith)
+tells_changed here t (Some e) pages numbered = let is = numbered e refl in tells_refused here t e is.0 is.1
+
+tells_munmap : (here : Here) (t : ℕ) → TellsErrors here t (munmap here t)
+tells_munmap here t =
+    let p = argument here t 0 in
+    let len = argument here t 1 in
+    tells_changed here t _ _
+    (numbered_unless (not (eqb (p % 4096) 0)) EINVAL _ (omega arith) (omega arith)
+    (numbered_unless (eqb len 0) EINVAL _ (omega arith) (omega arith)
+    (numbered_unless (ltb USER_END (p + len)) EINVAL _ (omega arith) (omega arith)
+    (numbered_unless (not (is_without_code (permission_here here) (p / 4096) (pages_of len))) EACCES _ (omega arith) (omega arith)
+    numbered_none))))
+
+numbered_or_none : (b : Bool) (o : Option Errno) → IsNumbered o → IsNumbered (cond b None o)
+numbered_or_none true o rest = numbered_none
+numbered_or_none false o rest = rest
+
+tells_mprotect : (here : Here) (t : ℕ) → TellsErrors here t (mprotect here t)
+tells_mprotect here t =
+    let p = argument here t 0 in
+    let len = argument here t 1 in
+    let prot = argument here t 2 in
+    tells_changed here t _ _
+    (numbered_unless (not (eqb (p % 4096) 0)) EINVAL _ (omega arith) (omega arith)
+    (numbered_or_none (eqb len 0) _
+    (numbered_unless (ltb MOST_PROT prot) EINVAL _ (omega arith) (omega arith)
+    (numbered_unless (has_prot PROT_EXEC prot) EACCES _ (omega arith) (omega arith)
+    (numbered_unless (ltb USER_END (p + len)) ENOMEM _ (omega arith) (omega arith)
+    (numbered_unless (not (is_mapped (permission_here here) (p / 4096) (pages_of len))) ENOMEM _ (omega arith) (omega arith)
+    (numbered_unless (not (is_without_code (permission_here here) (p / 4096) (pages_of len))) EACCES _ (omega arith) (omega arith)
+    numbered_none)))))))
+
+-- mmap(2): an address of a process is no error
+answers_address : (here : Here) (t n : ℕ) (entered : List Write) (k : Kernel) → n ≤ USER_END
+    → TellsErrors here t (answering here t n [] entered k)
+answers_address here t n entered k small goes lives error =
+    let x = returned n (here.file t) in
+    let there = ap (λ (f : Saved). register f.file 10) (own_first t x (here.file t) []) in
+    let low = answer_low (here.file t) n in
+    let is = error.is in
+    let most = error.most in
+    absurd (omega (arith, there))
+
+numbered_result : (here : Here) (t len prot : ℕ) (b : Bool) (e : Errno) (x : Result ℕ Errno) → 1 ≤ e.0 → e.0 ≤ 4095
+    → TellsErrors here t (mapped_or_refused here t len prot x)
+    → TellsErrors here t (mapped_or_refused here t len prot (cond b (Err e) x))
+numbered_result here t len prot true e x least most rest = tells_refused here t e least most
+numbered_result here t len prot false e x least most rest = rest
+
+tells_address : (here : Here) (t len prot : ℕ) (o : Option ℕ) → lowest_hole (permission_here here) (pages_of len) ≡ o
+    → TellsErrors here t (mapped_or_refused here t len prot (address_of o))
+tells_address here t len prot None found = tells_refused here t ENOMEM (omega arith) (omega arith)
+tells_address here t len prot (Some first) found =
+    let place = placed_by (permission_here here) len (first * 4096) (Some first) found refl in
+    let high = place.high in
+    let is = place.is in
+    answers_address here t (first * 4096) _ _ (omega arith)
+
+tells_mmap : (here : Here) (t : ℕ) → TellsErrors here t (mmap here t)
+tells_mmap here t =
+    let len = argument here t 1 in
+    let prot = argument here t 2 in
+    unless_refused here t EINVAL (not (are_mapping_flags (argument here t 3))) _ (omega arith) (omega arith)
+    (numbered_result here t len prot (eqb len 0) EINVAL _ (omega arith) (omega arith)
+    (numbered_result here t len prot (ltb MOST_PROT prot) EINVAL _ (omega arith) (omega arith)
+    (numbered_result here t len prot (has_prot PROT_EXEC prot) EACCES _ (omega arith) (omega arith)
+    (numbered_result here t len prot (ltb here.kernel.pages.free (pages_of len)) ENOMEM _ (omega arith) (omega arith)
+    (tells_address here t len prot (lowest_hole (permission_here here) (pages_of len)) refl)))))
+
+-- brk(2): a break that moved is an address of a process; and a call that only answers is a refusal where its answer is an error
+put_or_none : (xs : List ℕ) (i v : ℕ) → (get_or (set xs i v) i 0 ≡ v) ⊎ (get_or (set xs i v) i 0 ≡ 0)
+put_or_none [] i v = inr refl
+put_or_none (x ∷ xs) zero v = inl refl
+put_or_none (x ∷ xs) (suc i) v = put_or_none xs i v
+
+tells_said : (here : Here) (t n : ℕ) → TellsErrors here t (said here t n)
+tells_said here t n goes lives error =
+    let x = returned n (here.file t) in
+    let there = ap (λ (f : Saved). register f.file 10) (own_first t x (here.file t) []) in
+    let value : n ≡ negative error.errno = elim (put_or_none (here.file t).file.x 10 n) [
+      | inl same ↦ sym same ∙ sym there ∙ error.is
+      | inr none ↦
+          let is = error.is in
+          let most = error.most in
+          absurd (omega (arith, there, none))
+    ] in
+    record { errno = error.errno; least = error.least; most = error.most; is = ap (said here t) value }
+
+tells_moved : (here : Here) (t p : ℕ) (b : Bool) → may_break here p ≡ b
+    → TellsErrors here t (record (said here t (cond b (moved here p) here.kernel.pages).break_at) {
+      entered = cond b (zeros_if_mapped (break_run here.kernel.pages.break_at p)) [];
+      kernel = paged (cond b (moved here p) here.kernel.pages) here.kernel;
+    })
+tells_moved here t p false may = tells_said here t here.kernel.pages.break_at
+tells_moved here t p true may =
+    let lowest = here.setting.program.break_at in
+    let k = here.kernel.pages in
+    let within = (and_parts (leb lowest p) (leb p MAPPING_START) (and_parts (leb lowest p && leb p MAPPING_START) (leb (pages_of p - pages_of k.break_at) k.free) may).0).1 in
+    let low = leb-true p MAPPING_START within in
+    answers_address here t p _ _ (omega arith)
+
+tells_brk : (here : Here) (t : ℕ) → TellsErrors here t (brk here t)
+tells_brk here t = tells_moved here t (argument here t 0) (may_break here (argument here t 0)) refl
+
 -- each call of the table, where few numbers were given, also to its thread
 module _ (here : Here) (t : ℕ) (low : t < 2 ^ 32) (few : here.kernel.threads.given < 2 ^ 31) where
   tells_call_of : (number : ℕ) → TellsErrors here t (call_of number here t)
@@ -247,8 +369,12 @@ module _ (here : Here) (t : ℕ) (low : t < 2 ^ 32) (few : here.kernel.threads.g
       (either here t (eqb number 168) _ _ (tells_getcpu here t)
       (either here t (eqb number 172) _ _ (answers_small here t 1 (omega arith))
       (either here t (eqb number 178) _ _ (answers_small here t t low)
+      (either here t (eqb number 214) _ _ (tells_brk here t)
+      (either here t (eqb number 215) _ _ (tells_munmap here t)
       (either here t (eqb number 220) _ _ (tells_clone here t few)
-      (tells_refused here t ENOSYS (omega arith) (omega arith))))))))))))))
+      (either here t (eqb number 222) _ _ (tells_mmap here t)
+      (either here t (eqb number 226) _ _ (tells_mprotect here t)
+      (tells_refused here t ENOSYS (omega arith) (omega arith))))))))))))))))))
 
   pub tells_errors : TellsErrors here t (called here t)
   tells_errors = tells_call_of (call_number here t)

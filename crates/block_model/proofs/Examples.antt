@@ -543,7 +543,7 @@ other_hart_behind = refl
 
 -- of two waiting stores the youngest that has a byte is seen; where memory can't be read nothing is
 abbrev waits : List Store → Here
-waits ws = record (here_in_history stores_nine [] 0) { waiting = ws }
+waits ws = record (here_in_history stores_nine [] 0) { waiting = λ k. ws }
 
 abbrev store : ℕ → ℕ → ℕ → Store
 store at size value = record { at = at; size = size; value = value }

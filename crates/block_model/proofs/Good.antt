@@ -12,9 +12,10 @@ use Rattle.mach_types.specs.declared.user_memory.TheConstants.{STORE_BUFFER_CAPA
 use Rattle.mach_types.specs.declared.threads.Saved.{Saved}
 use Rattle.block_model.specs.Setting.{Setting}
 use Rattle.block_model.specs.History.{file_among}
-use Rattle.block_model.specs.Here.{Here, Done}
+use Rattle.block_model.specs.Here.{Here, Done, waiting_here}
 use Rattle.block_model.specs.Plain.{Plain, here_in_plain, apply}
 use Rattle.block_model.proofs.Allowances.{AllAllowed}
+use Rattle.block_model.proofs.Paged.{IsPaged}
 use Rattle.block_model.specs.Tables.{IsTables}
 
 -- a store whose bytes can all be written
@@ -39,20 +40,21 @@ pub record IsGood (s : Setting) (m : Plain) : Type 0 where
 -- the same, at a hart of the machine
 pub record IsGoodHere (here : Here) : Type 0 where
   pub lt : here.hart < here.setting.limits.harts
-  pub within : AllByRecursion (MayEnter here.kernel.pages) here.waiting
-  pub few : length here.waiting ≤ STORE_BUFFER_CAPACITY
-  pub idle : running_on here.hart here.kernel.threads ≡ None → here.waiting ≡ []
+  pub within : (k : ℕ) → AllByRecursion (MayEnter here.kernel.pages) (here.waiting k)
+  pub few : length (waiting_here here) ≤ STORE_BUFFER_CAPACITY
+  pub idle : (k : ℕ) → running_on k here.kernel.threads ≡ None → here.waiting k ≡ []
   pub kernel : IsSound here.setting here.kernel
 
 -- what an event does that keeps it; and it sets no file of a thread that runs on another hart
 pub record IsFit (here : Here) (d : Done) : Type 0 where
-  pub executed : AllByRecursion (MayEnter here.kernel.pages) d.executed
-  pub few : length here.waiting + length d.executed ≤ STORE_BUFFER_CAPACITY
-  pub drained : d.drained ≤ length here.waiting
-  pub idle : running_on here.hart d.kernel.threads ≡ None → drop d.drained (here.waiting ++ d.executed) ≡ []
+  pub executed : AllByRecursion (MayEnter d.kernel.pages) d.executed
+  pub within : (k : ℕ) → AllByRecursion (MayEnter d.kernel.pages) (here.waiting k)
+  pub few : length (waiting_here here) + length d.executed ≤ STORE_BUFFER_CAPACITY
+  pub drained : d.drained ≤ length (waiting_here here)
+  pub idle : running_on here.hart d.kernel.threads ≡ None → drop d.drained (waiting_here here ++ d.executed) ≡ []
   pub others : (k : ℕ) → k ≢ here.hart → running_on k d.kernel.threads ≡ running_on k here.kernel.threads
   pub apart : (k u : ℕ) (f : Saved) → k ≢ here.hart → running_on k here.kernel.threads ≡ Some u → file_among d.files u f ≡ f
-  pub pages : d.kernel.pages ≡ here.kernel.pages
+  pub paged : IsPaged here.setting here.kernel.pages → IsPaged here.setting d.kernel.pages
   pub given : d.kernel.threads.given ≤ here.kernel.threads.given + 1
   pub one : d.instructions ≤ 1
   pub kernel : IsSound here.setting d.kernel
@@ -67,20 +69,20 @@ all_drop P (suc n) [] p = p
 all_drop P (suc n) (x ∷ xs) p = all_drop P n xs p.1
 
 pub good_here : (s : Setting) (m : Plain) (h : ℕ) → h < s.limits.harts → IsGood s m → IsGoodHere (here_in_plain s m h)
-good_here s m h lt good = record { lt = lt; within = good.within h; few = good.few h; idle = good.idle h; kernel = good.kernel }
+good_here s m h lt good = record { lt = lt; within = good.within; few = good.few h; idle = good.idle; kernel = good.kernel }
 
 pub good_next : (s : Setting) (m : Plain) (h : ℕ) (d : Done) → IsGood s m → IsFit (here_in_plain s m h) d → IsGood s (apply h d m)
 good_next s m h d good fit = record {
-  within = λ k. rw fit.pages (within k (eqb h k) refl);
+  within = λ k. within k (eqb h k) refl;
   few = λ k. few k (eqb h k) refl;
   idle = λ k none. idle k (eqb h k) refl none;
   given = let was = good.given in let now = fit.given in omega arith;
   kernel = fit.kernel;
 }
   where
-    within : (k : ℕ) (b : Bool) → eqb h k ≡ b → AllByRecursion (MayEnter m.kernel.pages) (cond b (drop d.drained (m.waiting k ++ d.executed)) (m.waiting k))
-    within k true is = all_drop (MayEnter m.kernel.pages) d.drained (m.waiting k ++ d.executed) (all_append (MayEnter m.kernel.pages) (m.waiting k) d.executed (good.within k) fit.executed)
-    within k false is = good.within k
+    within : (k : ℕ) (b : Bool) → eqb h k ≡ b → AllByRecursion (MayEnter d.kernel.pages) (cond b (drop d.drained (m.waiting k ++ d.executed)) (m.waiting k))
+    within k true is = all_drop (MayEnter d.kernel.pages) d.drained (m.waiting k ++ d.executed) (all_append (MayEnter d.kernel.pages) (m.waiting k) d.executed (fit.within k) fit.executed)
+    within k false is = fit.within k
 
     few : (k : ℕ) (b : Bool) → eqb h k ≡ b → length (cond b (drop d.drained (m.waiting k ++ d.executed)) (m.waiting k)) ≤ STORE_BUFFER_CAPACITY
     few k true is =

@@ -56,6 +56,7 @@ use Rattle.block_model.proofs.Replay as replay
 use Rattle.block_model.proofs.Rules as rules
 use Rattle.block_model.proofs.Runs as run_laws
 use Rattle.block_model.proofs.Runs.{good_of}
+pub use Rattle.block_model.proofs.Choosing.{no_call_held, none_of_both}
 pub use Rattle.block_model.proofs.Good.{IsFit, IsGood, IsGoodHere, IsSound, MayEnter}
 pub use Rattle.block_model.proofs.KernelCalls.{as_many_held, child_not_held, child_same, ended_idle, order_has, tables_allowed, tables_child, tables_ended, tables_waited, tables_woken, waited_idle, woken_same}
 pub use Rattle.block_model.proofs.Stretches.{HasStayed, HasSteps, IsLent, Steps, is_lent, stays, steps_of, worked_keeps}

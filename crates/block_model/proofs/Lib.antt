@@ -13,11 +13,16 @@ mod Good
 mod Goods
 mod KernelCalls
 mod KernelTables
+mod LaidOut
 mod LawExamples
 pub mod Laws
+mod MemoryExamples
 mod OneImage
 mod Open
+mod Paged
+mod PagedCalls
 mod Pcs
+mod Placing
 mod PlainRuns
 mod PlainSolo
 mod Proper

@@ -9,7 +9,7 @@ use Rattle.mach_types.specs.declared.threads.ThreadState.TheVariants.{Ready, Run
 use Rattle.mach_types.specs.declared.user_memory.Store.{Store}
 use Rattle.rv_inst.specs.Class.{is_call}
 use Rattle.rv_inst.specs.declared.effects.Effect.{Effect}
-use Rattle.block_model.specs.Here.{Here, Done, view, runs}
+use Rattle.block_model.specs.Here.{Here, Done, view, runs, waiting_here}
 use Rattle.block_model.specs.Instruction.{fetched}
 use Rattle.block_model.specs.Events.{done_of}
 use Rattle.block_model.specs.Events.Drain.{done_drain_of}
@@ -62,7 +62,7 @@ proper_preempt here (Some t) = quiet here _ refl refl (length-map here.kernel.th
 -- each kind
 pub proper_of : (c : Choice) (here : Here) → IsProper here (done_of c here)
 proper_of asked.Exec here = proper_exec here (runs here)
-proper_of asked.Drain here = proper_drain here here.waiting
+proper_of asked.Drain here = proper_drain here (waiting_here here)
 proper_of asked.Take here = quiet here _ refl refl refl
 proper_of asked.Done here = quiet here _ refl refl refl
 proper_of asked.Preempt here = proper_preempt here (runs here)

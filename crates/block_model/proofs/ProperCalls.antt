@@ -1,6 +1,6 @@
 -- What each call of the table leaves, whether its thread runs or not: files whose pc is below 2^64 where it
 -- was so before, an end that isn't the end of a script, and a live thread where it didn't end the process.
-use Rattle.std.proofs.Common.{◌≡◌, ◌≢◌, ℕ, ◌+◌, ◌*◌, ◌%◌, ◌<◌, ◌≤◌, ◌^◌, List, [], ◌∷◌, length, map, filter, take, min, refl, ◌∙◌, Bool, true, false, not, cond, eqb, leb, ltb, ◌&&◌, ◌||◌, Option, Some, None, arith, zero, suc}
+use Rattle.std.proofs.Common.{◌≡◌, ◌≢◌, ℕ, ◌+◌, ◌*◌, ◌%◌, ◌<◌, ◌≤◌, ◌^◌, List, [], ◌∷◌, length, map, filter, take, min, refl, ◌∙◌, Bool, true, false, not, cond, eqb, leb, ltb, ◌&&◌, ◌||◌, Option, Some, None, Result, Ok, Err, arith, zero, suc}
 use Rattle.std.specs.List.{AllByRecursion}
 use Rattle.std.specs.List.Sorted.{IsStrictlyIncreasing}
 use Rattle.std.specs.Option.{option_map_or}
@@ -16,11 +16,13 @@ use Rattle.mach_types.specs.declared.limits.End.TheVariants as over
 use Rattle.mach_types.specs.declared.threads.Saved.{Saved}
 use Rattle.mach_types.specs.declared.threads.ThreadState.TheVariants.{Ready, Waiting}
 use Rattle.mach_types.specs.declared.user_memory.Write.{Write}
+use Rattle.mach_types.specs.Kernel.PageCalls.{mmap_answer}
+use Rattle.mach_types.specs.Kernel.Pages.{Pages}
 use Rattle.mach_types.specs.Kernel.Record.{Kernel}
 use Rattle.mach_types.specs.Kernel.Scheduling.{harts_in, has_hart}
 use Rattle.mach_types.specs.Kernel.Threads.{Thread, clear_if, clear_of, is_full, is_thread, longest_waiter, new_thread, numbers, state_if}
 use Rattle.block_model.specs.Here.{Here, memory}
-use Rattle.block_model.specs.Kernel.{cleared, had_child, left, next_number, printed, restricted, waited, woken}
+use Rattle.block_model.specs.Kernel.{cleared, had_child, left, next_number, paged, printed, restricted, waited, woken}
 use Rattle.block_model.specs.Calls.{call_of, called}
 use Rattle.block_model.specs.Calls.Affinity.{getcpu, is_usable, moved_off, names_nobody, sched_getaffinity, sched_setaffinity, sched_yield, set_at}
 use Rattle.block_model.specs.Calls.Answers.{CallDone, argument, are_readable, are_writable, call_number, int_argument, number_at, refused, said}
@@ -28,6 +30,7 @@ use Rattle.block_model.specs.Calls.Cloning.{are_flags, clone, clone_child_cleart
 use Rattle.block_model.specs.Calls.Console.{Span, all_readable, bytes_of, is_elsewhere, room, spans_at, total, write, write_spans, writev}
 use Rattle.block_model.specs.Calls.Ending.{clears, exit, exit_group, is_last, last_exits, one_exits, woken_at_exit}
 use Rattle.block_model.specs.Calls.Futexes.{Woken, answered_wait, futex, futex_wait, futex_wake, operation, wake, woken_first}
+use Rattle.block_model.specs.Calls.Memory.{are_mapping_flags, changed_unless, mapped_or_refused, mmap, permission_here}
 use Rattle.block_model.specs.Calls.Numbers.{set_tid_address}
 use Rattle.block_model.proofs.Good.{IsSound}
 use Rattle.block_model.proofs.Goods.Calls.Futexes.{kept_wake}
@@ -295,6 +298,26 @@ proper_clone here t =
     (unless_refused here t EFAULT (not (own && theirs)) _
     (proper_going here _ (λ stand. (pc, (pc, tt))) refl (omega arith))))
 
+-- brk(2), mmap(2), munmap(2) and mprotect(2)
+proper_paged : (here : Here) (t n : ℕ) (entered : List Write) (pages : Pages)
+    → IsProperCall here (record (said here t n) { entered = entered; kernel = paged pages here.kernel })
+proper_paged here t n entered pages = proper_own here t n entered (paged pages here.kernel) (omega arith)
+
+proper_changed : (here : Here) (t : ℕ) (o : Option Errno) (pages : Pages) → IsProperCall here (changed_unless here t o pages)
+proper_changed here t None pages = proper_paged here t 0 [] pages
+proper_changed here t (Some e) pages = proper_said here t _
+
+proper_mapped : (here : Here) (t len prot : ℕ) (x : Result ℕ Errno) → IsProperCall here (mapped_or_refused here t len prot x)
+proper_mapped here t len prot (Ok at) = proper_paged here t at _ _
+proper_mapped here t len prot (Err e) = proper_said here t _
+
+proper_mmap : (here : Here) (t : ℕ) → IsProperCall here (mmap here t)
+proper_mmap here t =
+    let len = argument here t 1 in
+    let prot = argument here t 2 in
+    unless_refused here t EINVAL (not (are_mapping_flags (argument here t 3))) _
+    (proper_mapped here t len prot (mmap_answer (permission_here here) here.kernel.pages.free len prot))
+
 -- each call of the table
 proper_call_of : (number : ℕ) (here : Here) (t : ℕ) → IsProperCall here (call_of number here t)
 proper_call_of number here t =
@@ -310,8 +333,12 @@ proper_call_of number here t =
     (either here (eqb number 168) _ _ (proper_getcpu here t)
     (either here (eqb number 172) _ _ (proper_said here t 1)
     (either here (eqb number 178) _ _ (proper_said here t t)
+    (either here (eqb number 214) _ _ (proper_paged here t _ _ _)
+    (either here (eqb number 215) _ _ (proper_changed here t _ _)
     (either here (eqb number 220) _ _ (proper_clone here t)
-    (proper_said here t _)))))))))))))
+    (either here (eqb number 222) _ _ (proper_mmap here t)
+    (either here (eqb number 226) _ _ (proper_changed here t _ _)
+    (proper_said here t _)))))))))))))))))
 
 pub proper_called : (here : Here) (t : ℕ) → IsProperCall here (called here t)
 proper_called here t = proper_call_of (call_number here t) here t

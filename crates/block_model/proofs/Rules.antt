@@ -1,6 +1,6 @@
 -- At each place of a run the fixed rule of `solo` has a choice where the machine has one hart, and its choice is made.
-use Rattle.std.proofs.Common.{◌≡◌, ◌≢◌, ℕ, ◌<◌, ◌+◌, ◌&&◌, ◌||◌, List, [], ◌∷◌, length, find, refl, sym, ap, ◌∙◌, subst, arith, Bool, true, false, not, cond, eqb, Option, Some, None, Ok, is_none, is_some}
-use Rattle.std.proofs.lemmas.Bool.{eqb-true, false≢true, le-leb}
+use Rattle.std.proofs.Common.{◌≡◌, ◌≢◌, ℕ, ◌<◌, ◌+◌, ◌&&◌, ◌||◌, List, [], ◌∷◌, length, find, refl, sym, ap, ◌∙◌, subst, arith, Bool, true, false, not, cond, eqb, ltb, zero, suc, Option, Some, None, Ok, is_none, is_some}
+use Rattle.std.proofs.lemmas.Bool.{eqb-true, false≢true, le-leb, lt-ltb}
 use Rattle.std.specs.List.{list_any}
 use Rattle.std.proofs.lemmas.Map.Keys.{sorted_from_strictly_increasing}
 use Rattle.std.specs.Option.{option_map, option_map_or, option_or}
@@ -18,12 +18,16 @@ use Rattle.mach_types.specs.Kernel.Record.{Kernel}
 use Rattle.mach_types.specs.Kernel.Scheduling.{affinity_of, first_for, has_hart}
 use Rattle.mach_types.specs.Kernel.Threads.{Thread, Threads, goes_on, is_live, is_ready, is_ready_state, is_stuck, is_waiting_state, numbers, running_on, state_of, thread_of, times}
 use Rattle.rv_inst.specs.Execution.{instruction_gate}
-use Rattle.rv_inst.specs.declared.effects.Effect.{Effect}
+use Rattle.rv_inst.specs.Class.{is_call}
+use Rattle.mach_types.specs.declared.events.Why.TheVariants.{Others}
+use Rattle.mach_types.specs.Kernel.Pages.{PageRun}
+use Rattle.block_model.specs.Calls.Answers.{call_number}
+use Rattle.block_model.specs.Calls.Memory.{lies_waiting_on, taken_by}
 use Rattle.block_model.specs.Setting.{Setting}
-use Rattle.block_model.specs.Here.{Here, runs}
+use Rattle.block_model.specs.Here.{Here, runs, waiting_here}
 use Rattle.block_model.specs.Events.{refusal_of}
 use Rattle.block_model.specs.Events.Drain.{refusal_drain_of}
-use Rattle.block_model.specs.Events.Exec.{next_effect, next_fault, refusal_exec, refusal_exec_by}
+use Rattle.block_model.specs.Events.Exec.{is_held, next_effect, next_fault, others_gate, refusal_exec, refusal_exec_by}
 use Rattle.block_model.specs.Events.Run.{refusal_run_by}
 use Rattle.block_model.specs.History.{History, ended, here_in_history, kernel}
 use Rattle.block_model.specs.Deciding.{decide, end_of, entry_in, history, unless}
@@ -39,10 +43,12 @@ use Rattle.block_model.proofs.Open.{decide-open, is_open}
 use Rattle.block_model.proofs.Runs.{settled}
 use Rattle.mach_types.proofs.Laws.{eqb_same, times_cons}
 
--- the choice by what is read of the hart: whether a thread runs there, the first ready thread, and whether it may execute
-abbrev rule_by : Option ℕ → Option ℕ → Option Why → Option Choice
-rule_by running first why =
-    cond (is_none running) (option_map asked.Run (option_map thread first)) (cond (is_none why) (Some asked.Exec) (Some asked.Drain))
+-- the choice by what is read of the hart: whether a thread runs there, the first ready thread, whether it may execute, and how many
+-- stores wait
+abbrev rule_by : Option ℕ → Option ℕ → Option Why → ℕ → Option Choice
+rule_by running first why stores =
+    cond (is_none running) (option_map asked.Run (option_map thread first))
+    (cond (is_none why) (Some asked.Exec) (cond (ltb 0 stores) (Some asked.Drain) None))
 
 -- what is in a list is found there by a test that it passes, and what is found there is in it
 step_found : (p : ℕ → Bool) (t u : ℕ) (us : List ℕ) (b : Bool) → eqb u t ≡ b → 0 < cond b 1 0 + times t us → p t ≡ true
@@ -121,18 +127,48 @@ first_there s k one sound r =
     (subst (λ h. has_hart (affinity_of r.thread k.scheduling) h ≡ true) zero_hart at.2)
 
 -- so the rule has a choice
-busy_choice : (b : Bool) → is_some (cond b (Some asked.Exec) (Some asked.Drain)) ≡ true
-busy_choice true = refl
-busy_choice false = refl
+busy_choice : (why : Option Why) (stores : ℕ) → ((w : Why) → why ≡ Some w → ltb 0 stores ≡ true)
+    → is_some (cond (is_none why) (Some asked.Exec) (cond (ltb 0 stores) (Some asked.Drain) None)) ≡ true
+busy_choice None stores waits = refl
+busy_choice (Some w) stores waits = rw (waits w refl) refl
+
+-- where no store waits on any hart of the machine an instruction is allowed
+none_lies : (r : PageRun) (waiting : ℕ → List Store) (n : ℕ) → ((k : ℕ) → k < n → waiting k ≡ []) → lies_waiting_on r waiting n ≡ false
+none_lies r waiting zero none = refl
+none_lies r waiting (suc n) none = rw (none n (omega arith)) (none_lies r waiting n (λ k lt. none k (omega arith)))
+
+call_goes : (call held : Bool) → held ≡ false → cond (call && held) (Some Others) None ≡ None
+call_goes true held is = rw is refl
+call_goes false held is = refl
+
+pub allowed_where_none_waits : (here : Here) (t : ℕ) → waiting_here here ≡ [] → ((k : ℕ) → k < here.setting.limits.harts → here.waiting k ≡ [])
+    → refusal_exec_by here (Some t) ≡ None
+allowed_where_none_waits here t own none =
+    let held : is_held here t ≡ false = none_lies (taken_by (call_number here t) here t) here.waiting here.setting.limits.harts none in
+    let o = next_effect here t in
+    let faults = is_some (next_fault here t) in
+    let gate : instruction_gate (length (waiting_here here)) o faults ≡ None = ap (λ (ws : List Store). instruction_gate (length ws) o faults) own in
+    ap (λ (g : Option Why). option_or g (others_gate (is_held here t) o)) gate ∙ call_goes (option_map_or is_call o false) (is_held here t) held
+
+-- so where the machine has one hart, and an instruction isn't allowed, a store waits
+alone_waits : (here : Here) (t : ℕ) (w : Why) (ws : List Store) → here.setting.limits.harts ≡ 1 → here.hart ≡ 0 → waiting_here here ≡ ws
+    → refusal_exec_by here (Some t) ≡ Some w → ltb 0 (length ws) ≡ true
+alone_waits here t w (x ∷ ws) one first own held = lt-ltb 0 (length (x ∷ ws)) (omega arith)
+alone_waits here t w [] one first own held =
+    let free = allowed_where_none_waits here t own (λ k lt. ap here.waiting (let same : k ≡ here.hart = omega arith in same) ∙ own) in
+    let bad : None ≡ Some w = sym free ∙ held in
+    absurd cc
 
 idle_choice : (first : Option ℕ) → is_some first ≡ true → is_some (option_map asked.Run (option_map thread first)) ≡ true
 idle_choice None some = some
 idle_choice (Some t) some = refl
 
-chooses_by : (s : Setting) (here : Here) (running : Option ℕ) → runs here ≡ running → (runs here ≡ None → is_some (first_for 0 here.kernel.scheduling) ≡ true)
-    → is_some (rule_by running (first_for 0 here.kernel.scheduling) (refusal_exec here)) ≡ true
-chooses_by s here None at first = idle_choice (first_for 0 here.kernel.scheduling) (first at)
-chooses_by s here (Some t) at first = busy_choice (is_none (refusal_exec here))
+chooses_by : (s : Setting) (here : Here) (running : Option ℕ) → here.setting.limits.harts ≡ 1 → here.hart ≡ 0 → runs here ≡ running → (runs here ≡ None → is_some (first_for 0 here.kernel.scheduling) ≡ true)
+    → is_some (rule_by running (first_for 0 here.kernel.scheduling) (refusal_exec here) (length (waiting_here here))) ≡ true
+chooses_by s here None one hart at first = idle_choice (first_for 0 here.kernel.scheduling) (first at)
+chooses_by s here (Some t) one hart at first =
+    busy_choice (refusal_exec here) (length (waiting_here here))
+    (λ w held. alone_waits here t w (waiting_here here) one hart refl (sym (ap (refusal_exec_by here) at) ∙ held))
 
 -- a place where nothing ended the run is not stuck
 pub ended_parts : (process : Option End) (stuck : Bool) → option_or process (cond stuck (Some over.Stuck) None) ≡ None → (process ≡ None) × (stuck ≡ false)
@@ -145,7 +181,7 @@ chooses_at s before one run end =
     let goes = ended_parts (ended before) (is_stuck (kernel s before).threads) (is_open s before run end).goes in
     let sound = (settled s before run).good.kernel in
     let tables : IsTables 1 (kernel s before).threads (kernel s before).scheduling = subst (λ n. IsTables n (kernel s before).threads (kernel s before).scheduling) one sound.tables in
-    chooses_by s (here_in_history s before 0) (runs (here_in_history s before 0)) refl
+    chooses_by s (here_in_history s before 0) (runs (here_in_history s before 0)) one refl refl
     (λ idle. first_there s (kernel s before) one sound (some_ready (kernel s before) tables idle goes.1 (some_live s before run goes.0)))
 
 pub rule_chooses : (s : Setting) (log : List Entry) → s.limits.harts ≡ 1 → IsBlockRun s log → end_of s (history s log) ≡ over.Unended → is_some (solo_choice s (history s log)) ≡ true
@@ -164,19 +200,21 @@ run_free here t sound idle first =
     let may : has_hart (affinity_of t k.scheduling) here.hart ≡ true = found_passes (λ u. has_hart (affinity_of u k.scheduling) here.hart) k.scheduling.order t first in
     ap (refusal_run_by here t) idle ∙ rw (ready, may) refl
 
--- where an instruction isn't allowed a store waits
-pub gate_waits : (ws : List Store) (o : Option Effect) (faults : Bool) (why : Why) → instruction_gate (length ws) o faults ≡ Some why → refusal_drain_of ws ≡ None
-gate_waits [] o faults why held = absurd cc
-gate_waits (w ∷ ws) o faults why held = refl
+sym_some : (x y : Choice) → Some x ≡ Some y → x ≡ y
+sym_some x y is = cc
 
-busy_free : (here : Here) (t : ℕ) (c : Choice) (why : Option Why) → runs here ≡ Some t → refusal_exec here ≡ why → cond (is_none why) (Some asked.Exec) (Some asked.Drain) ≡ Some c → refusal_of c here ≡ None
+drain_by : (here : Here) (c : Choice) (ws : List Store) → waiting_here here ≡ ws → cond (ltb 0 (length ws)) (Some asked.Drain) None ≡ Some c → refusal_of c here ≡ None
+drain_by here c [] own is = absurd cc
+drain_by here c (w ∷ ws) own is =
+    let it : asked.Drain ≡ c = sym_some asked.Drain c (sym (ap (λ b. cond b (Some asked.Drain) None) (lt-ltb 0 (length (w ∷ ws)) (omega arith))) ∙ is) in
+    subst (λ x. refusal_of x here ≡ None) it (ap refusal_drain_of own)
+
+busy_free : (here : Here) (t : ℕ) (c : Choice) (why : Option Why) → runs here ≡ Some t → refusal_exec here ≡ why
+    → cond (is_none why) (Some asked.Exec) (cond (ltb 0 (length (waiting_here here))) (Some asked.Drain) None) ≡ Some c → refusal_of c here ≡ None
 busy_free here t c None at free is =
     let it : asked.Exec ≡ c = cc in
     subst (λ x. refusal_of x here ≡ None) it free
-busy_free here t c (Some why) at held is =
-    let it : asked.Drain ≡ c = cc in
-    let gate : refusal_exec_by here (Some t) ≡ Some why = sym (ap (refusal_exec_by here) at) ∙ held in
-    subst (λ x. refusal_of x here ≡ None) it (gate_waits here.waiting (next_effect here t) (is_some (next_fault here t)) why gate)
+busy_free here t c (Some why) at held is = drain_by here c (waiting_here here) refl is
 
 idle_free : (here : Here) (c : Choice) (first : Option ℕ) → IsSound here.setting here.kernel → runs here ≡ None → first_for here.hart here.kernel.scheduling ≡ first
     → option_map asked.Run (option_map thread first) ≡ Some c → refusal_of c here ≡ None
@@ -186,7 +224,7 @@ idle_free here c (Some t) sound idle found is =
     subst (λ x. refusal_of x here ≡ None) it (run_free here t sound idle found)
 
 rule_free : (here : Here) (c : Choice) (running : Option ℕ) → IsSound here.setting here.kernel → runs here ≡ running
-    → rule_by running (first_for here.hart here.kernel.scheduling) (refusal_exec here) ≡ Some c → refusal_of c here ≡ None
+    → rule_by running (first_for here.hart here.kernel.scheduling) (refusal_exec here) (length (waiting_here here)) ≡ Some c → refusal_of c here ≡ None
 rule_free here c None sound at is = idle_free here c (first_for here.hart here.kernel.scheduling) sound at refl is
 rule_free here c (Some t) sound at is = busy_free here t c (refusal_exec here) at refl is
 
@@ -200,7 +238,7 @@ rule_is_made s log choice run harts end chosen =
     (made_where_free choice here (refusal_of choice here) (rule_free here choice (runs here) (settled s (history s log) run).good.kernel refl chosen))
 
 -- where an instruction is allowed, that is the rule's choice
-executes_by : (here : Here) (first running : Option ℕ) → runs here ≡ running → refusal_exec here ≡ None → rule_by running first (refusal_exec here) ≡ Some asked.Exec
+executes_by : (here : Here) (first running : Option ℕ) → runs here ≡ running → refusal_exec here ≡ None → rule_by running first (refusal_exec here) (length (waiting_here here)) ≡ Some asked.Exec
 executes_by here first None at free = let held = sym (ap (refusal_exec_by here) at) ∙ free in absurd cc
 executes_by here first (Some t) at free = rw free refl
 

@@ -1,5 +1,5 @@
 -- What holds of the harts and of the kernel's record at each place of a block run.
-use Rattle.std.proofs.Common.{◌≡◌, refl, ℕ, List, [], ◌∷◌, sym, ◌∙◌, true, Some, None}
+use Rattle.std.proofs.Common.{◌≡◌, ℕ, List, [], ◌∷◌, sym, ◌∙◌, true, Some, None}
 use Rattle.std.specs.List.{All}
 use Rattle.std.proofs.lemmas.List.Elements.{All-from_recursion}
 use Rattle.mach_types.specs.Bytes.{each_byte}
@@ -8,9 +8,10 @@ use Rattle.mach_types.specs.declared.user_memory.Store.{Store}
 use Rattle.block_model.specs.Setting.{Setting}
 use Rattle.block_model.specs.Deciding.{history}
 use Rattle.block_model.specs.History.{History, can_be_written, kernel, running, waiting}
-use Rattle.block_model.specs.Kernel.{first_kernel}
+use Rattle.block_model.specs.Layouts.{IsLaidOut}
 use Rattle.block_model.specs.Run.{IsBlockRun, IsRunHistory}
 use Rattle.block_model.proofs.Good.{IsSound}
+use Rattle.block_model.proofs.Paged.{IsPaged, paged_start}
 use Rattle.block_model.specs.Tables.{on}
 use Rattle.block_model.proofs.KernelTables.{running_is, same_hart}
 use Rattle.block_model.proofs.Runs.{fit_at, settled}
@@ -36,9 +37,10 @@ writable_stores s log h run =
 pub sound_record : (s : Setting) (log : List Entry) → IsBlockRun s log → IsSound s (kernel s (history s log))
 sound_record s log run = (settled s (history s log) run).good.kernel
 
-same_pages : (s : Setting) (before : History) → IsRunHistory s before → (kernel s before).pages ≡ (first_kernel s).pages
-same_pages s [] run = refl
-same_pages s (e ∷ before) run = (fit_at s e before run).pages ∙ same_pages s before run.0
+-- the pages
+paged_at : (s : Setting) (before : History) → IsLaidOut s.program → IsRunHistory s before → IsPaged s (kernel s before).pages
+paged_at s [] laid run = paged_start s laid
+paged_at s (e ∷ before) laid run = (fit_at s e before run).paged (paged_at s before laid run.0)
 
-pub start_pages : (s : Setting) (log : List Entry) → IsBlockRun s log → (kernel s (history s log)).pages ≡ (first_kernel s).pages
-start_pages s log run = same_pages s (history s log) run
+pub paged_pages : (s : Setting) (log : List Entry) → IsLaidOut s.program → IsBlockRun s log → IsPaged s (kernel s (history s log)).pages
+paged_pages s log laid run = paged_at s (history s log) laid run

@@ -20,7 +20,7 @@ use Rattle.block_model.specs.Deciding.{done, event, history}
 use Rattle.block_model.specs.Events.{done_of}
 use Rattle.block_model.specs.Events.Drain.{done_drain_of}
 use Rattle.block_model.specs.Events.Exec.{by_call, by_effect, by_outcome, done_exec_by, next_effect, outcome_of}
-use Rattle.block_model.specs.Here.{Done, Here, runs}
+use Rattle.block_model.specs.Here.{Done, Here, runs, waiting_here}
 use Rattle.block_model.specs.History.{History, file, file_among, here_in_history, running}
 use Rattle.block_model.specs.Run.{IsBlockRun, IsRunHistory}
 use Rattle.block_model.specs.Setting.{Setting}
@@ -109,7 +109,7 @@ own_step : (s : Setting) (t : ℕ) (before : History) (e : Entry) → running s 
 unfolding done
 own_step s t before e at (inl drains) =
     let here = here_in_history s before e.hart.0 in
-    let stored = drain_done here t here.waiting in
+    let stored = drain_done here t (waiting_here here) in
     let did = subst (λ c. IsPlainDone here t None (done_of c here)) (sym drains) stored in
     let none = own_is e asked.Drain drains in
     record {

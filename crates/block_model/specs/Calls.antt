@@ -9,6 +9,7 @@ use Rattle.block_model.specs.Calls.Cloning.{clone}
 use Rattle.block_model.specs.Calls.Console.{write, writev}
 use Rattle.block_model.specs.Calls.Ending.{exit, exit_group}
 use Rattle.block_model.specs.Calls.Futexes.{futex}
+use Rattle.block_model.specs.Calls.Memory.{brk, mmap, mprotect, munmap}
 use Rattle.block_model.specs.Calls.Numbers.{getpid, gettid, set_tid_address}
 pub mod Affinity
 pub mod Answers
@@ -16,6 +17,7 @@ pub mod Cloning
 pub mod Console
 pub mod Ending
 pub mod Futexes
+pub mod Memory
 pub mod Numbers
 
 -- the call of this number; one that isn't there answers ENOSYS
@@ -33,7 +35,11 @@ call_of number here t =
     else if number == 168 then getcpu here t
     else if number == 172 then getpid here t
     else if number == 178 then gettid here t
+    else if number == 214 then brk here t
+    else if number == 215 then munmap here t
     else if number == 220 then clone here t
+    else if number == 222 then mmap here t
+    else if number == 226 then mprotect here t
     else refused here t ENOSYS
 
 -- what the call of thread t does

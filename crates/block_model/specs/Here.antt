@@ -10,14 +10,14 @@ use Rattle.mach_types.specs.Kernel.Threads.{running_on}
 use Rattle.rv_inst.specs.Execution.{seen_byte}
 use Rattle.block_model.specs.Setting.{Setting}
 
--- the setting; the hart that is asked; the file of each thread; each byte of memory; the hart's waiting stores, the oldest
--- first; where the aligned 8 bytes begin that it has reserved; and the kernel's record
+-- the setting; the hart that is asked; the file of each thread; each byte of memory; the waiting stores of each hart, the oldest
+-- first; where the aligned 8 bytes begin that the hart has reserved; and the kernel's record
 pub record Here : Type 0 where
   pub setting : Setting
   pub hart : ℕ
   pub file : ℕ → Saved
   pub byte : ℕ → ℕ
-  pub waiting : List Store
+  pub waiting : ℕ → List Store
   pub reserved : Option ℕ
   pub kernel : Kernel
 
@@ -35,9 +35,13 @@ writable_in k a = can_write (permission_at k.pages a)
 abbrev pub is_writable : Here → ℕ → Bool
 is_writable here = writable_in here.kernel
 
+-- the stores that wait on the hart
+abbrev pub waiting_here : Here → List Store
+waiting_here here = here.waiting here.hart
+
 -- a byte as the hart sees it: its youngest waiting store that has it, or else memory's
 abbrev pub view : Here → ℕ → Option ℕ
-view here = seen_byte here.waiting (memory here)
+view here = seen_byte (waiting_here here) (memory here)
 
 -- the thread that runs on the hart
 abbrev pub runs : Here → Option ℕ

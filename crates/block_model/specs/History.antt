@@ -112,7 +112,7 @@ here_in_history s before h = record {
   hart = h;
   file = λ t. file s t before;
   byte = λ a. byte s before a;
-  waiting = waiting h before;
+  waiting = λ k. waiting k before;
   reserved = reservation h before;
   kernel = kernel s before;
 }

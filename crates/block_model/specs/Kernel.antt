@@ -3,6 +3,7 @@ use Rattle.std.specs.Prelude.{ℕ, ◌+◌, ◌-◌, List, [], ◌++◌, length}
 use Rattle.mach_types.specs.declared.address_space.TheConstants.{STACK_PAGES}
 use Rattle.mach_types.specs.declared.threads.ThreadState.TheVariants.{Ready, Running}
 use Rattle.mach_types.specs.Kernel.Record.{Kernel}
+use Rattle.mach_types.specs.Kernel.Pages.{Pages}
 use Rattle.mach_types.specs.Kernel.Threads.{start_threads, with_state, with_clear, with_waiter, with_woken, with_child, without}
 use Rattle.mach_types.specs.Kernel.Scheduling.{start_scheduling, with_ready, without_ready, with_thread, with_affinity, forget}
 use Rattle.elf_load.specs.Start.{start_runs}
@@ -57,6 +58,10 @@ restricted t set k = record k { scheduling = with_affinity t set k.scheduling }
 -- a thread has another address that its exit clears
 abbrev pub cleared : ℕ → ℕ → Kernel → Kernel
 cleared t at k = record k { threads = with_clear t at k.threads }
+
+-- pages were mapped, removed or protected, or the break moved: these are the pages after it
+abbrev pub paged : Pages → Kernel → Kernel
+paged pages k = record k { pages = pages }
 
 -- bytes come to the console
 abbrev pub printed : List ℕ → Kernel → Kernel

@@ -6,6 +6,7 @@ pub mod Events
 pub mod Here
 pub mod History
 pub mod Instruction
+pub mod Layouts
 pub mod Kernel
 pub mod Plain
 pub mod PlainOf

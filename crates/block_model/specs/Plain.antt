@@ -57,7 +57,7 @@ here_in_plain s m h = record {
   hart = h;
   file = m.file;
   byte = m.byte;
-  waiting = m.waiting h;
+  waiting = m.waiting;
   reserved = m.reserved h;
   kernel = m.kernel;
 }

@@ -7,7 +7,7 @@ use Rattle.mach_types.specs.Kernel.Scheduling as scheduling
 use Rattle.rv_inst.specs.Local.{is_register_only}
 use Rattle.rv_inst.specs.declared.effects.Effect.{Effect}
 use Rattle.block_model.specs.Instruction.{next_instruction}
-use Rattle.block_model.specs.Here.{Here, runs}
+use Rattle.block_model.specs.Here.{Here, runs, waiting_here}
 use Rattle.block_model.specs.Events.Exec.{next_effect, next_fault, refusal_exec}
 
 -- what the next instruction of the thread on the hart asks for, where a word is fetched and has a row; nothing on an idle hart
@@ -41,7 +41,7 @@ sight_in here ran credit = record {
   in_barrier = false;
   all_taken = false;
   requested = false;
-  stores = length here.waiting;
+  stores = length (waiting_here here);
   deliverable = false;
   exec_enabled = is_none (refusal_exec here);
   local = is_local_on here (runs here);

@@ -1,7 +1,8 @@
 -- The fixed rule of `solo` (own), by what a scheduler sees of hart 0: an idle hart runs the first ready thread; else, where a
 -- signal is deliverable, the oldest waiting store enters memory, and where none waits the signal is delivered; else the thread
--- executes its next instruction where that is allowed, and else its oldest waiting store enters memory.
-use Rattle.std.specs.Prelude.{ℕ, ◌≡◌, List, [], ◌∷◌, Option, Some, if◌then◌else◌, nat_lt}
+-- executes its next instruction where that is allowed, and else its oldest waiting store enters memory, where one waits. On the
+-- one hart of `solo` one does, wherever an instruction isn't allowed.
+use Rattle.std.specs.Prelude.{ℕ, ◌≡◌, List, [], ◌∷◌, Option, Some, None, if◌then◌else◌, nat_lt}
 use Rattle.std.specs.Option.{option_map}
 use Rattle.mach_types.specs.declared.events.Choice.{Choice}
 use Rattle.mach_types.specs.declared.events.Choice.TheVariants as asked
@@ -20,7 +21,8 @@ solo_rule seen =
     if seen.idle then option_map asked.Run seen.first_ready
     else if seen.deliverable then (if nat_lt 0 seen.stores then Some asked.Drain else Some asked.Signal)
     else if seen.exec_enabled then Some asked.Exec
-    else Some asked.Drain
+    else if nat_lt 0 seen.stores then Some asked.Drain
+    else None
 
 -- what is read of hart 0
 pub record Sighted : Type 0 where

@@ -3,6 +3,7 @@
 ghost use Rattle.std.specs.Prelude.{ℕ, List, [], ◌∷◌, ◌++◌, ◌≡◌, ◌≢◌, ◌↔◌, ◌<◌, ◌≤◌, ◌+◌, ◌-◌, ◌^◌, All, IsOk, IsSome, IsTrue, true, false, Ok, Err, None, Some, Option, length, map, if◌then◌else◌};
 ghost use Rattle.std.specs.List.Sorted.{IsStrictlyIncreasing};
 ghost use Rattle.mach_types.specs.Bytes.{each_byte};
+ghost use Rattle.mach_types.specs.Kernel.Pages.{can_execute, permission_of};
 ghost use Rattle.mach_types.specs.Kernel.Scheduling.{affinity_of, has_hart};
 ghost use Rattle.mach_types.specs.Kernel.Threads.{is_live, is_ready, numbers, times};
 ghost use Rattle.mach_types.specs.declared.events.Choice.{Choice};
@@ -14,12 +15,14 @@ ghost use Rattle.mach_types.specs.declared.limits.Limits.{Limits};
 ghost use Rattle.mach_types.specs.declared.user_memory.Store.{Store};
 ghost use Rattle.mach_types.specs.declared.user_memory.TheConstants.{STORE_BUFFER_CAPACITY};
 ghost use Rattle.elf_load.specs.declared.image.Image.{Image};
-ghost use Rattle.elf_load.specs.Images.{IsImage};
+ghost use Rattle.elf_load.specs.Images.{IsBootable, IsImage};
+ghost use Rattle.elf_load.specs.Start.{program_of};
 ghost use Rattle.block_model.specs.Choosing.{IsChosen, choice_at, has_ended, luck, next_entry};
 ghost use Rattle.block_model.specs.Deciding.{decide, end_of, entry_in, history};
 ghost use Rattle.block_model.specs.ErrorCalls.{GivesError, GivesErrorAlone};
 ghost use Rattle.block_model.specs.History.{can_be_written, console, ended, events, file, here_in_history, kernel, running, waiting};
 ghost use Rattle.block_model.specs.Kernel.{first_kernel};
+ghost use Rattle.block_model.specs.Layouts.{IsLaidOut, mapped_pages};
 ghost use Rattle.block_model.specs.Plain.{here_in_plain, log_made, plain_after, plain_decide, plain_end, plain_run, plain_solo};
 ghost use Rattle.block_model.specs.PlainOf.{plain_of};
 ghost use Rattle.block_model.specs.PlainSays.{MakesLog, SaysOf};
@@ -144,8 +147,17 @@ pub fn record_is_sound()
     ensures affinity { (s : Setting) (log : List Entry) (t : ℕ) → IsBlockRun s log → 0 < s.limits.harts → is_live t (kernel s (history s log)).threads ≡ true
         → (h : ℕ) × (h < s.limits.harts) × (has_hart (affinity_of t (kernel s (history s log)).scheduling) h ≡ true) }
     ensures console { (s : Setting) (log : List Entry) → IsBlockRun s log → length (console s (history s log)) ≤ CONSOLE_ROOM }
-    // No page is mapped, removed or protected yet.
-    ensures pages { (s : Setting) (log : List Entry) → IsBlockRun s log → (kernel s (history s log)).pages ≡ (first_kernel s).pages }
+    // Of a program that is laid out as a loaded one is, a page can be executed where it could at the start, and then its
+    // permission is the same.
+    ensures code { (s : Setting) (log : List Entry) (n : ℕ) → IsLaidOut s.program → IsBlockRun s log
+        → can_execute (permission_of (kernel s (history s log)).pages.runs n) ≡ can_execute (permission_of (first_kernel s).pages.runs n) }
+    ensures code_stays { (s : Setting) (log : List Entry) (n : ℕ) → IsLaidOut s.program → IsBlockRun s log
+        → can_execute (permission_of (first_kernel s).pages.runs n) ≡ true
+        → permission_of (kernel s (history s log)).pages.runs n ≡ permission_of (first_kernel s).pages.runs n }
+    // The free frames and the mapped pages add up to as many as at the start.
+    ensures frames { (s : Setting) (log : List Entry) → IsLaidOut s.program → IsBlockRun s log
+        → (kernel s (history s log)).pages.free + mapped_pages (kernel s (history s log)).pages
+        ≡ (first_kernel s).pages.free + mapped_pages (first_kernel s).pages }
 {}
 
 /// In a block run a guest call that gives an error changes, of thread files, memory and the kernel's record, only a0 and
@@ -215,4 +227,9 @@ pub fn hart_stays_as_it_is()
 /// A file starts one setting, whichever image of it is taken.
 pub fn file_has_one_setting()
     ensures { (file : List ℕ) (a b : Image) (limits : Limits) (seed : ℕ) → IsImage file a → IsImage file b → setting_of a limits seed ≡ setting_of b limits seed }
+{}
+
+/// A program that can be booted is laid out: its break is at most where mappings begin, and no page between is mapped.
+pub fn loaded_programs_are_laid_out()
+    ensures { (frames : ℕ) (image : Image) → IsBootable frames image → IsLaidOut (program_of image) }
 {}

@@ -1,8 +1,7 @@
 -- The state of one hart: where an instruction may be executed, and what its outcome makes of the hart.
 -- What an instruction does stands in `rv_inst` (RISC-V Unprivileged ISA); the rest is own.
-use Rattle.std.specs.Prelude.{ℕ, ◌≡◌, Bool, true, false, List, [], ◌∷◌, ◌++◌, length, map, if◌then◌else◌, Option, Some, None, is_some}
+use Rattle.std.specs.Prelude.{ℕ, ◌≡◌, Bool, true, false, List, [], ◌∷◌, ◌++◌, length, if◌then◌else◌, Option, Some, None, is_some}
 use Rattle.hart_state.specs.declared.hart.HartState.{HartState}
-use Rattle.hart_state.specs.declared.span.Span.{Span}
 use Rattle.mach_types.specs.Bytes.{each_byte}
 use Rattle.mach_types.specs.Registers.{no_registers}
 use Rattle.mach_types.specs.declared.events.Why.{Why}
@@ -11,7 +10,6 @@ use Rattle.mach_types.specs.declared.events.Tid.{Tid}
 use Rattle.mach_types.specs.declared.threads.Saved.{Saved}
 use Rattle.mach_types.specs.declared.user_memory.Store.{Store}
 use Rattle.rv_inst.specs.Execution.{instruction_gate, seen_byte, outcome, Outcome}
-use Rattle.rv_inst.specs.declared.class.Access.{Access}
 use Rattle.rv_inst.specs.declared.effects.Effect.{Effect}
 
 -- a hart on which no thread runs, with nothing waiting
@@ -48,21 +46,10 @@ outcome_on hart byte done = outcome (seen_byte hart.buffer byte) hart.file hart.
 abbrev pub hart_after : HartState → Outcome → HartState
 hart_after hart o = record hart { file = o.regs; pc = o.pc; buffer = hart.buffer ++ o.executed; reserved = o.reserved }
 
--- the bytes of an access, and of a store
-abbrev pub access_span : Access → Span
-access_span a = record { at = a.at; size = a.size }
-
-abbrev pub store_span : Store → Span
-store_span s = record { at = s.at; size = s.size }
-
--- the bytes that entered memory with an instruction
-abbrev pub entered_spans : Outcome → List Span
-entered_spans o = map store_span o.entered
-
--- one span or none, as a list
-abbrev pub spans : Option Span → List Span
-spans None = []
-spans (Some x) = x ∷ []
+-- one store or none, as a list
+abbrev pub stores : Option Store → List Store
+stores None = []
+stores (Some s) = s ∷ []
 
 -- the hart after its thread left: idle, with no reservation, its registers and its pc 0
 abbrev pub left : HartState → HartState

@@ -1,8 +1,8 @@
 //! The state of one hart, and what an instruction does to it and to memory.
 
-ghost use Rattle.std.specs.Prelude.{◌≡◌, ◌≢◌, ℕ, [], ◌∷◌, ◌++◌, ◌<◌, true, false, Option, Some, None, length, drop, take, slice_get, not, is_some, IfOk};
+ghost use Rattle.std.specs.Prelude.{◌≡◌, ◌≢◌, ℕ, [], ◌∷◌, ◌++◌, ◌<◌, true, false, Option, Some, None, length, drop, take, slice_get, not, is_some, IfOk, IfSome};
 ghost use Rattle.std.specs.Option.{option_map, option_copied};
-ghost use Rattle.hart_state.specs.State.{idle_hart, exec_refusal, outcome_on, hart_after, CanEnter, entered_spans, spans, left, entered};
+ghost use Rattle.hart_state.specs.State.{idle_hart, exec_refusal, outcome_on, hart_after, CanEnter, stores, left, entered};
 ghost use Rattle.mach_types.specs.Bytes.{IsAccessSize, each_byte, overlay};
 ghost use Rattle.mach_types.specs.Registers.{with_register};
 ghost use Rattle.mach_types.specs.declared.user_memory.TheConstants.{STORE_BUFFER_CAPACITY};
@@ -12,8 +12,7 @@ ghost use Rattle.rv_inst.specs.Words.{sum_64};
 
 use crate::faults::access_fault;
 use crate::gate::store_gate;
-use crate::reservation::{holds, left_by, reserved_at, written_at_once};
-use crate::span::Span;
+use crate::reservation::{holds, left_by, reserved_at};
 use mach_types::{Regs, Saved, Store, Tid, UserMem, Why};
 use rv_exec::{amo_value, finish_load};
 use rv_inst::{AmoOp, Effect, asks};
@@ -106,13 +105,62 @@ impl HartState {
         access_fault(mem, asked.access?)
     }
 
-    /// The bytes that an instruction with this effect writes at once on this hart: those of an AMO, and
-    /// those of an SC exactly where the reservation is that of its address. None where it writes none at
-    /// once; a plain store waits.
-    pub fn enters(&self, effect: &Effect) -> Option<Span>
-        ensures { (byte : ℕ → Option ℕ) → entered_spans (outcome_on self.now byte effect.now) ≡ spans result }
+    /// Executes an instruction with this effect, but for memory: the registers, the pc, the store buffer and the reservation of its
+    /// outcome. Answers the store that it makes at once, which the caller writes: that of an AMO, and that of an SC that succeeds;
+    /// None where there is none. A plain store waits.
+    #[inline]
+    pub fn execute<M: UserMem>(&mut self, mem: &M, effect: &Effect) -> Option<Store>
+        requires sizes { HasAccessSizes effect.now }
+        requires allowed { exec_refusal self.old (Some effect.now) false ≡ None }
+        requires no_fault { execution.fault_in (M.byte mem.now) (M.can_write mem.now) effect.now ≡ None }
+        requires no_call { effect.now ≢ Effect.Call }
+        ensures hart { self.new ≡ hart_after self.old (outcome_on self.old (M.byte mem.now) effect.now) }
+        ensures entered { (outcome_on self.old (M.byte mem.now) effect.now).entered ≡ stores result }
+        ensures size { IfSome result (λ s. IsAccessSize s.size) }
+        ensures writable { IfSome result (λ s. each_byte (M.can_write mem.now) s.at s.size ≡ true) }
     {
-        written_at_once(self.reserved, asks(effect))
+        match *effect {
+            Effect::Next { rd, value, pc } => {
+                self.file.set(rd, value);
+                self.pc = pc;
+                None
+            }
+            Effect::Load {
+                at,
+                size,
+                signed,
+                rd,
+            } => {
+                self.load(mem, at, size, signed, rd);
+                None
+            }
+            Effect::Store { at, size, value } => {
+                self.store(Store { at, size, value });
+                None
+            }
+            Effect::Amo {
+                op,
+                at,
+                size,
+                value,
+                rd,
+            } => Some(self.amo(mem, op, Store { at, size, value }, rd)),
+            Effect::Lr { at, size, rd } => {
+                self.load_reserved(mem, at, size, rd);
+                None
+            }
+            Effect::Sc {
+                at,
+                size,
+                value,
+                rd,
+            } => self.store_conditional(Store { at, size, value }, rd),
+            Effect::Fence { .. } | Effect::FenceI => {
+                self.go_on(0, 0);
+                None
+            }
+            Effect::Call | Effect::Break | Effect::Misaligned => unreachable!(),
+        }
     }
 
     /// Executes an instruction with this effect: the registers, the pc, the store buffer, the reservation
@@ -126,34 +174,8 @@ impl HartState {
         ensures bytes { (a : ℕ) → M.byte mem.new a ≡ option_map (overlay (outcome_on self.old (M.byte mem.old) effect.now).entered a) (M.byte mem.old a) }
         ensures permissions { (a : ℕ) → M.can_write mem.new a ≡ M.can_write mem.old a }
     {
-        match *effect {
-            Effect::Next { rd, value, pc } => {
-                self.file.set(rd, value);
-                self.pc = pc;
-            }
-            Effect::Load {
-                at,
-                size,
-                signed,
-                rd,
-            } => self.load(mem, at, size, signed, rd),
-            Effect::Store { at, size, value } => self.store(Store { at, size, value }),
-            Effect::Amo {
-                op,
-                at,
-                size,
-                value,
-                rd,
-            } => self.amo(mem, op, Store { at, size, value }, rd),
-            Effect::Lr { at, size, rd } => self.load_reserved(mem, at, size, rd),
-            Effect::Sc {
-                at,
-                size,
-                value,
-                rd,
-            } => self.store_conditional(mem, Store { at, size, value }, rd),
-            Effect::Fence { .. } | Effect::FenceI => self.go_on(0, 0),
-            Effect::Call | Effect::Break | Effect::Misaligned => unreachable!(),
+        if let Some(store) = self.execute(mem, effect) {
+            let _written = mem.set(store.at, store.size, store.value);
         }
     }
 
@@ -243,19 +265,22 @@ impl HartState {
         self.pc = self.pc.wrapping_add(4);
     }
 
-    /// An AMO: reads and writes memory at once. `given` has the value of the register.
-    fn amo<M: UserMem>(&mut self, mem: &mut M, op: AmoOp, given: Store, rd: u8)
+    /// An AMO reads memory, and answers the store that it makes at once. `given` has the value of the register.
+    fn amo<M: UserMem>(&mut self, mem: &M, op: AmoOp, given: Store, rd: u8) -> Store
         requires size { IsAccessSize given.size }
         requires empty { self.old.buffer ≡ [] }
-        requires writable { each_byte (M.can_write mem.old) given.at given.size ≡ true }
-        ensures hart { self.new ≡ hart_after self.old (outcome_on self.old (M.byte mem.old) (Effect.Amo op given.at given.size given.value rd)) }
-        ensures bytes { (a : ℕ) → M.byte mem.new a ≡ option_map (overlay (outcome_on self.old (M.byte mem.old) (Effect.Amo op given.at given.size given.value rd)).entered a) (M.byte mem.old a) }
-        ensures permissions { (a : ℕ) → M.can_write mem.new a ≡ M.can_write mem.old a }
+        ensures hart { self.new ≡ hart_after self.old (outcome_on self.old (M.byte mem.now) (Effect.Amo op given.at given.size given.value rd)) }
+        ensures entered { (outcome_on self.old (M.byte mem.now) (Effect.Amo op given.at given.size given.value rd)).entered ≡ result ∷ [] }
+        ensures at { result.at ≡ given.at }
+        ensures size { result.size ≡ given.size }
     {
         let old = mem.get(given.at, given.size).unwrap_or(0);
-        let value = amo_value(op, given.size, old, given.value);
-        let _written = mem.set(given.at, given.size, value);
         self.go_on(rd, finish_load(old, given.size, true));
+        Store {
+            at: given.at,
+            size: given.size,
+            value: amo_value(op, given.size, old, given.value),
+        }
     }
 
     /// LR: reads memory, and reserves the aligned 8 bytes round the address.
@@ -269,21 +294,22 @@ impl HartState {
         self.go_on(rd, finish_load(raw, size, true));
     }
 
-    /// SC: writes memory where the address is reserved, and ends the reservation.
-    fn store_conditional<M: UserMem>(&mut self, mem: &mut M, store: Store, rd: u8)
-        requires size { IsAccessSize store.size }
-        requires writable { each_byte (M.can_write mem.old) store.at store.size ≡ true }
-        ensures hart { self.new ≡ hart_after self.old (outcome_on self.old (M.byte mem.old) (Effect.Sc store.at store.size store.value rd)) }
-        ensures bytes { (a : ℕ) → M.byte mem.new a ≡ option_map (overlay (outcome_on self.old (M.byte mem.old) (Effect.Sc store.at store.size store.value rd)).entered a) (M.byte mem.old a) }
-        ensures permissions { (a : ℕ) → M.can_write mem.new a ≡ M.can_write mem.old a }
+    /// SC: ends the reservation, and answers the store exactly where its address was reserved.
+    fn store_conditional(&mut self, store: Store, rd: u8) -> Option<Store>
+        ensures hart { (byte : ℕ → Option ℕ) → self.new
+            ≡ hart_after self.old (outcome_on self.old byte (Effect.Sc store.at store.size store.value rd)) }
+        ensures entered { (byte : ℕ → Option ℕ)
+            → (outcome_on self.old byte (Effect.Sc store.at store.size store.value rd)).entered ≡ stores result }
+        ensures same { IfSome result (λ made. made ≡ store) }
     {
         let succeeds = holds(self.reserved, store.at);
         self.reserved = None;
         if succeeds {
-            let _written = mem.set(store.at, store.size, store.value);
             self.go_on(rd, 0);
+            Some(store)
         } else {
             self.go_on(rd, 1);
+            None
         }
     }
 }

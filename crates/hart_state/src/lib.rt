@@ -11,9 +11,7 @@ mod flat_memory;
 mod gate;
 mod hart;
 mod reservation;
-mod span;
 #[cfg(test)]
 mod tests;
 
 pub use hart::HartState;
-pub use span::Span;

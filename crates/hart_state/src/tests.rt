@@ -4,8 +4,8 @@ ghost use Rattle.std.specs.Prelude.{◌≢◌};
 ghost use Rattle.mach_types.specs.Bytes.{IsAccessSize};
 ghost use Rattle.rv_inst.specs.Sizes.{HasAccessSizes};
 
+use crate::HartState;
 use crate::flat_memory::{BASE, FlatMemory};
-use crate::{HartState, Span};
 use mach_types::{Tid, UserMem, Why};
 use rv_inst::{AmoOp, Effect};
 use std::alloc::{AllocError, Global};
@@ -37,6 +37,17 @@ impl Bench {
         assert!(rt; self.hart.exec_gate(Some(&effect), false).is_none());
         assert!(rt; self.hart.fault_of(&self.memory, &effect).is_none());
         self.hart.perform(&mut self.memory, &effect);
+    }
+
+    /// Executes an instruction but for memory: the store that it makes at once must have this value.
+    fn expect_made(&mut self, rt: &impl Abort, effect: Effect, value: Option<u64>)
+        requires sizes { HasAccessSizes effect }
+        requires no_call { effect ≢ Effect.Call }
+    {
+        assert!(rt; self.hart.exec_gate(Some(&effect), false).is_none());
+        assert!(rt; self.hart.fault_of(&self.memory, &effect).is_none());
+        let made = self.hart.execute(&self.memory, &effect);
+        assert_eq!(rt; made.map(|store| store.value), value);
     }
 
     /// Executes a plain store.
@@ -383,25 +394,31 @@ fn a_failing_sc_ends_the_reservation(rt: HostRuntime) -> Result<(), Fail> {
 }
 
 #[test]
-fn what_enters_at_once(rt: HostRuntime) -> Result<(), Fail> {
+fn what_an_instruction_makes_at_once(rt: HostRuntime) -> Result<(), Fail> {
     let mut bench = Bench::new(rt.alloc())?;
     let conditional = Effect::Sc {
         at: 0x100c,
         size: 4,
-        value: 0,
+        value: 9,
         rd: 1,
     };
-    assert_eq!(rt; bench.hart.enters(&conditional), None);
+    bench.expect_made(&rt, conditional, None);
+    bench.expect_register(&rt, 1, 1);
     bench.hart.reserved = Some(0x1008);
-    let span = bench.hart.enters(&conditional);
-    assert_eq!(rt;
-        span,
-        Some(Span {
-            at: 0x100c,
-            size: 4
-        })
-    );
-    assert_eq!(rt; bench.hart.enters(&STORE), None);
+    bench.expect_made(&rt, conditional, Some(9));
+    bench.expect_register(&rt, 1, 0);
+    let sum = Effect::Amo {
+        op: AmoOp::Add,
+        at: BASE,
+        size: 8,
+        value: 3,
+        rd: 1,
+    };
+    bench.write_double(&rt, BASE, 4);
+    bench.expect_made(&rt, sum, Some(7));
+    bench.expect_double(&rt, BASE, 4);
+    bench.expect_made(&rt, STORE, None);
+    bench.expect_double(&rt, 0x1008, 0);
     Ok(())
 }
 

@@ -63,35 +63,31 @@ fn turn<R: Wait, M: Chronicle>(
     lock: &Turnstile<M>,
     pass: &mut Pass<M>,
     hart: Hart,
-    worked: Option<M::Stretch>,
-) -> (Advance, Option<M::Stretch>)
+    stretch: &mut Option<M::Stretch>,
+) -> Advance
     requires own { IsOf lock.now pass.old }
     requires idle { pass.old.out ≡ false }
-    requires fits { ForSome worked (λ x. M.fits x (start_of lock.now) hart pass.old.seen) }
+    requires fits { ForSome stretch.old (λ x. M.fits x (start_of lock.now) hart pass.old.seen) }
     ensures grew { Grew M.setting M.log M.next (origin_of lock.now) pass.old pass.new }
     ensures went_on { WentOn (M.next (M.setting (start_of lock.now))) (M.ended (M.setting (start_of lock.now)))
-        hart pass.old.seen pass.new.seen result.0 }
-    ensures ended { result.0 ≡ Ended → M.ended (M.setting (start_of lock.now)) pass.new.seen ≡ true }
-    ensures lent { ForSome result.1 (λ x. M.fits x (start_of lock.now) hart pass.new.seen) }
+        hart pass.old.seen pass.new.seen result }
+    ensures ended { result ≡ Ended → M.ended (M.setting (start_of lock.now)) pass.new.seen ≡ true }
+    ensures lent { ForSome stretch.new (λ x. M.fits x (start_of lock.now) hart pass.new.seen) }
 {
     let mut turn = lock.take_turn(rt, pass);
-    let advance = go_on(&mut turn.machine, hart, worked);
-    let lent = turn.machine.lend(hart);
+    let advance = go_on(&mut turn.machine, hart, stretch.take());
+    *stretch = turn.machine.lend(hart);
     lock.give_turn(pass, turn);
-    (advance, lent)
+    advance
 }
 
 /// Does the work of a stretch, if there is one.
-fn work_on<M: Chronicle>(code: &M::Code, lent: Option<M::Stretch>) -> Option<M::Stretch>
+fn work_on<M: Chronicle>(code: &M::Code, stretch: &mut Option<M::Stretch>)
     ensures { (machine : M) (hart : Hart) (log : List Entry) → M.serves code.now machine
-        → ForSome lent (λ x. M.fits x machine hart log) → ForSome result (λ x. M.fits x machine hart log) }
+        → ForSome stretch.old (λ x. M.fits x machine hart log) → ForSome stretch.new (λ x. M.fits x machine hart log) }
 {
-    match lent {
-        Some(mut stretch) => {
-            M::work(code, &mut stretch);
-            Some(stretch)
-        }
-        None => None,
+    if let Some(stretch) = stretch {
+        M::work(code, stretch);
     }
 }
 
@@ -110,14 +106,14 @@ pub(crate) fn drive_one<R: Wait, M: Chronicle, G: Gate>(
     ensures grew { Grew M.setting M.log M.next (origin_of lock.now) pass.old pass.new }
     ensures ended { M.ended (M.setting (start_of lock.now)) pass.new.seen ≡ true }
 {
-    let mut worked = None;
+    let mut stretch = None;
     for _ in rt.forever() {
         gate.pass(hart);
-        let (advance, lent) = turn(rt, lock, pass, hart, worked);
+        let advance = turn(rt, lock, pass, hart, &mut stretch);
         if advance == Advance::Ended {
             return;
         }
-        worked = work_on::<M>(code, lent);
+        work_on::<M>(code, &mut stretch);
     }
     unreachable!()
 }

@@ -10,27 +10,22 @@ use Rattle.chooser.specs.declared.cases.Case.{Case}
 use Rattle.chooser.specs.declared.cases.Case.TheVariants.{Settled, Open}
 use Rattle.chooser.specs.declared.chooser.Pick.{Pick}
 use Rattle.chooser.specs.Cases.{case_of, draws, is_open, pick, pick_in}
-use Rattle.chooser.specs.Generators.{Generator, after_pick, generator_in, word}
-use Rattle.chooser.proofs.Laws.{after_pick-settled}
+use Rattle.chooser.specs.Generators.{generator_in, word}
 use Rattle.block_model.specs.Choosing.{IsChosen, advance_at, all_chosen, choice_at, credit_at, has_ended, next_entry, pick_at}
 use Rattle.block_model.specs.Deciding.{decide, entry_in, history, over_at}
 use Rattle.block_model.specs.Events.{refusal_of}
 use Rattle.block_model.specs.History.{History, here_in_history, ran}
 use Rattle.block_model.specs.Plain.{here_of}
-use Rattle.block_model.specs.Here.{Done}
-use Rattle.block_model.specs.Setting.{Seen, Setting}
+use Rattle.block_model.specs.Setting.{Setting}
 use Rattle.block_model.specs.Sights.{sight_in}
 use Rattle.block_model.proofs.Laws.{choice_decides, choice_is_allowed, is_choice_same, length-history, same_here}
 use Rattle.block_model.specs.declared.refusals.Refused.{Refused}
 use Rattle.mach_types.specs.declared.events.Choice.{Choice}
 use Rattle.machine_core.specs.Credits.{is_picked}
-use Rattle.machine_core.specs.Tied.{IsAfter, IsMachine, IsPlace, answered, past_of, seen, setting_of}
+use Rattle.machine_core.specs.Tied.{IsMachine, answered, past_of, seen, setting_of}
 use Rattle.machine_core.specs.declared.machine.Machine.TheInside.{Inside}
 use Rattle.machine_core.proofs.Chosen.{choice_where, pick_read}
-use Rattle.machine_core.specs.declared.parts.Parts.{Parts}
 use Rattle.machine_core.proofs.Readings.{over_read}
-use Rattle.machine_core.proofs.Settled.{machine_goes}
-use Rattle.machine_core.proofs.Stepping.{place_of}
 
 -- whether a log is one of choices, as it is said and as it is computed
 pub all_of : (s : Setting) (log : List Entry) → IsChosen s log → true ≡ all_chosen s (history s log)

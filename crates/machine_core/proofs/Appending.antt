@@ -8,7 +8,7 @@ use Rattle.std.proofs.lemmas.Bool.{and_parts, cases_eq, ne_eqb}
 use Rattle.std.proofs.lemmas.Option.{same_Some, slice_get-get_or}
 use Rattle.mach_types.specs.Limits.{InRange}
 use Rattle.mach_types.specs.Registers.{with_register}
-use Rattle.mach_types.specs.Bytes.{all_stored}
+use Rattle.mach_types.specs.Bytes.{all_stored, written}
 use Rattle.mach_types.specs.declared.events.Choice.{Choice}
 use Rattle.mach_types.specs.declared.events.Choice.TheVariants as asked
 use Rattle.mach_types.specs.declared.events.Entry.{Entry}
@@ -18,6 +18,7 @@ use Rattle.mach_types.specs.declared.events.Sight.{Sight}
 use Rattle.mach_types.specs.declared.events.Tid.{Tid}
 use Rattle.mach_types.specs.declared.events.Why.TheVariants.{Waiting, FullBuffer}
 use Rattle.mach_types.specs.declared.threads.Saved.{Saved}
+use Rattle.mach_types.specs.declared.user_memory.Store.{Store}
 use Rattle.elf_load.specs.declared.image.ImagePage.{ImagePage}
 use Rattle.rv_inst.specs.Class.{sets_register}
 use Rattle.rv_inst.specs.Execution.{Outcome, instruction_gate}
@@ -27,14 +28,15 @@ use Rattle.chooser.specs.Cases.{draws, has_credit, on_credit, pick}
 use Rattle.chooser.specs.Generators.{Generator, generator_in, word}
 use Rattle.chooser.specs.declared.chooser.Pick.{Pick}
 use Rattle.chooser.proofs.Laws.{after_pick-settled}
+use Rattle.sys_calls.specs.Made.{HoldsPages}
 use Rattle.hart_state.specs.State.{hart_after, outcome_on}
 use Rattle.hart_state.specs.declared.hart.HartState.{HartState}
 use Rattle.page_map.specs.Map.{byte_in}
 use Rattle.block_model.specs.Choosing.{all_chosen, choice_at, credit_at, has_ended, next_entry, pick_at}
 use Rattle.block_model.specs.Deciding.{entry_in, history, over_at}
 use Rattle.block_model.specs.Events.{done_of, refusal_of}
-use Rattle.block_model.specs.Events.Exec.{by_outcome, next_effect as effect_at, next_fault as fault_at, refusal_exec_by}
-use Rattle.block_model.specs.Here.{Here, is_writable, memory, runs}
+use Rattle.block_model.specs.Events.Exec.{by_outcome, is_held, next_effect as effect_at, next_fault as fault_at, others_gate, refusal_exec_by}
+use Rattle.block_model.specs.Here.{Here, is_writable, memory, runs, waiting_here}
 use Rattle.block_model.specs.History.{History, here_in_history, ran}
 use Rattle.block_model.specs.Instruction.{fault_by, fetched, next_effect}
 use Rattle.block_model.specs.Plain.{here_of, plain_after, plain_over, plain_seen}
@@ -42,7 +44,7 @@ use Rattle.block_model.specs.Run.{IsBlockRun}
 use Rattle.block_model.specs.Setting.{Seen, Setting}
 use Rattle.block_model.specs.Sights.{is_local_on, sight_in, thread}
 use Rattle.block_model.specs.Stretches.{Stretch, advanced, file_after, goes_on, longest, stepped}
-use Rattle.block_model.proofs.Laws.{Steps, length-history, same_here, same_state}
+use Rattle.block_model.proofs.Laws.{Steps, none_of_both, length-history, same_here, same_state}
 use Rattle.machine_core.specs.Harts.{credit_of, file_of, file_on, hart_at}
 use Rattle.machine_core.specs.Stretches.{executed}
 use Rattle.machine_core.specs.Tied.{IsAfter, IsPlace, answer_to, answered}
@@ -56,7 +58,7 @@ use Rattle.machine_core.proofs.Events.{none_lost}
 use Rattle.machine_core.proofs.HartEvents.{plain_own}
 use Rattle.machine_core.proofs.HartTies.{get_set_other, get_set_same}
 use Rattle.machine_core.proofs.KernelTies.{saved_plain}
-use Rattle.machine_core.proofs.Performing.{as_no_writes, as_writes, performing, plain_next}
+use Rattle.machine_core.proofs.Performing.{performing, plain_next}
 use Rattle.machine_core.proofs.Places.{in_list, runs_there}
 use Rattle.machine_core.proofs.Settled.{IsSettled, mapped_itself, not_ended, settled_next, tied_with}
 use Rattle.machine_core.proofs.Sighted.{next_local}
@@ -152,9 +154,11 @@ fault_by_effect here t rd value to is =
 free_by_effect : (here : Here) (t : ℕ) (rd value to : ℕ) → runs here ≡ Some t → effect_at here t ≡ Some (effect.Next rd value to) → refusal_of asked.Exec here ≡ None
 free_by_effect here t rd value to at is =
     ap (refusal_exec_by here) at
-    ∙ (ap (λ o. instruction_gate (length here.waiting) o (is_some (fault_at here t))) is
-    ∙ (ap (λ o. instruction_gate (length here.waiting) (Some (effect.Next rd value to)) (is_some o)) (fault_by_effect here t rd value to is)
-    ∙ passes (ltb 0 (length here.waiting)) (leb 8 (length here.waiting))))
+    ∙ none_of_both (instruction_gate (length (waiting_here here)) (effect_at here t) (is_some (fault_at here t))) (others_gate (is_held here t) (effect_at here t))
+    (ap (λ o. instruction_gate (length (waiting_here here)) o (is_some (fault_at here t))) is
+    ∙ (ap (λ o. instruction_gate (length (waiting_here here)) (Some (effect.Next rd value to)) (is_some o)) (fault_by_effect here t rd value to is)
+    ∙ passes (ltb 0 (length (waiting_here here))) (leb 8 (length (waiting_here here)))))
+    (ap (others_gate (is_held here t)) is)
   where
     passes : (some full : Bool) → cond (some && false) (Some Waiting) (cond (full && false) (Some FullBuffer) None) ≡ None
     passes true true = refl
@@ -210,8 +214,8 @@ move s log m words h t x rd value to way room is =
         own = plain_own (credit_of m.harts.items h.0) s (plain_after s log) h.0 t.0 done.outcome x y done.own at
             (same_buffer x rd value to ∙ ap (λ (o : Outcome). record (hart_after x o) { ran = x.ran + 1; events = x.events + 1 }) done.same);
         harts = none_lost h.0 (by_outcome here t.0 done.outcome) (set m.harts.items h.0 y) (ap all_stored none);
-        bytes = λ a. sym (as_no_writes done.outcome.entered a (byte_in m.pages a) none) ∙ as_writes done.outcome.entered a (byte_in m.pages a);
-        writable = λ a. refl;
+        pages = subst (λ (ws : List Store). HoldsPages (plain_seen v).kernel.pages s.program.break_at (λ a. written (all_stored ws) a ((plain_seen v).byte a)) m.pages) (sym none) way.settled.tied.pages;
+        readable = way.settled.tied.readable;
         threads = way.settled.tied.threads;
         scheduling = way.settled.tied.scheduling;
         console = way.settled.tied.console;

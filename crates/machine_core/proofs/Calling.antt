@@ -1,5 +1,5 @@
 -- A call of the thread on a hart.
-use Rattle.std.proofs.Common.{◌≡◌, ℕ, ◌+◌, ◌-◌, ◌<◌, ◌/◌, ◌^◌, append-nil, length, refl, sym, ap, ◌∙◌, arith, Bool, true, false, cond, Option, Some, None, get_or}
+use Rattle.std.proofs.Common.{◌≡◌, ℕ, ◌+◌, ◌-◌, ◌<◌, ◌^◌, append-nil, length, refl, sym, ap, ◌∙◌, arith, Bool, true, false, cond, Option, Some, None, get_or}
 use Rattle.std.specs.Option.{option_or}
 use Rattle.mach_types.specs.Kernel.Threads.{Threads, is_stuck, running_on}
 use Rattle.mach_types.specs.Registers.{no_registers}
@@ -12,7 +12,6 @@ use Rattle.mach_types.specs.declared.limits.End.TheVariants as over
 use Rattle.mach_types.specs.declared.threads.Saved.{Saved}
 use Rattle.rv_inst.specs.declared.effects.Effect.TheVariants as effect
 use Rattle.hart_state.specs.declared.hart.HartState.{HartState}
-use Rattle.page_map.specs.Map.{Map, can_write_in, may_write, permission_in}
 use Rattle.sys_calls.specs.Made.{IsAt, gives_up, process_end}
 use Rattle.sys_calls.specs.declared.calling.CallEnd.{CallEnd}
 use Rattle.block_model.specs.Calls.{called}
@@ -57,10 +56,6 @@ call_own credit s p h t end saved c x y at its hart own is = is ∙ rw (at, appe
     go true e = rw e refl
     go false e = rw (e, its, own) refl
 
--- permissions stay where pages do
-pub may_write_still : (m m' : Map) → ((n : ℕ) → permission_in m' n ≡ permission_in m n) → (a : ℕ) → can_write_in m' a ≡ can_write_in m a
-may_write_still m m' same a = ap may_write (same (a / 4096))
-
 -- how the run has ended
 pub ended_after : (end : CallEnd) (c : CallDone) (o : Option End) (b : Bool) → process_end end ≡ c.ended → b ≡ is_stuck c.kernel.threads → o ≡ option_or (process_end end) (cond b (Some over.Stuck) None) → o ≡ final c.ended c.kernel
 ended_after end c o b process stuck is = is ∙ rw (process, stuck) refl
@@ -90,8 +85,7 @@ calling v m h harts x e place plan all value is =
         threads = place.tied.threads;
         scheduling = place.tied.scheduling;
         console = place.tied.console;
-        bytes = place.tied.bytes;
-        writable = place.tied.writable;
+        pages = place.tied.pages;
         file = ap (λ (y : HartState). record { file = y.file; pc = y.pc }) own ∙ ap (file_on (here_of v h.0)) at;
       };
       done = done_call (here_of v h.0) plan.thread plan.at (sym plan.fault) (sym plan.effect) ∙ ap (λ t. by_call (here_of v h.0) (called (here_of v h.0) t)) its;

@@ -1,5 +1,5 @@
 -- The credits and the generators after an event, where it was the choice of `run` and where it wasn't.
-use Rattle.std.proofs.Common.{◌≡◌, ◌≢◌, ℕ, ◌+◌, ◌<◌, List, [], ◌∷◌, ◌++◌, length, refl, sym, ap, ◌∙◌, Bool, true, false, cond, eqb, ◌&&◌, Option, Some, None, eq-eqb, ◌⊎◌, inl, inr}
+use Rattle.std.proofs.Common.{◌≡◌, ◌≢◌, ℕ, ◌+◌, ◌<◌, List, [], ◌∷◌, ◌++◌, length, refl, sym, ap, ◌∙◌, Bool, true, false, cond, eqb, ◌&&◌, Option, eq-eqb, ◌⊎◌, inl, inr}
 use native.Mathlib.Numerals.{unary_clauses}
 use Rattle.std.specs.Option.{option_map}
 use Rattle.std.proofs.lemmas.Bool.{cases_eq, false≢true, lt-ltb, ne_eqb}

@@ -9,6 +9,7 @@ use Rattle.hart_state.specs.declared.hart.HartState.{HartState}
 use Rattle.page_map.specs.Map.{can_write_in}
 use Rattle.block_model.specs.Deciding.{final}
 use Rattle.block_model.specs.Events.{refusal_of}
+use Rattle.block_model.specs.Here.{waiting_here}
 use Rattle.block_model.specs.Plain.{here_of, plain_seen}
 use Rattle.block_model.specs.Setting.{Seen}
 use Rattle.block_model.proofs.Laws.{MayEnter, place_good}
@@ -16,7 +17,7 @@ use Rattle.machine_core.specs.Harts.{credit_of, hart_at}
 use Rattle.machine_core.specs.Tied.{IsPlace}
 use Rattle.machine_core.specs.declared.parts.Parts.{Parts}
 use Rattle.machine_core.proofs.Entries.{oldest}
-use Rattle.machine_core.proofs.Places.{goes_on, hart_is, was_not_stuck}
+use Rattle.machine_core.proofs.Places.{goes_on, hart_is, was_not_stuck, writable_at}
 
 -- the bytes of the oldest waiting store can be written
 may_enter : (p : Pages) (can : ℕ → Bool) (ws : List Store) → can ≡ (λ a. can_write (permission_at p a)) → AllByRecursion (MayEnter p) ws → CanEnter can ws
@@ -27,13 +28,13 @@ pub can_enter : (v : Seen) (m : Parts) (h : ℕ) (x : HartState) → IsPlace v m
 can_enter v m h x place value =
     let good = place_good v h place.run place.lt in
     let own = hart_is v m h x place value in
-    rw own (may_enter (plain_seen v).kernel.pages (can_write_in m.pages) ((plain_seen v).waiting h) place.tied.writable good.within)
+    rw own (may_enter (plain_seen v).kernel.pages (can_write_in m.pages) ((plain_seen v).waiting h) (writable_at v m h place) (good.within h))
 
 -- it is the oldest that waits
 pub record IsDraining (v : Seen) (m : Parts) (h : ℕ) (x : HartState) (w : Store) : Type 0 where
   pub own : x ≡ hart_at v.setting (plain_seen v) h (credit_of m.harts.items h)
   pub later : List Store
-  pub at : (here_of v h).waiting ≡ w ∷ later
+  pub at : waiting_here (here_of v h) ≡ w ∷ later
   pub buffer : x.buffer ≡ w ∷ later
   pub ended : m.ended ≡ final None (plain_seen v).kernel
 

@@ -9,7 +9,7 @@ use Rattle.mach_types.specs.declared.events.Kind.TheVariants as kind
 use Rattle.mach_types.specs.declared.user_memory.Store.{Store}
 use Rattle.hart_state.specs.declared.hart.HartState.{HartState}
 use Rattle.block_model.specs.Setting.{Seen, Setting}
-use Rattle.block_model.specs.Here.{Done, Here, runs}
+use Rattle.block_model.specs.Here.{Done, Here, runs, waiting_here}
 use Rattle.block_model.specs.Events.{refusal_of, done_of}
 use Rattle.block_model.specs.Events.Drain.{refusal_drain_of}
 use Rattle.block_model.specs.Events.Preempt.{refusal_preempt_by}
@@ -48,10 +48,10 @@ leaver here free = go (runs here) refl free
     go (Some t) at e = (t, at)
 
 -- where a store can enter memory, one waits
-pub oldest : (here : Here) → refusal_of asked.Drain here ≡ None → (w : Store) × ((ws : List Store) × (here.waiting ≡ w ∷ ws))
-oldest here free = go here.waiting refl free
+pub oldest : (here : Here) → refusal_of asked.Drain here ≡ None → (w : Store) × ((ws : List Store) × (waiting_here here ≡ w ∷ ws))
+oldest here free = go (waiting_here here) refl free
   where
-    go : (ws : List Store) → here.waiting ≡ ws → refusal_drain_of ws ≡ None → (w : Store) × ((ws : List Store) × (here.waiting ≡ w ∷ ws))
+    go : (ws : List Store) → waiting_here here ≡ ws → refusal_drain_of ws ≡ None → (w : Store) × ((ws : List Store) × (waiting_here here ≡ w ∷ ws))
     go [] at e = cc
     go (w ∷ ws) at e = (w, (ws, at))
 

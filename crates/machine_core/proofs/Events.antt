@@ -8,8 +8,7 @@ use Rattle.mach_types.specs.declared.limits.End.{End}
 use Rattle.mach_types.specs.declared.limits.End.TheVariants as over
 use Rattle.hart_state.specs.declared.hart.HartState.{HartState}
 use Rattle.kernel_threads.specs.Table.{IsTable}
-use Rattle.page_map.specs.Map.{byte_in, can_write_in}
-use Rattle.sys_calls.specs.Made.{AreSaved}
+use Rattle.sys_calls.specs.Made.{AreSaved, HoldsPages}
 use Rattle.block_model.specs.Setting.{Seen}
 use Rattle.block_model.specs.Here.{Done}
 use Rattle.block_model.specs.History.{file_among}
@@ -18,10 +17,9 @@ use Rattle.block_model.specs.Plain.{Plain, apply, here_of, plain_seen}
 use Rattle.block_model.proofs.Laws.{IsFit}
 use Rattle.machine_core.specs.Losing.{lost_unless}
 use Rattle.machine_core.specs.Harts.{credit_of}
-use Rattle.machine_core.specs.Tied.{IsPlace, IsAfter, IsTied}
+use Rattle.machine_core.specs.Tied.{IsPlace, IsAfter, IsReadable, IsTied}
 use Rattle.machine_core.specs.declared.parts.Parts.{Parts}
 use Rattle.machine_core.proofs.HartTies.{credits_kept, own_after, harts_tied}
-use Rattle.machine_core.proofs.MemoryTies.{memory_after, writable_after}
 
 -- lists with the same places filled are equally long
 pub same_length : (xs ys : List HartState) → ((k : ℕ) → is_some (slice_get ys k) ≡ is_some (slice_get xs k)) → length ys ≡ length xs
@@ -52,8 +50,8 @@ none_lost h d xs none k = rw none (keep (eqb k h) (slice_get xs k))
 pub record IsChange (v : Seen) (h : ℕ) (d : Done) (m m' : Parts) (y : HartState) : Type 0 where
   pub own : y ≡ own_after v.setting (plain_seen v) h d (credit_of m.harts.items h)
   pub harts : HaveLost h d (set m.harts.items h y) m'.harts.items
-  pub bytes : (a : ℕ) → byte_in m'.pages a ≡ option_map (written d.entered a) (byte_in m.pages a)
-  pub writable : (a : ℕ) → can_write_in m'.pages a ≡ can_write_in m.pages a
+  pub pages : HoldsPages d.kernel.pages v.setting.program.break_at (λ a. written d.entered a ((plain_seen v).byte a)) m'.pages
+  pub readable : IsReadable m'.pages
   pub threads : m'.kernel.threads.threads ≡ d.kernel.threads
   pub scheduling : m'.kernel.ready ≡ d.kernel.scheduling
   pub console : m'.kernel.console ≡ d.kernel.console
@@ -83,8 +81,8 @@ changed v h d m m' y place fit is = record { tied = tied; credits = credits_kept
     tied = record {
       all_harts = same_length (set m.harts.items h y) m'.harts.items (λ k. ap is_some (is.harts k) ∙ mapped_is (lost_unless (eqb k h) d.entered) (slice_get (set m.harts.items h y) k)) ∙ (length-set m.harts.items h y ∙ place.tied.all_harts);
       harts = harts_tied v.setting p h d m.harts.items m'.harts.items y place.tied.harts place.lt fit is.own is.harts;
-      bytes = memory_after (byte_in m.pages) (byte_in m'.pages) p.kernel d.kernel p.byte d.entered place.tied.bytes is.bytes fit.pages;
-      writable = writable_after (can_write_in m.pages) (can_write_in m'.pages) p.kernel d.kernel place.tied.writable is.writable fit.pages;
+      pages = is.pages;
+      readable = is.readable;
       threads = is.threads;
       scheduling = is.scheduling;
       console = is.console;

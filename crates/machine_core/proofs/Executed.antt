@@ -1,27 +1,22 @@
 -- What the next instruction of a thread does, by its effect and its fault.
-use Rattle.std.proofs.Common.{◌≡◌, ◌≢◌, ℕ, List, [], ◌∷◌, refl, sym, ap, ◌∙◌, Bool, true, false, is_some, Option, Some, None, length, map}
-use Rattle.std.specs.Option.{option_map}
-use Rattle.mach_types.specs.Bytes.{all_stored}
-use Rattle.mach_types.specs.declared.user_memory.Store.{Store}
-use Rattle.mach_types.specs.declared.user_memory.Write.TheVariants.{Stored}
+use Rattle.std.proofs.Common.{◌≡◌, ◌≢◌, ℕ, refl, sym, ap, ◌∙◌, Bool, true, false, is_some, Option, Some, None, length}
+use Rattle.std.specs.Option.{option_or}
+use Rattle.mach_types.specs.declared.events.Why.{Why}
 use Rattle.rv_inst.specs.Class.{is_call}
 use Rattle.rv_inst.specs.Execution.{fault_in, instruction_gate}
 use Rattle.rv_inst.specs.declared.effects.Effect.{Effect}
 use Rattle.rv_inst.specs.declared.effects.Effect.TheVariants as effect
-use Rattle.hart_state.specs.State.{exec_refusal, outcome_on, store_span, spans}
+use Rattle.hart_state.specs.State.{exec_refusal, outcome_on}
 use Rattle.hart_state.specs.declared.hart.HartState.{HartState}
-use Rattle.hart_state.specs.declared.span.Span.{Span}
 use Rattle.block_model.specs.Calls.{called}
 use Rattle.block_model.specs.Events.{refusal_of, done_of}
 use Rattle.mach_types.specs.declared.events.Choice.TheVariants as asked
-use Rattle.block_model.specs.Events.Exec.{by_call, by_fault, by_outcome, next_effect, next_fault, outcome_of, refusal_exec_by}
+use Rattle.block_model.specs.Events.Exec.{by_call, by_fault, by_outcome, is_held, next_effect, next_fault, others_gate, outcome_of, refusal_exec_by}
 use Rattle.block_model.specs.Here.{Here, is_writable, memory, runs}
-use Rattle.block_model.specs.History.{lost_after}
 use Rattle.block_model.specs.Instruction as instruction
 use Rattle.block_model.specs.Plain.{Plain, here_in_plain}
 use Rattle.block_model.specs.Setting.{Setting}
 use Rattle.machine_core.specs.Harts.{hart_at}
-use Rattle.machine_core.specs.Losing.{lost_unless}
 
 -- a fault, a call, and another instruction
 pub done_fault : (here : Here) (t signal : ℕ) → runs here ≡ Some t → next_fault here t ≡ Some signal → done_of asked.Exec here ≡ by_fault here signal
@@ -43,8 +38,15 @@ pub not_refused : (credit : ℕ) (s : Setting) (p : Plain) (h t : ℕ) (x : Hart
     refusal_of asked.Exec (here_in_plain s p h) ≡ None → exec_refusal x (Some e) false ≡ None
 not_refused credit s p h t x e at runs fault is free = rw (at, runs) (gate (rw runs at free))
   where
+    first : (a b : Option Why) → option_or a b ≡ None → a ≡ None
+    first None b none = refl
+    first (Some why) b none = cc
+
     gate : refusal_exec_by (here_in_plain s p h) (Some t) ≡ None → instruction_gate (length (p.waiting h)) (Some e) false ≡ None
-    gate g = ap (λ o. instruction_gate (length (p.waiting h)) o false) (sym is) ∙ (ap (λ o. instruction_gate (length (p.waiting h)) (next_effect (here_in_plain s p h) t) (is_some o)) (sym fault) ∙ g)
+    gate free =
+        let here = here_in_plain s p h in
+        let g = first (instruction_gate (length (p.waiting h)) (next_effect here t) (is_some (next_fault here t))) (others_gate (is_held here t) (next_effect here t)) free in
+        ap (λ o. instruction_gate (length (p.waiting h)) o false) (sym is) ∙ (ap (λ o. instruction_gate (length (p.waiting h)) (next_effect (here_in_plain s p h) t) (is_some o)) (sym fault) ∙ g)
 
 pub no_fault : (here : Here) (t : ℕ) (byte : ℕ → Option ℕ) (writable : ℕ → Bool) (e : Effect) → byte ≡ memory here → writable ≡ is_writable here → next_fault here t ≡ None → next_effect here t ≡ Some e → fault_in byte writable e ≡ None
 no_fault here t byte writable e same can fault is = rw (same, can) (by_effect_of (next_effect here t) is fault)
@@ -54,22 +56,3 @@ no_fault here t byte writable e same can fault is = rw (same, can) (by_effect_of
 
 pub no_call : (e : Effect) → is_call e ≡ false → e ≢ effect.Call
 no_call e is same = let bad : true ≡ false = ap is_call (sym same) ∙ is in absurd (cc)
-
--- reservations hang on where bytes are written, not on what is written
-lost_alike : (o : Option ℕ) (ss : List Store) (x : Span) → map store_span ss ≡ spans (Some x) → lost_after (Stored (record { at = x.at; size = x.size; value = 0 }) ∷ []) o ≡ lost_after (all_stored ss) o
-lost_alike o [] x is = cc
-lost_alike o (s ∷ []) x is = let at : s.at ≡ x.at = cc in let size : s.size ≡ x.size = cc in rw (at, size) refl
-lost_alike o (s ∷ (r ∷ ss)) x is = cc
-
-none_entered : (ss : List Store) → map store_span ss ≡ spans None → ss ≡ []
-none_entered [] is = refl
-none_entered (s ∷ ss) is = cc
-
-pub lost_by_span : (b : Bool) (ss : List Store) (x : Span) (o : Option HartState) → map store_span ss ≡ spans (Some x) →
-    option_map (lost_unless b (Stored (record { at = x.at; size = x.size; value = 0 }) ∷ [])) o ≡ option_map (lost_unless b (all_stored ss)) o
-lost_by_span b ss x None is = refl
-lost_by_span true ss x (Some y) is = refl
-lost_by_span false ss x (Some y) is = ap (λ r. Some (record y { reserved = r })) (lost_alike y.reserved ss x is)
-
-pub nothing_entered : (ss : List Store) → map store_span ss ≡ spans None → all_stored ss ≡ []
-nothing_entered ss is = ap all_stored (none_entered ss is)

@@ -18,7 +18,7 @@ use Rattle.machine_core.specs.Losing.{lost_by_all, lost_unless}
 abbrev pub own_after : Setting → Plain → ℕ → Done → ℕ → HartState
 own_after s p h d credit = hart_in (record (here_in_plain s p h) {
   file = λ t. file_among d.files t (p.file t);
-  waiting = drop d.drained (p.waiting h ++ d.executed);
+  waiting = λ _. drop d.drained (p.waiting h ++ d.executed);
   reserved = d.reserved;
   kernel = d.kernel;
 }) (cond d.started 0 (p.ran h) + d.instructions) (p.events h + 1) credit

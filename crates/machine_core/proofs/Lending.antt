@@ -10,7 +10,7 @@ use Rattle.rv_inst.specs.Class.{sets_register}
 use Rattle.hart_state.specs.declared.hart.HartState.{HartState}
 use Rattle.block_model.specs.Choosing.{advance_at, has_ended, luck, made_or_none, next_entry, sight_with}
 use Rattle.block_model.specs.Deciding.{history}
-use Rattle.block_model.specs.Here.{is_writable, memory}
+use Rattle.block_model.specs.Here.{is_writable, memory, waiting_here}
 use Rattle.block_model.specs.History.{History, events, here_in_history, ran, running}
 use Rattle.block_model.specs.Instruction.{next_effect}
 use Rattle.block_model.specs.Setting.{Setting}
@@ -52,7 +52,7 @@ state_on s h before o =
     record {
       file = (file_on here o).file;
       pc = (file_on here o).pc;
-      buffer = here.waiting;
+      buffer = waiting_here here;
       running = option_map thread o;
       requests = 0;
       restart = false;

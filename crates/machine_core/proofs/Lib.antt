@@ -10,6 +10,7 @@ mod Executed
 mod Fetches
 mod HartEvents
 mod HartTies
+mod HeldPages
 mod KernelTies
 pub mod Laws
 mod Leaving

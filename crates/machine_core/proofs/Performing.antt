@@ -1,8 +1,5 @@
 -- An instruction that is performed.
-use Rattle.std.proofs.Common.{◌≡◌, ℕ, List, [], refl, sym, ap, false, Option, Some, None, get_or}
-use Rattle.std.specs.Option.{option_map}
-use Rattle.mach_types.specs.Bytes.{all_stored, overlay, written}
-use Rattle.mach_types.specs.declared.user_memory.Store.{Store}
+use Rattle.std.proofs.Common.{◌≡◌, ℕ, sym, false, Some, None, get_or}
 use Rattle.mach_types.specs.declared.events.Choice.TheVariants as asked
 use Rattle.rv_inst.specs.Class.{is_call}
 use Rattle.rv_inst.specs.Execution.{Outcome, fault_in}
@@ -21,8 +18,7 @@ use Rattle.machine_core.specs.Tied.{IsPlace}
 use Rattle.machine_core.specs.declared.next.Next.{Next}
 use Rattle.machine_core.specs.declared.parts.Parts.{Parts}
 use Rattle.machine_core.proofs.Executed.{done_plain, no_fault, not_refused, outcome_same}
-use Rattle.machine_core.proofs.MemoryTies.{written_stored}
-use Rattle.machine_core.proofs.Places.{goes_on, hart_is, was_not_stuck}
+use Rattle.machine_core.proofs.Places.{bytes_at, goes_on, hart_is, was_not_stuck, writable_at}
 
 abbrev pub plain_next : Effect → Next
 plain_next e = record { effect = Some e; fault = None }
@@ -40,7 +36,7 @@ performing v m h x e place plan other value =
     record {
       own = own;
       outcome = outcome_of (here_of v h) plan.thread e;
-      same = outcome_same _ v.setting (plain_seen v) h plan.thread x (byte_in m.pages) e own plan.at place.tied.bytes;
+      same = outcome_same _ v.setting (plain_seen v) h plan.thread x (byte_in m.pages) e own plan.at (bytes_at v m h place);
       done = done_plain (here_of v h) plan.thread e plan.at (sym plan.fault) (sym plan.effect) other;
       ended = goes_on v m h (plain_seen v).kernel place (was_not_stuck v m h place);
     }
@@ -53,15 +49,5 @@ pub record MayPerform (m : Parts) (x : HartState) (e : Effect) : Type 0 where
 pub may_perform : (v : Seen) (m : Parts) (h : ℕ) (x : HartState) (e : Effect) → IsPlace v m h → IsPlanned v h (plain_next e) → x ≡ get_or m.harts.items h x → MayPerform m x e
 may_perform v m h x e place plan value = record {
   allowed = not_refused _ v.setting (plain_seen v) h plan.thread x e (hart_is v m h x place value) plan.at (sym plan.fault) (sym plan.effect) plan.free;
-  no_fault = no_fault (here_of v h) plan.thread (byte_in m.pages) (can_write_in m.pages) e place.tied.bytes place.tied.writable (sym plan.fault) (sym plan.effect);
+  no_fault = no_fault (here_of v h) plan.thread (byte_in m.pages) (can_write_in m.pages) e (bytes_at v m h place) (writable_at v m h place) (sym plan.fault) (sym plan.effect);
 }
-
--- stores that enter memory as writes
-pub as_writes : (ss : List Store) (a : ℕ) (o : Option ℕ) → option_map (overlay ss a) o ≡ option_map (written (all_stored ss) a) o
-as_writes ss a None = refl
-as_writes ss a (Some b) = ap Some (sym (written_stored ss a b))
-
--- and where none enters
-pub as_no_writes : (ss : List Store) (a : ℕ) (o : Option ℕ) → ss ≡ [] → option_map (overlay ss a) o ≡ o
-as_no_writes ss a None none = refl
-as_no_writes ss a (Some b) none = rw none refl

@@ -1,17 +1,17 @@
 -- What holds at a place: the state of its hart, counts that fit their words, and what an event that isn't a call leaves as it is.
-use Rattle.std.proofs.Common.{◌≡◌, ℕ, ◌+◌, ◌<◌, ◌^◌, [], length, refl, sym, ap, ◌∙◌, arith, Bool, true, false, cond, Option, Some, None, get_or}
-use Rattle.std.specs.Option.{option_map, option_or}
+use Rattle.std.proofs.Common.{◌≡◌, ℕ, ◌+◌, ◌<◌, ◌^◌, length, refl, sym, ap, ◌∙◌, arith, Bool, true, false, cond, Option, Some, None, get_or}
+use Rattle.std.specs.Option.{option_or}
 use Rattle.std.proofs.lemmas.Option.{slice_get-get_or}
-use Rattle.mach_types.specs.Bytes.{written}
 use Rattle.mach_types.specs.declared.events.Choice.{Choice}
 use Rattle.mach_types.specs.declared.limits.End.{End}
 use Rattle.mach_types.specs.declared.limits.End.TheVariants as over
 use Rattle.mach_types.specs.Kernel.Threads.{is_stuck, state_of}
 use Rattle.mach_types.specs.declared.events.Hart.{Hart}
 use Rattle.mach_types.specs.declared.threads.ThreadState.TheVariants.{Running}
-use Rattle.block_model.specs.Here.{runs}
+use Rattle.block_model.specs.Here.{is_writable, memory, runs}
 use Rattle.mach_types.specs.Kernel.Record.{Kernel}
 use Rattle.hart_state.specs.declared.hart.HartState.{HartState}
+use Rattle.page_map.specs.Map.{byte_in, can_write_in}
 use Rattle.block_model.specs.Setting.{Seen}
 use Rattle.block_model.specs.Deciding.{final}
 use Rattle.block_model.specs.Events.{refusal_of, done_of}
@@ -21,6 +21,7 @@ use Rattle.block_model.proofs.Laws.{IsFit, events_few, place_fit, place_good, ra
 use Rattle.machine_core.specs.Harts.{credit_of, hart_at}
 use Rattle.machine_core.specs.Tied.{IsPlace}
 use Rattle.machine_core.specs.declared.parts.Parts.{Parts}
+use Rattle.machine_core.proofs.MemoryTies.{bytes_held, writable_held}
 
 -- the hart of a place is in the list
 pub in_list : (v : Seen) (m : Parts) (h : ℕ) → IsPlace v m h → h < length m.harts.items
@@ -64,10 +65,12 @@ was_not_stuck v m h place = go (plain_seen v).ended (is_stuck (plain_seen v).ker
     go None true is = cc
     go (Some e) b is = cc
 
--- nothing is written over memory
-pub same_byte : (o : Option ℕ) (a : ℕ) → o ≡ option_map (written [] a) o
-same_byte None a = refl
-same_byte (Some x) a = refl
+-- what the page map shows of memory there
+pub bytes_at : (v : Seen) (m : Parts) (h : ℕ) → IsPlace v m h → byte_in m.pages ≡ memory (here_of v h)
+bytes_at v m h place = bytes_held (plain_seen v).kernel v.setting.program.break_at (plain_seen v).byte m.pages place.tied.pages
+
+pub writable_at : (v : Seen) (m : Parts) (h : ℕ) → IsPlace v m h → can_write_in m.pages ≡ is_writable (here_of v h)
+writable_at v m h place = writable_held (plain_seen v).kernel v.setting.program.break_at (plain_seen v).byte m.pages place.tied.pages place.tied.readable
 
 -- the thread on the hart of a place runs there
 pub runs_there : (v : Seen) (m : Parts) (h : Hart) (t : ℕ) → IsPlace v m h.0 → runs (here_of v h.0) ≡ Some t → state_of t m.kernel.threads.threads ≡ Some (Running h)

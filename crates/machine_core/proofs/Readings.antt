@@ -6,7 +6,7 @@ use Rattle.hart_state.specs.declared.hart.HartState.{HartState}
 use Rattle.page_map.specs.Map.{byte_in, can_write_in}
 use Rattle.rv_inst.specs.Execution.{seen_byte}
 use Rattle.block_model.specs.Choosing.{credit_at}
-use Rattle.block_model.specs.Here.{Here, is_writable, memory, view}
+use Rattle.block_model.specs.Here.{Here, is_writable, memory, view, waiting_here}
 use Rattle.block_model.specs.History.{History, console, events, here_in_history, ran}
 use Rattle.block_model.specs.Deciding.{history, over_at}
 use Rattle.block_model.specs.Plain.{Plain, plain_over, plain_seen}
@@ -14,6 +14,7 @@ use Rattle.block_model.proofs.Laws.{same_here, same_state}
 use Rattle.machine_core.specs.Harts.{credit_of, hart_at, hart_in}
 use Rattle.machine_core.specs.Tied.{IsMachine, seen, setting_of}
 use Rattle.machine_core.specs.declared.machine.Machine.TheInside.{Inside}
+use Rattle.machine_core.proofs.MemoryTies.{bytes_held, writable_held}
 
 -- the history of a machine's log, and what a rule may read there
 abbrev pub history_of : Inside → History
@@ -41,17 +42,19 @@ over_read m machine = machine.tied.ended ∙ ap plain_over (same_state (seen m) 
 
 -- memory's bytes
 pub bytes_read : (m : Inside) (h : ℕ) → IsMachine m → byte_in m.parts.pages ≡ memory (here_read m h)
-bytes_read m h machine = machine.tied.bytes ∙ ap memory (same_here (seen m) h machine.run)
+bytes_read m h machine =
+    bytes_held (plain_seen (seen m)).kernel m.break_at (plain_seen (seen m)).byte m.parts.pages machine.tied.pages ∙ ap memory (same_here (seen m) h machine.run)
 
 -- a word behind the waiting stores of a hart is that of its view
 pub word_read : (m : Inside) (h : ℕ) (x : HartState) (n k credit at size : ℕ) → IsMachine m → x ≡ hart_in (here_read m h) n k credit → word_at (seen_byte x.buffer (byte_in m.parts.pages)) at size ≡ word_at (view (here_read m h)) at size
 word_read m h x n k credit at size machine is =
     ap (λ (y : HartState). word_at (seen_byte y.buffer (byte_in m.parts.pages)) at size) is
-    ∙ ap (λ (b : ℕ → Option ℕ). word_at (seen_byte (here_read m h).waiting b) at size) (bytes_read m h machine)
+    ∙ ap (λ (b : ℕ → Option ℕ). word_at (seen_byte (waiting_here (here_read m h)) b) at size) (bytes_read m h machine)
 
 -- which bytes can be written
 pub writable_read : (m : Inside) (h : ℕ) → IsMachine m → can_write_in m.parts.pages ≡ is_writable (here_read m h)
-writable_read m h machine = machine.tied.writable ∙ ap is_writable (same_here (seen m) h machine.run)
+writable_read m h machine =
+    writable_held (plain_seen (seen m)).kernel m.break_at (plain_seen (seen m)).byte m.parts.pages machine.tied.pages machine.tied.readable ∙ ap is_writable (same_here (seen m) h machine.run)
 
 -- the ready threads
 pub scheduling_read : (m : Inside) (h : ℕ) → IsMachine m → m.parts.kernel.ready ≡ (here_read m h).kernel.scheduling

@@ -46,7 +46,7 @@ pub record IsReady (m : Inside) (h : Hart) (l : Stretch) (x : HartState) : Type 
   pub steps : Steps m.code first l.pcs l
 
 -- a run that hasn't ended was ended by no event
-goes_on : (m : Inside) → IsMachine m → has_ended (setting_of m) (past_of m) ≡ false → m.parts.ended ≡ None
+pub goes_on : (m : Inside) → IsMachine m → has_ended (setting_of m) (past_of m) ≡ false → m.parts.ended ≡ None
 unfolding has_ended
 goes_on m machine goes = over_read m machine ∙ none_first (over_at (setting_of m) (past_of m)) (leb m.limits.steps (length (past_of m))) goes
   where

@@ -49,6 +49,11 @@ pub mapped_itself : (o : Option HartState) → o ≡ option_map (λ x. x) o
 mapped_itself None = refl
 mapped_itself (Some x) = refl
 
+-- where nothing was seen nothing is done to a hart
+pub unfollowed : (generators : List Generator) (h : ℕ) (c : Choice) (k : ℕ) (o : Option HartState) → o ≡ option_map (followed None generators h c k) o
+unfollowed generators h c k None = refl
+unfollowed generators h c k (Some x) = refl
+
 some_mapped : (f : HartState → HartState) (o : Option HartState) → is_some (option_map f o) ≡ is_some o
 some_mapped f None = refl
 some_mapped f (Some x) = refl
@@ -64,8 +69,8 @@ tied_with s p m m' sight generators h c tied harts pages kernel ended = record {
       let at : slice_get m'.harts.items k ≡ Some (followed sight generators h c k x) = harts k ∙ ap (option_map (followed sight generators h c k)) (tied.harts k lt) in
       let credit : credit_of m'.harts.items k ≡ (followed sight generators h c k x).credit = ap (λ o. option_map_or (λ (y : HartState). y.credit) o 0) at in
       at ∙ (ap Some (credit_alone sight generators s p h c k (credit_of m.harts.items k)) ∙ ap (λ n. Some (hart_at s p k n)) (sym credit));
-  bytes = rw pages tied.bytes;
-  writable = rw pages tied.writable;
+  pages = rw pages tied.pages;
+  readable = rw pages tied.readable;
   threads = rw kernel tied.threads;
   scheduling = rw kernel tied.scheduling;
   console = rw kernel tied.console;

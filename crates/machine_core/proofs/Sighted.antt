@@ -1,20 +1,16 @@
 -- What a scheduler sees of a hart, told by the hart's state.
-use Rattle.std.proofs.Common.{◌≡◌, ℕ, ◌&&◌, List, length, sym, ap, ◌∙◌, refl, not, Bool, true, false, if◌then◌else◌, is_none, is_some, Option, Some, None}
+use Rattle.std.proofs.Common.{◌≡◌, ℕ, ◌&&◌, List, sym, ap, ◌∙◌, refl, not, Bool, true, false, is_none, is_some, Option, Some, None}
 use Rattle.std.specs.Option.{option_map, option_map_or}
 use Rattle.mach_types.specs.declared.events.Sight.{Sight}
 use Rattle.mach_types.specs.declared.events.Tid.{Tid}
-use Rattle.mach_types.specs.declared.events.Why.TheVariants.{Idle}
 use Rattle.mach_types.specs.declared.threads.Saved.{Saved}
 use Rattle.elf_load.specs.declared.image.ImagePage.{ImagePage}
-use Rattle.hart_state.specs.State.{exec_refusal}
 use Rattle.hart_state.specs.declared.hart.HartState.{HartState}
 use Rattle.rv_inst.proofs.Laws.{local-rows}
 use Rattle.rv_inst.specs.Class.{sets_register}
-use Rattle.rv_inst.specs.Execution.{instruction_gate}
 use Rattle.rv_inst.specs.Local.{is_register_only}
 use Rattle.rv_inst.specs.Meaning.{meaning}
 use Rattle.rv_inst.specs.declared.instruction.Inst.{Inst}
-use Rattle.block_model.specs.Events.Exec.{refusal_exec, refusal_exec_by}
 use Rattle.block_model.specs.Here.{Here, is_writable, memory, runs}
 use Rattle.block_model.specs.Instruction.{fault_by, fetched, instruction_of, next_effect, next_fault, next_instruction}
 use Rattle.block_model.specs.Sights.{effect_here, effect_on, is_local_on, thread}
@@ -37,22 +33,6 @@ idle_by (Some t) = refl
 
 pub idle_read : (here : Here) (x : HartState) (n k credit : ℕ) → x ≡ hart_in here n k credit → not (is_some x.running) ≡ is_none (runs here)
 idle_read here x n k credit is = ap (λ (y : HartState). not (is_some y.running)) is ∙ idle_by (runs here)
-
--- the condition of an instruction that fails
-gate_by : (here : Here) (o : Option ℕ) →
-    (if is_some (option_map thread o)
-    then instruction_gate (length here.waiting) (next_effect here.setting.program.pages (file_on here o)) (is_some (next_fault here.setting.program.pages (memory here) (is_writable here) (file_on here o)))
-    else Some Idle) ≡ refusal_exec_by here o
-gate_by here None = refl
-gate_by here (Some t) = refl
-
-pub gate_read : (here : Here) (x : HartState) (n k credit : ℕ) (byte : ℕ → Option ℕ) (writable : ℕ → Bool) → x ≡ hart_in here n k credit → byte ≡ memory here → writable ≡ is_writable here →
-    exec_refusal x (next_effect here.setting.program.pages (file_of x)) (is_some (next_fault here.setting.program.pages byte writable (file_of x))) ≡ refusal_exec here
-gate_read here x n k credit byte writable is bytes writables =
-    ap (λ (y : HartState). exec_refusal y (next_effect here.setting.program.pages (file_of y)) (is_some (next_fault here.setting.program.pages byte writable (file_of y)))) is
-    ∙ ap (λ (b : ℕ → Option ℕ). exec_refusal (hart_in here n k credit) (next_effect here.setting.program.pages (file_of (hart_in here n k credit))) (is_some (next_fault here.setting.program.pages b writable (file_of (hart_in here n k credit))))) bytes
-    ∙ ap (λ (w : ℕ → Bool). exec_refusal (hart_in here n k credit) (next_effect here.setting.program.pages (file_of (hart_in here n k credit))) (is_some (next_fault here.setting.program.pages (memory here) w (file_of (hart_in here n k credit))))) writables
-    ∙ gate_by here (runs here)
 
 -- an instruction touches registers alone, and has no fault, where its effect sets a register and does no more
 row_local : (byte : ℕ → Option ℕ) (writable : ℕ → Bool) (word : Option ℕ) (f : Saved) (o : Option Inst) →

@@ -1,8 +1,9 @@
 -- A machine that has done nothing yet.
-use Rattle.std.proofs.Common.{◌≡◌, ℕ, nat_eq, zero, suc, ◌/◌, ◌<◌, arith, List, [], ◌∷◌, length, map, refl, sym, ap, ◌∙◌, cond, Bool, true, false, Option, Some, None, slice_get}
+use Rattle.std.proofs.Common.{◌≡◌, ℕ, nat_eq, zero, suc, ◌+◌, ◌/◌, ◌<◌, arith, List, [], ◌∷◌, length, map, refl, sym, ap, ◌∙◌, cond, Bool, true, false, Option, Some, None, is_some, slice_get}
 use Rattle.std.specs.List.{All}
+use Rattle.std.proofs.lemmas.Bool.{and_parts}
 use Rattle.std.proofs.lemmas.Option.{same_Some}
-use Rattle.std.specs.Option.{option_and_then, option_map_or}
+use Rattle.std.specs.Option.{option_and_then, option_map, option_map_or}
 use Rattle.mach_types.specs.Kernel.Pages.{can_read, can_write, is_in, permission_of}
 use Rattle.mach_types.specs.declared.limits.Limits.{Limits}
 use Rattle.mach_types.specs.declared.threads.Saved.{Saved}
@@ -13,7 +14,7 @@ use Rattle.elf_load.specs.declared.image.ImagePage.{ImagePage}
 use Rattle.hart_state.specs.declared.hart.HartState.{HartState}
 use Rattle.hart_state.specs.State.{idle_hart}
 use Rattle.kernel_threads.specs.Table.{IsTable, saved_of, start_table}
-use Rattle.page_map.specs.Map.{byte_in, may_write, permission_in}
+use Rattle.page_map.specs.Map.{break_in, break_start_in, free_in, held_in, may_write, permission_in}
 use Rattle.page_map.proofs.Laws.{write_alone}
 use Rattle.block_model.specs.Kernel.{first_kernel}
 use Rattle.block_model.specs.Plain.{plain_start}
@@ -24,7 +25,6 @@ use Rattle.block_model.specs.Deciding.{history}
 use Rattle.machine_core.specs.Harts.{credit_of, hart_at}
 use Rattle.machine_core.specs.Tied.{IsTied, generator_at}
 use Rattle.machine_core.specs.declared.parts.Parts.{Parts}
-use mathlib.Core.Path.{fun_ext}
 
 -- where all elements are one, each place has that one
 each : {X : Type 0} (x : X) (xs : List X) (i : ℕ) → All (λ y. y ≡ x) xs → i < length xs → slice_get xs i ≡ Some x
@@ -60,21 +60,36 @@ saved_if false start x is = cc
 saved_start : (start : Saved) (u : ℕ) (x : Saved) → saved_of u (start_table start).saved ≡ Some x → x ≡ start
 saved_start start u x is = saved_if (nat_eq 1 u) start x is
 
+-- a page that is mapped holds its byte
+held_if : (b : ℕ) (o : Option ℕ) → cond (is_some o) (Some b) None ≡ option_map (λ _. b) o
+held_if b None = refl
+held_if b (Some permission) = refl
+
 -- a machine at its start is tied to the plain machine at its start
 pub tied-start : (image : Image) (limits : Limits) (seed : ℕ) (m : Parts) → All (λ p. IsPermission p.perm) image.pages.items →
     ((n : ℕ) → permission_in m.pages n ≡ permission_of (start_runs image.pages.items) n) →
-    ((a : ℕ) → byte_in m.pages a ≡ cond (can_read (permission_of (start_runs image.pages.items) (a / 4096))) (Some (start_byte (program_of image) a)) None) →
+    ((a : ℕ) → held_in m.pages a ≡ cond (is_some (permission_of (start_runs image.pages.items) (a / 4096))) (Some (start_byte (program_of image) a)) None) →
+    free_in m.pages + 65 + length image.pages.items ≡ limits.frames → break_in m.pages ≡ image.break_at → break_start_in m.pages ≡ image.break_at →
     length m.harts.items ≡ limits.harts → All (λ hart. hart ≡ idle_hart) m.harts.items →
     m.kernel.threads ≡ start_table (start_file (program_of image)) → m.kernel.ready ≡ (first_kernel (setting_by image limits seed)).scheduling → m.kernel.console ≡ [] → IsTable m.kernel.threads → m.ended ≡ None →
     IsTied (setting_by image limits seed) (plain_start (setting_by image limits seed)) m
-tied-start image limits seed m allowed permissions bytes count idles threads ready console table ended = record {
+tied-start image limits seed m allowed permissions held free break_at break_start count idles threads ready console table ended = record {
   all_harts = count;
   harts = λ h lt.
       let at = each idle_hart m.harts.items h idles (omega (arith, count)) in
       let none : credit_of m.harts.items h ≡ 0 = ap (λ o. option_map_or (λ (x : HartState). x.credit) o 0) at in
       at ∙ (ap Some (idle (setting_by image limits seed) h) ∙ ap (λ n. Some (hart_at (setting_by image limits seed) (plain_start (setting_by image limits seed)) h n)) (sym none));
-  bytes = fun_ext bytes;
-  writable = fun_ext (λ a. ap may_write (permissions (a / 4096)) ∙ start_alone image.pages.items (a / 4096) allowed);
+  pages = record {
+    permissions = permissions;
+    held = λ a. held a ∙ held_if (start_byte (program_of image) a) (permission_of (start_runs image.pages.items) (a / 4096));
+    free = omega (arith, free);
+    break_at = break_at;
+    break_start = break_start;
+  };
+  readable = λ n may.
+      let o = permission_of (start_runs image.pages.items) n in
+      let whole : may_write o ≡ true = start_alone image.pages.items n allowed ∙ sym (ap can_write (permissions n)) ∙ may in
+      ap can_read (permissions n) ∙ (and_parts (can_read o) (can_write o) whole).0;
   threads = ap (λ t. t.threads) threads;
   scheduling = ready;
   console = console;

@@ -22,7 +22,7 @@ answer_ok made e (Some why) is = cc
 
 answer_err : (made : Entry) (why : Why) (o : Option Why) → answered made o ≡ Err why → unless made o ≡ Err (NotEnabled why)
 answer_err made why None is = cc
-answer_err made why (Some other) is = cc
+answer_err made why (Some found) is = cc
 
 -- a choice that is refused
 pub refused : (v : Seen) (m : Parts) (h : ℕ) (c : Choice) (r : Result Entry Why) (why : Why) → IsPlace v m h → r ≡ answer_to v h c → r ≡ Err why → decide v.setting (history v.setting v.log) h c ≡ Err (NotEnabled why)

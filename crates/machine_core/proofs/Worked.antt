@@ -1,5 +1,5 @@
 -- A stretch that is worked instruction by instruction.
-use Rattle.std.proofs.Common.{◌≡◌, ◌≢◌, ℕ, ◌+◌, ◌<◌, List, refl, sym, ap, ◌∙◌, arith, cond, false, true, Bool, zero, suc}
+use Rattle.std.proofs.Common.{◌≡◌, ℕ, ◌+◌, ◌<◌, List, refl, sym, ap, ◌∙◌, arith, cond, false, zero, suc}
 use Rattle.elf_load.specs.declared.image.ImagePage.{ImagePage}
 use Rattle.block_model.specs.Stretches.{Stretch, goes_on, gone_on, longest, stepped, worked}
 

@@ -4,7 +4,7 @@ use Rattle.std.specs.Option.{option_map, option_map_or}
 use Rattle.mach_types.specs.Registers.{no_registers}
 use Rattle.mach_types.specs.declared.threads.Saved.{Saved}
 use Rattle.hart_state.specs.declared.hart.HartState.{HartState}
-use Rattle.block_model.specs.Here.{Here, runs}
+use Rattle.block_model.specs.Here.{Here, runs, waiting_here}
 use Rattle.block_model.specs.Plain.{Plain, here_in_plain}
 use Rattle.block_model.specs.Setting.{Setting}
 use Rattle.block_model.specs.Sights.{thread}
@@ -21,7 +21,7 @@ abbrev pub hart_in : Here → ℕ → ℕ → ℕ → HartState
 hart_in here ran events credit = record {
   file = (file_on here (runs here)).file;
   pc = (file_on here (runs here)).pc;
-  buffer = here.waiting;
+  buffer = waiting_here here;
   running = option_map thread (runs here);
   requests = 0;
   restart = false;

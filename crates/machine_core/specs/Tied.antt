@@ -6,10 +6,11 @@ use Rattle.mach_types.specs.declared.events.Entry.{Entry}
 use Rattle.mach_types.specs.declared.events.Why.{Why}
 use Rattle.elf_load.specs.declared.image.ImagePage.{ImagePage}
 use Rattle.kernel_threads.specs.Table.{IsTable}
-use Rattle.page_map.specs.Map.{byte_in, can_write_in}
-use Rattle.sys_calls.specs.Made.{AreSaved}
+use Rattle.mach_types.specs.Kernel.Pages.{can_read, can_write}
+use Rattle.page_map.specs.Map.{Map, permission_in}
+use Rattle.sys_calls.specs.Made.{AreSaved, HoldsPages}
 use Rattle.block_model.specs.Setting.{Setting, Seen}
-use Rattle.block_model.specs.Here.{Done, memory_in, writable_in}
+use Rattle.block_model.specs.Here.{Done}
 use Rattle.block_model.specs.Events.{refusal_of, done_of}
 use Rattle.block_model.specs.Plain.{Plain, apply, here_of, plain_over, plain_seen}
 use Rattle.chooser.specs.Generators.{Generator, after_words, first_generator, generator_in}
@@ -21,13 +22,17 @@ use Rattle.machine_core.specs.Harts.{credit_of, hart_at}
 use Rattle.machine_core.specs.declared.parts.Parts.{Parts}
 use Rattle.machine_core.specs.declared.machine.Machine.TheInside.{Inside}
 
--- each part is that of the plain machine: the harts, but for their credits; memory; the threads with their files, the ready list and the console; and
--- how the run has ended
+-- what can be written can be read
+abbrev pub IsReadable : Map → Type 0
+IsReadable m = (n : ℕ) → can_write (permission_in m n) ≡ true → can_read (permission_in m n) ≡ true
+
+-- each part is that of the plain machine: the harts, but for their credits; the pages and their bytes; the threads with their
+-- files, the ready list and the console; and how the run has ended
 pub record IsTied (s : Setting) (p : Plain) (m : Parts) : Type 0 where
   pub all_harts : length m.harts.items ≡ s.limits.harts
   pub harts : (h : ℕ) → h < s.limits.harts → slice_get m.harts.items h ≡ Some (hart_at s p h (credit_of m.harts.items h))
-  pub bytes : byte_in m.pages ≡ memory_in p.kernel p.byte
-  pub writable : can_write_in m.pages ≡ writable_in p.kernel
+  pub pages : HoldsPages p.kernel.pages s.program.break_at p.byte m.pages
+  pub readable : IsReadable m.pages
   pub threads : m.kernel.threads.threads ≡ p.kernel.threads
   pub scheduling : m.kernel.ready ≡ p.kernel.scheduling
   pub console : m.kernel.console ≡ p.kernel.console

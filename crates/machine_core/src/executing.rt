@@ -14,21 +14,10 @@ use crate::code::Code;
 use crate::next::{Next, next_of};
 use crate::parts::{Parts, entry_of};
 use crate::reservations::lose_others;
-use hart_state::{HartState, Span};
-use mach_types::{Choice, End, Entry, Hart, Kind, Saved, Store, Why, Write};
+use hart_state::HartState;
+use mach_types::{Choice, End, Entry, Hart, Kind, Saved, Why};
 use rv_inst::Effect;
 use sys_calls::{CallEnd, make_call};
-
-/// The write of an instruction that enters memory at once, by its place: what is written is of no matter to a reservation.
-fn written_at(span: Span) -> Write
-    ensures { result ≡ Write.Stored (record { at = span.at; size = span.size; value = 0 }) }
-{
-    Write::Stored(Store {
-        at: span.at,
-        size: span.size,
-        value: 0,
-    })
-}
 
 impl Parts {
     /// The next instruction of the thread on a hart, where it may be executed, or the condition that fails.
@@ -40,7 +29,7 @@ impl Parts {
     {
         let state = &self.harts[hart.0 as usize];
         let next = next_of(code, &self.pages, state);
-        match state.exec_gate(next.effect.as_ref(), next.fault.is_some()) {
+        match self.exec_gate(hart, &next) {
             Some(why) => Err(why),
             None => Ok(next),
         }
@@ -67,12 +56,11 @@ impl Parts {
     {
         let state = &mut self.harts[hart.0 as usize];
         let entry = entry_of(hart, Kind::Exec, state);
-        let written = state.enters(effect);
-        state.perform(&mut self.pages, effect);
+        let made = state.execute(&self.pages, effect);
         state.ran += 1;
         state.events += 1;
-        if let Some(span) = written {
-            lose_others(&mut self.harts, hart, &[written_at(span)]);
+        if let Some(store) = made {
+            self.enter(hart, store);
         }
         entry
     }
@@ -114,6 +102,7 @@ impl Parts {
         end_call(state, done.end, saved);
         state.ran += 1;
         state.events += 1;
+        self.pages.keeps();
         lose_others(&mut self.harts, hart, done.written.as_slice());
         self.ended = self.end_after(done.end);
         entry

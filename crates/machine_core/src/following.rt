@@ -56,25 +56,20 @@ fn give_credit(harts: &mut Vec<HartState>, hart: Hart, choice: Choice, picked: O
     }
 }
 
-/// The same for an event of a hart of which this was seen before it, with a word of its generator where one decides. Where nothing
-/// was seen, since the log isn't one of choices, nothing changes.
-#[inline]
+/// The same for an event of a hart of which this was seen before it, with a word of its generator where one decides.
 pub fn follow(
     harts: &mut Vec<HartState>,
     chooser: &mut Chooser,
     hart: Hart,
     choice: Choice,
-    sight: Option<Sight>,
+    sight: &Sight,
 ) -> bool
     requires hart { hart.0 < 8 }
     requires held { hart.0 < length harts.old.items }
-    ensures followed { result ≡ is_followed sight chooser.old hart.0 choice }
-    ensures generators { chooser.new ≡ generators_after sight hart.0 chooser.old }
+    ensures followed { result ≡ is_followed (Some sight.now) chooser.old hart.0 choice }
+    ensures generators { chooser.new ≡ generators_after (Some sight.now) hart.0 chooser.old }
     ensures harts { (k : ℕ) → slice_get harts.new.items k
-        ≡ option_map (followed sight chooser.old hart.0 choice k) (slice_get harts.old.items k) }
+        ≡ option_map (followed (Some sight.now) chooser.old hart.0 choice k) (slice_get harts.old.items k) }
 {
-    match sight {
-        Some(sight) => give_credit(harts, hart, choice, chooser.next(hart, &sight)),
-        None => false,
-    }
+    give_credit(harts, hart, choice, chooser.next(hart, sight))
 }

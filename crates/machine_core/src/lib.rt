@@ -6,6 +6,7 @@
 mod code;
 mod executing;
 mod following;
+mod holding;
 mod machine;
 mod moving;
 mod next;

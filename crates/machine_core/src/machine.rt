@@ -16,7 +16,6 @@ mod lending;
 mod readers;
 
 use crate::code::Code;
-use crate::following::follow;
 use crate::parts::Parts;
 use block_model::Refused;
 use chooser::Chooser;
@@ -181,17 +180,12 @@ impl Machine {
         if hart.0 >= self.limits.harts {
             return Err(Refused::NotEnabled(Why::NoHart));
         }
-        let sight = self.sight_if_chosen(hart);
+        if self.is_chosen() {
+            return self.step_chosen(hart, choice);
+        }
         match self.parts.make(&self.code, hart, choice) {
             Ok(entry) => {
                 append(&mut self.log, entry);
-                self.chosen = follow(
-                    &mut self.parts.harts,
-                    &mut self.chooser,
-                    hart,
-                    choice,
-                    sight,
-                );
                 Ok(entry)
             }
             Err(why) => Err(Refused::NotEnabled(why)),

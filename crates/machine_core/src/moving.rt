@@ -1,14 +1,19 @@
 //! Events by which stores enter memory, and threads begin to run and leave.
 
-ghost use Rattle.std.specs.Prelude.{◌≡◌, None, IfOk, OnErr};
+ghost use Rattle.std.specs.Prelude.{◌≡◌, ℕ, [], ◌∷◌, None, true, IfOk, OnErr, nat_eq, slice_get};
+ghost use Rattle.std.specs.Option.{option_map};
+ghost use Rattle.mach_types.specs.Bytes.{IsAccessSize, each_byte};
+ghost use Rattle.page_map.specs.Map.{can_write_in};
 ghost use Rattle.block_model.specs.Setting.{Seen};
 ghost use Rattle.block_model.specs.Events.{done_of, refusal_of};
 ghost use Rattle.block_model.specs.Plain.{here_of};
+ghost use Rattle.machine_core.specs.Losing.{lost_unless};
+ghost use Rattle.machine_core.specs.Stored.{IsStored};
 ghost use Rattle.machine_core.specs.Tied.{IsPlace, HasPlace, MayMake, IsAfter, IsEvent, answer_to};
 
 use crate::parts::{Parts, entry_of};
 use crate::reservations::lose_others;
-use mach_types::{Choice, Entry, Hart, Kind, Tid, Why, Write};
+use mach_types::{Choice, Entry, Hart, Kind, Store, Tid, UserMem, Why, Write};
 
 impl Parts {
     /// Why no store of a hart can enter memory.
@@ -23,6 +28,21 @@ impl Parts {
         }
     }
 
+    /// A store of a hart, whose bytes can be written, enters memory: the other harts lose their reservations of its bytes.
+    #[inline]
+    pub fn enter(&mut self, hart: Hart, store: Store)
+        requires size { IsAccessSize store.size }
+        requires writable { each_byte (can_write_in self.old.pages) store.at store.size ≡ true }
+        ensures pages { IsStored store self.old.pages self.new.pages }
+        ensures harts { (k : ℕ) → slice_get self.new.harts.items k
+            ≡ option_map (lost_unless (nat_eq k hart.0) (Write.Stored store ∷ [])) (slice_get self.old.harts.items k) }
+        ensures kernel { self.new.kernel ≡ self.old.kernel }
+        ensures ended { self.new.ended ≡ self.old.ended }
+    {
+        let _ = self.pages.set(store.at, store.size, store.value);
+        lose_others(&mut self.harts, hart, &[Write::Stored(store)]);
+    }
+
     /// The oldest waiting store of a hart enters memory.
     fn drained(&mut self, hart: Hart) -> Entry
         requires { MayMake self.old hart.0 Choice.Drain }
@@ -30,10 +50,10 @@ impl Parts {
     {
         let state = &mut self.harts[hart.0 as usize];
         let entry = entry_of(hart, Kind::Drain, state);
-        let entered = state.drain(&mut self.pages);
+        let oldest = state.buffer.pop();
         state.events += 1;
-        if let Some(store) = entered {
-            lose_others(&mut self.harts, hart, &[Write::Stored(store)]);
+        if let Some(store) = oldest {
+            self.enter(hart, store);
         }
         entry
     }

@@ -5,7 +5,7 @@ ghost use Rattle.std.specs.Option.{option_copied, option_map_or};
 ghost use Rattle.rv_inst.specs.Sizes.{HasAccessSizes};
 ghost use Rattle.block_model.specs.Instruction.{fetched as word_fetched, effect_of, fetch_fault as fault_of_fetch, fault_by, next_effect, next_fault};
 ghost use Rattle.machine_core.specs.Harts.{file_of};
-ghost use Rattle.rv_inst.specs.Class.{sets_register};
+ghost use Rattle.rv_inst.specs.Class.{is_call, sets_register};
 ghost use Rattle.page_map.specs.Map.{byte_in, can_write_in};
 
 use crate::code::Code;
@@ -22,6 +22,13 @@ use rv_inst::{Effect, asks};
 pub struct Next {
     pub effect: Option<Effect>,
     pub fault: Option<u8>,
+}
+
+/// The word at a pc, where it was fetched, and what it asks for, where it has a row.
+#[derive(Clone, Copy, Debug, Drop)]
+struct Instruction {
+    word: Option<u32>,
+    effect: Option<Effect>,
 }
 
 /// The word at a pc: instructions stand at multiples of 4.
@@ -67,11 +74,25 @@ fn fault_of_next(
     }
 }
 
+/// The instruction at a pc, with these registers. Whoever looks at an instruction calls this one function, so decoding is in it.
+#[inline(never)]
+fn instruction_at(code: &Code, file: &Regs, pc: u64) -> Instruction
+    ensures word { result.word ≡ word_fetched code.now pc }
+    ensures effect { result.effect ≡ next_effect code.now (record { file = file.now; pc = pc }) }
+    ensures sizes { IfSome result.effect HasAccessSizes }
+{
+    let word = fetched(code, pc);
+    Instruction {
+        word,
+        effect: effect_of_word(word, file, pc),
+    }
+}
+
 /// What the instruction at a pc asks for, with these registers, where it was fetched and has a row.
 pub fn effect_at(code: &Code, file: &Regs, pc: u64) -> Option<Effect>
     ensures { result ≡ next_effect code.now (record { file = file.now; pc = pc }) }
 {
-    effect_of_word(fetched(code, pc), file, pc)
+    instruction_at(code, file, pc).effect
 }
 
 /// What the next instruction of the thread on a hart asks for, where it was fetched and has a row.
@@ -91,6 +112,14 @@ pub fn is_local(effect: Option<&Effect>) -> bool
     }
 }
 
+/// Whether an instruction with this effect is a system call.
+#[inline]
+pub fn is_call(effect: Option<&Effect>) -> bool
+    ensures { result ≡ option_map_or is_call (option_copied effect.entry) false }
+{
+    matches!(effect, Some(Effect::Call))
+}
+
 /// The next instruction of the thread on a hart.
 #[inline(always)]
 pub fn next_of(code: &Code, pages: &PageMap, state: &HartState) -> Next
@@ -98,10 +127,9 @@ pub fn next_of(code: &Code, pages: &PageMap, state: &HartState) -> Next
     ensures fault { result.fault ≡ next_fault code.now (byte_in pages.now) (can_write_in pages.now) (file_of state.now) }
     ensures sizes { IfSome result.effect HasAccessSizes }
 {
-    let word = fetched(code, state.pc);
-    let effect = effect_of_word(word, &state.file, state.pc);
+    let instruction = instruction_at(code, &state.file, state.pc);
     Next {
-        effect,
-        fault: fault_of_next(pages, state, word, effect),
+        effect: instruction.effect,
+        fault: fault_of_next(pages, state, instruction.word, instruction.effect),
     }
 }

@@ -5,6 +5,7 @@ mod calls;
 mod choosing;
 mod events;
 mod faults;
+mod pages;
 mod player;
 mod readers;
 mod reservations;

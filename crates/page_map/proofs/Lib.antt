@@ -9,4 +9,5 @@ mod Runs
 mod Starts
 mod Stores
 mod Tables
+mod Unrefused
 mod Writings

@@ -6,12 +6,12 @@ ghost use Rattle.mach_types.specs.Kernel.PageCalls.{answer_unless, break_run, fr
 ghost use Rattle.page_map.specs.Map.{break_in, break_start_in, code_in, free_in, held_in, held_over, page_in, page_over, permission_in};
 
 use crate::map::{PageMap, READ, WRITE};
-use mach_types::address_space::{MAPPING_START, PAGE_SIZE, USER_END};
+use mach_types::address_space::{FIRST_STACK_PAGE, MAPPING_START, PAGE_SIZE, USER_END};
 use mach_types::errors::{EACCES, EINVAL, ENOMEM};
 use mach_types::{Errno, MOST_PROT, PROT_EXEC, PROT_READ, PROT_WRITE};
 
 /// How many pages so many bytes fill, the last one maybe in part.
-fn pages_of(len: u64) -> u64
+pub fn pages_of(len: u64) -> u64
     ensures { result ≡ pages_of len }
 {
     len / PAGE_SIZE + u64::from(len % PAGE_SIZE != 0)
@@ -53,6 +53,7 @@ impl PageMap {
             ≡ run_over (run (at / 4096) (pages_of len) (Some (permission_for perm))) (permission_in self.old) n) }
         ensures held { IfOk result (λ at. (a : ℕ) → held_in self.new a
             ≡ held_over (run (at / 4096) (pages_of len) (Some (permission_for perm))) (held_in self.old) a) }
+        ensures ends { IfOk result (λ at. at / 4096 + pages_of len ≤ FIRST_STACK_PAGE) }
         ensures free { IfOk result (λ _. free_in self.new ≡ free_in self.old - pages_of len) }
         ensures code { (a : ℕ) → code_in self.new a ≡ code_in self.old a }
         ensures break_at { break_in self.new ≡ break_in self.old }
@@ -77,6 +78,19 @@ impl PageMap {
         }
     }
 
+    /// Why [`PageMap::unmap`] would be refused; None where it would not.
+    pub fn unmap_refusal(&self, at: u64, len: u64) -> Option<Errno>
+        ensures { result ≡ munmap_refusal (permission_in self.now) at len }
+    {
+        if at % PAGE_SIZE != 0 || len == 0 || ends_past(at, len) {
+            return Some(EINVAL);
+        }
+        if !self.is_without_code(at / PAGE_SIZE, pages_of(len)) {
+            return Some(EACCES);
+        }
+        None
+    }
+
     /// Removes the pages that are mapped, of those that so many bytes from an address on fill. Their frames are free
     /// again (munmap(2)).
     ///
@@ -95,16 +109,38 @@ impl PageMap {
         ensures break_at { break_in self.new ≡ break_in self.old }
         ensures break_start { break_start_in self.new ≡ break_start_in self.old }
     {
-        if at % PAGE_SIZE != 0 || len == 0 || ends_past(at, len) {
-            return Err(EINVAL);
+        if let Some(errno) = self.unmap_refusal(at, len) {
+            return Err(errno);
         }
         let first = at / PAGE_SIZE;
         let count = pages_of(len);
-        if !self.is_without_code(first, count) {
-            return Err(EACCES);
-        }
         self.remove_pages(first, count);
         Ok(())
+    }
+
+    /// Why [`PageMap::protect`] would be refused; None where it would not.
+    pub fn protect_refusal(&self, at: u64, len: u64, perm: u8) -> Option<Errno>
+        ensures { result ≡ mprotect_refusal (permission_in self.now) at len perm }
+    {
+        if at % PAGE_SIZE != 0 {
+            return Some(EINVAL);
+        }
+        if len == 0 {
+            return None;
+        }
+        if perm > MOST_PROT {
+            return Some(EINVAL);
+        }
+        if perm & PROT_EXEC != 0 {
+            return Some(EACCES);
+        }
+        if ends_past(at, len) || !self.is_mapped(at / PAGE_SIZE, pages_of(len)) {
+            return Some(ENOMEM);
+        }
+        if !self.is_without_code(at / PAGE_SIZE, pages_of(len)) {
+            return Some(EACCES);
+        }
+        None
     }
 
     /// Gives the pages that so many bytes from an address on fill the permission of a prot, as in [`PageMap::map`]; their
@@ -124,31 +160,25 @@ impl PageMap {
         ensures break_at { break_in self.new ≡ break_in self.old }
         ensures break_start { break_start_in self.new ≡ break_start_in self.old }
     {
-        if at % PAGE_SIZE != 0 {
-            return Err(EINVAL);
+        if let Some(errno) = self.protect_refusal(at, len, perm) {
+            return Err(errno);
         }
         if len == 0 {
             return Ok(());
         }
-        if perm > MOST_PROT {
-            return Err(EINVAL);
-        }
-        if perm & PROT_EXEC != 0 {
-            return Err(EACCES);
-        }
-        if ends_past(at, len) {
-            return Err(ENOMEM);
-        }
         let first = at / PAGE_SIZE;
         let count = pages_of(len);
-        if !self.is_mapped(first, count) {
-            return Err(ENOMEM);
-        }
-        if !self.is_without_code(first, count) {
-            return Err(EACCES);
-        }
         self.protect_pages(first, count, permission_for(perm));
         Ok(())
+    }
+
+    /// Whether the break may move to an address: from the lowest break to 0x2000000000, and, where it grows, only if a
+    /// frame is free for each page.
+    pub fn may_move_break(&self, at: u64) -> bool
+        ensures { result ≡ may_move_break (break_start_in self.now) (free_in self.now) (break_in self.now) at }
+    {
+        let grows_by = pages_of(at).saturating_sub(pages_of(self.break_at()));
+        self.break_start() <= at && at <= MAPPING_START && grows_by <= u64::from(self.free())
     }
 
     /// Moves the break to an address, where it may be there, and answers the break (brk(2)). It may be from the lowest
@@ -169,8 +199,7 @@ impl PageMap {
         ensures code { (a : ℕ) → code_in self.new a ≡ code_in self.old a }
         ensures break_start { break_start_in self.new ≡ break_start_in self.old }
     {
-        let grows_by = pages_of(at).saturating_sub(pages_of(self.break_at()));
-        if at < self.break_start() || at > MAPPING_START || grows_by > u64::from(self.free()) {
+        if !self.may_move_break(at) {
             return self.break_at();
         }
         if self.break_at() <= at {

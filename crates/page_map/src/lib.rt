@@ -15,6 +15,7 @@ mod table;
 mod tests;
 mod theorems;
 
+pub use calls::pages_of;
 pub use map::PageMap;
 pub use table::PageTable;
 pub use theorems::{

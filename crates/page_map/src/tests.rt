@@ -172,6 +172,7 @@ fn pages_are_removed_or_not(rt: HostRuntime) -> Result<(), Fail> {
     ];
     for (at, len, answer, free) in rows {
         let mut map = booted(rt.alloc())?;
+        assert_eq!(rt; map.unmap_refusal(at, len), answer.err(), "{at} {len}");
         assert_eq!(rt; map.unmap(at, len), answer, "{at} {len}");
         assert_eq!(rt; map.free(), free, "{at} {len}");
     }
@@ -196,6 +197,11 @@ fn pages_are_protected_or_not(rt: HostRuntime) -> Result<(), Fail> {
     ];
     for (at, len, prot, answer, permission) in rows {
         let mut map = booted(rt.alloc())?;
+        assert_eq!(rt;
+            map.protect_refusal(at, len, prot),
+            answer.err(),
+            "{at} {len} {prot}"
+        );
         assert_eq!(rt; map.protect(at, len, prot), answer, "{at} {len} {prot}");
         assert_eq!(rt; map.perm(DATA), permission, "{at} {len} {prot}");
     }
@@ -229,6 +235,7 @@ fn the_break_moves_round_holes(rt: HostRuntime) -> Result<(), Fail> {
         (DATA + 0x5000, DATA + 0x5000, 57),
     ];
     for (at, answer, free) in moves {
+        assert_eq!(rt; map.may_move_break(at), answer == at, "{at}");
         assert_eq!(rt; map.move_break(at), answer, "{at}");
         assert_eq!(rt; map.free(), free, "{at}");
     }

@@ -12,7 +12,7 @@ use Rattle.rseq_run.specs.Causes.{IsCauseOf}
 use Rattle.rseq_run.specs.Delivery.{IsPlayCause, IsScriptCause}
 use Rattle.rseq_run.specs.Programs.{Files, IsProgram, IsScript, IsTooBig, most_script_bytes, start_of}
 use Rattle.rseq_run.specs.Runs.{IsFirstBadLine}
-use Rattle.rseq_run.specs.Grammar.{Play}
+use Rattle.command_words.specs.Grammar.{Play}
 
 -- a count that rose after it didn't fall rose
 rose_later : (old mid new : ℕ) → NeverFalls old mid → NeverFalls mid new → Rose mid new → Rose old new
@@ -38,7 +38,7 @@ script_cause files same program script limits image old mid new Read is taken fi
       rose =
           rose_later (old script) (mid script) (new script) (first script) (second script) cause;
     })
-script_cause files same program script limits image old mid new Memory is taken first second cause = refl
+script_cause files same program script limits image old mid new Memory is taken first second cause = tt
 script_cause files same program script limits image old mid new Big is taken first second cause =
     inr (record {
       image = image;
@@ -61,7 +61,7 @@ play_cause files same program script lines text limits image old new Usage is eq
     absurd cause
 play_cause files same program script lines text limits image old new Read is equal taken read cause =
     absurd cause
-play_cause files same program script lines text limits image old new Memory is equal taken read cause = refl
+play_cause files same program script lines text limits image old new Memory is equal taken read cause = tt
 play_cause files same program script lines text limits image old new Big is equal taken read cause =
     absurd cause
 play_cause files same program script lines text limits image old new (Elf fault) is equal taken read cause =

@@ -98,12 +98,12 @@ pub booted_chosen : (s : Setting) (m : Seen) → m ≡ record { setting = s; log
 booted_chosen s m booted = subst (λ (v : Seen). IsChosen v.setting v.log) (sym booted) (chosen_start s)
 
 -- what was put in is the machine that was booted, and a pass has seen its log
-pub put_in : (s : Setting) (start shared : Shared) (m : Seen) → start ≡ shared → shared.machine ≡ m
-    → m ≡ record { setting = s; log = [] } → start.machine ≡ record { setting = s; log = [] }
-put_in s start shared m put is booted = ap (λ (x : Shared). x.machine) put ∙ is ∙ booted
+pub put_in : (s : Setting) (start shared : Shared) (m : Seen) → start ≡ shared → shared.machine.value ≡ m
+    → m ≡ record { setting = s; log = [] } → start.machine.value ≡ record { setting = s; log = [] }
+put_in s start shared m put is booted = ap (λ (x : Shared). x.machine.value) put ∙ is ∙ booted
 
-pub seen_first : (start shared : Shared) (seen : List Entry) → start ≡ shared → seen ≡ shared.machine.log → seen ≡ start.machine.log
-seen_first start shared seen put is = is ∙ ap (λ (x : Shared). x.machine.log) (sym put)
+pub seen_first : (start shared : Shared) (seen : List Entry) → start ≡ shared → seen ≡ shared.machine.value.log → seen ≡ start.machine.value.log
+seen_first start shared seen put is = is ∙ ap (λ (x : Shared). x.machine.value.log) (sym put)
 
 -- the machine that comes out of the turns of all workers, where the machine that went in was just booted: the log that they saw
 -- last, at which the run has ended, is the whole log

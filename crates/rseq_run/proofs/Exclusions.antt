@@ -23,7 +23,7 @@ use Rattle.rseq_run.specs.Runs.{IsFirstBadLine, IsPlayedRun}
 use Rattle.rseq_run.specs.Statuses.{fault_status}
 use Rattle.rseq_run.specs.Told.{TellsBadScript, TellsBig, TellsBigFile, TellsBoth, TellsFaulty}
 use Rattle.rseq_run.specs.Told.{TellsFaultyProgram, TellsGood, TellsGoodFiles}
-use Rattle.rseq_run.specs.Grammar.{Command, Solo, Play, Run}
+use Rattle.command_words.specs.Grammar.{Command, Solo, Play, Run}
 
 -- a file that is told was read as it is
 read_as_told : (files : Files) (name bytes told : List ℕ) → IsReadAs files name bytes → files name ≡ Some told

@@ -2,9 +2,6 @@ mod Causing
 mod Chosen
 mod Examples
 mod Exclusions
-mod Gathering
-mod Lines
-mod Numbers
 mod OneOutput
 mod Outcomes
 mod PlainOutputs
@@ -15,4 +12,3 @@ mod SoloSteps
 mod Stretches
 mod Taken
 mod Wholes
-mod WordExamples

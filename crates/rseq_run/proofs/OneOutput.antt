@@ -14,8 +14,8 @@ use Rattle.rseq_run.specs.Outputs.{IsOutputOf, IsPlainOutputOf, IsPlainPlayOutpu
 use Rattle.rseq_run.specs.Outputs.{plain_output}
 use Rattle.rseq_run.specs.Programs.{Files, IsProgram, asks_of, start_of}
 use Rattle.rseq_run.specs.Told.{AreTold, TellsGoodFiles}
-use Rattle.rseq_run.specs.Grammar.{Command, Solo, Play, Run}
-use Rattle.rseq_run.specs.Words.{is_run}
+use Rattle.command_words.specs.Grammar.{Command, Solo, Play, Run}
+use Rattle.command_words.specs.Words.{is_run}
 use Rattle.rseq_run.proofs.Exclusions.{AreUsed, used_by_output}
 use Rattle.rseq_run.proofs.PlainOutputs.{plain_output_of}
 

@@ -16,7 +16,7 @@ use Rattle.rseq_run.specs.Outputs.{IsOutput, IsOutputOf}
 use Rattle.rseq_run.specs.Programs.{Files}
 use Rattle.rseq_run.specs.Statuses.{fault_status}
 use Rattle.rseq_run.specs.Text.{fault_line}
-use Rattle.rseq_run.specs.Words.{command_of}
+use Rattle.command_words.specs.Words.{command_of}
 use Rattle.rseq_run.proofs.Exclusions.{fault_when_bad_line, fault_when_big, fault_when_faulty}
 use Rattle.rseq_run.proofs.Exclusions.{fault_when_good, unused_when_bad_line, unused_when_big}
 use Rattle.rseq_run.proofs.Exclusions.{unused_when_faulty, used_by_output}
@@ -55,7 +55,7 @@ cut_short call text status keeps due cut =
       done = not_both status 6 0 is (λ e. absurd cc);
       plain = not_both status 6 0 is (λ e. absurd cc);
       usage = not_both status 6 2 is (λ e. absurd cc);
-      usage_always = λ none. inr is;
+      usage_always = λ none. inr (inl is);
       elf = not_both status 6 3 is (λ e. absurd cc);
       elf_always = λ told none. absurd (none.1 cut.rose);
       script = not_both status 6 4 is (λ e. absurd cc);
@@ -152,12 +152,17 @@ module _ (call : Call) where
   big_said Big cause gained is = (cause, gained)
   big_said fault cause gained is = absurd cc
 
--- where there is no command, the fault is one of usage
+-- where there is no command, the fault is one of usage, or want of memory
 usage_alone : (files : Files) (old new : List ℕ → ℕ) (fault : Fault) → IsCauseOf files None old new fault
-    → fault_status fault ≡ 2
-usage_alone files old new Usage cause = refl
-usage_alone files old new Memory cause = absurd (cc cause)
+    → (fault_status fault ≡ 2) ⊎ (fault_status fault ≡ 7)
+usage_alone files old new Usage cause = inl refl
+usage_alone files old new Memory cause = inr refl
 usage_alone files old new fault cause = absurd cause
+
+or_six : (due status : ℕ) → status ≡ due → (due ≡ 2) ⊎ (due ≡ 7)
+    → (status ≡ 2) ⊎ (status ≡ 6) ⊎ (status ≡ 7)
+or_six due status is (inl at) = inl (is ∙ at)
+or_six due status is (inr at) = inr (inr (is ∙ at))
 
 -- the line of a fault was written
 written_line : (call : Call) (fault : Fault) (status : ℕ) → IsKept call
@@ -175,8 +180,8 @@ written_line call fault status keeps cause written =
       done = λ at. absurd (no_output_status fault (sym is ∙ at));
       plain = λ at. absurd (no_output_status fault (sym is ∙ at));
       usage = λ at. usage_said call fault cause written.gained (sym is ∙ at);
-      usage_always = λ none. inl (is
-          ∙ usage_alone call.files old new fault
+      usage_always = λ none. or_six (fault_status fault) status is
+          (usage_alone call.files old new fault
           (subst (λ c. IsCauseOf call.files c old new fault) none cause));
       elf = λ at. elf_said call fault cause written.gained (sym is ∙ at);
       elf_always = λ told none. is_now 3 7

@@ -11,7 +11,7 @@ use Rattle.rseq_run.specs.Outputs.{IsOutputOf, IsPlainOutputOf, IsPlainPlayOutpu
 use Rattle.rseq_run.specs.Outputs.{IsPlainRunOutput, IsPlayOutput, IsRunOutput, IsSoloOutput, log_output, plain_output}
 use Rattle.rseq_run.specs.Programs.{Files, start_of}
 use Rattle.rseq_run.specs.Runs.{IsSoloRun}
-use Rattle.rseq_run.specs.Grammar.{Command, Solo, Play, Run}
+use Rattle.command_words.specs.Grammar.{Command, Solo, Play, Run}
 
 -- a machine that says of a log what is read from it prints the log's text
 prints_alike : (s : Setting) (log : List Entry) (run : PlainRun) → run.log ≡ log → SaysOf s log run.machine

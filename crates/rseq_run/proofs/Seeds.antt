@@ -16,7 +16,7 @@ use Rattle.mach_types.specs.declared.user_memory.Store.{Store}
 use Rattle.mach_types.specs.Bytes.{written}
 use Rattle.block_model.specs.declared.refusals.Refused.TheVariants.{Full, NotEnabled}
 use Rattle.block_model.specs.Setting.{Setting}
-use Rattle.block_model.specs.Here.{Here, Done, memory, runs}
+use Rattle.block_model.specs.Here.{Here, Done, memory, runs, waiting_here}
 use Rattle.block_model.specs.Calls.{called}
 use Rattle.block_model.specs.Calls.Affinity.{getcpu, sched_getaffinity, sched_setaffinity, sched_yield}
 use Rattle.block_model.specs.Calls.Answers.{CallDone, argument, are_readable, call_number, number_at, refused, said}
@@ -24,6 +24,7 @@ use Rattle.block_model.specs.Calls.Cloning.{clone}
 use Rattle.block_model.specs.Calls.Console.{Span, all_readable, bytes_of, is_elsewhere, room, spans_at, total, write, write_spans, writev, wrote}
 use Rattle.block_model.specs.Calls.Ending.{exit, exit_group}
 use Rattle.block_model.specs.Calls.Futexes.{futex}
+use Rattle.block_model.specs.Calls.Memory.{brk, mmap, mprotect, munmap}
 use Rattle.block_model.specs.Calls.Numbers.{getpid, gettid, set_tid_address}
 use Rattle.block_model.specs.Events.{done_of, refusal_of}
 use Rattle.block_model.specs.Events.Drain.{done_drain_of}
@@ -95,7 +96,11 @@ module _ (n : ℕ) where
       else if number == 168 then getcpu here t
       else if number == 172 then getpid here t
       else if number == 178 then gettid here t
+      else if number == 214 then brk here t
+      else if number == 215 then munmap here t
       else if number == 220 then clone here t
+      else if number == 222 then mmap here t
+      else if number == 226 then mprotect here t
       else refused here t ENOSYS
 
   called_same : (here : Here) (t : ℕ) → called (moved here) t ≡ called here t
@@ -121,7 +126,7 @@ module _ (n : ℕ) where
 
   done_of_same : (c : Choice) (here : Here) → done_of c (moved here) ≡ done_of c here
   done_of_same asked.Exec here = exec_same here (runs here)
-  done_of_same asked.Drain here = drain_same here here.waiting
+  done_of_same asked.Drain here = drain_same here (waiting_here here)
   done_of_same asked.Take here = refl
   done_of_same asked.Done here = refl
   done_of_same asked.Preempt here = preempt_same here (runs here)

@@ -1,17 +1,17 @@
 -- Why a call gives no output.
-use Rattle.std.specs.Prelude.{ℕ, ◌≡◌, ◌⊎◌, List, Option, None, IsSome}
+use Rattle.std.specs.Prelude.{ℕ, ◌≡◌, ◌⊎◌, List, Option, None}
 use Rattle.mach_types.specs.declared.limits.Limits.{Limits}
 use Rattle.elf_load.specs.declared.fault.ElfFault.{ElfFault}
 use Rattle.elf_load.specs.declared.image.Image.{Image}
 use Rattle.outside.specs.Counts.{Rose}
 use Rattle.rseq_run.specs.declared.faults.Fault.{Fault}
 use Rattle.rseq_run.specs.declared.faults.Fault.TheVariants.{Usage, Read, Memory, Big, Elf, Script}
-use Rattle.rseq_run.specs.Grammar.{Command}
+use Rattle.command_words.specs.Grammar.{Command}
 use Rattle.rseq_run.specs.Needs as need
 use Rattle.rseq_run.specs.Programs.{Files, IsProgram, IsRefused, IsScript, IsTooBig, most_program_bytes}
 use Rattle.rseq_run.specs.Programs.{most_script_bytes, start_of}
 use Rattle.rseq_run.specs.Runs.{IsFirstBadLine}
-use Rattle.rseq_run.specs.Words.{command_of}
+use Rattle.command_words.specs.Words.{command_of}
 
 -- the program that is needed is refused for this fault
 abbrev pub IsRefusalOf : Files → need.Needs → ElfFault → Type 0
@@ -63,11 +63,11 @@ ReadFailed files (need.Program program limits) old new = Rose (old program) (new
 ReadFailed files (need.Script program script limits) old new =
     Rose (old program) (new program) ⊎ IsUnreadScript files program script limits old new
 
--- why a fault comes where a command is asked for; want of memory is free there
+-- why a fault comes where a command is asked for, or none; want of memory is free
 abbrev pub IsCauseOf : Files → Option Command → (List ℕ → ℕ) → (List ℕ → ℕ) → Fault → Type 0
 IsCauseOf files command old new Usage = command ≡ None
 IsCauseOf files command old new Read = ReadFailed files (need.needs_of command) old new
-IsCauseOf files command old new Memory = IsSome command
+IsCauseOf files command old new Memory = Unit {0}
 IsCauseOf files command old new Big = HasBigFile files (need.needs_of command)
 IsCauseOf files command old new (Elf fault) = IsRefusalOf files (need.needs_of command) fault
 IsCauseOf files command old new (Script number) = IsScriptRefusalOf files (need.needs_of command) number

@@ -1,13 +1,9 @@
 pub mod Answers
 pub mod Causes
 pub mod Delivery
-pub mod Grammar
-pub mod Kept
 pub mod Needs
-pub mod Options
 pub mod Outcome
 pub mod Outputs
-pub mod Parts
 pub mod Playing
 pub mod Programs
 pub mod Runs
@@ -15,4 +11,3 @@ pub mod Sharing
 pub mod Statuses
 pub mod Text
 pub mod Told
-pub mod Words

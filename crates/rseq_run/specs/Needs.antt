@@ -2,8 +2,8 @@
 -- commands.
 use Rattle.std.specs.Prelude.{ℕ, List, Option, Some, None}
 use Rattle.mach_types.specs.declared.limits.Limits.{Limits}
-use Rattle.rseq_run.specs.Grammar.{Command, Solo, Play, Run}
-use Rattle.rseq_run.specs.Words.{command_of}
+use Rattle.command_words.specs.Grammar.{Command, Solo, Play, Run}
+use Rattle.command_words.specs.Words.{command_of}
 
 -- nothing; the program in the file of this name, taken under these limits; or such a program, and the script
 -- in the file of the second name, which is read once the program was taken

@@ -11,7 +11,7 @@ use Rattle.rseq_run.specs.Outputs.{IsOutput, IsPlainOutput}
 use Rattle.rseq_run.specs.Programs.{Files}
 use Rattle.rseq_run.specs.Text.{fault_line}
 use Rattle.rseq_run.specs.Told.{TellsBadScript, TellsBigFile, TellsFaultyProgram, TellsGoodFiles}
-use Rattle.rseq_run.specs.Words.{command_of}
+use Rattle.command_words.specs.Words.{command_of}
 
 -- a call: its words, and its shelf and its sink before it and after it. Of a shelf that is the bytes of each
 -- file, where they are told, and a count of faults of each name; of a sink what it holds, where that is told,
@@ -88,9 +88,9 @@ pub record IsOutcome (call : Call) (status : ℕ) : Type 0 where
   -- 0: the sink gained the output of the words, which is the plain machine's too
   pub done : status ≡ 0 → Wrote call (IsOutput call.files call.words)
   pub plain : status ≡ 0 → Wrote call (IsPlainOutput call.files call.words)
-  -- 2: the words are of no command
+  -- 2: the words are of no command; it yields to a failed write and to want of memory
   pub usage : status ≡ 2 → (command_of call.words ≡ None) × WroteText call (fault_line Usage)
-  pub usage_always : command_of call.words ≡ None → (status ≡ 2) ⊎ (status ≡ 6)
+  pub usage_always : command_of call.words ≡ None → (status ≡ 2) ⊎ (status ≡ 6) ⊎ (status ≡ 7)
   -- 3: the program is refused
   pub elf : status ≡ 3 → Wrote call (IsElfLine call)
   pub elf_always : TellsFaultyProgram call.files (needs_in call.words)

@@ -11,8 +11,8 @@ use Rattle.block_model.specs.Replay.{Ask, script_of}
 use Rattle.rseq_run.specs.Programs.{Files, IsProgram, IsScript, asks_of, start_of}
 use Rattle.rseq_run.specs.Runs.{IsChosenRun, IsSoloRun, IsPlayedRun}
 use Rattle.rseq_run.specs.Text.{output_text}
-use Rattle.rseq_run.specs.Grammar.{Command, Solo, Play, Run}
-use Rattle.rseq_run.specs.Words.{command_of}
+use Rattle.command_words.specs.Grammar.{Command, Solo, Play, Run}
+use Rattle.command_words.specs.Words.{command_of}
 
 -- the output text of a log: its lines, and the console and the end that it comes to
 abbrev pub log_output : Setting → List Entry → List ℕ

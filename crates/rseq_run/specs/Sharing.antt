@@ -12,10 +12,10 @@ use Rattle.machine_core.specs.Stretches.{code_of}
 use Rattle.rseq_run.specs.declared.shared.Shared.{Shared}
 
 abbrev pub setting_in : Shared → Setting
-setting_in shared = shared.machine.setting
+setting_in shared = shared.machine.value.setting
 
 abbrev pub log_in : Shared → List Entry
-log_in shared = shared.machine.log
+log_in shared = shared.machine.value.log
 
 -- the entry of the hart's choice, if it has one
 abbrev pub next_in : Setting → List Entry → Hart → Option Entry

@@ -2,10 +2,7 @@
 //! it ended.
 #![tactic(auto)]
 
-mod arguments;
-mod commands;
 mod faults;
-mod options;
 mod output;
 mod play;
 mod run;
@@ -30,7 +27,7 @@ use top_call::rseq_main;
 
 /// Where the words can't be taken, nothing is printed, and only the exit status tells the fault.
 fn main(rt: HostRuntime) -> ExitCode {
-    match command_words(&rt) {
+    match system_words(&rt) {
         Ok(words) => ExitCode::from(answer(rt.alloc(), &rt, &words)),
         Err(fault) => ExitCode::from(fault.status()),
     }
@@ -49,7 +46,7 @@ fn answer<R: Threads + Wait + Sync + Files + Print + Copy>(
 
 /// The words of the command line without the program's own name. A word that isn't UTF-8 is a fault of
 /// usage.
-fn command_words(rt: &HostRuntime) -> Result<Vec<String>, Fault> {
+fn system_words(rt: &HostRuntime) -> Result<Vec<String>, Fault> {
     match env::args(rt) {
         Ok(args) => Ok(args.skip(1).collect(rt.alloc())?),
         Err(error) if error.kind() == ErrorKind::OutOfMemory => Err(Fault::Memory),

@@ -33,7 +33,7 @@ pub(crate) fn run_workers<R: Threads + Wait + Sync, G: Gate + Sync>(
     requires limits { InRange limits }
     ensures { IfOk result (IsWholeRun (setting_of image.now limits seed)) }
 {
-    let shared = Shared::new(Machine::boot(alloc, image, limits, seed)?);
+    let shared = Shared::new(alloc, Machine::boot(alloc, image, limits, seed)?)?;
     let (lock, mut pass) = Turnstile::new(alloc, shared, limits.harts)?;
     drive(alloc, rt, &lock, &mut pass, limits.harts, gate)?;
     Ok(lock.close(pass).into_machine())

@@ -1,6 +1,6 @@
 //! The machine that workers share: each entry of its log is the choice of its hart.
 
-ghost use Rattle.std.specs.Prelude.{◌≡◌, ◌≤◌, ◌<◌, ◌^◌, true, length};
+ghost use Rattle.std.specs.Prelude.{◌≡◌, ◌≤◌, ◌<◌, ◌^◌, true, length, IfOk};
 ghost use Rattle.block_model.specs.Choosing.{IsChosen, all_chosen};
 ghost use Rattle.block_model.specs.Deciding.{history};
 
@@ -12,30 +12,31 @@ use std::alloc::{AllocError, Global};
 /// A machine that workers share by turns: each entry of its log is the choice of `run` at its place. (own)
 #[derive(Drop)]
 pub(crate) struct Shared {
-    machine: Machine,
-    ghost few: { length machine.log ≤ machine.setting.limits.steps },
-    ghost small: { machine.setting.limits.steps < 2 ^ 32 },
-    ghost chosen: { all_chosen machine.setting (history machine.setting machine.log) ≡ true },
+    machine: Box<Machine>,
+    ghost few: { length machine.value.log ≤ machine.value.setting.limits.steps },
+    ghost small: { machine.value.setting.limits.steps < 2 ^ 32 },
+    ghost chosen: { all_chosen machine.value.setting (history machine.value.setting machine.value.log) ≡ true },
 }
 
 impl Shared {
-    /// Lets a machine be shared.
+    /// Lets a machine be shared. It stands behind a pointer, so that a turn doesn't move it.
     #[tactic(auto, unfolding(block_model::specs::Choosing::IsChosen))]
-    pub(crate) fn new(machine: Machine) -> Shared
+    pub(crate) fn new(alloc: Global, machine: Machine) -> Result<Shared, AllocError>
         requires chosen { IsChosen machine.setting machine.log }
         requires few { length machine.log ≤ machine.setting.limits.steps }
         requires small { machine.setting.limits.steps < 2 ^ 32 }
-        ensures machine { result.machine ≡ machine }
+        ensures machine { IfOk result (λ shared. shared.machine.value ≡ machine) }
     {
-        Shared { machine }
+        let machine = Box::new(alloc, machine)?;
+        Ok(Shared { machine })
     }
 
     /// The machine, which is shared no longer.
     pub(crate) fn into_machine(self) -> Machine
-        ensures machine { result ≡ self.machine }
+        ensures machine { result ≡ self.machine.value }
     {
         let Shared { machine } = self;
-        machine
+        Box::into_inner(machine)
     }
 }
 

@@ -58,7 +58,8 @@ fn make_seen(machine: &mut Machine) -> bool
     }
 }
 
-/// The rule's choice by what is seen of the hart; None where the hart is idle and no thread is ready.
+/// The rule's choice by what is seen of the hart; None where the hart is idle and no thread is ready, and where its thread's
+/// instruction isn't allowed and no store waits.
 fn seen_choice(seen: &Sight) -> Option<Choice>
     ensures { result ≡ solo_rule seen.now }
 {
@@ -66,10 +67,12 @@ fn seen_choice(seen: &Sight) -> Option<Choice>
         Some(Choice::Run(seen.first_ready?))
     } else if seen.deliverable && seen.stores == 0 {
         Some(Choice::Signal)
-    } else if seen.deliverable || !seen.exec_enabled {
+    } else if !seen.deliverable && seen.exec_enabled {
+        Some(Choice::Exec)
+    } else if seen.stores > 0 {
         Some(Choice::Drain)
     } else {
-        Some(Choice::Exec)
+        None
     }
 }
 

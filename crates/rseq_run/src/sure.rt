@@ -1,9 +1,9 @@
 //! The call over devices that never fail: no read fault and no write fault comes.
 
-ghost use Rattle.std.specs.Prelude.{◌≡◌, IfNone, IfSome, is_none};
+ghost use Rattle.std.specs.Prelude.{◌≡◌, true, IfNone, IfSome};
 ghost use Rattle.outside.specs.SureShelf.{sure_file};
 ghost use Rattle.rseq_run.specs.Outcome.{IsSureOutcome};
-ghost use Rattle.rseq_run.specs.Words.{command_of, is_run, texts};
+ghost use Rattle.command_words.specs.Words.{command_of, is_run, texts};
 
 use crate::top_call::{rseq_main, rseq_quiet};
 use outside::{Gate, SureShelf, SureSink};
@@ -27,15 +27,16 @@ pub fn sure_main<R: Threads + Wait + Sync, G: Gate + Sync>(
     rseq_main(alloc, rt, words, shelf, sink, gate)
 }
 
-/// `rseq_quiet` over files and a sink that never fail, with the same promises: None exactly where the words are
-/// a `run`.
+/// `rseq_quiet` over files and a sink that never fail, with the same promises: None only where the words are a
+/// `run`, and there nothing else but 7, for want of memory.
 pub fn sure_quiet(
     alloc: Global,
     words: &[String],
     shelf: &mut SureShelf,
     sink: &mut SureSink,
 ) -> Option<u8>
-    ensures none { is_none result ≡ is_run (command_of (texts words.now)) }
+    ensures none { IfNone result (is_run (command_of (texts words.now)) ≡ true) }
+    ensures run { is_run (command_of (texts words.now)) ≡ true → IfSome result (λ status. status ≡ 7) }
     ensures unused { IfNone result ((shelf.new ≡ shelf.old) × (sink.new ≡ sink.old)) }
     ensures outcome { IfSome result
         (IsSureOutcome (texts words.now) (sure_file shelf.old.files) sink.old.told sink.new.told) }

@@ -7,5 +7,4 @@ mod programs;
 mod refusals;
 mod replays;
 mod runs;
-mod words;
 mod workers;

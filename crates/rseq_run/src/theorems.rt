@@ -1,6 +1,6 @@
 //! Laws of the outputs, each as the contract of a function that does nothing.
 
-ghost use Rattle.std.specs.Prelude.{◌≡◌, ◌↔◌, false, ℕ, List, Option, None, Some};
+ghost use Rattle.std.specs.Prelude.{◌≡◌, false, ℕ, List, Option};
 ghost use Rattle.mach_types.specs.declared.limits.Limits.{Limits};
 ghost use Rattle.mach_types.specs.Limits.{InRange};
 ghost use Rattle.step_log.specs.Grammar.{log_text};
@@ -8,8 +8,8 @@ ghost use Rattle.rseq_run.specs.Needs.{needs_of};
 ghost use Rattle.rseq_run.specs.Outputs.{IsOutput, IsOutputOf, IsPlainOutput, IsPlayOutput, IsRunOutput, IsSoloOutput};
 ghost use Rattle.rseq_run.specs.Programs.{Files, IsReadAs};
 ghost use Rattle.rseq_run.specs.Told.{AreTold, TellsGoodFiles};
-ghost use Rattle.rseq_run.specs.Grammar.{Command, IsCommandLine};
-ghost use Rattle.rseq_run.specs.Words.{command_of, is_run};
+ghost use Rattle.command_words.specs.Grammar.{Command};
+ghost use Rattle.command_words.specs.Words.{is_run};
 
 /// The log lines of an output, read as a script by `play` with the same program and limits, are allowed at
 /// every line and give the same output text. The shelf of the later call has the same program, and those
@@ -47,17 +47,4 @@ pub fn told_files_have_one_output()
 pub fn plain_machine_prints()
     ensures { (files : Files) (words : List (List ℕ)) (written : List ℕ)
         → IsOutput files words written → IsPlainOutput files words written }
-{}
-
-/// The words are read by the grammar: they are a line of one command at most, which is the one that is read,
-/// and none is read exactly where they are a line of no command.
-pub fn words_are_of_one_command()
-    ensures of { (words : List (List ℕ)) (command : Command)
-        → command_of words ≡ Some command → IsCommandLine words command }
-    ensures read { (words : List (List ℕ)) (command : Command)
-        → IsCommandLine words command → command_of words ≡ Some command }
-    ensures one { (words : List (List ℕ)) (a b : Command)
-        → IsCommandLine words a → IsCommandLine words b → a ≡ b }
-    ensures none { (words : List (List ℕ))
-        → (command_of words ≡ None) ↔ ((command : Command) → ¬ (IsCommandLine words command)) }
 {}

@@ -1,24 +1,25 @@
 //! The top call: from words, files and a sink to a status.
 
-ghost use Rattle.std.specs.Prelude.{◌≡◌, true, Some, None, IfOk, IfErr, IfNone, IfSome, is_none};
+ghost use Rattle.std.specs.Prelude.{◌≡◌, true, Some, None, Err, IfOk, IfErr, IfNone, IfSome};
 ghost use Rattle.mach_types.specs.Limits.{InRange};
 ghost use Rattle.elf_load.specs.Images.{IsBootable};
 ghost use Rattle.outside.specs.Counts.{NeverFalls, NoneFalls};
+ghost use Rattle.rseq_run.specs.declared.faults.Fault.TheVariants.{Memory};
 ghost use Rattle.rseq_run.specs.Answers.{IsAnswer, IsTold};
 ghost use Rattle.rseq_run.specs.Causes.{IsCauseOf};
 ghost use Rattle.rseq_run.specs.Delivery.{IsDelivered, IsProgramCause, IsScriptCause};
-ghost use Rattle.rseq_run.specs.Grammar.{Play as PlayOf, Run as RunOf, Solo as SoloOf};
+ghost use Rattle.command_words.specs.Grammar.{Play as PlayOf, Run as RunOf, Solo as SoloOf};
 ghost use Rattle.rseq_run.specs.Outcome.{IsOutcome};
 ghost use Rattle.rseq_run.specs.Outputs.{IsPlayOutput, IsRunOutput, IsSoloOutput};
 ghost use Rattle.rseq_run.specs.Programs.{IsProgram, IsScript};
-ghost use Rattle.rseq_run.specs.Words.{command_of, is_run, texts};
+ghost use Rattle.command_words.specs.Words.{command_of, is_run, texts};
 
-use crate::commands::{Command, command_of};
 use crate::faults::Fault;
 use crate::output::output_text;
 use crate::play::play;
 use crate::run::run_workers;
 use crate::solo::run_solo;
+use command_words::{Command, command_of};
 use elf_load::{Image, load};
 use mach_types::Limits;
 use outside::{Gate, Shelf, Sink, emit, fetch};
@@ -72,8 +73,9 @@ pub fn rseq_main<R: Threads + Wait + Sync, S: Shelf, K: Sink, G: Gate + Sync>(
     }
 }
 
-/// The same for every command but `run`; None exactly where the words are a `run`, and then neither the shelf
-/// nor the sink was called.
+/// The same for every command but `run`; None only where the words are a `run`, and then neither the shelf nor
+/// the sink was called. Where they are a `run` and memory runs out before that is known, the line of that fault
+/// is written at status 7.
 ///
 /// It takes no runtime, so it waits for nobody and returns.
 pub fn rseq_quiet<S: Shelf, K: Sink>(
@@ -82,7 +84,9 @@ pub fn rseq_quiet<S: Shelf, K: Sink>(
     shelf: &mut S,
     sink: &mut K,
 ) -> Option<u8>
-    ensures none { is_none result ≡ is_run (command_of (texts words.now)) }
+    ensures none { IfNone result (is_run (command_of (texts words.now)) ≡ true) }
+    ensures run { is_run (command_of (texts words.now)) ≡ true → IfSome result (IsTold (K.held sink.old)
+        (K.held sink.new) (K.faults sink.old) (K.faults sink.new) (Err Memory)) }
     ensures unused { IfNone result ((shelf.new ≡ shelf.old) × (sink.new ≡ sink.old)) }
     ensures outcome { IfSome result (IsOutcome (record {
       words = texts words.now;
@@ -101,32 +105,39 @@ pub fn rseq_quiet<S: Shelf, K: Sink>(
     Some(tell(sink, answer))
 }
 
-/// The output of the words, or the fault that is due; None exactly where the words are a `run`. All memory is
-/// taken here.
+/// The output of the words, or the fault that is due. Where the words are a `run` that is None, or want of memory
+/// before that is known. All memory is taken here.
 fn quiet_answer<S: Shelf>(
     alloc: Global,
     words: &[String],
     shelf: &mut S,
 ) -> Option<Result<Vec<u8>, Fault>>
-    ensures none { is_none result ≡ is_run (command_of (texts words.now)) }
-    ensures unused { IfNone result (shelf.new ≡ shelf.old) }
+    ensures none { IfNone result (is_run (command_of (texts words.now)) ≡ true) }
+    ensures run { is_run (command_of (texts words.now)) ≡ true
+        → IfSome result (λ answer. answer ≡ Err Memory) }
+    ensures unread { is_run (command_of (texts words.now)) ≡ true → shelf.new ≡ shelf.old }
     ensures answer { IfSome result
         (IsAnswer (S.file shelf.old) (texts words.now) (S.faults shelf.old) (S.faults shelf.new)) }
     ensures untouched { command_of (texts words.now) ≡ None → shelf.new ≡ shelf.old }
     ensures files { S.file shelf.new ≡ S.file shelf.old }
     ensures counts { NoneFalls (S.faults shelf.old) (S.faults shelf.new) }
 {
-    match command_of(words) {
-        Some(Command::Solo { program, limits }) => Some(solo_text(alloc, program, limits, shelf)),
-        Some(
-            Command::Play {
-                program,
-                script,
-                limits,
-            },
+    match command_of(alloc, words) {
+        Ok(Some(Command::Solo { program, limits })) => {
+            Some(solo_text(alloc, program, limits, shelf))
+        }
+        Ok(
+            Some(
+                Command::Play {
+                    program,
+                    script,
+                    limits,
+                },
+            ),
         ) => Some(play_text(alloc, program, script, limits, shelf)),
-        Some(Command::Run { .. }) => None,
-        None => Some(Err(Fault::Usage)),
+        Ok(Some(Command::Run { .. })) => None,
+        Ok(None) => Some(Err(Fault::Usage)),
+        Err(_) => Some(Err(Fault::Memory)),
     }
 }
 
@@ -143,15 +154,18 @@ fn run_answer<R: Threads + Wait + Sync, S: Shelf, G: Gate + Sync>(
     ensures files { S.file shelf.new ≡ S.file shelf.old }
     ensures counts { NoneFalls (S.faults shelf.old) (S.faults shelf.new) }
 {
-    match command_of(words) {
-        Some(
-            Command::Run {
-                program,
-                limits,
-                seed,
-            },
+    match command_of(alloc, words) {
+        Ok(
+            Some(
+                Command::Run {
+                    program,
+                    limits,
+                    seed,
+                },
+            ),
         ) => run_text(alloc, rt, program, limits, seed, shelf, gate),
-        Some(Command::Solo { .. } | Command::Play { .. }) | None => unreachable!(),
+        Ok(Some(Command::Solo { .. } | Command::Play { .. }) | None) => unreachable!(),
+        Err(_) => Err(Fault::Memory),
     }
 }
 

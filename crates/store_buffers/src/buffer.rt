@@ -5,7 +5,7 @@ ghost use Rattle.std.specs.List.{Any};
 ghost use Rattle.mach_types.specs.Bytes.{IsAccessSize, word_at};
 ghost use Rattle.mach_types.specs.declared.user_memory.TheConstants.{STORE_BUFFER_CAPACITY};
 ghost use Rattle.store_buffers.specs.View.{seen};
-ghost use Rattle.store_buffers.specs.Pages.{HasByteIn};
+ghost use Rattle.store_buffers.specs.Pages.{HasByteAmong, HasByteIn};
 
 use crate::forwarding;
 use circular_buffer::HeapCircularBuffer;
@@ -101,7 +101,15 @@ impl StoreBuffer {
     pub fn touches(&self, page: u64) -> bool
         ensures { IsTrue result ↔ Any (HasByteIn page) self.now }
     {
+        self.touches_any(page, 1)
+    }
+
+    /// Whether some byte of a waiting store lies in one of `count` pages, from the page with number `first` on. Takes the time of
+    /// the stores alone, however many pages they are.
+    pub fn touches_any(&self, first: u64, count: u64) -> bool
+        ensures { IsTrue result ↔ Any (HasByteAmong first count) self.now }
+    {
         let (front, back) = self.ring.as_slices();
-        forwarding::touch_either(front, back, page)
+        forwarding::touch_either(front, back, first, count)
     }
 }

@@ -3,7 +3,7 @@
 ghost use Rattle.std.specs.Prelude.{◌≡◌, ℕ, ◌+◌, ◌-◌, ◌*◌, ◌/◌, ◌%◌, ◌^◌, ◌<◌, ◌≤◌, ◌↔◌, ◌++◌, IsTrue};
 ghost use Rattle.std.specs.List.{AllByRecursion, Any, list_any};
 ghost use Rattle.mach_types.specs.Bytes.{IsAccessSize, byte_of, byte_over, overlay};
-ghost use Rattle.store_buffers.specs.Pages.{HasByteIn, is_in_page};
+ghost use Rattle.store_buffers.specs.Pages.{HasByteAmong, is_among};
 ghost use Rattle.store_buffers.specs.Words.{with_bytes};
 
 use mach_types::Store;
@@ -96,35 +96,35 @@ pub(crate) fn after_stores(word: u64, at: u64, size: u8, stores: &[Store]) -> u6
     word
 }
 
-/// Whether a byte of the store lies in the page of this number.
-fn is_in_page(store: &Store, page: u64) -> bool
+/// Whether a byte of the store lies in one of `count` pages, from page `first` on.
+fn is_among(store: &Store, first: u64, count: u64) -> bool
     requires { IsAccessSize store.now.size }
-    ensures { result ≡ is_in_page page store.now }
+    ensures { result ≡ is_among first count store.now }
 {
-    let first = store.at / PAGE_SIZE;
-    let last = first + (store.at % PAGE_SIZE + u64::from(store.size - 1)) / PAGE_SIZE;
-    first <= page && page <= last
+    let lowest = store.at / PAGE_SIZE;
+    let highest = lowest + (store.at % PAGE_SIZE + u64::from(store.size - 1)) / PAGE_SIZE;
+    first <= highest && lowest.saturating_sub(first) < count
 }
 
-/// Whether a byte of some of the stores lies in the page of this number.
-fn touch(stores: &[Store], page: u64) -> bool
+/// Whether a byte of some of the stores lies in one of `count` pages, from page `first` on.
+fn touch(stores: &[Store], first: u64, count: u64) -> bool
     requires { AllByRecursion (λ s. IsAccessSize s.size) stores.now }
-    ensures { result ≡ list_any (is_in_page page) stores.now }
+    ensures { result ≡ list_any (is_among first count) stores.now }
 {
     for store in stores {
-        if is_in_page(store, page) {
+        if is_among(store, first, count) {
             return true;
         }
     }
     false
 }
 
-/// Whether some byte of these stores lies in the page of this number.
-pub(crate) fn touch_either(front: &[Store], back: &[Store], page: u64) -> bool
+/// Whether some byte of these stores lies in one of `count` pages, from page `first` on.
+pub(crate) fn touch_either(front: &[Store], back: &[Store], first: u64, count: u64) -> bool
     requires { AllByRecursion (λ s. IsAccessSize s.size) (front.now ++ back.now) }
-    ensures { IsTrue result ↔ Any (HasByteIn page) (front.now ++ back.now) }
+    ensures { IsTrue result ↔ Any (HasByteAmong first count) (front.now ++ back.now) }
 {
-    let in_front = touch(front, page);
-    let in_back = touch(back, page);
+    let in_front = touch(front, first, count);
+    let in_back = touch(back, first, count);
     in_front || in_back
 }

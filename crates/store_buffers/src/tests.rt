@@ -158,6 +158,20 @@ fn store_across_pages_is_seen(rt: HostRuntime) -> Result<(), Fail> {
 }
 
 #[test]
+fn pages_are_touched_together(rt: HostRuntime) -> Result<(), Fail> {
+    let mut buffer = StoreBuffer::new(rt.alloc())?;
+    assert!(rt; !buffer.touches_any(0, u64::MAX));
+    buffer.push(store(0x3ffc, 8, 0x0102_0304_0506_0708));
+    assert!(rt; !buffer.touches_any(0, 3));
+    assert!(rt; buffer.touches_any(0, 4));
+    assert!(rt; buffer.touches_any(3, 1));
+    assert!(rt; buffer.touches_any(4, 1 << 26));
+    assert!(rt; !buffer.touches_any(5, u64::MAX));
+    assert!(rt; !buffer.touches_any(4, 0));
+    Ok(())
+}
+
+#[test]
 fn unreadable_memory_is_not_seen(rt: HostRuntime) -> Result<(), Fail> {
     let mut buffer = StoreBuffer::new(rt.alloc())?;
     buffer.push(store(0x0fff, 2, 0x5a5a));

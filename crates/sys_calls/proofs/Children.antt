@@ -60,6 +60,10 @@ pub asked_console : (h : Here) (t : ℕ) (b : Bool) → (cond b (cleared (next_n
 asked_console h t true = refl
 asked_console h t false = refl
 
+pub asked_pages : (h : Here) (t : ℕ) (b : Bool) → (cond b (cleared (next_number h.kernel) (argument h t 4) (had_child t h.kernel)) (had_child t h.kernel)).pages ≡ h.kernel.pages
+asked_pages h t true = refl
+asked_pages h t false = refl
+
 -- who runs where
 pub asked_runs : (j u at : ℕ) (ts : Threads) (b : Bool) → running_on j (cond b (with_clear u at ts) ts) ≡ running_on j ts
 asked_runs j u at ts true = cleared_runs j u at ts

@@ -1,4 +1,4 @@
--- The calls by their numbers: what each may read, and which of them write nothing.
+-- The calls by their numbers: what the tables hold for each, and which of them write nothing.
 use Rattle.std.proofs.Common.{◌≡◌, ℕ, ◌%◌, min, Bool, true, false, not, ◌||◌, cond, eqb, leb, [], refl, sym, ap, ◌∙◌}
 use Rattle.mach_types.specs.declared.events.Hart.{Hart}
 use Rattle.mach_types.specs.declared.events.Tid.{Tid}
@@ -15,14 +15,11 @@ use Rattle.mach_types.specs.declared.address_space.TheConstants.{USER_END}
 use Rattle.mach_types.specs.declared.errors.TheConstants.{EAGAIN, EFAULT, EINVAL, ENOSYS, EPERM, ESRCH}
 use Rattle.mach_types.specs.Registers.{register}
 use Rattle.sys_calls.specs.declared.kernel.Kernel.{Kernel}
-use Rattle.sys_calls.specs.Answered.{IsRead, IsTold}
+use Rattle.sys_calls.specs.Answered.{IsTold}
 use Rattle.sys_calls.specs.Made.{IsAt}
 
 pub told_at : (h : Here) (k : Kernel) (m : Map) (here : Hart) (harts : ℕ) (tid : Tid) (saved : Saved) → IsAt h k m here harts tid saved → IsTold h k
 told_at h k m here harts tid saved at = record { threads = at.threads; scheduling = at.scheduling; console = at.console }
-
-pub read_at : (h : Here) (k : Kernel) (m : Map) (here : Hart) (harts : ℕ) (tid : Tid) (saved : Saved) → IsAt h k m here harts tid saved → IsRead h m tid.0 saved
-read_at h k m here harts tid saved at = record { bytes = at.bytes; writable = at.writable; file = at.file }
 
 -- the call that the number names
 pub numbered : (h : Here) (t n i : ℕ) (saved : Saved) → saved ≡ h.file t → n ≡ register saved.file 17 → n ≡ i → called h t ≡ call_of i h t

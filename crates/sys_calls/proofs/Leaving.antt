@@ -20,8 +20,8 @@ use Rattle.sys_calls.specs.Answered.{IsCaller}
 use Rattle.sys_calls.specs.declared.calling.CallEnd.{CallEnd}
 use Rattle.sys_calls.specs.declared.calling.CallEnd.TheVariants as over
 use Rattle.sys_calls.specs.declared.kernel.Kernel.{Kernel}
-use Rattle.sys_calls.specs.Made.{AreSaved, IsAnswer, IsMade, StandsSo, gives_up, process_end}
-use Rattle.sys_calls.proofs.Entering.{entered_none}
+use Rattle.sys_calls.specs.Made.{AreSaved, HasPages, IsAnswer, IsMade, StandsSo, gives_up, process_end}
+use Rattle.sys_calls.proofs.Entering.{entered_none, pages_kept}
 use Rattle.sys_calls.proofs.Saying.{own_first}
 use Rattle.sys_calls.proofs.Tables.{runs_there}
 
@@ -38,24 +38,20 @@ pub kept_left : (t : ℕ) (x : Saved) (file : ℕ → Saved) (before after : Tab
 kept_left t x file before after is all u y at =
     left_one t u x (file u) y before.saved (ap (saved_of u) (sym is) ∙ at) (all u y) (eqb t u) refl
 
--- a call whose thread gave up its hart with the answer 0, and which changed the record so
-pub made_gone : (h : Here) (t here : ℕ) (k k' : Kernel) (m : Map) (saved' : Saved) (end : CallEnd) (after : record_of.Kernel) → h.hart ≡ here
+-- a call whose thread gave up its hart with the answer 0, and which changed the record so, but not its pages
+pub made_gone : (h : Here) (t here : ℕ) (k k' : Kernel) (m : Map) (saved' : Saved) (end : CallEnd) (after : record_of.Kernel) → h.hart ≡ here → HasPages h m → after.pages ≡ h.kernel.pages
     → k'.threads.threads ≡ after.threads → k'.ready ≡ after.scheduling → k'.console ≡ after.console → k'.threads.saved ≡ with_saved t (Some saved') k.threads.saved
     → saved' ≡ returned 0 (h.file t) → running_on here after.threads ≡ None → gives_up end ≡ true → StandsSo end t after.threads → process_end end ≡ None → IsAnswer end saved'
     → IsMade h t k m k' m saved' end (record (said h t 0) { kernel = after })
-made_gone h t here k k' m saved' end after hart threads ready console kept file idle gives stands ends answers =
-    let none = entered_none m in
+made_gone h t here k k' m saved' end after hart has same_pages threads ready console kept file idle gives stands ends answers =
     record {
       threads = threads;
       scheduling = ready;
       console = console;
       kept = λ all. kept_left t (returned 0 (h.file t)) h.file k.threads k'.threads (kept ∙ ap (λ (x : Saved). with_saved t (Some x) k.threads.saved) file) all;
       own = file ∙ sym (own_first t (returned 0 (h.file t)) (h.file t) []);
-      bytes = none.bytes;
-      code = none.code;
-      permissions = none.permissions;
-      free = none.free;
-      break_at = none.break_at;
+      pages = pages_kept h m m (record (said h t 0) { kernel = after }) (entered_none m) same_pages has;
+      code = λ a. refl;
       hart = ap (λ n. running_on n after.threads) hart ∙ idle ∙ ap (λ (b : Bool). cond b None (Some t)) (sym gives);
       stands = stands;
       ended = ends;
@@ -63,15 +59,15 @@ made_gone h t here k k' m saved' end after hart threads ready console kept file 
     }
 
 -- a thread left its hart, and is ready; before, the record was this one
-pub made_left : (h : Here) (t here : ℕ) (k k1 k' : Kernel) (m : Map) (saved saved' : Saved) (end : CallEnd) (before : record_of.Kernel) → h.hart ≡ here → saved ≡ h.file t
+pub made_left : (h : Here) (t here : ℕ) (k k1 k' : Kernel) (m : Map) (saved saved' : Saved) (end : CallEnd) (before : record_of.Kernel) → h.hart ≡ here → HasPages h m → before.pages ≡ h.kernel.pages → saved ≡ h.file t
     → k1.threads.threads ≡ before.threads → k1.ready ≡ before.scheduling → k1.console ≡ before.console → k1.threads.saved ≡ k.threads.saved → IsCaller k1 here t
     → saved' ≡ returned 0 saved → k'.threads.threads ≡ with_state t Ready k1.threads.threads → k'.threads.saved ≡ with_saved t (Some saved') k1.threads.saved
     → k'.ready ≡ with_ready t k1.ready → k'.console ≡ k1.console → end ≡ over.Leave (pos 0) → register saved'.file 10 ≡ 0
     → IsMade h t k m k' m saved' end (record (said h t 0) { kernel = left t before })
-made_left h t here k k1 k' m saved saved' end before hart file threads ready console same caller after threads' saved'is ready' console' is a0 =
+made_left h t here k k1 k' m saved saved' end before hart has same_pages file threads ready console same caller after threads' saved'is ready' console' is a0 =
     let ready_now = ap (λ (ts : Threads). state_of t (with_state t Ready ts)) (sym threads) ∙ state_now t Ready (on here) k1.threads.threads (runs_there k1 here t caller) in
     let idle = left_idle caller.tables.0 here t k1.threads.threads k1.ready caller.tables.1 caller.runs in
-    made_gone h t here k k' m saved' end (left t before) hart
+    made_gone h t here k k' m saved' end (left t before) hart has same_pages
     (threads' ∙ ap (with_state t Ready) threads) (ready' ∙ ap (with_ready t) ready) (console' ∙ console)
     (saved'is ∙ ap (with_saved t (Some saved')) same) (after ∙ ap (returned 0) file)
     (ap (λ (ts : Threads). running_on here (with_state t Ready ts)) (sym threads) ∙ idle)

@@ -8,9 +8,7 @@ use Rattle.mach_types.specs.Kernel.Scheduling.{Scheduling}
 use Rattle.mach_types.specs.Kernel.Threads.{Threads, running_on, runs}
 use Rattle.kernel_threads.specs.Table.{Table, forget, saved_of}
 use Rattle.kernel_threads.proofs.Laws.{saved_of-forget_other, saved_of-forget_same}
-use Rattle.std.specs.Option.{option_map}
-use Rattle.mach_types.specs.Bytes.{written as written_by}
-use Rattle.page_map.specs.Map.{Map, byte_in}
+use Rattle.page_map.specs.Map.{Map}
 use Rattle.block_model.specs.Here.{Here}
 use Rattle.block_model.specs.History.{file_among}
 use Rattle.block_model.specs.Calls.Answers.{CallDone, said, returned}
@@ -20,8 +18,8 @@ use Rattle.block_model.proofs.Laws.{running_is}
 use Rattle.sys_calls.specs.declared.calling.CallEnd.{CallEnd}
 use Rattle.sys_calls.specs.declared.kernel.Kernel.{Kernel}
 use Rattle.sys_calls.specs.Answered.{AreTables, IsAnswered, IsCaller, IsEntered, IsTold, answer_of}
-use Rattle.sys_calls.specs.Made.{AreSaved, IsAnswer, IsMade, StandsSo, gives_up, process_end}
-use Rattle.sys_calls.proofs.Entering.{entered_none}
+use Rattle.sys_calls.specs.Made.{AreSaved, HasPages, IsAnswer, IsMade, StandsSo, gives_up, process_end}
+use Rattle.sys_calls.proofs.Entering.{entered_none, pages_entered}
 
 -- an answer, and writes
 pub answered_wrote : (h : Here) (t : ℕ) (k : Kernel) (m m' : Map) (answer : Result ℕ Errno) (ws : List Write) → IsTold h k → IsEntered m m' ws
@@ -30,7 +28,8 @@ answered_wrote h t k m m' answer ws told entered = record {
   threads = told.threads;
   scheduling = told.scheduling;
   console = told.console;
-  pages = entered;
+  pages = pages_entered h m m' ws entered;
+  code = entered.code;
   told = refl;
   hart = refl;
   goes_on = refl;
@@ -54,7 +53,8 @@ answered_printed h t k k' m answer bytes c told threads ready console count is =
       threads = ap (λ (table : Table). table.threads) threads ∙ told.threads;
       scheduling = ready ∙ told.scheduling;
       console = console ∙ ap (λ (c : List ℕ). c ++ bytes) told.console;
-      pages = entered_none m;
+      pages = λ has. has;
+      code = λ a. refl;
       told = refl;
       hart = refl;
       goes_on = refl;
@@ -91,9 +91,9 @@ answered_runs h t here k k' m m' written answer c hart told caller done tables =
 
 -- what a call comes to that answers
 pub made_answered : (h : Here) (t here : ℕ) (k k' : Kernel) (m m' : Map) (saved saved' : Saved) (written : List Write) (answer : Result ℕ Errno) (end : CallEnd) (c : CallDone)
-    → h.hart ≡ here → IsTold h k → saved ≡ h.file t → IsCaller k here t → IsAnswered h t k m k' m' written answer c → AreTables k'
+    → h.hart ≡ here → IsTold h k → HasPages h m → saved ≡ h.file t → IsCaller k here t → IsAnswered h t k m k' m' written answer c → AreTables k'
     → saved' ≡ returned (answer_of answer) saved → gives_up end ≡ false → ((u : ℕ) (ts : Threads) → runs ts u → StandsSo end u ts) → process_end end ≡ None → IsAnswer end saved' → IsMade h t k m k' m' saved' end c
-made_answered h t here k k' m m' saved saved' written answer end c hart told file caller done tables after stays runs_on ends answers =
+made_answered h t here k k' m m' saved saved' written answer end c hart told has file caller done tables after stays runs_on ends answers =
     let own : List (ℕ × Saved) = (t, returned (answer_of answer) (h.file t)) ∷ done.others in
     let files : c.files ≡ own = done.files in
     record {
@@ -104,11 +104,8 @@ made_answered h t here k k' m m' saved saved' written answer end c hart told fil
           (kept_own t (returned (answer_of answer) (h.file t)) h.file done.others k'.threads (done.quiet caller.quiet) (done.kept all));
       own = after ∙ ap (returned (answer_of answer)) file ∙ sym (own_first t (returned (answer_of answer) (h.file t)) (h.file t) done.others)
           ∙ ap (λ (fs : List (ℕ × Saved)). file_among fs t (h.file t)) (sym files);
-      bytes = λ a. subst (λ (ws : List Write). byte_in m' a ≡ option_map (written_by ws a) (byte_in m a)) done.told (done.pages.bytes a);
-      code = done.pages.code;
-      permissions = done.pages.permissions;
-      free = done.pages.free;
-      break_at = done.pages.break_at;
+      pages = done.pages has;
+      code = done.code;
       hart = done.hart ∙ ap (λ n. running_on n h.kernel.threads) hart ∙ ap (running_on here) (sym told.threads) ∙ caller.runs
           ∙ ap (λ (b : Bool). cond b None (Some t)) (sym stays);
       stands = runs_on t c.kernel.threads (answered_runs h t here k k' m m' written answer c hart told caller done tables);
@@ -127,7 +124,8 @@ answered_scheduled h t k k' m answer sc told threads ready console = record {
   threads = ap (λ (table : Table). table.threads) threads ∙ told.threads;
   scheduling = ready;
   console = console ∙ told.console;
-  pages = entered_none m;
+  pages = λ has. has;
+  code = λ a. refl;
   told = refl;
   hart = refl;
   goes_on = refl;

@@ -64,6 +64,15 @@ wake_nobody (suc n) at k none = ap (wake_by n at k) none
 pub wake_next : (n at u : ℕ) (k : Kernel) → longest_waiter at k.threads ≡ Some u → wake (suc n) at k ≡ woken_first u (wake n at (woken u k))
 wake_next n at u k is = ap (wake_by n at k) is
 
+-- no wake changes a page
+pages_by : (n at : ℕ) (k : Kernel) → ((u : ℕ) → (wake n at (woken u k)).kernel.pages ≡ k.pages) → (o : Option ℕ) → (wake_by n at k o).kernel.pages ≡ k.pages
+pages_by n at k rest None = refl
+pages_by n at k rest (Some u) = rest u
+
+pub wake_pages : (n at : ℕ) (k : Kernel) → (wake n at k).kernel.pages ≡ k.pages
+wake_pages zero at k = refl
+wake_pages (suc n) at k = pages_by n at k (λ u. wake_pages n at (woken u k)) (longest_waiter at k.threads)
+
 -- what of the longest waiting is woken next is woken behind the ones before
 pub before_next : (us : List ℕ) (n at u : ℕ) (k : Kernel) → longest_waiter at k.threads ≡ Some u
     → woken_before us (wake (suc n) at k) ≡ woken_before (us ++ u ∷ []) (wake n at (woken u k))

@@ -1,19 +1,19 @@
 -- What a call answers whose thread goes on, and what it did.
 use Rattle.std.specs.Prelude.{ℕ, ◌≡◌, List, ◌∷◌, Some, None, Result, Ok, Err}
 use Rattle.std.specs.Option.{option_map}
-use Rattle.mach_types.specs.Bytes.{written}
+use Rattle.mach_types.specs.Bytes.{written as written_by}
 use Rattle.mach_types.specs.Kernel.Threads.{running_on}
 use Rattle.mach_types.specs.declared.errors.Errno.{Errno}
 use Rattle.mach_types.specs.declared.threads.Saved.{Saved}
 use Rattle.mach_types.specs.declared.user_memory.Write.{Write}
 use Rattle.kernel_threads.specs.Table.{saved_of}
-use Rattle.page_map.specs.Map.{Map, break_in, byte_in, can_write_in, code_in, free_in, permission_in}
+use Rattle.page_map.specs.Map.{Map, break_in, break_start_in, byte_in, can_write_in, code_in, free_in, held_in, permission_in}
 use Rattle.block_model.specs.Here.{Here, memory, is_writable}
 use Rattle.block_model.specs.History.{file_among}
 use Rattle.block_model.specs.Tables.{IsTables}
 use Rattle.block_model.specs.Calls.Answers.{CallDone, negative, returned}
 use Rattle.sys_calls.specs.declared.kernel.Kernel.{Kernel}
-use Rattle.sys_calls.specs.Made.{AreSaved}
+use Rattle.sys_calls.specs.Made.{AreSaved, HasPages, HoldsPages}
 
 -- what a0 gets: the number, or the negative of the error number
 abbrev pub answer_of : Result ℕ Errno → ℕ
@@ -34,19 +34,22 @@ pub record IsTold (h : Here) (k : Kernel) : Type 0 where
 
 -- these writes entered memory, and nothing else of the page map changed
 pub record IsEntered (m : Map) (m' : Map) (writes : List Write) : Type 0 where
-  pub bytes : (a : ℕ) → byte_in m' a ≡ option_map (written writes a) (byte_in m a)
+  pub bytes : (a : ℕ) → byte_in m' a ≡ option_map (written_by writes a) (byte_in m a)
+  pub held : (a : ℕ) → held_in m' a ≡ option_map (written_by writes a) (held_in m a)
   pub code : (a : ℕ) → code_in m' a ≡ code_in m a
   pub permissions : (n : ℕ) → permission_in m' n ≡ permission_in m n
   pub free : free_in m' ≡ free_in m
   pub break_at : break_in m' ≡ break_in m
+  pub break_start : break_start_in m' ≡ break_start_in m
 
--- the tables and the page map were changed as the call did, and its writes were told; the thread runs on with this answer, and
--- the files of other threads that the call set are kept with them
+-- the tables were changed as the call did, and the page map where it had the pages of the process, no code with it; its writes
+-- were told; the thread runs on with this answer, and the files of other threads that the call set are kept with them
 pub record IsAnswered (h : Here) (t : ℕ) (k : Kernel) (m : Map) (k' : Kernel) (m' : Map) (written : List Write) (answer : Result ℕ Errno) (c : CallDone) : Type 0 where
   pub threads : k'.threads.threads ≡ c.kernel.threads
   pub scheduling : k'.ready ≡ c.kernel.scheduling
   pub console : k'.console ≡ c.kernel.console
-  pub pages : IsEntered m m' written
+  pub pages : HasPages h m → HoldsPages c.kernel.pages h.setting.program.break_at (λ a. written_by c.entered a (h.byte a)) m'
+  pub code : (a : ℕ) → code_in m' a ≡ code_in m a
   pub told : written ≡ c.entered
   pub hart : running_on h.hart c.kernel.threads ≡ running_on h.hart h.kernel.threads
   pub goes_on : c.ended ≡ None

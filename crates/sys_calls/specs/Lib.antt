@@ -5,4 +5,5 @@ pub mod Ended
 pub mod Joined
 pub mod Made
 pub mod Numbers
+pub mod Remapped
 pub mod Woken

@@ -1,5 +1,5 @@
 -- A call over the tables, the page map and the caller's registers, as the definitions of calls say it.
-use Rattle.std.specs.Prelude.{ℕ, ◌≡◌, Bool, true, false, if◌then◌else◌, Option, Some, None}
+use Rattle.std.specs.Prelude.{ℕ, ◌≡◌, ◌/◌, Bool, true, false, if◌then◌else◌, Option, Some, None}
 use Rattle.std.specs.Option.{option_map}
 use Rattle.std.specs.Int.{cast_unsigned, w64}
 use Rattle.mach_types.specs.Bytes.{written}
@@ -11,8 +11,10 @@ use Rattle.mach_types.specs.declared.threads.Saved.{Saved}
 use Rattle.mach_types.specs.declared.threads.ThreadState.TheVariants.{Ready}
 use Rattle.mach_types.specs.Kernel.Threads.{Threads, running_on, runs, state_of, waits}
 use Rattle.kernel_threads.specs.Table.{Table, saved_of}
-use Rattle.page_map.specs.Map.{Map, byte_in, can_write_in, code_in, permission_in, free_in, break_in}
-use Rattle.block_model.specs.Here.{Here, memory, is_writable}
+use Rattle.mach_types.specs.declared.address_space.TheConstants.{PAGE_SIZE}
+use Rattle.mach_types.specs.Kernel.Pages.{Pages, permission_of}
+use Rattle.page_map.specs.Map.{Map, break_in, break_start_in, code_in, free_in, held_in, permission_in}
+use Rattle.block_model.specs.Here.{Here}
 use Rattle.block_model.specs.History.{file_among}
 use Rattle.block_model.specs.Calls.Answers.{CallDone}
 use Rattle.sys_calls.specs.declared.kernel.Kernel.{Kernel}
@@ -23,6 +25,18 @@ use Rattle.sys_calls.specs.declared.calling.CallEnd.TheVariants as over
 abbrev pub AreSaved : (ℕ → Saved) → Table → Type 0
 AreSaved file table = (u : ℕ) (x : Saved) → saved_of u table.saved ≡ Some x → x ≡ file u
 
+-- the page map has these pages of a process, whose data ends at this lowest break, and on each of them these bytes of memory
+pub record HoldsPages (pages : Pages) (lowest_break : ℕ) (byte : ℕ → ℕ) (m : Map) : Type 0 where
+  pub permissions : (n : ℕ) → permission_in m n ≡ permission_of pages.runs n
+  pub held : (a : ℕ) → held_in m a ≡ option_map (λ _. byte a) (permission_of pages.runs (a / PAGE_SIZE))
+  pub free : free_in m ≡ pages.free
+  pub break_at : break_in m ≡ pages.break_at
+  pub break_start : break_start_in m ≡ lowest_break
+
+-- a rule may read here what the page map holds
+abbrev pub HasPages : Here → Map → Type 0
+HasPages h m = HoldsPages h.kernel.pages h.setting.program.break_at h.byte m
+
 -- a rule may read here what the tables, the page map and the caller's registers hold
 pub record IsAt (h : Here) (k : Kernel) (m : Map) (here : Hart) (harts : ℕ) (tid : Tid) (saved : Saved) : Type 0 where
   pub hart : h.hart ≡ here.0
@@ -30,8 +44,7 @@ pub record IsAt (h : Here) (k : Kernel) (m : Map) (here : Hart) (harts : ℕ) (t
   pub threads : k.threads.threads ≡ h.kernel.threads
   pub scheduling : k.ready ≡ h.kernel.scheduling
   pub console : k.console ≡ h.kernel.console
-  pub bytes : byte_in m ≡ memory h
-  pub writable : can_write_in m ≡ is_writable h
+  pub pages : HasPages h m
   pub file : saved ≡ h.file tid.0
 
 -- whether the thread gave up its hart
@@ -82,11 +95,8 @@ pub record IsMade (h : Here) (t : ℕ) (k : Kernel) (m : Map) (k' : Kernel) (m' 
   pub console : k'.console ≡ c.kernel.console
   pub kept : AreSaved h.file k.threads → AreSaved (λ u. file_among c.files u (h.file u)) k'.threads
   pub own : saved ≡ file_among c.files t (h.file t)
-  pub bytes : (a : ℕ) → byte_in m' a ≡ option_map (written c.entered a) (byte_in m a)
+  pub pages : HoldsPages c.kernel.pages h.setting.program.break_at (λ a. written c.entered a (h.byte a)) m'
   pub code : (a : ℕ) → code_in m' a ≡ code_in m a
-  pub permissions : (n : ℕ) → permission_in m' n ≡ permission_in m n
-  pub free : free_in m' ≡ free_in m
-  pub break_at : break_in m' ≡ break_in m
   pub hart : running_on h.hart c.kernel.threads ≡ (if gives_up end then None else Some t)
   pub stands : StandsSo end t c.kernel.threads
   pub ended : process_end end ≡ c.ended

@@ -1,4 +1,4 @@
--- The calls after which the thread may not go on, by their numbers.
+-- The calls after which the thread may not go on, and those that change pages, by their numbers.
 use Rattle.std.specs.Prelude.{ℕ, ◌≢◌}
 
 -- a number of another call
@@ -8,3 +8,10 @@ pub record IsOther (number : ℕ) : Type 0 where
   pub futex : number ≢ 98
   pub sched_setaffinity : number ≢ 122
   pub sched_yield : number ≢ 124
+
+-- a number of a call that changes no pages
+pub record IsOffPages (number : ℕ) : Type 0 where
+  pub brk : number ≢ 214
+  pub munmap : number ≢ 215
+  pub mmap : number ≢ 222
+  pub mprotect : number ≢ 226

@@ -16,7 +16,7 @@ ghost use Rattle.block_model.specs.Calls.Answers.{argument as argument_of, int_a
 ghost use Rattle.block_model.specs.Tables.{IsTables};
 ghost use Rattle.sys_calls.specs.Answered.{AreTables, IsAnswered, IsCaller, IsEntered, IsRead, IsTold, KeepsTables};
 ghost use Rattle.sys_calls.specs.Chosen.{setaffinity_with};
-ghost use Rattle.sys_calls.specs.Made.{IsMade};
+ghost use Rattle.sys_calls.specs.Made.{HasPages, IsMade};
 ghost use Rattle.sys_calls.specs.declared.kernel.Kernel.{Kernel as Tables};
 ghost use Rattle.sys_calls.specs.declared.calling.CallEnd.TheVariants as over;
 
@@ -102,8 +102,8 @@ pub fn sched_setaffinity(
     requires eight_harts { harts ≤ 8 }
     requires caller { IsCaller kernel.old here.0 tid.0 }
     ensures tables { KeepsTables kernel.old kernel.new }
-    ensures made { (h : Here) → h.hart ≡ here.0 → h.setting.limits.harts ≡ harts → IsTold h kernel.old → IsRead h pages.now tid.0 saved.old
-        → IsMade h tid.0 kernel.old pages.now kernel.new pages.now saved.new result (sched_setaffinity h tid.0) }
+    ensures made { (h : Here) → h.hart ≡ here.0 → h.setting.limits.harts ≡ harts → IsTold h kernel.old → HasPages h pages.now
+        → IsRead h pages.now tid.0 saved.old → IsMade h tid.0 kernel.old pages.now kernel.new pages.now saved.new result (sched_setaffinity h tid.0) }
 {
     match asked_set(kernel, pages, tid, saved) {
         Ok(set) => restrict(kernel, here, harts, tid, saved, set),
@@ -124,8 +124,8 @@ fn restrict(
     requires eight_harts { harts ≤ 8 }
     requires caller { IsCaller kernel.old here.0 tid.0 }
     ensures tables { KeepsTables kernel.old kernel.new }
-    ensures made { (h : Here) (m : Map) → h.hart ≡ here.0 → h.setting.limits.harts ≡ harts → IsTold h kernel.old → saved.old ≡ h.file tid.0
-        → IsMade h tid.0 kernel.old m kernel.new m saved.new result (setaffinity_with h tid.0 set) }
+    ensures made { (h : Here) (m : Map) → h.hart ≡ here.0 → h.setting.limits.harts ≡ harts → IsTold h kernel.old → HasPages h m
+        → saved.old ≡ h.file tid.0 → IsMade h tid.0 kernel.old m kernel.new m saved.new result (setaffinity_with h tid.0 set) }
 {
     if let Err(errno) = kernel.ready.set_affinity(tid, set, harts) {
         return go_on(saved, Err(errno));
@@ -140,7 +140,7 @@ fn restrict(
 pub fn sched_yield(kernel: &mut Kernel, here: Hart, tid: Tid, saved: &mut Saved) -> CallEnd
     requires { IsCaller kernel.old here.0 tid.0 }
     ensures tables { KeepsTables kernel.old kernel.new }
-    ensures made { (h : Here) (m : Map) → h.hart ≡ here.0 → IsTold h kernel.old → saved.old ≡ h.file tid.0
+    ensures made { (h : Here) (m : Map) → h.hart ≡ here.0 → IsTold h kernel.old → HasPages h m → saved.old ≡ h.file tid.0
         → IsMade h tid.0 kernel.old m kernel.new m saved.new result (sched_yield h tid.0) }
 {
     leave(kernel, here, tid, saved)

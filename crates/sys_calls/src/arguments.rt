@@ -12,10 +12,10 @@ use crate::calling::CallEnd;
 use mach_types::{Errno, Saved};
 
 /// The register of the first argument, and of the answer: a0.
-const A0: u8 = 10;
+pub(crate) const A0: u8 = 10;
 
 /// The register of a call's number: a7.
-const A7: u8 = 17;
+pub(crate) const A7: u8 = 17;
 
 /// The number of the call.
 pub fn call_number(saved: &Saved) -> u64
@@ -58,18 +58,25 @@ fn refusal(errno: Errno) -> u64
 }
 
 /// What a0 gets: the number, or the negative of the error number.
-fn value_of(answer: Result<u32, Errno>) -> u64
+fn value_of(answer: Result<u64, Errno>) -> u64
     requires { IfErr answer (λ e. 1 ≤ e.0) }
     ensures { result ≡ answer_of answer }
 {
     match answer {
-        Ok(number) => u64::from(number),
+        Ok(number) => number,
         Err(errno) => refusal(errno),
     }
 }
 
+/// An answer of 32 bits as the register takes it.
+pub fn widened(answer: Result<u32, Errno>) -> Result<u64, Errno>
+    ensures { result ≡ answer }
+{
+    Ok(u64::from(answer?))
+}
+
 /// The thread goes on with this answer, or is refused.
-pub fn go_on(saved: &mut Saved, outcome: Result<u32, Errno>) -> CallEnd
+pub fn go_on(saved: &mut Saved, outcome: Result<u64, Errno>) -> CallEnd
     requires { IfErr outcome (λ e. 1 ≤ e.0) }
     ensures saved { saved.new ≡ returned (answer_of outcome) saved.old }
     ensures answer { IsAnswer result saved.new }

@@ -1,56 +1,36 @@
 //! One call.
 
-ghost use Rattle.std.specs.Prelude.{◌≡◌, ◌<◌, ◌≤◌, ◌-◌, ◌^◌, [], Some, None, IfErr, IsTrue};
+ghost use Rattle.std.specs.Prelude.{◌≡◌, ◌<◌, ◌≤◌, ◌-◌, ◌^◌, [], Some, None};
 ghost use Rattle.kernel_threads.specs.Table.{IsTable, saved_of};
-ghost use Rattle.mach_types.specs.Kernel.Threads.{is_live, running_on, runs};
+ghost use Rattle.mach_types.specs.Kernel.Threads.{running_on, runs};
 ghost use Rattle.block_model.specs.Here.{Here};
-ghost use Rattle.block_model.specs.Calls.{call_of, called as call_done};
+ghost use Rattle.block_model.specs.Calls.{called as call_done};
 ghost use Rattle.block_model.specs.Tables.{IsTables};
-ghost use Rattle.sys_calls.specs.Answered.{AreTables, IsAnswered, IsCaller, IsRead, IsTold, KeepsTables};
-ghost use Rattle.sys_calls.specs.Numbers.{IsOther};
+ghost use Rattle.sys_calls.specs.Answered.{IsCaller, KeepsTables};
 ghost use Rattle.sys_calls.specs.Made.{IsAt, IsMade};
 
-use crate::affinity::{getcpu, sched_getaffinity, sched_setaffinity, sched_yield};
+use crate::affinity::{sched_setaffinity, sched_yield};
+use crate::answering::answered;
 use crate::arguments::{call_number, go_on};
-use crate::cloning::clone;
 use crate::ending::{exit, exit_group};
 use crate::futexes::futex;
 use crate::kernel::Kernel;
-use crate::memory::Written;
-use crate::numbers::set_tid_address;
-use crate::writing::{write, writev};
+use crate::memory::{Written, shows_pages};
 use arrayvec::ArrayVec;
 use kernel_threads::Threads;
-use mach_types::errors::ENOSYS;
-use mach_types::{End, Errno, Hart, Saved, Tid, Write};
+use mach_types::{End, Hart, Saved, Tid, Write};
 use page_map::PageMap;
 
-/// The numbers of the calls (Linux for RISC-V).
-const WRITE: u64 = 64;
-
-const WRITEV: u64 = 66;
-
+/// The numbers of the calls after which a thread may not go on (Linux for RISC-V).
 const EXIT: u64 = 93;
 
 const EXIT_GROUP: u64 = 94;
-
-const SET_TID_ADDRESS: u64 = 96;
 
 const FUTEX: u64 = 98;
 
 const SCHED_SETAFFINITY: u64 = 122;
 
-const SCHED_GETAFFINITY: u64 = 123;
-
 const SCHED_YIELD: u64 = 124;
-
-const GETCPU: u64 = 168;
-
-const GETPID: u64 = 172;
-
-const GETTID: u64 = 178;
-
-const CLONE: u64 = 220;
 
 /// What a call comes to.
 #[derive(Clone, Copy, Debug, PartialEq, Eq, Drop)]
@@ -138,6 +118,7 @@ fn dispatch(
         → IsMade h tid.0 kernel.old pages.old kernel.new pages.new saved.new result (call_done h tid.0) }
     ensures told { (h : Here) → IsAt h kernel.old pages.old here harts tid saved.old → written.new.items ≡ (call_done h tid.0).entered }
 {
+    shows_pages(pages);
     match call_number(saved) {
         EXIT => exit(kernel, pages, written, here, tid, saved),
         EXIT_GROUP => exit_group(saved),
@@ -148,39 +129,6 @@ fn dispatch(
             let outcome = answered(number, kernel, pages, written, here, tid, saved);
             go_on(saved, outcome)
         }
-    }
-}
-
-/// The answer of a call whose thread goes on; ENOSYS where the number is none of those.
-fn answered(
-    number: u64,
-    kernel: &mut Kernel,
-    pages: &mut PageMap,
-    written: &mut Written,
-    here: Hart,
-    tid: Tid,
-    saved: &Saved,
-) -> Result<u32, Errno>
-    requires tables { AreTables kernel.old }
-    requires live { IsTrue (is_live tid.0 kernel.old.threads.threads) }
-    requires numbers { kernel.old.threads.threads.given < 2 ^ 31 - 1 }
-    requires fresh { written.old.items ≡ [] }
-    requires others { IsOther number }
-    ensures errno { IfErr result (λ e. 1 ≤ e.0) }
-    ensures tables { KeepsTables kernel.old kernel.new }
-    ensures answered { (h : Here) → h.hart ≡ here.0 → IsTold h kernel.old → IsRead h pages.old tid.0 saved.now
-        → IsAnswered h tid.0 kernel.old pages.old kernel.new pages.new written.new.items result (call_of number h tid.0) }
-{
-    match number {
-        WRITE => write(kernel, pages, saved),
-        WRITEV => writev(kernel, pages, saved),
-        SET_TID_ADDRESS => Ok(set_tid_address(kernel, tid, saved)),
-        SCHED_GETAFFINITY => sched_getaffinity(kernel, pages, written, tid, saved),
-        GETCPU => getcpu(pages, written, here, saved),
-        GETPID => Ok(1),
-        GETTID => Ok(tid.0),
-        CLONE => clone(kernel, pages, written, tid, saved),
-        _ => Err(ENOSYS),
     }
 }
 
@@ -206,6 +154,7 @@ pub fn call(
     requires tables { IsTables harts kernel.old.threads.threads kernel.old.ready }
     ensures made { (h : Here) → IsAt h kernel.old pages.old here harts tid saved.old
         → IsMade h tid.0 kernel.old pages.old kernel.new pages.new saved.new result (call_done h tid.0) }
+    ensures tables { IsTables harts kernel.new.threads.threads kernel.new.ready }
 {
     make_call(kernel, pages, here, running, harts, tid, saved, cid).end
 }

@@ -9,7 +9,7 @@ ghost use Rattle.block_model.specs.Calls.Answers.{word_written};
 ghost use Rattle.block_model.specs.Calls.Ending.{ended_with, exit};
 ghost use Rattle.sys_calls.specs.Answered.{IsCaller, IsEntered, IsRead, IsTold, KeepsTables};
 ghost use Rattle.sys_calls.specs.Ended.{IsGone};
-ghost use Rattle.sys_calls.specs.Made.{IsMade};
+ghost use Rattle.sys_calls.specs.Made.{HasPages, IsMade};
 ghost use Rattle.sys_calls.specs.declared.calling.CallEnd.TheVariants as over;
 
 use crate::arguments::argument;
@@ -66,7 +66,7 @@ pub fn exit(
     requires fresh { written.old.items ≡ [] }
     ensures tables { KeepsTables kernel.old kernel.new }
     ensures told { (h : Here) → IsTold h kernel.old → IsRead h pages.old tid.0 saved.now → written.new.items ≡ (exit h tid.0).entered }
-    ensures made { (h : Here) → h.hart ≡ here.0 → IsTold h kernel.old → IsRead h pages.old tid.0 saved.now
+    ensures made { (h : Here) → h.hart ≡ here.0 → IsTold h kernel.old → HasPages h pages.old → IsRead h pages.old tid.0 saved.now
         → IsMade h tid.0 kernel.old pages.old kernel.new pages.new saved.now result (exit h tid.0) }
 {
     let at = kernel.threads.clear_at(tid);

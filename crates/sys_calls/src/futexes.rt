@@ -10,7 +10,7 @@ ghost use Rattle.block_model.specs.Calls.Answers.{argument as argument_of, refus
 ghost use Rattle.block_model.specs.Calls.Futexes.{futex, futex_wait, operation};
 ghost use Rattle.block_model.specs.Kernel.{waited};
 ghost use Rattle.sys_calls.specs.Answered.{AreTables, IsCaller, IsRead, IsTold, KeepsTables};
-ghost use Rattle.sys_calls.specs.Made.{IsMade};
+ghost use Rattle.sys_calls.specs.Made.{HasPages, IsMade};
 ghost use Rattle.sys_calls.specs.Woken.{IsOnward, IsWoken, futex_of};
 
 use crate::arguments::{answer, argument, go_on, int_argument};
@@ -123,7 +123,7 @@ fn may_wait(pages: &PageMap, saved: &Saved) -> Result<(), Errno>
 fn wait(kernel: &mut Kernel, pages: &PageMap, here: Hart, tid: Tid, saved: &mut Saved) -> CallEnd
     requires { IsCaller kernel.old here.0 tid.0 }
     ensures tables { KeepsTables kernel.old kernel.new }
-    ensures made { (h : Here) → h.hart ≡ here.0 → IsTold h kernel.old → IsRead h pages.now tid.0 saved.old
+    ensures made { (h : Here) → h.hart ≡ here.0 → IsTold h kernel.old → HasPages h pages.now → IsRead h pages.now tid.0 saved.old
         → IsMade h tid.0 kernel.old pages.now kernel.new pages.now saved.new result (futex_wait h tid.0) }
 {
     match may_wait(pages, saved) {
@@ -147,7 +147,7 @@ pub fn futex(
 ) -> CallEnd
     requires { IsCaller kernel.old here.0 tid.0 }
     ensures tables { KeepsTables kernel.old kernel.new }
-    ensures made { (h : Here) → h.hart ≡ here.0 → IsTold h kernel.old → IsRead h pages.now tid.0 saved.old
+    ensures made { (h : Here) → h.hart ≡ here.0 → IsTold h kernel.old → HasPages h pages.now → IsRead h pages.now tid.0 saved.old
         → IsMade h tid.0 kernel.old pages.now kernel.new pages.now saved.new result (futex h tid.0) }
 {
     match asked(saved) {
@@ -155,7 +155,7 @@ pub fn futex(
         Ok(Operation::Wake) => {
             let most = int_argument(saved, 2);
             let woken = wake(kernel, argument(saved, 0), most);
-            go_on(saved, Ok(woken))
+            go_on(saved, Ok(u64::from(woken)))
         }
         Err(errno) => go_on(saved, Err(errno)),
     }

@@ -4,6 +4,7 @@
 #![tactic(auto)]
 
 mod affinity;
+mod answering;
 mod arguments;
 mod calling;
 mod cloning;
@@ -12,6 +13,7 @@ mod ending;
 mod futexes;
 mod kernel;
 mod memory;
+mod memory_calls;
 mod numbers;
 #[cfg(test)]
 mod tests;
@@ -20,3 +22,4 @@ mod writing;
 pub use calling::{CallEnd, Called, call, make_call};
 pub use console::Console;
 pub use kernel::Kernel;
+pub use memory_calls::{PageSpan, pages_taken};

@@ -3,12 +3,15 @@
 ghost use Rattle.std.specs.Prelude.{◌≡◌, ℕ, ◌+◌, ◌<◌, ◌^◌, ◌++◌, length, [], ◌∷◌, unwrap_or, IsTrue};
 ghost use Rattle.mach_types.specs.Bytes.{IsAccessSize, each_byte, word_at};
 ghost use Rattle.page_map.specs.Map.{byte_in, can_write_in};
+ghost use Rattle.mach_types.specs.declared.threads.Saved.{Saved as File};
+ghost use Rattle.block_model.specs.Here.{Here};
 ghost use Rattle.block_model.specs.Calls.Answers.{double_written, word_written};
-ghost use Rattle.sys_calls.specs.Answered.{IsEntered};
+ghost use Rattle.sys_calls.specs.Answered.{IsEntered, IsRead};
+ghost use Rattle.sys_calls.specs.Made.{HasPages};
 
 use arrayvec::ArrayVec;
 use mach_types::{Store, UserMem, Write};
-use page_map::PageMap;
+use page_map::{PageMap, held_bytes_are_seen};
 
 /// The kernel's writes to memory in a call, in order.
 pub type Written = ArrayVec<Write, 4>;
@@ -64,4 +67,12 @@ pub fn write_double(pages: &mut PageMap, written: &mut Written, at: u64, value: 
 {
     let _ = pages.set(at, 8, value);
     written.push(Write::Stored(Store { at, size: 8, value }));
+}
+
+/// It does nothing; where the page map has the pages of the process, a rule reads of them what the page map shows.
+pub fn shows_pages(pages: &PageMap)
+    ensures { (h : Here) (t : ℕ) (saved : File) → HasPages h pages.now → saved ≡ h.file t → IsRead h pages.now t saved }
+{
+    held_bytes_are_seen();
+    pages.keeps();
 }

@@ -2,6 +2,7 @@
 //! calls of many threads.
 
 mod bench;
+mod memory_calls;
 mod numbers;
 mod refusals;
 mod threads;

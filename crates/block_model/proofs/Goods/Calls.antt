@@ -5,6 +5,7 @@ pub mod Console
 pub mod Ending
 pub mod Fit
 pub mod Futexes
+pub mod Memory
 pub mod Numbers
 pub mod Said
 pub mod Steps

@@ -1,10 +1,12 @@
 -- An instruction.
 use Rattle.std.proofs.Common.{◌≡◌, ℕ, ◌+◌, ◌≤◌, List, [], ◌∷◌, refl, sym, ◌∙◌, arith, Bool, true, false, cond, ◌&&◌, ◌||◌, leb, ltb, Option, Some, None, length, is_some}
 use Rattle.std.specs.List.{AllByRecursion}
+use Rattle.std.specs.Option.{option_or}
 use Rattle.std.proofs.lemmas.Bool.{leb-false, lt-ltb}
 use Rattle.mach_types.specs.Bytes.{each_byte}
 use Rattle.mach_types.specs.Kernel.Pages.{Pages, permission_at, can_write}
-use Rattle.mach_types.specs.declared.events.Why.TheVariants.{Waiting, FullBuffer}
+use Rattle.mach_types.specs.declared.events.Why.{Why}
+use Rattle.mach_types.specs.declared.events.Why.TheVariants.{Waiting, FullBuffer, Others}
 use Rattle.mach_types.specs.declared.registers.Regs.{Regs}
 use Rattle.mach_types.specs.declared.user_memory.Store.{Store}
 use Rattle.mach_types.specs.declared.user_memory.TheConstants.{STORE_BUFFER_CAPACITY}
@@ -12,10 +14,12 @@ use Rattle.rv_inst.specs.declared.effects.Effect.{Effect}
 use Rattle.rv_inst.specs.declared.effects.Effect.TheVariants as effect
 use Rattle.rv_inst.specs.Class.{is_call, is_plain_store, wants_empty}
 use Rattle.rv_inst.specs.Execution.{Outcome, outcome, fault_in, instruction_gate, is_reserved, unless_allowed}
-use Rattle.block_model.specs.Here.{Here, runs, memory, view}
+use Rattle.block_model.specs.Here.{Here, runs, memory, view, waiting_here}
 use Rattle.block_model.specs.Instruction.{fault_by, fetched}
 use Rattle.block_model.specs.Calls.{called}
-use Rattle.block_model.specs.Events.Exec.{refusal_exec, refusal_exec_by, done_exec, done_exec_by, by_fault, by_call, by_effect, by_outcome, outcome_of, next_effect, next_fault}
+use Rattle.block_model.specs.Calls.Answers.{call_number}
+use Rattle.block_model.specs.Calls.Memory.{taken_by}
+use Rattle.block_model.specs.Events.Exec.{refusal_exec, refusal_exec_by, done_exec, done_exec_by, by_fault, by_call, by_effect, by_outcome, outcome_of, next_effect, next_fault, is_held, others_gate}
 use Rattle.block_model.proofs.Good.{IsGoodHere, IsFit, MayEnter}
 use Rattle.block_model.proofs.Goods.Calls.Fit.{fit_by_call, own_apart}
 use Rattle.block_model.proofs.Goods.Calls.Table.{fit_called}
@@ -68,13 +72,14 @@ still here t signal good at = record {
   idle = λ none. let bad : None ≡ Some t = sym none ∙ at in absurd (cc);
   others = λ k ne. refl;
   apart = λ k u f ne runs. refl;
-  pages = refl;
+  within = good.within;
+  paged = λ is. is;
   given = omega arith;
   one = omega arith;
   kernel = good.kernel;
 }
 
-plain : (here : Here) (t : ℕ) (e : Effect) → IsGoodHere here → runs here ≡ Some t → IsExecuted here.kernel.pages e (outcome_of here t e) → length here.waiting + cond (is_plain_store e) 1 0 ≤ STORE_BUFFER_CAPACITY → IsFit here (by_outcome here t (outcome_of here t e))
+plain : (here : Here) (t : ℕ) (e : Effect) → IsGoodHere here → runs here ≡ Some t → IsExecuted here.kernel.pages e (outcome_of here t e) → length (waiting_here here) + cond (is_plain_store e) 1 0 ≤ STORE_BUFFER_CAPACITY → IsFit here (by_outcome here t (outcome_of here t e))
 plain here t e good at is room = record {
   executed = is.may;
   few = let one = is.one in omega arith;
@@ -82,7 +87,8 @@ plain here t e good at is room = record {
   idle = λ none. let bad : None ≡ Some t = sym none ∙ at in absurd (cc);
   others = λ k ne. refl;
   apart = λ k u f ne runs. own_apart here t (record { file = (outcome_of here t e).regs; pc = (outcome_of here t e).pc }) [] k u f good at ne runs;
-  pages = refl;
+  within = good.within;
+  paged = λ is. is;
   given = omega arith;
   one = omega arith;
   kernel = good.kernel;
@@ -112,22 +118,35 @@ none_waits : (ws : List Store) (e : Effect) → wants_empty e ≡ true → instr
 none_waits [] e is free = refl
 none_waits (w ∷ ws) e is free = absurd (gate_waiting (length ws) (ltb 0 (length (w ∷ ws))) (wants_empty e) _ (lt-ltb 0 (length (w ∷ ws)) (omega arith)) is free)
 
-call_or_plain : (here : Here) (t : ℕ) (e : Effect) (b : Bool) → is_call e ≡ b → IsGoodHere here → runs here ≡ Some t → instruction_gate (length here.waiting) (Some e) false ≡ None →
+-- and where no waiting store lies on a page that it would take
+call_held : (call held : Bool) → cond (call && held) (Some Others) None ≡ None → call ≡ true → held ≡ false
+call_held true true free is = cc
+call_held true false free is = refl
+call_held false held free is = cc
+
+gates : (a b : Option Why) → option_or a b ≡ None → (a ≡ None) × (b ≡ None)
+gates None b free = (refl, free)
+gates (Some why) b free = absurd cc
+
+call_or_plain : (here : Here) (t : ℕ) (e : Effect) (b : Bool) → is_call e ≡ b → IsGoodHere here → runs here ≡ Some t → (is_call e ≡ true → is_held here t ≡ false) → instruction_gate (length (waiting_here here)) (Some e) false ≡ None →
     IsExecuted here.kernel.pages e (outcome_of here t e) → IsFit here (cond b (by_call here (called here t)) (by_outcome here t (outcome_of here t e)))
-call_or_plain here t e true is good at free done = fit_by_call here (called here t) good (none_waits here.waiting e (call_wants_empty e is) free) (fit_called here t good at)
-call_or_plain here t e false is good at free done = plain here t e good at done (gate_room (length here.waiting) e false good.few free)
+call_or_plain here t e true is good at clear free done =
+    fit_by_call here (taken_by (call_number here t) here t) (called here t) good (none_waits (waiting_here here) e (call_wants_empty e is) free) (clear is) (fit_called here t good at)
+call_or_plain here t e false is good at clear free done = plain here t e good at done (gate_room (length (waiting_here here)) e false good.few free)
 
 fit_effect : (here : Here) (t : ℕ) (f : Option ℕ) (o : Option Effect) → IsGoodHere here → runs here ≡ Some t →
     fault_by (memory here) (λ a. can_write (permission_at here.kernel.pages a)) (here.file t).pc (fetched here.setting.program.pages (here.file t).pc) o ≡ f →
-    instruction_gate (length here.waiting) o (is_some f) ≡ None → IsFit here (by_effect here t f o)
-fit_effect here t (Some signal) o good at fault e = still here t signal good at
-fit_effect here t None None good at fault e = cc
-fit_effect here t None (Some x) good at fault e =
-    call_or_plain here t x (is_call x) refl good at e (executed_by here.kernel.pages (memory here) (view here) (here.file t).file (here.file t).pc here.reserved x fault)
+    instruction_gate (length (waiting_here here)) o (is_some f) ≡ None → others_gate (is_held here t) o ≡ None → IsFit here (by_effect here t f o)
+fit_effect here t (Some signal) o good at fault e clear = still here t signal good at
+fit_effect here t None None good at fault e clear = cc
+fit_effect here t None (Some x) good at fault e clear =
+    call_or_plain here t x (is_call x) refl good at (call_held (is_call x) (is_held here t) clear) e (executed_by here.kernel.pages (memory here) (view here) (here.file t).file (here.file t).pc here.reserved x fault)
 
 pub good_exec : (here : Here) → IsGoodHere here → refusal_exec here ≡ None → IsFit here (done_exec here)
 good_exec here good free = go (runs here) refl free
   where
     go : (o : Option ℕ) → runs here ≡ o → refusal_exec_by here o ≡ None → IsFit here (done_exec_by here o)
     go None at e = cc
-    go (Some t) at e = fit_effect here t (next_fault here t) (next_effect here t) good at refl e
+    go (Some t) at e =
+        let free = gates (instruction_gate (length (waiting_here here)) (next_effect here t) (is_some (next_fault here t))) (others_gate (is_held here t) (next_effect here t)) e in
+        fit_effect here t (next_fault here t) (next_effect here t) good at refl free.0 free.1

@@ -1,7 +1,7 @@
 -- A thread leaves its hart.
 use Rattle.std.proofs.Common.{◌≡◌, ℕ, List, [], ◌∷◌, ◌++◌, refl, sym, ap, ◌∙◌, arith, Option, Some, None}
 use Rattle.mach_types.specs.declared.user_memory.Store.{Store}
-use Rattle.block_model.specs.Here.{Here, runs}
+use Rattle.block_model.specs.Here.{Here, runs, waiting_here}
 use Rattle.block_model.specs.Events.Preempt.{refusal_preempt, refusal_preempt_by, done_preempt, done_preempt_by, unless_waiting}
 use Rattle.block_model.specs.Kernel.{left}
 use Rattle.block_model.proofs.Allowances.{same_live}
@@ -18,7 +18,7 @@ good_preempt here good free = go (runs here) refl free
     go : (o : Option ℕ) → runs here ≡ o → refusal_preempt_by here o ≡ None → IsFit here (done_preempt_by here o)
     go None at e = cc
     go (Some t) at e =
-        let none = none_waits here.waiting e in
+        let none = none_waits (waiting_here here) e in
         let tables = good.kernel.tables in
         let harts = here.setting.limits.harts in
         let ts = here.kernel.threads in
@@ -31,7 +31,8 @@ good_preempt here good free = go (runs here) refl free
           idle = λ _. ap (λ (ws : List Store). ws ++ []) none;
           others = λ k ne. left_others harts here.hart t ts sc tables at k ne;
           apart = λ k u f ne runs. refl;
-          pages = refl;
+          within = good.within;
+          paged = λ is. is;
           given = omega arith;
           one = omega arith;
           kernel = record {

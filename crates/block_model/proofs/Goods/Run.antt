@@ -38,7 +38,8 @@ good_run here t good free =
       idle = λ none. let bad : None ≡ Some t = sym none ∙ ran_runs harts here.hart t ts sc tables p.1 p.0 good.lt in absurd (cc);
       others = λ k ne. ran_others harts here.hart t ts sc tables p.1 p.0 good.lt k ne;
       apart = λ k u f ne runs. refl;
-      pages = refl;
+      within = good.within;
+      paged = λ is. is;
       given = omega arith;
       one = omega arith;
       kernel = record {

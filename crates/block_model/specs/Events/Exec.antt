@@ -1,16 +1,18 @@
 -- exec: the thread on the hart executes its next instruction, makes its fault, or makes its call.
-use Rattle.std.specs.Prelude.{ℕ, [], ◌∷◌, length, if◌then◌else◌, Option, Some, None, is_some}
+use Rattle.std.specs.Prelude.{ℕ, [], ◌∷◌, ◌&&◌, Bool, false, length, if◌then◌else◌, Option, Some, None, is_some}
+use Rattle.std.specs.Option.{option_map_or, option_or}
 use Rattle.mach_types.specs.Bytes.{all_stored}
 use Rattle.mach_types.specs.declared.events.Why.{Why}
-use Rattle.mach_types.specs.declared.events.Why.TheVariants.{Idle}
+use Rattle.mach_types.specs.declared.events.Why.TheVariants.{Idle, Others}
 use Rattle.mach_types.specs.declared.limits.End.TheVariants.{Killed}
 use Rattle.rv_inst.specs.declared.effects.Effect.{Effect}
 use Rattle.rv_inst.specs.Execution.{Outcome, outcome, instruction_gate}
 use Rattle.rv_inst.specs.Class.{is_call}
-use Rattle.block_model.specs.Here.{Here, Done, nothing, memory, is_writable, view, runs}
+use Rattle.block_model.specs.Here.{Here, Done, nothing, memory, is_writable, view, runs, waiting_here}
 use Rattle.block_model.specs.Instruction as instruction
 use Rattle.block_model.specs.Calls.{called}
-use Rattle.block_model.specs.Calls.Answers.{CallDone}
+use Rattle.block_model.specs.Calls.Answers.{CallDone, call_number}
+use Rattle.block_model.specs.Calls.Memory.{lies_waiting_on, taken_by}
 
 -- the next instruction of thread t, and its fault
 abbrev pub next_effect : Here → ℕ → Option Effect
@@ -19,10 +21,22 @@ next_effect here t = instruction.next_effect here.setting.program.pages (here.fi
 abbrev pub next_fault : Here → ℕ → Option ℕ
 next_fault here t = instruction.next_fault here.setting.program.pages (memory here) (is_writable here) (here.file t)
 
--- the condition that fails: a thread runs, and its next instruction's condition holds
+-- whether a byte of a store that waits on some hart of the machine lies on a page that the call of thread t would take (own: so
+-- a store that was executed can always enter memory)
+abbrev pub is_held : Here → ℕ → Bool
+is_held here t = lies_waiting_on (taken_by (call_number here t) here t) here.waiting here.setting.limits.harts
+
+-- a call waits until no such store does
+abbrev pub others_gate : Bool → Option Effect → Option Why
+others_gate held effect = if option_map_or is_call effect false && held then Some Others else None
+
+-- the condition that fails: a thread runs, and its next instruction's conditions hold
 abbrev pub refusal_exec_by : Here → Option ℕ → Option Why
 refusal_exec_by here None = Some Idle
-refusal_exec_by here (Some t) = instruction_gate (length here.waiting) (next_effect here t) (is_some (next_fault here t))
+refusal_exec_by here (Some t) =
+    option_or
+    (instruction_gate (length (waiting_here here)) (next_effect here t) (is_some (next_fault here t)))
+    (others_gate (is_held here t) (next_effect here t))
 
 abbrev pub refusal_exec : Here → Option Why
 refusal_exec here = refusal_exec_by here (runs here)

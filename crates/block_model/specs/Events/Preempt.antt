@@ -4,7 +4,7 @@ use Rattle.std.specs.Prelude.{ℕ, List, [], ◌∷◌, Option, Some, None}
 use Rattle.mach_types.specs.declared.events.Why.{Why}
 use Rattle.mach_types.specs.declared.events.Why.TheVariants.{Idle, Waiting}
 use Rattle.mach_types.specs.declared.user_memory.Store.{Store}
-use Rattle.block_model.specs.Here.{Here, Done, nothing, runs}
+use Rattle.block_model.specs.Here.{Here, Done, nothing, runs, waiting_here}
 use Rattle.block_model.specs.Kernel.{left}
 
 abbrev pub unless_waiting : List Store → Option Why
@@ -13,7 +13,7 @@ unless_waiting (w ∷ ws) = Some Waiting
 
 abbrev pub refusal_preempt_by : Here → Option ℕ → Option Why
 refusal_preempt_by here None = Some Idle
-refusal_preempt_by here (Some t) = unless_waiting here.waiting
+refusal_preempt_by here (Some t) = unless_waiting (waiting_here here)
 
 abbrev pub refusal_preempt : Here → Option Why
 refusal_preempt here = refusal_preempt_by here (runs here)

@@ -1,14 +1,18 @@
 //! A machine that makes the choices of `run`.
 
-ghost use Rattle.std.specs.Prelude.{◌≡◌, ◌<◌, ◌++◌};
-ghost use Rattle.block_model.specs.Choosing.{IsChosen, advance_at, all_chosen};
-ghost use Rattle.block_model.specs.Deciding.{history};
+ghost use Rattle.std.specs.Prelude.{◌≡◌, ◌<◌, ◌++◌, [], ◌∷◌, false, IfOk, OnErr};
+ghost use Rattle.mach_types.specs.Events.{choice_of};
+ghost use Rattle.block_model.specs.Choosing.{IsChosen, advance_at, all_chosen, credit_at, has_ended};
+ghost use Rattle.block_model.specs.Deciding.{decide, history};
+ghost use Rattle.block_model.specs.History.{here_in_history, ran};
 ghost use Rattle.block_model.specs.Run.{IsBlockRun};
+ghost use Rattle.block_model.specs.Sights.{sight_in};
 ghost use Rattle.machine_core.specs.Advancing.{made_in};
-ghost use Rattle.machine_core.specs.Credits.{seen_if};
 
-use crate::machine::Machine;
-use mach_types::{Advance, Hart, Sight};
+use crate::following::follow;
+use crate::machine::{Machine, append};
+use block_model::Refused;
+use mach_types::{Advance, Choice, Entry, Hart, Sight};
 
 impl Machine {
     /// Makes the next event of a hart by the choice of `run`, and answers it.
@@ -32,23 +36,61 @@ impl Machine {
         let Some(pick) = self.chooser.peek(hart, &sight) else {
             return Advance::NoneNow;
         };
-        match self.step(hart, pick.choice) {
+        match self.step_seen(hart, pick.choice, &sight) {
             Ok(entry) => Advance::Made(entry),
             Err(_) => unreachable!(),
         }
     }
 
-    /// What is seen of a hart, where every entry so far was the choice of its hart.
-    #[inline(never)]
-    pub(crate) fn sight_if_chosen(&self, hart: Hart) -> Option<Sight>
-        requires { hart.0 < self.now.setting.limits.harts }
-        ensures { result ≡ seen_if (all_chosen self.now.setting (history self.now.setting self.now.log))
-            self.now.setting hart.0 (history self.now.setting self.now.log) }
+    /// Whether every entry so far was the choice of its hart.
+    pub(crate) fn is_chosen(&self) -> bool
+        ensures { result ≡ all_chosen self.now.setting (history self.now.setting self.now.log) }
     {
-        if self.chosen {
-            Some(self.sight(hart))
-        } else {
-            None
+        self.chosen
+    }
+
+    /// [`Machine::step`] of a hart of the machine, where the run goes on and every entry so far was the choice of its hart.
+    #[inline(never)]
+    pub(crate) fn step_chosen(&mut self, hart: Hart, choice: Choice) -> Result<Entry, Refused>
+        requires chosen { IsChosen self.old.setting self.old.log }
+        requires goes { has_ended self.old.setting (history self.old.setting self.old.log) ≡ false }
+        requires hart { hart.0 < self.old.setting.limits.harts }
+        ensures answer { result ≡ decide self.old.setting (history self.old.setting self.old.log) hart.0 choice }
+        ensures of { IfOk result (λ e. (e.hart ≡ hart) × (choice_of e ≡ choice)) }
+        ensures ok { IfOk result (λ e. self.new ≡ record self.old { log = self.old.log ++ e ∷ [] }) }
+        ensures err { OnErr result (self.new ≡ self.old) }
+        ensures block_run { IsBlockRun self.new.setting self.new.log }
+    {
+        let seen = self.sight(hart);
+        self.step_seen(hart, choice, &seen)
+    }
+
+    /// The same where this is what is seen of the hart.
+    fn step_seen(&mut self, hart: Hart, choice: Choice, sight: &Sight) -> Result<Entry, Refused>
+        requires chosen { IsChosen self.old.setting self.old.log }
+        requires goes { has_ended self.old.setting (history self.old.setting self.old.log) ≡ false }
+        requires hart { hart.0 < self.old.setting.limits.harts }
+        requires sight { sight.now ≡ sight_in (here_in_history self.old.setting (history self.old.setting self.old.log) hart.0)
+            (ran hart.0 (history self.old.setting self.old.log)) (credit_at self.old.setting hart.0 (history self.old.setting self.old.log)) }
+        ensures answer { result ≡ decide self.old.setting (history self.old.setting self.old.log) hart.0 choice }
+        ensures of { IfOk result (λ e. (e.hart ≡ hart) × (choice_of e ≡ choice)) }
+        ensures ok { IfOk result (λ e. self.new ≡ record self.old { log = self.old.log ++ e ∷ [] }) }
+        ensures err { OnErr result (self.new ≡ self.old) }
+        ensures block_run { IsBlockRun self.new.setting self.new.log }
+    {
+        match self.parts.make(&self.code, hart, choice) {
+            Ok(entry) => {
+                append(&mut self.log, entry);
+                self.chosen = follow(
+                    &mut self.parts.harts,
+                    &mut self.chooser,
+                    hart,
+                    choice,
+                    sight,
+                );
+                Ok(entry)
+            }
+            Err(why) => Err(Refused::NotEnabled(why)),
         }
     }
 }

@@ -59,7 +59,7 @@ impl Machine {
     {
         let state = self.hart(hart);
         let next = next_of(&self.code, &self.parts.pages, state);
-        let refusal = state.exec_gate(next.effect.as_ref(), next.fault.is_some());
+        let refusal = self.parts.exec_gate(hart, &next);
         Sight {
             idle: state.is_idle(),
             first_ready: self.parts.kernel.ready.first_for(hart),

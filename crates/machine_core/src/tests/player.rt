@@ -72,7 +72,7 @@ impl Player {
     {
         let answer = self.machine.step(Hart(hart), choice);
         assert!(rt; answer.is_ok(), "{answer:?}");
-        assert!(rt; self.machine.sight_if_chosen(Hart(hart)).is_some());
+        assert!(rt; self.machine.is_chosen());
     }
 
     /// The stretch of a hart, before any work.

@@ -3,8 +3,8 @@
 use super::devices::Files;
 use super::programs::{
     DIVISION, DIVISION_TEXT, DRAINED_STORE_SCRIPT, DRAINED_STORE_TEXT, EMPTY_SCRIPT_TEXT,
-    EXIT_TEXT, EXIT_WITH_7, ILLEGAL, ILLEGAL_TEXT, MOVED_SCRIPT, MOVED_TEXT, NINE_STORES,
-    ONE_STEP_TEXT, RUN_TEXT,
+    EXIT_TEXT, EXIT_WITH_7, FRAMES_RUN_OUT, FRAMES_RUN_OUT_TEXT, ILLEGAL, ILLEGAL_TEXT,
+    MOVED_SCRIPT, MOVED_TEXT, NINE_STORES, ONE_STEP_TEXT, RUN_TEXT,
 };
 use std::alloc::{AllocError, Global};
 
@@ -89,7 +89,7 @@ pub(super) fn worker_runs() -> [Run; 6] {
 }
 
 /// The runs without workers.
-pub(super) fn runs() -> [Run; 14] {
+pub(super) fn runs() -> [Run; 15] {
     [
         solo("", &EXIT_WITH_7, EXIT_TEXT),
         solo("", &ILLEGAL, ILLEGAL_TEXT),
@@ -97,6 +97,7 @@ pub(super) fn runs() -> [Run; 14] {
         solo("--steps 1", &EXIT_WITH_7, ONE_STEP_TEXT),
         solo("--steps=4", &EXIT_WITH_7, EXIT_TEXT),
         solo("--frames 128", &EXIT_WITH_7, EXIT_TEXT),
+        solo("--frames 128", &FRAMES_RUN_OUT, FRAMES_RUN_OUT_TEXT),
         play("", &NINE_STORES, DRAINED_STORE_SCRIPT, DRAINED_STORE_TEXT),
         play("", &EXIT_WITH_7, b"", EMPTY_SCRIPT_TEXT),
         play("", &EXIT_WITH_7, b"0 run 1", RUN_TEXT),

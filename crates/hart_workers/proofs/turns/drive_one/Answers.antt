@@ -12,5 +12,5 @@ returns-then-eq-clause-grew g c = grew_on g.M.Meaning.setting g.M.Meaning.log g.
 pub loop-preserved : goal.loop-preserved
 loop-preserved g c = (
   grew_on g.M.Meaning.setting g.M.Meaning.log g.M.Meaning.next (origin_of c.args.lock.now) c.args.pass.now c.loop.pass c.turn-advance.new.pass c.loop.invariant.0 c.turn-advance.ensures.grew,
-  c.work_on-worked.ensures (start_of c.args.lock.now) c.args.hart c.turn-advance.new.pass.seen c.requires.code c.turn-advance.ensures.lent,
+  c.work_on.ensures (start_of c.args.lock.now) c.args.hart c.turn-advance.new.pass.seen c.requires.code c.turn-advance.ensures.lent,
 )

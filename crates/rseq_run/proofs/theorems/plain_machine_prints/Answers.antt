@@ -1,4 +1,4 @@
-use Rattle.rseq_run.specs.Words.{command_of}
+use Rattle.command_words.specs.Words.{command_of}
 use Rattle.rseq_run.proofs.PlainOutputs.{plain_output_of}
 use Rattle.rseq_run.proofs.theorems.plain_machine_prints.Goals as goal
 

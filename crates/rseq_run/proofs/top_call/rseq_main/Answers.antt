@@ -2,7 +2,7 @@
 use Rattle.std.proofs.Common.{◌≡◌, ap, subst, ◌∙◌}
 use Rattle.outside.specs.Counts.{NeverFalls, NoneFalls}
 use Rattle.rseq_run.specs.Answers.{IsAnswer, IsTold}
-use Rattle.rseq_run.specs.Words.{texts}
+use Rattle.command_words.specs.Words.{texts}
 use Rattle.rseq_run.proofs.Outcomes.{told_outcome}
 use Rattle.rseq_run.proofs.top_call.rseq_main.Goals as goal
 

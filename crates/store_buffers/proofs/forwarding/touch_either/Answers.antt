@@ -8,10 +8,10 @@ touch-in_back-requires c = sized_back c.args.front.now c.args.back.now c.require
 
 pub returns-then-in_front : goal.returns-then-in_front
 returns-then-in_front c =
-    touched c.args.page c.args.front.now c.args.back.now c.touch-in_front.result c.touch-in_back.result c.touch-in_front.result c.touch-in_front.ensures
+    touched c.args.first c.args.count c.args.front.now c.args.back.now c.touch-in_front.result c.touch-in_back.result c.touch-in_front.result c.touch-in_front.ensures
     c.touch-in_back.ensures (c.if-in_front.true ∙ sym (ap (λ t. t || c.touch-in_back.result) c.if-in_front.true)) c.requires
 
 pub returns-else-in_front : goal.returns-else-in_front
 returns-else-in_front c =
-    touched c.args.page c.args.front.now c.args.back.now c.touch-in_front.result c.touch-in_back.result c.touch-in_back.result c.touch-in_front.ensures
+    touched c.args.first c.args.count c.args.front.now c.args.back.now c.touch-in_front.result c.touch-in_back.result c.touch-in_back.result c.touch-in_front.ensures
     c.touch-in_back.ensures (sym (ap (λ t. t || c.touch-in_back.result) c.if-in_front.false)) c.requires

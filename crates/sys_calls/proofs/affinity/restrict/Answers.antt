@@ -78,7 +78,7 @@ returns-clause-tables c =
     (allowed_keeps c.args.tid.0 (harts_in c.args.set c.args.harts) k c.set_affinity.new.self c.in_default.ensures.ok) c.leave.ensures.tables
 
 pub returns-in-Err-clause-made : goal.returns-in-Err-clause-made
-returns-in-Err-clause-made c = λ h m hart count told file.
+returns-in-Err-clause-made c = λ h m hart count told has file.
     let t = c.args.tid.0 in
     let k = c.args.kernel.now in
     let asked = c.args.set in
@@ -87,12 +87,12 @@ returns-in-Err-clause-made c = λ h m hart count told file.
     ap (λ (n : ℕ). setaffinity_at n h t asked) count ∙ if_true (eqb (harts_in asked c.args.harts) 0) (refused h t EINVAL) _ none
     ∙ ap (λ (e : Errno). refused h t e) (sym c.in-Err.ensures.errno) in
     let done = answered_said h t k m (Err c.in-Err.errno) (setaffinity_with h t asked) told is in
-    let made = made_answered h t c.args.here.0 k k m m c.args.saved.now c.go_on.new.saved [] (Err c.in-Err.errno) c.go_on.result (setaffinity_with h t asked) hart told file c.requires.caller done c.requires.caller.tables
+    let made = made_answered h t c.args.here.0 k k m m c.args.saved.now c.go_on.new.saved [] (Err c.in-Err.errno) c.go_on.result (setaffinity_with h t asked) hart told has file c.requires.caller done c.requires.caller.tables
     c.go_on.ensures.saved c.go_on.ensures.stays c.go_on.ensures.runs_on c.go_on.ensures.ends c.go_on.ensures.answer in
     subst (λ (s : Scheduling). IsMade h t k m (record { threads = k.threads; ready = s; console = k.console }) m c.go_on.new.saved c.go_on.result (setaffinity_with h t asked)) (sym c.in-Err.ensures.err) made
 
 pub returns-then-allows-clause-made : goal.returns-then-allows-clause-made
-returns-then-allows-clause-made c = λ h m hart count told file.
+returns-then-allows-clause-made c = λ h m hart count told has file.
     let t = c.args.tid.0 in
     let k = c.args.kernel.now in
     let set = harts_in c.args.set c.args.harts in
@@ -104,12 +104,12 @@ returns-then-allows-clause-made c = λ h m hart count told file.
     let ready : k'.ready ≡ with_affinity t set h.kernel.scheduling = c.in_default.ensures.ok ∙ ap (with_affinity t set) told.scheduling in
     let done = answered_scheduled h t k k' m (Ok 0) (with_affinity t set h.kernel.scheduling) told refl ready refl in
     let allowed = allowed_caller k c.args.here.0 t set c.set_affinity.new.self c.requires.caller c.in_default.ensures.ok in
-    let made = made_answered h t c.args.here.0 k k' m m c.args.saved.now c.go_on-then-allows.new.saved [] (Ok 0) c.go_on-then-allows.result _ hart told file c.requires.caller done allowed.tables
+    let made = made_answered h t c.args.here.0 k k' m m c.args.saved.now c.go_on-then-allows.new.saved [] (Ok 0) c.go_on-then-allows.result _ hart told has file c.requires.caller done allowed.tables
     c.go_on-then-allows.ensures.saved c.go_on-then-allows.ensures.stays c.go_on-then-allows.ensures.runs_on c.go_on-then-allows.ensures.ends c.go_on-then-allows.ensures.answer in
     subst (λ (d : CallDone). IsMade h t k m k' m c.go_on-then-allows.new.saved c.go_on-then-allows.result d) (sym is) made
 
 pub returns-clause-made : goal.returns-clause-made
-returns-clause-made c = λ h m hart count told file.
+returns-clause-made c = λ h m hart count told has file.
     let t = c.args.tid.0 in
     let k = c.args.kernel.now in
     let set = harts_in c.args.set c.args.harts in
@@ -119,7 +119,7 @@ returns-clause-made c = λ h m hart count told file.
     let is = chosen h t c.args.set c.args.harts c.args.here.0 false count hart some at (left t (restricted t set h.kernel)) refl in
     let k1 : Kernel = record { threads = k.threads; ready = c.set_affinity.new.self; console = k.console } in
     let ready : k1.ready ≡ with_affinity t set h.kernel.scheduling = c.in_default.ensures.ok ∙ ap (with_affinity t set) told.scheduling in
-    let made = made_left h t c.args.here.0 k k1 c.leave.new.kernel m c.args.saved.now c.leave.new.saved c.leave.result (restricted t set h.kernel) hart file
+    let made = made_left h t c.args.here.0 k k1 c.leave.new.kernel m c.args.saved.now c.leave.new.saved c.leave.result (restricted t set h.kernel) hart has refl file
     told.threads ready told.console refl (allowed_caller k c.args.here.0 t set c.set_affinity.new.self c.requires.caller c.in_default.ensures.ok)
     c.leave.ensures.saved c.leave.ensures.threads c.leave.ensures.kept c.leave.ensures.ready c.leave.ensures.console c.leave.ensures.end c.leave.ensures.a0 in
     subst (λ (d : CallDone). IsMade h t k m c.leave.new.kernel m c.leave.new.saved c.leave.result d) (sym is) made

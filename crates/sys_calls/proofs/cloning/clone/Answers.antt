@@ -4,11 +4,12 @@ use Rattle.std.specs.Prelude.{Ok}
 use Rattle.mach_types.specs.Kernel.Threads.{Threads, running_on}
 use Rattle.kernel_threads.specs.Table.{with_start}
 use Rattle.block_model.specs.Kernel.{next_number}
-use Rattle.block_model.specs.Calls.Answers.{CallDone, returned}
-use Rattle.block_model.specs.Calls.Cloning.{child_file}
-use Rattle.sys_calls.specs.Answered.{IsAnswered}
+use Rattle.block_model.specs.Calls.Answers.{CallDone, argument, returned}
+use Rattle.block_model.specs.Calls.Cloning.{child_file, clone_child_cleartid, has_flag}
+use Rattle.sys_calls.specs.Answered.{IsAnswered, IsEntered}
 use Rattle.sys_calls.specs.Cloned.{cloned, numbers_written}
-use Rattle.sys_calls.proofs.Children.{kept_started, lives_other, quiet_started}
+use Rattle.sys_calls.proofs.Children.{asked_pages, kept_started, lives_other, quiet_started}
+use Rattle.sys_calls.proofs.Entering.{pages_kept}
 use Rattle.sys_calls.proofs.cloning.clone.Goals as goal
 
 pub returns-clause-answered : goal.returns-clause-answered
@@ -22,12 +23,15 @@ returns-clause-answered c = λ h told read.
     let next : u ≡ next_number h.kernel = c.in_ok-child.ensures.number ∙ same in
     let saved : k'.threads.saved ≡ with_start u (child_file h t) k.threads.saved = child.saved ∙ ap (λ (n : ℕ). with_start n (child_file h t) k.threads.saved) (sym next) in
     let ne = lives_other t k.threads.threads c.requires.tables.1.threads c.requires.live in
+    let written : c.write_numbers.new.written.items ≡ numbers_written h t (next_number h.kernel) = c.write_numbers.ensures.told h t read.file ∙ ap (numbers_written h t) next in
     let done : IsAnswered h t k c.args.pages.now k' c.write_numbers.new.pages c.write_numbers.new.written.items (Ok u) (cloned h t) = record {
       threads = child.threads;
       scheduling = child.scheduling;
       console = child.console;
-      pages = c.write_numbers.ensures.entered;
-      told = c.write_numbers.ensures.told h t read.file ∙ ap (numbers_written h t) next;
+      pages = pages_kept h c.args.pages.now c.write_numbers.new.pages (cloned h t) (subst (IsEntered c.args.pages.now c.write_numbers.new.pages) written c.write_numbers.ensures.entered)
+          (asked_pages h t (has_flag (argument h t 0) clone_child_cleartid));
+      code = c.write_numbers.ensures.entered.code;
+      told = written;
       hart = ap (running_on h.hart) (sym child.threads) ∙ child.running h.hart ∙ ap (running_on h.hart) told.threads;
       goes_on = refl;
       others = (u, child_file h t) ∷ [];

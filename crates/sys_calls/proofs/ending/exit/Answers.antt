@@ -2,13 +2,12 @@
 use Rattle.std.proofs.Common.{◌≡◌, ℕ, Bool, true, false, not, ◌&&◌, cond, eqb, leb, List, [], ◌∷◌, length, Some, refl, sym, ap, subst, ◌∙◌}
 use Rattle.std.proofs.lemmas.Bool.{le-leb, lt-leb}
 use Rattle.std.specs.Int.{from_bool}
-use Rattle.std.specs.Option.{option_map}
-use Rattle.mach_types.specs.Bytes.{each_byte, written}
+use Rattle.mach_types.specs.Bytes.{each_byte}
 use Rattle.mach_types.specs.Kernel.Threads.{Threads, clear_of, running_on, runs}
 use Rattle.mach_types.specs.declared.limits.End.{End}
 use Rattle.mach_types.specs.declared.threads.Saved.{Saved}
 use Rattle.mach_types.specs.declared.user_memory.Write.{Write}
-use Rattle.page_map.specs.Map.{Map, byte_in, can_write_in}
+use Rattle.page_map.specs.Map.{Map, can_write_in}
 use Rattle.block_model.specs.Here.{Here}
 use Rattle.block_model.specs.Calls.Answers.{CallDone, are_writable, word_written}
 use Rattle.block_model.specs.Calls.Ending.{clearing, clears, ended_with, is_last, last_exits, one_exits, woken_at_exit}
@@ -17,9 +16,11 @@ use Rattle.sys_calls.specs.declared.calling.CallEnd.TheVariants as over
 use Rattle.sys_calls.specs.declared.kernel.Kernel.{Kernel}
 use Rattle.sys_calls.specs.Answered.{IsCaller, IsEntered, IsRead, IsTold}
 use Rattle.sys_calls.specs.Ended.{IsGone}
-use Rattle.sys_calls.specs.Made.{IsMade}
+use Rattle.sys_calls.specs.Made.{HasPages, IsMade}
+use Rattle.sys_calls.proofs.Entering.{pages_kept}
 use Rattle.sys_calls.proofs.Reading.{if_false, if_true, writable_at}
 use Rattle.sys_calls.proofs.Tables.{caller_lives, caller_runs}
+use Rattle.sys_calls.proofs.Waking.{wake_pages}
 use Rattle.sys_calls.proofs.ending.exit.Goals as goal
 
 -- whether the word is cleared, and its write
@@ -36,19 +37,16 @@ last_is : (h : Here) (k : Kernel) (n : ℕ) (b : Bool) → IsTold h k → n ≡ 
 last_is h k n b told is e = ap (λ (ts : Threads). leb (length ts.live) 1) (sym told.threads) ∙ ap (λ (x : ℕ). leb x 1) (sym is) ∙ e
 
 -- the process ends
-made_last : (h : Here) (t here : ℕ) (k : Kernel) (m m' : Map) (saved : Saved) (ws : List Write) (e : End) → h.hart ≡ here → IsTold h k → saved ≡ h.file t → IsCaller k here t → IsEntered m m' ws
+made_last : (h : Here) (t here : ℕ) (k : Kernel) (m m' : Map) (saved : Saved) (ws : List Write) (e : End) → h.hart ≡ here → IsTold h k → saved ≡ h.file t → IsCaller k here t → HasPages h m → IsEntered m m' ws
     → ws ≡ clearing h t → e ≡ ended_with h t → IsMade h t k m k m' saved (over.ProcessEnd e) (last_exits h t)
-made_last h t here k m m' saved ws e hart told file caller entered writes end = record {
+made_last h t here k m m' saved ws e hart told file caller has entered writes end = record {
   threads = told.threads;
   scheduling = told.scheduling;
   console = told.console;
   kept = λ all. all;
   own = file;
-  bytes = λ a. subst (λ (w : List Write). byte_in m' a ≡ option_map (written w a) (byte_in m a)) writes (entered.bytes a);
+  pages = pages_kept h m m' (last_exits h t) (subst (IsEntered m m') writes entered) refl has;
   code = entered.code;
-  permissions = entered.permissions;
-  free = entered.free;
-  break_at = entered.break_at;
   hart = ap (λ n. running_on n h.kernel.threads) hart ∙ ap (running_on here) (sym told.threads) ∙ caller.runs;
   stands = subst (λ (ts : Threads). runs ts t) told.threads (caller_runs k here t caller);
   ended = ap Some end;
@@ -56,19 +54,16 @@ made_last h t here k m m' saved ws e hart told file caller entered writes end = 
 }
 
 -- the thread is gone
-made_one : (h : Here) (t here : ℕ) (k k' : Kernel) (m m' : Map) (saved : Saved) (ws : List Write) → h.hart ≡ here → saved ≡ h.file t → IsEntered m m' ws → ws ≡ clearing h t
+made_one : (h : Here) (t here : ℕ) (k k' : Kernel) (m m' : Map) (saved : Saved) (ws : List Write) → h.hart ≡ here → saved ≡ h.file t → HasPages h m → IsEntered m m' ws → ws ≡ clearing h t
     → IsGone h k k' t (cond (clears h t) 1 0) (clear_of t h.kernel.threads) here → IsMade h t k m k' m' saved over.ThreadEnd (one_exits h t)
-made_one h t here k k' m m' saved ws hart file entered writes gone = record {
+made_one h t here k k' m m' saved ws hart file has entered writes gone = record {
   threads = gone.threads;
   scheduling = gone.scheduling;
   console = gone.console;
   kept = gone.kept;
   own = file ∙ sym gone.alone;
-  bytes = λ a. subst (λ (w : List Write). byte_in m' a ≡ option_map (written w a) (byte_in m a)) writes (entered.bytes a);
+  pages = pages_kept h m m' (one_exits h t) (subst (IsEntered m m') writes entered) (wake_pages (cond (clears h t) 1 0) (clear_of t h.kernel.threads) h.kernel) has;
   code = entered.code;
-  permissions = entered.permissions;
-  free = entered.free;
-  break_at = entered.break_at;
   hart = ap (running_on h.hart) (sym gone.threads) ∙ ap (λ n. running_on n k'.threads.threads) hart ∙ gone.idle;
   stands = state_of-without_same t (woken_at_exit h t).kernel.threads;
   ended = refl;
@@ -96,7 +91,7 @@ returns-then-live-le1-clause-told c = λ h told read.
     ∙ sym (ap (λ (d : CallDone). d.entered) (if_true (is_last h) (last_exits h t) (one_exits h t) last))
 
 pub returns-then-live-le1-clause-made : goal.returns-then-live-le1-clause-made
-returns-then-live-le1-clause-made c = λ h hart told read.
+returns-then-live-le1-clause-made c = λ h hart told has read.
     let t = c.args.tid.0 in
     let k = c.args.kernel.now in
     let m' = c.clear_word-is_cleared.new.pages in
@@ -104,7 +99,7 @@ returns-then-live-le1-clause-made c = λ h hart told read.
     let clear = clears_is h c.args.pages.now t c.clear_at-at.result c.clear_word-is_cleared.result c.args.saved.now read at c.clear_word-is_cleared.ensures.clears in
     let writes = clearing_is h t c.clear_at-at.result c.clear_word-is_cleared.result c.clear_word-is_cleared.new.written.items at clear c.clear_word-is_cleared.ensures.told in
     let last = last_is h k c.live.result true told c.live.ensures.count (le-leb c.live.result 1 c.if-live-le1.true) in
-    let made = made_last h t c.args.here.0 k c.args.pages.now m' c.args.saved.now c.clear_word-is_cleared.new.written.items c.end_of.result hart told read.file c.requires.caller c.clear_word-is_cleared.ensures.entered writes
+    let made = made_last h t c.args.here.0 k c.args.pages.now m' c.args.saved.now c.clear_word-is_cleared.new.written.items c.end_of.result hart told read.file c.requires.caller has c.clear_word-is_cleared.ensures.entered writes
     (c.end_of.ensures h t read.file) in
     subst (λ (d : CallDone). IsMade h t k c.args.pages.now k m' c.args.saved.now (over.ProcessEnd c.end_of.result) d) (sym (if_true (is_last h) (last_exits h t) (one_exits h t) last)) made
 
@@ -118,7 +113,7 @@ returns-clause-told c = λ h told read.
     ∙ sym (ap (λ (d : CallDone). d.entered) (if_false (is_last h) (last_exits h t) (one_exits h t) last))
 
 pub returns-clause-made : goal.returns-clause-made
-returns-clause-made c = λ h hart told read.
+returns-clause-made c = λ h hart told has read.
     let t = c.args.tid.0 in
     let k = c.args.kernel.now in
     let m' = c.clear_word-is_cleared.new.pages in
@@ -129,5 +124,5 @@ returns-clause-made c = λ h hart told read.
     let most : c.from.result ≡ cond (clears h t) 1 0 = c.from.ensures ∙ byte_is c.clear_word-is_cleared.result ∙ ap (λ (b : Bool). how_many b) clear in
     let there = subst (λ (n : ℕ). IsGone h k c.go.new.kernel t n c.clear_at-at.result c.args.here.0) most (c.go.ensures.gone h told) in
     let gone = subst (λ (a : ℕ). IsGone h k c.go.new.kernel t (cond (clears h t) 1 0) a c.args.here.0) at there in
-    let made = made_one h t c.args.here.0 k c.go.new.kernel c.args.pages.now m' c.args.saved.now c.clear_word-is_cleared.new.written.items hart read.file c.clear_word-is_cleared.ensures.entered writes gone in
+    let made = made_one h t c.args.here.0 k c.go.new.kernel c.args.pages.now m' c.args.saved.now c.clear_word-is_cleared.new.written.items hart read.file has c.clear_word-is_cleared.ensures.entered writes gone in
     subst (λ (d : CallDone). IsMade h t k c.args.pages.now c.go.new.kernel m' c.args.saved.now over.ThreadEnd d) (sym (if_false (is_last h) (last_exits h t) (one_exits h t) last)) made

@@ -9,13 +9,14 @@ use Rattle.sys_calls.specs.declared.futexes.Operation.{Operation}
 use Rattle.sys_calls.specs.Answered.{AreTables, IsAnswered}
 use Rattle.sys_calls.specs.Made.{IsMade}
 use Rattle.sys_calls.specs.Woken.{IsWoken, futex_of}
-use Rattle.sys_calls.proofs.Entering.{entered_none}
+use Rattle.sys_calls.proofs.Entering.{entered_none, pages_kept}
 use Rattle.sys_calls.proofs.Reading.{argument_is, int_argument_is}
 use Rattle.sys_calls.proofs.Saying.{answered_said, made_answered}
+use Rattle.sys_calls.proofs.Waking.{wake_pages}
 use Rattle.sys_calls.proofs.futexes.futex.Goals as goal
 
 pub returns-in-Ok-Wake-clause-made : goal.returns-in-Ok-Wake-clause-made
-returns-in-Ok-Wake-clause-made c = λ h hart told read.
+returns-in-Ok-Wake-clause-made c = λ h hart told has read.
     let t = c.args.tid.0 in
     let k = c.args.kernel.now in
     let k' = c.wake-woken.new.kernel in
@@ -30,7 +31,8 @@ returns-in-Ok-Wake-clause-made c = λ h hart told read.
       threads = woken.threads;
       scheduling = woken.scheduling;
       console = woken.console;
-      pages = entered_none m;
+      pages = pages_kept h m m (futex_wake h t) (entered_none m) (wake_pages (int_argument h t 2) (argument h t 0) h.kernel);
+      code = λ a. refl;
       told = refl;
       hart = ap (running_on h.hart) (sym woken.threads) ∙ c.wake-woken.ensures.onward.running h.hart ∙ ap (running_on h.hart) told.threads;
       goes_on = refl;
@@ -40,16 +42,16 @@ returns-in-Ok-Wake-clause-made c = λ h hart told read.
       quiet = c.wake-woken.ensures.onward.quiet t;
     } in
     let tables : AreTables k' = (c.requires.tables.0, c.wake-woken.ensures.onward.tables c.requires.tables.0 c.requires.tables.1) in
-    let made = made_answered h t c.args.here.0 k k' m m c.args.saved.now c.go_on.new.saved [] (Ok count) c.go_on.result (futex_wake h t) hart told read.file c.requires done tables
-    c.go_on.ensures.saved c.go_on.ensures.stays c.go_on.ensures.runs_on c.go_on.ensures.ends c.go_on.ensures.answer in
+    let made = made_answered h t c.args.here.0 k k' m m c.args.saved.now c.go_on.new.saved [] (Ok count) c.go_on.result (futex_wake h t) hart told has read.file c.requires done tables
+    (c.go_on.ensures.saved ∙ ap (λ (n : ℕ). returned n c.args.saved.now) c.from.ensures) c.go_on.ensures.stays c.go_on.ensures.runs_on c.go_on.ensures.ends c.go_on.ensures.answer in
     let is : futex h t ≡ futex_wake h t = c.in-Ok-Wake.ensures.asked h t read.file ∙ ap (λ (op : Operation). futex_of op h t) c.in-Ok-Wake.field-0-is in
     subst (λ (d : CallDone). IsMade h t k m k' m c.go_on.new.saved c.go_on.result d) (sym is) made
 
 pub returns-in-Err-clause-made : goal.returns-in-Err-clause-made
-returns-in-Err-clause-made c = λ h hart told read.
+returns-in-Err-clause-made c = λ h hart told has read.
     let t = c.args.tid.0 in
     let k = c.args.kernel.now in
     let m = c.args.pages.now in
     let done = answered_said h t k m (Err c.in-Err.errno) (futex h t) told (c.in-Err.ensures.refused h t read.file) in
-    made_answered h t c.args.here.0 k k m m c.args.saved.now c.go_on-in-Err.new.saved [] (Err c.in-Err.errno) c.go_on-in-Err.result (futex h t) hart told read.file c.requires done c.requires.tables
+    made_answered h t c.args.here.0 k k m m c.args.saved.now c.go_on-in-Err.new.saved [] (Err c.in-Err.errno) c.go_on-in-Err.result (futex h t) hart told has read.file c.requires done c.requires.tables
     c.go_on-in-Err.ensures.saved c.go_on-in-Err.ensures.stays c.go_on-in-Err.ensures.runs_on c.go_on-in-Err.ensures.ends c.go_on-in-Err.ensures.answer

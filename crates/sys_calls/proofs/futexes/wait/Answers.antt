@@ -29,7 +29,7 @@ returns-in-Ok-clause-tables c =
     (λ harts holds. tables_waited harts c.args.here.0 c.args.tid.0 c.argument-at.result k.threads.threads k.ready holds c.requires.runs)
 
 pub returns-in-Ok-clause-made : goal.returns-in-Ok-clause-made
-returns-in-Ok-clause-made c = λ h hart told read.
+returns-in-Ok-clause-made c = λ h hart told has read.
     let t = c.args.tid.0 in
     let k = c.args.kernel.now in
     let k' : Kernel = record { threads = c.wait.new.self; ready = k.ready; console = k.console } in
@@ -37,17 +37,17 @@ returns-in-Ok-clause-made c = λ h hart told read.
     let idle = waited_idle c.requires.tables.0 c.args.here.0 t (argument h t 0) k.threads.threads k.ready c.requires.tables.1 c.requires.runs in
     let waits_now = ap (λ (ts : Threads). state_of t (with_waiter t (argument h t 0) ts)) (sym told.threads)
     ∙ state_now t (Waiting (argument h t 0)) (on c.args.here.0) k.threads.threads (runs_there k c.args.here.0 t c.requires) in
-    let made = made_gone h t c.args.here.0 k k' c.args.pages.now c.answer.new.saved over.Block (waited t (argument h t 0) h.kernel) hart
+    let made = made_gone h t c.args.here.0 k k' c.args.pages.now c.answer.new.saved over.Block (waited t (argument h t 0) h.kernel) hart has refl
     (c.wait.ensures.threads ∙ ap (λ (a : ℕ). with_waiter t a k.threads.threads) at ∙ ap (with_waiter t (argument h t 0)) told.threads) told.scheduling told.console
     c.wait.ensures.saved (c.answer.ensures.saved ∙ ap (returned 0) read.file)
     (ap (λ (ts : Threads). running_on c.args.here.0 (with_waiter t (argument h t 0) ts)) (sym told.threads) ∙ idle) refl (argument h t 0, waits_now) refl tt in
     subst (λ (d : CallDone). IsMade h t k c.args.pages.now k' c.args.pages.now c.answer.new.saved over.Block d) (sym (c.in-Ok.ensures.waits h t read)) made
 
 pub returns-in-Err-clause-made : goal.returns-in-Err-clause-made
-returns-in-Err-clause-made c = λ h hart told read.
+returns-in-Err-clause-made c = λ h hart told has read.
     let t = c.args.tid.0 in
     let k = c.args.kernel.now in
     let m = c.args.pages.now in
     let done = answered_said h t k m (Err c.in-Err.errno) (futex_wait h t) told (c.in-Err.ensures.refused h t read) in
-    made_answered h t c.args.here.0 k k m m c.args.saved.now c.go_on.new.saved [] (Err c.in-Err.errno) c.go_on.result (futex_wait h t) hart told read.file c.requires done c.requires.tables
+    made_answered h t c.args.here.0 k k m m c.args.saved.now c.go_on.new.saved [] (Err c.in-Err.errno) c.go_on.result (futex_wait h t) hart told has read.file c.requires done c.requires.tables
     c.go_on.ensures.saved c.go_on.ensures.stays c.go_on.ensures.runs_on c.go_on.ensures.ends c.go_on.ensures.answer

@@ -8,7 +8,6 @@ use Rattle.block_model.specs.Calls.Answers.{argument}
 use Rattle.block_model.proofs.Laws.{tables_cleared}
 use Rattle.sys_calls.specs.declared.kernel.Kernel.{Kernel}
 use Rattle.sys_calls.proofs.Keeping.{keeps_by}
-use Rattle.sys_calls.proofs.Entering.{entered_none}
 use Rattle.sys_calls.proofs.Saying.{saved_alike}
 use Rattle.sys_calls.proofs.Tables.{cleared_runs}
 use Rattle.sys_calls.proofs.numbers.set_tid_address.Goals as goal
@@ -28,7 +27,8 @@ returns-clause-answered c = λ h m told read.
           ∙ ap (with_clear c.args.tid.0 (argument h c.args.tid.0 0)) told.threads;
       scheduling = told.scheduling;
       console = told.console;
-      pages = entered_none m;
+      pages = λ has. has;
+      code = λ a. refl;
       told = refl;
       hart = cleared_runs h.hart c.args.tid.0 (argument h c.args.tid.0 0) h.kernel.threads;
       goes_on = refl;

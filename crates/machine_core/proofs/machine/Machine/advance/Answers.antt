@@ -1,10 +1,9 @@
-use Rattle.std.proofs.Common.{◌≡◌, ◌++◌, [], ◌∷◌, ap, sym, ◌∙◌, Ok, Some, None, subst}
+use Rattle.std.proofs.Common.{◌≡◌, ◌++◌, [], ◌∷◌, ap, sym, ◌∙◌, None, subst}
 use Rattle.std.proofs.lemmas.Result.{IfOk-at_ok}
-use Rattle.block_model.specs.Choosing.{IsChosen, credit_at}
-use Rattle.block_model.specs.Deciding.{entry_in, history}
-use Rattle.block_model.specs.History.{here_in_history, ran}
+use Rattle.block_model.specs.Choosing.{IsChosen}
+use Rattle.block_model.specs.Deciding.{entry_in}
+use Rattle.block_model.specs.History.{here_in_history}
 use Rattle.block_model.specs.Setting.{Seen}
-use Rattle.block_model.specs.Sights.{sight_in}
 use Rattle.block_model.proofs.Laws.{chosen_more}
 use Rattle.machine_core.specs.Tied.{past_of, seen, setting_of}
 use Rattle.machine_core.proofs.Advanced.{answers_ended, answers_made, answers_none, answers_past, machine_picks, all_of, never_err, same_entry, turn_picks}
@@ -37,7 +36,7 @@ unreachable-requires c =
     let is = turn_picks m h c.sight-sight.result c.in-Some.pick c.self.invariant (rw (← c.self.view_is) at c.requires.chosen)
     (rw (← c.self.view_is) at (sym c.has_ended.ensures.answer ∙ c.if-has_ended.false)) c.if-hart-self.false
     (rw (← c.self.view_is) at c.sight-sight.ensures) (sym c.in-Some.is ∙ c.peek.ensures) in
-    never_err _ _ (sym c.in-Err.is ∙ ((rw (← c.self.view_is) at c.step.ensures.answer) ∙ is.decided))
+    never_err _ _ (sym c.in-Err.is ∙ ((rw (← c.self.view_is) at c.step_seen.ensures.answer) ∙ is.decided))
 
 pub returns-clause-answer : goal.returns-clause-answer
 returns-clause-answer c =
@@ -47,7 +46,7 @@ returns-clause-answer c =
     let is = turn_picks m h c.sight-sight.result c.in-Some.pick c.self.invariant (rw (← c.self.view_is) at c.requires.chosen) going c.if-hart-self.false
     (rw (← c.self.view_is) at c.sight-sight.ensures) (sym c.in-Some.is ∙ c.peek.ensures) in
     rw (← c.self.view_is) (answers_made (setting_of m) h (past_of m) c.in-Some.pick c.in-Ok.entry going c.if-hart-self.false is.picked
-    (same_entry _ _ (sym c.in-Ok.is ∙ ((rw (← c.self.view_is) at c.step.ensures.answer) ∙ is.decided))))
+    (same_entry _ _ (sym c.in-Ok.is ∙ ((rw (← c.self.view_is) at c.step_seen.ensures.answer) ∙ is.decided))))
 
 pub returns-clause-chosen : goal.returns-clause-chosen
 returns-clause-chosen c =
@@ -58,7 +57,7 @@ returns-clause-chosen c =
     let is = turn_picks m h c.sight-sight.result c.in-Some.pick c.self.invariant chosen going c.if-hart-self.false
     (rw (← c.self.view_is) at c.sight-sight.ensures) (sym c.in-Some.is ∙ c.peek.ensures) in
     let e = entry_in c.in-Some.pick.choice (here_in_history (setting_of m) (past_of m) h) in
-    let same = same_entry _ _ (sym c.in-Ok.is ∙ ((rw (← c.self.view_is) at c.step.ensures.answer) ∙ is.decided)) in
-    let new = IfOk-at_ok (λ f. c.step.new.self ≡ record (seen m) { log = m.log.items ++ f ∷ [] }) c.in-Ok.is (rw (← c.self.view_is) at c.step.ensures.ok) in
-    let whole : c.step.new.self ≡ record (seen m) { log = m.log.items ++ e ∷ [] } = new ∙ ap (λ f. let v : Seen = record (seen m) { log = m.log.items ++ f ∷ [] } in v) same in
+    let same = same_entry _ _ (sym c.in-Ok.is ∙ ((rw (← c.self.view_is) at c.step_seen.ensures.answer) ∙ is.decided)) in
+    let new = IfOk-at_ok (λ f. c.step_seen.new.self ≡ record (seen m) { log = m.log.items ++ f ∷ [] }) c.in-Ok.is (rw (← c.self.view_is) at c.step_seen.ensures.ok) in
+    let whole : c.step_seen.new.self ≡ record (seen m) { log = m.log.items ++ e ∷ [] } = new ∙ ap (λ f. let v : Seen = record (seen m) { log = m.log.items ++ f ∷ [] } in v) same in
     subst (λ (v : Seen). IsChosen v.setting v.log) (sym whole) (chosen_more (setting_of m) m.log.items h e c.self.invariant.run chosen is.next).1

@@ -18,7 +18,7 @@ invariant_of-result c =
       ended = None;
     } in
     let first : c.in_ok-threads.threads ≡ start_table (start_file (program_of c.args.image.now)) = c.in_ok-threads.ensures.start ∙ ap start_table c.first_file.ensures in
-    let tied = tied-start c.args.image.now c.args.limits c.args.seed parts c.requires.image.permissions c.in_ok-pages.ensures.permissions c.in_ok-pages.ensures.bytes c.in_ok-harts.ensures.count c.in_ok-harts.ensures.idle first c.new-ready.ensures c.in_ok-console.ensures c.in_ok-threads.ensures.table refl in
+    let tied = tied-start c.args.image.now c.args.limits c.args.seed parts c.requires.image.permissions c.in_ok-pages.ensures.permissions c.in_ok-pages.ensures.held (c.in_ok-pages.ensures.free ∙ c.in_ok-pool.ensures.free) c.in_ok-pages.ensures.break_at c.in_ok-pages.ensures.break_start c.in_ok-harts.ensures.count c.in_ok-harts.ensures.idle first c.new-ready.ensures c.in_ok-console.ensures c.in_ok-threads.ensures.table refl in
     record {
       run = rw (c.in_ok-log.ensures.items, same_pages) (start_run (setting_by c.args.image.now c.args.limits c.args.seed));
       tied = rw (c.in_ok-log.ensures.items, same_pages, start_plain (setting_by c.args.image.now c.args.limits c.args.seed)) tied;

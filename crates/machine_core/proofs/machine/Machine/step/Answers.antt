@@ -1,16 +1,14 @@
-use Rattle.std.proofs.Common.{◌≡◌, ◌<◌, Some, ap, length, refl, sym, ◌∙◌, arith}
+use Rattle.std.proofs.Common.{◌≡◌, ◌<◌, Option, None, false, length, refl, sym, ◌∙◌, arith, slice_get}
+use Rattle.mach_types.specs.declared.events.Sight.{Sight}
 use Rattle.std.proofs.lemmas.Result.{IfOk-at_ok}
-use Rattle.block_model.specs.Choosing.{IsChosen, credit_at}
 use Rattle.block_model.specs.Events.{done_of}
-use Rattle.block_model.specs.History.{here_in_history, ran}
-use Rattle.block_model.specs.Sights.{sight_in}
 use Rattle.block_model.specs.Plain.{here_of}
 use Rattle.block_model.proofs.Laws.{after_end, at_limit, at_no_hart}
 use Rattle.machine_core.specs.Tied.{IsAfter, past_of, seen, setting_of}
 use Rattle.machine_core.specs.declared.parts.Parts.{Parts}
-use Rattle.machine_core.proofs.Advanced.{all_of}
+use Rattle.machine_core.proofs.Advanced.{chosen_of}
 use Rattle.machine_core.specs.Credits.{seen_if}
-use Rattle.machine_core.proofs.Settled.{settled}
+use Rattle.machine_core.proofs.Settled.{machine_goes, settled, unfollowed}
 use Rattle.machine_core.proofs.Stepping.{place_of, refused, stepped}
 use Rattle.machine_core.proofs.machine.Machine.step.Goals as goal
 
@@ -29,6 +27,16 @@ returns-then-hart-self-clause-answer c =
     let m = c.self.inside in
     rw (← c.self.view_is) (sym (at_no_hart (seen m) c.args.hart.0 c.args.choice c.self.invariant.run (sym c.self.invariant.tied.ended ∙ c.in_default.is) (omega (arith, c.if-len-self.false, c.len.ensures, m.log.ok.0)) c.if-hart-self.true))
 
+pub step_chosen-requires-clause-chosen : goal.step_chosen-requires-clause-chosen
+step_chosen-requires-clause-chosen c =
+    let m = c.self.inside in
+    rw (← c.self.view_is) (chosen_of (setting_of m) m.log.items (rw (← c.self.view_is) at (sym c.if-is_chosen.true ∙ c.is_chosen.ensures)))
+
+pub step_chosen-requires-clause-goes : goal.step_chosen-requires-clause-goes
+step_chosen-requires-clause-goes c =
+    let m = c.self.inside in
+    rw (← c.self.view_is) (machine_goes m c.self.invariant c.in_default.is (omega (arith, c.if-len-self.false, c.len.ensures, m.log.ok.0)))
+
 pub make-requires : goal.make-requires
 make-requires c =
     let m = c.self.inside in
@@ -45,17 +53,18 @@ invariant_of-self c =
     let place = place_of m c.args.hart.0 c.self.invariant c.in_default.is room c.if-hart-self.false in
     let after = IfOk-at_ok (λ e. IsAfter (seen m) c.args.hart.0 (done_of c.args.choice (here_of (seen m) c.args.hart.0)) m.parts c.make.new.self) c.in-Ok.is (c.make.ensures.after (seen m) place refl) in
     let step = stepped (seen m) m.parts c.make.new.self c.args.hart c.args.choice c.make.result c.in-Ok.entry place (c.make.ensures.answer (seen m) place refl) c.in-Ok.is after in
-    let sees : c.sight_if_chosen-sight.result ≡ seen_if m.chosen (setting_of m) c.args.hart.0 (past_of m) =
-    (rw (← c.self.view_is) at c.sight_if_chosen-sight.ensures) ∙ ap (λ b. seen_if b (setting_of m) c.args.hart.0 (past_of m)) (sym c.self.invariant.chosen) in
-    let p' : Parts = record c.make.new.self { harts = c.follow-self-inside.new.harts } in
-    let is = settled m c.args.hart c.args.choice c.in-Ok.entry c.make.new.self p' c.sight_if_chosen-sight.result c.self.invariant c.in_default.is room c.if-hart-self.false step after.credits sees c.follow-self-inside.ensures.harts refl refl refl in
+    let p' : Parts = c.make.new.self in
+    let apart : m.chosen ≡ false = c.self.invariant.chosen ∙ (rw (← c.self.view_is) at (sym c.is_chosen.ensures ∙ c.if-is_chosen.false)) in
+    let sees : (let none : Option Sight = None in none) ≡ seen_if m.chosen (setting_of m) c.args.hart.0 (past_of m) = rw apart refl in
+    let is = settled m c.args.hart c.args.choice c.in-Ok.entry p' p' None c.self.invariant c.in_default.is room c.if-hart-self.false step after.credits sees
+    (λ k. unfollowed m.chooser c.args.hart.0 c.args.choice k (slice_get p'.harts.items k)) refl refl refl in
     record {
       run = rw c.append.ensures.items step.run;
       tied = rw c.append.ensures.items is.tied;
-      chosen = rw c.append.ensures.items (c.follow-self-inside.ensures.followed ∙ is.chosen);
+      chosen = rw c.append.ensures.items (apart ∙ is.chosen);
       credits = rw c.append.ensures.items is.credits;
-      generators = λ followed. rw (c.append.ensures.items, c.follow-self-inside.ensures.generators) (is.generators (sym c.follow-self-inside.ensures.followed ∙ followed));
-      held = ap length c.follow-self-inside.ensures.generators ∙ is.held;
+      generators = λ followed. rw c.append.ensures.items (is.generators (sym apart ∙ followed));
+      held = c.self.invariant.held;
       limits = c.self.invariant.limits;
       room = omega (arith, c.self.invariant.room, c.append.ensures.capacity);
     }

@@ -14,7 +14,7 @@ use Rattle.machine_core.proofs.Events.{changed, none_lost}
 use Rattle.machine_core.proofs.HartEvents.{run_own}
 use Rattle.machine_core.proofs.KernelTies.{saved_ran}
 use Rattle.machine_core.proofs.NotStuck.{not_stuck, ready_live}
-use Rattle.machine_core.proofs.Places.{events_fit, fit_at, goes_on, hart_is, same_byte, tables_at}
+use Rattle.machine_core.proofs.Places.{events_fit, fit_at, goes_on, hart_is, tables_at}
 use Rattle.machine_core.proofs.parts.Parts.begun.Goals as goal
 
 -- src/moving.rt:121:9
@@ -36,8 +36,8 @@ returns c = record {
       changed v h (done_of (asked.Run c.args.tid) (here_of v h)) c.args.self.now _ _ place (fit_at v c.args.self.now h (asked.Run c.args.tid) place free) (record {
         own = run_own _ v.setting p h t c.run-saved.result x _ (hart_is v c.args.self.now h x place c.index_mut-state.ensures.value) tables is.1 is.0 place.lt kept (ap (λ (z : HartState). record z { events = z.events + 1 }) c.enter.ensures);
         harts = none_lost h (done_of (asked.Run c.args.tid) (here_of v h)) _ refl;
-        bytes = λ a. same_byte _ a;
-        writable = λ a. refl;
+        pages = place.tied.pages;
+        readable = place.tied.readable;
         threads = c.run-saved.ensures.threads ∙ ap (with_state t (Running c.args.hart)) place.tied.threads;
         scheduling = OnTrue_at (c.take-ready.ensures.ready ∙ (ap (λ (sc : Scheduling). list_any (λ u. eqb u t) sc.order) place.tied.scheduling ∙ (ready_listed v.setting.limits.harts t p.kernel.threads p.kernel.scheduling tables ∙ is.1))) c.take-ready.ensures.taken ∙ ap (without_ready t) place.tied.scheduling;
         console = place.tied.console;

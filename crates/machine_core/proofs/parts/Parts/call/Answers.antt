@@ -9,7 +9,7 @@ use Rattle.block_model.specs.Calls.{called}
 use Rattle.block_model.specs.Events.Exec.{by_call}
 use Rattle.block_model.specs.Plain.{here_of, plain_seen}
 use Rattle.machine_core.specs.Losing.{lost_unless}
-use Rattle.machine_core.proofs.Calling.{call_own, calling, ended_after, may_write_still, numbers_left, same_events, same_ran, tables_found}
+use Rattle.machine_core.proofs.Calling.{call_own, calling, ended_after, numbers_left, same_events, same_ran, tables_found}
 use Rattle.machine_core.proofs.Entries.{changed_as, entry_exec}
 use Rattle.machine_core.proofs.Places.{events_fit, hart_is, ran_fits}
 use Rattle.machine_core.proofs.parts.Parts.call.Goals as goal
@@ -48,8 +48,8 @@ returns c = record {
       changed_as v h asked.Exec (by_call here d) m _ y place plan.free is.done (record {
         own = call_own _ v.setting (plain_seen v) h t c.make_call-done.result.end c.make_call-done.new.saved d x y is.own is.runs made.hart made.own (ap (λ (z : HartState). record z { ran = z.ran + 1; events = z.events + 1 }) c.end_call.ensures);
         harts = λ k. ap (λ xs. slice_get xs k) (with_items_is harts c.lose_others.new.harts long) ∙ (c.lose_others.ensures k ∙ (ap (λ ws. option_map (lost_unless (eqb k h) ws) (slice_get c.deref_mut.result.now k)) (c.as_slice.ensures.value ∙ c.make_call-done.ensures.written here is.at) ∙ ap (λ xs. option_map (lost_unless (eqb k h) d.entered) (slice_get xs k)) c.deref_mut.ensures.value));
-        bytes = made.bytes;
-        writable = may_write_still m.pages c.make_call-done.new.pages made.permissions;
+        pages = made.pages;
+        readable = λ n may. (c.keeps.ensures.writable n may).0;
         threads = made.threads;
         scheduling = made.scheduling;
         console = made.console;

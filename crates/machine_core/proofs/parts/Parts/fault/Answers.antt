@@ -6,7 +6,7 @@ use Rattle.machine_core.proofs.Entries.{changed_as, entry_exec}
 use Rattle.machine_core.proofs.Events.{none_lost}
 use Rattle.machine_core.proofs.Executed.{done_fault}
 use Rattle.machine_core.proofs.HartEvents.{fault_own}
-use Rattle.machine_core.proofs.Places.{events_fit, hart_is, ran_fits, same_byte}
+use Rattle.machine_core.proofs.Places.{events_fit, hart_is, ran_fits}
 use Rattle.machine_core.proofs.parts.Parts.fault.Goals as goal
 
 pub overflow_add-state : goal.overflow_add-state
@@ -26,8 +26,8 @@ returns c effect = record {
       changed_as v h asked.Exec (by_fault here c.args.signal) m _ _ place plan.free (done_fault here plan.thread c.args.signal plan.at (sym plan.fault)) (record {
         own = fault_own _ v.setting (plain_seen v) h c.args.signal x _ (hart_is v m h x place c.index_mut-state.ensures.value) refl;
         harts = none_lost h (by_fault here c.args.signal) _ refl;
-        bytes = λ a. same_byte _ a;
-        writable = λ a. refl;
+        pages = place.tied.pages;
+        readable = place.tied.readable;
         threads = place.tied.threads;
         scheduling = place.tied.scheduling;
         console = place.tied.console;

@@ -13,7 +13,7 @@ use Rattle.machine_core.proofs.HartEvents.{preempt_own}
 use Rattle.machine_core.proofs.KernelTies.{saved_left}
 use Rattle.machine_core.proofs.Leaving.{leaving}
 use Rattle.machine_core.proofs.NotStuck.{not_stuck}
-use Rattle.machine_core.proofs.Places.{events_fit, goes_on, hart_is, same_byte, tables_at}
+use Rattle.machine_core.proofs.Places.{events_fit, goes_on, hart_is, tables_at}
 use Rattle.machine_core.proofs.parts.Parts.left.Goals as goal
 
 pub overflow_add-state : goal.overflow_add-state
@@ -49,8 +49,8 @@ returns c = record {
       changed_as v h asked.Preempt (done_preempt_by (here_of v h) (Some t)) m _ _ place free (ap (done_preempt_by (here_of v h)) is.at) (record {
         own = preempt_own _ v.setting p h t x _ is.own (tables_at v m h place) is.at (ap (λ (z : HartState). record z { events = z.events + 1 }) c.leave-saved.ensures.hart);
         harts = none_lost h (done_preempt_by (here_of v h) (Some t)) _ refl;
-        bytes = λ a. same_byte _ a;
-        writable = λ a. refl;
+        pages = place.tied.pages;
+        readable = place.tied.readable;
         threads = c.leave.ensures.threads ∙ ap (with_state t Ready) place.tied.threads;
         scheduling = c.push.ensures ∙ ap (with_ready t) place.tied.scheduling;
         console = place.tied.console;

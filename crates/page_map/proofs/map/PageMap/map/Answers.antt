@@ -41,3 +41,9 @@ returns-in-Some-clause-code c =
     over-code c.args.self.now c.map_zeros.new.self (run c.in-Some.first c.pages_of-count.result (Some c.permission_for.result)) c.map_zeros.ensures.pages
     (ap (λ (p : ℕ). can_execute (Some p)) c.permission_for.ensures ∙ prot-no-code c.args.perm)
     (λ n inside. let both = run-in c.in-Some.first c.pages_of-count.result n (Some c.permission_for.result) inside in ap can_execute (fits.none n both.0 both.1))
+
+pub returns-in-Some-clause-ends : goal.returns-in-Some-clause-ends
+returns-in-Some-clause-ends c =
+    let fits = hole-fits (permission_in c.args.self.now) c.pages_of-count.result c.in-Some.first c.in-Some.ensures in
+    let high = fits.high in
+    omega arith

@@ -1,0 +1,238 @@
+-- Worked examples, proved by computation: calls that map, remove and protect pages, and what holds them up.
+use Rattle.std.proofs.Common.{◌≡◌, ℕ, ◌-◌, ◌^◌, List, [], ◌∷◌, ◌++◌, replicate, refl, cond, eqb, Option, Some, None, Result, Ok, Err}
+use Rattle.mach_types.specs.declared.events.Choice.{Choice}
+use Rattle.mach_types.specs.declared.events.Choice.TheVariants as asked
+use Rattle.mach_types.specs.declared.events.Entry.{Entry}
+use Rattle.mach_types.specs.declared.events.Why.{Why}
+use Rattle.mach_types.specs.declared.events.Why.TheVariants.{Others}
+use Rattle.mach_types.specs.declared.limits.End.{End}
+use Rattle.mach_types.specs.declared.limits.End.TheVariants as over
+use Rattle.mach_types.specs.declared.threads.Saved.{Saved}
+use Rattle.mach_types.specs.declared.user_memory.Write.TheVariants.{Zeroed}
+use Rattle.mach_types.specs.Kernel.PageCalls.{break_moved}
+use Rattle.mach_types.specs.Kernel.Pages.{count_pages, each_page, first_page, lowest_hole, permission_at}
+use Rattle.mach_types.specs.Registers.{no_registers, register, with_register}
+use Rattle.rv_inst.specs.declared.effects.Effect.TheVariants as effect
+use Rattle.rv_inst.specs.Meaning.{meaning}
+use Rattle.rv_inst.specs.Table.{row_of, rows, lui_rows, auipc_rows, jal_rows, jalr_rows, branch_rows, load_rows, store_rows, op_imm_rows, op_imm_32_rows, op_rows, op_32_rows, misc_mem_rows, amo_rows, system_rows}
+use Rattle.block_model.specs.Calls.{called}
+use Rattle.block_model.specs.Deciding.{decide, done, end_of, history}
+use Rattle.block_model.specs.Events.Exec.{is_held, others_gate}
+use Rattle.block_model.specs.Here.{Here}
+use Rattle.block_model.specs.Kernel.{paged}
+use Rattle.block_model.specs.History.{console, here_in_history}
+use Rattle.block_model.specs.Replay.{Ask, played}
+use Rattle.block_model.specs.Setting.{Setting}
+
+-- a program with a page of code and a page of data, and so many frames, of which 67 are taken at the start
+abbrev program_of_frames : ℕ → List ℕ → Setting
+program_of_frames frames code = record {
+  program = record {
+    pages = record { number = 0x10; perm = 5; bytes = replicate 0xB0 0 ++ code } ∷ record { number = 0x20; perm = 6; bytes = [] } ∷ [];
+    entry = 0x100B0;
+    phdr = 0x10040;
+    phnum = 2;
+    break_at = 0x21000;
+  };
+  limits = record { harts = 2; frames = frames; steps = 200000 };
+  seed = 0;
+}
+
+-- with 61 free frames the program maps 249,856 bytes, which are 61 pages, at 0x2000000000, and can't map 4,096 more; it stores 0xFF
+-- there, and once that has entered memory it removes the pages, maps 4,096 bytes at the same place, and finds 0 there. It exits with
+-- 0 where all this is so
+abbrev frames_run_out : Setting
+frames_run_out = program_of_frames 128 (
+    0x13 ∷ 0x05 ∷ 0x00 ∷ 0x00 ∷ 0xB7 ∷ 0xD5 ∷ 0x03 ∷ 0x00 ∷ 0x13 ∷ 0x06 ∷ 0x30 ∷ 0x00 ∷ 0x93 ∷ 0x06 ∷ 0x20 ∷ 0x02 ∷
+    0x13 ∷ 0x07 ∷ 0xF0 ∷ 0xFF ∷ 0x93 ∷ 0x07 ∷ 0x00 ∷ 0x00 ∷ 0x93 ∷ 0x08 ∷ 0xE0 ∷ 0x0D ∷ 0x73 ∷ 0x00 ∷ 0x00 ∷ 0x00 ∷
+    0xB7 ∷ 0x02 ∷ 0x00 ∷ 0x02 ∷ 0x93 ∷ 0x92 ∷ 0xC2 ∷ 0x00 ∷ 0x63 ∷ 0x06 ∷ 0x55 ∷ 0x00 ∷ 0x13 ∷ 0x05 ∷ 0x10 ∷ 0x00 ∷
+    0x6F ∷ 0x00 ∷ 0xC0 ∷ 0x0B ∷ 0x13 ∷ 0x05 ∷ 0x00 ∷ 0x00 ∷ 0xB7 ∷ 0x15 ∷ 0x00 ∷ 0x00 ∷ 0x13 ∷ 0x06 ∷ 0x30 ∷ 0x00 ∷
+    0x93 ∷ 0x06 ∷ 0x20 ∷ 0x02 ∷ 0x13 ∷ 0x07 ∷ 0xF0 ∷ 0xFF ∷ 0x93 ∷ 0x07 ∷ 0x00 ∷ 0x00 ∷ 0x93 ∷ 0x08 ∷ 0xE0 ∷ 0x0D ∷
+    0x73 ∷ 0x00 ∷ 0x00 ∷ 0x00 ∷ 0x93 ∷ 0x02 ∷ 0x40 ∷ 0xFF ∷ 0x63 ∷ 0x06 ∷ 0x55 ∷ 0x00 ∷ 0x13 ∷ 0x05 ∷ 0x20 ∷ 0x00 ∷
+    0x6F ∷ 0x00 ∷ 0xC0 ∷ 0x08 ∷ 0x37 ∷ 0x04 ∷ 0x00 ∷ 0x02 ∷ 0x13 ∷ 0x14 ∷ 0xC4 ∷ 0x00 ∷ 0x93 ∷ 0x02 ∷ 0xF0 ∷ 0x0F ∷
+    0x23 ∷ 0x00 ∷ 0x54 ∷ 0x00 ∷ 0x37 ∷ 0x05 ∷ 0x00 ∷ 0x02 ∷ 0x13 ∷ 0x15 ∷ 0xC5 ∷ 0x00 ∷ 0xB7 ∷ 0xD5 ∷ 0x03 ∷ 0x00 ∷
+    0x93 ∷ 0x08 ∷ 0x70 ∷ 0x0D ∷ 0x73 ∷ 0x00 ∷ 0x00 ∷ 0x00 ∷ 0x93 ∷ 0x02 ∷ 0x00 ∷ 0x00 ∷ 0x63 ∷ 0x06 ∷ 0x55 ∷ 0x00 ∷
+    0x13 ∷ 0x05 ∷ 0x30 ∷ 0x00 ∷ 0x6F ∷ 0x00 ∷ 0x80 ∷ 0x05 ∷ 0x13 ∷ 0x05 ∷ 0x00 ∷ 0x00 ∷ 0xB7 ∷ 0x15 ∷ 0x00 ∷ 0x00 ∷
+    0x13 ∷ 0x06 ∷ 0x30 ∷ 0x00 ∷ 0x93 ∷ 0x06 ∷ 0x20 ∷ 0x02 ∷ 0x13 ∷ 0x07 ∷ 0xF0 ∷ 0xFF ∷ 0x93 ∷ 0x07 ∷ 0x00 ∷ 0x00 ∷
+    0x93 ∷ 0x08 ∷ 0xE0 ∷ 0x0D ∷ 0x73 ∷ 0x00 ∷ 0x00 ∷ 0x00 ∷ 0xB7 ∷ 0x02 ∷ 0x00 ∷ 0x02 ∷ 0x93 ∷ 0x92 ∷ 0xC2 ∷ 0x00 ∷
+    0x63 ∷ 0x06 ∷ 0x55 ∷ 0x00 ∷ 0x13 ∷ 0x05 ∷ 0x40 ∷ 0x00 ∷ 0x6F ∷ 0x00 ∷ 0x40 ∷ 0x02 ∷ 0x37 ∷ 0x04 ∷ 0x00 ∷ 0x02 ∷
+    0x13 ∷ 0x14 ∷ 0xC4 ∷ 0x00 ∷ 0x03 ∷ 0x45 ∷ 0x04 ∷ 0x00 ∷ 0x93 ∷ 0x02 ∷ 0x00 ∷ 0x00 ∷ 0x63 ∷ 0x06 ∷ 0x55 ∷ 0x00 ∷
+    0x13 ∷ 0x05 ∷ 0x50 ∷ 0x00 ∷ 0x6F ∷ 0x00 ∷ 0x80 ∷ 0x00 ∷ 0x13 ∷ 0x05 ∷ 0x00 ∷ 0x00 ∷ 0x93 ∷ 0x08 ∷ 0xE0 ∷ 0x05 ∷
+    0x73 ∷ 0x00 ∷ 0x00 ∷ 0x00 ∷ [])
+
+abbrev line : Choice → Ask
+line choice = record { hart = record { 0 = 0 }; choice = choice; check = None }
+
+abbrev outcome : Setting → Result (List Entry) ℕ → Result (List ℕ × End) ℕ
+outcome s (Ok log) = Ok (console s (history s log), end_of s (history s log))
+outcome s (Err n) = Err n
+
+abbrev script : List Ask
+script = line (asked.Run (record { 0 = 1 })) ∷ (replicate 29 (line asked.Exec) ++ (line asked.Drain ∷ replicate 22 (line asked.Exec)))
+
+frames_run_out_played : outcome frames_run_out (played frames_run_out script) ≡ Ok ([], over.Exit 0)
+unfolding played decide history done end_of meaning row_of rows lui_rows auipc_rows jal_rows jalr_rows branch_rows load_rows store_rows op_imm_rows op_imm_32_rows op_rows op_32_rows misc_mem_rows amo_rows system_rows lowest_hole first_page each_page count_pages
+frames_run_out_played = refl
+
+-- a call of thread 1 at the start, with a number and arguments
+abbrev calls : ℕ → ℕ → ℕ → ℕ → ℕ → Here
+calls number a0 a1 a2 a3 = record (here_in_history (program_of_frames 128 []) [] 0) {
+  file = λ t. record {
+    file = with_register (with_register (with_register (with_register (with_register no_registers 17 number) 10 a0) 11 a1) 12 a2) 13 a3;
+    pc = 0x10080;
+  };
+}
+
+abbrev answer_in : List (ℕ × Saved) → ℕ
+answer_in [] = 0
+answer_in (p ∷ ps) = register p.1.file 10
+
+abbrev answer : Here → ℕ
+answer here = answer_in (called here 1).files
+
+abbrev error : ℕ → ℕ
+error errno = 2 ^ 64 - errno
+
+-- mmap: MAP_PRIVATE and MAP_ANONYMOUS must be given, and MAP_NORESERVE, MAP_POPULATE and MAP_STACK may be; the address is ignored
+mmap_answers : answer (calls 222 0x5000 4096 3 0x22) ≡ 0x2000000000
+unfolding lowest_hole first_page each_page count_pages
+mmap_answers = refl
+
+mmap_ignores_flags : answer (calls 222 0 4096 3 0x2C022) ≡ 0x2000000000
+unfolding lowest_hole first_page each_page count_pages
+mmap_ignores_flags = refl
+
+mmap_knows_no_shared : answer (calls 222 0 4096 3 0x21) ≡ error 22
+mmap_knows_no_shared = refl
+
+mmap_knows_no_fixed : answer (calls 222 0 4096 3 0x32) ≡ error 22
+mmap_knows_no_fixed = refl
+
+-- a bad flag comes before pages that could be executed, and those before a want of frames
+mmap_flags_first : answer (calls 222 0 4096 4 0) ≡ error 22
+mmap_flags_first = refl
+
+mmap_flags_before_frames : answer (calls 222 0 0x40000000 3 0) ≡ error 22
+mmap_flags_before_frames = refl
+
+mmap_no_code : answer (calls 222 0 0x40000000 4 0x22) ≡ error 13
+mmap_no_code = refl
+
+mmap_lacks_frames : answer (calls 222 0 0x3E000 3 0x22) ≡ error 12
+mmap_lacks_frames = refl
+
+-- the pages that are mapped are written as one run of zeros
+mmap_writes_zeros : (called (calls 222 0 4097 3 0x22) 1).entered ≡ Zeroed 0x2000000000 0x2000 ∷ []
+unfolding lowest_hole first_page each_page count_pages
+mmap_writes_zeros = refl
+
+-- brk always answers the break: a growth by a byte maps a page of zeros; nothing is below the program's own break
+brk_grows : answer (calls 214 0x21001 0 0 0) ≡ 0x21001
+unfolding lowest_hole first_page each_page count_pages
+brk_grows = refl
+
+brk_writes_zeros : (called (calls 214 0x21001 0 0 0) 1).entered ≡ Zeroed 0x21000 0x1000 ∷ []
+unfolding lowest_hole first_page each_page count_pages
+brk_writes_zeros = refl
+
+brk_stays : answer (calls 214 0 0 0 0) ≡ 0x21000
+unfolding lowest_hole first_page each_page count_pages
+brk_stays = refl
+
+brk_writes_nothing : (called (calls 214 0 0 0 0) 1).entered ≡ []
+unfolding lowest_hole first_page each_page count_pages
+brk_writes_nothing = refl
+
+brk_lacks_frames : answer (calls 214 0x5E001 0 0 0) ≡ 0x21000
+unfolding lowest_hole first_page each_page count_pages
+brk_lacks_frames = refl
+
+-- munmap and mprotect: the page of code stays; a page that isn't mapped may be removed, and can't be protected
+munmap_answers : answer (calls 215 0x20000 4096 0 0) ≡ 0
+unfolding lowest_hole first_page each_page count_pages
+munmap_answers = refl
+
+munmap_no_code : answer (calls 215 0x10000 4096 0 0) ≡ error 13
+unfolding lowest_hole first_page each_page count_pages
+munmap_no_code = refl
+
+munmap_of_a_hole : answer (calls 215 0x30000 4096 0 0) ≡ 0
+unfolding lowest_hole first_page each_page count_pages
+munmap_of_a_hole = refl
+
+munmap_frees : (called (calls 215 0x20000 1 0 0) 1).kernel.pages.free ≡ 62
+unfolding lowest_hole first_page each_page count_pages
+munmap_frees = refl
+
+mprotect_answers : answer (calls 226 0x20000 4096 1 0) ≡ 0
+unfolding lowest_hole first_page each_page count_pages
+mprotect_answers = refl
+
+mprotect_lets_read : permission_at (called (calls 226 0x20000 4096 1 0) 1).kernel.pages 0x20FFF ≡ Some 4
+unfolding lowest_hole first_page each_page count_pages
+mprotect_lets_read = refl
+
+mprotect_of_a_hole : answer (calls 226 0x30000 4096 1 0) ≡ error 12
+unfolding lowest_hole first_page each_page count_pages
+mprotect_of_a_hole = refl
+
+mprotect_no_code : answer (calls 226 0x10000 4096 1 0) ≡ error 13
+unfolding lowest_hole first_page each_page count_pages
+mprotect_no_code = refl
+
+mprotect_of_nothing : answer (calls 226 0x30000 0 99 0) ≡ 0
+unfolding lowest_hole first_page each_page count_pages
+mprotect_of_nothing = refl
+
+-- where a store of 8 bytes to 0x20FF8 waits on hart 1, hart 0 may not remove or protect its page
+abbrev beside_store : Here → Here
+beside_store here = record here { waiting = λ k. cond (eqb k 1) (record { at = 0x20FF8; size = 8; value = 7 } ∷ []) [] }
+
+abbrev held : Here → Option Why
+held here = others_gate (is_held (beside_store here) 1) (Some effect.Call)
+
+munmap_is_held : held (calls 215 0x20000 4096 0 0) ≡ Some Others
+unfolding lowest_hole first_page each_page count_pages
+munmap_is_held = refl
+
+mprotect_is_held : held (calls 226 0x20000 4096 3 0) ≡ Some Others
+unfolding lowest_hole first_page each_page count_pages
+mprotect_is_held = refl
+
+-- a call that is refused takes no page, nor does one of other pages or that maps pages
+refused_is_not_held : held (calls 226 0x20000 8192 1 0) ≡ None
+unfolding lowest_hole first_page each_page count_pages
+refused_is_not_held = refl
+
+other_page_is_not_held : held (calls 215 0x21000 4096 0 0) ≡ None
+unfolding lowest_hole first_page each_page count_pages
+other_page_is_not_held = refl
+
+mmap_is_not_held : held (calls 222 0 4096 3 0x22) ≡ None
+mmap_is_not_held = refl
+
+brk_that_grows_is_not_held : held (calls 214 0x22000 0 0 0) ≡ None
+brk_that_grows_is_not_held = refl
+
+-- the break stands two pages above the lowest, and a store of 8 bytes to 0x21FF8 waits on hart 1
+abbrev grown : Here → Here
+grown here = record here {
+  kernel = paged (break_moved 0x21000 0x23000 here.kernel.pages) here.kernel;
+  waiting = λ k. cond (eqb k 1) (record { at = 0x21FF8; size = 8; value = 7 } ∷ []) [];
+}
+
+abbrev held_grown : Here → Option Why
+held_grown here = others_gate (is_held (grown here) 1) (Some effect.Call)
+
+-- a break that falls below the page is held up; one that stays on it isn't, nor is one that would lie below the lowest
+brk_that_falls_is_held : held_grown (calls 214 0x21000 0 0 0) ≡ Some Others
+unfolding lowest_hole first_page each_page count_pages
+brk_that_falls_is_held = refl
+
+brk_within_the_page_is_not_held : held_grown (calls 214 0x21008 0 0 0) ≡ None
+unfolding lowest_hole first_page each_page count_pages
+brk_within_the_page_is_not_held = refl
+
+refused_brk_is_not_held : held_grown (calls 214 0x20000 0 0 0) ≡ None
+unfolding lowest_hole first_page each_page count_pages
+refused_brk_is_not_held = refl

@@ -1,0 +1,87 @@
+-- `clap` reads the words behind a command as the grammar does, but for a value that is `-`.
+use Rattle.std.proofs.Common.{◌≡◌, ◌∙◌, Bool, cond, true, false, List, [], ◌∷◌, Option, Some, None, refl}
+use Rattle.std.proofs.Common.{ap, arith}
+use Rattle.std.specs.Prelude.{◌||◌, fold}
+use Rattle.std.specs.Option.{is_some}
+use Rattle.clap.specs.Kinds.{Kinds, or_else}
+use Rattle.clap.specs.Walk.{Row, Rule, Text, has_row, settled, walk, with_default}
+use Rattle.clap.specs.Walk.{nothing_held}
+use Rattle.clap.specs.Simple.{built, entered, matches_of}
+use Rattle.clap.specs.Faults.{defaults_fault, entered_fault, fault_of, settle_fault, walk_fault}
+use Rattle.command_words.specs.Line.{line}
+use Rattle.command_words.specs.Options.{OptionName, Harts, Frames, Steps, Seed}
+use Rattle.command_words.proofs.Parts.{no_arguments}
+use Rattle.command_words.specs.Words.{Options}
+use Rattle.command_words.proofs.ClapRows.{Holds}
+use Rattle.command_words.proofs.ClapWords.{id_of, rules}
+use Rattle.command_words.proofs.ClapTurns.{AreLetters, Ends, end_of, fails, held, shape, value_of}
+use Rattle.command_words.proofs.ClapTurns.{walk_at}
+use Rattle.command_words.proofs.ClapWalk.{loose}
+use Rattle.command_words.proofs.ClapGoes.{goes_on}
+use Rattle.clap.specs.Walk.{idle, Walk}
+
+abbrev pub start : Walk
+start = walk_at (held [] None) idle 1 false
+
+no_row : (o : OptionName) → Holds (id_of o) [] (value_of o no_arguments)
+no_row Harts = refl
+no_row Frames = refl
+no_row Steps = refl
+no_row Seed = refl
+
+-- the walk over a whole line
+pub whole : (words : List Text) → AreLetters words → Ends start words (loose words no_arguments Options)
+whole words letters =
+    goes_on words letters no_arguments Options [] None (omega arith)
+    (refl, record { options = no_row; first = refl; second = refl; few = omega arith })
+
+or_nil : (k : Kinds) → or_else k [] ≡ k
+or_nil [] = refl
+or_nil (x ∷ xs) = refl
+
+pub or_true : (b : Bool) → (b || true) ≡ true
+or_true true = refl
+or_true false = refl
+
+kept : (b : Bool) (rows : List Row) → cond b rows rows ≡ rows
+kept true rows = refl
+kept false rows = refl
+
+abbrev HasNone : List Rule → Type 0
+HasNone [] = Unit {0}
+HasNone (a ∷ rest) = (a.defaults ≡ []) × HasNone rest
+
+unchanged : (rows : List Row) (a : Rule) → a.defaults ≡ [] → with_default rows a ≡ rows
+unchanged rows a none = rw none (kept (has_row a.id rows) rows)
+
+all_unchanged : (rows : List Row) (rs : List Rule) → HasNone rs → fold with_default rows rs ≡ rows
+all_unchanged rows [] none = refl
+all_unchanged rows (a ∷ rest) none = ap (λ (now : List Row). fold with_default now rest)
+    (unchanged rows a none.0) ∙ all_unchanged rows rest none.1
+
+no_default_fault : (rows : List Row) (rs : List Rule) → HasNone rs → defaults_fault rows rs ≡ []
+unfolding defaults_fault
+no_default_fault rows [] none = refl
+no_default_fault rows (a ∷ rest) none =
+    rw (none.0, or_true (has_row a.id rows), kept (has_row a.id rows) rows) (no_default_fault rows rest none.1)
+
+none_here : HasNone rules
+none_here = (refl, (refl, (refl, (refl, (refl, (refl, tt))))))
+
+not_entered : (stop : Option (Text × List Text)) → entered_fault (built line) stop ≡ []
+not_entered None = refl
+not_entered (Some p) = refl
+
+none_entered : (stop : Option (Text × List Text)) → is_some (entered (built line) stop) ≡ false
+none_entered None = refl
+none_entered (Some p) = refl
+
+pub fault_is : (words : List Text) → fault_of line words ≡ fails start words
+fault_is words =
+    let stop = (walk rules [] nothing_held words).stopped in
+    let end = end_of start words in
+    rw (not_entered stop, none_entered stop, no_default_fault (settled rules end).rows rules none_here)
+    (ap (or_else (walk_fault shape [] start words)) (or_nil (settle_fault rules false end)))
+
+pub matches_are : (words : List Text) → matches_of line words ≡ (settled rules (end_of start words)).rows
+matches_are words = all_unchanged (settled rules (end_of start words)).rows rules none_here

@@ -1,0 +1,318 @@
+-- What `clap` finds asks each command for what the grammar asks it for: the two differ at a value that is `-`
+-- alone, which is no number of any option.
+use Rattle.std.proofs.Common.{◌≡◌, ◌∙◌, ◌⊎◌, inl, inr, ℕ, ◌≤◌, Bool, cond, true, false, List, [], ◌∷◌, ◌++◌}
+use Rattle.std.proofs.Common.{length, Option, Some, None, refl, sym, ap, subst, codes, arith, String}
+use Rattle.std.specs.Prelude.{◌||◌, nat_lt, slice_get}
+use Rattle.std.specs.Option.{is_some}
+use Rattle.std.specs.Str.{bytes_eq}
+use Rattle.std.specs.declared.alloc.Global.{Global}
+use Rattle.std.proofs.lemmas.Str.{IsUtf8-string_bytes}
+use Rattle.step_log.specs.Script.{◌>>=◌}
+use Rattle.clap.specs.Walk.{Row, Text}
+use Rattle.clap.specs.Simple.{matches_of}
+use Rattle.clap.specs.Faults.{fault_of}
+use Rattle.command_words.specs.Grammar.{Arguments, Item, Name, Given, asked_by, begins_with_dash, is_option}
+use Rattle.command_words.specs.Grammar.{limits_on, play_named, play_of, run_named, run_of, solo_named}
+use Rattle.command_words.specs.Grammar.{solo_of}
+use Rattle.command_words.specs.Line.{AsksAlike, arguments_found, line, names_found}
+use Rattle.command_words.specs.Options.{OptionName, Harts, Frames, Steps, Seed, chosen, range_of}
+use Rattle.command_words.specs.Words.{Reading, Options, Value, Names, texts, word_read}
+use Rattle.command_words.proofs.Parts.{no_arguments, with_item}
+use Rattle.command_words.proofs.Gathering.{arguments_gathered, none_after, none_either, with_words}
+use Rattle.command_words.proofs.Gathering.{word_refused, word_taken, word_unread}
+use Rattle.command_words.proofs.ClapRows.{first_held}
+use Rattle.command_words.proofs.ClapWords.{by_form}
+use Rattle.command_words.proofs.ClapTurns.{AreLetters, Ends, Fits, and_false, value_of}
+use Rattle.command_words.proofs.ClapWalk.{loose, loosely, read_on, with_option}
+use Rattle.command_words.proofs.ClapGoes.{long_word_is, option_item, option_twice}
+use Rattle.command_words.proofs.ClapLine.{fault_is, matches_are, or_true, start, whole}
+
+-- ---- no command takes a value that is `-`
+
+abbrev pub dash : Text
+dash = 45 ∷ []
+
+no_frames : (harts : ℕ) (given : Arguments) → given.frames ≡ Some dash → limits_on harts given ≡ None
+no_frames harts given is = rw is refl
+
+no_steps : (harts : ℕ) (given : Arguments) → given.steps ≡ Some dash → limits_on harts given ≡ None
+no_steps harts given is = none_after (chosen (range_of Frames) given.frames) _ (λ frames. rw is refl)
+
+no_solo : (o : OptionName) (names : List Text) (given : Arguments) → value_of o given ≡ Some dash
+    → solo_named names given ≡ None
+no_solo o [] given is = refl
+no_solo o (a ∷ b ∷ more) given is = refl
+no_solo Harts (a ∷ []) given is = rw is refl
+no_solo Frames (a ∷ []) given is =
+    none_either (is_some given.harts || is_some given.seed) _ (rw (no_frames 1 given is) refl)
+no_solo Steps (a ∷ []) given is =
+    none_either (is_some given.harts || is_some given.seed) _ (rw (no_steps 1 given is) refl)
+no_solo Seed (a ∷ []) given is = rw (is, or_true (is_some given.harts)) refl
+
+no_play : (o : OptionName) (names : List Text) (given : Arguments) → value_of o given ≡ Some dash
+    → play_named names given ≡ None
+no_play o [] given is = refl
+no_play o (a ∷ []) given is = refl
+no_play o (a ∷ b ∷ c ∷ more) given is = refl
+no_play Harts (a ∷ b ∷ []) given is = none_either (is_some given.seed) _ (rw is refl)
+no_play Frames (a ∷ b ∷ []) given is =
+    none_either (is_some given.seed) _
+    (none_after (chosen (range_of Harts) given.harts) _ (λ harts. rw (no_frames harts given is) refl))
+no_play Steps (a ∷ b ∷ []) given is =
+    none_either (is_some given.seed) _
+    (none_after (chosen (range_of Harts) given.harts) _ (λ harts. rw (no_steps harts given is) refl))
+no_play Seed (a ∷ b ∷ []) given is = rw is refl
+
+no_run : (o : OptionName) (names : List Text) (given : Arguments) → value_of o given ≡ Some dash
+    → run_named names given ≡ None
+no_run o [] given is = refl
+no_run o (a ∷ b ∷ more) given is = refl
+no_run Harts (a ∷ []) given is = rw is refl
+no_run Frames (a ∷ []) given is =
+    none_after (chosen (range_of Harts) given.harts) _ (λ harts. rw (no_frames harts given is) refl)
+no_run Steps (a ∷ []) given is =
+    none_after (chosen (range_of Harts) given.harts) _ (λ harts. rw (no_steps harts given is) refl)
+no_run Seed (a ∷ []) given is =
+    none_after (chosen (range_of Harts) given.harts) _
+    (λ harts. none_after (limits_on harts given) _ (λ limits. rw is refl))
+
+none_asked : (word : Text) (o : OptionName) (given : Arguments) → value_of o given ≡ Some dash
+    → asked_by word given ≡ None
+none_asked word o given is =
+    go (bytes_eq word (codes "solo")) (bytes_eq word (codes "play")) (bytes_eq word (codes "run"))
+  where
+    go : (s p r : Bool) → cond s (solo_of given) (cond p (play_of given) (cond r (run_of given) None)) ≡ None
+    go true p r = no_solo o given.names given is
+    go false true r = no_play o given.names given is
+    go false false true = no_run o given.names given is
+    go false false false = refl
+
+-- ---- such a value stays
+
+stays_apart : (o other : OptionName) (v : Text) (given : Arguments)
+    → (o ≡ other) ⊎ (value_of o (with_option other v given) ≡ value_of o given)
+stays_apart Harts Harts v given = inl refl
+stays_apart Harts Frames v given = inr refl
+stays_apart Harts Steps v given = inr refl
+stays_apart Harts Seed v given = inr refl
+stays_apart Frames Harts v given = inr refl
+stays_apart Frames Frames v given = inl refl
+stays_apart Frames Steps v given = inr refl
+stays_apart Frames Seed v given = inr refl
+stays_apart Steps Harts v given = inr refl
+stays_apart Steps Frames v given = inr refl
+stays_apart Steps Steps v given = inl refl
+stays_apart Steps Seed v given = inr refl
+stays_apart Seed Harts v given = inr refl
+stays_apart Seed Frames v given = inr refl
+stays_apart Seed Steps v given = inr refl
+stays_apart Seed Seed v given = inl refl
+
+same_value : (o : OptionName) (names : List Text) (given : Arguments)
+    → value_of o (record given { names = names }) ≡ value_of o given
+same_value Harts names given = refl
+same_value Frames names given = refl
+same_value Steps names given = refl
+same_value Seed names given = refl
+
+name_stays : (o : OptionName) (text : Text) (given next : Arguments) (b : Bool)
+    → cond b (Some (record given { names = given.names ++ text ∷ [] })) None ≡ Some next
+    → value_of o next ≡ value_of o given
+name_stays o text given next true is =
+    let same : record given { names = given.names ++ text ∷ [] } ≡ next = cc is in
+    ap (value_of o) (sym same) ∙ same_value o (given.names ++ text ∷ []) given
+name_stays o text given next false is = absurd (cc is)
+
+value_stays : (o other : OptionName) (x text : Text) (given next : Arguments) (value : Option Text)
+    → value_of other given ≡ value → value_of o given ≡ Some x → with_item given (Some (Given other text)) ≡ Some next
+    → value_of o next ≡ value_of o given
+value_stays o other x text given next (Some y) has there is =
+    absurd (cc (sym (option_twice other text y given has) ∙ is))
+value_stays o other x text given next None has there is =
+    let same : with_option other text given ≡ next = cc (sym (option_item other text given has) ∙ is) in
+    ap (value_of o) (sym same) ∙ go (stays_apart o other text given)
+  where
+    go : (o ≡ other) ⊎ (value_of o (with_option other text given) ≡ value_of o given)
+        → value_of o (with_option other text given) ≡ value_of o given
+    go (inl equal) =
+        let lacks : value_of o given ≡ None = ap (λ (n : OptionName). value_of n given) equal ∙ has in
+        absurd (cc (sym there ∙ lacks))
+    go (inr apart) = apart
+
+item_stays : (o : OptionName) (x : Text) (item : Option Item) (given next : Arguments) → value_of o given ≡ Some x
+    → with_item given item ≡ Some next → value_of o next ≡ Some x
+item_stays o x None given next there is =
+    let same : given ≡ next = cc is in
+    ap (value_of o) (sym same) ∙ there
+item_stays o x (Some (Name text)) given next there is =
+    name_stays o text given next (nat_lt (length given.names) 2) is ∙ there
+item_stays o x (Some (Given other text)) given next there is =
+    value_stays o other x text given next (value_of other given) refl there is ∙ there
+
+asked_after : (word : Text) (o : OptionName) (given : Arguments) (rest : List Text)
+    (read : Option (Option Item × Reading))
+    → ((next : Arguments) (after : Reading) → value_of o next ≡ Some dash
+    → (loose rest next after >>= asked_by word) ≡ None)
+    → value_of o given ≡ Some dash
+    → ((read >>= read_on (loose rest) given) >>= asked_by word) ≡ None
+asked_after word o given rest None later there = refl
+asked_after word o given rest (Some (item, after)) later there = go (with_item given item) refl
+  where
+    go : (added : Option Arguments) → with_item given item ≡ added
+        → ((added >>= (λ next. loose rest next after)) >>= asked_by word) ≡ None
+    go None is = refl
+    go (Some next) is = later next after (item_stays o dash item given next there is)
+
+none_later : (word : Text) (o : OptionName) (words : List Text) (given : Arguments) (reading : Reading)
+    → value_of o given ≡ Some dash → (loose words given reading >>= asked_by word) ≡ None
+none_later word o [] given Options there = none_asked word o given there
+none_later word o [] given (Value other) there = refl
+none_later word o [] given Names there = none_asked word o given there
+none_later word o (next ∷ rest) given reading there =
+    asked_after word o given rest (loosely reading next)
+    (λ given reading there. none_later word o rest given reading there) there
+
+-- ---- the loose reading and the grammar's
+
+abbrev Alike : Text → List Text → Type 0
+Alike word rest = (given : Arguments) (reading : Reading)
+    → (loose rest given reading >>= asked_by word) ≡ (with_words given reading rest >>= asked_by word)
+
+alike_after : (word next : Text) (rest : List Text) (given : Arguments) (reading : Reading)
+    (read : Option (Option Item × Reading)) → word_read reading next ≡ read → Alike word rest
+    → ((read >>= read_on (loose rest) given) >>= asked_by word)
+    ≡ (with_words given reading (next ∷ rest) >>= asked_by word)
+alike_after word next rest given reading None is later =
+    sym (ap (λ (o : Option Arguments). o >>= asked_by word) (word_unread given reading next rest is))
+alike_after word next rest given reading (Some (item, after)) is later = go (with_item given item) refl
+  where
+    go : (added : Option Arguments) → with_item given item ≡ added
+        → ((added >>= (λ more. loose rest more after)) >>= asked_by word)
+        ≡ (with_words given reading (next ∷ rest) >>= asked_by word)
+    go None fits =
+        sym (ap (λ (o : Option Arguments). o >>= asked_by word) (word_refused given reading after item next rest
+        is fits))
+    go (Some more) fits = later more after
+        ∙ sym (ap (λ (o : Option Arguments). o >>= asked_by word) (word_taken given more reading after item next
+        rest is fits))
+
+-- a word that begins with `-` and may be a name is `-`
+alone : (next : Text) → begins_with_dash next ≡ true → is_option next ≡ false → next ≡ dash
+alone next =
+    by_form (λ w. begins_with_dash w ≡ true → is_option w ≡ false → w ≡ dash)
+    (λ begins name. absurd (cc begins)) (λ begins name. refl) (λ begins name. absurd (cc name))
+    (λ z rest begins name. absurd (cc (sym (long_word_is 45 (z ∷ rest)) ∙ name)))
+    (λ y rest e begins name. absurd (cc (sym (long_word_is y rest) ∙ name)))
+    (λ x rest e f begins name.
+    let other : begins_with_dash (x ∷ rest) ≡ false = rw f refl in
+    absurd (cc (sym other ∙ begins)))
+    next
+
+given_dash : (o : OptionName) (given : Arguments) → value_of o (with_option o dash given) ≡ Some dash
+given_dash Harts given = refl
+given_dash Frames given = refl
+given_dash Steps given = refl
+given_dash Seed given = refl
+
+dash_asks_none : (word : Text) (o : OptionName) (rest : List Text) (given : Arguments) (value : Option Text)
+    → value_of o given ≡ value
+    → ((with_item given (Some (Given o dash)) >>= (λ more. loose rest more Options)) >>= asked_by word) ≡ None
+dash_asks_none word o rest given (Some x) has =
+    ap (λ (e : Option Arguments). (e >>= (λ more. loose rest more Options)) >>= asked_by word)
+    (option_twice o dash x given has)
+dash_asks_none word o rest given None has =
+    ap (λ (e : Option Arguments). (e >>= (λ more. loose rest more Options)) >>= asked_by word)
+    (option_item o dash given has)
+    ∙ none_later word o rest (with_option o dash given) Options (given_dash o given)
+
+value_asks_none : (word : Text) (o : OptionName) (next : Text) (rest : List Text) (given : Arguments) (b : Bool)
+    → is_option next ≡ b → begins_with_dash next ≡ true
+    → ((cond b None (Some (Some (Given o next), Options)) >>= read_on (loose rest) given) >>= asked_by word) ≡ None
+value_asks_none word o next rest given true is begins = refl
+value_asks_none word o next rest given false is begins =
+    subst (λ (n : Text). ((with_item given (Some (Given o n)) >>= (λ more. loose rest more Options)) >>=
+    asked_by word) ≡ None)
+    (sym (alone next begins is)) (dash_asks_none word o rest given (value_of o given) refl)
+
+alike_value : (word : Text) (o : OptionName) (next : Text) (rest : List Text) (given : Arguments) (b : Bool)
+    → begins_with_dash next ≡ b → Alike word rest
+    → (loose (next ∷ rest) given (Value o) >>= asked_by word)
+    ≡ (with_words given (Value o) (next ∷ rest) >>= asked_by word)
+alike_value word o next rest given true begins later =
+    let unread : word_read (Value o) next ≡ None = rw begins refl in
+    value_asks_none word o next rest given (is_option next) refl begins
+    ∙ sym (ap (λ (e : Option Arguments). e >>= asked_by word) (word_unread given (Value o) next rest unread))
+alike_value word o next rest given false begins later =
+    let same : loosely (Value o) next ≡ word_read (Value o) next = rw
+    (begins, and_false (nat_lt 1 (length next))) refl in
+    ap (λ (r : Option (Option Item × Reading)). (r >>= read_on (loose rest) given) >>= asked_by word) same
+    ∙ alike_after word next rest given (Value o) (word_read (Value o) next) refl later
+
+alike_on : (word : Text) (words : List Text) → Alike word words
+alike_on word [] given Options = refl
+alike_on word [] given (Value o) = refl
+alike_on word [] given Names = refl
+alike_on word (next ∷ rest) given Options =
+    alike_after word next rest given Options (word_read Options next) refl (alike_on word rest)
+alike_on word (next ∷ rest) given Names =
+    alike_after word next rest given Names (word_read Names next) refl (alike_on word rest)
+alike_on word (next ∷ rest) given (Value o) =
+    alike_value word o next rest given (begins_with_dash next) refl (alike_on word rest)
+
+loose_asks : (words : List Text) → AsksAlike (loose words no_arguments Options) words
+loose_asks words word =
+    alike_on word words no_arguments Options
+    ∙ ap (λ (o : Option Arguments). o >>= asked_by word) (arguments_gathered words)
+
+asks_as : (a b : Option Arguments) (words : List Text) → a ≡ b → AsksAlike b words → AsksAlike a words
+asks_as a b words same alike word = ap (λ (o : Option Arguments). o >>= asked_by word) same ∙ alike word
+
+-- ---- what `clap` found
+
+names_back : (names : List Text) → length names ≤ 2 → names_found (slice_get names 0) (slice_get names 1) ≡ names
+names_back [] few = refl
+names_back (a ∷ []) few = refl
+names_back (a ∷ b ∷ []) few = refl
+names_back (a ∷ b ∷ c ∷ more) few = absurd (omega arith)
+
+read_back : (given : Arguments) (rows : List Row) → Fits given rows → arguments_found rows ≡ given
+read_back given rows fits =
+    let first = first_held (codes "program") rows (slice_get given.names 0) fits.first in
+    let second = first_held (codes "script") rows (slice_get given.names 1) fits.second in
+    let harts = first_held (codes "harts") rows given.harts (fits.options Harts) in
+    let frames = first_held (codes "frames") rows given.frames (fits.options Frames) in
+    let steps = first_held (codes "steps") rows given.steps (fits.options Steps) in
+    let seed = first_held (codes "seed") rows given.seed (fits.options Seed) in
+    rw (first, second, harts, frames, steps, seed, names_back given.names fits.few) refl
+
+by_ends : (words : List Text) (o : Option Arguments) → loose words no_arguments Options ≡ o → Ends start words o
+    → (rows : List Row) → fault_of line words ≡ [] → rows ≡ matches_of line words
+    → AsksAlike (Some (arguments_found rows)) words
+by_ends words None is ends rows none are = absurd (ends (sym (fault_is words) ∙ none))
+by_ends words (Some given) is ends rows none are =
+    let fits = subst (λ (r : List Row). Fits given r) (sym (are ∙ matches_are words)) ends.1 in
+    asks_as (Some (arguments_found rows)) (loose words no_arguments Options) words
+    (ap Some (read_back given rows fits) ∙ sym is) (loose_asks words)
+
+-- the words of a line are letters
+letters : (words : List (String Global)) → AreLetters (texts words)
+letters [] = tt
+letters (word ∷ rest) = (IsUtf8-string_bytes word, letters rest)
+
+-- where a parse ends well
+pub found_asks : (words : List (String Global)) (rows : List Row) → fault_of line (texts words) ≡ []
+    → rows ≡ matches_of line (texts words) → AsksAlike (Some (arguments_found rows)) (texts words)
+found_asks words rows none are =
+    by_ends (texts words) (loose (texts words) no_arguments Options) refl (whole (texts words) (letters words))
+    rows none are
+
+refused_by : (words : List Text) (o : Option Arguments) → loose words no_arguments Options ≡ o → Ends start words o
+    → (fault_of line words ≡ [] → ⊥) → AsksAlike None words
+refused_by words None is ends bad =
+    asks_as None (loose words no_arguments Options) words (sym is) (loose_asks words)
+refused_by words (Some given) is ends bad = absurd (bad (fault_is words ∙ ends.0))
+
+-- where it is refused
+pub none_asks : (words : List (String Global)) → (fault_of line (texts words) ≡ [] → ⊥) → AsksAlike None (texts words)
+none_asks words bad =
+    refused_by (texts words) (loose (texts words) no_arguments Options) refl (whole (texts words) (letters words)) bad

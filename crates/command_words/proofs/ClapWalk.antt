@@ -1,0 +1,239 @@
+-- `clap` walks over the words as the grammar reads them.
+use Rattle.std.proofs.Common.{◌≡◌, ◌∙◌, ℕ, ◌+◌, ◌≤◌, Bool, cond, true, false, List, [], ◌∷◌}
+use Rattle.std.proofs.Common.{◌++◌, length, Option, Some, None, refl, sym, ap, subst, codes, arith}
+use Rattle.std.proofs.Common.{append-nil}
+use Rattle.std.specs.Prelude.{slice_get, option_map}
+use Rattle.std.specs.Option.{is_some}
+use Rattle.std.specs.Str.{bytes_eq}
+use Rattle.step_log.specs.Script.{◌>>=◌}
+use Rattle.clap.specs.Walk.{Row, Text, Waiting, has_row, idle, option, more_values}
+use Rattle.clap.specs.Walk.{settled, used, with_values, without}
+use Rattle.clap.specs.Faults.{settle_fault}
+use Rattle.clap.specs.declared.parser.matches.ValueSource.TheVariants.{CommandLine}
+use Rattle.clap.specs.declared.builder.value_parser.Reading.TheVariants.{AsWritten}
+use Rattle.std.proofs.lemmas.Slice.Eq.{bytes_eq-Decides}
+use Rattle.command_words.specs.Grammar.{Arguments, Item, Given, is_option}
+use Rattle.command_words.specs.Options.{OptionName, Harts, Frames, Steps, Seed}
+use Rattle.command_words.proofs.Parts.{with_item}
+use Rattle.command_words.specs.Words.{Reading, Options, Value, Names, word_read}
+use Rattle.command_words.proofs.ClapRows.{Holds, has_held, found_before, found_last, row_added}
+use Rattle.command_words.proofs.ClapWords.{id_of, rules, option_built, name_built}
+use Rattle.command_words.proofs.ClapTurns.{Ends, Fits, held}
+use Rattle.command_words.proofs.ClapTurns.{value_of, walk_at}
+
+-- the grammar's reading, but for a value that is `-`
+abbrev pub loosely : Reading → Text → Option (Option Item × Reading)
+loosely Options word = word_read Options word
+loosely (Value o) word = cond (is_option word) None (Some (Some (Given o word), Options))
+loosely Names word = word_read Names word
+
+abbrev pub read_on : (Arguments → Reading → Option Arguments) → Arguments → Option Item × Reading → Option Arguments
+read_on more given (item, after) = with_item given item >>= (λ next. more next after)
+
+abbrev pub read_end : Arguments → Reading → Option Arguments
+read_end given Options = Some given
+read_end given (Value o) = None
+read_end given Names = Some given
+
+abbrev pub loose : List Text → Arguments → Reading → Option Arguments
+loose [] given reading = read_end given reading
+loose (word ∷ rest) given reading = loosely reading word >>= read_on (loose rest) given
+
+-- what is held between two words
+abbrev pub IsReady : Arguments → List Row → Option (Text × List Text) → Type 0
+IsReady given rows pending =
+    (settle_fault rules false (held rows pending) ≡ []) × Fits given (settled rules (held rows pending)).rows
+
+abbrev pub IsHeld : Reading → Arguments → List Row → Option (Text × List Text) → Type 0
+IsHeld Options given rows pending = IsReady given rows pending
+IsHeld (Value o) given rows pending = (pending ≡ Some (id_of o, [])) × Fits given rows
+IsHeld Names given rows pending = IsReady given rows pending
+
+abbrev pub waits_for : Reading → Waiting
+waits_for Options = idle
+waits_for (Value o) = option (id_of o)
+waits_for Names = idle
+
+abbrev pub trails : Reading → Bool
+trails Options = false
+trails (Value o) = false
+trails Names = true
+
+-- what is to be shown of the words that follow
+abbrev pub Goes : List Text → Arguments → Reading → List Row → Option (Text × List Text) → Type 0
+Goes rest given reading rows pending =
+    Ends (walk_at (held rows pending) (waits_for reading) (1 + length given.names) (trails reading)) rest
+    (loose rest given reading)
+
+abbrev pub GoesOn : List Text → Type 0
+GoesOn rest = (given : Arguments) (reading : Reading) (rows : List Row) (pending : Option (Text × List Text))
+    → length given.names ≤ 2 → IsHeld reading given rows pending → Goes rest given reading rows pending
+
+-- ---- a name or a value more
+
+abbrev pub with_names : List Text → Arguments → Arguments
+with_names names given = record given { names = names }
+
+abbrev pub with_option : OptionName → Text → Arguments → Arguments
+with_option Harts v given = record given { harts = Some v }
+with_option Frames v given = record given { frames = Some v }
+with_option Steps v given = record given { steps = Some v }
+with_option Seed v given = record given { seed = Some v }
+
+abbrev pub new_row : Text → Text → Row
+new_row id v = record {
+  id = id;
+  values = v ∷ [];
+  count = None;
+  source = Some CommandLine;
+  reading = AsWritten;
+}
+
+pub used_option : (name v : Text) (rows : List Row) → has_row name rows ≡ false
+    → used (option_built name) (v ∷ []) rows ≡ rows ++ new_row name v ∷ []
+used_option name v rows none =
+    let first : without name rows ≡ rows = row_added name (λ (r : Row). []) [] rows none ∙ append-nil rows in
+    ap (λ (rs : List Row). with_values name AsWritten CommandLine (v ∷ []) rs) first
+    ∙ row_added name (more_values CommandLine (v ∷ [])) (new_row name v ∷ []) rows none
+
+pub used_name : (place : ℕ) (name v : Text) (rows : List Row) → has_row name rows ≡ false
+    → used (name_built place name) (v ∷ []) rows ≡ rows ++ new_row name v ∷ []
+used_name place name v rows none = used_option name v rows none
+
+module _ (given : Arguments) (rows : List Row) (v : Text) (fits : Fits given rows) where
+  last : (o : OptionName) → value_of o given ≡ None → Holds (id_of o) (rows ++ new_row (id_of o) v ∷ []) (Some v)
+  last o none =
+      let absent = has_held (id_of o) rows (value_of o given) (fits.options o)
+      ∙ ap (λ (x : Option Text). is_some x) none in
+      let own : bytes_eq (id_of o) (id_of o) ≡ true = (bytes_eq-Decides (id_of o) (id_of o)).1 refl in
+      found_last (id_of o) rows (new_row (id_of o) v) v own refl absent
+
+  options_after : (o other : OptionName) → value_of o given ≡ None
+      → Holds (id_of other) (rows ++ new_row (id_of o) v ∷ []) (value_of other (with_option o v given))
+  options_after Harts Harts none = last Harts none
+  options_after Harts Frames none = found_before (id_of Frames) rows _ given.frames refl (fits.options Frames)
+  options_after Harts Steps none = found_before (id_of Steps) rows _ given.steps refl (fits.options Steps)
+  options_after Harts Seed none = found_before (id_of Seed) rows _ given.seed refl (fits.options Seed)
+  options_after Frames Frames none = last Frames none
+  options_after Frames Harts none = found_before (id_of Harts) rows _ given.harts refl (fits.options Harts)
+  options_after Frames Steps none = found_before (id_of Steps) rows _ given.steps refl (fits.options Steps)
+  options_after Frames Seed none = found_before (id_of Seed) rows _ given.seed refl (fits.options Seed)
+  options_after Steps Steps none = last Steps none
+  options_after Steps Harts none = found_before (id_of Harts) rows _ given.harts refl (fits.options Harts)
+  options_after Steps Frames none = found_before (id_of Frames) rows _ given.frames refl (fits.options Frames)
+  options_after Steps Seed none = found_before (id_of Seed) rows _ given.seed refl (fits.options Seed)
+  options_after Seed Seed none = last Seed none
+  options_after Seed Harts none = found_before (id_of Harts) rows _ given.harts refl (fits.options Harts)
+  options_after Seed Frames none = found_before (id_of Frames) rows _ given.frames refl (fits.options Frames)
+  options_after Seed Steps none = found_before (id_of Steps) rows _ given.steps refl (fits.options Steps)
+
+  pub names_after : (o : OptionName) → (with_option o v given).names ≡ given.names
+  names_after Harts = refl
+  names_after Frames = refl
+  names_after Steps = refl
+  names_after Seed = refl
+
+  apart : (o : OptionName) → (bytes_eq (id_of o) (codes "program") ≡ false) ×
+      (bytes_eq (id_of o) (codes "script") ≡ false)
+  apart Harts = (refl, refl)
+  apart Frames = (refl, refl)
+  apart Steps = (refl, refl)
+  apart Seed = (refl, refl)
+
+  unlike_names : (o : OptionName) → (bytes_eq (codes "program") (id_of o) ≡ false) ×
+      (bytes_eq (codes "script") (id_of o) ≡ false)
+  unlike_names Harts = (refl, refl)
+  unlike_names Frames = (refl, refl)
+  unlike_names Steps = (refl, refl)
+  unlike_names Seed = (refl, refl)
+
+  as_before : (o : OptionName) → Holds (id_of o) rows (value_of o (with_names (v ∷ []) given))
+  as_before Harts = fits.options Harts
+  as_before Frames = fits.options Frames
+  as_before Steps = fits.options Steps
+  as_before Seed = fits.options Seed
+
+  as_before_two : (a : Text) (o : OptionName) → Holds (id_of o) rows (value_of o (with_names (a ∷ v ∷ []) given))
+  as_before_two a Harts = fits.options Harts
+  as_before_two a Frames = fits.options Frames
+  as_before_two a Steps = fits.options Steps
+  as_before_two a Seed = fits.options Seed
+
+  pub option_fits : (o : OptionName) → value_of o given ≡ None
+      → Fits (with_option o v given) (used (option_built (id_of o)) (v ∷ []) rows)
+  option_fits o none =
+      let absent : has_row (id_of o) rows ≡ false = has_held (id_of o) rows (value_of o given) (fits.options o)
+      ∙ ap (λ (x : Option Text). is_some x) none in
+      let more = found_before (codes "program") rows (new_row (id_of o) v) (slice_get given.names 0) (apart o).0
+      fits.first in
+      let most = found_before (codes "script") rows (new_row (id_of o) v) (slice_get given.names 1) (apart o).1
+      fits.second in
+      subst (λ (rs : List Row). Fits (with_option o v given) rs) (sym (used_option (id_of o) v rows absent)) (record {
+        options = λ (other : OptionName). options_after o other none;
+        first = more ∙ ap (λ (ns : List Text). option_map (λ (t : Text). t ∷ []) (slice_get ns 0))
+            (sym (names_after o));
+        second = most ∙ ap (λ (ns : List Text). option_map (λ (t : Text). t ∷ []) (slice_get ns 1))
+            (sym (names_after o));
+        few = subst (λ (ns : List Text). length ns ≤ 2) (sym (names_after o)) fits.few;
+      })
+
+  pub option_free : (o : OptionName) → value_of o given ≡ None
+      → settle_fault rules false (held rows (Some (id_of o, v ∷ []))) ≡ []
+  option_free o none =
+      let absent : has_row (id_of o) rows ≡ false = has_held (id_of o) rows (value_of o given) (fits.options o)
+      ∙ ap (λ (x : Option Text). is_some x) none in
+      go o absent
+    where
+      go : (o : OptionName) → has_row (id_of o) rows ≡ false
+          → settle_fault rules false (held rows (Some (id_of o, v ∷ []))) ≡ []
+      go Harts absent = rw absent refl
+      go Frames absent = rw absent refl
+      go Steps absent = rw absent refl
+      go Seed absent = rw absent refl
+
+  pub program_fits : given.names ≡ []
+      → Fits (with_names (v ∷ []) given) (used (name_built 1 (codes "program")) (v ∷ []) rows)
+  program_fits none =
+      let holds : Holds (codes "program") rows None = fits.first
+      ∙ ap (λ (ns : List Text). option_map (λ (t : Text). t ∷ []) (slice_get ns 0)) none in
+      let absent = has_held (codes "program") rows None holds in
+      let second : Holds (codes "script") rows None = fits.second
+      ∙ ap (λ (ns : List Text). option_map (λ (t : Text). t ∷ []) (slice_get ns 1)) none in
+      subst (λ (rs : List Row). Fits (with_names (v ∷ []) given) rs)
+      (sym (used_name 1 (codes "program") v rows absent)) (record {
+        options = λ (other : OptionName). found_before (id_of other) rows (new_row (codes "program") v)
+            (value_of other (with_names (v ∷ []) given)) (unlike_names other).0 (as_before other);
+        first = found_last (codes "program") rows (new_row (codes "program") v) v refl refl absent;
+        second = found_before (codes "script") rows (new_row (codes "program") v) None refl second;
+        few = omega arith;
+      })
+
+  pub script_fits : (a : Text) → given.names ≡ a ∷ []
+      → Fits (with_names (a ∷ v ∷ []) given) (used (name_built 2 (codes "script")) (v ∷ []) rows)
+  script_fits a one =
+      let holds : Holds (codes "script") rows None = fits.second
+      ∙ ap (λ (ns : List Text). option_map (λ (t : Text). t ∷ []) (slice_get ns 1)) one in
+      let absent = has_held (codes "script") rows None holds in
+      let first : Holds (codes "program") rows (Some a) = fits.first
+      ∙ ap (λ (ns : List Text). option_map (λ (t : Text). t ∷ []) (slice_get ns 0)) one in
+      subst (λ (rs : List Row). Fits (with_names (a ∷ v ∷ []) given) rs)
+      (sym (used_name 2 (codes "script") v rows absent)) (record {
+        options = λ (other : OptionName). found_before (id_of other) rows (new_row (codes "script") v)
+            (value_of other (with_names (a ∷ v ∷ []) given)) (unlike_names other).1 (as_before_two a other);
+        first = found_before (codes "program") rows (new_row (codes "script") v) (Some a) refl first;
+        second = found_last (codes "script") rows (new_row (codes "script") v) v refl refl absent;
+        few = omega arith;
+      })
+
+  pub program_free : given.names ≡ [] → settle_fault rules false (held rows (Some (codes "program", v ∷ []))) ≡ []
+  program_free none =
+      let absent : has_row (codes "program") rows ≡ false = has_held (codes "program") rows None (fits.first
+      ∙ ap (λ (ns : List Text). option_map (λ (t : Text). t ∷ []) (slice_get ns 0)) none) in
+      rw absent refl
+
+  pub script_free : (a : Text) → given.names ≡ a ∷ [] → settle_fault rules false
+      (held rows (Some (codes "script", v ∷ []))) ≡ []
+  script_free a one =
+      let absent : has_row (codes "script") rows ≡ false = has_held (codes "script") rows None (fits.second
+      ∙ ap (λ (ns : List Text). option_map (λ (t : Text). t ∷ []) (slice_get ns 1)) one) in
+      rw absent refl

@@ -1,0 +1,13 @@
+mod ClapEquals
+mod ClapGoes
+mod ClapLine
+mod ClapReads
+mod ClapRows
+mod ClapTurns
+mod ClapWalk
+mod ClapWords
+mod Gathering
+mod Lines
+mod Numbers
+mod Parts
+mod WordExamples

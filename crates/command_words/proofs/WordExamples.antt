@@ -1,0 +1,263 @@
+-- Worked examples of words, by computation.
+use Rattle.std.proofs.Common.{◌≡◌, ℕ, ◌-◌, ◌^◌, [], ◌∷◌, Option, Some, None, refl, codes}
+use Rattle.mach_types.specs.declared.limits.Limits.{Limits}
+use Rattle.command_words.specs.Grammar.{Command, Solo, Play, Run}
+use Rattle.command_words.specs.Options.{number_of}
+use Rattle.command_words.specs.Words.{arguments_of, command_of}
+
+abbrev limits : ℕ → ℕ → ℕ → Limits
+limits harts frames steps = record { harts = harts; frames = frames; steps = steps }
+
+abbrev three_harts : Option Command
+three_harts = Some (Play (codes "F") (codes "S") (limits 3 4096 200000))
+
+-- the limits where no option is given
+solo_defaults : command_of (codes "solo" ∷ codes "F" ∷ []) ≡ Some (Solo (codes "F") (limits 1 4096 200000))
+unfolding command_of arguments_of
+solo_defaults = refl
+
+play_defaults : command_of (codes "play" ∷ codes "F" ∷ codes "S" ∷ [])
+    ≡ Some (Play (codes "F") (codes "S") (limits 2 4096 200000))
+unfolding command_of arguments_of
+play_defaults = refl
+
+-- `play F S --harts 3`, with the option before its names, between them, behind them, and as one word
+harts_behind : command_of (codes "play" ∷ codes "F" ∷ codes "S" ∷ codes "--harts" ∷ codes "3" ∷ [])
+    ≡ three_harts
+unfolding command_of arguments_of
+harts_behind = refl
+
+harts_before : command_of (codes "play" ∷ codes "--harts" ∷ codes "3" ∷ codes "F" ∷ codes "S" ∷ [])
+    ≡ three_harts
+unfolding command_of arguments_of
+harts_before = refl
+
+harts_between : command_of (codes "play" ∷ codes "F" ∷ codes "--harts" ∷ codes "3" ∷ codes "S" ∷ [])
+    ≡ three_harts
+unfolding command_of arguments_of
+harts_between = refl
+
+harts_in_one_word : command_of (codes "play" ∷ codes "F" ∷ codes "S" ∷ codes "--harts=3" ∷ []) ≡ three_harts
+unfolding command_of arguments_of
+harts_in_one_word = refl
+
+-- an option stands before or behind the name, as one word or as two
+value_behind_equals : command_of (codes "solo" ∷ codes "--steps=1" ∷ codes "F" ∷ [])
+    ≡ Some (Solo (codes "F") (limits 1 4096 1))
+unfolding command_of arguments_of
+value_behind_equals = refl
+
+value_in_next_word : command_of (codes "solo" ∷ codes "F" ∷ codes "--steps" ∷ codes "1" ∷ [])
+    ≡ Some (Solo (codes "F") (limits 1 4096 1))
+unfolding command_of arguments_of
+value_in_next_word = refl
+
+two_options : command_of (codes "solo" ∷ codes "--frames" ∷ codes "128" ∷ codes "--steps=5" ∷ codes "F" ∷ [])
+    ≡ Some (Solo (codes "F") (limits 1 128 5))
+unfolding command_of arguments_of
+two_options = refl
+
+most_harts : command_of (codes "play" ∷ codes "F" ∷ codes "S" ∷ codes "--harts=8" ∷ [])
+    ≡ Some (Play (codes "F") (codes "S") (limits 8 4096 200000))
+unfolding command_of arguments_of
+most_harts = refl
+
+-- behind `--` each word is a name
+options_ended : command_of (codes "solo" ∷ codes "--steps" ∷ codes "1" ∷ codes "--" ∷ codes "F" ∷ [])
+    ≡ Some (Solo (codes "F") (limits 1 4096 1))
+unfolding command_of arguments_of
+options_ended = refl
+
+name_like_an_option : command_of (codes "solo" ∷ codes "--" ∷ codes "--steps" ∷ [])
+    ≡ Some (Solo (codes "--steps") (limits 1 4096 200000))
+unfolding command_of arguments_of
+name_like_an_option = refl
+
+name_of_two_dashes : command_of (codes "solo" ∷ codes "--" ∷ codes "--" ∷ [])
+    ≡ Some (Solo (codes "--") (limits 1 4096 200000))
+unfolding command_of arguments_of
+name_of_two_dashes = refl
+
+-- `-` alone is a name, and so is the empty word
+name_of_one_dash : command_of (codes "solo" ∷ codes "-" ∷ []) ≡ Some (Solo (codes "-") (limits 1 4096 200000))
+unfolding command_of arguments_of
+name_of_one_dash = refl
+
+name_of_no_character : command_of (codes "solo" ∷ codes "" ∷ [])
+    ≡ Some (Solo (codes "") (limits 1 4096 200000))
+unfolding command_of arguments_of
+name_of_no_character = refl
+
+-- a number may have leading zeros, but 20 digits at most
+leading_zeros : command_of (codes "solo" ∷ codes "--steps=00001" ∷ codes "F" ∷ [])
+    ≡ Some (Solo (codes "F") (limits 1 4096 1))
+unfolding command_of arguments_of
+leading_zeros = refl
+
+many_digits : command_of (codes "solo" ∷ codes "--steps=000000000000000000001" ∷ codes "F" ∷ []) ≡ None
+unfolding command_of arguments_of
+many_digits = refl
+
+twenty_digits : command_of (codes "solo" ∷ codes "--steps=00000000000000000001" ∷ codes "F" ∷ [])
+    ≡ Some (Solo (codes "F") (limits 1 4096 1))
+unfolding command_of arguments_of
+twenty_digits = refl
+
+-- a number is below 2 ^ 64, whatever the option's range: 2 ^ 64 itself has 20 digits
+largest_number : number_of (codes "18446744073709551615") ≡ Some 18446744073709551615
+largest_number = refl
+
+number_too_large : number_of (codes "18446744073709551616") ≡ None
+number_too_large = refl
+
+-- no command, or another one
+no_word : command_of ([]) ≡ None
+unfolding command_of arguments_of
+no_word = refl
+
+another_command : command_of (codes "Solo" ∷ codes "F" ∷ []) ≡ None
+unfolding command_of arguments_of
+another_command = refl
+
+-- the number of names is exact
+solo_no_name : command_of (codes "solo" ∷ []) ≡ None
+unfolding command_of arguments_of
+solo_no_name = refl
+
+solo_two_names : command_of (codes "solo" ∷ codes "F" ∷ codes "G" ∷ []) ≡ None
+unfolding command_of arguments_of
+solo_two_names = refl
+
+play_one_name : command_of (codes "play" ∷ codes "F" ∷ []) ≡ None
+unfolding command_of arguments_of
+play_one_name = refl
+
+play_three_names : command_of (codes "play" ∷ codes "F" ∷ codes "S" ∷ codes "T" ∷ []) ≡ None
+unfolding command_of arguments_of
+play_three_names = refl
+
+-- an option that the command has not, one that no command has, and one that is given twice
+solo_harts : command_of (codes "solo" ∷ codes "--harts" ∷ codes "2" ∷ codes "F" ∷ []) ≡ None
+unfolding command_of arguments_of
+solo_harts = refl
+
+unknown_option : command_of (codes "solo" ∷ codes "--step" ∷ codes "1" ∷ codes "F" ∷ []) ≡ None
+unfolding command_of arguments_of
+unknown_option = refl
+
+short_option : command_of (codes "solo" ∷ codes "-x" ∷ []) ≡ None
+unfolding command_of arguments_of
+short_option = refl
+
+given_twice : command_of (codes "solo" ∷ codes "--steps=1" ∷ codes "--steps=1" ∷ codes "F" ∷ []) ≡ None
+unfolding command_of arguments_of
+given_twice = refl
+
+given_twice_in_both_forms : command_of
+    (codes "solo" ∷ codes "--steps" ∷ codes "1" ∷ codes "F" ∷ codes "--steps=1" ∷ []) ≡ None
+unfolding command_of arguments_of
+given_twice_in_both_forms = refl
+
+-- an option without a value, or with one that is no number
+no_value : command_of (codes "solo" ∷ codes "F" ∷ codes "--steps" ∷ []) ≡ None
+unfolding command_of arguments_of
+no_value = refl
+
+empty_value : command_of (codes "solo" ∷ codes "--steps=" ∷ codes "F" ∷ []) ≡ None
+unfolding command_of arguments_of
+empty_value = refl
+
+negative_value : command_of (codes "solo" ∷ codes "--steps" ∷ codes "-1" ∷ codes "F" ∷ []) ≡ None
+unfolding command_of arguments_of
+negative_value = refl
+
+ending_as_value : command_of (codes "solo" ∷ codes "F" ∷ codes "--steps" ∷ codes "--" ∷ codes "1" ∷ []) ≡ None
+unfolding command_of arguments_of
+ending_as_value = refl
+
+plus_value : command_of (codes "solo" ∷ codes "--steps=+1" ∷ codes "F" ∷ []) ≡ None
+unfolding command_of arguments_of
+plus_value = refl
+
+two_equals : command_of (codes "solo" ∷ codes "--steps=1=1" ∷ codes "F" ∷ []) ≡ None
+unfolding command_of arguments_of
+two_equals = refl
+
+-- a number out of its range
+too_few_steps : command_of (codes "solo" ∷ codes "--steps" ∷ codes "0" ∷ codes "F" ∷ []) ≡ None
+unfolding command_of arguments_of
+too_few_steps = refl
+
+too_many_steps : command_of (codes "solo" ∷ codes "--steps" ∷ codes "1000001" ∷ codes "F" ∷ []) ≡ None
+unfolding command_of arguments_of
+too_many_steps = refl
+
+no_harts : command_of (codes "play" ∷ codes "F" ∷ codes "S" ∷ codes "--harts" ∷ codes "0" ∷ []) ≡ None
+unfolding command_of arguments_of
+no_harts = refl
+
+too_many_harts : command_of (codes "play" ∷ codes "F" ∷ codes "S" ∷ codes "--harts" ∷ codes "9" ∷ []) ≡ None
+unfolding command_of arguments_of
+too_many_harts = refl
+
+too_few_frames : command_of (codes "play" ∷ codes "F" ∷ codes "S" ∷ codes "--frames" ∷ codes "127" ∷ [])
+    ≡ None
+unfolding command_of arguments_of
+too_few_frames = refl
+
+-- `run F` has the number of harts and the seed that are given, or else the defaults
+run_defaults : command_of (codes "run" ∷ codes "F" ∷ []) ≡ Some (Run (codes "F") (limits 2 4096 200000) 1)
+unfolding command_of arguments_of
+run_defaults = refl
+
+run_options : command_of
+    (codes "run" ∷ codes "--harts" ∷ codes "3" ∷ codes "F" ∷ codes "--frames=128" ∷ codes "--steps=5"
+    ∷ codes "--seed" ∷ codes "7" ∷ []) ≡ Some (Run (codes "F") (limits 3 128 5) 7)
+unfolding command_of arguments_of
+run_options = refl
+
+least_seed : command_of (codes "run" ∷ codes "F" ∷ codes "--seed=0" ∷ [])
+    ≡ Some (Run (codes "F") (limits 2 4096 200000) 0)
+unfolding command_of arguments_of
+least_seed = refl
+
+largest_seed : command_of
+    (codes "run" ∷ codes "--seed=18446744073709551615" ∷ codes "--" ∷ codes "F" ∷ [])
+    ≡ Some (Run (codes "F") (limits 2 4096 200000) (2 ^ 64 - 1))
+unfolding command_of arguments_of
+largest_seed = refl
+
+seed_too_large : command_of
+    (codes "run" ∷ codes "--seed" ∷ codes "18446744073709551616" ∷ codes "F" ∷ []) ≡ None
+unfolding command_of arguments_of
+seed_too_large = refl
+
+seed_twice : command_of (codes "run" ∷ codes "--seed=1" ∷ codes "--seed=1" ∷ codes "F" ∷ []) ≡ None
+unfolding command_of arguments_of
+seed_twice = refl
+
+run_too_many_harts : command_of (codes "run" ∷ codes "--harts" ∷ codes "9" ∷ codes "F" ∷ []) ≡ None
+unfolding command_of arguments_of
+run_too_many_harts = refl
+
+run_harts_twice : command_of
+    (codes "run" ∷ codes "--harts" ∷ codes "2" ∷ codes "--harts" ∷ codes "2" ∷ codes "F" ∷ []) ≡ None
+unfolding command_of arguments_of
+run_harts_twice = refl
+
+run_no_name : command_of (codes "run" ∷ []) ≡ None
+unfolding command_of arguments_of
+run_no_name = refl
+
+run_two_names : command_of (codes "run" ∷ codes "F" ∷ codes "S" ∷ []) ≡ None
+unfolding command_of arguments_of
+run_two_names = refl
+
+-- `solo` and `play` take no seed
+solo_seed : command_of (codes "solo" ∷ codes "--seed" ∷ codes "1" ∷ codes "F" ∷ []) ≡ None
+unfolding command_of arguments_of
+solo_seed = refl
+
+play_seed : command_of (codes "play" ∷ codes "--seed" ∷ codes "1" ∷ codes "F" ∷ codes "S" ∷ []) ≡ None
+unfolding command_of arguments_of
+play_seed = refl

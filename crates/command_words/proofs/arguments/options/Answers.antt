@@ -1,0 +1,15 @@
+use Rattle.std.proofs.Common.{rules, ap₂, ◌≡◌, ◌∙◌}
+use Rattle.std.proofs.lemmas.Result.{IfOk-weaker}
+use Rattle.clap.specs.Words.{app_of, with_rule}
+use Rattle.command_words.specs.Line.{bare}
+use Rattle.command_words.proofs.arguments.options.Goals as goal
+
+pub returns : goal.returns
+returns c =
+    let start : app_of c.disable_help_flag.result ≡ bare = search rules in
+    let one = c.in_ok-arg.ensures.shape c.option.ensures.own ∙ ap₂ with_rule start c.option.ensures.rule in
+    let two = c.in_ok-arg-2.ensures.shape c.option-2.ensures.own ∙ ap₂ with_rule one c.option-2.ensures.rule in
+    let three = c.in_ok-arg-3.ensures.shape c.option-3.ensures.own ∙ ap₂ with_rule two c.option-3.ensures.rule in
+    IfOk-weaker c.arg-4.result _ _ (λ parser added. added.shape c.option-4.ensures.own
+    ∙ ap₂ with_rule three c.option-4.ensures.rule)
+    c.arg-4.ensures

@@ -1,0 +1,46 @@
+-- What the code keeps of the words, in the grammar's terms.
+use Rattle.std.specs.Prelude.{ℕ, List, [], ◌∷◌}
+use Rattle.std.specs.Option.{option_copied}
+use Rattle.command_words.specs.declared.arguments.Arguments.{Arguments}
+use Rattle.command_words.specs.declared.arguments.FileNames.{FileNames}
+use Rattle.command_words.specs.declared.arguments.FileNames.TheVariants.{Zero, One, Two}
+use Rattle.command_words.specs.declared.commands.Command.{Command}
+use Rattle.command_words.specs.declared.commands.Command.TheVariants as code
+use Rattle.command_words.specs.declared.options.Numbers.{Numbers}
+use Rattle.command_words.specs.declared.options.OptionName.{OptionName}
+use Rattle.command_words.specs.declared.options.OptionName.TheVariants as option
+use Rattle.command_words.specs.Grammar.{Arguments as Stated, Command as Asked, Solo, Play, Run}
+use Rattle.command_words.specs.Options.{OptionName as Named, Harts, Frames, Steps, Seed, Range}
+
+-- an option
+abbrev pub named : OptionName → Named
+named option.Harts = Harts
+named option.Frames = Frames
+named option.Steps = Steps
+named option.Seed = Seed
+
+-- the numbers that an option takes
+abbrev pub range : Numbers → Range
+range numbers = record { least = numbers.least; most = numbers.most; default = numbers.default }
+
+-- the names, as texts
+abbrev pub names_kept : FileNames → List (List ℕ)
+names_kept Zero = []
+names_kept (One first) = first.now ∷ []
+names_kept (Two first second) = first.now ∷ second.now ∷ []
+
+-- the arguments, with the texts of their words
+abbrev pub stated : Arguments → Stated
+stated kept = record {
+  names = names_kept kept.names;
+  harts = option_copied kept.harts;
+  frames = option_copied kept.frames;
+  steps = option_copied kept.steps;
+  seed = option_copied kept.seed;
+}
+
+-- the command, with the texts of its names
+abbrev pub said : Command → Asked
+said (code.Solo program limits) = Solo program.now limits
+said (code.Play program script limits) = Play program.now script.now limits
+said (code.Run program limits seed) = Run program.now limits seed

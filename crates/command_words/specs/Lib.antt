@@ -1,0 +1,5 @@
+pub mod Grammar
+pub mod Kept
+pub mod Line
+pub mod Options
+pub mod Words

@@ -1,0 +1,46 @@
+-- What stands behind a command's word, as `clap` is told of it (own): four options that take a value each, and
+-- two names.
+use Rattle.std.specs.Prelude.{ℕ, ◌≡◌, List, [], ◌∷◌, Option, Some, None, codes, true}
+use Rattle.std.specs.Option.{option_to_list}
+use Rattle.clap.specs.Words.{App, Row, Rule, first_of, new_app, new_rule, with_rule}
+use Rattle.command_words.specs.Grammar.{Arguments, asked_by}
+use Rattle.command_words.specs.Words.{arguments_of}
+use Rattle.step_log.specs.Script.{◌>>=◌}
+
+-- an option that takes the value of its long name
+abbrev pub option_rule : List ℕ → Rule
+option_rule name = record (new_rule name) { long = Some name }
+
+-- a command that is told no name of its own among the words, and has no help
+abbrev pub bare : App
+bare = record (new_app (codes "rseq_run")) {
+  top = record (new_app (codes "rseq_run")).top { no_binary_name = true; disable_help_flag = true };
+}
+
+-- the command with its options, and with its names too
+abbrev pub with_options : App
+with_options =
+    with_rule (with_rule (with_rule (with_rule bare (option_rule (codes "harts")))
+    (option_rule (codes "frames"))) (option_rule (codes "steps"))) (option_rule (codes "seed"))
+
+abbrev pub line : App
+line = with_rule (with_rule with_options (new_rule (codes "program"))) (new_rule (codes "script"))
+
+-- the names that were found: no second without a first
+abbrev pub names_found : Option (List ℕ) → Option (List ℕ) → List (List ℕ)
+names_found None second = []
+names_found (Some first) second = first ∷ option_to_list second
+
+-- the arguments that `clap` found
+abbrev pub arguments_found : List Row → Arguments
+arguments_found rows = record {
+  names = names_found (first_of (codes "program") rows) (first_of (codes "script") rows);
+  harts = first_of (codes "harts") rows;
+  frames = first_of (codes "frames") rows;
+  steps = first_of (codes "steps") rows;
+  seed = first_of (codes "seed") rows;
+}
+
+-- these arguments ask each command for what those of the words ask it for
+abbrev pub AsksAlike : Option Arguments → List (List ℕ) → Type 0
+AsksAlike given words = (word : List ℕ) → (given >>= asked_by word) ≡ (arguments_of words >>= asked_by word)

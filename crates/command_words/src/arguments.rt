@@ -1,0 +1,109 @@
+//! What the words behind a command give it: names, and options with their values.
+
+ghost use Rattle.std.specs.Prelude.{◌≡◌, false, IfOk, option_copied, option_map};
+ghost use Rattle.clap.specs.Words.{app_of, found_of, rows_of, rule_of};
+ghost use Rattle.command_words.specs.Kept.{names_kept, stated};
+ghost use Rattle.command_words.specs.Line.{AsksAlike, arguments_found, line, names_found, option_rule};
+ghost use Rattle.command_words.specs.Line.{with_options};
+ghost use Rattle.command_words.specs.Words.{texts};
+
+use clap::error::ErrorKind;
+use clap::{Arg, ArgMatches, Command as Parser};
+use std::alloc::{AllocError, Global};
+
+/// The names that a command is given, in their order.
+#[derive(Clone, Copy, Debug, Drop)]
+pub(crate) enum FileNames<'a> {
+    /// No name.
+    Zero,
+    /// One name.
+    One(&'a str),
+    /// Two names.
+    Two(&'a str, &'a str),
+}
+
+/// What a command is given: its names, and the value of each option that is given.
+#[derive(Clone, Copy, Debug, Drop)]
+pub(crate) struct Arguments<'a> {
+    /// The names.
+    pub(crate) names: FileNames<'a>,
+    /// The value of `--harts`.
+    pub(crate) harts: Option<&'a str>,
+    /// The value of `--frames`.
+    pub(crate) frames: Option<&'a str>,
+    /// The value of `--steps`.
+    pub(crate) steps: Option<&'a str>,
+    /// The value of `--seed`.
+    pub(crate) seed: Option<&'a str>,
+}
+
+/// An option of this name, which takes a value.
+fn option<'a>(alloc: Global, name: &'a str) -> Arg<'a>
+    ensures rule { rule_of result ≡ option_rule name.entry.now }
+    ensures own { result.global ≡ false }
+{
+    Arg::new(alloc, name).long(name)
+}
+
+/// A parser of the options alone.
+fn options<'a>(alloc: Global) -> Result<Parser<'a>, AllocError>
+    ensures { IfOk result (λ parser. app_of parser ≡ with_options) }
+{
+    Parser::new(alloc, "rseq_run")
+        .no_binary_name(true)
+        .disable_help_flag(true)
+        .arg(option(alloc, "harts"))?
+        .arg(option(alloc, "frames"))?
+        .arg(option(alloc, "steps"))?
+        .arg(option(alloc, "seed"))
+}
+
+/// A parser of what may stand behind a command.
+fn parser<'a>(alloc: Global) -> Result<Parser<'a>, AllocError>
+    ensures { IfOk result (λ parser. app_of parser ≡ line) }
+{
+    options(alloc)?
+        .arg(Arg::new(alloc, "program"))?
+        .arg(Arg::new(alloc, "script"))
+}
+
+/// The names of a first and a second name.
+fn names_of<'a>(first: Option<&'a str>, second: Option<&'a str>) -> FileNames<'a>
+    ensures { names_kept result ≡ names_found (option_copied first.entry) (option_copied second.entry) }
+{
+    match (first, second) {
+        (Some(first), Some(second)) => FileNames::Two(first, second),
+        (Some(first), None) => FileNames::One(first),
+        (None, _) => FileNames::Zero,
+    }
+}
+
+/// The arguments that the parser found.
+fn arguments_in<'a>(matches: &ArgMatches<'a>) -> Arguments<'a>
+    ensures { stated result ≡ arguments_found (rows_of (found_of matches.now)) }
+{
+    Arguments {
+        names: names_of(matches.get_str("program"), matches.get_str("script")),
+        harts: matches.get_str("harts"),
+        frames: matches.get_str("frames"),
+        steps: matches.get_str("steps"),
+        seed: matches.get_str("seed"),
+    }
+}
+
+/// What the words behind a command give it; None where an option isn't known, is given twice or lacks its
+/// value, and where there are more than two names. An option's value is text yet.
+///
+/// It errs only for want of memory.
+pub(crate) fn arguments_of<'a>(
+    alloc: Global,
+    words: &'a [String],
+) -> Result<Option<Arguments<'a>>, AllocError>
+    ensures { IfOk result (λ found. AsksAlike (option_map stated found) (texts words.now)) }
+{
+    match parser(alloc)?.try_get_matches_from(words) {
+        Ok(matches) => Ok(Some(arguments_in(&matches))),
+        Err(error) if error.kind() == ErrorKind::OutOfMemory => Err(AllocError),
+        Err(_) => Ok(None),
+    }
+}

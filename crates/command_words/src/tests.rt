@@ -1,0 +1,3 @@
+//! Tests: worked examples, made by hand.
+
+mod words;

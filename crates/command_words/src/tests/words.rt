@@ -1,0 +1,140 @@
+//! Words of the grammar, and others.
+
+use crate::commands::{Command, command_of};
+use mach_types::Limits;
+use std::alloc::{AllocError, Global};
+use std::test::Fail;
+
+/// Words as they come from a command line.
+fn strings(alloc: Global, words: &[&str]) -> Result<Vec<String>, AllocError> {
+    let mut all = Vec::new(alloc);
+    for word in words {
+        all.push(String::from_str(alloc, word)?)?;
+    }
+    Ok(all)
+}
+
+/// The command `solo` with these limits.
+fn solo(program: &str, frames: u32, steps: u32) -> Option<Command<'_>> {
+    Some(Command::Solo {
+        program,
+        limits: Limits {
+            harts: 1,
+            frames,
+            steps,
+        },
+    })
+}
+
+/// The command `play` on `F` and `S` with these limits.
+fn play(harts: u8, frames: u32, steps: u32) -> Option<Command<'static>> {
+    Some(Command::Play {
+        program: "F",
+        script: "S",
+        limits: Limits {
+            harts,
+            frames,
+            steps,
+        },
+    })
+}
+
+/// The command `run` on `F` with this number of harts and this seed.
+fn run(harts: u8, seed: u64) -> Option<Command<'static>> {
+    Some(Command::Run {
+        program: "F",
+        limits: Limits {
+            harts,
+            frames: 4_096,
+            steps: 200_000,
+        },
+        seed,
+    })
+}
+
+#[test]
+fn words_of_the_grammar_name_a_command(rt: HostRuntime) -> Result<(), Fail> {
+    let table: [(&[&str], Option<Command>); 18] = [
+        (&["solo", "F"], solo("F", 4_096, 200_000)),
+        (&["solo", "--steps=1", "F"], solo("F", 4_096, 1)),
+        (&["solo", "F", "--steps", "1"], solo("F", 4_096, 1)),
+        (&["solo", "--steps", "1", "--", "F"], solo("F", 4_096, 1)),
+        (
+            &["solo", "--frames", "128", "--steps=5", "F"],
+            solo("F", 128, 5),
+        ),
+        (&["solo", "--", "--steps"], solo("--steps", 4_096, 200_000)),
+        (&["solo", "--", "--"], solo("--", 4_096, 200_000)),
+        (&["solo", "-"], solo("-", 4_096, 200_000)),
+        (&["solo", "", "--steps=00001"], solo("", 4_096, 1)),
+        (&["play", "F", "S"], play(2, 4_096, 200_000)),
+        (&["play", "F", "S", "--harts=8"], play(8, 4_096, 200_000)),
+        (&["run", "F"], run(2, 1)),
+        (&["run", "F", "--harts", "8", "--seed", "7"], run(8, 7)),
+        (&["run", "--seed=0", "F", "--harts=1"], run(1, 0)),
+        (
+            &["run", "--seed=18446744073709551615", "--", "F"],
+            run(2, 18_446_744_073_709_551_615),
+        ),
+        (&["run", "--seed=00000000000000000001", "F"], run(2, 1)),
+        (&["solo", "--", "--help"], solo("--help", 4_096, 200_000)),
+        (
+            &["play", "--harts=3", "F", "--", "S"],
+            play(3, 4_096, 200_000),
+        ),
+    ];
+    for (words, command) in table {
+        let all = strings(rt.alloc(), words)?;
+        assert_eq!(rt; command_of(rt.alloc(), &all)?, command, "{words:?}");
+    }
+    Ok(())
+}
+
+#[test]
+fn other_words_name_none(rt: HostRuntime) -> Result<(), Fail> {
+    let table: [&[&str]; 38] = [
+        &[],
+        &["Solo", "F"],
+        &["solo"],
+        &["solo", "F", "G"],
+        &["solo", "--harts", "2", "F"],
+        &["solo", "--step", "1", "F"],
+        &["solo", "-x"],
+        &["solo", "F", "--steps"],
+        &["solo", "--steps=", "F"],
+        &["solo", "--steps", "-1", "F"],
+        &["solo", "--steps=1", "--steps=1", "F"],
+        &["solo", "--steps", "0", "F"],
+        &["solo", "--steps", "1000001", "F"],
+        &["solo", "--steps=000000000000000000001", "F"],
+        &["play", "F"],
+        &["play", "F", "S", "T"],
+        &["play", "--seed", "1", "F", "S"],
+        &["solo", "--seed", "1", "F"],
+        &["run"],
+        &["run", "F", "S"],
+        &["run", "--harts", "9", "F"],
+        &["run", "--harts", "2", "--harts", "2", "F"],
+        &["run", "--harts=2", "--harts", "2", "F"],
+        &["run", "--seed", "1", "--seed=1", "F"],
+        &["run", "--seed", "18446744073709551616", "F"],
+        &["run", "--seed", "-1", "F"],
+        &["run", "--seed=", "F"],
+        &["run", "F", "--seed"],
+        &["run", "--seed", "-", "F"],
+        &["run", "--seed=+1", "F"],
+        &["run", "--seed", "--", "1", "F"],
+        &["solo", "F", "--", "--steps=1"],
+        &["solo", "--"],
+        &["solo", "--help"],
+        &["solo", "-h", "F"],
+        &["solo", "--version"],
+        &["solo", "--=1", "F"],
+        &["help"],
+    ];
+    for words in table {
+        let all = strings(rt.alloc(), words)?;
+        assert_eq!(rt; command_of(rt.alloc(), &all)?, None, "{words:?}");
+    }
+    Ok(())
+}

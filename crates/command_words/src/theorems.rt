@@ -1,0 +1,18 @@
+//! A law of the words, as the contract of a function that does nothing.
+
+ghost use Rattle.std.specs.Prelude.{◌≡◌, ◌↔◌, ℕ, List, None, Some};
+ghost use Rattle.command_words.specs.Grammar.{Command, IsCommandLine};
+ghost use Rattle.command_words.specs.Words.{command_of};
+
+/// The words are read by the grammar: they are a line of one command at most, which is the one that is read,
+/// and none is read exactly where they are a line of no command.
+pub fn words_are_of_one_command()
+    ensures of { (words : List (List ℕ)) (command : Command)
+        → command_of words ≡ Some command → IsCommandLine words command }
+    ensures read { (words : List (List ℕ)) (command : Command)
+        → IsCommandLine words command → command_of words ≡ Some command }
+    ensures one { (words : List (List ℕ)) (a b : Command)
+        → IsCommandLine words a → IsCommandLine words b → a ≡ b }
+    ensures none { (words : List (List ℕ))
+        → (command_of words ≡ None) ↔ ((command : Command) → ¬ (IsCommandLine words command)) }
+{}

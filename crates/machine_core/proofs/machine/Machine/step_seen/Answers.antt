@@ -1,0 +1,83 @@
+use Rattle.std.proofs.Common.{◌≡◌, ◌<◌, Some, true, ap, length, refl, sym, ◌∙◌, arith}
+use Rattle.std.proofs.lemmas.Result.{IfOk-at_ok}
+use Rattle.block_model.specs.Events.{done_of}
+use Rattle.block_model.specs.Plain.{here_of}
+use Rattle.machine_core.specs.Tied.{IsAfter, past_of, seen, setting_of}
+use Rattle.machine_core.specs.declared.parts.Parts.{Parts}
+use Rattle.machine_core.proofs.Advanced.{all_of}
+use Rattle.machine_core.specs.Credits.{seen_if}
+use Rattle.machine_core.proofs.Ready.{goes_on, has_room}
+use Rattle.machine_core.proofs.Settled.{settled}
+use Rattle.machine_core.proofs.Stepping.{place_of, refused, stepped}
+use Rattle.machine_core.proofs.machine.Machine.step_seen.Goals as goal
+
+pub make-requires : goal.make-requires
+make-requires c =
+    let m = c.self.inside in
+    record {
+      seen = seen m;
+      place = place_of m c.args.hart.0 c.self.invariant (goes_on m c.self.invariant (rw (← c.self.view_is) at c.requires.goes)) (has_room m (rw (← c.self.view_is) at c.requires.goes)) (rw (← c.self.view_is) at c.requires.hart);
+      pages = refl;
+    }
+
+pub invariant_of-self : goal.invariant_of-self
+invariant_of-self c =
+    let m = c.self.inside in
+    let room : length m.log.items < m.limits.steps = (has_room m (rw (← c.self.view_is) at c.requires.goes)) in
+    let place = place_of m c.args.hart.0 c.self.invariant (goes_on m c.self.invariant (rw (← c.self.view_is) at c.requires.goes)) room (rw (← c.self.view_is) at c.requires.hart) in
+    let after = IfOk-at_ok (λ e. IsAfter (seen m) c.args.hart.0 (done_of c.args.choice (here_of (seen m) c.args.hart.0)) m.parts c.make.new.self) c.in-Ok.is (c.make.ensures.after (seen m) place refl) in
+    let step = stepped (seen m) m.parts c.make.new.self c.args.hart c.args.choice c.make.result c.in-Ok.entry place (c.make.ensures.answer (seen m) place refl) c.in-Ok.is after in
+    let all : m.chosen ≡ true = c.self.invariant.chosen ∙ sym (all_of (setting_of m) m.log.items (rw (← c.self.view_is) at c.requires.chosen)) in
+    let sees : Some c.args.sight.now ≡ seen_if m.chosen (setting_of m) c.args.hart.0 (past_of m) = rw all (ap Some (rw (← c.self.view_is) at c.requires.sight)) in
+    let p' : Parts = record c.make.new.self { harts = c.follow-self-inside.new.harts } in
+    let is = settled m c.args.hart c.args.choice c.in-Ok.entry c.make.new.self p' (Some c.args.sight.now) c.self.invariant (goes_on m c.self.invariant (rw (← c.self.view_is) at c.requires.goes)) room (rw (← c.self.view_is) at c.requires.hart) step after.credits sees c.follow-self-inside.ensures.harts refl refl refl in
+    record {
+      run = rw c.append.ensures.items step.run;
+      tied = rw c.append.ensures.items is.tied;
+      chosen = rw c.append.ensures.items (c.follow-self-inside.ensures.followed ∙ is.chosen);
+      credits = rw c.append.ensures.items is.credits;
+      generators = λ followed. rw (c.append.ensures.items, c.follow-self-inside.ensures.generators) (is.generators (sym c.follow-self-inside.ensures.followed ∙ followed));
+      held = ap length c.follow-self-inside.ensures.generators ∙ is.held;
+      limits = c.self.invariant.limits;
+      room = omega (arith, c.self.invariant.room, c.append.ensures.capacity);
+    }
+
+pub returns-in-Ok-clause-answer : goal.returns-in-Ok-clause-answer
+returns-in-Ok-clause-answer c =
+    let m = c.self.inside in
+    let place = place_of m c.args.hart.0 c.self.invariant (goes_on m c.self.invariant (rw (← c.self.view_is) at c.requires.goes)) (has_room m (rw (← c.self.view_is) at c.requires.goes)) (rw (← c.self.view_is) at c.requires.hart) in
+    let step = stepped (seen m) m.parts c.make.new.self c.args.hart c.args.choice c.make.result c.in-Ok.entry place (c.make.ensures.answer (seen m) place refl) c.in-Ok.is (IfOk-at_ok (λ e. IsAfter (seen m) c.args.hart.0 (done_of c.args.choice (here_of (seen m) c.args.hart.0)) m.parts c.make.new.self) c.in-Ok.is (c.make.ensures.after (seen m) place refl)) in
+    rw (← c.self.view_is) (sym step.decided)
+
+pub returns-in-Ok-clause-of : goal.returns-in-Ok-clause-of
+returns-in-Ok-clause-of c =
+    let m = c.self.inside in
+    let place = place_of m c.args.hart.0 c.self.invariant (goes_on m c.self.invariant (rw (← c.self.view_is) at c.requires.goes)) (has_room m (rw (← c.self.view_is) at c.requires.goes)) (rw (← c.self.view_is) at c.requires.hart) in
+    let step = stepped (seen m) m.parts c.make.new.self c.args.hart c.args.choice c.make.result c.in-Ok.entry place (c.make.ensures.answer (seen m) place refl) c.in-Ok.is (IfOk-at_ok (λ e. IsAfter (seen m) c.args.hart.0 (done_of c.args.choice (here_of (seen m) c.args.hart.0)) m.parts c.make.new.self) c.in-Ok.is (c.make.ensures.after (seen m) place refl)) in
+    (step.hart, step.choice)
+
+pub returns-in-Ok-clause-block_run : goal.returns-in-Ok-clause-block_run
+returns-in-Ok-clause-block_run c =
+    let m = c.self.inside in
+    let place = place_of m c.args.hart.0 c.self.invariant (goes_on m c.self.invariant (rw (← c.self.view_is) at c.requires.goes)) (has_room m (rw (← c.self.view_is) at c.requires.goes)) (rw (← c.self.view_is) at c.requires.hart) in
+    let step = stepped (seen m) m.parts c.make.new.self c.args.hart c.args.choice c.make.result c.in-Ok.entry place (c.make.ensures.answer (seen m) place refl) c.in-Ok.is (IfOk-at_ok (λ e. IsAfter (seen m) c.args.hart.0 (done_of c.args.choice (here_of (seen m) c.args.hart.0)) m.parts c.make.new.self) c.in-Ok.is (c.make.ensures.after (seen m) place refl)) in
+    rw c.append.ensures.items step.run
+
+pub returns-in-Err-clause-answer : goal.returns-in-Err-clause-answer
+returns-in-Err-clause-answer c =
+    let m = c.self.inside in
+    let place = place_of m c.args.hart.0 c.self.invariant (goes_on m c.self.invariant (rw (← c.self.view_is) at c.requires.goes)) (has_room m (rw (← c.self.view_is) at c.requires.goes)) (rw (← c.self.view_is) at c.requires.hart) in
+    rw (← c.self.view_is) (sym (refused (seen m) m.parts c.args.hart.0 c.args.choice c.make.result c.in-Err.why place (c.make.ensures.answer (seen m) place refl) c.in-Err.is))
+
+pub append-requires : goal.append-requires
+append-requires c =
+    let m = c.self.inside in
+    let room = has_room m (rw (← c.self.view_is) at c.requires.goes) in
+    omega (arith, room, c.self.invariant.room, m.log.ok.0)
+
+pub follow-self-inside-requires-clause-held : goal.follow-self-inside-requires-clause-held
+follow-self-inside-requires-clause-held c =
+    let m = c.self.inside in
+    let place = place_of m c.args.hart.0 c.self.invariant (goes_on m c.self.invariant (rw (← c.self.view_is) at c.requires.goes)) (has_room m (rw (← c.self.view_is) at c.requires.goes)) (rw (← c.self.view_is) at c.requires.hart) in
+    let after = IfOk-at_ok (λ e. IsAfter (seen m) c.args.hart.0 (done_of c.args.choice (here_of (seen m) c.args.hart.0)) m.parts c.make.new.self) c.in-Ok.is (c.make.ensures.after (seen m) place refl) in
+    omega (arith, after.tied.all_harts, place.lt)

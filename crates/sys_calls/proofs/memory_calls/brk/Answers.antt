@@ -1,0 +1,18 @@
+-- The break moves, or stays.
+use Rattle.std.proofs.Common.{◌≡◌, ℕ, ap, ◌∙◌}
+use Rattle.mach_types.specs.Kernel.PageCalls.{break_run}
+use Rattle.block_model.specs.Calls.Answers.{argument}
+use Rattle.block_model.specs.Calls.Memory.{zeros_if_mapped}
+use Rattle.sys_calls.proofs.Reading.{argument_is}
+use Rattle.sys_calls.proofs.Remapping.{brk_remapped}
+use Rattle.sys_calls.proofs.memory_calls.brk.Goals as goal
+
+pub returns : goal.returns
+returns c = record {
+  remapped = λ h t has file.
+      let at : c.argument.result ≡ argument h t 0 = c.argument.ensures ∙ argument_is h t c.args.saved.now file 0 in
+      let is = c.move_break-to.ensures in
+      brk_remapped h t c.args.pages.now c.move_break-to.new.self has c.argument.result (argument h t 0) at c.move_break-to.result c.tell_growth.new.written.items
+      is.answer (c.tell_growth.ensures ∙ ap (λ (b : ℕ). zeros_if_mapped (break_run b c.move_break-to.result)) c.break_at-from.ensures) is.code
+      is.break_at is.refused is.permissions is.held is.free is.break_start;
+}

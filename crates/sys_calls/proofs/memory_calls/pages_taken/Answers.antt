@@ -1,0 +1,21 @@
+-- A call that protects pages.
+use Rattle.std.proofs.Common.{◌≡◌, Some, ap, sym, ◌∙◌}
+use Rattle.mach_types.specs.Registers.{register}
+use Rattle.mach_types.specs.declared.registers.Regs.{Regs}
+use Rattle.mach_types.specs.Kernel.Pages.{PageRun, is_in}
+use Rattle.mach_types.specs.Kernel.PageCalls.{permission_for}
+use Rattle.block_model.specs.Calls.Answers.{argument, call_number}
+use Rattle.sys_calls.proofs.Remapping.{prot_from, taken_protecting}
+use Rattle.sys_calls.proofs.memory_calls.pages_taken.Goals as goal
+
+pub returns-in-226 : goal.returns-in-226
+returns-in-226 c = λ h t has file n.
+    let at : c.get-at.result ≡ argument h t 0 = c.get-at.ensures ∙ ap (λ (f : Regs). register f 10) file in
+    let len : c.get-len.result ≡ argument h t 1 = c.get-len.ensures ∙ ap (λ (f : Regs). register f 11) file in
+    let prot : c.get-in-226.result ≡ argument h t 2 = c.get-in-226.ensures ∙ ap (λ (f : Regs). register f 12) file in
+    let number : c.get.result ≡ call_number h t = c.get.ensures ∙ ap (λ (f : Regs). register f 17) file in
+    c.unless_refused-in-226.ensures (Some (permission_for (argument h t 2))) n
+    ∙ ap (λ (r : PageRun). is_in r n)
+    (taken_protecting h t c.args.pages.now has c.get-at.result c.get-len.result c.prot_of-prot.result at len
+    (prot_from c.prot_of-prot.result c.get-in-226.result (argument h t 2) prot c.prot_of-prot.ensures.same c.prot_of-prot.ensures.above)
+    c.protect_refusal.result c.protect_refusal.ensures (sym number ∙ c.in-226.is))
