@@ -1,5 +1,6 @@
-/* malloc, realloc and free of a C library (picolibc) over brk: a search tree of words that are counted, a list that grows, and a
- * heap that is asked for more than there is. */
+/* malloc, realloc and free of a C library (picolibc) over brk, with its printf and qsort: a search tree of words that are counted,
+ * the words by how often they came, a list that grows, and a heap that is asked for more than there is. */
+#include <stdio.h>
 #include <stdlib.h>
 #include <string.h>
 
@@ -51,17 +52,37 @@ static struct node *count_words(const char *from) {
     return root;
 }
 
-/* Prints the words in order, and gives their nodes back. */
-static void print_and_free(struct node *node) {
+/* Puts the nodes of a tree into a list, in the order of their words. */
+static struct node **list_nodes(struct node *node, struct node **end) {
     if (node == NULL)
-        return;
-    print_and_free(node->less);
-    write_text(node->word);
-    write_line(" ", node->count);
-    struct node *greater = node->greater;
-    free(node);
-    nodes--;
-    print_and_free(greater);
+        return end;
+    end = list_nodes(node->less, end);
+    *end++ = node;
+    return list_nodes(node->greater, end);
+}
+
+/* The word that came more often goes first; of two that came as often, the lesser one. */
+static int more_often(const void *left, const void *right) {
+    const struct node *one = *(struct node *const *)left, *other = *(struct node *const *)right;
+    if (one->count != other->count)
+        return one->count > other->count ? -1 : 1;
+    return strcmp(one->word, other->word);
+}
+
+/* Prints the words, the most frequent first, and gives their nodes back. */
+static void print_and_free(struct node *root) {
+    size_t length = nodes;
+    struct node **list = malloc(length * sizeof *list);
+    if (list == NULL)
+        exit(3);
+    list_nodes(root, list);
+    qsort(list, length, sizeof *list, more_often);
+    for (size_t at = 0; at < length; at++) {
+        printf("%-8s%3d\n", list[at]->word, (int)list[at]->count);
+        free(list[at]);
+        nodes--;
+    }
+    free(list);
 }
 
 /* The sum of a list of numbers that grows one by one. */
@@ -70,7 +91,7 @@ static uint64_t sum_of_grown_list(size_t length) {
     for (size_t at = 0; at < length; at++) {
         list = realloc(list, (at + 1) * sizeof *list);
         if (list == NULL)
-            exit(3);
+            exit(4);
         list[at] = at;
     }
     for (size_t at = 0; at < length; at++)
@@ -81,11 +102,11 @@ static uint64_t sum_of_grown_list(size_t length) {
 
 int main(void) {
     print_and_free(count_words(text));
-    write_line("nodes left ", nodes);
-    write_line("sum ", sum_of_grown_list(300));
-    write_text(malloc(1 << 30) == NULL ? "no room for a gigabyte\n" : "room for a gigabyte\n");
+    printf("nodes left %d\n", (int)nodes);
+    printf("sum %lu\n", (unsigned long)sum_of_grown_list(300));
+    puts(malloc(1 << 30) == NULL ? "no room for a gigabyte" : "room for a gigabyte");
     void *again = malloc(64);
-    write_text(again != NULL ? "room again\n" : "no room\n");
+    puts(again != NULL ? "room again" : "no room");
     free(again);
     return 0;
 }

@@ -1,6 +1,8 @@
-/* What a C library asks of its system here: memory for malloc, by brk(2), and the end of the program. */
+/* What a C library (picolibc) asks of its system here: memory for malloc, by brk(2); standard output, by write(2); and the end of the
+ * program. */
 #include <stddef.h>
 #include <stdint.h>
+#include <stdio.h>
 
 #include "calls.h"
 
@@ -25,3 +27,20 @@ _Noreturn void _exit(int status) {
     for (;;)
         ask(CALL_EXIT, status);
 }
+
+/* A byte of standard output: a line is written as a whole, and a long one in parts. */
+static int put_byte(char byte, FILE *file) {
+    static char line[128];
+    static size_t length;
+    (void)file;
+    line[length++] = byte;
+    if (byte == '\n' || length == sizeof line) {
+        write_bytes(line, length);
+        length = 0;
+    }
+    return (unsigned char)byte;
+}
+
+static FILE console = FDEV_SETUP_STREAM(put_byte, NULL, NULL, _FDEV_SETUP_WRITE);
+FILE *const stdout = &console;
+FILE *const stderr = &console;

@@ -164,6 +164,7 @@ impl Machine {
 
     /// One event of a hart: exactly the entry that is allowed at this place of the log, or the first
     /// refusal that is due. A refused step changes nothing.
+    #[inline(always)]
     pub fn step(&mut self, hart: Hart, choice: Choice) -> Result<Entry, Refused>
         ensures answer { result ≡ decide self.old.setting (history self.old.setting self.old.log) hart.0 choice }
         ensures of { IfOk result (λ e. (e.hart ≡ hart) × (choice_of e ≡ choice)) }

@@ -1,4 +1,5 @@
 mod FieldReads
+mod FirstPlace
 pub mod Laws
 mod Lines
 mod Meanings

@@ -10,12 +10,13 @@ ghost use Rattle.step_log.specs.Script as script;
 
 use crate::fields::Line;
 use mach_types::{Choice, Entry, Hart, Kind, Tid};
+use memchr::memchr;
 
 /// The first place of a byte in a text.
 pub(crate) fn find(text: &[u8], wanted: u8) -> Option<usize>
     ensures { result ≡ position (λ b. b == wanted) text.now }
 {
-    text.iter().position(|byte| *byte == wanted)
+    memchr(wanted, text)
 }
 
 /// The text up to the first space, and what follows the space, if there is one.
