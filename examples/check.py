@@ -12,10 +12,11 @@ For each example NAME:
 - each NAME/*.script, played on two harts, gives the *.output beside it (with status 4 where that is a fault line), and the log
   lines that it prints, played, give the same text again;
 - `run`, with each of SEEDS on 1, 2, 4 and 8 harts, prints the same console and end, or those of NAME/outcomes/*.console with the
-  *.end beside it (else the example's), where they hang on the interleaving; and the log lines that it prints, played on as many
-  harts, give the same text.
+  *.end beside it (else the example's), where they hang on the interleaving (a *.pattern there is a regular expression for the
+  whole console); and the log lines that it prints, played on as many harts, give the same text.
 """
 import pathlib
+import re
 import subprocess
 import sys
 import tempfile
@@ -131,22 +132,29 @@ def check_script(program, elf, script):
 
 
 def outcomes(folder):
-    """The consoles with which a run of the example may end, each with its end."""
+    """The consoles with which a run of the example may end, as expressions, each with its end."""
     end = (folder / 'end.expected').read_bytes()
-    yield (folder / 'console.expected').read_bytes(), end
+    yield re.escape((folder / 'console.expected').read_bytes()), end
     for console in folder.glob('outcomes/*.console'):
-        own = console.with_suffix('.end')
-        yield console.read_bytes(), own.read_bytes() if own.is_file() else end
+        yield re.escape(console.read_bytes()), end_of_outcome(console, end)
+    for pattern in folder.glob('outcomes/*.pattern'):
+        yield pattern.read_bytes(), end_of_outcome(pattern, end)
+
+
+def end_of_outcome(outcome, end):
+    """The end beside an outcome; that of the example where none is there."""
+    own = outcome.with_suffix('.end')
+    return own.read_bytes() if own.is_file() else end
 
 
 def check_runs(program, folder, elf, harts):
     """`run` on so many harts, with each seed: it ends as the example may end, and its log replays."""
-    allowed = set(outcomes(folder))
+    allowed = list(outcomes(folder))
     for seed in SEEDS:
         status, text = run(program, 'run', elf, '--harts', harts, '--seed', str(seed), '--steps', STEPS)
         want(f'its status with seed {seed}', status, DONE)
         output = Output(text)
-        if (output.console, output.end) not in allowed:
+        if not any(re.fullmatch(console, output.console) and end == output.end for console, end in allowed):
             raise Difference(f'with seed {seed} it prints {output.console[:60]!r} and {output.end!r}')
         check_replay(program, elf, text, harts)
 

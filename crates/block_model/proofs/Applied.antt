@@ -12,7 +12,7 @@ pub use Rattle.block_model.specs.PlainOf.{plain_of}
 abbrev pub IsCounted : History → Type 0
 IsCounted before = (h : ℕ) → drains h before ≤ length (stores h before)
 
-drop_more : (n m : ℕ) (xs ys : List Store) → n ≤ length xs → drop (n + m) (xs ++ ys) ≡ drop m (drop n xs ++ ys)
+pub drop_more : (n m : ℕ) (xs ys : List Store) → n ≤ length xs → drop (n + m) (xs ++ ys) ≡ drop m (drop n xs ++ ys)
 drop_more zero m xs ys few = let e : zero + m ≡ m = omega arith in rw e refl
 drop_more (suc n) m [] ys few = absurd (omega arith)
 drop_more (suc n) m (x ∷ xs) ys few = let e : suc n + m ≡ suc (n + m) = omega arith in rw e (drop_more n m xs ys (omega arith))

@@ -7,7 +7,7 @@ use Rattle.std.proofs.lemmas.Map.Keys.{sorted_from_strictly_increasing}
 use Rattle.std.specs.List.{fold}
 use Rattle.std.specs.Option.{option_map, option_map_or, option_or}
 use Rattle.mach_types.specs.Events.{choice_of}
-use Rattle.mach_types.specs.Kernel.Record.{Kernel}
+use Rattle.block_model.specs.Record.{Kernel}
 use Rattle.mach_types.specs.Kernel.Scheduling.{affinity_of, first_for, has_hart}
 use Rattle.mach_types.specs.Kernel.Threads.{Thread, goes_on, is_live, is_ready, is_ready_state, is_stuck, is_waiting_state, numbers, running_on, state_of, thread_of, times}
 use Rattle.mach_types.specs.declared.events.Choice.{Choice}
@@ -44,7 +44,7 @@ use Rattle.block_model.specs.Events.Preempt.{refusal_preempt_by, unless_waiting}
 use Rattle.block_model.specs.Here.{Here, is_writable, memory, runs, waiting_here}
 use Rattle.block_model.specs.History.{History, ended, here_in_history, is_of_hart, kernel, ran, waiting}
 use Rattle.block_model.specs.Instruction.{fault_by, fetched, instruction_of}
-use Rattle.block_model.specs.Run.{IsBlockRun, IsRunHistory}
+use Rattle.block_model.specs.Run.{IsAllowedLog, IsRunHistory}
 use Rattle.block_model.specs.Setting.{Setting}
 use Rattle.block_model.specs.Sights.{is_local_on, sight_in, thread}
 use Rattle.block_model.proofs.Allowed.{decided_is}
@@ -53,7 +53,7 @@ use Rattle.block_model.proofs.Good.{IsSound}
 use Rattle.block_model.proofs.KernelTables.{found_passes, found_sorted, running_there}
 use Rattle.block_model.proofs.Open.{IsOpen, decide-open}
 use Rattle.block_model.proofs.Rules.{ended_parts, allowed_where_none_waits, found_where, found_where_any, goes_somewhere, run_free}
-use Rattle.block_model.proofs.Runs.{IsBlockRun-append, history-append, history-nil, settled}
+use Rattle.block_model.proofs.Runs.{IsAllowedLog-append, history-append, history-nil, settled}
 
 -- what is picked isn't refused
 
@@ -241,7 +241,7 @@ unfolding choice_at
 has_choice s h before c is = choice_by s h before c (has_ended s before) (ltb h s.limits.harts) refl refl is
 
 -- the choice is allowed
-pub choice_is_allowed : (s : Setting) (log : List Entry) (h : ℕ) (c : Choice) → IsBlockRun s log
+pub choice_is_allowed : (s : Setting) (log : List Entry) (h : ℕ) (c : Choice) → IsAllowedLog s log
     → choice_at s h (history s log) ≡ Some c
     → refusal_of c (here_in_history s (history s log) h) ≡ None
 choice_is_allowed s log h c run chosen =
@@ -251,7 +251,7 @@ choice_is_allowed s log h c run chosen =
     (pick_is_free (here_in_history s before h) (ran h before) l.credit (word (after_words l.drawn (first_generator s.seed h))) (settled s before run).good.kernel)
     (has_choice s h before c chosen).picked
 
-pub choice_decides : (s : Setting) (log : List Entry) (h : ℕ) (c : Choice) → IsBlockRun s log
+pub choice_decides : (s : Setting) (log : List Entry) (h : ℕ) (c : Choice) → IsAllowedLog s log
     → choice_at s h (history s log) ≡ Some c
     → decide s (history s log) h c ≡ Ok (entry_in c (here_in_history s (history s log) h))
 choice_decides s log h c run chosen =
@@ -393,7 +393,7 @@ picks_at s before run at (inr none) = record {
       absurd cc;
 }
 
-pub some_hart_goes_on : (s : Setting) (log : List Entry) → IsBlockRun s log → 0 < s.limits.harts
+pub some_hart_goes_on : (s : Setting) (log : List Entry) → IsAllowedLog s log → 0 < s.limits.harts
     → has_ended s (history s log) ≡ false
     → (h : ℕ) × (h < s.limits.harts) × (is_some (next_entry s h (history s log)) ≡ true)
 some_hart_goes_on s log run harts goes =
@@ -472,15 +472,15 @@ chosen_next : (s : Setting) (log : List Entry) (e : Entry) → IsChosen s log
 unfolding IsChosen
 chosen_next s log e chosen is = all_chosen_next s log e ∙ rw (chosen, is) (is_choice_same (choice_of e))
 
-pub chosen_more : (s : Setting) (log : List Entry) (h : ℕ) (e : Entry) → IsBlockRun s log → IsChosen s log
+pub chosen_more : (s : Setting) (log : List Entry) (h : ℕ) (e : Entry) → IsAllowedLog s log → IsChosen s log
     → next_entry s h (history s log) ≡ Some e
-    → IsBlockRun s (log ++ e ∷ []) × IsChosen s (log ++ e ∷ []) × (e.hart.0 ≡ h)
+    → IsAllowedLog s (log ++ e ∷ []) × IsChosen s (log ++ e ∷ []) × (e.hart.0 ≡ h)
 chosen_more s log h e run chosen next =
     let at = choice_of_next s h (history s log) e next in
     let made : decide s (history s log) h at.0 ≡ Ok e = choice_decides s log h at.0 run at.1 ∙ ap Ok (sym at.2) in
     let own = decided_is s (history s log) h at.0 e made in
     let it : choice_at s e.hart.0 (history s log) ≡ Some (choice_of e) = ap (λ k. choice_at s k (history s log)) own.0 ∙ at.1 ∙ ap Some (sym own.1) in
-    (IsBlockRun-append s log h at.0 e run made, chosen_next s log e chosen it, own.0)
+    (IsAllowedLog-append s log h at.0 e run made, chosen_next s log e chosen it, own.0)
 
 chosen_before : (s : Setting) (rest : List Entry) (before : History)
     → all_chosen s (fold (λ b e. event s b e ∷ b) before rest) ≡ true → all_chosen s before ≡ true

@@ -8,7 +8,7 @@ use Rattle.mach_types.specs.declared.limits.End.TheVariants as over
 use Rattle.block_model.specs.Setting.{Setting}
 use Rattle.block_model.specs.History.{Event, History, ended, here_in_history, kernel}
 use Rattle.block_model.specs.Deciding.{done, history}
-use Rattle.block_model.specs.Run.{IsRunHistory, IsBlockRun}
+use Rattle.block_model.specs.Run.{IsRunHistory, IsAllowedLog}
 use Rattle.block_model.proofs.Allowed.{allowed_at}
 use Rattle.block_model.proofs.Proper.{IsProper, proper_of}
 use Rattle.block_model.proofs.ProperCalls.{NotOpen, SomeLive}
@@ -19,7 +19,7 @@ within : (s : Setting) (before : History) → IsRunHistory s before → length b
 within s [] run = omega arith
 within s (e ∷ before) run = let room = (allowed_at s before e.entry.hart.0 (choice_of e.entry) e.entry run.1).room in omega arith
 
-pub within_limit : (s : Setting) (log : List Entry) → IsBlockRun s log → length log ≤ s.limits.steps
+pub within_limit : (s : Setting) (log : List Entry) → IsAllowedLog s log → length log ≤ s.limits.steps
 within_limit s log run = subst (λ n. n ≤ s.limits.steps) (length-history s log) (within s (history s log) run)
 
 -- what each event of a run left
@@ -41,7 +41,7 @@ not_open s [] run = λ is. absurd cc
 not_open s (e ∷ before) run = either_end e.done.ended (ended before) (proper_at s e before run).ended (not_open s before run.0)
 
 -- while the process isn't ended some thread is live
-neither : (o p : Option End) → option_or o p ≡ None → (o ≡ None) × (p ≡ None)
+pub neither : (o p : Option End) → option_or o p ≡ None → (o ≡ None) × (p ≡ None)
 neither None p is = (refl, is)
 neither (Some e) p is = absurd cc
 

@@ -17,7 +17,7 @@ use Rattle.block_model.specs.Here.{Here, runs}
 use Rattle.block_model.specs.Events.{refusal_of}
 use Rattle.block_model.specs.History.{Event, History, file, file_among, here_in_history, kernel}
 use Rattle.block_model.specs.Deciding.{event, history, number_of, pc_in, thread_in}
-use Rattle.block_model.specs.Run.{IsRunHistory, IsBlockRun}
+use Rattle.block_model.specs.Run.{IsRunHistory, IsAllowedLog}
 use Rattle.block_model.proofs.Allowed.{allowed_at}
 use Rattle.block_model.proofs.Ends.{proper_at}
 use Rattle.block_model.proofs.Good.{IsSound}
@@ -45,7 +45,7 @@ harts_in : (s : Setting) (before : History) → IsRunHistory s before → AllEnt
 harts_in s [] run = tt
 harts_in s (e ∷ before) run = ((allowed_at s before e.entry.hart.0 (choice_of e.entry) e.entry run.1).lt, harts_in s before run.0)
 
-pub all_harts : (s : Setting) (log : List Entry) → IsBlockRun s log → All (λ (e : Entry). e.hart.0 < s.limits.harts) log
+pub all_harts : (s : Setting) (log : List Entry) → IsAllowedLog s log → All (λ (e : Entry). e.hart.0 < s.limits.harts) log
 all_harts s log run = entries_of s (λ e. e.hart.0 < s.limits.harts) log (harts_in s (history s log) run)
 
 -- the number of a live thread was given
@@ -92,7 +92,7 @@ thread_given s here asked.Signal sound free = runs_given s here (runs here) soun
 pub given_below : (s : Setting) (before : History) → IsRunHistory s before → (kernel s before).threads.given ≤ length before + 1
 given_below s before run = (settled s before run).good.given
 
-pub given_in : (s : Setting) (log : List Entry) → IsBlockRun s log → (kernel s (history s log)).threads.given ≤ length log + 1
+pub given_in : (s : Setting) (log : List Entry) → IsAllowedLog s log → (kernel s (history s log)).threads.given ≤ length log + 1
 given_in s log run = subst (λ n. (kernel s (history s log)).threads.given ≤ n + 1) (length-history s log) (given_below s (history s log) run)
 
 threads_in : (s : Setting) (before : History) → s.limits.steps < 2 ^ 31 - 1 → IsRunHistory s before → AllEntries (λ e. e.tid.0 < 2 ^ 32) before
@@ -106,7 +106,7 @@ threads_in s (e ∷ before) short run =
     let fits : number_of (thread_in (choice_of e.entry) here) < 2 ^ 32 = omega arith in
     (subst (λ (y : Entry). y.tid.0 < 2 ^ 32) (sym a.is) fits, threads_in s before short run.0)
 
-pub all_threads : (s : Setting) (log : List Entry) → s.limits.steps < 2 ^ 31 - 1 → IsBlockRun s log → All (λ (e : Entry). e.tid.0 < 2 ^ 32) log
+pub all_threads : (s : Setting) (log : List Entry) → s.limits.steps < 2 ^ 31 - 1 → IsAllowedLog s log → All (λ (e : Entry). e.tid.0 < 2 ^ 32) log
 all_threads s log short run = entries_of s (λ e. e.tid.0 < 2 ^ 32) log (threads_in s (history s log) short run)
 
 -- where the first instruction stands below 2^64, each thread does at every place of a run
@@ -131,5 +131,5 @@ addresses_in s (e ∷ before) start run =
     let here = here_in_history s before e.entry.hart.0 in
     (subst (λ (y : Entry). y.pc < 2 ^ 64) (sym a.is) (pc_stands here (thread_in (choice_of e.entry) here) (files_stand s before start run.0)), addresses_in s before start run.0)
 
-pub all_addresses : (s : Setting) (log : List Entry) → s.program.entry < 2 ^ 64 → IsBlockRun s log → All (λ (e : Entry). e.pc < 2 ^ 64) log
+pub all_addresses : (s : Setting) (log : List Entry) → s.program.entry < 2 ^ 64 → IsAllowedLog s log → All (λ (e : Entry). e.pc < 2 ^ 64) log
 all_addresses s log start run = entries_of s (λ e. e.pc < 2 ^ 64) log (addresses_in s (history s log) start run)

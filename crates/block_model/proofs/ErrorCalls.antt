@@ -13,12 +13,18 @@ use Rattle.mach_types.specs.declared.threads.Saved.{Saved}
 use Rattle.mach_types.specs.declared.user_memory.Write.{Write}
 use Rattle.mach_types.specs.Kernel.PageCalls.{address_of, break_run, has_prot}
 use Rattle.mach_types.specs.Kernel.Pages.{Pages, is_mapped, is_without_code, lowest_hole, pages_of}
-use Rattle.mach_types.specs.Kernel.Record.{Kernel}
+use Rattle.block_model.specs.Record.{Kernel}
 use Rattle.mach_types.specs.Kernel.Scheduling.{harts_in}
 use Rattle.mach_types.specs.Kernel.Threads.{Thread, is_full, is_live, longest_waiter}
-use Rattle.block_model.specs.Here.{Here, memory}
+use Rattle.mach_types.specs.declared.sequences.Area.{Area}
+use Rattle.mach_types.specs.declared.sequences.TheConstants.{AREA_SIZE, RSEQ_FLAG_UNREGISTER}
+use Rattle.mach_types.specs.Kernel.Areas.{are_words_writable, registered_again, registered_first, unregistration_of, words_on, words_unregistered, words_written}
+use Rattle.block_model.specs.Here.{Here, is_writable, memory}
+use Rattle.block_model.specs.Ids.{id_of}
+use Rattle.block_model.specs.Sequences.{area_here}
+use Rattle.block_model.specs.Calls.Sequences.{killed_in_call, registers, registers_or_refused, rseq, unregisters, unregisters_or_refused}
 use Rattle.block_model.specs.History.{file_among}
-use Rattle.block_model.specs.Kernel.{cleared, gone, left, next_number, paged, printed, waited, woken}
+use Rattle.block_model.specs.Kernel.{cleared, gone, left, next_number, paged, printed, registered, unregistered, waited, woken}
 use Rattle.block_model.specs.Calls.{call_of, called}
 use Rattle.block_model.specs.Calls.Affinity.{getcpu, is_usable, moved_off, names_nobody, sched_getaffinity, sched_setaffinity, set_at}
 use Rattle.block_model.specs.Calls.Answers.{CallDone, argument, are_readable, are_writable, call_number, int_argument, negative, number_at, refused, returned, said}
@@ -352,6 +358,74 @@ tells_moved here t p true may =
 tells_brk : (here : Here) (t : ℕ) → TellsErrors here t (brk here t)
 tells_brk here t = tells_moved here t (argument here t 0) (may_break here (argument here t 0)) refl
 
+-- rseq(2): a refusal is by an error number
+abbrev IsNumber : Errno → Type 0
+IsNumber e = (1 ≤ e.0) × (e.0 ≤ 4095)
+
+either_number : (b : Bool) (e f : Errno) → IsNumber e → IsNumber f → IsNumber (cond b e f)
+either_number true e f p q = p
+either_number false e f p q = q
+
+number_again : (old : Area) (at len sig : ℕ) → IsNumber (registered_again old at len sig)
+number_again old at len sig =
+    either_number (not (eqb at old.at && eqb len AREA_SIZE)) _ _ (omega arith, omega arith)
+    (either_number (not (eqb sig old.sig)) _ _ (omega arith, omega arith) (omega arith, omega arith))
+
+-- a registration, or its refusal
+tells_registers : (here : Here) (t : ℕ) (b : Bool) (e : Errno) (x : Result Area Errno) → IsNumber e
+    → TellsErrors here t (registers_or_refused here t x) → TellsErrors here t (registers_or_refused here t (cond b (Err e) x))
+tells_registers here t true e x number rest = tells_refused here t e number.0 number.1
+tells_registers here t false e x number rest = rest
+
+tells_area : (here : Here) (t : ℕ) (area : Area) → TellsErrors here t (registers here t area)
+tells_area here t area =
+    either here t (are_words_writable (is_writable here) area) _ _
+    (answers_low here t 0 [] (words_written area (words_on here.hart (id_of t here.kernel.ids))) (registered t area here.kernel) (omega arith))
+    (ends_all here t (killed_in_call here) _ refl)
+
+tells_first : (here : Here) (t at len sig : ℕ) → TellsErrors here t (registers_or_refused here t (registered_first at len sig))
+tells_first here t at len sig =
+    tells_registers here t (not (eqb len AREA_SIZE) || eqb at 0 || not (eqb (at % AREA_SIZE) 0)) EINVAL _ (omega arith, omega arith)
+    (tells_registers here t (ltb USER_END (at + AREA_SIZE)) EFAULT _ (omega arith, omega arith)
+    (tells_area here t (record { at = at; sig = sig })))
+
+tells_held : (here : Here) (t at len sig : ℕ) (old : Option Area)
+    → TellsErrors here t (registers_or_refused here t (option_map_or (λ (area : Area). Err (registered_again area at len sig)) old (registered_first at len sig)))
+tells_held here t at len sig None = tells_first here t at len sig
+tells_held here t at len sig (Some area) = let is = number_again area at len sig in tells_refused here t _ is.0 is.1
+
+-- an unregistration, or its refusal
+tells_unregisters : (here : Here) (t : ℕ) (old : Option Area) → TellsErrors here t (unregisters here t old)
+tells_unregisters here t None = tells_refused here t EFAULT (omega arith) (omega arith)
+tells_unregisters here t (Some area) =
+    either here t (are_words_writable (is_writable here) area) _ _
+    (answers_low here t 0 [] (words_written area words_unregistered) (unregistered t here.kernel) (omega arith))
+    (tells_refused here t EFAULT (omega arith) (omega arith))
+
+tells_unregistering : (here : Here) (t : ℕ) (b : Bool) (e : Errno) (x : Result (Unit {0}) Errno) → IsNumber e
+    → TellsErrors here t (unregisters_or_refused here t x) → TellsErrors here t (unregisters_or_refused here t (cond b (Err e) x))
+tells_unregistering here t true e x number rest = tells_refused here t e number.0 number.1
+tells_unregistering here t false e x number rest = rest
+
+tells_unregisters_held : (here : Here) (t at len sig : ℕ) (old : Option Area)
+    → TellsErrors here t (unregisters_or_refused here t (option_map_or (λ (area : Area). unregistration_of area at len sig) old (Err EINVAL)))
+tells_unregisters_held here t at len sig None = tells_refused here t EINVAL (omega arith) (omega arith)
+tells_unregisters_held here t at len sig (Some area) =
+    tells_unregistering here t (not (eqb at area.at) || not (eqb len AREA_SIZE)) EINVAL _ (omega arith, omega arith)
+    (tells_unregistering here t (not (eqb sig area.sig)) EPERM _ (omega arith, omega arith)
+    (tells_unregisters here t (area_here here t)))
+
+tells_rseq : (here : Here) (t : ℕ) → TellsErrors here t (rseq here t)
+tells_rseq here t =
+    let at = argument here t 0 in
+    let len = int_argument here t 1 in
+    let flags = int_argument here t 2 in
+    let sig = int_argument here t 3 in
+    let old = area_here here t in
+    either here t (eqb (flags % 2) 1) _ _
+    (tells_unregistering here t (not (eqb flags RSEQ_FLAG_UNREGISTER)) EINVAL _ (omega arith, omega arith) (tells_unregisters_held here t at len sig old))
+    (tells_registers here t (not (eqb flags 0)) EINVAL _ (omega arith, omega arith) (tells_held here t at len sig old))
+
 -- each call of the table, where few numbers were given, also to its thread
 module _ (here : Here) (t : ℕ) (low : t < 2 ^ 32) (few : here.kernel.threads.given < 2 ^ 31) where
   tells_call_of : (number : ℕ) → TellsErrors here t (call_of number here t)
@@ -374,7 +448,8 @@ module _ (here : Here) (t : ℕ) (low : t < 2 ^ 32) (few : here.kernel.threads.g
       (either here t (eqb number 220) _ _ (tells_clone here t few)
       (either here t (eqb number 222) _ _ (tells_mmap here t)
       (either here t (eqb number 226) _ _ (tells_mprotect here t)
-      (tells_refused here t ENOSYS (omega arith) (omega arith))))))))))))))))))
+      (either here t (eqb number 293) _ _ (tells_rseq here t)
+      (tells_refused here t ENOSYS (omega arith) (omega arith)))))))))))))))))))
 
   pub tells_errors : TellsErrors here t (called here t)
   tells_errors = tells_call_of (call_number here t)

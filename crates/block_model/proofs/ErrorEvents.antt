@@ -1,5 +1,5 @@
 -- An event of a block run that gives an error changes nothing else.
-use Rattle.std.proofs.Common.{◌≡◌, ◌≢◌, ℕ, ◌-◌, ◌<◌, ◌^◌, List, ◌∷◌, ◌++◌, refl, sym, ap, ◌∙◌, subst, arith, cond, true, Option, Some, None}
+use Rattle.std.proofs.Common.{◌≡◌, ◌≢◌, ℕ, ◌-◌, ◌<◌, ◌^◌, List, ◌∷◌, ◌++◌, refl, sym, ap, ◌∙◌, subst, arith, Bool, cond, true, false, Option, Some, None}
 use Rattle.std.specs.List.{fold}
 use Rattle.std.proofs.lemmas.Bool.{ne_eqb}
 use Rattle.mach_types.specs.Bytes.{written}
@@ -9,16 +9,20 @@ use Rattle.mach_types.specs.Registers.{register}
 use Rattle.mach_types.specs.declared.events.Choice.{Choice}
 use Rattle.mach_types.specs.declared.events.Choice.TheVariants as asked
 use Rattle.mach_types.specs.declared.events.Entry.{Entry}
+use Rattle.mach_types.specs.declared.limits.End.TheVariants.{Killed}
+use Rattle.mach_types.specs.declared.signals.TheConstants.{SIGSEGV}
+use Rattle.block_model.specs.Sequences.{is_inside_here}
 use Rattle.block_model.specs.Calls.{called}
 use Rattle.block_model.specs.Calls.Answers.{CallDone, negative, returned, said}
 use Rattle.block_model.specs.Deciding.{done, event, history, number_of, thread_in}
 use Rattle.block_model.specs.ErrorCalls.{GivesError, GivesErrorAlone, IsCall, IsError, up_to}
 use Rattle.block_model.specs.Events.{done_of, refusal_of}
-use Rattle.block_model.specs.Events.Exec.{by_call, by_effect, done_exec_by, refusal_exec, refusal_exec_by}
+use Rattle.block_model.specs.Calls.Sequences.{killed_in_call}
+use Rattle.block_model.specs.Events.Exec.{by_call, called_here, by_effect, done_exec_by, refusal_exec, refusal_exec_by}
 use Rattle.block_model.specs.Here.{Done, Here, is_writable, memory, runs}
 use Rattle.block_model.specs.Instruction.{fault_by, fetched}
 use Rattle.block_model.specs.History.{History, byte, file, file_among, here_in_history, kernel}
-use Rattle.block_model.specs.Run.{IsBlockRun, IsRunHistory}
+use Rattle.block_model.specs.Run.{IsAllowedLog, IsRunHistory}
 use Rattle.block_model.specs.Setting.{Setting}
 use Rattle.block_model.proofs.Allowed.{IsAllowed, allowed_at}
 use Rattle.block_model.proofs.Entries.{given_below, thread_given}
@@ -51,10 +55,10 @@ call_at s before entry = called (place s before entry) entry.tid.0
 abbrev answer_at : Setting → History → Entry → ℕ → CallDone
 answer_at s before entry value = said (place s before entry) entry.tid.0 value
 
--- what a call does
+-- what a call does, which isn't inside a sequence where the process goes on
 called_done : (s : Setting) (before : History) (entry : Entry) → IsCall (place s before entry) entry
     → runs (place s before entry) ≡ Some entry.tid.0
-    → done s before entry ≡ by_call (place s before entry) (call_at s before entry)
+    → done s before entry ≡ by_call (place s before entry) (called_here (place s before entry) entry.tid.0)
 unfolding done
 called_done s before entry call at =
     let here = place s before entry in
@@ -64,9 +68,16 @@ called_done s before entry call at =
     ap (λ c. done_of c here) call.executes ∙ ap (λ r. done_exec_by here r) at
     ∙ ap (λ e. by_effect here t (fault_by (memory here) (is_writable here) pc word e) e) call.calls
 
+outside : (here : Here) (t : ℕ) (b : Bool) (d : Done) → d ≡ by_call here (cond b (killed_in_call here) (called here t)) → d.ended ≡ None
+    → d ≡ by_call here (called here t)
+outside here t true d is goes =
+    let bad : None ≡ Some (Killed SIGSEGV) = sym goes ∙ ap (λ (x : Done). x.ended) is in
+    absurd cc
+outside here t false d is goes = is
+
 -- a run up to an entry of its log
 pub run_to : (s : Setting) (earlier later : List Entry) (entry : Entry)
-    → IsBlockRun s (earlier ++ entry ∷ later) → IsRunHistory s (up_to s (history s earlier) entry)
+    → IsAllowedLog s (earlier ++ entry ∷ later) → IsRunHistory s (up_to s (history s earlier) entry)
 run_to s earlier later entry run =
     let more : IsRunHistory s (fold (λ b e. event s b e ∷ b) (history s earlier) (entry ∷ later)) =
     subst (IsRunHistory s) (history-more s earlier (entry ∷ later)) run in
@@ -130,7 +141,7 @@ error_alone s before entry short run gives =
     let t = entry.tid.0 in
     let a = allowed_at s before entry.hart.0 (choice_of entry) entry run.1 in
     let at = allowed_runs here (choice_of entry) _ _ entry a gives.call.executes in
-    let did = called_done s before entry gives.call at in
+    let did = outside here t (is_inside_here here t) (done s before entry) (called_done s before entry gives.call at) gives.goes_on in
     let refusal = refusal_of_error s before entry short run gives did in
     let is = did ∙ ap (by_call here) refusal.is in
     let value = negative refusal.errno in
@@ -144,7 +155,7 @@ error_alone s before entry short run gives =
     }
 
 pub error_changes_nothing : (s : Setting) (earlier later : List Entry) (entry : Entry)
-    → s.limits.steps < 2 ^ 31 - 1 → IsBlockRun s (earlier ++ entry ∷ later)
+    → s.limits.steps < 2 ^ 31 - 1 → IsAllowedLog s (earlier ++ entry ∷ later)
     → GivesError s (history s earlier) entry → GivesErrorAlone s (history s earlier) entry
 error_changes_nothing s earlier later entry short run gives =
     error_alone s (history s earlier) entry short (run_to s earlier later entry run) gives

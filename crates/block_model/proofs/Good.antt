@@ -4,7 +4,7 @@ use Rattle.std.specs.List.{AllByRecursion}
 use Rattle.std.proofs.lemmas.Bool.{eqb-true, eqb-false}
 use Rattle.mach_types.specs.Bytes.{each_byte}
 use Rattle.mach_types.specs.Kernel.Pages.{Pages, permission_at, can_write}
-use Rattle.mach_types.specs.Kernel.Record.{Kernel}
+use Rattle.block_model.specs.Record.{Kernel}
 use Rattle.mach_types.specs.Kernel.Threads.{running_on}
 use Rattle.mach_types.specs.declared.kernel_words.TheConstants.{CONSOLE_ROOM}
 use Rattle.mach_types.specs.declared.user_memory.Store.{Store}
@@ -15,6 +15,7 @@ use Rattle.block_model.specs.History.{file_among}
 use Rattle.block_model.specs.Here.{Here, Done, waiting_here}
 use Rattle.block_model.specs.Plain.{Plain, here_in_plain, apply}
 use Rattle.block_model.proofs.Allowances.{AllAllowed}
+use Rattle.block_model.proofs.Held.{IsHeld}
 use Rattle.block_model.proofs.Paged.{IsPaged}
 use Rattle.block_model.specs.Tables.{IsTables}
 
@@ -45,7 +46,8 @@ pub record IsGoodHere (here : Here) : Type 0 where
   pub idle : (k : ℕ) → running_on k here.kernel.threads ≡ None → here.waiting k ≡ []
   pub kernel : IsSound here.setting here.kernel
 
--- what an event does that keeps it; and it sets no file of a thread that runs on another hart
+-- what an event does that keeps it; and it sets no file of a thread that runs on another hart. What the record holds for threads
+-- stays so too
 pub record IsFit (here : Here) (d : Done) : Type 0 where
   pub executed : AllByRecursion (MayEnter d.kernel.pages) d.executed
   pub within : (k : ℕ) → AllByRecursion (MayEnter d.kernel.pages) (here.waiting k)
@@ -58,6 +60,7 @@ pub record IsFit (here : Here) (d : Done) : Type 0 where
   pub given : d.kernel.threads.given ≤ here.kernel.threads.given + 1
   pub one : d.instructions ≤ 1
   pub kernel : IsSound here.setting d.kernel
+  pub held : IsHeld here.setting.limits.harts here.kernel → IsHeld here.setting.limits.harts d.kernel
 
 all_append : (P : Store → Type 0) (xs ys : List Store) → AllByRecursion P xs → AllByRecursion P ys → AllByRecursion P (xs ++ ys)
 all_append P [] ys p q = q

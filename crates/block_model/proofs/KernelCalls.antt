@@ -17,7 +17,7 @@ pub as_many_held : (harts : ℕ) (ts : Threads) (sc : Scheduling) → IsTables h
 as_many_held harts ts sc holds =
     sym (length-map sc.affinities (λ pair. pair.0)) ∙ ap length holds.alike ∙ length-map ts.live (λ (th : Thread). th.tid)
 
-any_from_times : (t : ℕ) (order : List ℕ) (b : Bool) → times t order ≡ once b → list_any (λ u. eqb u t) order ≡ b
+pub any_from_times : (t : ℕ) (order : List ℕ) (b : Bool) → times t order ≡ once b → list_any (λ u. eqb u t) order ≡ b
 any_from_times t [] true e = absurd (omega arith)
 any_from_times t [] false e = refl
 any_from_times t (u ∷ us) b e = any_step t u us b (eqb u t) e (any_from_times t us)

@@ -25,7 +25,7 @@ abbrev pub its_ready : Option ThreadState → Bool
 its_ready o = option_map_or is_ready_state o false
 
 -- the threads that have an affinity, by their numbers
-any_of : (t : ℕ) (pairs : List (ℕ × ℕ)) → list_any (is_of t) pairs ≡ list_any (λ k. eqb k t) (map (λ pair. pair.0) pairs)
+pub any_of : (t : ℕ) (pairs : List (ℕ × ℕ)) → list_any (is_of t) pairs ≡ list_any (λ k. eqb k t) (map (λ pair. pair.0) pairs)
 any_of t [] = refl
 any_of t (p ∷ ps) = ap (λ b. eqb p.0 t || b) (any_of t ps)
 

@@ -16,9 +16,10 @@ use Rattle.elf_load.specs.declared.image.Image.{Image}
 use Rattle.elf_load.specs.Images.{IsImage}
 use Rattle.block_model.specs.declared.refusals.Refused.TheVariants.{Ended, Full, NotEnabled}
 use Rattle.block_model.specs.Setting.{Setting, Seen, setting_of}
-use Rattle.mach_types.specs.Kernel.Scheduling.{Scheduling}
+use Rattle.mach_types.specs.Kernel.Scheduling.{Scheduling, has_hart}
 use Rattle.mach_types.specs.Kernel.Threads.{Threads, is_ready, running_on, with_state}
-use Rattle.block_model.specs.Tables.{IsTables, on}
+use Rattle.block_model.specs.Ids.{AreIdsApart, IsLeastFree, held_ids, id_of, is_taken, next_id}
+use Rattle.block_model.specs.Tables.{AreOfLive, IsTables, on}
 use Rattle.block_model.specs.Here.{Here, Done, runs}
 use Rattle.block_model.specs.Events.Run.{refusal_run}
 use Rattle.block_model.specs.Events.{refusal_of, done_of}
@@ -28,7 +29,7 @@ use Rattle.block_model.specs.Walks.{IsWalk, answers, computed}
 use Rattle.block_model.specs.Choosing.{IsChosen, all_chosen, choice_at, has_ended, is_choice, luck, luck_after, next_entry, pick_with, sight_with}
 use Rattle.block_model.specs.Deciding.{decide, decide_in, end_of, entry_in, event, history, over_at, unless}
 use Rattle.block_model.specs.Replay.{Ask, AllAnswer, IsFirstBad, IsFirstRefused, play_line, played, played_read, script_of}
-use Rattle.block_model.specs.Run.{IsBlockRun, IsRunHistory}
+use Rattle.block_model.specs.Run.{IsAllowedLog, IsBlockRun, IsRunHistory}
 use Rattle.block_model.specs.Sights.{sight_in}
 use Rattle.block_model.specs.Solo.{IsSolo, solo_choice, solo_rule}
 use Rattle.block_model.specs.Plain.{Plain, apply, here_of, plain_after, plain_end, plain_over, plain_seen, plain_solo, plain_solo_choice, plain_start}
@@ -48,6 +49,10 @@ use Rattle.block_model.proofs.ErrorEvents as error_events
 use Rattle.block_model.proofs.Walks as walks
 use Rattle.block_model.proofs.Entries as entries
 use Rattle.block_model.proofs.Good.{good_here}
+use Rattle.block_model.proofs.Held.{IsHeld}
+use Rattle.block_model.proofs.Ids as ids
+use Rattle.block_model.proofs.IdsOfRuns as run_ids
+use Rattle.block_model.proofs.IdsOnHarts as on_harts
 use Rattle.block_model.proofs.OneImage as one_image
 use Rattle.block_model.proofs.Open as opens
 use Rattle.block_model.proofs.PlainRuns as plain_runs
@@ -56,26 +61,32 @@ use Rattle.block_model.proofs.Replay as replay
 use Rattle.block_model.proofs.Rules as rules
 use Rattle.block_model.proofs.Runs as run_laws
 use Rattle.block_model.proofs.Runs.{good_of}
+use Rattle.block_model.proofs.Whole.{allowed_is_whole}
 pub use Rattle.block_model.proofs.Choosing.{no_call_held, none_of_both}
 pub use Rattle.block_model.proofs.Good.{IsFit, IsGood, IsGoodHere, IsSound, MayEnter}
 pub use Rattle.block_model.proofs.KernelCalls.{as_many_held, child_not_held, child_same, ended_idle, order_has, tables_allowed, tables_child, tables_ended, tables_waited, tables_woken, waited_idle, woken_same}
+pub use Rattle.block_model.proofs.IdsOnHarts.{IsHeldOnHart, has_hart-set, is_held_below, is_held_by}
 pub use Rattle.block_model.proofs.Stretches.{HasStayed, HasSteps, IsLent, Steps, is_lent, stays, steps_of, worked_keeps}
 pub use Rattle.block_model.proofs.KernelTables.{cleared_same, left_idle, running_is, state_now, tables_cleared, tables_left, tables_ran, tables_start}
 
+-- a log of which every entry is allowed is a block run
+pub block_run : (s : Setting) (log : List Entry) → IsAllowedLog s log → IsBlockRun s log
+block_run s log run = record { allowed = run; whole = allowed_is_whole s (history s log) run }
+
 -- a run that goes on is a run
 pub run_on : (v : Seen) (h : ℕ) (c : Choice) (e : Entry) → IsBlockRun v.setting v.log → decide v.setting (history v.setting v.log) h c ≡ Ok e → IsBlockRun v.setting (v.log ++ e ∷ [])
-run_on v h c e run is = run_laws.IsBlockRun-append v.setting v.log h c e run is
+run_on v h c e run is = block_run v.setting (v.log ++ e ∷ []) (run_laws.IsAllowedLog-append v.setting v.log h c e run.allowed is)
 
 -- an empty log is a run, and the plain machine then stands at its start
 pub start_run : (s : Setting) → IsBlockRun s []
-start_run s = run_laws.IsBlockRun-nil s
+start_run s = block_run s [] (run_laws.IsAllowedLog-nil s)
 
 pub start_plain : (s : Setting) → plain_after s [] ≡ plain_start s
 start_plain s = agrees.plain-nil s
 
 -- what is decided hangs on the plain machine alone
 pub decided : (v : Seen) (h : ℕ) (c : Choice) → IsBlockRun v.setting v.log → decide v.setting (history v.setting v.log) h c ≡ decide_in (length v.log) (plain_over (plain_seen v)) c (here_of v h)
-decided v h c run = agreement_decide v.setting v.log h c run ∙ ap (λ n. decide_in n (plain_over (plain_seen v)) c (here_of v h)) (plain-made v.setting v.log run)
+decided v h c run = agreement_decide v.setting v.log h c run.allowed ∙ ap (λ n. decide_in n (plain_over (plain_seen v)) c (here_of v h)) (plain-made v.setting v.log run.allowed)
 
 -- where the run has ended
 pub after_end : (v : Seen) (h : ℕ) (c : Choice) (e : End) → IsBlockRun v.setting v.log → plain_over (plain_seen v) ≡ Some e → decide v.setting (history v.setting v.log) h c ≡ Err (Ended e)
@@ -109,7 +120,7 @@ pub record IsNext (v : Seen) (e : Entry) (d : Done) : Type 0 where
 pub next_event : (v : Seen) (e : Entry) (d : Done) → IsBlockRun v.setting v.log → decide v.setting (history v.setting v.log) e.hart.0 (choice_of e) ≡ Ok e → d ≡ done_of (choice_of e) (here_of v e.hart.0) → IsNext v e d
 next_event v e d run is done =
     let a : IsAllowed (length v.log) (plain_over (plain_seen v)) (choice_of e) (here_of v e.hart.0) e = allowed (length v.log) (plain_over (plain_seen v)) (choice_of e) (here_of v e.hart.0) e (sym (decided v e.hart.0 (choice_of e) run) ∙ is) in
-    let good = good_here v.setting (plain_seen v) e.hart.0 a.lt (good_after v.setting v.log run) in
+    let good = good_here v.setting (plain_seen v) e.hart.0 a.lt (good_after v.setting v.log run.allowed) in
     record {
       lt = a.lt;
       room = a.room;
@@ -119,19 +130,19 @@ next_event v e d run is done =
       good = good;
       fit = subst (IsFit (here_of v e.hart.0)) (sym done) (good_of (choice_of e) (here_of v e.hart.0) good a.free);
       next = plain-append v.setting v.log e ∙ ap (λ d. apply e.hart.0 d (plain_seen v)) (sym done);
-      run = run_laws.IsBlockRun-append v.setting v.log e.hart.0 (choice_of e) e run is;
+      run = run_on v e.hart.0 (choice_of e) e run is;
     }
 
 -- what a rule may read of the plain machine is what is read by looking back, and so is the end
 pub same_here : (v : Seen) (h : ℕ) → IsBlockRun v.setting v.log → here_of v h ≡ here_in_history v.setting (history v.setting v.log) h
-same_here v h run = agreement_here v.setting v.log h run
+same_here v h run = agreement_here v.setting v.log h run.allowed
 
 pub same_end : (v : Seen) → IsBlockRun v.setting v.log → plain_end v.setting (plain_seen v) ≡ end_of v.setting (history v.setting v.log)
-same_end v run = sym (agreement_end v.setting v.log run)
+same_end v run = sym (agreement_end v.setting v.log run.allowed)
 
 -- each hart of each place is good
 pub good_at : (v : Seen) → IsBlockRun v.setting v.log → IsGood v.setting (plain_seen v)
-good_at v run = good_after v.setting v.log run
+good_at v run = good_after v.setting v.log run.allowed
 
 -- runs and their histories, as lists
 
@@ -153,7 +164,7 @@ decided_is s before h c e is = decisions.decided_is s before h c e is
 
 -- a run that goes on is a run
 pub IsBlockRun-append : (s : Setting) (log : List Entry) (h : ℕ) (c : Choice) (e : Entry) → IsBlockRun s log → decide s (history s log) h c ≡ Ok e → IsBlockRun s (log ++ e ∷ [])
-IsBlockRun-append s log h c e run is = run_laws.IsBlockRun-append s log h c e run is
+IsBlockRun-append s log h c e run is = block_run s (log ++ e ∷ []) (run_laws.IsAllowedLog-append s log h c e run.allowed is)
 
 -- a run by the fixed rule that goes on by the rule is one
 pub IsSolo-append : (s : Setting) (log : List Entry) (e : Entry) → IsSolo s log → e.hart.0 ≡ 0 → solo_choice s (history s log) ≡ Some (choice_of e) → IsSolo s (log ++ e ∷ [])
@@ -161,31 +172,31 @@ IsSolo-append s log e solo first chosen = solo_runs.IsSolo-append s log e solo f
 
 -- a run has no more entries than the step limit
 pub within_limit : (s : Setting) (log : List Entry) → IsBlockRun s log → length log ≤ s.limits.steps
-within_limit s log run = ends.within_limit s log run
+within_limit s log run = ends.within_limit s log run.allowed
 
 -- each entry is of a hart of the machine, its thread's number fits 32 bits where the step limit is small, and its pc fits 64
 pub all_harts : (s : Setting) (log : List Entry) → IsBlockRun s log → All (λ (e : Entry). e.hart.0 < s.limits.harts) log
-all_harts s log run = entries.all_harts s log run
+all_harts s log run = entries.all_harts s log run.allowed
 
 pub all_threads : (s : Setting) (log : List Entry) → s.limits.steps < 2 ^ 31 - 1 → IsBlockRun s log → All (λ (e : Entry). e.tid.0 < 2 ^ 32) log
-all_threads s log short run = entries.all_threads s log short run
+all_threads s log short run = entries.all_threads s log short run.allowed
 
 pub all_addresses : (s : Setting) (log : List Entry) → s.program.entry < 2 ^ 64 → IsBlockRun s log → All (λ (e : Entry). e.pc < 2 ^ 64) log
-all_addresses s log start run = entries.all_addresses s log start run
+all_addresses s log start run = entries.all_addresses s log start run.allowed
 
 -- a guest call that gives an error changes, of thread files, memory and the kernel's record, only a0 and the pc of its thread
 pub error_changes_nothing : (s : Setting) (earlier later : List Entry) (entry : Entry) → s.limits.steps < 2 ^ 31 - 1
     → IsBlockRun s (earlier ++ entry ∷ later) → GivesError s (history s earlier) entry → GivesErrorAlone s (history s earlier) entry
-error_changes_nothing s earlier later entry short run gives = error_events.error_changes_nothing s earlier later entry short run gives
+error_changes_nothing s earlier later entry short run gives = error_events.error_changes_nothing s earlier later entry short run.allowed gives
 
 -- at the end of a walk the thread's file is what its instructions make of the file at its start, and the thread runs there throughout
 pub walk_file : (s : Setting) (earlier stretch later : List Entry) (h t : ℕ) → IsBlockRun s (earlier ++ stretch ++ later) → IsWalk s h t (history s earlier) stretch
     → file s t (history s (earlier ++ stretch)) ≡ computed s.program.pages (file s t (history s earlier)) (answers s h (history s earlier) stretch)
-walk_file s earlier stretch later h t run walk = (walks.walk_computed s earlier stretch later h t run walk).file_is
+walk_file s earlier stretch later h t run walk = (walks.walk_computed s earlier stretch later h t run.allowed walk).file_is
 
 pub walk_throughout : (s : Setting) (earlier first rest later : List Entry) (h t : ℕ) → IsBlockRun s (earlier ++ first ++ rest ++ later) → IsWalk s h t (history s earlier) (first ++ rest)
     → running s h (history s (earlier ++ first)) ≡ Some t
-walk_throughout s earlier first rest later h t run walk = walks.walk_throughout s earlier first rest later h t run walk
+walk_throughout s earlier first rest later h t run walk = walks.walk_throughout s earlier first rest later h t run.allowed walk
 
 -- ends
 
@@ -221,10 +232,10 @@ played-append s lines line = replay.played-append s lines line
 
 -- what a script makes is the block run that answers it, and no other log is
 pub played_is_run : (s : Setting) (lines : List Ask) (log : List Entry) → played s lines ≡ Ok log → IsBlockRun s log × AllAnswer lines log
-played_is_run s lines log is = replay.played_is_run s lines log is
+played_is_run s lines log is = let made = replay.played_is_run s lines log is in (block_run s log made.0, made.1)
 
 pub run_is_played : (s : Setting) (lines : List Ask) (log : List Entry) → IsBlockRun s log → AllAnswer lines log → played s lines ≡ Ok log
-run_is_played s lines log run all = replay.run_is_played s lines log run all
+run_is_played s lines log run all = replay.run_is_played s lines log run.allowed all
 
 -- as many entries as lines
 pub length-answers : (lines : List Ask) (log : List Entry) → AllAnswer lines log → length log ≡ length lines
@@ -235,7 +246,7 @@ pub answers_itself : (log : List Entry) → AllAnswer (script_of log) log
 answers_itself log = replay.answers_itself log
 
 pub replays : (s : Setting) (log : List Entry) → IsBlockRun s log → played s (script_of log) ≡ Ok log
-replays s log run = replay.replays s log run
+replays s log run = replay.replays s log run.allowed
 
 -- a script is refused with the number of its first line that is refused, or can't be read
 pub is_refused : (s : Setting) (lines : List Ask) (n : ℕ) → IsFirstRefused s lines n → played s lines ≡ Err n
@@ -252,31 +263,31 @@ played_read-all s lines = replay.played_read-all s lines
 
 -- its state is what is read by looking back
 pub same_state : (v : Seen) → IsBlockRun v.setting v.log → plain_seen v ≡ plain_of v.setting (history v.setting v.log)
-same_state v run = agrees.agreement v.setting v.log run
+same_state v run = agrees.agreement v.setting v.log run.allowed
 
 -- its choice by the fixed rule is the one that is read from the log
 pub same_rule : (v : Seen) → IsBlockRun v.setting v.log → plain_solo_choice v.setting (plain_seen v) ≡ solo_choice v.setting (history v.setting v.log)
-same_rule v run = SaysOf.same_rule (agrees.says_of v.setting v.log run)
+same_rule v run = SaysOf.same_rule (agrees.says_of v.setting v.log run.allowed)
 
 -- over a script it makes the script's log, and over a finished run's choices the run; and it says what is read from the log
 pub plain_makes : (s : Setting) (lines : List Ask) (log : List Entry) → played s lines ≡ Ok log → MakesLog s lines log
 plain_makes s lines log is = plain_runs.plain_makes s lines log is
 
 pub plain_solo_log : (s : Setting) (log : List Entry) → IsBlockRun s log → IsSolo s log → end_of s (history s log) ≢ Unended → (plain_solo s s.limits.steps).log ≡ log
-plain_solo_log s log run solo over = solo_runs.plain_solo_log s log run solo over
+plain_solo_log s log run solo over = solo_runs.plain_solo_log s log run.allowed solo over
 
 pub plain_solo_says : (s : Setting) (log : List Entry) → IsBlockRun s log → IsSolo s log → end_of s (history s log) ≢ Unended → SaysOf s log (plain_solo s s.limits.steps).machine
-plain_solo_says s log run solo over = solo_runs.plain_solo_says s log run solo over
+plain_solo_says s log run solo over = solo_runs.plain_solo_says s log run.allowed solo over
 
 -- the fixed rule
 
 -- it has a choice where the machine has one hart and the run is open; its choice is made; and where hart 0 may execute its next
 -- instruction, that is the choice
 pub rule_chooses : (s : Setting) (log : List Entry) → s.limits.harts ≡ 1 → IsBlockRun s log → end_of s (history s log) ≡ Unended → is_some (solo_choice s (history s log)) ≡ true
-rule_chooses s log one run end = rules.rule_chooses s log one run end
+rule_chooses s log one run end = rules.rule_chooses s log one run.allowed end
 
 pub rule_is_made : (s : Setting) (log : List Entry) (c : Choice) → IsBlockRun s log → 0 < s.limits.harts → end_of s (history s log) ≡ Unended → solo_choice s (history s log) ≡ Some c → IsOk (decide s (history s log) 0 c)
-rule_is_made s log c run harts end chosen = rules.rule_is_made s log c run harts end chosen
+rule_is_made s log c run harts end chosen = rules.rule_is_made s log c run.allowed harts end chosen
 
 pub executes_when_allowed : (s : Setting) (log : List Entry) (e : Entry) → decide s (history s log) 0 asked.Exec ≡ Ok e → solo_choice s (history s log) ≡ Some asked.Exec
 executes_when_allowed s log e made = rules.executes_when_allowed s log e made
@@ -287,7 +298,7 @@ start_solo s = solo_runs.IsSolo-nil s
 
 -- where the machine has one hart and the rule has no choice, the run is over
 pub rule_stops : (s : Setting) (log : List Entry) → s.limits.harts ≡ 1 → IsBlockRun s log → solo_choice s (history s log) ≡ None → end_of s (history s log) ≢ Unended
-rule_stops s log one run none end = rules.rule_stops s log one run none end
+rule_stops s log one run none end = rules.rule_stops s log one run.allowed none end
 
 -- its choice is the one by what a scheduler sees of hart 0
 pub rule_is_read : (s : Setting) (log : List Entry) (credit : ℕ) (seen : Sight) → seen ≡ sight_in (here_in_history s (history s log) 0) (ran 0 (history s log)) credit → solo_choice s (history s log) ≡ solo_rule seen
@@ -298,11 +309,11 @@ rule_is_read s log credit seen is = ap solo_rule (sym is)
 -- it is allowed, and its entry is the one that is decided
 pub choice_is_allowed : (s : Setting) (log : List Entry) (h : ℕ) (c : Choice) → IsBlockRun s log → choice_at s h (history s log) ≡ Some c
     → refusal_of c (here_in_history s (history s log) h) ≡ None
-choice_is_allowed s log h c run chosen = choices.choice_is_allowed s log h c run chosen
+choice_is_allowed s log h c run chosen = choices.choice_is_allowed s log h c run.allowed chosen
 
 pub choice_decides : (s : Setting) (log : List Entry) (h : ℕ) (c : Choice) → IsBlockRun s log → choice_at s h (history s log) ≡ Some c
     → decide s (history s log) h c ≡ Ok (entry_in c (here_in_history s (history s log) h))
-choice_decides s log h c run chosen = choices.choice_decides s log h c run chosen
+choice_decides s log h c run chosen = choices.choice_decides s log h c run.allowed chosen
 
 -- the luck of a hart after one more entry, of another hart or its own
 pub luck_of_other : (s : Setting) (log : List Entry) (h : ℕ) (e : Entry) → e.hart.0 ≢ h
@@ -332,7 +343,9 @@ chosen_start s = choices.chosen_start s
 
 pub chosen_more : (s : Setting) (log : List Entry) (h : ℕ) (e : Entry) → IsBlockRun s log → IsChosen s log → next_entry s h (history s log) ≡ Some e
     → IsBlockRun s (log ++ e ∷ []) × IsChosen s (log ++ e ∷ []) × (e.hart.0 ≡ h)
-chosen_more s log h e run chosen next = choices.chosen_more s log h e run chosen next
+chosen_more s log h e run chosen next =
+    let more = choices.chosen_more s log h e run.allowed chosen next in
+    (block_run s (log ++ e ∷ []) more.0, more.1, more.2)
 
 pub chosen_shorter : (s : Setting) (log more : List Entry) → IsChosen s (log ++ more) → IsChosen s log
 chosen_shorter s log more chosen = choices.chosen_shorter s log more chosen
@@ -355,7 +368,7 @@ one_setting file a b limits seed one other = one_image.one_setting file a b limi
 
 -- the place is good, and what an allowed event does there keeps it so
 pub place_good : (v : Seen) (h : ℕ) → IsBlockRun v.setting v.log → h < v.setting.limits.harts → IsGoodHere (here_of v h)
-place_good v h run lt = good_here v.setting (plain_seen v) h lt (good_after v.setting v.log run)
+place_good v h run lt = good_here v.setting (plain_seen v) h lt (good_after v.setting v.log run.allowed)
 
 pub place_fit : (v : Seen) (h : ℕ) (c : Choice) → IsBlockRun v.setting v.log → h < v.setting.limits.harts → refusal_of c (here_of v h) ≡ None → IsFit (here_of v h) (done_of c (here_of v h))
 place_fit v h c run lt free = good_of c (here_of v h) (place_good v h run lt) free
@@ -369,11 +382,11 @@ events_few v h run =
 pub ran_few : (v : Seen) (h : ℕ) → IsBlockRun v.setting v.log → (plain_seen v).ran h ≤ length v.log
 ran_few v h run =
     let same : (plain_seen v).ran h ≡ ran h (history v.setting v.log) = ap (λ (m : Plain). m.ran h) (same_state v run) in
-    omega (arith, same, counts.ran_few v.setting h (history v.setting v.log) run, length-history v.setting v.log)
+    omega (arith, same, counts.ran_few v.setting h (history v.setting v.log) run.allowed, length-history v.setting v.log)
 
 -- a run gives at most one number in each event
 pub given_few : (v : Seen) → IsBlockRun v.setting v.log → (plain_seen v).kernel.threads.given ≤ length v.log + 1
-given_few v run = let few = (good_at v run).given in let made = plain-made v.setting v.log run in omega arith
+given_few v run = let few = (good_at v run).given in let made = plain-made v.setting v.log run.allowed in omega arith
 
 -- the choice that the entry of a choice answers
 pub choice_made : (c : Choice) (here : Here) → choice_of (entry_in c here) ≡ c
@@ -390,3 +403,67 @@ ran_runs harts h t ts sc tables ready idle lt = tables_laws.ran_runs harts h t t
 -- a thread that may begin to run is ready, and its hart is idle
 pub run_ready : (here : Here) (t : ℕ) → refusal_run here t ≡ None → (runs here ≡ None) × (is_ready t here.kernel.threads ≡ true)
 run_ready here t free = run_laws_of.run_ready here t free
+
+-- areas and ids
+
+-- what the record holds for threads
+held_at : (v : Seen) → IsBlockRun v.setting v.log → IsHeld v.setting.limits.harts (plain_seen v).kernel
+held_at v run =
+    subst (λ (m : Plain). IsHeld v.setting.limits.harts m.kernel) (sym (same_state v run)) (run_ids.held_in v.setting (history v.setting v.log) run.allowed)
+
+-- each registered area is that of a live thread, and a thread has at most one
+pub live_areas : (v : Seen) → IsBlockRun v.setting v.log → AreOfLive (plain_seen v).kernel.threads (plain_seen v).kernel.areas
+live_areas v run = (held_at v run).areas
+
+-- each thread that runs holds an id, and no two hold the same
+pub ids_apart_at : (v : Seen) → IsBlockRun v.setting v.log → v.setting.limits.harts ≤ 8 → AreIdsApart (plain_seen v).kernel.threads (plain_seen v).kernel.ids
+ids_apart_at v run few = (held_at v run).ids few
+
+-- where a thread may begin to run, the next id is the least that no thread holds and below the number of harts, so not all are held
+pub record HasFreeId (harts : ℕ) (ids : List (ℕ × ℕ)) : Type 0 where
+  pub least : IsLeastFree ids (next_id ids)
+  pub below : next_id ids < harts
+  pub some : held_ids ids ≢ 255
+
+pub id_is_free : (v : Seen) (h t : ℕ) → IsBlockRun v.setting v.log → v.setting.limits.harts ≤ 8 → h < v.setting.limits.harts → refusal_run (here_of v h) t ≡ None
+    → HasFreeId v.setting.limits.harts (plain_seen v).kernel.ids
+id_is_free v h t run few lt free =
+    let k = (plain_seen v).kernel in
+    let tables = (good_at v run).kernel.tables in
+    let idle = (run_laws_of.run_ready (here_of v h) t free).0 in
+    let fewer = ids.fewer_than_harts v.setting.limits.harts h t k.threads k.scheduling k.ids tables (ids_apart_at v run few) idle lt in
+    let low = ids.next_low k.ids (omega arith) in
+    let least = ids.next_is k.ids (omega arith) in
+    record { least = least; below = omega arith; some = on_harts.not_full k.ids (next_id k.ids) (omega arith) least.free }
+
+-- the id that a thread on a hart holds is taken, and one that is taken is that of a thread on a hart of the machine
+pub id_is_taken : (v : Seen) (h t : ℕ) → IsBlockRun v.setting v.log → v.setting.limits.harts ≤ 8 → running_on h (plain_seen v).kernel.threads ≡ Some t
+    → is_taken (plain_seen v).kernel.ids (id_of t (plain_seen v).kernel.ids) ≡ true
+id_is_taken v h t run few at =
+    let k = (plain_seen v).kernel in
+    on_harts.id_is_taken v.setting.limits.harts k.threads k.scheduling k.ids (good_at v run).kernel.tables (ids_apart_at v run few) h t at
+
+pub taken_is_of : (v : Seen) (n : ℕ) → IsBlockRun v.setting v.log → v.setting.limits.harts ≤ 8 → is_taken (plain_seen v).kernel.ids n ≡ true
+    → IsHeldOnHart v.setting.limits.harts (plain_seen v).kernel.threads (plain_seen v).kernel.ids n
+taken_is_of v n run few is =
+    let k = (plain_seen v).kernel in
+    on_harts.taken_is_of v.setting.limits.harts k.threads k.scheduling k.ids (good_at v run).kernel.tables (ids_apart_at v run few) n is
+
+-- so an id is taken where a thread on one of the machine's harts holds it, looked for hart by hart
+pub taken_on_harts : (v : Seen) (n : ℕ) → IsBlockRun v.setting v.log → v.setting.limits.harts ≤ 8
+    → is_taken (plain_seen v).kernel.ids n ≡ is_held_below (plain_seen v).kernel.threads (plain_seen v).kernel.ids n v.setting.limits.harts
+taken_on_harts v n run few =
+    let k = (plain_seen v).kernel in
+    on_harts.taken_on_harts v.setting.limits.harts k.threads k.scheduling k.ids (good_at v run).kernel.tables (ids_apart_at v run few) n
+
+-- a byte whose bits are the ids of the threads on the machine's harts is the set of those that are held
+pub held_is : (v : Seen) (set : ℕ) → IsBlockRun v.setting v.log → v.setting.limits.harts ≤ 8 → set < 2 ^ 8
+    → ((n : ℕ) → n < 8 → has_hart set n ≡ is_held_below (plain_seen v).kernel.threads (plain_seen v).kernel.ids n v.setting.limits.harts)
+    → set ≡ held_ids (plain_seen v).kernel.ids
+held_is v set run few small same = on_harts.held_is set (plain_seen v).kernel.ids small (λ n lt. same n lt ∙ sym (taken_on_harts v n run few))
+
+-- the id of a thread that runs is one of 8
+pub id_is_small : (v : Seen) (h t : ℕ) → IsBlockRun v.setting v.log → v.setting.limits.harts ≤ 8 → running_on h (plain_seen v).kernel.threads ≡ Some t
+    → id_of t (plain_seen v).kernel.ids < 8
+id_is_small v h t run few at =
+    on_harts.small_taken (id_of t (plain_seen v).kernel.ids) (plain_seen v).kernel.ids (ids_apart_at v run few).small (id_is_taken v h t run few at)

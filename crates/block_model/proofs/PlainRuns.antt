@@ -7,18 +7,18 @@ use Rattle.mach_types.specs.declared.events.Tid.{Tid}
 use Rattle.block_model.specs.declared.refusals.Refused.{Refused}
 use Rattle.block_model.specs.Setting.{Setting}
 use Rattle.block_model.specs.Deciding.{decide, history}
-use Rattle.block_model.specs.Run.{IsBlockRun}
+use Rattle.block_model.specs.Run.{IsAllowedLog}
 use Rattle.block_model.specs.Replay.{Ask, is_as_said, checked, extended, play_line, played, script_of}
 use Rattle.block_model.specs.Plain.{Plain, PlainRun, plain_after, plain_begin, plain_decide, plain_line, plain_next, plain_run, confirmed, gone_on, log_made}
 use Rattle.block_model.specs.PlainSays.{SaysOf, MakesLog}
 use Rattle.block_model.proofs.Agreement.{agreement_decide, plain-append, plain-made, plain-nil, says_of}
-use Rattle.block_model.proofs.Runs.{IsBlockRun-append, IsBlockRun-nil}
+use Rattle.block_model.proofs.Runs.{IsAllowedLog-append, IsAllowedLog-nil}
 use Rattle.block_model.proofs.Replay.{replays}
 
 -- a log that was played and a run of the machine belong together
 pub record IsRunOf (s : Setting) (log : List Entry) (run : PlainRun) : Type 0 where
   pub same_log : run.log ≡ log
-  pub allowed : IsBlockRun s log
+  pub allowed : IsAllowedLog s log
   pub same_machine : run.machine ≡ plain_after s log
 
 abbrev PlayAlike : Setting → Result (List Entry) ℕ → Result PlainRun ℕ → Type 0
@@ -32,7 +32,7 @@ pub same_answer : (s : Setting) (log : List Entry) (run : PlainRun) (h : ℕ) (c
 same_answer s log run h c x = ap (λ (m : Plain). plain_decide s m h c) x.same_machine ∙ sym (agreement_decide s log h c x.allowed)
 
 -- one more entry
-pub one_more : (s : Setting) (log : List Entry) (run : PlainRun) (e : Entry) → IsRunOf s log run → IsBlockRun s (log ++ e ∷ [])
+pub one_more : (s : Setting) (log : List Entry) (run : PlainRun) (e : Entry) → IsRunOf s log run → IsAllowedLog s (log ++ e ∷ [])
     → IsRunOf s (log ++ e ∷ []) (record { log = run.log ++ e ∷ []; machine = plain_next s run.machine e })
 one_more s log run e x allowed = record {
   same_log = ap (λ (l : List Entry). l ++ e ∷ []) x.same_log;
@@ -44,14 +44,14 @@ one_more s log run e x allowed = record {
 same_number : (s : Setting) (log : List Entry) (run : PlainRun) → IsRunOf s log run → run.machine.made + 1 ≡ length log + 1
 same_number s log run x = ap (λ (m : Plain). m.made + 1) x.same_machine ∙ ap (λ n. n + 1) (plain-made s log x.allowed)
 
-by_check : (s : Setting) (log : List Entry) (run : PlainRun) (e : Entry) (b : Bool) → IsRunOf s log run → IsBlockRun s (log ++ e ∷ [])
+by_check : (s : Setting) (log : List Entry) (run : PlainRun) (e : Entry) (b : Bool) → IsRunOf s log run → IsAllowedLog s (log ++ e ∷ [])
     → PlayAlike s (extended log (cond b (Some e) None)) (gone_on s run (cond b (Some e) None))
 by_check s log run e true x allowed = one_more s log run e x allowed
 by_check s log run e false x allowed = same_number s log run x
 
 by_answer : (s : Setting) (log : List Entry) (run : PlainRun) (h : ℕ) (c : Choice) (check : Option (Tid × ℕ)) (d : Result Entry Refused) → IsRunOf s log run → decide s (history s log) h c ≡ d
     → PlayAlike s (extended log (checked check d)) (gone_on s run (confirmed check d))
-by_answer s log run h c check (Ok e) x is = by_check s log run e (is_as_said check e) x (IsBlockRun-append s log h c e x.allowed is)
+by_answer s log run h c check (Ok e) x is = by_check s log run e (is_as_said check e) x (IsAllowedLog-append s log h c e x.allowed is)
 by_answer s log run h c check (Err why) x is = same_number s log run x
 
 -- one more line
@@ -70,7 +70,7 @@ lines_alike s (line ∷ lines) a b x = lines_alike s lines (play_line s a line) 
 
 -- the machine at its start
 pub begin_is : (s : Setting) → IsRunOf s [] (plain_begin s)
-begin_is s = record { same_log = refl; allowed = IsBlockRun-nil s; same_machine = sym (plain-nil s) }
+begin_is s = record { same_log = refl; allowed = IsAllowedLog-nil s; same_machine = sym (plain-nil s) }
 
 -- a script
 plays_alike : (s : Setting) (lines : List Ask) → PlayAlike s (played s lines) (plain_run s lines)
@@ -103,5 +103,5 @@ pub plain_makes : (s : Setting) (lines : List Ask) (log : List Entry) → played
 plain_makes s lines log is = made_from s lines log (played s lines) (plain_run s lines) is refl (plays_alike s lines)
 
 -- a block run
-pub plain_makes_run : (s : Setting) (log : List Entry) → IsBlockRun s log → MakesLog s (script_of log) log
+pub plain_makes_run : (s : Setting) (log : List Entry) → IsAllowedLog s log → MakesLog s (script_of log) log
 plain_makes_run s log run = plain_makes s (script_of log) log (replays s log run)

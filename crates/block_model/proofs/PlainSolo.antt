@@ -9,7 +9,7 @@ use Rattle.block_model.specs.declared.refusals.Refused.{Refused}
 use Rattle.block_model.specs.Setting.{Setting}
 use Rattle.block_model.specs.History.{History}
 use Rattle.block_model.specs.Deciding.{decide, event, history, end_of}
-use Rattle.block_model.specs.Run.{IsBlockRun}
+use Rattle.block_model.specs.Run.{IsAllowedLog}
 use Rattle.block_model.specs.Solo.{IsSolo, IsSoloHistory, solo_choice}
 use Rattle.block_model.specs.Plain.{Plain, PlainRun, plain_decide, plain_solo, plain_solo_choice, solo_chosen, solo_gone_on}
 use Rattle.block_model.specs.PlainSays.{SaysOf}
@@ -17,8 +17,8 @@ use Rattle.block_model.proofs.Agreement.{says_of}
 use Rattle.block_model.proofs.Ends.{within_limit}
 use Rattle.block_model.proofs.Open.{is_over}
 use Rattle.block_model.proofs.PlainRuns.{IsRunOf, begin_is, one_more, same_answer, says}
-use Rattle.block_model.proofs.Replay.{IsBlockRun-next, history-more}
-use Rattle.block_model.proofs.Runs.{IsBlockRun-append, history-append}
+use Rattle.block_model.proofs.Replay.{IsAllowedLog-next, history-more}
+use Rattle.block_model.proofs.Runs.{IsAllowedLog-append, history-append}
 
 -- of a run by the rule each entry is the rule's choice after those before it
 solo_before : (s : Setting) (rest : List Entry) (before : History) → IsSoloHistory s (fold (λ b e. event s b e ∷ b) before rest) → IsSoloHistory s before
@@ -53,20 +53,20 @@ one_step s log run e x d first chosen =
     let rule : plain_solo_choice s run.machine ≡ Some (choice_of e) = same_choice s log run x ∙ chosen in
     subst (λ (o : Option Choice). IsRunOf s (log ++ e ∷ []) (solo_chosen s run o)) (sym rule)
     (subst (λ (r : Result Entry Refused). IsRunOf s (log ++ e ∷ []) (solo_gone_on s run r)) (sym answer)
-    (one_more s log run e x (IsBlockRun-append s log 0 (choice_of e) e x.allowed here)))
+    (one_more s log run e x (IsAllowedLog-append s log 0 (choice_of e) e x.allowed here)))
 
 plain_solo-more : (s : Setting) (n : ℕ) → plain_solo s (suc n) ≡ solo_chosen s (plain_solo s n) (plain_solo_choice s (plain_solo s n).machine)
 unfolding plain_solo
 plain_solo-more s n = refl
 
 -- the rest of a run by the rule
-solo_from : (s : Setting) (rest log : List Entry) (n : ℕ) → IsBlockRun s (log ++ rest) → IsSolo s (log ++ rest) → IsRunOf s log (plain_solo s n) → IsRunOf s (log ++ rest) (plain_solo s (n + length rest))
+solo_from : (s : Setting) (rest log : List Entry) (n : ℕ) → IsAllowedLog s (log ++ rest) → IsSolo s (log ++ rest) → IsRunOf s log (plain_solo s n) → IsRunOf s (log ++ rest) (plain_solo s (n + length rest))
 solo_from s [] log n run solo x = rw (append-nil, add-zero) x
 solo_from s (e ∷ rest) log n run solo x =
     let p = IsSolo-next s log rest e solo in
     let joined : (log ++ e ∷ []) ++ rest ≡ log ++ e ∷ rest = append_assoc log (e ∷ []) rest in
-    let one : IsRunOf s (log ++ e ∷ []) (plain_solo s (suc n)) = rw (plain_solo-more s n) (one_step s log (plain_solo s n) e x (IsBlockRun-next s log rest e run) p.0 p.1) in
-    let more = solo_from s rest (log ++ e ∷ []) (suc n) (subst (IsBlockRun s) (sym joined) run) (subst (IsSolo s) (sym joined) solo) one in
+    let one : IsRunOf s (log ++ e ∷ []) (plain_solo s (suc n)) = rw (plain_solo-more s n) (one_step s log (plain_solo s n) e x (IsAllowedLog-next s log rest e run) p.0 p.1) in
+    let more = solo_from s rest (log ++ e ∷ []) (suc n) (subst (IsAllowedLog s) (sym joined) run) (subst (IsSolo s) (sym joined) solo) one in
     let count : suc n + length rest ≡ n + length (e ∷ rest) = omega arith in
     subst (λ k. IsRunOf s (log ++ e ∷ rest) (plain_solo s k)) count (subst (λ l. IsRunOf s l (plain_solo s (suc n + length rest))) joined more)
 
@@ -89,15 +89,15 @@ unfolding plain_solo
 plain_solo-start s = begin_is s
 
 -- a finished run by the rule
-plain_solo_is : (s : Setting) (log : List Entry) → IsBlockRun s log → IsSolo s log → end_of s (history s log) ≢ over.Unended → IsRunOf s log (plain_solo s s.limits.steps)
+plain_solo_is : (s : Setting) (log : List Entry) → IsAllowedLog s log → IsSolo s log → end_of s (history s log) ≢ over.Unended → IsRunOf s log (plain_solo s s.limits.steps)
 plain_solo_is s log run solo over =
     let x : IsRunOf s log (plain_solo s (0 + length log)) = solo_from s log [] 0 run solo (plain_solo-start s) in
     let room : length log ≤ s.limits.steps = within_limit s log run in
     let count : 0 + length log + (s.limits.steps - length log) ≡ s.limits.steps = omega arith in
     subst (λ n. IsRunOf s log (plain_solo s n)) count (solo_stays s log (0 + length log) (s.limits.steps - length log) x over)
 
-pub plain_solo_log : (s : Setting) (log : List Entry) → IsBlockRun s log → IsSolo s log → end_of s (history s log) ≢ over.Unended → (plain_solo s s.limits.steps).log ≡ log
+pub plain_solo_log : (s : Setting) (log : List Entry) → IsAllowedLog s log → IsSolo s log → end_of s (history s log) ≢ over.Unended → (plain_solo s s.limits.steps).log ≡ log
 plain_solo_log s log run solo over = (plain_solo_is s log run solo over).same_log
 
-pub plain_solo_says : (s : Setting) (log : List Entry) → IsBlockRun s log → IsSolo s log → end_of s (history s log) ≢ over.Unended → SaysOf s log (plain_solo s s.limits.steps).machine
+pub plain_solo_says : (s : Setting) (log : List Entry) → IsAllowedLog s log → IsSolo s log → end_of s (history s log) ≢ over.Unended → SaysOf s log (plain_solo s s.limits.steps).machine
 plain_solo_says s log run solo over = says s log (plain_solo s s.limits.steps) (plain_solo_is s log run solo over)

@@ -18,11 +18,14 @@ use Rattle.mach_types.specs.declared.threads.ThreadState.TheVariants.{Ready, Wai
 use Rattle.mach_types.specs.declared.user_memory.Write.{Write}
 use Rattle.mach_types.specs.Kernel.PageCalls.{mmap_answer}
 use Rattle.mach_types.specs.Kernel.Pages.{Pages}
-use Rattle.mach_types.specs.Kernel.Record.{Kernel}
+use Rattle.block_model.specs.Record.{Kernel}
 use Rattle.mach_types.specs.Kernel.Scheduling.{harts_in, has_hart}
 use Rattle.mach_types.specs.Kernel.Threads.{Thread, clear_if, clear_of, is_full, is_thread, longest_waiter, new_thread, numbers, state_if}
-use Rattle.block_model.specs.Here.{Here, memory}
-use Rattle.block_model.specs.Kernel.{cleared, had_child, left, next_number, paged, printed, restricted, waited, woken}
+use Rattle.mach_types.specs.declared.sequences.Area.{Area}
+use Rattle.mach_types.specs.Kernel.Areas.{are_words_writable}
+use Rattle.block_model.specs.Here.{Here, is_writable, memory}
+use Rattle.block_model.specs.Kernel.{cleared, had_child, left, next_number, paged, printed, registered, restricted, unregistered, waited, woken}
+use Rattle.block_model.specs.Sequences.{area_here}
 use Rattle.block_model.specs.Calls.{call_of, called}
 use Rattle.block_model.specs.Calls.Affinity.{getcpu, is_usable, moved_off, names_nobody, sched_getaffinity, sched_setaffinity, sched_yield, set_at}
 use Rattle.block_model.specs.Calls.Answers.{CallDone, argument, are_readable, are_writable, call_number, int_argument, number_at, refused, said}
@@ -32,6 +35,7 @@ use Rattle.block_model.specs.Calls.Ending.{clears, exit, exit_group, is_last, la
 use Rattle.block_model.specs.Calls.Futexes.{Woken, answered_wait, futex, futex_wait, futex_wake, operation, wake, woken_first}
 use Rattle.block_model.specs.Calls.Memory.{are_mapping_flags, changed_unless, mapped_or_refused, mmap, permission_here}
 use Rattle.block_model.specs.Calls.Numbers.{set_tid_address}
+use Rattle.block_model.specs.Calls.Sequences.{killed_in_call, registers_or_refused, rseq, unregisters, unregisters_or_refused}
 use Rattle.block_model.proofs.Good.{IsSound}
 use Rattle.block_model.proofs.Goods.Calls.Futexes.{kept_wake}
 use Rattle.block_model.proofs.Pcs.{StandsIn, in_word}
@@ -318,6 +322,29 @@ proper_mmap here t =
     unless_refused here t EINVAL (not (are_mapping_flags (argument here t 3))) _
     (proper_mapped here t len prot (mmap_answer (permission_here here) here.kernel.pages.free len prot))
 
+-- rseq(2)
+pub proper_killed : (here : Here) → IsProperCall here (killed_in_call here)
+proper_killed here = record { files = λ stand. tt; ended = λ is. absurd cc; live = λ sound some goes. absurd cc }
+
+proper_registers : (here : Here) (t : ℕ) (x : Result Area Errno) → IsProperCall here (registers_or_refused here t x)
+proper_registers here t (Err e) = proper_said here t _
+proper_registers here t (Ok area) =
+    either here (are_words_writable (is_writable here) area) _ _ (proper_own here t 0 _ (registered t area here.kernel) (omega arith)) (proper_killed here)
+
+proper_unregisters : (here : Here) (t : ℕ) (old : Option Area) → IsProperCall here (unregisters here t old)
+proper_unregisters here t None = proper_said here t _
+proper_unregisters here t (Some area) =
+    either here (are_words_writable (is_writable here) area) _ _ (proper_own here t 0 _ (unregistered t here.kernel) (omega arith)) (proper_said here t _)
+
+proper_unregisters_or : (here : Here) (t : ℕ) (x : Result (Unit {0}) Errno) → IsProperCall here (unregisters_or_refused here t x)
+proper_unregisters_or here t (Err e) = proper_said here t _
+proper_unregisters_or here t (Ok done) = proper_unregisters here t (area_here here t)
+
+proper_rseq : (here : Here) (t : ℕ) → IsProperCall here (rseq here t)
+proper_rseq here t =
+    let flags = int_argument here t 2 in
+    either here (eqb (flags % 2) 1) _ _ (proper_unregisters_or here t _) (proper_registers here t _)
+
 -- each call of the table
 proper_call_of : (number : ℕ) (here : Here) (t : ℕ) → IsProperCall here (call_of number here t)
 proper_call_of number here t =
@@ -338,7 +365,8 @@ proper_call_of number here t =
     (either here (eqb number 220) _ _ (proper_clone here t)
     (either here (eqb number 222) _ _ (proper_mmap here t)
     (either here (eqb number 226) _ _ (proper_changed here t _ _)
-    (proper_said here t _)))))))))))))))))
+    (either here (eqb number 293) _ _ (proper_rseq here t)
+    (proper_said here t _))))))))))))))))))
 
 pub proper_called : (here : Here) (t : ℕ) → IsProperCall here (called here t)
 proper_called here t = proper_call_of (call_number here t) here t

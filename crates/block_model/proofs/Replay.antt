@@ -8,10 +8,10 @@ use Rattle.mach_types.specs.declared.events.Entry.{Entry}
 use Rattle.block_model.specs.declared.refusals.Refused.{Refused}
 use Rattle.block_model.specs.Setting.{Setting}
 use Rattle.block_model.specs.Deciding.{decide, event, history}
-use Rattle.block_model.specs.Run.{IsRunHistory, IsBlockRun}
+use Rattle.block_model.specs.Run.{IsRunHistory, IsAllowedLog}
 use Rattle.block_model.specs.Replay.{Ask, Answers, AllAnswer, IsFirstBad, IsFirstRefused, is_as_said, checked, made_by, extended, play_line, played, play_read_line, played_read, line_of, script_of}
 use Rattle.block_model.proofs.Allowed.{decided_is}
-use Rattle.block_model.proofs.Runs.{IsBlockRun-append, IsBlockRun-nil, run_before}
+use Rattle.block_model.proofs.Runs.{IsAllowedLog-append, IsAllowedLog-nil, run_before}
 
 -- one more line
 pub played-append : (s : Setting) (lines : List Ask) (line : Ask) → played s (lines ++ line ∷ []) ≡ play_line s (played s lines) line
@@ -89,14 +89,14 @@ unfolding history
 history-more s log rest = fold-append (λ b e. event s b e ∷ b) [] log rest
 
 -- of a block run each entry is decided after those before it
-pub IsBlockRun-next : (s : Setting) (log rest : List Entry) (e : Entry) → IsBlockRun s (log ++ e ∷ rest) → decide s (history s log) e.hart.0 (choice_of e) ≡ Ok e
-IsBlockRun-next s log rest e run =
+pub IsAllowedLog-next : (s : Setting) (log rest : List Entry) (e : Entry) → IsAllowedLog s (log ++ e ∷ rest) → decide s (history s log) e.hart.0 (choice_of e) ≡ Ok e
+IsAllowedLog-next s log rest e run =
     let more : IsRunHistory s (fold (λ b e. event s b e ∷ b) (history s log) (e ∷ rest)) = subst (IsRunHistory s) (history-more s log (e ∷ rest)) run in
     (run_before s rest (event s (history s log) e ∷ history s log) more).1
 
 -- the lines before the end of a block run are one
-pub IsBlockRun-before : (s : Setting) (log rest : List Entry) → IsBlockRun s (log ++ rest) → IsBlockRun s log
-IsBlockRun-before s log rest run = run_before s rest (history s log) (subst (IsRunHistory s) (history-more s log rest) run)
+pub IsAllowedLog-before : (s : Setting) (log rest : List Entry) → IsAllowedLog s (log ++ rest) → IsAllowedLog s log
+IsAllowedLog-before s log rest run = run_before s rest (history s log) (subst (IsRunHistory s) (history-more s log rest) run)
 
 -- an entry that is decided is made by each line that it answers
 said_made : (check : _) (e : Entry) → is_as_said check e ≡ true → checked check (Ok e) ≡ Some e
@@ -109,46 +109,46 @@ answer_made s log line e d a =
     ap (checked line.check) at ∙ said_made line.check e a.as_said
 
 -- a block run is made by each script that it answers
-made_from : (s : Setting) (lines : List Ask) (log rest : List Entry) → IsBlockRun s (log ++ rest) → AllAnswer lines rest → fold (play_line s) (Ok log) lines ≡ Ok (log ++ rest)
+made_from : (s : Setting) (lines : List Ask) (log rest : List Entry) → IsAllowedLog s (log ++ rest) → AllAnswer lines rest → fold (play_line s) (Ok log) lines ≡ Ok (log ++ rest)
 made_from s [] log [] run all = rw append-nil refl
 made_from s [] log (e ∷ rest) run all = absurd all
 made_from s (line ∷ lines) log [] run all = absurd all
 made_from s (line ∷ lines) log (e ∷ rest) run all =
-    let made = answer_made s log line e (IsBlockRun-next s log rest e run) all.0 in
+    let made = answer_made s log line e (IsAllowedLog-next s log rest e run) all.0 in
     let joined : (log ++ e ∷ []) ++ rest ≡ log ++ e ∷ rest = append_assoc log (e ∷ []) rest in
     ap (λ o. fold (play_line s) (extended log o) lines) made
-    ∙ made_from s lines (log ++ e ∷ []) rest (subst (IsBlockRun s) (sym joined) run) all.1
+    ∙ made_from s lines (log ++ e ∷ []) rest (subst (IsAllowedLog s) (sym joined) run) all.1
     ∙ ap Ok joined
 
 -- what lines make after a log
 pub record IsMadeFrom (s : Setting) (log : List Entry) (lines : List Ask) (whole : List Entry) : Type 0 where
   pub made : List Entry
   pub joined : whole ≡ log ++ made
-  pub run : IsBlockRun s whole
+  pub run : IsAllowedLog s whole
   pub answer : AllAnswer lines made
 
-runs_from : (s : Setting) (lines : List Ask) (log whole : List Entry) → IsBlockRun s log → fold (play_line s) (Ok log) lines ≡ Ok whole → IsMadeFrom s log lines whole
+runs_from : (s : Setting) (lines : List Ask) (log whole : List Entry) → IsAllowedLog s log → fold (play_line s) (Ok log) lines ≡ Ok whole → IsMadeFrom s log lines whole
 runs_from s [] log whole run is =
     let same : log ≡ whole = cc in
-    record { made = []; joined = rw append-nil (sym same); run = subst (IsBlockRun s) same run; answer = tt }
+    record { made = []; joined = rw append-nil (sym same); run = subst (IsAllowedLog s) same run; answer = tt }
 runs_from s (line ∷ lines) log whole run is = go (made_by s log line) refl is (λ e. runs_from s lines (log ++ e ∷ []) whole)
   where
     go : (o : Option Entry) → made_by s log line ≡ o → fold (play_line s) (extended log o) lines ≡ Ok whole →
-        ((e : Entry) → IsBlockRun s (log ++ e ∷ []) → fold (play_line s) (Ok (log ++ e ∷ [])) lines ≡ Ok whole → IsMadeFrom s (log ++ e ∷ []) lines whole) → IsMadeFrom s log (line ∷ lines) whole
+        ((e : Entry) → IsAllowedLog s (log ++ e ∷ []) → fold (play_line s) (Ok (log ++ e ∷ [])) lines ≡ Ok whole → IsMadeFrom s (log ++ e ∷ []) lines whole) → IsMadeFrom s log (line ∷ lines) whole
     go None at end later = let err : ◌≡◌ {A = Result (List Entry) ℕ} (Err (length log + 1)) (Ok whole) = sym (stays_refused s (length log + 1) lines) ∙ end in cc
     go (Some e) at end later =
         let d = (made_is s log line e at).0 in
-        let m = later e (IsBlockRun-append s log line.hart.0 line.choice e run d) end in
+        let m = later e (IsAllowedLog-append s log line.hart.0 line.choice e run d) end in
         record { made = e ∷ m.made; joined = m.joined ∙ append_assoc log (e ∷ []) m.made; run = m.run; answer = (made_answers s log line e at, m.answer) }
 
 -- what a script makes is a block run that answers it, and no other log is
-pub played_is_run : (s : Setting) (lines : List Ask) (log : List Entry) → played s lines ≡ Ok log → IsBlockRun s log × AllAnswer lines log
+pub played_is_run : (s : Setting) (lines : List Ask) (log : List Entry) → played s lines ≡ Ok log → IsAllowedLog s log × AllAnswer lines log
 unfolding played
 played_is_run s lines log is =
-    let m = runs_from s lines [] log (IsBlockRun-nil s) is in
+    let m = runs_from s lines [] log (IsAllowedLog-nil s) is in
     (m.run, subst (AllAnswer lines) (sym m.joined) m.answer)
 
-pub run_is_played : (s : Setting) (lines : List Ask) (log : List Entry) → IsBlockRun s log → AllAnswer lines log → played s lines ≡ Ok log
+pub run_is_played : (s : Setting) (lines : List Ask) (log : List Entry) → IsAllowedLog s log → AllAnswer lines log → played s lines ≡ Ok log
 unfolding played
 run_is_played s lines log run all = made_from s lines [] log run all
 
@@ -160,7 +160,7 @@ pub answers_itself : (log : List Entry) → AllAnswer (script_of log) log
 answers_itself [] = tt
 answers_itself (e ∷ log) = (record { of_hart = refl; of_choice = refl; as_said = said_itself e }, answers_itself log)
 
-pub replays : (s : Setting) (log : List Entry) → IsBlockRun s log → played s (script_of log) ≡ Ok log
+pub replays : (s : Setting) (log : List Entry) → IsAllowedLog s log → played s (script_of log) ≡ Ok log
 replays s log run = run_is_played s (script_of log) log run (answers_itself log)
 
 -- as many entries as lines

@@ -14,7 +14,7 @@ use Rattle.mach_types.specs.declared.limits.End.TheVariants as over
 use Rattle.mach_types.specs.declared.threads.ThreadState.{ThreadState}
 use Rattle.mach_types.specs.declared.threads.ThreadState.TheVariants.{Ready, Running, Waiting}
 use Rattle.mach_types.specs.declared.user_memory.Store.{Store}
-use Rattle.mach_types.specs.Kernel.Record.{Kernel}
+use Rattle.block_model.specs.Record.{Kernel}
 use Rattle.mach_types.specs.Kernel.Scheduling.{affinity_of, first_for, has_hart}
 use Rattle.mach_types.specs.Kernel.Threads.{Thread, Threads, goes_on, is_live, is_ready, is_ready_state, is_stuck, is_waiting_state, numbers, running_on, state_of, thread_of, times}
 use Rattle.rv_inst.specs.Execution.{instruction_gate}
@@ -31,7 +31,8 @@ use Rattle.block_model.specs.Events.Exec.{is_held, next_effect, next_fault, othe
 use Rattle.block_model.specs.Events.Run.{refusal_run_by}
 use Rattle.block_model.specs.History.{History, ended, here_in_history, kernel}
 use Rattle.block_model.specs.Deciding.{decide, end_of, entry_in, history, unless}
-use Rattle.block_model.specs.Run.{IsBlockRun, IsRunHistory}
+use Rattle.block_model.specs.Run.{IsAllowedLog, IsRunHistory}
+use Rattle.block_model.specs.Sequences.{is_inside_here}
 use Rattle.block_model.specs.Sights.{thread}
 use Rattle.block_model.specs.Solo.{solo_choice}
 use Rattle.block_model.proofs.Allowed.{allowed_at}
@@ -141,10 +142,15 @@ call_goes : (call held : Bool) → held ≡ false → cond (call && held) (Some 
 call_goes true held is = rw is refl
 call_goes false held is = refl
 
+and_false : (a b : Bool) → b ≡ false → (a && b) ≡ false
+and_false true b is = is
+and_false false b is = refl
+
 pub allowed_where_none_waits : (here : Here) (t : ℕ) → waiting_here here ≡ [] → ((k : ℕ) → k < here.setting.limits.harts → here.waiting k ≡ [])
     → refusal_exec_by here (Some t) ≡ None
 allowed_where_none_waits here t own none =
-    let held : is_held here t ≡ false = none_lies (taken_by (call_number here t) here t) here.waiting here.setting.limits.harts none in
+    let held : is_held here t ≡ false =
+    and_false (not (is_inside_here here t)) _ (none_lies (taken_by (call_number here t) here t) here.waiting here.setting.limits.harts none) in
     let o = next_effect here t in
     let faults = is_some (next_fault here t) in
     let gate : instruction_gate (length (waiting_here here)) o faults ≡ None = ap (λ (ws : List Store). instruction_gate (length ws) o faults) own in
@@ -184,7 +190,7 @@ chooses_at s before one run end =
     chooses_by s (here_in_history s before 0) (runs (here_in_history s before 0)) one refl refl
     (λ idle. first_there s (kernel s before) one sound (some_ready (kernel s before) tables idle goes.1 (some_live s before run goes.0)))
 
-pub rule_chooses : (s : Setting) (log : List Entry) → s.limits.harts ≡ 1 → IsBlockRun s log → end_of s (history s log) ≡ over.Unended → is_some (solo_choice s (history s log)) ≡ true
+pub rule_chooses : (s : Setting) (log : List Entry) → s.limits.harts ≡ 1 → IsAllowedLog s log → end_of s (history s log) ≡ over.Unended → is_some (solo_choice s (history s log)) ≡ true
 rule_chooses s log one run end = chooses_at s (history s log) one run end
 
 -- the choice of the rule isn't refused: a thread that is found in the ready list is ready
@@ -231,7 +237,7 @@ rule_free here c (Some t) sound at is = busy_free here t c (refusal_exec here) a
 made_where_free : (c : Choice) (here : Here) (why : Option Why) → why ≡ None → IsOk (unless (entry_in c here) why)
 made_where_free c here why free = rw free refl
 
-pub rule_is_made : (s : Setting) (log : List Entry) (choice : Choice) → IsBlockRun s log → 0 < s.limits.harts → end_of s (history s log) ≡ over.Unended → solo_choice s (history s log) ≡ Some choice → IsOk (decide s (history s log) 0 choice)
+pub rule_is_made : (s : Setting) (log : List Entry) (choice : Choice) → IsAllowedLog s log → 0 < s.limits.harts → end_of s (history s log) ≡ over.Unended → solo_choice s (history s log) ≡ Some choice → IsOk (decide s (history s log) 0 choice)
 rule_is_made s log choice run harts end chosen =
     let here = here_in_history s (history s log) 0 in
     subst IsOk (sym (decide-open s (history s log) 0 choice (is_open s (history s log) run end) harts))
@@ -248,5 +254,5 @@ executes_when_allowed s log e made =
     executes_by here (first_for 0 here.kernel.scheduling) (runs here) refl (allowed_at s (history s log) 0 asked.Exec e made).free
 
 -- where it has none, the run is over
-pub rule_stops : (s : Setting) (log : List Entry) → s.limits.harts ≡ 1 → IsBlockRun s log → solo_choice s (history s log) ≡ None → end_of s (history s log) ≢ over.Unended
+pub rule_stops : (s : Setting) (log : List Entry) → s.limits.harts ≡ 1 → IsAllowedLog s log → solo_choice s (history s log) ≡ None → end_of s (history s log) ≢ over.Unended
 rule_stops s log one run none = λ end. false≢true (ap is_some (sym none) ∙ rule_chooses s log one run end)

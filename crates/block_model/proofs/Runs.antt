@@ -12,7 +12,7 @@ use Rattle.block_model.specs.Here.{Here, nothing, runs}
 use Rattle.block_model.specs.Events.{refusal_of, done_of}
 use Rattle.block_model.specs.History.{Event, History, here_in_history}
 use Rattle.block_model.specs.Deciding.{done, event, history, decide}
-use Rattle.block_model.specs.Run.{IsRunHistory, IsBlockRun}
+use Rattle.block_model.specs.Run.{IsRunHistory, IsAllowedLog}
 use Rattle.block_model.specs.Plain.{plain_start, plain_next}
 use Rattle.block_model.proofs.Applied.{plain_of, IsCounted, counted_next, applied}
 use Rattle.block_model.proofs.Allowed.{allowed_at, decided_is}
@@ -98,15 +98,15 @@ pub fit_at : (s : Setting) (e : Event) (before : History) → IsRunHistory s (e 
 fit_at s e before run = subst (λ (x : Event). IsFit (here_in_history s before e.entry.hart.0) x.done) (sym run.2) (fit_entry s before e.entry (settled s before run.0) run.1)
 
 -- a run that goes on is a run
-pub IsBlockRun-append : (s : Setting) (log : List Entry) (h : ℕ) (c : Choice) (e : Entry) → IsBlockRun s log → decide s (history s log) h c ≡ Ok e → IsBlockRun s (log ++ e ∷ [])
-IsBlockRun-append s log h c e run d =
+pub IsAllowedLog-append : (s : Setting) (log : List Entry) (h : ℕ) (c : Choice) (e : Entry) → IsAllowedLog s log → decide s (history s log) h c ≡ Ok e → IsAllowedLog s (log ++ e ∷ [])
+IsAllowedLog-append s log h c e run d =
     let p = decided_is s (history s log) h c e d in
     let again : decide s (history s log) e.hart.0 (choice_of e) ≡ Ok e = ap (λ k. decide s (history s log) k (choice_of e)) p.0 ∙ ap (decide s (history s log) h) p.1 ∙ d in
     rw history-append (run, again, refl)
 
-pub IsBlockRun-nil : (s : Setting) → IsBlockRun s []
+pub IsAllowedLog-nil : (s : Setting) → IsAllowedLog s []
 unfolding history
-IsBlockRun-nil s = tt
+IsAllowedLog-nil s = tt
 
 -- what a run goes on from is a run
 pub run_before : (s : Setting) (rest : List Entry) (before : History) → IsRunHistory s (fold (λ b e. event s b e ∷ b) before rest) → IsRunHistory s before

@@ -9,7 +9,7 @@ use Rattle.block_model.specs.Setting.{Setting}
 use Rattle.block_model.specs.Deciding.{history}
 use Rattle.block_model.specs.History.{History, can_be_written, kernel, running, waiting}
 use Rattle.block_model.specs.Layouts.{IsLaidOut}
-use Rattle.block_model.specs.Run.{IsBlockRun, IsRunHistory}
+use Rattle.block_model.specs.Run.{IsAllowedLog, IsRunHistory}
 use Rattle.block_model.proofs.Good.{IsSound}
 use Rattle.block_model.proofs.Paged.{IsPaged, paged_start}
 use Rattle.block_model.specs.Tables.{on}
@@ -17,10 +17,10 @@ use Rattle.block_model.proofs.KernelTables.{running_is, same_hart}
 use Rattle.block_model.proofs.Runs.{fit_at, settled}
 
 -- harts
-pub idle_harts : (s : Setting) (log : List Entry) (h : ℕ) → IsBlockRun s log → running s h (history s log) ≡ None → waiting h (history s log) ≡ []
+pub idle_harts : (s : Setting) (log : List Entry) (h : ℕ) → IsAllowedLog s log → running s h (history s log) ≡ None → waiting h (history s log) ≡ []
 idle_harts s log h run idle = (settled s (history s log) run).good.idle h idle
 
-pub one_hart : (s : Setting) (log : List Entry) (h k t : ℕ) → IsBlockRun s log → running s h (history s log) ≡ Some t → running s k (history s log) ≡ Some t → h ≡ k
+pub one_hart : (s : Setting) (log : List Entry) (h k t : ℕ) → IsAllowedLog s log → running s h (history s log) ≡ Some t → running s k (history s log) ≡ Some t → h ≡ k
 one_hart s log h k t run here there =
     let record_at = kernel s (history s log) in
     let tables = (settled s (history s log) run).good.kernel.tables in
@@ -29,12 +29,12 @@ one_hart s log h k t run here there =
     let same : on h ≡ on k = cc in
     same_hart h k same
 
-pub writable_stores : (s : Setting) (log : List Entry) (h : ℕ) → IsBlockRun s log → All (λ (w : Store). each_byte (can_be_written s (history s log)) w.at w.size ≡ true) (waiting h (history s log))
+pub writable_stores : (s : Setting) (log : List Entry) (h : ℕ) → IsAllowedLog s log → All (λ (w : Store). each_byte (can_be_written s (history s log)) w.at w.size ≡ true) (waiting h (history s log))
 writable_stores s log h run =
     All-from_recursion (λ (w : Store). each_byte (can_be_written s (history s log)) w.at w.size ≡ true) (waiting h (history s log)) ((settled s (history s log) run).good.within h)
 
 -- the kernel's record
-pub sound_record : (s : Setting) (log : List Entry) → IsBlockRun s log → IsSound s (kernel s (history s log))
+pub sound_record : (s : Setting) (log : List Entry) → IsAllowedLog s log → IsSound s (kernel s (history s log))
 sound_record s log run = (settled s (history s log) run).good.kernel
 
 -- the pages
@@ -42,5 +42,5 @@ paged_at : (s : Setting) (before : History) → IsLaidOut s.program → IsRunHis
 paged_at s [] laid run = paged_start s laid
 paged_at s (e ∷ before) laid run = (fit_at s e before run).paged (paged_at s before laid run.0)
 
-pub paged_pages : (s : Setting) (log : List Entry) → IsLaidOut s.program → IsBlockRun s log → IsPaged s (kernel s (history s log)).pages
+pub paged_pages : (s : Setting) (log : List Entry) → IsLaidOut s.program → IsAllowedLog s log → IsPaged s (kernel s (history s log)).pages
 paged_pages s log laid run = paged_at s (history s log) laid run

@@ -7,7 +7,7 @@ use Rattle.elf_load.specs.declared.image.ImagePage.{ImagePage}
 use Rattle.block_model.specs.Choosing.{has_ended, luck, sight_with}
 use Rattle.block_model.specs.Deciding.{event, history}
 use Rattle.block_model.specs.History.{History, events, file, running}
-use Rattle.block_model.specs.Run.{IsBlockRun, IsRunHistory}
+use Rattle.block_model.specs.Run.{IsAllowedLog, IsRunHistory}
 use Rattle.block_model.specs.Setting.{Setting}
 use Rattle.block_model.specs.Stretches.{Stretch, goes_on, is_on_credit, lent, lent_to, may_lend, stepped, worked}
 use Rattle.block_model.proofs.Replay.{history-more}
@@ -63,7 +63,7 @@ stays_over s h t [] before run at same = record { runs = at; same_file = refl; s
 stays_over s h t (e ∷ rest) before run at same =
     stays_by s h t e rest before (eqb e.hart.0 h) refl run at same (stays_over s h t rest (event s before e ∷ before))
 
-pub stays : (s : Setting) (h t : ℕ) (log more : List Entry) → IsBlockRun s (log ++ more) → running s h (history s log) ≡ Some t
+pub stays : (s : Setting) (h t : ℕ) (log more : List Entry) → IsAllowedLog s (log ++ more) → running s h (history s log) ≡ Some t
     → events h (history s (log ++ more)) ≡ events h (history s log)
     → HasStayed s h t (history s log) (history s (log ++ more))
 stays s h t log more run at same =

@@ -5,7 +5,7 @@ use Rattle.std.specs.Option.{option_map_or}
 use Rattle.std.proofs.lemmas.Bool.{eqb-true, eqb-false}
 use Rattle.std.proofs.lemmas.List.Sums.{fold-append}
 use Rattle.mach_types.specs.Events.{choice_of}
-use Rattle.mach_types.specs.Kernel.Record.{Kernel}
+use Rattle.block_model.specs.Record.{Kernel}
 use Rattle.mach_types.specs.Kernel.Threads.{running_on}
 use Rattle.mach_types.specs.declared.events.Choice.{Choice}
 use Rattle.mach_types.specs.declared.events.Choice.TheVariants as asked
@@ -15,14 +15,13 @@ use Rattle.mach_types.specs.declared.user_memory.Store.{Store}
 use Rattle.rv_inst.specs.Class.{is_call}
 use Rattle.rv_inst.specs.declared.effects.Effect.{Effect}
 use Rattle.rv_inst.specs.declared.effects.Effect.TheVariants as effect
-use Rattle.block_model.specs.Calls.{called}
 use Rattle.block_model.specs.Deciding.{done, event, history}
 use Rattle.block_model.specs.Events.{done_of}
 use Rattle.block_model.specs.Events.Drain.{done_drain_of}
-use Rattle.block_model.specs.Events.Exec.{by_call, by_effect, by_outcome, done_exec_by, next_effect, outcome_of}
+use Rattle.block_model.specs.Events.Exec.{by_call, called_here, by_effect, by_outcome, done_exec_by, next_effect, outcome_of}
 use Rattle.block_model.specs.Here.{Done, Here, runs, waiting_here}
 use Rattle.block_model.specs.History.{History, file, file_among, here_in_history, running}
-use Rattle.block_model.specs.Run.{IsBlockRun, IsRunHistory}
+use Rattle.block_model.specs.Run.{IsAllowedLog, IsRunHistory}
 use Rattle.block_model.specs.Setting.{Setting}
 use Rattle.block_model.specs.Walks.{AreOfWalk, IsOfWalk, IsPlainExec, IsWalk, Answer, answer_in, answered, answers, computed, file_by, file_next, file_of, is_exec}
 use Rattle.block_model.proofs.Replay.{history-more}
@@ -37,7 +36,7 @@ record IsStep (s : Setting) (h t : ℕ) (before : History) (e : Entry) : Type 0 
 
 -- what an instruction does that makes neither a fault nor a call
 unless_call : (here : Here) (t : ℕ) (e : Effect) (b : Bool) → is_call e ≡ b → e ≢ effect.Call
-    → cond b (by_call here (called here t)) (by_outcome here t (outcome_of here t e))
+    → cond b (by_call here (called_here here t)) (by_outcome here t (outcome_of here t e))
     ≡ by_outcome here t (outcome_of here t e)
 unless_call here t e false is other = refl
 unless_call here t e true is other = absurd (other (only_call e is))
@@ -185,7 +184,7 @@ IsWalked s h t earlier stretch =
     IsComputed s h t before (history s (earlier ++ stretch)) (answers s h before stretch)
 
 pub walk_computed : (s : Setting) (earlier stretch later : List Entry) (h t : ℕ)
-    → IsBlockRun s (earlier ++ stretch ++ later) → IsWalk s h t (history s earlier) stretch
+    → IsAllowedLog s (earlier ++ stretch ++ later) → IsWalk s h t (history s earlier) stretch
     → IsWalked s h t earlier stretch
 walk_computed s earlier stretch later h t run walk =
     let before = history s earlier in
@@ -202,11 +201,11 @@ first_of_walk s h t before (e ∷ first) rest all =
     (all.0, first_of_walk s h t (event s before e ∷ before) first rest all.1)
 
 pub walk_throughout : (s : Setting) (earlier first rest later : List Entry) (h t : ℕ)
-    → IsBlockRun s (earlier ++ first ++ rest ++ later) → IsWalk s h t (history s earlier) (first ++ rest)
+    → IsAllowedLog s (earlier ++ first ++ rest ++ later) → IsWalk s h t (history s earlier) (first ++ rest)
     → running s h (history s (earlier ++ first)) ≡ Some t
 walk_throughout s earlier first rest later h t run walk =
     let log = append_assoc (earlier ++ first) rest later in
-    let whole = subst (λ (log : List Entry). IsBlockRun s log) log run in
+    let whole = subst (λ (log : List Entry). IsAllowedLog s log) log run in
     let begun = first_of_walk s h t (history s earlier) first rest walk.each in
     let begins : IsWalk s h t (history s earlier) first = record { starts = walk.starts; each = begun } in
     (walk_computed s earlier first (rest ++ later) h t whole begins).still

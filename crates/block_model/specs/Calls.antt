@@ -11,6 +11,7 @@ use Rattle.block_model.specs.Calls.Ending.{exit, exit_group}
 use Rattle.block_model.specs.Calls.Futexes.{futex}
 use Rattle.block_model.specs.Calls.Memory.{brk, mmap, mprotect, munmap}
 use Rattle.block_model.specs.Calls.Numbers.{getpid, gettid, set_tid_address}
+use Rattle.block_model.specs.Calls.Sequences.{rseq}
 pub mod Affinity
 pub mod Answers
 pub mod Cloning
@@ -19,6 +20,7 @@ pub mod Ending
 pub mod Futexes
 pub mod Memory
 pub mod Numbers
+pub mod Sequences
 
 -- the call of this number; one that isn't there answers ENOSYS
 abbrev pub call_of : ℕ → Here → ℕ → CallDone
@@ -40,6 +42,7 @@ call_of number here t =
     else if number == 220 then clone here t
     else if number == 222 then mmap here t
     else if number == 226 then mprotect here t
+    else if number == 293 then rseq here t
     else refused here t ENOSYS
 
 -- what the call of thread t does

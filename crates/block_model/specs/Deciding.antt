@@ -9,7 +9,7 @@ use Rattle.mach_types.specs.declared.events.Why.{Why}
 use Rattle.mach_types.specs.declared.events.Why.TheVariants.{NoHart}
 use Rattle.mach_types.specs.declared.limits.End.{End}
 use Rattle.mach_types.specs.declared.limits.End.TheVariants as over
-use Rattle.mach_types.specs.Kernel.Record.{Kernel}
+use Rattle.block_model.specs.Record.{Kernel}
 use Rattle.mach_types.specs.Kernel.Threads.{is_stuck}
 use Rattle.block_model.specs.declared.refusals.Refused.{Refused}
 use Rattle.block_model.specs.declared.refusals.Refused.TheVariants.{Ended, Full, NotEnabled}

@@ -1,10 +1,11 @@
 -- What a rule may read at a place of a log, and what an event did.
 use Rattle.std.specs.Prelude.{ℕ, Bool, false, List, [], if◌then◌else◌, Option, Some, None}
 use Rattle.mach_types.specs.declared.limits.End.{End}
+use Rattle.mach_types.specs.declared.sequences.Outcome.{Outcome}
 use Rattle.mach_types.specs.declared.threads.Saved.{Saved}
 use Rattle.mach_types.specs.declared.user_memory.Store.{Store}
 use Rattle.mach_types.specs.declared.user_memory.Write.{Write}
-use Rattle.mach_types.specs.Kernel.Record.{Kernel}
+use Rattle.block_model.specs.Record.{Kernel}
 use Rattle.mach_types.specs.Kernel.Pages.{permission_at, can_read, can_write}
 use Rattle.mach_types.specs.Kernel.Threads.{running_on}
 use Rattle.rv_inst.specs.Execution.{seen_byte}
@@ -49,8 +50,9 @@ runs here = running_on here.hart here.kernel.threads
 
 -- what an event did: the files of threads that it set; the plain store that it executed (none or one); how many waiting
 -- stores of its hart entered memory; the writes that entered memory in it, in order; its hart's reservation after it;
--- whether a thread began to run; how many instructions were executed (none or one); the kernel's record after it; and how
--- it ended the process
+-- whether it is a `run`; what the interruption of its thread came to, where it is a `run`, a `signal`, or a `take` that asks a
+-- running thread to restart; how many instructions were executed (none or one); the kernel's record after it; and how it ended
+-- the process
 pub record Done : Type 0 where
   pub files : List (ℕ × Saved)
   pub executed : List Store
@@ -58,6 +60,7 @@ pub record Done : Type 0 where
   pub entered : List Write
   pub reserved : Option ℕ
   pub started : Bool
+  pub interrupted : Option Outcome
   pub instructions : ℕ
   pub kernel : Kernel
   pub ended : Option End
@@ -71,6 +74,7 @@ nothing here = record {
   entered = [];
   reserved = here.reserved;
   started = false;
+  interrupted = None;
   instructions = 0;
   kernel = here.kernel;
   ended = None;

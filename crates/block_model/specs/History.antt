@@ -8,7 +8,7 @@ use Rattle.mach_types.specs.declared.user_memory.Store.{Store}
 use Rattle.mach_types.specs.declared.user_memory.Write.{Write}
 use Rattle.mach_types.specs.declared.user_memory.Write.TheVariants.{Stored, Zeroed}
 use Rattle.mach_types.specs.Bytes.{written}
-use Rattle.mach_types.specs.Kernel.Record.{Kernel}
+use Rattle.block_model.specs.Record.{Kernel}
 use Rattle.mach_types.specs.Kernel.Threads.{running_on}
 use Rattle.elf_load.specs.Start.{start_byte, start_file}
 use Rattle.rv_inst.specs.Execution.{lost_by}

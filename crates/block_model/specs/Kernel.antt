@@ -2,11 +2,14 @@
 use Rattle.std.specs.Prelude.{ℕ, ◌+◌, ◌-◌, List, [], ◌++◌, length}
 use Rattle.mach_types.specs.declared.address_space.TheConstants.{STACK_PAGES}
 use Rattle.mach_types.specs.declared.threads.ThreadState.TheVariants.{Ready, Running}
-use Rattle.mach_types.specs.Kernel.Record.{Kernel}
+use Rattle.block_model.specs.Record.{Kernel}
 use Rattle.mach_types.specs.Kernel.Pages.{Pages}
 use Rattle.mach_types.specs.Kernel.Threads.{start_threads, with_state, with_clear, with_waiter, with_woken, with_child, without}
 use Rattle.mach_types.specs.Kernel.Scheduling.{start_scheduling, with_ready, without_ready, with_thread, with_affinity, forget}
+use Rattle.mach_types.specs.declared.sequences.Area.{Area}
+use Rattle.mach_types.specs.Kernel.Areas.{with_area, without_area}
 use Rattle.elf_load.specs.Start.{start_runs}
+use Rattle.block_model.specs.Ids.{with_id, without_id}
 use Rattle.block_model.specs.Setting.{Setting}
 
 -- at the start thread 1 is ready and may run on every hart; the program, the stack and the return page are mapped, each page in a
@@ -15,6 +18,8 @@ abbrev pub first_kernel : Setting → Kernel
 first_kernel s = record {
   threads = start_threads;
   scheduling = start_scheduling s.limits.harts;
+  areas = [];
+  ids = [];
   pages = record {
     runs = start_runs s.program.pages;
     free = s.limits.frames - (length s.program.pages + STACK_PAGES + 1);
@@ -23,25 +28,38 @@ first_kernel s = record {
   console = [];
 }
 
--- a ready thread begins to run on hart h
+-- a ready thread begins to run on hart h, and holds an id
 abbrev pub ran : ℕ → ℕ → Kernel → Kernel
-ran t h k = record k { threads = with_state t (Running (record { 0 = h })) k.threads; scheduling = without_ready t k.scheduling }
+ran t h k = record k {
+  threads = with_state t (Running (record { 0 = h })) k.threads;
+  scheduling = without_ready t k.scheduling;
+  ids = with_id t k.ids;
+}
 
 -- a running thread leaves its hart, and is the last ready thread
 abbrev pub left : ℕ → Kernel → Kernel
-left t k = record k { threads = with_state t Ready k.threads; scheduling = with_ready t k.scheduling }
+left t k = record k {
+  threads = with_state t Ready k.threads;
+  scheduling = with_ready t k.scheduling;
+  ids = without_id t k.ids;
+}
 
 -- a running thread leaves its hart, and waits at an address behind all that wait
 abbrev pub waited : ℕ → ℕ → Kernel → Kernel
-waited t at k = record k { threads = with_waiter t at k.threads }
+waited t at k = record k { threads = with_waiter t at k.threads; ids = without_id t k.ids }
 
 -- a waiting thread waits no longer, and is the last ready thread
 abbrev pub woken : ℕ → Kernel → Kernel
 woken t k = record k { threads = with_woken t k.threads; scheduling = with_ready t k.scheduling }
 
--- a running thread is gone
+-- a running thread is gone, and with it its area
 abbrev pub gone : ℕ → Kernel → Kernel
-gone t k = record k { threads = without t k.threads; scheduling = forget t k.scheduling }
+gone t k = record k {
+  threads = without t k.threads;
+  scheduling = forget t k.scheduling;
+  areas = without_area t k.areas;
+  ids = without_id t k.ids;
+}
 
 -- the number of the next thread
 abbrev pub next_number : Kernel → ℕ
@@ -58,6 +76,13 @@ restricted t set k = record k { scheduling = with_affinity t set k.scheduling }
 -- a thread has another address that its exit clears
 abbrev pub cleared : ℕ → ℕ → Kernel → Kernel
 cleared t at k = record k { threads = with_clear t at k.threads }
+
+-- a thread has an area, or has none any more
+abbrev pub registered : ℕ → Area → Kernel → Kernel
+registered t area k = record k { areas = with_area t area k.areas }
+
+abbrev pub unregistered : ℕ → Kernel → Kernel
+unregistered t k = record k { areas = without_area t k.areas }
 
 -- pages were mapped, removed or protected, or the break moved: these are the pages after it
 abbrev pub paged : Pages → Kernel → Kernel

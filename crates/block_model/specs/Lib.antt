@@ -1,3 +1,4 @@
+pub mod Acts
 pub mod Calls
 pub mod Choosing
 pub mod Deciding
@@ -5,17 +6,21 @@ pub mod ErrorCalls
 pub mod Events
 pub mod Here
 pub mod History
+pub mod Ids
 pub mod Instruction
 pub mod Layouts
 pub mod Kernel
 pub mod Plain
 pub mod PlainOf
 pub mod PlainSays
+pub mod Record
 pub mod Replay
 pub mod Run
+pub mod Sequences
 pub mod Setting
 pub mod Sights
 pub mod Solo
 pub mod Stretches
 pub mod Tables
 pub mod Walks
+pub mod Whole

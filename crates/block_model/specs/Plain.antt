@@ -10,7 +10,7 @@ use Rattle.mach_types.specs.declared.limits.End.{End}
 use Rattle.mach_types.specs.declared.threads.Saved.{Saved}
 use Rattle.mach_types.specs.declared.user_memory.Store.{Store}
 use Rattle.mach_types.specs.Bytes.{written}
-use Rattle.mach_types.specs.Kernel.Record.{Kernel}
+use Rattle.block_model.specs.Record.{Kernel}
 use Rattle.elf_load.specs.Start.{start_byte, start_file}
 use Rattle.block_model.specs.declared.refusals.Refused.{Refused}
 use Rattle.block_model.specs.Setting.{Setting, Seen}

@@ -1,9 +1,11 @@
 -- What holds of the threads of a process and of their scheduling together at each place of a block run.
-use Rattle.std.specs.Prelude.{ℕ, ◌≡◌, ◌<◌, if◌then◌else◌, Some, map}
+use Rattle.std.specs.Prelude.{ℕ, ◌≡◌, ◌<◌, ◌≤◌, if◌then◌else◌, List, Some, map, true}
 use Rattle.std.specs.List.{list_any}
 use Rattle.mach_types.specs.declared.events.Hart.{Hart}
 use Rattle.mach_types.specs.declared.threads.ThreadState.{ThreadState}
 use Rattle.mach_types.specs.declared.threads.ThreadState.TheVariants.{Running}
+use Rattle.mach_types.specs.Kernel.Areas.{is_area_of}
+use Rattle.mach_types.specs.declared.sequences.Area.{Area}
 use Rattle.mach_types.specs.Kernel.Threads.{Threads, IsThreads, state_of, is_ready, is_live, numbers, times}
 use Rattle.mach_types.specs.Kernel.Scheduling.{Scheduling, is_of}
 
@@ -20,3 +22,8 @@ pub record IsTables (harts : ℕ) (ts : Threads) (sc : Scheduling) : Type 0 wher
   pub ready : (t : ℕ) → times t sc.order ≡ (if is_ready t ts then 1 else 0)
   pub held : (t : ℕ) → list_any (is_of t) sc.affinities ≡ is_live t ts
   pub alike : map (λ pair. pair.0) sc.affinities ≡ numbers ts.live
+
+-- each registered area is that of a live thread, and a thread has at most one
+pub record AreOfLive (ts : Threads) (areas : List (ℕ × Area)) : Type 0 where
+  pub live : (t : ℕ) → list_any (is_area_of t) areas ≡ true → is_live t ts ≡ true
+  pub one : (t : ℕ) → times t (map (λ pair. pair.0) areas) ≤ 1

@@ -4,7 +4,9 @@
 //! everything about a place is read by looking back from it.
 #![tactic(auto)]
 
+mod acts;
 mod refusals;
 mod theorems;
 
+pub use acts::SeqEnd;
 pub use refusals::Refused;

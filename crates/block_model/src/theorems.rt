@@ -3,12 +3,15 @@
 ghost use Rattle.std.specs.Prelude.{ℕ, List, [], ◌∷◌, ◌++◌, ◌≡◌, ◌≢◌, ◌↔◌, ◌<◌, ◌≤◌, ◌+◌, ◌-◌, ◌^◌, All, IsOk, IsSome, IsTrue, true, false, Ok, Err, None, Some, Option, length, map, if◌then◌else◌};
 ghost use Rattle.std.specs.List.Sorted.{IsStrictlyIncreasing};
 ghost use Rattle.mach_types.specs.Bytes.{each_byte};
+ghost use Rattle.mach_types.specs.Events.{choice_of};
+ghost use Rattle.mach_types.specs.Kernel.Areas.{area_of};
 ghost use Rattle.mach_types.specs.Kernel.Pages.{can_execute, permission_of};
 ghost use Rattle.mach_types.specs.Kernel.Scheduling.{affinity_of, has_hart};
 ghost use Rattle.mach_types.specs.Kernel.Threads.{is_live, is_ready, numbers, times};
 ghost use Rattle.mach_types.specs.declared.events.Choice.{Choice};
 ghost use Rattle.mach_types.specs.declared.events.Choice.TheVariants as asked;
 ghost use Rattle.mach_types.specs.declared.events.Entry.{Entry};
+ghost use Rattle.mach_types.specs.declared.events.Tid.{Tid};
 ghost use Rattle.mach_types.specs.declared.kernel_words.TheConstants.{CONSOLE_ROOM, MOST_THREADS};
 ghost use Rattle.mach_types.specs.declared.limits.End.TheVariants.{Unended};
 ghost use Rattle.mach_types.specs.declared.limits.Limits.{Limits};
@@ -17,19 +20,22 @@ ghost use Rattle.mach_types.specs.declared.user_memory.TheConstants.{STORE_BUFFE
 ghost use Rattle.elf_load.specs.declared.image.Image.{Image};
 ghost use Rattle.elf_load.specs.Images.{IsBootable, IsImage};
 ghost use Rattle.elf_load.specs.Start.{program_of};
+ghost use Rattle.block_model.specs.Acts.{Sequence, sequence_on};
 ghost use Rattle.block_model.specs.Choosing.{IsChosen, choice_at, has_ended, luck, next_entry};
 ghost use Rattle.block_model.specs.Deciding.{decide, end_of, entry_in, history};
 ghost use Rattle.block_model.specs.ErrorCalls.{GivesError, GivesErrorAlone};
 ghost use Rattle.block_model.specs.History.{can_be_written, console, ended, events, file, here_in_history, kernel, running, waiting};
+ghost use Rattle.block_model.specs.Ids.{AreIdsApart, IsLeastFree, id_of, next_id};
 ghost use Rattle.block_model.specs.Kernel.{first_kernel};
 ghost use Rattle.block_model.specs.Layouts.{IsLaidOut, mapped_pages};
 ghost use Rattle.block_model.specs.Plain.{here_in_plain, log_made, plain_after, plain_decide, plain_end, plain_run, plain_solo};
 ghost use Rattle.block_model.specs.PlainOf.{plain_of};
 ghost use Rattle.block_model.specs.PlainSays.{MakesLog, SaysOf};
 ghost use Rattle.block_model.specs.Replay.{Ask, AllAnswer, IsFirstBad, IsFirstRefused, played, play_line, played_read, play_read_line, script_of};
-ghost use Rattle.block_model.specs.Run.{IsBlockRun};
+ghost use Rattle.block_model.specs.Run.{IsAllowedLog, IsBlockRun};
 ghost use Rattle.block_model.specs.Setting.{Setting, setting_of};
 ghost use Rattle.block_model.specs.Solo.{IsSolo, solo_choice};
+ghost use Rattle.block_model.specs.Whole.{RunsThroughout};
 ghost use Rattle.block_model.specs.Walks.{IsWalk, answers, computed};
 
 /// The log of a block run, read as a script, is allowed at every line and makes the same log.
@@ -158,6 +164,53 @@ pub fn record_is_sound()
     ensures frames { (s : Setting) (log : List Entry) → IsLaidOut s.program → IsBlockRun s log
         → (kernel s (history s log)).pages.free + mapped_pages (kernel s (history s log)).pages
         ≡ (first_kernel s).pages.free + mapped_pages (first_kernel s).pages }
+{}
+
+/// On a machine of at most 8 harts threads that run hold different concurrency ids at each place of a block run, each thread
+/// that runs one, and the same as long as it runs (rseq(2), `mm_cid`).
+pub fn running_threads_hold_different_ids()
+    ensures apart { (s : Setting) (log : List Entry) → s.limits.harts ≤ 8 → IsBlockRun s log
+        → AreIdsApart (kernel s (history s log)).threads (kernel s (history s log)).ids }
+    // Where a thread may begin to run, the id that it gets is below the number of harts, and below that of live threads.
+    ensures below_harts { (s : Setting) (log : List Entry) (h : ℕ) (t : Tid) (entry : Entry) → s.limits.harts ≤ 8 → IsBlockRun s log
+        → decide s (history s log) h (asked.Run t) ≡ Ok entry → next_id (kernel s (history s log)).ids < s.limits.harts }
+    ensures below_live { (s : Setting) (log : List Entry) (h : ℕ) (t : Tid) (entry : Entry) → s.limits.harts ≤ 8 → IsBlockRun s log
+        → decide s (history s log) h (asked.Run t) ≡ Ok entry
+        → next_id (kernel s (history s log)).ids < length (kernel s (history s log)).threads.live }
+    // It is the least that no thread holds, and the thread then holds it.
+    ensures least { (s : Setting) (log : List Entry) (h : ℕ) (t : Tid) (entry : Entry) → s.limits.harts ≤ 8 → IsBlockRun s log
+        → decide s (history s log) h (asked.Run t) ≡ Ok entry → IsLeastFree (kernel s (history s log)).ids (next_id (kernel s (history s log)).ids) }
+    ensures its { (s : Setting) (log : List Entry) (entry : Entry) → s.limits.harts ≤ 8 → IsBlockRun s (log ++ entry ∷ [])
+        → choice_of entry ≡ asked.Run entry.tid → running s entry.hart.0 (history s (log ++ entry ∷ [])) ≡ Some entry.tid.0
+        → id_of entry.tid.0 (kernel s (history s (log ++ entry ∷ []))).ids ≡ next_id (kernel s (history s log)).ids }
+    // A thread that runs before an event and after it holds the same id.
+    ensures stays { (s : Setting) (log : List Entry) (entry : Entry) (h k t : ℕ) → s.limits.harts ≤ 8 → IsBlockRun s (log ++ entry ∷ [])
+        → running s h (history s log) ≡ Some t → running s k (history s (log ++ entry ∷ [])) ≡ Some t
+        → id_of t (kernel s (history s (log ++ entry ∷ []))).ids ≡ id_of t (kernel s (history s log)).ids }
+{}
+
+/// At each place of a block run each area is that of a live thread, and a thread has at most one.
+pub fn areas_belong_to_live_threads()
+    ensures live { (s : Setting) (log : List Entry) (t : ℕ) → IsBlockRun s log
+        → IsSome (area_of t (kernel s (history s log)).areas) → is_live t (kernel s (history s log)).threads ≡ true }
+    ensures one { (s : Setting) (log : List Entry) (t : ℕ) → IsBlockRun s log → times t (map (λ pair. pair.0) (kernel s (history s log)).areas) ≤ 1 }
+{}
+
+/// At each place of a block run the thread of the restartable sequence that a hart's newest event is of runs on that hart, and
+/// ran there before the sequence's first event.
+pub fn sequences_stay_on_their_harts()
+    ensures { (s : Setting) (log : List Entry) (h : ℕ) (q : Sequence) → IsBlockRun s log → sequence_on s h (history s log) ≡ Some q
+        → RunsThroughout s (history s log) h q }
+{}
+
+/// A log whose entries are all allowed is a block run: it is whole. So each restartable sequence of it (rseq(2)) is one
+/// uninterrupted act of its thread on its hart. It leaves its range by its own instruction; or it is interrupted, and goes on at
+/// its abort handler, which is signed, with all other registers as they were and the pointer of its area cleared; or the
+/// process ends with it, by the signal of its fault or by SIGSEGV; or it was dropped, since something touched its area, its
+/// descriptor, its signature or a page of theirs; or it has no end yet where the log ends. One whose thread leaves the hart
+/// inside it hangs, and is over when the thread begins to run again, which is then not inside.
+pub fn block_runs_are_whole()
+    ensures { (s : Setting) (log : List Entry) → IsAllowedLog s log → IsBlockRun s log }
 {}
 
 /// In a block run a guest call that gives an error changes, of thread files, memory and the kernel's record, only a0 and

@@ -297,3 +297,19 @@ fn harts_draw_words_of_their_own(rt: HostRuntime) {
         );
     }
 }
+
+#[test]
+fn a_peek_takes_no_word(rt: HostRuntime) {
+    let mut chooser = Chooser::new(1);
+    for (row, sight, expected) in [
+        (0, RUNNING, Some(executed(1))),
+        (1, IDLE, None),
+        (2, STORING, Some(plain(Choice::Drain))),
+        (3, on_credit(1, RUNNING), Some(executed(0))),
+        (4, RUNNING, Some(plain(Choice::Preempt))),
+    ] {
+        assert_eq!(rt; chooser.peek(Hart(0), &sight), expected, "row {row}");
+        assert_eq!(rt; chooser.peek(Hart(0), &sight), expected, "row {row}");
+        assert_eq!(rt; chooser.next(Hart(0), &sight), expected, "row {row}");
+    }
+}

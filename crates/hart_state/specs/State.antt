@@ -51,18 +51,19 @@ abbrev pub stores : Option Store → List Store
 stores None = []
 stores (Some s) = s ∷ []
 
--- the hart after its thread left: idle, with no reservation, its registers and its pc 0
+-- the hart after its thread left: idle, with no reservation, its registers and its pc 0. An idle hart holds no id
 abbrev pub left : HartState → HartState
-left hart = record hart { file = no_registers; pc = 0; running = None; reserved = None }
+left hart = record hart { file = no_registers; pc = 0; running = None; reserved = None; cid = 0 }
 
--- the hart after a thread entered it with a file: no reservation, and nothing executed so far
-abbrev pub entered : Tid → Saved → HartState → HartState
-entered tid saved hart = record hart {
+-- the hart after a thread entered it with a file and an id: no reservation, and nothing executed so far
+abbrev pub entered : Tid → Saved → ℕ → HartState → HartState
+entered tid saved cid hart = record hart {
   file = saved.file;
   pc = saved.pc;
   running = Some tid;
   reserved = None;
   ran = 0;
+  cid = cid;
 }
 
 -- the bytes of the oldest waiting store, if one waits, can be written

@@ -44,7 +44,7 @@ pub struct HartState {
     pub credit: u8,
     /// How many events the hart made.
     pub events: u32,
-    /// The concurrency id that the running thread holds.
+    /// The concurrency id that the running thread holds; 0 on an idle hart.
     pub cid: u8,
 }
 
@@ -173,6 +173,7 @@ impl HartState {
         ensures hart { self.new ≡ hart_after self.old (outcome_on self.old (M.byte mem.old) effect.now) }
         ensures bytes { (a : ℕ) → M.byte mem.new a ≡ option_map (overlay (outcome_on self.old (M.byte mem.old) effect.now).entered a) (M.byte mem.old a) }
         ensures permissions { (a : ℕ) → M.can_write mem.new a ≡ M.can_write mem.old a }
+        ensures alike { M.IsAlike mem.old mem.new }
     {
         if let Some(store) = self.execute(mem, effect) {
             let _written = mem.set(store.at, store.size, store.value);
@@ -186,6 +187,7 @@ impl HartState {
         ensures hart { self.new ≡ record self.old { buffer = drop 1 self.old.buffer } }
         ensures bytes { (a : ℕ) → M.byte mem.new a ≡ option_map (overlay (take 1 self.old.buffer) a) (M.byte mem.old a) }
         ensures permissions { (a : ℕ) → M.can_write mem.new a ≡ M.can_write mem.old a }
+        ensures alike { M.IsAlike mem.old mem.new }
     {
         let store = self.buffer.pop()?;
         let _entered = mem.set(store.at, store.size, store.value);
@@ -209,8 +211,8 @@ impl HartState {
 
     /// Takes the thread that runs here, if one runs, from the hart, and answers its registers and its pc.
     ///
-    /// The hart is then idle, with no reservation, its registers and its pc 0. What waits in its buffer
-    /// stays.
+    /// The hart is then idle, with no reservation and no concurrency id, its registers and its pc 0. What waits in its
+    /// buffer stays.
     pub fn leave(&mut self) -> Saved
         ensures file { result ≡ record { file = self.old.file; pc = self.old.pc } }
         ensures hart { self.new ≡ left self.old }
@@ -223,19 +225,21 @@ impl HartState {
         self.pc = 0;
         self.running = None;
         self.reserved = None;
+        self.cid = 0;
         saved
     }
 
-    /// Lets a thread run on the hart, with these registers and this pc: it has no reservation, and executed
-    /// nothing here so far.
-    pub fn enter(&mut self, tid: Tid, saved: Saved)
-        ensures { self.new ≡ entered tid saved self.old }
+    /// Lets a thread run on the hart, with these registers and this pc, which holds this concurrency id: it has no
+    /// reservation, and executed nothing here so far.
+    pub fn enter(&mut self, tid: Tid, saved: Saved, cid: u8)
+        ensures { self.new ≡ entered tid saved cid self.old }
     {
         self.file = saved.file;
         self.pc = saved.pc;
         self.running = Some(tid);
         self.reserved = None;
         self.ran = 0;
+        self.cid = cid;
     }
 
     /// Goes on 4 bytes further, with a value in register `rd`.

@@ -6,8 +6,6 @@
 #![tactic(auto)]
 
 mod faults;
-#[cfg(test)]
-mod flat_memory;
 mod gate;
 mod hart;
 mod reservation;

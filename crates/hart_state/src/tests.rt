@@ -5,8 +5,7 @@ ghost use Rattle.mach_types.specs.Bytes.{IsAccessSize};
 ghost use Rattle.rv_inst.specs.Sizes.{HasAccessSizes};
 
 use crate::HartState;
-use crate::flat_memory::{BASE, FlatMemory};
-use mach_types::{Tid, UserMem, Why};
+use mach_types::{FLAT_START, FlatMemory, Tid, UserMem, Why};
 use rv_inst::{AmoOp, Effect};
 use std::alloc::{AllocError, Global};
 use std::process::Abort;
@@ -20,9 +19,9 @@ struct Bench {
 }
 
 impl Bench {
-    /// A hart on which a thread runs, at pc 0x400, and memory of zeros.
+    /// A hart on which a thread runs, at pc 0x400, and memory of zeros, the first 48 of which can be written.
     fn new(alloc: Global) -> Result<Bench, AllocError> {
-        let memory = FlatMemory::new(alloc)?;
+        let memory = FlatMemory::new(48);
         let mut hart = HartState::new(alloc)?;
         hart.running = Some(Tid(1));
         hart.pc = 0x400;
@@ -198,7 +197,7 @@ impl Bench {
 
 /// A plain store of the first byte.
 const STORE: Effect = Effect::Store {
-    at: BASE,
+    at: FLAT_START,
     size: 1,
     value: 1,
 };
@@ -242,10 +241,10 @@ fn a_new_hart_is_idle(rt: HostRuntime) -> Result<(), Fail> {
 fn some_instructions_want_an_empty_buffer(rt: HostRuntime) -> Result<(), Fail> {
     let mut bench = Bench::new(rt.alloc())?;
     bench.expect_gate(&rt, Effect::FenceI, true, None);
-    bench.store(&rt, BASE, 1, 1);
+    bench.store(&rt, FLAT_START, 1, 1);
     bench.expect_gate(&rt, STORE, false, None);
-    bench.expect_gate(&rt, plain_load(BASE), false, None);
-    bench.expect_gate(&rt, plain_load(BASE), true, Some(Why::Waiting));
+    bench.expect_gate(&rt, plain_load(FLAT_START), false, None);
+    bench.expect_gate(&rt, plain_load(FLAT_START), true, Some(Why::Waiting));
     bench.expect_gate(&rt, Effect::Fence { full: true }, false, Some(Why::Waiting));
     bench.expect_gate(&rt, Effect::Fence { full: false }, false, None);
     bench.expect_gate(&rt, Effect::FenceI, false, Some(Why::Waiting));
@@ -256,7 +255,7 @@ fn some_instructions_want_an_empty_buffer(rt: HostRuntime) -> Result<(), Fail> {
 #[test]
 fn a_hart_without_an_instruction_waits_where_it_faults(rt: HostRuntime) -> Result<(), Fail> {
     let mut bench = Bench::new(rt.alloc())?;
-    bench.store(&rt, BASE, 1, 1);
+    bench.store(&rt, FLAT_START, 1, 1);
     assert_eq!(rt; bench.hart.exec_gate(None, true), Some(Why::Waiting));
     assert_eq!(rt; bench.hart.exec_gate(None, false), None);
     Ok(())
@@ -266,11 +265,11 @@ fn a_hart_without_an_instruction_waits_where_it_faults(rt: HostRuntime) -> Resul
 fn gates_come_in_order(rt: HostRuntime) -> Result<(), Fail> {
     let mut bench = Bench::new(rt.alloc())?;
     for _ in 0..8 {
-        bench.store(&rt, BASE, 1, 1);
+        bench.store(&rt, FLAT_START, 1, 1);
     }
     bench.expect_gate(&rt, STORE, false, Some(Why::FullBuffer));
     bench.expect_gate(&rt, STORE, true, Some(Why::Waiting));
-    bench.expect_gate(&rt, plain_load(BASE), false, None);
+    bench.expect_gate(&rt, plain_load(FLAT_START), false, None);
     bench.hart.waits = Some(2);
     bench.expect_gate(&rt, STORE, true, Some(Why::InBarrier));
     bench.hart.running = None;
@@ -287,7 +286,7 @@ fn an_atomic_access_must_be_aligned_and_allowed(rt: HostRuntime) -> Result<(), F
     bench.expect_amo_fault(&rt, 0x1030, 4, Some(11));
     bench.expect_lr_fault(&rt, 0x1004, 8, Some(7));
     bench.expect_lr_fault(&rt, 0x1030, 8, None);
-    bench.expect_lr_fault(&rt, 0x1040, 8, Some(11));
+    bench.expect_lr_fault(&rt, 0x1400, 8, Some(11));
     bench.expect_sc_fault(&rt, 0x1001, 4, Some(7));
     bench.expect_sc_fault(&rt, 0x1030, 4, Some(11));
     bench.expect_sc_fault(&rt, 0x102c, 4, None);
@@ -298,8 +297,8 @@ fn an_atomic_access_must_be_aligned_and_allowed(rt: HostRuntime) -> Result<(), F
 fn a_plain_access_need_not_be_aligned(rt: HostRuntime) -> Result<(), Fail> {
     let bench = Bench::new(rt.alloc())?;
     bench.expect_fault(&rt, plain_load(0x1001), None);
-    bench.expect_fault(&rt, plain_load(0x1038), None);
-    bench.expect_fault(&rt, plain_load(0x1039), Some(11));
+    bench.expect_fault(&rt, plain_load(0x13f8), None);
+    bench.expect_fault(&rt, plain_load(0x13f9), Some(11));
     bench.expect_fault(&rt, plain_store(0x1001), None);
     bench.expect_fault(&rt, plain_store(0x1028), None);
     bench.expect_fault(&rt, plain_store(0x1029), Some(11));
@@ -409,14 +408,14 @@ fn what_an_instruction_makes_at_once(rt: HostRuntime) -> Result<(), Fail> {
     bench.expect_register(&rt, 1, 0);
     let sum = Effect::Amo {
         op: AmoOp::Add,
-        at: BASE,
+        at: FLAT_START,
         size: 8,
         value: 3,
         rd: 1,
     };
-    bench.write_double(&rt, BASE, 4);
+    bench.write_double(&rt, FLAT_START, 4);
     bench.expect_made(&rt, sum, Some(7));
-    bench.expect_double(&rt, BASE, 4);
+    bench.expect_double(&rt, FLAT_START, 4);
     bench.expect_made(&rt, STORE, None);
     bench.expect_double(&rt, 0x1008, 0);
     Ok(())
@@ -432,10 +431,13 @@ fn a_thread_leaves_and_enters(rt: HostRuntime) -> Result<(), Fail> {
     bench.expect_reserved(&rt, None);
     bench.expect_register(&rt, 3, 0);
     bench.expect_pc(&rt, 0);
-    bench.hart.enter(Tid(2), saved);
+    bench.hart.enter(Tid(2), saved, 5);
     assert_eq!(rt; bench.hart.running, Some(Tid(2)));
+    assert_eq!(rt; bench.hart.cid, 5);
     bench.expect_register(&rt, 3, 9);
     bench.expect_pc(&rt, 0x404);
+    let _saved = bench.hart.leave();
+    assert_eq!(rt; bench.hart.cid, 0);
     Ok(())
 }
 

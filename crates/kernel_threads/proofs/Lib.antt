@@ -2,7 +2,6 @@ mod Addresses
 mod Kept
 pub mod Laws
 mod Opened
-mod Places
 mod RowsRead
 mod SavedAfter
 mod SavedThere

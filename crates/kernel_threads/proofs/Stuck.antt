@@ -10,7 +10,7 @@ use Rattle.std.proofs.lemmas.Map.Keys.{IsDistinct-cons, IsDistinct-head, IsDisti
 use Rattle.std.proofs.lemmas.Map.Made.{length-le_from_is_member}
 use Rattle.mach_types.proofs.Laws.{times_cons, eqb_same}
 use Rattle.mach_types.specs.Kernel.Threads.{Thread, Threads, IsThreads, is_thread, numbers, times, goes_on, is_waiting_state, is_stuck}
-use Rattle.kernel_threads.proofs.Places.{distinct_if_rising}
+use Rattle.mach_types.proofs.Places.{distinct_if_rising}
 
 abbrev once : Bool → ℕ
 once b = cond b 1 0

@@ -6,6 +6,7 @@ pub mod Laws
 mod Lists
 pub mod PageExamples
 mod PageWords
+pub mod Places
 mod Processes
 pub mod SignalExamples
 mod Times

@@ -1,10 +1,10 @@
--- A flat memory (own): 128 bytes from 0x1000 on, the first of which, so many as it says, can be written.
+-- A flat memory (own): 1,024 bytes from 0x1000 on, the first of which, so many as it says, can be written.
 use Rattle.std.specs.Prelude.{ℕ, ◌+◌, ◌-◌, ◌%◌, Bool, ◌&&◌, nat_le, nat_lt, if◌then◌else◌, Option, Some, None, slice_index, replicate}
 use Rattle.mach_types.specs.declared.flat_memory.FlatMemory.{FlatMemory}
 
 -- whether an address is one of the memory's
 abbrev pub is_flat : ℕ → Bool
-is_flat a = nat_le 0x1000 a && nat_lt a 0x1080
+is_flat a = nat_le 0x1000 a && nat_lt a 0x1400
 
 -- the byte at an address, where the memory has it
 abbrev pub flat_byte : FlatMemory → ℕ → Option ℕ
@@ -16,4 +16,4 @@ flat_can_write m a = is_flat a && nat_lt a (0x1000 + m.writable)
 
 -- all bytes 0
 abbrev pub zero_memory : ℕ → FlatMemory
-zero_memory writable = record { bytes = replicate 128 0; writable = writable }
+zero_memory writable = record { bytes = replicate 1024 0; writable = writable }

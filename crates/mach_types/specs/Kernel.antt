@@ -5,6 +5,5 @@ pub mod Pages
 pub mod PageCalls
 pub mod Signals
 pub mod SignalFrames
-pub mod Record
 pub mod Areas
 pub mod Barriers

@@ -1,7 +1,7 @@
 //! A flat memory: for examples and tests of what stands on [`UserMem`].
 
 ghost use Rattle.std.specs.Prelude.{◌≡◌, ℕ, ◌+◌, ◌<◌, ◌≤◌, ◌^◌, true, IfSome};
-ghost use Rattle.std.proofs.Common.{arith};
+ghost use Rattle.std.proofs.Common.{arith, refl};
 ghost use Rattle.std.proofs.lemmas.Bool.Decides.{nat_tests};
 ghost use Rattle.mach_types.specs.Bytes.{word_at, each_byte, stored};
 ghost use Rattle.mach_types.specs.Flat.{flat_byte, flat_can_write, zero_memory};
@@ -12,24 +12,24 @@ use crate::user_memory::UserMem;
 pub const FLAT_START: u64 = 0x1000;
 
 /// The address past the last byte.
-pub const FLAT_END: u64 = 0x1080;
+pub const FLAT_END: u64 = 0x1400;
 
-/// 128 bytes from 0x1000 on.
+/// 1,024 bytes from 0x1000 on.
 #[derive(Clone, Copy, Drop)]
 pub struct FlatMemory {
     /// The bytes.
-    pub bytes: [u8; 128],
-    /// How many of them can be written, from the first one on; all where it is 128 or more.
-    pub writable: u8,
+    pub bytes: [u8; 1024],
+    /// How many of them can be written, from the first one on; all where it is 1,024 or more.
+    pub writable: u16,
 }
 
 impl FlatMemory {
     /// All bytes 0, so many of which can be written.
-    pub fn new(writable: u8) -> FlatMemory
+    pub fn new(writable: u16) -> FlatMemory
         ensures { result ≡ zero_memory writable }
     {
         FlatMemory {
-            bytes: [0; 128],
+            bytes: [0; 1024],
             writable,
         }
     }
@@ -38,7 +38,7 @@ impl FlatMemory {
     fn byte_at(&self, at: u64) -> Option<u8>
         ensures byte { result ≡ flat_byte self.now at }
         ensures small { IfSome result (λ b. b < 256) }
-        ensures inside { IfSome result (λ b. at < 0x1080) }
+        ensures inside { IfSome result (λ b. at < 0x1400) }
     {
         if at < FLAT_START || at >= FLAT_END {
             return None;
@@ -98,6 +98,8 @@ impl UserMem for FlatMemory {
 
     ghost can_write = { flat_can_write };
 
+    ghost IsAlike = { λ m m'. m'.writable ≡ m.writable };
+
     fn get(&self, at: u64, size: u8) -> Option<u64> {
         self.word(at, size)
     }
@@ -113,6 +115,10 @@ impl UserMem for FlatMemory {
     fn writable(&self, at: u64, size: u8) -> bool {
         self.can_write(at, size)
     }
+
+    ghost alike_itself = { λ m. refl };
+
+    ghost alike_next = { λ a b c first second. Prim.cc };
 
     ghost writable_is_readable = { λ m a writable. Prim.grind (arith, nat_tests) };
 

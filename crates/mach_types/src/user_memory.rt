@@ -43,6 +43,9 @@ pub trait UserMem {
     /// Whether the byte at an address can be written.
     ghost can_write: { Self → ℕ → Bool };
 
+    /// That two memories differ in bytes alone, those that can be written: what `set` keeps.
+    ghost IsAlike: { Self → Self → Type 0 };
+
     /// The little-endian number of `size` bytes; None exactly where one of them isn't readable.
     fn get(&self, at: u64, size: u8) -> Option<u64>
         requires { IsAccessSize size }
@@ -54,12 +57,19 @@ pub trait UserMem {
         requires { IsAccessSize size }
         ensures answer { result ≡ each_byte (can_write self.old) at size }
         ensures bytes { (a : ℕ) → byte self.new a ≡ after_write result (record { at = at; size = size; value = value }) (byte self.old) a }
-        ensures permissions { (a : ℕ) → can_write self.new a ≡ can_write self.old a };
+        ensures permissions { (a : ℕ) → can_write self.new a ≡ can_write self.old a }
+        ensures alike { IsAlike self.old self.new };
 
     /// Whether `set` would answer true.
     fn writable(&self, at: u64, size: u8) -> bool
         requires { IsAccessSize size }
         ensures { result ≡ each_byte (can_write self.now) at size };
+
+    /// A memory is like itself.
+    ghost alike_itself: { (m : Self) → IsAlike m m };
+
+    /// What is like a like one is like it.
+    ghost alike_next: { (a b c : Self) → IsAlike a b → IsAlike b c → IsAlike a c };
 
     /// Each byte that can be written can be read.
     ghost writable_is_readable: { (m : Self) (a : ℕ) → can_write m a ≡ true → IsSome (byte m a) };

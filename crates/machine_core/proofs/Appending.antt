@@ -131,7 +131,7 @@ own_is s log m words h t x way =
     same_Some x (hart_at s (plain_after s log) h.0 (credit_of m.harts.items h.0)) (sym way.there ∙ way.settled.tied.harts h.0 way.lt)
 
 -- so its thread runs there, with its file
-thread_is : (o : Option ℕ) (t : Tid) → Some t ≡ option_map thread o → o ≡ Some t.0
+pub thread_is : (o : Option ℕ) (t : Tid) → Some t ≡ option_map thread o → o ≡ Some t.0
 thread_is None t is = cc
 thread_is (Some u) t is = let same : t ≡ thread u = cc in ap Some (sym (ap (λ (z : Tid). z.0) same))
 
@@ -218,6 +218,8 @@ move s log m words h t x rd value to way room is =
         readable = way.settled.tied.readable;
         threads = way.settled.tied.threads;
         scheduling = way.settled.tied.scheduling;
+        areas = way.settled.tied.areas;
+        ids = λ k u ne at. refl;
         console = way.settled.tied.console;
         saved = saved_plain (plain_seen v).file t.0 (record { file = done.outcome.regs; pc = done.outcome.pc }) h m.kernel.threads way.settled.tied.table (runs_there v m h t.0 place at) way.settled.tied.saved;
         table = way.settled.tied.table;

@@ -1,5 +1,5 @@
 -- A call of the thread on a hart.
-use Rattle.std.proofs.Common.{◌≡◌, ℕ, ◌+◌, ◌-◌, ◌<◌, ◌^◌, append-nil, length, refl, sym, ap, ◌∙◌, arith, Bool, true, false, cond, Option, Some, None, get_or}
+use Rattle.std.proofs.Common.{◌≡◌, ◌≢◌, ℕ, ◌+◌, ◌-◌, ◌<◌, ◌^◌, append-nil, length, refl, sym, ap, ◌∙◌, arith, Bool, true, false, cond, Option, Some, None, get_or}
 use Rattle.std.specs.Option.{option_or}
 use Rattle.mach_types.specs.Kernel.Threads.{Threads, is_stuck, running_on}
 use Rattle.mach_types.specs.Registers.{no_registers}
@@ -21,40 +21,43 @@ use Rattle.block_model.specs.Events.{done_of}
 use Rattle.block_model.specs.Events.Exec.{by_call}
 use Rattle.block_model.specs.Here.{runs}
 use Rattle.block_model.specs.History.{file_among}
+use Rattle.block_model.specs.Ids.{id_of, without_id}
 use Rattle.block_model.specs.Plain.{Plain, here_in_plain, here_of, plain_seen}
 use Rattle.block_model.specs.Setting.{Seen, Setting}
-use Rattle.block_model.specs.Tables.{IsTables}
-use Rattle.block_model.proofs.Laws.{given_few}
+use Rattle.block_model.specs.Tables.{AreOfLive, IsTables}
+use Rattle.sys_calls.specs.Registered.{areas_by_number}
+use Rattle.block_model.proofs.Laws.{given_few, live_areas}
 use Rattle.machine_core.specs.Deeds.{entry_from, hart_after_call}
-use Rattle.machine_core.specs.Harts.{credit_of, file_on, hart_at, hart_in}
-use Rattle.machine_core.specs.Planned.{IsPlanned}
+use Rattle.machine_core.specs.Harts.{credit_of, file_on, hart_at, hart_in, id_on}
+use Rattle.machine_core.specs.Planned.{IsInside, IsPlanned}
 use Rattle.machine_core.specs.Tied.{IsPlace}
 use Rattle.machine_core.specs.declared.next.Next.{Next}
 use Rattle.machine_core.specs.declared.parts.Parts.{Parts}
 use Rattle.machine_core.proofs.Entries.{entry_exec}
 use Rattle.machine_core.proofs.Executed.{done_call}
+use Rattle.machine_core.proofs.Ids.{id_without_other, others_apart}
 use Rattle.machine_core.proofs.HartTies.{own_after}
 use Rattle.machine_core.proofs.Places.{hart_is, tables_at}
 
 -- a hart after a call, counted
 abbrev after_call : Bool → Saved → HartState → HartState
 after_call b saved x =
-    let z : HartState = cond b (record x { file = no_registers; pc = 0; running = None; reserved = None }) (record x { file = saved.file; pc = saved.pc; reserved = None }) in
+    let z : HartState = cond b (record x { file = no_registers; pc = 0; running = None; reserved = None; cid = 0 }) (record x { file = saved.file; pc = saved.pc; reserved = None }) in
     record z { ran = z.ran + 1; events = z.events + 1 }
 
 -- the hart of the thread after its call
 pub call_own : (credit : ℕ) (s : Setting) (p : Plain) (h t : ℕ) (end : CallEnd) (saved : Saved) (c : CallDone) (x y : HartState) → x ≡ hart_at s p h credit → runs (here_in_plain s p h) ≡ Some t →
-    running_on h c.kernel.threads ≡ cond (gives_up end) None (Some t) → saved ≡ file_among c.files t (p.file t) →
+    running_on h c.kernel.threads ≡ cond (gives_up end) None (Some t) → c.kernel.ids ≡ cond (gives_up end) (without_id t p.kernel.ids) p.kernel.ids → saved ≡ file_among c.files t (p.file t) →
     y ≡ record (hart_after_call end saved x) { ran = (hart_after_call end saved x).ran + 1; events = (hart_after_call end saved x).events + 1 } → y ≡ own_after s p h (by_call (here_in_plain s p h) c) credit
-call_own credit s p h t end saved c x y at its hart own is = is ∙ rw (at, append-nil) (go (gives_up end) hart)
+call_own credit s p h t end saved c x y at its hart ids own is = is ∙ rw (at, append-nil) (go (gives_up end) hart ids)
   where
-    go : (b : Bool) → running_on h c.kernel.threads ≡ cond b None (Some t) → after_call b saved (hart_at s p h credit) ≡ hart_in (record (here_in_plain s p h) {
+    go : (b : Bool) → running_on h c.kernel.threads ≡ cond b None (Some t) → c.kernel.ids ≡ cond b (without_id t p.kernel.ids) p.kernel.ids → after_call b saved (hart_at s p h credit) ≡ hart_in (record (here_in_plain s p h) {
       file = λ u. file_among c.files u (p.file u);
       reserved = None;
       kernel = c.kernel;
     }) (p.ran h + 1) (p.events h + 1) credit
-    go true e = rw e refl
-    go false e = rw (e, its, own) refl
+    go true e same = rw e refl
+    go false e same = rw (e, its, own, same) refl
 
 -- how the run has ended
 pub ended_after : (end : CallEnd) (c : CallDone) (o : Option End) (b : Bool) → process_end end ≡ c.ended → b ≡ is_stuck c.kernel.threads → o ≡ option_or (process_end end) (cond b (Some over.Stuck) None) → o ≡ final c.ended c.kernel
@@ -64,14 +67,14 @@ ended_after end c o b process stuck is = is ∙ rw (process, stuck) refl
 pub record IsCalling (v : Seen) (m : Parts) (h : Hart) (harts : ℕ) (x : HartState) (e : Entry) : Type 0 where
   pub own : x ≡ hart_at v.setting (plain_seen v) h.0 (credit_of m.harts.items h.0)
   pub runs : runs (here_of v h.0) ≡ Some e.tid.0
-  pub at : IsAt (here_of v h.0) m.kernel m.pages h harts e.tid (record { file = x.file; pc = x.pc })
+  pub at : IsAt (here_of v h.0) m.kernel m.pages h harts e.tid (record { file = x.file; pc = x.pc }) x.cid
   pub done : done_of asked.Exec (here_of v h.0) ≡ by_call (here_of v h.0) (called (here_of v h.0) e.tid.0)
 
 abbrev pub call_next : Next
 call_next = record { effect = Some effect.Call; fault = None }
 
-pub calling : (v : Seen) (m : Parts) (h : Hart) (harts : ℕ) (x : HartState) (e : Entry) → IsPlace v m h.0 → IsPlanned v h.0 call_next → harts ≡ length m.harts.items → x ≡ get_or m.harts.items h.0 x → e ≡ entry_from h kind.Exec x.running x.pc → IsCalling v m h harts x e
-calling v m h harts x e place plan all value is =
+pub calling : (v : Seen) (m : Parts) (h : Hart) (harts : ℕ) (x : HartState) (e : Entry) → IsPlace v m h.0 → IsPlanned v h.0 call_next → IsInside false m h.0 → harts ≡ length m.harts.items → x ≡ get_or m.harts.items h.0 x → e ≡ entry_from h kind.Exec x.running x.pc → IsCalling v m h harts x e
+calling v m h harts x e place plan outside all value is =
     let own = hart_is v m h.0 x place value in
     let named : e.tid.0 ≡ number_of (runs (here_of v h.0)) = ap (λ (z : Entry). z.tid.0) (is ∙ entry_exec _ v.setting (plain_seen v) h x own) in
     let its : plan.thread ≡ e.tid.0 = sym (named ∙ ap number_of plan.at) in
@@ -84,11 +87,13 @@ calling v m h harts x e place plan all value is =
         count = sym (all ∙ place.tied.all_harts);
         threads = place.tied.threads;
         scheduling = place.tied.scheduling;
+        areas = place.tied.areas;
+        id = sym (ap (λ (y : HartState). y.cid) own ∙ ap (id_on (here_of v h.0)) at);
         console = place.tied.console;
         pages = place.tied.pages;
         file = ap (λ (y : HartState). record { file = y.file; pc = y.pc }) own ∙ ap (file_on (here_of v h.0)) at;
       };
-      done = done_call (here_of v h.0) plan.thread plan.at (sym plan.fault) (sym plan.effect) ∙ ap (λ t. by_call (here_of v h.0) (called (here_of v h.0) t)) its;
+      done = done_call (here_of v h.0) plan.thread plan.at (sym plan.fault) (sym plan.effect) (outside v plan.thread place plan.at) ∙ ap (λ t. by_call (here_of v h.0) (called (here_of v h.0) t)) its;
     }
 
 -- a further number can be given
@@ -105,13 +110,25 @@ tables_found v m h harts place all = rw (all, place.tied.all_harts, place.tied.t
 pub same_ran : (end : CallEnd) (saved : Saved) (x : HartState) → (hart_after_call end saved x).ran ≡ x.ran
 same_ran end saved x = go (gives_up end)
   where
-    go : (b : Bool) → (cond b (record x { file = no_registers; pc = 0; running = None; reserved = None }) (record x { file = saved.file; pc = saved.pc; reserved = None })).ran ≡ x.ran
+    go : (b : Bool) → (cond b (record x { file = no_registers; pc = 0; running = None; reserved = None; cid = 0 }) (record x { file = saved.file; pc = saved.pc; reserved = None })).ran ≡ x.ran
     go true = refl
     go false = refl
 
 pub same_events : (end : CallEnd) (saved : Saved) (x : HartState) → (hart_after_call end saved x).events ≡ x.events
 same_events end saved x = go (gives_up end)
   where
-    go : (b : Bool) → (cond b (record x { file = no_registers; pc = 0; running = None; reserved = None }) (record x { file = saved.file; pc = saved.pc; reserved = None })).events ≡ x.events
+    go : (b : Bool) → (cond b (record x { file = no_registers; pc = 0; running = None; reserved = None; cid = 0 }) (record x { file = saved.file; pc = saved.pc; reserved = None })).events ≡ x.events
     go true = refl
     go false = refl
+
+-- the areas that it finds
+pub areas_found : (v : Seen) (m : Parts) (h : ℕ) → IsPlace v m h → AreOfLive m.kernel.threads.threads (areas_by_number m.kernel.areas.items)
+areas_found v m h place = rw (place.tied.threads, place.tied.areas) (live_areas v place.run)
+
+-- the ids of other threads stay
+pub ids_kept : (harts h t : ℕ) (b : Bool) (p : Plain) (c : CallDone) → IsTables harts p.kernel.threads p.kernel.scheduling → running_on h p.kernel.threads ≡ Some t
+    → c.kernel.ids ≡ cond b (without_id t p.kernel.ids) p.kernel.ids
+    → (k u : ℕ) → k ≢ h → running_on k p.kernel.threads ≡ Some u → id_of u c.kernel.ids ≡ id_of u p.kernel.ids
+ids_kept harts h t true p c tables at is k u ne there =
+    ap (id_of u) is ∙ id_without_other t u p.kernel.ids (others_apart harts h k t u p.kernel.threads p.kernel.scheduling tables at there ne)
+ids_kept harts h t false p c tables at is k u ne there = ap (id_of u) is

@@ -9,6 +9,7 @@ use Rattle.mach_types.specs.declared.limits.End.TheVariants as over
 use Rattle.hart_state.specs.declared.hart.HartState.{HartState}
 use Rattle.kernel_threads.specs.Table.{IsTable}
 use Rattle.sys_calls.specs.Made.{AreSaved, HoldsPages}
+use Rattle.sys_calls.specs.Registered.{areas_by_number}
 use Rattle.block_model.specs.Setting.{Seen}
 use Rattle.block_model.specs.Here.{Done}
 use Rattle.block_model.specs.History.{file_among}
@@ -19,7 +20,7 @@ use Rattle.machine_core.specs.Losing.{lost_unless}
 use Rattle.machine_core.specs.Harts.{credit_of}
 use Rattle.machine_core.specs.Tied.{IsPlace, IsAfter, IsReadable, IsTied}
 use Rattle.machine_core.specs.declared.parts.Parts.{Parts}
-use Rattle.machine_core.proofs.HartTies.{credits_kept, own_after, harts_tied}
+use Rattle.machine_core.proofs.HartTies.{KeepsIds, credits_kept, own_after, harts_tied}
 
 -- lists with the same places filled are equally long
 pub same_length : (xs ys : List HartState) → ((k : ℕ) → is_some (slice_get ys k) ≡ is_some (slice_get xs k)) → length ys ≡ length xs
@@ -54,6 +55,8 @@ pub record IsChange (v : Seen) (h : ℕ) (d : Done) (m m' : Parts) (y : HartStat
   pub readable : IsReadable m'.pages
   pub threads : m'.kernel.threads.threads ≡ d.kernel.threads
   pub scheduling : m'.kernel.ready ≡ d.kernel.scheduling
+  pub areas : areas_by_number m'.kernel.areas.items ≡ d.kernel.areas
+  pub ids : KeepsIds (plain_seen v) h d
   pub console : m'.kernel.console ≡ d.kernel.console
   pub table : IsTable m'.kernel.threads
   pub saved : AreSaved (λ t. file_among d.files t ((plain_seen v).file t)) m'.kernel.threads
@@ -80,11 +83,12 @@ changed v h d m m' y place fit is = record { tied = tied; credits = credits_kept
     tied : IsTied v.setting (apply h d p) m'
     tied = record {
       all_harts = same_length (set m.harts.items h y) m'.harts.items (λ k. ap is_some (is.harts k) ∙ mapped_is (lost_unless (eqb k h) d.entered) (slice_get (set m.harts.items h y) k)) ∙ (length-set m.harts.items h y ∙ place.tied.all_harts);
-      harts = harts_tied v.setting p h d m.harts.items m'.harts.items y place.tied.harts place.lt fit is.own is.harts;
+      harts = harts_tied v.setting p h d m.harts.items m'.harts.items y place.tied.harts place.lt fit is.ids is.own is.harts;
       pages = is.pages;
       readable = is.readable;
       threads = is.threads;
       scheduling = is.scheduling;
+      areas = is.areas;
       console = is.console;
       table = is.table;
       saved = is.saved;

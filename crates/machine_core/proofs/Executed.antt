@@ -9,6 +9,8 @@ use Rattle.rv_inst.specs.declared.effects.Effect.TheVariants as effect
 use Rattle.hart_state.specs.State.{exec_refusal, outcome_on}
 use Rattle.hart_state.specs.declared.hart.HartState.{HartState}
 use Rattle.block_model.specs.Calls.{called}
+use Rattle.block_model.specs.Calls.Sequences.{killed_in_call}
+use Rattle.block_model.specs.Sequences.{is_inside_here}
 use Rattle.block_model.specs.Events.{refusal_of, done_of}
 use Rattle.mach_types.specs.declared.events.Choice.TheVariants as asked
 use Rattle.block_model.specs.Events.Exec.{by_call, by_fault, by_outcome, is_held, next_effect, next_fault, others_gate, outcome_of, refusal_exec_by}
@@ -22,8 +24,13 @@ use Rattle.machine_core.specs.Harts.{hart_at}
 pub done_fault : (here : Here) (t signal : ℕ) → runs here ≡ Some t → next_fault here t ≡ Some signal → done_of asked.Exec here ≡ by_fault here signal
 done_fault here t signal at fault = rw (at, fault) refl
 
-pub done_call : (here : Here) (t : ℕ) → runs here ≡ Some t → next_fault here t ≡ None → next_effect here t ≡ Some effect.Call → done_of asked.Exec here ≡ by_call here (called here t)
-done_call here t at fault is = rw (at, fault, is) refl
+pub done_call : (here : Here) (t : ℕ) → runs here ≡ Some t → next_fault here t ≡ None → next_effect here t ≡ Some effect.Call → is_inside_here here t ≡ false
+    → done_of asked.Exec here ≡ by_call here (called here t)
+done_call here t at fault is outside = rw (at, fault, is, outside) refl
+
+pub done_inside : (here : Here) (t : ℕ) → runs here ≡ Some t → next_fault here t ≡ None → next_effect here t ≡ Some effect.Call → is_inside_here here t ≡ true
+    → done_of asked.Exec here ≡ by_call here (killed_in_call here)
+done_inside here t at fault is inside = rw (at, fault, is, inside) refl
 
 pub done_plain : (here : Here) (t : ℕ) (e : Effect) → runs here ≡ Some t → next_fault here t ≡ None → next_effect here t ≡ Some e → is_call e ≡ false → done_of asked.Exec here ≡ by_outcome here t (outcome_of here t e)
 done_plain here t e at fault is no_call = rw (at, fault, is, no_call) refl

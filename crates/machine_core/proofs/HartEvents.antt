@@ -2,6 +2,7 @@
 use Rattle.std.proofs.Common.{◌≡◌, ℕ, ◌+◌, ◌<◌, List, ◌∷◌, drop, refl, ◌∙◌, arith, true, false, Option, Some, None, append-nil, eq-eqb}
 use Rattle.std.specs.Option.{option_map}
 use Rattle.mach_types.specs.Registers.{no_registers}
+use Rattle.mach_types.specs.declared.sequences.Outcome.{Outcome as Comes}
 use Rattle.mach_types.specs.declared.threads.Saved.{Saved}
 use Rattle.mach_types.specs.declared.user_memory.Store.{Store}
 use Rattle.mach_types.specs.Kernel.Threads.{is_ready}
@@ -10,16 +11,20 @@ use Rattle.hart_state.specs.State.{hart_after}
 use Rattle.rv_inst.specs.Execution.{Outcome}
 use Rattle.block_model.specs.Setting.{Setting}
 use Rattle.block_model.specs.Here.{runs}
-use Rattle.block_model.specs.Kernel.{ran}
 use Rattle.block_model.specs.Tables.{IsTables}
 use Rattle.block_model.specs.Plain.{Plain, here_in_plain}
 use Rattle.block_model.specs.Sights.{thread}
-use Rattle.block_model.specs.Events.Exec.{by_fault, by_outcome}
+use Rattle.block_model.specs.Calls.Sequences.{killed_in_call}
+use Rattle.block_model.specs.Events.Exec.{by_call, by_fault, by_outcome}
 use Rattle.block_model.specs.Events.Drain.{done_drain_of}
 use Rattle.block_model.specs.Events.Preempt.{done_preempt_by}
-use Rattle.block_model.specs.Events.Run.{done_run}
+use Rattle.block_model.specs.Events.Run.{done_killed, done_running}
+use Rattle.block_model.specs.History.{file_among}
+use Rattle.block_model.specs.Ids.{id_of, with_id}
+use Rattle.block_model.specs.Sequences.{files_interrupted}
 use Rattle.block_model.proofs.Laws.{left_idle, ran_runs}
-use Rattle.machine_core.specs.Harts.{file_on, hart_at}
+use Rattle.machine_core.specs.Beginning.{begun_with, begun_without}
+use Rattle.machine_core.specs.Harts.{file_on, hart_at, id_on}
 use Rattle.machine_core.proofs.HartTies.{own_after}
 
 zero_more : (n : ℕ) → n + 0 ≡ n
@@ -42,7 +47,7 @@ drain_own credit s p h w ws x y at is = is ∙ rw (at, append-nil, zero_more (p.
       ran = p.ran h;
       credit = credit;
       events = p.events h + 1;
-      cid = 0;
+      cid = id_on (here_in_plain s p h) o;
     } in a) ≡ (let b : HartState = record {
       file = (file_on (here_in_plain s p h) o).file;
       pc = (file_on (here_in_plain s p h) o).pc;
@@ -55,14 +60,14 @@ drain_own credit s p h w ws x y at is = is ∙ rw (at, append-nil, zero_more (p.
       ran = p.ran h;
       credit = credit;
       events = p.events h + 1;
-      cid = 0;
+      cid = id_on (here_in_plain s p h) o;
     } in b)
     go None = refl
     go (Some t) = refl
 
 -- a hart of these parts
-abbrev made_of : Saved → Option ℕ → List Store → Option ℕ → ℕ → ℕ → ℕ → HartState
-made_of f o buffer reserved ran events credit = record {
+abbrev made_of : Saved → Option ℕ → List Store → Option ℕ → ℕ → ℕ → ℕ → ℕ → HartState
+made_of f o buffer reserved ran events credit cid = record {
   file = f.file;
   pc = f.pc;
   buffer = buffer;
@@ -74,29 +79,33 @@ made_of f o buffer reserved ran events credit = record {
   ran = ran;
   credit = credit;
   events = events;
-  cid = 0;
+  cid = cid;
 }
 
 -- preempt
 pub preempt_own : (credit : ℕ) (s : Setting) (p : Plain) (h t : ℕ) (x y : HartState) → x ≡ hart_at s p h credit → IsTables s.limits.harts p.kernel.threads p.kernel.scheduling → runs (here_in_plain s p h) ≡ Some t →
-    y ≡ record x { file = no_registers; pc = 0; running = None; reserved = None; events = x.events + 1 } → y ≡ own_after s p h (done_preempt_by (here_in_plain s p h) (Some t)) credit
+    y ≡ record x { file = no_registers; pc = 0; running = None; reserved = None; cid = 0; events = x.events + 1 } → y ≡ own_after s p h (done_preempt_by (here_in_plain s p h) (Some t)) credit
 preempt_own credit s p h t x y at tables runs is =
     is ∙ rw (at, append-nil, zero_more (p.ran h), left_idle s.limits.harts h t p.kernel.threads p.kernel.scheduling tables runs) refl
 
--- run
-pub run_own : (credit : ℕ) (s : Setting) (p : Plain) (h t : ℕ) (saved : Saved) (x y : HartState) → x ≡ hart_at s p h credit → IsTables s.limits.harts p.kernel.threads p.kernel.scheduling →
-    is_ready t p.kernel.threads ≡ true → runs (here_in_plain s p h) ≡ None → h < s.limits.harts → saved ≡ p.file t →
-    y ≡ record x { file = saved.file; pc = saved.pc; running = Some (thread t); reserved = None; ran = 0; events = x.events + 1 } → y ≡ own_after s p h (done_run (here_in_plain s p h) t) credit
-run_own credit s p h t saved x y at tables ready idle lt kept is =
-    is ∙ rw (at, append-nil, ran_runs s.limits.harts h t p.kernel.threads p.kernel.scheduling tables ready idle lt, kept) refl
+-- run, where the thread begins to run, and where the process is killed
+pub run_own : (credit : ℕ) (s : Setting) (p : Plain) (h t : ℕ) (o : Comes) (saved : Saved) (id : ℕ) (x y : HartState) → x ≡ hart_at s p h credit → IsTables s.limits.harts p.kernel.threads p.kernel.scheduling →
+    is_ready t p.kernel.threads ≡ true → runs (here_in_plain s p h) ≡ None → h < s.limits.harts → saved ≡ file_among (files_interrupted (here_in_plain s p h) t o) t (p.file t) → id ≡ id_of t (with_id t p.kernel.ids) →
+    y ≡ begun_with (thread t) saved id x → y ≡ own_after s p h (done_running (here_in_plain s p h) t o) credit
+run_own credit s p h t o saved id x y at tables ready idle lt kept its is =
+    is ∙ rw (at, append-nil, ran_runs s.limits.harts h t p.kernel.threads p.kernel.scheduling tables ready idle lt, kept, its) refl
+
+pub killed_own : (credit : ℕ) (s : Setting) (p : Plain) (h t : ℕ) (o : Comes) (x y : HartState) → x ≡ hart_at s p h credit → runs (here_in_plain s p h) ≡ None →
+    y ≡ begun_without x → y ≡ own_after s p h (done_killed (here_in_plain s p h) t o) credit
+killed_own credit s p h t o x y at idle is = is ∙ rw (at, append-nil, idle) refl
 
 -- a fault
 pub fault_own : (credit : ℕ) (s : Setting) (p : Plain) (h signal : ℕ) (x y : HartState) → x ≡ hart_at s p h credit →
     y ≡ record x { ran = x.ran + 1; events = x.events + 1 } → y ≡ own_after s p h (by_fault (here_in_plain s p h) signal) credit
 fault_own credit s p h signal x y at is = is ∙ rw (at, append-nil) (go (runs (here_in_plain s p h)))
   where
-    go : (o : Option ℕ) → made_of (file_on (here_in_plain s p h) o) o (p.waiting h) (p.reserved h) (p.ran h + 1) (p.events h + 1) credit
-        ≡ made_of (file_on (here_in_plain s p h) o) o (p.waiting h) (p.reserved h) (p.ran h + 1) (p.events h + 1) credit
+    go : (o : Option ℕ) → made_of (file_on (here_in_plain s p h) o) o (p.waiting h) (p.reserved h) (p.ran h + 1) (p.events h + 1) credit (id_on (here_in_plain s p h) o)
+        ≡ made_of (file_on (here_in_plain s p h) o) o (p.waiting h) (p.reserved h) (p.ran h + 1) (p.events h + 1) credit (id_on (here_in_plain s p h) o)
     go None = refl
     go (Some t) = refl
 
@@ -104,3 +113,8 @@ fault_own credit s p h signal x y at is = is ∙ rw (at, append-nil) (go (runs (
 pub plain_own : (credit : ℕ) (s : Setting) (p : Plain) (h t : ℕ) (o : Outcome) (x y : HartState) → x ≡ hart_at s p h credit → runs (here_in_plain s p h) ≡ Some t →
     y ≡ record (hart_after x o) { ran = x.ran + 1; events = x.events + 1 } → y ≡ own_after s p h (by_outcome (here_in_plain s p h) t o) credit
 plain_own credit s p h t o x y at runs is = is ∙ rw (at, runs, eq-eqb t t refl) refl
+
+-- a call inside a sequence
+pub inside_own : (credit : ℕ) (s : Setting) (p : Plain) (h t : ℕ) (x y : HartState) → x ≡ hart_at s p h credit → runs (here_in_plain s p h) ≡ Some t →
+    y ≡ record x { reserved = None; ran = x.ran + 1; events = x.events + 1 } → y ≡ own_after s p h (by_call (here_in_plain s p h) (killed_in_call (here_in_plain s p h))) credit
+inside_own credit s p h t x y at runs is = is ∙ rw (at, append-nil, runs) refl

@@ -8,10 +8,11 @@ use Rattle.hart_state.specs.declared.hart.HartState.{HartState}
 use Rattle.block_model.specs.Setting.{Setting}
 use Rattle.block_model.specs.Here.{Done}
 use Rattle.block_model.specs.History.{file_among, lost_after}
+use Rattle.block_model.specs.Ids.{id_of}
 use Rattle.block_model.specs.Plain.{Plain, apply, here_in_plain}
 use Rattle.block_model.specs.Sights.{thread}
 use Rattle.block_model.proofs.Laws.{IsFit}
-use Rattle.machine_core.specs.Harts.{credit_of, file_on, hart_at, hart_in}
+use Rattle.machine_core.specs.Harts.{credit_of, file_on, hart_at, hart_in, id_on}
 use Rattle.machine_core.specs.Losing.{lost_by_all, lost_unless}
 
 -- the own hart
@@ -27,8 +28,12 @@ pub hart_own : (s : Setting) (p : Plain) (h : ℕ) (d : Done) (credit : ℕ) →
 hart_own s p h d credit = rw (eq-eqb h h refl) refl
 
 -- another hart
-pub hart_other : (s : Setting) (p : Plain) (h k : ℕ) (d : Done) (credit : ℕ) → k ≢ h → IsFit (here_in_plain s p h) d → hart_at s (apply h d p) k credit ≡ lost_by_all d.entered (hart_at s p k credit)
-hart_other s p h k d credit ne fit = rw (ne_eqb h k (λ e. ne (sym e)), fit.others k ne) (go (running_on k p.kernel.threads) refl)
+-- what happened to the ids of threads that run on other harts: nothing
+abbrev pub KeepsIds : Plain → ℕ → Done → Type 0
+KeepsIds p h d = (k u : ℕ) → k ≢ h → running_on k p.kernel.threads ≡ Some u → id_of u d.kernel.ids ≡ id_of u p.kernel.ids
+
+pub hart_other : (s : Setting) (p : Plain) (h k : ℕ) (d : Done) (credit : ℕ) → k ≢ h → IsFit (here_in_plain s p h) d → KeepsIds p h d → hart_at s (apply h d p) k credit ≡ lost_by_all d.entered (hart_at s p k credit)
+hart_other s p h k d credit ne fit ids = rw (ne_eqb h k (λ e. ne (sym e)), fit.others k ne) (go (running_on k p.kernel.threads) refl)
   where
     go : (o : Option ℕ) → running_on k p.kernel.threads ≡ o →
         (let x : HartState = record {
@@ -43,7 +48,7 @@ hart_other s p h k d credit ne fit = rw (ne_eqb h k (λ e. ne (sym e)), fit.othe
           ran = p.ran k;
           credit = credit;
           events = p.events k;
-          cid = 0;
+          cid = id_on (here_in_plain s (apply h d p) k) o;
         } in x) ≡ (let y : HartState = record {
           file = (file_on (here_in_plain s p k) o).file;
           pc = (file_on (here_in_plain s p k) o).pc;
@@ -56,10 +61,10 @@ hart_other s p h k d credit ne fit = rw (ne_eqb h k (λ e. ne (sym e)), fit.othe
           ran = p.ran k;
           credit = credit;
           events = p.events k;
-          cid = 0;
+          cid = id_on (here_in_plain s p k) o;
         } in y)
     go None at = refl
-    go (Some u) at = let same = fit.apart k u (p.file u) ne at in rw same refl
+    go (Some u) at = let same = fit.apart k u (p.file u) ne at in let its = ids k u ne at in rw (same, its) refl
 
 pub get_set_same : (xs : List HartState) (i : ℕ) (x y : HartState) → slice_get xs i ≡ Some x → slice_get (set xs i y) i ≡ Some y
 get_set_same [] i x y at = cc
@@ -97,9 +102,9 @@ credits_kept h d xs ys y same lose k =
     ∙ (credit_lost (eqb k h) d.entered (slice_get (set xs h y) k) ∙ credit_set xs h k y same)
 
 -- all harts, where the others lost what was written
-pub harts_tied : (s : Setting) (p : Plain) (h : ℕ) (d : Done) (xs ys : List HartState) (y : HartState) → AreHarts s p xs → h < s.limits.harts → IsFit (here_in_plain s p h) d → y ≡ own_after s p h d (credit_of xs h) →
+pub harts_tied : (s : Setting) (p : Plain) (h : ℕ) (d : Done) (xs ys : List HartState) (y : HartState) → AreHarts s p xs → h < s.limits.harts → IsFit (here_in_plain s p h) d → KeepsIds p h d → y ≡ own_after s p h d (credit_of xs h) →
     ((k : ℕ) → slice_get ys k ≡ option_map (lost_unless (eqb k h) d.entered) (slice_get (set xs h y) k)) → AreHarts s (apply h d p) ys
-harts_tied s p h d xs ys y tied lt fit own lose k below =
+harts_tied s p h d xs ys y tied lt fit ids own lose k below =
     go (cases_eq k h) ∙ ap (λ n. Some (hart_at s (apply h d p) k n)) (sym (credits_kept h d xs ys y (ap (λ (x : HartState). x.credit) own) lose k))
   where
     own_lost : option_map (lost_unless (eqb h h) d.entered) (slice_get (set xs h y) h) ≡ Some y
@@ -110,4 +115,4 @@ harts_tied s p h d xs ys y tied lt fit own lose k below =
 
     go : (k ≡ h) ⊎ (k ≢ h) → slice_get ys k ≡ Some (hart_at s (apply h d p) k (credit_of xs k))
     go (inl same) = subst (λ j. slice_get ys j ≡ Some (hart_at s (apply h d p) j (credit_of xs j))) (sym same) (lose h ∙ own_lost ∙ ap Some (own ∙ sym (hart_own s p h d (credit_of xs h))))
-    go (inr ne) = lose k ∙ other_lost ne ∙ ap Some (sym (hart_other s p h k d (credit_of xs k) ne fit))
+    go (inr ne) = lose k ∙ other_lost ne ∙ ap Some (sym (hart_other s p h k d (credit_of xs k) ne fit ids))

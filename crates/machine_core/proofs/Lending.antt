@@ -18,7 +18,7 @@ use Rattle.block_model.specs.Sights.{is_local_on, thread}
 use Rattle.block_model.specs.Stretches.{Stretch, advanced, is_on_credit, lent, lent_to}
 use Rattle.block_model.proofs.Laws.{next_is_none}
 use Rattle.machine_core.specs.Advancing.{made_in}
-use Rattle.machine_core.specs.Harts.{file_on, hart_in}
+use Rattle.machine_core.specs.Harts.{file_on, hart_in, id_on}
 use Rattle.machine_core.specs.Stretches.{stretch_on}
 use Rattle.machine_core.proofs.Sighted.{next_local}
 
@@ -61,7 +61,7 @@ state_on s h before o =
       ran = ran h before;
       credit = (luck s h before).credit;
       events = events h before;
-      cid = 0;
+      cid = id_on here o;
     }
 
 lent_on : (s : Setting) (h : ℕ) (before : History) (o : Option ℕ) → running s h before ≡ o → has_ended s before ≡ false → h < s.limits.harts

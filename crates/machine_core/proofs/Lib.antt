@@ -11,6 +11,9 @@ mod Fetches
 mod HartEvents
 mod HartTies
 mod HeldPages
+mod Ids
+mod Inside
+mod Interrupting
 mod KernelTies
 pub mod Laws
 mod Leaving
@@ -24,6 +27,7 @@ mod Places
 mod Planning
 mod Readings
 mod Ready
+mod RunBegun
 mod Settled
 mod Sighted
 mod Starting

@@ -4,13 +4,13 @@ use Rattle.std.proofs.Math.Path.{fun_ext}
 use Rattle.std.specs.Option.{option_map}
 use Rattle.mach_types.specs.Bytes.{overlay, byte_over, written, all_stored}
 use Rattle.mach_types.specs.declared.user_memory.Store.{Store}
-use Rattle.mach_types.specs.declared.user_memory.Write.TheVariants.{Stored}
+use Rattle.mach_types.specs.declared.user_memory.Write.{Write}
 use Rattle.mach_types.specs.Kernel.Pages.{Pages, can_read, can_write, lets, permission_at, permission_of}
-use Rattle.mach_types.specs.Kernel.Record.{Kernel}
+use Rattle.block_model.specs.Record.{Kernel}
 use Rattle.page_map.specs.Map.{Map, Page, byte_at, byte_in, bytes_if, can_write_in, held_in, page_in, permission_in}
 use Rattle.sys_calls.specs.Made.{HoldsPages}
 use Rattle.block_model.specs.Here.{memory_in, writable_in}
-use Rattle.machine_core.specs.Stored.{IsStored}
+use Rattle.machine_core.specs.Stored.{IsWritten}
 use Rattle.machine_core.specs.Tied.{IsReadable}
 
 -- stores as writes
@@ -50,20 +50,20 @@ writable_held k lowest byte m holds readable = fun_ext (λ a.
     both (can_read (permission_in m (a / 4096))) (can_write (permission_in m (a / 4096))) (readable (a / 4096))
     ∙ ap can_write (holds.permissions (a / 4096)))
 
--- the pages after a store
-stored_over : (w : Store) (a b : ℕ) (o : Option ℕ) → option_map (byte_over w a) (option_map (λ _. b) o) ≡ option_map (λ _. written (Stored w ∷ []) a b) o
-stored_over w a b None = refl
-stored_over w a b (Some permission) = refl
+-- the pages after writes
+written_over : (ws : List Write) (a b : ℕ) (o : Option ℕ) → option_map (written ws a) (option_map (λ _. b) o) ≡ option_map (λ _. written ws a b) o
+written_over ws a b None = refl
+written_over ws a b (Some permission) = refl
 
-pub pages_stored : (ps : Pages) (lowest : ℕ) (byte : ℕ → ℕ) (w : Store) (m m' : Map) → HoldsPages ps lowest byte m → IsStored w m m'
-    → HoldsPages ps lowest (λ a. written (Stored w ∷ []) a (byte a)) m'
-pages_stored ps lowest byte w m m' holds is = record {
+pub pages_written : (ps : Pages) (lowest : ℕ) (byte : ℕ → ℕ) (ws : List Write) (m m' : Map) → HoldsPages ps lowest byte m → IsWritten ws m m'
+    → HoldsPages ps lowest (λ a. written ws a (byte a)) m'
+pages_written ps lowest byte ws m m' holds is = record {
   permissions = λ n. is.permissions n ∙ holds.permissions n;
-  held = λ a. is.held a ∙ ap (option_map (byte_over w a)) (holds.held a) ∙ stored_over w a (byte a) (permission_of ps.runs (a / 4096));
+  held = λ a. is.held a ∙ ap (option_map (written ws a)) (holds.held a) ∙ written_over ws a (byte a) (permission_of ps.runs (a / 4096));
   free = is.free ∙ holds.free;
   break_at = is.break_at ∙ holds.break_at;
   break_start = is.break_start ∙ holds.break_start;
 }
 
-pub readable_stored : (w : Store) (m m' : Map) → IsReadable m → IsStored w m m' → IsReadable m'
-readable_stored w m m' readable is n may = ap can_read (is.permissions n) ∙ readable n (sym (ap can_write (is.permissions n)) ∙ may)
+pub readable_written : (ws : List Write) (m m' : Map) → IsReadable m → IsWritten ws m m' → IsReadable m'
+readable_written ws m m' readable is n may = ap can_read (is.permissions n) ∙ readable n (sym (ap can_write (is.permissions n)) ∙ may)

@@ -9,7 +9,7 @@ use Rattle.mach_types.specs.Kernel.Threads.{is_stuck, state_of}
 use Rattle.mach_types.specs.declared.events.Hart.{Hart}
 use Rattle.mach_types.specs.declared.threads.ThreadState.TheVariants.{Running}
 use Rattle.block_model.specs.Here.{is_writable, memory, runs}
-use Rattle.mach_types.specs.Kernel.Record.{Kernel}
+use Rattle.block_model.specs.Record.{Kernel}
 use Rattle.hart_state.specs.declared.hart.HartState.{HartState}
 use Rattle.page_map.specs.Map.{byte_in, can_write_in}
 use Rattle.block_model.specs.Setting.{Seen}

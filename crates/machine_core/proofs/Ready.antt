@@ -66,7 +66,7 @@ ready m h l x machine chosen fits goes same value =
     let events_at : events h.0 (history s (fits.lent_at ++ fits.since)) ≡ events h.0 (history s fits.lent_at) =
     ap (λ g. events h.0 (history s g)) fits.whole ∙ (same ∙ (kept.1 ∙ ap (λ (a : Stretch). a.events) began.is)) in
     let stayed : HasStayed s h.0 began.thread (history s fits.lent_at) (past_of m) =
-    subst (λ g. HasStayed s h.0 began.thread (history s fits.lent_at) (history s g)) fits.whole (stays s h.0 began.thread fits.lent_at fits.since run began.runs events_at) in
+    subst (λ g. HasStayed s h.0 began.thread (history s fits.lent_at) (history s g)) fits.whole (stays s h.0 began.thread fits.lent_at fits.since run.allowed began.runs events_at) in
     let all = machine.tied.all_harts in
     let in_list : h.0 < length m.parts.harts.items = omega (arith, all, began.lt) in
     let is = hart_read m h.0 x machine began.lt value in

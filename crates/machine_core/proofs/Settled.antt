@@ -73,6 +73,7 @@ tied_with s p m m' sight generators h c tied harts pages kernel ended = record {
   readable = rw pages tied.readable;
   threads = rw kernel tied.threads;
   scheduling = rw kernel tied.scheduling;
+  areas = rw kernel tied.areas;
   console = rw kernel tied.console;
   table = rw kernel tied.table;
   saved = rw kernel tied.saved;

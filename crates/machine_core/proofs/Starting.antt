@@ -16,6 +16,7 @@ use Rattle.hart_state.specs.State.{idle_hart}
 use Rattle.kernel_threads.specs.Table.{IsTable, saved_of, start_table}
 use Rattle.page_map.specs.Map.{break_in, break_start_in, free_in, held_in, may_write, permission_in}
 use Rattle.page_map.proofs.Laws.{write_alone}
+use Rattle.sys_calls.specs.Registered.{areas_by_number}
 use Rattle.block_model.specs.Kernel.{first_kernel}
 use Rattle.block_model.specs.Plain.{plain_start}
 use Rattle.block_model.specs.Setting.{Setting, setting_of as setting_by}
@@ -71,9 +72,9 @@ pub tied-start : (image : Image) (limits : Limits) (seed : ℕ) (m : Parts) → 
     ((a : ℕ) → held_in m.pages a ≡ cond (is_some (permission_of (start_runs image.pages.items) (a / 4096))) (Some (start_byte (program_of image) a)) None) →
     free_in m.pages + 65 + length image.pages.items ≡ limits.frames → break_in m.pages ≡ image.break_at → break_start_in m.pages ≡ image.break_at →
     length m.harts.items ≡ limits.harts → All (λ hart. hart ≡ idle_hart) m.harts.items →
-    m.kernel.threads ≡ start_table (start_file (program_of image)) → m.kernel.ready ≡ (first_kernel (setting_by image limits seed)).scheduling → m.kernel.console ≡ [] → IsTable m.kernel.threads → m.ended ≡ None →
+    m.kernel.threads ≡ start_table (start_file (program_of image)) → m.kernel.ready ≡ (first_kernel (setting_by image limits seed)).scheduling → m.kernel.console ≡ [] → areas_by_number m.kernel.areas.items ≡ [] → IsTable m.kernel.threads → m.ended ≡ None →
     IsTied (setting_by image limits seed) (plain_start (setting_by image limits seed)) m
-tied-start image limits seed m allowed permissions held free break_at break_start count idles threads ready console table ended = record {
+tied-start image limits seed m allowed permissions held free break_at break_start count idles threads ready console areas table ended = record {
   all_harts = count;
   harts = λ h lt.
       let at = each idle_hart m.harts.items h idles (omega (arith, count)) in
@@ -92,6 +93,7 @@ tied-start image limits seed m allowed permissions held free break_at break_star
       ap can_read (permissions n) ∙ (and_parts (can_read o) (can_write o) whole).0;
   threads = ap (λ t. t.threads) threads;
   scheduling = ready;
+  areas = areas;
   console = console;
   table = table;
   saved = λ u x is. saved_start (start_file (program_of image)) u x (ap (λ t. saved_of u t.saved) (sym threads) ∙ is);

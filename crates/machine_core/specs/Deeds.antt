@@ -23,7 +23,7 @@ entry_from h k (Some t) pc = record { hart = h; kind = k; tid = t; pc = pc }
 abbrev pub hart_after_call : CallEnd → Saved → HartState → HartState
 hart_after_call end saved x =
     if gives_up end
-    then record x { file = no_registers; pc = 0; running = None; reserved = None }
+    then record x { file = no_registers; pc = 0; running = None; reserved = None; cid = 0 }
     else record x { file = saved.file; pc = saved.pc; reserved = None }
 
 -- how the run has ended after a call

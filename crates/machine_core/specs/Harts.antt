@@ -5,6 +5,7 @@ use Rattle.mach_types.specs.Registers.{no_registers}
 use Rattle.mach_types.specs.declared.threads.Saved.{Saved}
 use Rattle.hart_state.specs.declared.hart.HartState.{HartState}
 use Rattle.block_model.specs.Here.{Here, runs, waiting_here}
+use Rattle.block_model.specs.Ids.{id_of}
 use Rattle.block_model.specs.Plain.{Plain, here_in_plain}
 use Rattle.block_model.specs.Setting.{Setting}
 use Rattle.block_model.specs.Sights.{thread}
@@ -14,9 +15,14 @@ abbrev pub file_on : Here → Option ℕ → Saved
 file_on here None = record { file = no_registers; pc = 0 }
 file_on here (Some t) = here.file t
 
--- the state of the hart: its thread, that thread's registers and pc; its waiting stores and its reservation; how many
+-- the id that its thread holds; 0 on an idle hart
+abbrev pub id_on : Here → Option ℕ → ℕ
+id_on here None = 0
+id_on here (Some t) = id_of t here.kernel.ids
+
+-- the state of the hart: its thread, that thread's registers, pc and id; its waiting stores and its reservation; how many
 -- instructions it executed since a thread began to run there, how many events it made, and its credit. No barrier asks for
--- anything, and no thread holds another id than 0
+-- anything
 abbrev pub hart_in : Here → ℕ → ℕ → ℕ → HartState
 hart_in here ran events credit = record {
   file = (file_on here (runs here)).file;
@@ -30,7 +36,7 @@ hart_in here ran events credit = record {
   ran = ran;
   credit = credit;
   events = events;
-  cid = 0;
+  cid = id_on here (runs here);
 }
 
 -- the file that a hart keeps of its thread

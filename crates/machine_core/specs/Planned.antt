@@ -1,5 +1,5 @@
 -- The next instruction of a thread that may be executed.
-use Rattle.std.specs.Prelude.{ℕ, ◌≡◌, Some, None, IfSome}
+use Rattle.std.specs.Prelude.{ℕ, ◌≡◌, Bool, Some, None, IfSome}
 use Rattle.mach_types.specs.declared.events.Choice.TheVariants as asked
 use Rattle.mach_types.specs.declared.events.Entry.{Entry}
 use Rattle.rv_inst.specs.Sizes.{HasAccessSizes}
@@ -9,6 +9,7 @@ use Rattle.block_model.specs.Events.{refusal_of, done_of}
 use Rattle.block_model.specs.Events.Exec.{next_effect, next_fault}
 use Rattle.block_model.specs.Deciding.{entry_in}
 use Rattle.block_model.specs.Plain.{here_of}
+use Rattle.block_model.specs.Sequences.{is_inside_here}
 use Rattle.machine_core.specs.Tied.{IsPlace, IsAfter}
 use Rattle.machine_core.specs.declared.next.Next.{Next}
 use Rattle.machine_core.specs.declared.parts.Parts.{Parts}
@@ -27,6 +28,11 @@ pub record HasPlan (m : Parts) (h : ℕ) (next : Next) : Type 0 where
   pub seen : Seen
   pub place : IsPlace seen m h
   pub plan : IsPlanned seen h next
+
+-- whether the thread that runs on hart h at a place is inside a good sequence is this
+abbrev pub IsInside : Bool → Parts → ℕ → Type 0
+IsInside inside m h =
+    (v : Seen) (t : ℕ) → IsPlace v m h → runs (here_of v h) ≡ Some t → is_inside_here (here_of v h) t ≡ inside
 
 -- at each place where this is planned the entry is that of the event, and the parts are those after it
 pub record IsExecuted (m : Parts) (h : ℕ) (next : Next) (made : Entry) (m' : Parts) : Type 0 where

@@ -1,13 +1,13 @@
 //! `exec`: an instruction, its fault, or a call.
 
-ghost use Rattle.std.specs.Prelude.{◌≡◌, Option, Some, None, false, IfOk, IfErr, OnErr};
+ghost use Rattle.std.specs.Prelude.{◌≡◌, Option, Some, None, true, false, IfOk, IfErr, OnErr};
 ghost use Rattle.rv_inst.specs.Class.{is_call};
 ghost use Rattle.block_model.specs.Setting.{Seen};
 ghost use Rattle.block_model.specs.Events.{done_of, refusal_of};
 ghost use Rattle.block_model.specs.Plain.{here_of};
 ghost use Rattle.sys_calls.specs.Made.{process_end};
 ghost use Rattle.machine_core.specs.Deeds.{hart_after_call, over_after};
-ghost use Rattle.machine_core.specs.Planned.{IsPlanned, HasPlan, IsExecuted};
+ghost use Rattle.machine_core.specs.Planned.{IsPlanned, IsInside, HasPlan, IsExecuted};
 ghost use Rattle.machine_core.specs.Tied.{IsPlace, HasCode, IsAfter, answer_to};
 
 use crate::code::Code;
@@ -15,6 +15,7 @@ use crate::next::{Next, next_of};
 use crate::parts::{Parts, entry_of};
 use crate::reservations::lose_others;
 use hart_state::HartState;
+use mach_types::signals::SIGSEGV;
 use mach_types::{Choice, End, Entry, Hart, Kind, Saved, Why};
 use rv_inst::Effect;
 use sys_calls::{CallEnd, make_call};
@@ -76,10 +77,25 @@ impl Parts {
         }
     }
 
-    /// A call.
-    #[inline(never)]
-    fn call(&mut self, hart: Hart) -> Entry
-        requires { HasPlan self.old hart.0 (record { effect = Some Effect.Call; fault = None }) }
+    /// A call inside a restartable sequence: the process is killed, and the hart's reservation ends.
+    fn call_inside(&mut self, hart: Hart) -> Entry
+        requires plan { HasPlan self.old hart.0 (record { effect = Some Effect.Call; fault = None }) }
+        requires inside { IsInside true self.old hart.0 }
+        ensures { IsExecuted self.old hart.0 (record { effect = Some Effect.Call; fault = None }) result self.new }
+    {
+        let state = &mut self.harts[hart.0 as usize];
+        let entry = entry_of(hart, Kind::Exec, state);
+        state.reserved = None;
+        state.ran += 1;
+        state.events += 1;
+        self.ended = Some(End::Killed(SIGSEGV));
+        entry
+    }
+
+    /// A call outside.
+    fn call_outside(&mut self, hart: Hart) -> Entry
+        requires plan { HasPlan self.old hart.0 (record { effect = Some Effect.Call; fault = None }) }
+        requires outside { IsInside false self.old hart.0 }
         ensures { IsExecuted self.old hart.0 (record { effect = Some Effect.Call; fault = None }) result self.new }
     {
         let harts = self.harts.len() as u8;
@@ -106,6 +122,19 @@ impl Parts {
         lose_others(&mut self.harts, hart, done.written.as_slice());
         self.ended = self.end_after(done.end);
         entry
+    }
+
+    /// A call.
+    #[inline(never)]
+    fn call(&mut self, hart: Hart) -> Entry
+        requires { HasPlan self.old hart.0 (record { effect = Some Effect.Call; fault = None }) }
+        ensures { IsExecuted self.old hart.0 (record { effect = Some Effect.Call; fault = None }) result self.new }
+    {
+        if self.is_inside(hart) {
+            self.call_inside(hart)
+        } else {
+            self.call_outside(hart)
+        }
     }
 
     /// The next instruction of the thread on a hart.

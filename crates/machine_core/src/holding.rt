@@ -38,13 +38,17 @@ fn waits_in_any(harts: &[HartState], pages: PageSpan) -> bool
 }
 
 impl Parts {
-    /// Whether a byte of a store that waits on some hart lies on a page that the call of a hart's thread would take.
+    /// Whether a byte of a store that waits on some hart lies on a page that the call of a hart's thread would take. A call inside
+    /// a sequence takes none.
     #[inline(never)]
     fn is_held(&self, hart: Hart) -> bool
         requires { hart.0 < length self.now.harts.items }
         ensures { (s : Setting) (p : Plain) (t : ℕ) → IsTied s p self.now → hart.0 < s.limits.harts
             → runs (here_in_plain s p hart.0) ≡ Some t → result ≡ is_held (here_in_plain s p hart.0) t }
     {
+        if self.is_inside(hart) {
+            return false;
+        }
         let state = &self.harts[hart.0 as usize];
         let taken = pages_taken(&self.pages, &state.file);
         waits_in_any(&self.harts, taken)

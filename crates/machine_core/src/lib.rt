@@ -3,9 +3,11 @@
 //! Every log is a block run: each entry is the one that the definitions of `block_model` allow at its place.
 #![tactic(auto)]
 
+mod beginning;
 mod code;
 mod executing;
 mod following;
+mod hart_view;
 mod holding;
 mod machine;
 mod moving;
@@ -13,6 +15,7 @@ mod next;
 mod parts;
 mod reservations;
 mod search;
+mod sequences;
 mod stretches;
 #[cfg(test)]
 mod tests;

@@ -17,6 +17,7 @@ mod readers;
 
 use crate::code::Code;
 use crate::parts::Parts;
+use arrayvec::ArrayVec;
 use block_model::Refused;
 use chooser::Chooser;
 use elf_load::Image;
@@ -112,6 +113,7 @@ impl Machine {
         let console = Console::new(alloc)?;
         let log = Vec::with_capacity(alloc, limits.steps as usize)?;
         let ready = Ready::new(limits.harts);
+        let areas = ArrayVec::new();
         let chooser = Chooser::new(seed);
         Ok(Machine {
             code,
@@ -128,6 +130,7 @@ impl Machine {
                     threads,
                     ready,
                     console,
+                    areas,
                 },
                 ended: None,
             },

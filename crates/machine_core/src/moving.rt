@@ -8,7 +8,7 @@ ghost use Rattle.block_model.specs.Setting.{Seen};
 ghost use Rattle.block_model.specs.Events.{done_of, refusal_of};
 ghost use Rattle.block_model.specs.Plain.{here_of};
 ghost use Rattle.machine_core.specs.Losing.{lost_unless};
-ghost use Rattle.machine_core.specs.Stored.{IsStored};
+ghost use Rattle.machine_core.specs.Stored.{IsWritten};
 ghost use Rattle.machine_core.specs.Tied.{IsPlace, HasPlace, MayMake, IsAfter, IsEvent, answer_to};
 
 use crate::parts::{Parts, entry_of};
@@ -28,19 +28,31 @@ impl Parts {
         }
     }
 
+    /// The harts other than one lose their reservations of bytes that were written.
+    #[inline]
+    pub fn lose(&mut self, hart: Hart, writes: &[Write])
+        ensures harts { (k : ℕ) → slice_get self.new.harts.items k
+            ≡ option_map (lost_unless (nat_eq k hart.0) writes.now) (slice_get self.old.harts.items k) }
+        ensures pages { self.new.pages ≡ self.old.pages }
+        ensures kernel { self.new.kernel ≡ self.old.kernel }
+        ensures ended { self.new.ended ≡ self.old.ended }
+    {
+        lose_others(&mut self.harts, hart, writes);
+    }
+
     /// A store of a hart, whose bytes can be written, enters memory: the other harts lose their reservations of its bytes.
     #[inline]
     pub fn enter(&mut self, hart: Hart, store: Store)
         requires size { IsAccessSize store.size }
         requires writable { each_byte (can_write_in self.old.pages) store.at store.size ≡ true }
-        ensures pages { IsStored store self.old.pages self.new.pages }
+        ensures pages { IsWritten (Write.Stored store ∷ []) self.old.pages self.new.pages }
         ensures harts { (k : ℕ) → slice_get self.new.harts.items k
             ≡ option_map (lost_unless (nat_eq k hart.0) (Write.Stored store ∷ [])) (slice_get self.old.harts.items k) }
         ensures kernel { self.new.kernel ≡ self.old.kernel }
         ensures ended { self.new.ended ≡ self.old.ended }
     {
         let _ = self.pages.set(store.at, store.size, store.value);
-        lose_others(&mut self.harts, hart, &[Write::Stored(store)]);
+        self.lose(hart, &[Write::Stored(store)]);
     }
 
     /// The oldest waiting store of a hart enters memory.
@@ -127,19 +139,6 @@ impl Parts {
         } else {
             None
         }
-    }
-
-    /// A ready thread begins to run on an idle hart.
-    fn begun(&mut self, hart: Hart, tid: Tid) -> Entry
-        requires { MayMake self.old hart.0 (Choice.Run tid) }
-        ensures { IsEvent self.old hart.0 (Choice.Run tid) result self.new }
-    {
-        let saved = self.kernel.threads.run(tid, hart);
-        let _ready = self.kernel.ready.take(tid);
-        let state = &mut self.harts[hart.0 as usize];
-        state.enter(tid, saved);
-        state.events += 1;
-        entry_of(hart, Kind::Run, state)
     }
 
     /// `run`.

@@ -23,7 +23,7 @@ pub struct Parts {
     pub pages: PageMap,
     /// The harts, by number.
     pub harts: Vec<HartState>,
-    /// The threads, the ready list and the console.
+    /// The threads, the ready list, the areas and the console.
     pub kernel: Kernel,
     /// How the run has ended, if it has.
     pub ended: Option<End>,

@@ -9,4 +9,5 @@ mod pages;
 mod player;
 mod readers;
 mod reservations;
+mod sequences;
 mod threads;

@@ -1,4 +1,5 @@
 mod Accesses
+mod Alike
 mod Keeping
 pub mod Laws
 mod Maps

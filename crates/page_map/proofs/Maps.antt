@@ -1,5 +1,5 @@
 -- What a page map shows and keeps where a page is found, mapped or written.
-use Rattle.std.proofs.Common.{◌≡◌, ◌≢◌, ℕ, ◌+◌, ◌-◌, ◌^◌, ◌<◌, ◌≤◌, ◌⊎◌, inl, inr, Bool, true, false, cond, is_some, List, [], ◌∷◌, ◌++◌, Option, Some, None, length, get_or, nat_eq, refl, sym, ap, ◌∙◌, subst, arith, length-append, eq-eqb, slice_get, slice_set, zero, suc}
+use Rattle.std.proofs.Common.{◌≡◌, ◌≢◌, ℕ, ◌+◌, ◌-◌, ◌<◌, ◌≤◌, ◌⊎◌, inl, inr, cond, is_some, List, [], ◌∷◌, ◌++◌, Option, Some, None, length, get_or, nat_eq, refl, sym, ap, ◌∙◌, subst, arith, length-append, eq-eqb, slice_get, slice_set, zero, suc}
 use Rattle.std.specs.Prelude.{All}
 use Rattle.std.specs.Option.{option_and_then, option_map}
 use Rattle.std.proofs.lemmas.Bool.{cases_eq, ne_eqb}
@@ -13,7 +13,7 @@ use Rattle.frame_pool.specs.Held.{AreHeld}
 use Rattle.frame_pool.specs.Pool.{IsTaken, free_count}
 use Rattle.frame_pool.proofs.Laws.{AreHeld-apart, AreHeld-at, AreHeld-push, AreHeld-write, IsTaken-apart, free_count-taking, free_count-writing, slice_get-append_left, slice_get-set_other, slice_get-set_same}
 use Rattle.page_map.specs.Map.{Map, Page, frame_bytes, page_at, page_in, page_with, permission_in}
-use Rattle.page_map.specs.Mapping.{CanLie, IsMap, StandsAt, frames_of}
+use Rattle.page_map.specs.Mapping.{CanLie, IsMap, frames_of}
 use Rattle.page_map.specs.declared.map.PageMap.TheInside.{Inside}
 use Rattle.page_map.specs.Table.{Table, place_in}
 use Rattle.page_map.specs.declared.mapped_page.MappedPage.{MappedPage}

@@ -1,18 +1,17 @@
 -- A page gets another permission.
-use Rattle.std.proofs.Common.{◌≡◌, ◌≢◌, ℕ, ◌+◌, ◌<◌, ◌≤◌, ◌^◌, inl, inr, cond, List, [], ◌∷◌, zero, suc, Bool, true, false, Option, Some, None, length, nat_eq, slice_get, slice_set, refl, sym, ap, ◌∙◌, subst, arith, eq-eqb}
+use Rattle.std.proofs.Common.{◌≡◌, ◌≢◌, ℕ, inl, inr, cond, List, [], ◌∷◌, zero, suc, false, Some, nat_eq, slice_get, slice_set, refl, sym, ap, ◌∙◌, subst, arith, eq-eqb}
 use Rattle.std.specs.Option.{option_map}
 use Rattle.std.proofs.lemmas.Bool.{cases_eq, ne_eqb}
 use Rattle.std.proofs.lemmas.List.{length-set}
 use Rattle.mach_types.specs.Kernel.Pages.{can_execute}
 use Rattle.elf_load.specs.Images.{IsPermission}
 use Rattle.frame_pool.specs.Held.{AreHeld}
-use Rattle.frame_pool.specs.Pool.{free_count}
 use Rattle.frame_pool.proofs.Laws.{slice_get-set_other, slice_get-set_same}
-use Rattle.page_map.specs.Map.{Map, Page, page_at, page_in, protected_page}
-use Rattle.page_map.specs.Mapping.{CanLie, IsMap, StandsAt, frames_of}
+use Rattle.page_map.specs.Map.{Map, page_in, protected_page}
+use Rattle.page_map.specs.Mapping.{CanLie, IsMap, frames_of}
 use Rattle.page_map.specs.Table.{place_in}
 use Rattle.page_map.specs.declared.mapped_page.MappedPage.{MappedPage}
-use Rattle.page_map.proofs.Maps.{all-of, one-page, page-lies, page-none, page-permission, page-some, place-own, place_or_none, some-one}
+use Rattle.page_map.proofs.Maps.{all-of, one-page, page-lies, page-none, page-permission, page-some, place-own, place_or_none}
 
 frames-same : (mapped : List MappedPage) (i : ℕ) (p q : MappedPage) → slice_get mapped i ≡ Some p → q.frame ≡ p.frame
     → frames_of (slice_set mapped i q) ≡ frames_of mapped

@@ -1,14 +1,12 @@
 -- A page is mapped no longer: the last page of the list takes its place.
-use Rattle.std.proofs.Common.{◌≡◌, ◌≢◌, ℕ, ◌+◌, ◌-◌, ◌<◌, ◌≤◌, ◌^◌, inl, inr, cond, List, [], ◌∷◌, zero, suc, Option, Some, None, length, get_or, nat_eq, slice_get, slice_set, refl, sym, ap, ◌∙◌, subst, arith, eq-eqb}
-use Rattle.std.specs.Prelude.{All}
-use Rattle.std.specs.Option.{option_map}
+use Rattle.std.proofs.Common.{◌≡◌, ◌≢◌, ℕ, ◌+◌, ◌-◌, ◌<◌, ◌≤◌, inl, inr, cond, List, [], ◌∷◌, zero, suc, Option, Some, None, length, get_or, nat_eq, slice_get, slice_set, refl, sym, ap, ◌∙◌, subst, arith, eq-eqb}
 use Rattle.std.proofs.lemmas.Bool.{cases_eq, ne_eqb}
 use Rattle.std.proofs.lemmas.Option.{slice_get-get_or, slice_get_within}
 use Rattle.elf_load.specs.Images.{IsPermission}
 use Rattle.frame_pool.specs.Held.{AreHeld}
 use Rattle.frame_pool.specs.Pool.{IsTaken, free_count}
 use Rattle.frame_pool.proofs.Laws.{AreHeld-apart, AreHeld-of, IsTaken-other, free_count-giving}
-use Rattle.page_map.specs.Map.{Map, page_at, page_in}
+use Rattle.page_map.specs.Map.{Map, page_in}
 use Rattle.page_map.specs.Mapping.{CanLie, IsMap, StandsAt, frames_of}
 use Rattle.page_map.specs.Table.{Table, place_in}
 use Rattle.page_map.specs.declared.mapped_page.MappedPage.{MappedPage}

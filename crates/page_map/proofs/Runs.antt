@@ -1,11 +1,10 @@
 -- Pages one behind the other: what a run of pages does to what a map shows, and what is known on the way.
-use Rattle.std.proofs.Common.{◌≡◌, ◌≢◌, ℕ, zero, suc, ◌+◌, ◌-◌, ◌/◌, ◌%◌, ◌<◌, ◌≤◌, ◌&&◌, inl, inr, ◌⊎◌, Bool, true, false, not, cond, is_none, is_some, List, Option, Some, None, nat_eq, nat_le, nat_lt, get_or, refl, sym, ap, ◌∙◌, subst, arith, eq-eqb}
+use Rattle.std.proofs.Common.{◌≡◌, ℕ, ◌+◌, ◌-◌, ◌/◌, ◌%◌, ◌<◌, ◌≤◌, ◌&&◌, inl, inr, ◌⊎◌, Bool, true, false, not, cond, is_none, is_some, Option, Some, None, nat_eq, nat_le, refl, sym, ap, ◌∙◌, arith, eq-eqb}
 use Rattle.std.specs.Option.{option_map}
 use Rattle.std.proofs.lemmas.Bool.{cases_eq, cases_lt, le-leb, le-ltb, leb-true, lt-leb, lt-ltb, ne_eqb}
-use Rattle.mach_types.specs.Kernel.Pages.{PageRun, can_execute, can_read, count_pages, each_page, first_page, fits_at, is_hole, is_in, is_without_code, lets, lowest_hole, mapped_count, pages_of, run, run_over}
+use Rattle.mach_types.specs.Kernel.Pages.{PageRun, can_execute, first_page, fits_at, is_hole, is_in, is_without_code, lowest_hole, mapped_count, pages_of, run, run_over}
 use Rattle.mach_types.specs.Kernel.PageCalls.{has_prot, permission_for}
-use Rattle.mach_types.proofs.Laws.{IsFirst, count_pages-more, count_pages-none, count_pages-one, each_page-at, each_page-fails, each_page-of, first_page-is, first_page-no, first_page-none, first_page-some}
-use Rattle.frame_pool.specs.Pool.{fresh}
+use Rattle.mach_types.proofs.Laws.{count_pages-more, count_pages-none, count_pages-one, each_page-at, each_page-fails, each_page-of, first_page-is, first_page-no, first_page-none, first_page-some}
 use Rattle.frame_pool.proofs.Laws.{fresh-at}
 use Rattle.page_map.specs.Map.{Map, Page, break_in, break_start_in, byte_at, bytes_if, code_in, free_in, held_in, held_over, page_in, page_over, permission_in, protected_page, zero_page}
 use Rattle.page_map.specs.Mapping.{CanLie}
@@ -62,6 +61,17 @@ and-right false c e = refl
 and-both : (b c : Bool) → b ≡ true → c ≡ true → (b && c) ≡ true
 and-both true c e f = f
 and-both false c e f = e
+
+-- and none before the first page that isn't mapped
+pub hole-start : (permission : ℕ → Option ℕ) (count first : ℕ) → 0 < count → 33554432 ≤ first → first ≤ 67108608
+    → ((n : ℕ) → 33554432 ≤ n → n < first → is_some (permission n) ≡ true) → NoHoleBefore permission count first
+hole-start permission count first some from end filled = record {
+  low = from;
+  high = end;
+  none = λ k after below.
+      and-left (is_hole permission k count) (nat_le (k + count) 67108608)
+      (each_page-fails (λ j. is_none (permission j)) k count k (omega arith) (omega arith) (not-none (permission k) (filled k after below)));
+}
 
 module _ (permission : ℕ → Option ℕ) (count first : ℕ) (before : NoHoleBefore permission count first) where
   -- a mapped page is passed, which stands in the way

@@ -1,11 +1,11 @@
 -- A table of pages: a new one, and one in which a page gets a place.
-use Rattle.std.proofs.Common.{◌-◌, ◌≡◌, ◌≢◌, ℕ, zero, suc, ◌+◌, ◌*◌, ◌/◌, ◌%◌, ◌^◌, ◌<◌, ◌≤◌, inl, inr, Bool, true, false, cond, not, is_none, is_some, List, [], ◌∷◌, ◌++◌, Option, Some, None, length, replicate, get_or, set, nat_eq, nat_lt, refl, sym, ap, ◌∙◌, subst, arith, length-append, eq-eqb}
+use Rattle.std.proofs.Common.{◌-◌, ◌≡◌, ◌≢◌, ℕ, zero, suc, ◌+◌, ◌*◌, ◌/◌, ◌%◌, ◌<◌, ◌≤◌, inl, inr, Bool, true, false, cond, is_some, List, [], ◌∷◌, ◌++◌, Option, Some, None, length, replicate, get_or, set, nat_eq, nat_lt, refl, sym, ap, ◌∙◌, subst, arith, length-append, eq-eqb}
 use Rattle.std.specs.Prelude.{All}
-use Rattle.std.proofs.lemmas.Bool.{cases_eq, cases_lt, lt-ltb, le-ltb, ne_eqb}
+use Rattle.std.proofs.lemmas.Bool.{cases_eq, cases_lt, le-leb, lt-leb, lt-ltb, le-ltb, ne_eqb}
 use Rattle.std.proofs.lemmas.List.{get_or-set_same, get_or-set_other, get_or_append_left, get_or-append_right, length-set, length-replicate}
 use Rattle.std.proofs.lemmas.List.Elements.{All-append, All-set}
 use Rattle.std.proofs.lemmas.List.Sums.{sum_by-cons, sum_by-set}
-use Rattle.page_map.specs.Layout.{IsTable, bare_count, directory_with, empty_leaf, leaves_with}
+use Rattle.page_map.specs.Layout.{IsFilled, IsTable, bare_count, directory_with, empty_leaf, filled_with, leaves_with}
 use Rattle.mach_types.specs.Kernel.Pages.{first_page}
 use Rattle.mach_types.proofs.Laws.{first_page-is, first_page-none}
 use Rattle.page_map.specs.Table.{Table, place_in}
@@ -317,3 +317,65 @@ module _ (t : Table) (from page : ℕ) (passed : NoneBefore t from page) where
   found-none end past =
       let low = passed.low in
       sym (first_page-none (λ n. is_some (place_in t n)) from (end - from) (λ k from_here to. passed.none k from_here (omega arith)))
+
+-- no page is filled at first
+pub new-filled : (t : Table) → IsFilled t 33554432
+new-filled t = record { from = omega arith; placed = λ n low high. absurd (omega arith) }
+
+-- one more page with a place
+pub filled-next : (t : Table) (page : ℕ) → IsFilled t page → is_some (place_in t page) ≡ true → IsFilled t (page + 1)
+filled-next t page filled some = record {
+  from = let low = filled.from in omega arith;
+  placed = λ n low high. elim (cases_eq n page) [
+    | inl here ↦ ap (λ k. is_some (place_in t k)) here ∙ some
+    | inr two ↦ filled.placed n low (omega arith)
+  ];
+}
+
+-- how far pages have places, once one gets a place, or has none any more
+module _ (t t' : Table) (filled_to page : ℕ) where
+  set-beside : (place : Option ℕ) → ((n : ℕ) → place_in t' n ≡ cond (nat_eq n page) place (place_in t n))
+      → (n : ℕ) → n ≢ page → is_some (place_in t n) ≡ true → is_some (place_in t' n) ≡ true
+  set-beside place places n two some = ap is_some (places n) ∙ rw (ne_eqb n page two) some
+
+  set-some : (p : ℕ) → ((n : ℕ) → place_in t' n ≡ cond (nat_eq n page) (Some p) (place_in t n)) → IsFilled t filled_to
+      → IsFilled t' filled_to
+  set-some p places filled = record {
+    from = filled.from;
+    placed = λ n low high. elim (cases_eq n page) [
+      | inl here ↦ ap is_some (places n) ∙ rw (eq-eqb n page here) refl
+      | inr two ↦ set-beside (Some p) places n two (filled.placed n low high)
+    ];
+  }
+
+  set-none : (to : ℕ) → ((n : ℕ) → place_in t' n ≡ cond (nat_eq n page) None (place_in t n)) → IsFilled t filled_to
+      → 33554432 ≤ to → to ≤ filled_to → (33554432 ≤ page → to ≤ page) → IsFilled t' to
+  set-none to places filled from below apart = record {
+    from = from;
+    placed = λ n low high. elim (cases_eq n page) [
+      | inl here ↦ let past : to ≤ page = apart (omega arith) in absurd (omega arith)
+      | inr two ↦ set-beside None places n two (filled.placed n low (omega arith))
+    ];
+  }
+
+  pub filled-set : (place : Option ℕ) → IsFilled t filled_to
+      → ((n : ℕ) → place_in t' n ≡ cond (nat_eq n page) place (place_in t n)) → IsFilled t' (filled_with filled_to page place)
+  filled-set (Some p) filled places = elim (cases_eq page filled_to) [
+    | inl same ↦
+        let here : is_some (place_in t' page) ≡ true = ap is_some (places page) ∙ rw (eq-eqb page page refl) refl in
+        rw (eq-eqb page filled_to same) (filled-next t' page (subst (IsFilled t') (sym same) (set-some p places filled)) here)
+    | inr two ↦ rw (ne_eqb page filled_to two) (set-some p places filled)
+  ]
+  filled-set None filled places = elim (cases_lt page 33554432) [
+    | inl below ↦
+        let low = filled.from in
+        rw (lt-leb 33554432 page below) (set-none filled_to places filled low (omega arith) (λ from. absurd (omega arith)))
+    | inr from ↦ elim (cases_lt page filled_to) [
+      | inl before ↦
+          rw (le-leb 33554432 page from, lt-ltb page filled_to before)
+          (set-none page places filled from (omega arith) (λ low. omega arith))
+      | inr past ↦
+          let low = filled.from in
+          rw (le-leb 33554432 page from, le-ltb page filled_to past) (set-none filled_to places filled low (omega arith) (λ _. past))
+    ]
+  ]

@@ -1,5 +1,5 @@
 -- Calls that aren't refused: what is known then of their pages, or of the break.
-use Rattle.std.proofs.Common.{◌≡◌, ℕ, zero, suc, ◌+◌, ◌-◌, ◌*◌, ◌/◌, ◌%◌, ◌<◌, ◌≤◌, ◌&&◌, Bool, true, false, not, cond, is_some, eqb, leb, ltb, Option, Some, None, refl, arith}
+use Rattle.std.proofs.Common.{◌≡◌, ℕ, zero, suc, ◌+◌, ◌-◌, ◌/◌, ◌%◌, ◌<◌, ◌≤◌, ◌&&◌, Bool, true, false, not, cond, is_some, eqb, leb, ltb, Option, Some, None, refl, arith}
 use Rattle.std.proofs.lemmas.Bool.{and_parts, eqb-true, leb-true, ltb-false, ne_eqb}
 use Rattle.mach_types.specs.declared.address_space.TheConstants.{MAPPING_START, USER_END}
 use Rattle.mach_types.specs.declared.errors.Errno.{Errno}

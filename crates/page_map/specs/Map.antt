@@ -1,10 +1,13 @@
 -- What a page map shows: the permission and the bytes of each page that is mapped, how many frames are free, and the
 -- break.
-use Rattle.std.specs.Prelude.{ℕ, ◌/◌, ◌%◌, ◌&&◌, Bool, List, [], if◌then◌else◌, Option, Some, None, slice_get, slice_index}
+use Rattle.std.specs.Prelude.{ℕ, ◌≡◌, ◌/◌, ◌%◌, ◌&&◌, Bool, true, false, List, [], ◌∷◌, if◌then◌else◌, Option, Some, None, is_some, slice_get, slice_index}
 use Rattle.std.specs.Option.{option_and_then, option_map}
 use Rattle.byte_views.specs.Words.{with_word}
+use Rattle.mach_types.specs.Bytes.{each_byte}
 use Rattle.mach_types.specs.Kernel.Pages.{PageRun, can_read, can_write, is_in, lets}
 use Rattle.mach_types.specs.declared.address_space.TheConstants.{PAGE_SIZE}
+use Rattle.mach_types.specs.declared.user_memory.Write.{Write}
+use Rattle.mach_types.specs.declared.user_memory.Write.TheVariants.{Stored, Zeroed}
 use Rattle.frame_pool.specs.Pool.{free_count, fresh}
 use Rattle.page_map.specs.Table.{Table, place_in}
 use Rattle.page_map.specs.declared.mapped_page.MappedPage.{MappedPage}
@@ -105,3 +108,22 @@ page_over r page n = if is_in r n then option_map zero_page r.permission else pa
 -- the byte that the page of an address holds once a run of pages was mapped, all zero, or removed, over pages that hold these
 abbrev pub held_over : PageRun → (ℕ → Option ℕ) → ℕ → Option ℕ
 held_over r held a = if is_in r (a / PAGE_SIZE) then option_map (λ _. 0) r.permission else held a
+
+-- two page maps differ in bytes alone, those that can be written
+pub record IsAlike (m : Map) (m' : Map) : Type 0 where
+  pub permissions : (n : ℕ) → permission_in m' n ≡ permission_in m n
+  pub code : (a : ℕ) → code_in m' a ≡ code_in m a
+  pub unwritable : (a : ℕ) → can_write_in m a ≡ false → held_in m' a ≡ held_in m a
+  pub free : free_in m' ≡ free_in m
+  pub break_at : break_in m' ≡ break_in m
+  pub break_start : break_start_in m' ≡ break_start_in m
+
+-- whether each byte of a write can be read
+abbrev pub is_visible : Map → Write → Bool
+is_visible m (Stored s) = each_byte (λ a. is_some (byte_in m a)) s.at s.size
+is_visible m (Zeroed at length) = each_byte (λ a. is_some (byte_in m a)) at length
+
+-- whether each byte of these writes can be read
+abbrev pub are_visible : Map → List Write → Bool
+are_visible m [] = true
+are_visible m (w ∷ ws) = is_visible m w && are_visible m ws

@@ -1,10 +1,10 @@
 -- Laws of any page map, which the impl of UserMem cites.
-use Rattle.std.proofs.Common.{◌≡◌, ℕ, ◌/◌, ◌%◌, ◌^◌, ◌<◌, ◌≤◌, ◌&&◌, Bool, true, false, cond, List, Option, Some, None, get_or, slice_get, refl, ap, arith}
+use Rattle.std.proofs.Common.{◌≡◌, ℕ, ◌/◌, ◌%◌, ◌^◌, ◌<◌, ◌≤◌, ◌&&◌, Bool, true, false, cond, List, Option, Some, None, get_or, slice_get, refl, ap, ◌∙◌, arith}
 use Rattle.std.specs.Prelude.{IsSome}
 use Rattle.std.specs.Option.{option_and_then, option_map}
 use Rattle.std.proofs.lemmas.Bool.{le-ltb}
 use Rattle.mach_types.specs.Kernel.Pages.{can_read, can_write}
-use Rattle.page_map.specs.Map.{Map, Page, byte_at, byte_if, byte_in, bytes_if, can_write_in, may_write, page_at, page_in}
+use Rattle.page_map.specs.Map.{IsAlike, Map, Page, byte_at, byte_if, byte_in, bytes_if, can_write_in, may_write, page_at, page_in}
 use Rattle.page_map.specs.Table.{place_in}
 
 -- no page lies where addresses are 2^38 or more
@@ -44,3 +44,25 @@ by_page offset (Some p) e = readable (can_read (Some p.permission)) (can_write (
 -- what can be written can be read
 pub byte_in-readable : (m : Map) (a : ℕ) → can_write_in m a ≡ true → IsSome (byte_in m a)
 byte_in-readable m a e = by_page (a % 4096) (page_in m (a / 4096)) e
+
+-- a page map is like itself
+pub alike_itself : (m : Map) → IsAlike m m
+alike_itself m = record {
+  permissions = λ n. refl;
+  code = λ a. refl;
+  unwritable = λ a fails. refl;
+  free = refl;
+  break_at = refl;
+  break_start = refl;
+}
+
+-- and what is like a like one is like it
+pub alike_next : (a b c : Map) → IsAlike a b → IsAlike b c → IsAlike a c
+alike_next a b c first second = record {
+  permissions = λ n. second.permissions n ∙ first.permissions n;
+  code = λ at. second.code at ∙ first.code at;
+  unwritable = λ at fails. second.unwritable at (ap may_write (first.permissions (at / 4096)) ∙ fails) ∙ first.unwritable at fails;
+  free = second.free ∙ first.free;
+  break_at = second.break_at ∙ first.break_at;
+  break_start = second.break_start ∙ first.break_start;
+}

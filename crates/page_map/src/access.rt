@@ -4,8 +4,8 @@ ghost use Rattle.std.specs.Prelude.{◌≡◌, ◌==◌, ℕ, ◌+◌, ◌*◌, 
 ghost use Rattle.std.specs.Option.{SomeIff};
 ghost use Rattle.byte_views.specs.Words.{word_at as number_at};
 ghost use Rattle.mach_types.specs.Bytes.{IsAccessSize, after_write, each_byte, word_at};
-ghost use Rattle.page_map.specs.Map.{break_in, break_start_in, byte_if, byte_in, bytes_if, can_write_in, code_in, free_in, held_in, may_write, page_in, permission_in};
-ghost use Rattle.page_map.specs.MapLaws.{byte_in-ends, byte_in-readable, byte_in-small};
+ghost use Rattle.page_map.specs.Map.{IsAlike, break_in, break_start_in, byte_if, byte_in, bytes_if, can_write_in, code_in, free_in, held_in, may_write, page_in, permission_in};
+ghost use Rattle.page_map.specs.MapLaws.{alike_itself, alike_next, byte_in-ends, byte_in-readable, byte_in-small};
 
 use crate::map::{EXECUTE, PageMap, READ, WRITE};
 use byte_views::read_word;
@@ -219,6 +219,8 @@ impl UserMem for PageMap {
 
     ghost can_write = { can_write_in };
 
+    ghost IsAlike = { IsAlike };
+
     fn get(&self, at: u64, size: u8) -> Option<u64> {
         self.word_if(READ, at, size)
     }
@@ -237,6 +239,7 @@ impl UserMem for PageMap {
         ensures free { free_in self.new ≡ free_in self.old }
         ensures break_at { break_in self.new ≡ break_in self.old }
         ensures break_start { break_start_in self.new ≡ break_start_in self.old }
+        ensures alike { IsAlike self.old self.new }
     {
         if is_in_page(at, size) {
             self.set_in_page(at, size, value)
@@ -252,6 +255,10 @@ impl UserMem for PageMap {
             self.writable_across(at, size)
         }
     }
+
+    ghost alike_itself = { alike_itself };
+
+    ghost alike_next = { alike_next };
 
     ghost writable_is_readable = { byte_in-readable };
 

@@ -51,13 +51,29 @@ impl PageMap {
         true
     }
 
-    /// The lowest page at which so many pages can be mapped; None exactly where they fit nowhere.
-    pub(crate) fn lowest_hole(&self, count: u64) -> Option<u64>
+    /// The lowest page at which so many pages can be mapped; None exactly where they fit nowhere. It changes only how
+    /// soon the next one is found.
+    pub(crate) fn lowest_hole(&mut self, count: u64) -> Option<u64>
         requires some { 0 < count }
         requires few { count < 4294967296 }
+        ensures same { self.new ≡ self.old }
+        ensures hole { result ≡ lowest_hole (permission_in self.old) count }
+    {
+        let free = self.first_unmapped();
+        self.hole_from(free, count)
+    }
+
+    /// The lowest page at which so many pages can be mapped, looked for from one on before which each mapping page is
+    /// mapped; None exactly where they fit nowhere.
+    fn hole_from(&self, free: u64, count: u64) -> Option<u64>
+        requires some { 0 < count }
+        requires few { count < 4294967296 }
+        requires from { FIRST_MAPPING_PAGE ≤ free }
+        requires end { free ≤ FIRST_STACK_PAGE }
+        requires filled { (n : ℕ) → FIRST_MAPPING_PAGE ≤ n → n < free → is_some (permission_in self.now n) ≡ true }
         ensures { result ≡ lowest_hole (permission_in self.now) count }
     {
-        let mut first = FIRST_MAPPING_PAGE;
+        let mut first = free;
         while first + count <= FIRST_STACK_PAGE {
             match self.next_mapped(first, first + count) {
                 Some(number) => first = number + 1,

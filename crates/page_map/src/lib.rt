@@ -19,5 +19,6 @@ pub use calls::pages_of;
 pub use map::PageMap;
 pub use table::PageTable;
 pub use theorems::{
-    addresses_end, code_is_bytes, held_bytes_are_seen, lowest_hole_is_lowest, permission_decides,
+    addresses_end, alike_maps_hold_writes, code_is_bytes, held_bytes_are_seen,
+    lowest_hole_is_lowest, permission_decides,
 };

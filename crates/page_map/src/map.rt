@@ -15,7 +15,7 @@ use crate::mapped_page::MappedPage;
 use crate::table::PageTable;
 use byte_views::write_word;
 use frame_pool::{Frame, FramePool};
-use mach_types::address_space::{FIRST_MAPPING_PAGE, MAPPING_START, PAGE_SIZE};
+use mach_types::address_space::{FIRST_MAPPING_PAGE, FIRST_STACK_PAGE, MAPPING_START, PAGE_SIZE};
 use std::alloc::{AllocError, Global};
 use std::marker::Model;
 
@@ -185,6 +185,18 @@ impl PageMap {
         ensures { result ≡ first_page (λ n. is_some (permission_in self.now n)) from (end - from) }
     {
         self.table.next(from, end)
+    }
+
+    /// The first mapping page that isn't mapped, or the first page of the stack where each is. It changes only how soon
+    /// that page is found.
+    pub(crate) fn first_unmapped(&mut self) -> u64
+        ensures same { self.new ≡ self.old }
+        ensures from { FIRST_MAPPING_PAGE ≤ result }
+        ensures end { result ≤ FIRST_STACK_PAGE }
+        ensures filled { (n : ℕ) → FIRST_MAPPING_PAGE ≤ n → n < result → is_some (permission_in self.old n) ≡ true }
+        ensures free { result < FIRST_STACK_PAGE → permission_in self.old result ≡ None }
+    {
+        self.table.pass_filled().min(FIRST_STACK_PAGE)
     }
 
     /// The frame and the permission of a page, where it is mapped.

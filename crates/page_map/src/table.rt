@@ -1,11 +1,11 @@
 //! A table from the numbers of pages to places.
 
-ghost use Rattle.std.specs.Prelude.{◌≡◌, ℕ, ◌-◌, ◌<◌, ◌≤◌, ◌^◌, ◌==◌, if◌then◌else◌, None, IfOk, is_some, length, slice_index, vec_capacity, vec_len};
+ghost use Rattle.std.specs.Prelude.{◌≡◌, ℕ, ◌-◌, ◌<◌, ◌≤◌, ◌^◌, ◌==◌, if◌then◌else◌, None, true, IfOk, is_some, length, slice_index, vec_capacity, vec_len};
 ghost use Rattle.mach_types.specs.Kernel.Pages.{first_page};
-ghost use Rattle.page_map.specs.Layout.{empty_leaf, directory_with, leaves_with};
+ghost use Rattle.page_map.specs.Layout.{empty_leaf, directory_with, filled_with, leaves_with};
 ghost use Rattle.page_map.specs.Table.{place_in};
 
-use mach_types::address_space::{PAGE_SIZE, USER_END};
+use mach_types::address_space::{FIRST_MAPPING_PAGE, PAGE_SIZE, USER_END};
 use std::alloc::{AllocError, Global};
 use std::marker::Model;
 
@@ -25,23 +25,25 @@ const EMPTY_LEAF: u32 = 0;
 type Leaf = [Option<u32>; 512];
 
 /// A table from the numbers of pages, below 2^26, to places. A page is found in two look-ups, however many there
-/// are.
+/// are. Each mapping page before `filled_to` has a place, so that a hole is looked for from there on.
 #[derive(Drop)]
 pub struct PageTable {
     directory: Vec<u32>,
     leaves: Vec<Leaf>,
+    filled_to: u64,
 }
 
 impl Model for PageTable {
     ghost use Rattle.std.specs.Prelude.{vec_capacity};
-    ghost use Rattle.page_map.specs.Layout.{IsTable};
+    ghost use Rattle.page_map.specs.Layout.{IsFilled, IsTable};
     ghost use Rattle.page_map.specs.Table.{Table};
 
     ghost Value = { Table };
 
     ghost view = { λ t. record { directory = t.directory.items; leaves = t.leaves.items } };
 
-    ghost invariant = { λ t. IsTable t.directory.items t.leaves.items (vec_capacity t.leaves) };
+    ghost invariant = { λ t. IsTable t.directory.items t.leaves.items (vec_capacity t.leaves)
+        × IsFilled (record { directory = t.directory.items; leaves = t.leaves.items }) t.filled_to };
 }
 
 impl PageTable {
@@ -53,7 +55,11 @@ impl PageTable {
         let directory = empty_leaves(alloc, CHUNKS as usize)?;
         let mut leaves = Vec::with_capacity(alloc, CHUNKS as usize + 1)?;
         leaves.push(empty_leaf())?;
-        Ok(PageTable { directory, leaves })
+        Ok(PageTable {
+            directory,
+            leaves,
+            filled_to: FIRST_MAPPING_PAGE,
+        })
     }
 
     /// The place of a page; None exactly where it has none, as each page whose number is 2^26 or more.
@@ -78,6 +84,32 @@ impl PageTable {
             (page / CHUNK) as usize,
         );
         self.leaves[leaf][(page % CHUNK) as usize] = place;
+        self.filled_to = filled_with(self.filled_to, page, place);
+    }
+
+    /// The first mapping page that has no place, and `filled_to` moves there. It costs time in the pages from
+    /// `filled_to` on that it passes.
+    pub fn pass_filled(&mut self) -> u64
+        ensures same { self.new ≡ self.old }
+        ensures from { FIRST_MAPPING_PAGE ≤ result }
+        ensures filled { (n : ℕ) → FIRST_MAPPING_PAGE ≤ n → n < result → is_some (place_in self.old n) ≡ true }
+        ensures free { place_in self.old result ≡ None }
+    {
+        self.filled_to = self.first_free();
+        self.filled_to
+    }
+
+    /// The first mapping page that has no place, which is `filled_to` or lies past it.
+    fn first_free(&self) -> u64
+        ensures from { FIRST_MAPPING_PAGE ≤ result }
+        ensures filled { (n : ℕ) → FIRST_MAPPING_PAGE ≤ n → n < result → is_some (place_in self.now n) ≡ true }
+        ensures free { place_in self.now result ≡ None }
+    {
+        let mut page = self.filled_to;
+        while self.get(page).is_some() {
+            page += 1;
+        }
+        page
     }
 
     /// The first page that has a place, from one page on and before another; None exactly where none has. A chunk that
@@ -97,6 +129,24 @@ impl PageTable {
             }
         }
         None
+    }
+}
+
+/// How far the mapping pages have places, once a page has this place, or none.
+fn filled_with(filled_to: u64, page: u64, place: Option<u32>) -> u64
+    requires { page < PAGES }
+    ensures { result ≡ filled_with filled_to page place }
+{
+    if place.is_some() {
+        if page == filled_to {
+            page + 1
+        } else {
+            filled_to
+        }
+    } else if FIRST_MAPPING_PAGE <= page && page < filled_to {
+        page
+    } else {
+        filled_to
     }
 }
 

@@ -156,6 +156,48 @@ fn a_page_that_is_mapped_again_is_zero(rt: HostRuntime) -> Result<(), Fail> {
 }
 
 #[test]
+fn a_hole_among_mapped_pieces_is_filled_first(rt: HostRuntime) -> Result<(), Fail> {
+    let pieces = [
+        (1, 0),
+        (2, 1),
+        (3, 3),
+        (4, 6),
+        (5, 10),
+        (6, 15),
+        (7, 21),
+        (8, 28),
+        (4, 36),
+    ];
+    let rows = [
+        (0, 1, [(2, 40), (1, 0), (1, 42), (1, 43)]),
+        (19, 1, [(1, 19), (1, 40), (2, 41), (1, 43)]),
+        (19, 2, [(3, 40), (1, 19), (1, 20), (2, 43)]),
+        (19, 2, [(2, 19), (2, 40), (1, 42), (1, 43)]),
+        (39, 1, [(2, 39), (1, 41), (1, 42), (1, 43)]),
+        (0, 40, [(2, 0), (40, 2), (1, 42), (1, 43)]),
+    ];
+    for (first, count, calls) in rows {
+        let mut map = booted(rt.alloc())?;
+        for (pages, page) in pieces {
+            assert_eq!(rt;
+                map.map(0x1000 * pages, 3),
+                Ok(MAPPED + 0x1000 * page),
+                "{page}"
+            );
+        }
+        assert_eq!(rt; map.unmap(MAPPED + 0x1000 * first, 0x1000 * count), Ok(()));
+        for (pages, page) in calls {
+            assert_eq!(rt;
+                map.map(0x1000 * pages, 3),
+                Ok(MAPPED + 0x1000 * page),
+                "{first} {count} {pages}"
+            );
+        }
+    }
+    Ok(())
+}
+
+#[test]
 fn pages_are_removed_or_not(rt: HostRuntime) -> Result<(), Fail> {
     let rows = [
         (DATA + 1, 0, Err(EINVAL), 60),

@@ -18,6 +18,7 @@ pub fn interrupt<M: UserMem>(mem: &mut M, area: Option<Area>, pc: u64) -> Outcom
     ensures outcome { result ≡ interruption (M.byte mem.old) (M.can_write mem.old) area pc }
     ensures bytes { (a : ℕ) → M.byte mem.new a ≡ after_writes (writes_of area result) (M.byte mem.old) a }
     ensures permissions { (a : ℕ) → M.can_write mem.new a ≡ M.can_write mem.old a }
+    ensures alike { M.IsAlike mem.old mem.new }
 {
     match area {
         Some(area) => {
@@ -33,6 +34,7 @@ fn interrupt_named<M: UserMem>(mem: &mut M, area: &Area, pc: u64, found: Named) 
     ensures outcome { result ≡ outcome_of (M.can_write mem.old) area.now pc found }
     ensures bytes { (a : ℕ) → M.byte mem.new a ≡ after_writes (writes_of (Some area.now) result) (M.byte mem.old) a }
     ensures permissions { (a : ℕ) → M.can_write mem.new a ≡ M.can_write mem.old a }
+    ensures alike { M.IsAlike mem.old mem.new }
 {
     match found {
         Named::Nothing => Outcome::Nothing,
@@ -56,6 +58,7 @@ fn clear_pointer<M: UserMem>(mem: &mut M, area: &Area) -> bool
         let writes = if result then pointer_cleared (Some area.now) else [] in
         M.byte mem.new a ≡ after_writes writes (M.byte mem.old) a }
     ensures permissions { (a : ℕ) → M.can_write mem.new a ≡ M.can_write mem.old a }
+    ensures alike { M.IsAlike mem.old mem.new }
 {
     match area.at.checked_add(RSEQ_CS) {
         Some(pointer) => mem.set(pointer, 8, 0),

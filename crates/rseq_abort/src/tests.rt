@@ -26,7 +26,7 @@ fn put(memory: &mut FlatMemory, at: u64, value: u64) {
 
 /// A memory in which the area names the sequence.
 fn good_memory() -> FlatMemory {
-    let mut memory = FlatMemory::new(128);
+    let mut memory = FlatMemory::new(1024);
     put(&mut memory, POINTER, DESCRIPTOR);
     put(&mut memory, DESCRIPTOR + 8, 0x40_0000);
     put(&mut memory, DESCRIPTOR + 16, 12);

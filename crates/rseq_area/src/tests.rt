@@ -3,6 +3,7 @@
 use crate::{lowest_cid, named, register, set_cpu, unregister};
 use mach_types::errors::{EBUSY, EFAULT, EINVAL, EPERM};
 use mach_types::{Area, BadWhy, Errno, FlatMemory, Named, Seq, UserMem};
+use std::process::Abort;
 use std::test::Fail;
 
 /// The signature that librseq has on RISC-V.
@@ -50,7 +51,7 @@ fn put(memory: &mut FlatMemory, at: u64, value: u64) {
 
 /// A memory in which the area names a good sequence.
 fn good_memory() -> FlatMemory {
-    let mut memory = FlatMemory::new(128);
+    let mut memory = FlatMemory::new(1024);
     put(&mut memory, POINTER, DESCRIPTOR);
     put(&mut memory, START, 0x40_0000);
     put(&mut memory, LENGTH, 12);
@@ -69,6 +70,18 @@ fn named_with(at: u64, value: u64, pc: u64) -> Named {
 /// A word that is changed, a pc, and what the area then names.
 type Row = (u64, u64, u64, Named);
 
+/// The area must name what each row says.
+fn expect_named(rt: &impl Abort, rows: &[Row]) {
+    for row in rows {
+        let (at, value, pc, expected) = *row;
+        assert_eq!(rt;
+            named_with(at, value, pc),
+            expected,
+            "{at:x} {value:x} {pc:x}"
+        );
+    }
+}
+
 #[test]
 fn pointers(rt: HostRuntime) -> Result<(), Fail> {
     let rows: [Row; 6] = [
@@ -77,15 +90,9 @@ fn pointers(rt: HostRuntime) -> Result<(), Fail> {
         (POINTER, 1 << 38, 0, Named::Bad(BadWhy::Pointer)),
         (POINTER, u64::MAX, 0, Named::Bad(BadWhy::Pointer)),
         (POINTER, (1 << 38) - 1, 0, Named::Bad(BadWhy::Descriptor)),
-        (POINTER, 0x1061, 0, Named::Bad(BadWhy::Descriptor)),
+        (POINTER, 0x13E1, 0, Named::Bad(BadWhy::Descriptor)),
     ];
-    for (at, value, pc, expected) in rows {
-        assert_eq!(rt;
-            named_with(at, value, pc),
-            expected,
-            "{at:x} {value:x} {pc:x}"
-        );
-    }
+    expect_named(&rt, &rows);
     Ok(())
 }
 
@@ -107,13 +114,7 @@ fn ranges(rt: HostRuntime) -> Result<(), Fail> {
         (ABORT, 0x40_0000, 0, Named::Bad(BadWhy::AbortInside)),
         (ABORT, 0x40_000B, 0, Named::Bad(BadWhy::AbortInside)),
     ];
-    for (at, value, pc, expected) in rows {
-        assert_eq!(rt;
-            named_with(at, value, pc),
-            expected,
-            "{at:x} {value:x} {pc:x}"
-        );
-    }
+    expect_named(&rt, &rows);
     Ok(())
 }
 
@@ -131,13 +132,7 @@ fn signatures(rt: HostRuntime) -> Result<(), Fail> {
         (ABORT, 3, 0, Named::Bad(BadWhy::Signature)),
         (UNUSED, 0, 0, GOOD),
     ];
-    for (at, value, pc, expected) in rows {
-        assert_eq!(rt;
-            named_with(at, value, pc),
-            expected,
-            "{at:x} {value:x} {pc:x}"
-        );
-    }
+    expect_named(&rt, &rows);
     Ok(())
 }
 
@@ -151,13 +146,7 @@ fn flags_count_inside(rt: HostRuntime) -> Result<(), Fail> {
         (DESCRIPTOR, 4 << 32, 0x40_000C, GOOD),
         (AREA_FLAGS, 7 << 32, 0x40_0000, GOOD),
     ];
-    for (at, value, pc, expected) in rows {
-        assert_eq!(rt;
-            named_with(at, value, pc),
-            expected,
-            "{at:x} {value:x} {pc:x}"
-        );
-    }
+    expect_named(&rt, &rows);
     Ok(())
 }
 
@@ -166,8 +155,8 @@ fn unreadable_areas(rt: HostRuntime) -> Result<(), Fail> {
     let memory = good_memory();
     let rows: [(u64, Named); 5] = [
         (0x1000, GOOD),
-        (0x1068, Named::Nothing),
-        (0x1070, Named::Bad(BadWhy::AreaBytes)),
+        (0x13E8, Named::Nothing),
+        (0x13F0, Named::Bad(BadWhy::AreaBytes)),
         (0xFF0, Named::Bad(BadWhy::AreaBytes)),
         (u64::MAX - 7, Named::Bad(BadWhy::AreaBytes)),
     ];
@@ -278,7 +267,7 @@ fn words_that_cannot_be_written(rt: HostRuntime) -> Result<(), Fail> {
             "{writable}"
         );
     }
-    let mut memory = FlatMemory::new(128);
+    let mut memory = FlatMemory::new(1024);
     let last = Area {
         at: u64::MAX - 15,
         sig: 0,

@@ -23,6 +23,7 @@ pub fn set_cpu<M: UserMem>(
         let words : Words = record { cpu_id_start = start; cpu_id = id; node_id = node; mm_cid = cid } in
         M.byte mem.new a ≡ after_writes (words_entered result area.now words) (M.byte mem.old) a }
     ensures permissions { (a : ℕ) → M.can_write mem.new a ≡ M.can_write mem.old a }
+    ensures alike { M.IsAlike mem.old mem.new }
 {
     if !can_write_words(mem, area) {
         return false;
@@ -50,6 +51,7 @@ fn put_word<M: UserMem>(mem: &mut M, at: u64, value: u32)
     requires { each_byte (M.can_write mem.old) at 4 ≡ true }
     ensures bytes { (a : ℕ) → M.byte mem.new a ≡ after_writes (word_stored at value ∷ []) (M.byte mem.old) a }
     ensures permissions { (a : ℕ) → M.can_write mem.new a ≡ M.can_write mem.old a }
+    ensures alike { M.IsAlike mem.old mem.new }
 {
     let _written = mem.set(at, 4, u64::from(value));
 }

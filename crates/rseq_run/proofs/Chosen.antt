@@ -77,7 +77,7 @@ over_when_ended : (s : Setting) (log : List Entry) → IsBlockRun s log → has_
     → end_of s (history s log) ≢ Unended
 unfolding has_ended
 over_when_ended s log run ended end =
-    let goes = is_open s (history s log) run end in
+    let goes = is_open s (history s log) run.allowed end in
     let still = ap (λ (o : Option End). is_some o || nat_le s.limits.steps (length (history s log))) goes.0
     ∙ lt-leb s.limits.steps (length (history s log)) goes.1 in
     absurd (cc (sym still ∙ ended))

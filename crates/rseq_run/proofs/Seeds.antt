@@ -1,8 +1,8 @@
 -- The seed decides what harts choose, and nothing else: under another seed a block run is one too, and has the same history, console
 -- and end.
 use Rattle.std.proofs.Common.{◌≡◌, ℕ, ◌+◌, ◌*◌, ◌^◌, ◌==◌, ◌&&◌, zero, suc, List, [], ◌∷◌, length, refl, sym, ap, ap₂, ◌∙◌, subst}
-use Rattle.std.proofs.Common.{Option, Some, None, Err}
-use Rattle.std.specs.Prelude.{fold, if◌then◌else◌, nat_le, nat_lt, not, take}
+use Rattle.std.proofs.Common.{Option, Some, None, Ok, Err}
+use Rattle.std.specs.Prelude.{fold, if◌then◌else◌, nat_le, nat_lt, not, take, Result, ◌%◌, ◌++◌}
 use Rattle.mach_types.specs.Events.{choice_of}
 use Rattle.mach_types.specs.declared.errors.TheConstants.{EBADF, EFAULT, EINVAL, ENOSPC, ENOSYS}
 use Rattle.mach_types.specs.declared.events.Choice.{Choice}
@@ -19,18 +19,29 @@ use Rattle.block_model.specs.Setting.{Setting}
 use Rattle.block_model.specs.Here.{Here, Done, memory, runs, waiting_here}
 use Rattle.block_model.specs.Calls.{called}
 use Rattle.block_model.specs.Calls.Affinity.{getcpu, sched_getaffinity, sched_setaffinity, sched_yield}
-use Rattle.block_model.specs.Calls.Answers.{CallDone, argument, are_readable, call_number, number_at, refused, said}
+use Rattle.block_model.specs.Calls.Answers.{CallDone, argument, are_readable, call_number, int_argument, number_at, refused, said}
 use Rattle.block_model.specs.Calls.Cloning.{clone}
 use Rattle.block_model.specs.Calls.Console.{Span, all_readable, bytes_of, is_elsewhere, room, spans_at, total, write, write_spans, writev, wrote}
 use Rattle.block_model.specs.Calls.Ending.{exit, exit_group}
 use Rattle.block_model.specs.Calls.Futexes.{futex}
 use Rattle.block_model.specs.Calls.Memory.{brk, mmap, mprotect, munmap}
 use Rattle.block_model.specs.Calls.Numbers.{getpid, gettid, set_tid_address}
+use Rattle.block_model.specs.Calls.Sequences.{registers_or_refused, rseq, unregisters, unregisters_or_refused}
 use Rattle.block_model.specs.Events.{done_of, refusal_of}
 use Rattle.block_model.specs.Events.Drain.{done_drain_of}
 use Rattle.block_model.specs.Events.Exec.{by_effect, done_exec_by, next_effect, next_fault, refusal_exec_by}
 use Rattle.block_model.specs.Events.Preempt.{done_preempt_by, refusal_preempt_by}
-use Rattle.block_model.specs.Events.Run.{refusal_run_by}
+use Rattle.block_model.specs.Events.Run.{done_killed, done_run_by, done_running, lives_on, refusal_run_by}
+use Rattle.block_model.specs.Ids.{next_id}
+use Rattle.block_model.specs.Sequences.{area_here, can_write_words, files_interrupted, interruption_here, words_to}
+use Rattle.mach_types.specs.Kernel.Areas.{Words, registration, unregistration, words_on, writes_of}
+use Rattle.mach_types.specs.declared.sequences.Area.{Area}
+use Rattle.mach_types.specs.declared.sequences.Outcome.{Outcome}
+use Rattle.mach_types.specs.declared.sequences.Outcome.TheVariants as comes_to
+use Rattle.mach_types.specs.declared.errors.Errno.{Errno}
+use Rattle.mach_types.specs.declared.threads.Saved.{Saved}
+use Rattle.mach_types.specs.declared.user_memory.Write.{Write}
+use Rattle.block_model.proofs.Laws.{block_run}
 use Rattle.block_model.specs.History.{Event, History, byte, console, ended, file, file_among, here_in_history, kernel}
 use Rattle.block_model.specs.Deciding.{decide, decide_in, done, end_of, end_unless, entry_in, event, final, history, over_at, pc_in, thread_in, unless}
 use Rattle.block_model.specs.Run.{IsBlockRun, IsRunHistory}
@@ -81,9 +92,32 @@ module _ (n : ℕ) where
       ∙ ap (λ (d : CallDone). gathered here t d (spans_at here (argument here t 1) (argument here t 2)))
       (written_same here t (spans_at here (argument here t 1) (argument here t 2)))
 
-  -- the table, where `write` and `writev` do this
-  abbrev table : Here → ℕ → ℕ → CallDone → CallDone → CallDone
-  table here t number one many =
+  -- rseq
+  registered_same : (here : Here) (t : ℕ) (r : Result Area Errno) → registers_or_refused (moved here) t r ≡ registers_or_refused here t r
+  registered_same here t (Ok area) = refl
+  registered_same here t (Err e) = refl
+
+  without_same : (here : Here) (t : ℕ) (old : Option Area) → unregisters (moved here) t old ≡ unregisters here t old
+  without_same here t None = refl
+  without_same here t (Some area) = refl
+
+  unregistered_same : (here : Here) (t : ℕ) (r : Result (Unit {0}) Errno) → unregisters_or_refused (moved here) t r ≡ unregisters_or_refused here t r
+  unregistered_same here t (Ok done) = without_same here t (area_here here t)
+  unregistered_same here t (Err e) = refl
+
+  rseq_same : (here : Here) (t : ℕ) → rseq (moved here) t ≡ rseq here t
+  rseq_same here t =
+      let at = argument here t 0 in
+      let len = int_argument here t 1 in
+      let flags = int_argument here t 2 in
+      let sig = int_argument here t 3 in
+      let old = area_here here t in
+      ap₂ (λ (leaves stays : CallDone). if flags % 2 == 1 then leaves else stays)
+      (unregistered_same here t (unregistration old at len flags sig)) (registered_same here t (registration old at len flags sig))
+
+  -- the table, where `write`, `writev` and `rseq` do this
+  abbrev table : Here → ℕ → ℕ → CallDone → CallDone → CallDone → CallDone
+  table here t number one many areas =
       if number == 64 then one
       else if number == 66 then many
       else if number == 93 then exit here t
@@ -101,10 +135,14 @@ module _ (n : ℕ) where
       else if number == 220 then clone here t
       else if number == 222 then mmap here t
       else if number == 226 then mprotect here t
+      else if number == 293 then areas
       else refused here t ENOSYS
 
   called_same : (here : Here) (t : ℕ) → called (moved here) t ≡ called here t
-  called_same here t = ap₂ (table here t (call_number here t)) (write_same here t) (writev_same here t)
+  called_same here t =
+      let number = call_number here t in
+      ap₂ (λ (one many : CallDone). table here t number one many (rseq (moved here) t)) (write_same here t) (writev_same here t)
+      ∙ ap (table here t number (write here t) (writev here t)) (rseq_same here t)
 
   -- what events do
   effect_same : (here : Here) (t : ℕ) (fault : Option ℕ) (e : Option _) → by_effect (moved here) t fault e ≡ by_effect here t fault e
@@ -124,13 +162,48 @@ module _ (n : ℕ) where
   preempt_same here None = refl
   preempt_same here (Some t) = refl
 
+  -- a thread that begins to run
+  writable_same : (here : Here) (area : Option Area) → can_write_words (moved here) area ≡ can_write_words here area
+  writable_same here None = refl
+  writable_same here (Some area) = refl
+
+  words_same : (here : Here) (area : Option Area) (words : Words) → words_to (moved here) area words ≡ words_to here area words
+  words_same here None words = refl
+  words_same here (Some area) words = refl
+
+  lives_same : (here : Here) (t : ℕ) (o : Outcome) → lives_on (moved here) t o ≡ lives_on here t o
+  lives_same here t comes_to.Nothing = writable_same here (area_here here t)
+  lives_same here t comes_to.Cleared = writable_same here (area_here here t)
+  lives_same here t (comes_to.Aborted at) = writable_same here (area_here here t)
+  lives_same here t (comes_to.Killed why) = refl
+
+  interrupted_same : (here : Here) (t : ℕ) (o : Outcome) → files_interrupted (moved here) t o ≡ files_interrupted here t o
+  interrupted_same here t comes_to.Nothing = refl
+  interrupted_same here t comes_to.Cleared = refl
+  interrupted_same here t (comes_to.Aborted at) = refl
+  interrupted_same here t (comes_to.Killed why) = refl
+
+  running_same : (here : Here) (t : ℕ) (o : Outcome) → done_running (moved here) t o ≡ done_running here t o
+  running_same here t o =
+      let area = area_here here t in
+      ap₂ (λ (files : List (ℕ × Saved)) (words : List Write). record (done_running here t o) { files = files; entered = writes_of area o ++ words })
+      (interrupted_same here t o) (words_same here area (words_on here.hart (next_id here.kernel.ids)))
+
+  killed_same : (here : Here) (t : ℕ) (o : Outcome) → done_killed (moved here) t o ≡ done_killed here t o
+  killed_same here t o = ap (λ (files : List (ℕ × Saved)). record (done_killed here t o) { files = files }) (interrupted_same here t o)
+
+  run_by_same : (here : Here) (t : ℕ) (o : Outcome) → done_run_by (moved here) t o ≡ done_run_by here t o
+  run_by_same here t o =
+      ap (λ b. if b then done_running (moved here) t o else done_killed (moved here) t o) (lives_same here t o)
+      ∙ ap₂ (λ (goes ends : Done). if lives_on here t o then goes else ends) (running_same here t o) (killed_same here t o)
+
   done_of_same : (c : Choice) (here : Here) → done_of c (moved here) ≡ done_of c here
   done_of_same asked.Exec here = exec_same here (runs here)
   done_of_same asked.Drain here = drain_same here (waiting_here here)
   done_of_same asked.Take here = refl
   done_of_same asked.Done here = refl
   done_of_same asked.Preempt here = preempt_same here (runs here)
-  done_of_same (asked.Run t) here = refl
+  done_of_same (asked.Run t) here = run_by_same here t.0 (interruption_here here t.0)
   done_of_same asked.Signal here = refl
 
   -- which conditions fail
@@ -239,7 +312,7 @@ module _ (n : ℕ) where
 
     -- a block run is one under the other seed
     pub reseeded_run : (log : List Entry) → IsBlockRun s log → IsBlockRun (reseeded s) log
-    reseeded_run log run = subst (IsRunHistory (reseeded s)) (sym (history_same log)) (run_same (history s log) run)
+    reseeded_run log run = block_run (reseeded s) log (subst (IsRunHistory (reseeded s)) (sym (history_same log)) (run_same (history s log) run.allowed))
 
     end_same : (made : ℕ) (o : Option End) → end_unless (reseeded s) made o ≡ end_unless s made o
     end_same made None = refl

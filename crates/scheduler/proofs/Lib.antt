@@ -7,5 +7,4 @@ pub mod Laws
 mod Lists
 mod Marked
 mod OtherHarts
-mod Places
 mod StaysWhole

@@ -2,7 +2,6 @@ mod Apart
 mod Deliverable
 mod Ends
 mod Entries
-mod FlatBytes
 mod Kept
 mod Lists
 mod Lowest

@@ -1,5 +1,4 @@
 pub mod Coming
-pub mod Flat
 pub mod Frames
 pub mod Holding
 pub mod Writing

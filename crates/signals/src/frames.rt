@@ -67,6 +67,7 @@ fn write_words<M: UserMem>(mem: &mut M, at: u64, words: &[u64])
     requires writable { can_write_words (M.can_write mem.old) at (length words.now) ≡ true }
     ensures bytes { (a : ℕ) → M.byte mem.new a ≡ option_map (written (spec.words_stored at words.now) a) (M.byte mem.old a) }
     ensures permissions { (a : ℕ) → M.can_write mem.new a ≡ M.can_write mem.old a }
+    ensures alike { M.IsAlike mem.old mem.new }
 {
     for index in 0..words.len() {
         let _written = mem.set(at + 8 * index as u64, 8, words[index]);
@@ -108,6 +109,7 @@ pub fn write<M: UserMem>(mem: &mut M, saved: &Saved, mask: u64) -> bool
     ensures answer { result ≡ spec.can_write_frame (M.can_write mem.old) saved.now }
     ensures bytes { (a : ℕ) → M.byte mem.new a ≡ spec.after_frame result (spec.frame_writes saved.now mask) (M.byte mem.old) a }
     ensures permissions { (a : ℕ) → M.can_write mem.new a ≡ M.can_write mem.old a }
+    ensures alike { M.IsAlike mem.old mem.new }
 {
     let at = frame_at(saved.file.get(SP));
     if !can_write(mem, at) {

@@ -5,8 +5,6 @@
 #![tactic(auto)]
 
 mod actions;
-#[cfg(test)]
-mod flat_memory;
 mod frames;
 mod sets;
 mod table;

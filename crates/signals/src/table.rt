@@ -216,6 +216,7 @@ impl Signals {
         ensures bytes { (a : ℕ) → M.byte mem.new a
             ≡ frame.after_frame result (frame.frame_writes saved.old (spec.mask_of tid.0 self.old)) (M.byte mem.old) a }
         ensures permissions { (a : ℕ) → M.can_write mem.new a ≡ M.can_write mem.old a }
+        ensures alike { M.IsAlike mem.old mem.new }
     {
         let mask = self.mask_of(tid);
         if !frames::write(mem, saved, mask) {

@@ -4,9 +4,8 @@ ghost use Rattle.std.specs.Prelude.{◌≡◌, ◌≤◌, IsTrue};
 ghost use Rattle.mach_types.specs.Kernel.Signals as spec;
 
 use crate::Signals;
-use crate::flat_memory::FlatMemory;
 use mach_types::signals::{SA_NODEFER, SA_RESETHAND};
-use mach_types::{Action, Errno, Regs, Saved, Tid, UserMem};
+use mach_types::{Action, Errno, FlatMemory, Regs, Saved, Tid, UserMem};
 use std::process::Abort;
 use std::test::Fail;
 
@@ -220,6 +219,9 @@ fn expect_handler(rt: &impl Abort, signals: &Signals, sig: u8)
     assert!(rt; !(at == 0 || at == 1));
 }
 
+/// How many bytes of the memory of the tests can be written, from its first one on.
+const WRITABLE: u16 = 768;
+
 /// Thread 1 with the mask 0x1, and this handler of signal 10.
 fn catching(rt: &impl Abort, action: Action) -> Signals {
     let mut signals = Signals::new();
@@ -243,7 +245,7 @@ fn push(
 
 #[test]
 fn handler_finds_its_frame(rt: HostRuntime) -> Result<(), Fail> {
-    let mut memory = FlatMemory::new(rt.alloc())?;
+    let mut memory = FlatMemory::new(WRITABLE);
     let mut signals = catching(&rt, handler(0, 0x4_0100));
     let mut saved = thread_at(0x1207);
     assert!(rt; push(&rt, &mut signals, &mut memory, &mut saved));
@@ -301,7 +303,7 @@ fn expect_entered(
 
 #[test]
 fn flags_decide_on_mask_and_action(rt: HostRuntime) -> Result<(), Fail> {
-    let mut memory = FlatMemory::new(rt.alloc())?;
+    let mut memory = FlatMemory::new(WRITABLE);
     expect_entered(&rt, &mut memory, 0, 0, 0x201, HANDLER);
     expect_entered(&rt, &mut memory, 0, 0x4_0106, 0x207, HANDLER);
     expect_entered(&rt, &mut memory, SA_NODEFER, 0x6, 0x7, HANDLER);
@@ -328,7 +330,7 @@ fn expect_pushed(rt: &impl Abort, memory: &mut FlatMemory, sp: u64, pushed: bool
 
 #[test]
 fn frame_needs_272_bytes_that_can_be_written(rt: HostRuntime) -> Result<(), Fail> {
-    let mut memory = FlatMemory::new(rt.alloc())?;
+    let mut memory = FlatMemory::new(WRITABLE);
     expect_pushed(&rt, &mut memory, 0x1310, false);
     expect_pushed(&rt, &mut memory, 0x110f, false);
     expect_pushed(&rt, &mut memory, 0, false);
@@ -343,7 +345,7 @@ fn frame_needs_272_bytes_that_can_be_written(rt: HostRuntime) -> Result<(), Fail
 
 #[test]
 fn handler_returns_to_where_it_was(rt: HostRuntime) -> Result<(), Fail> {
-    let mut memory = FlatMemory::new(rt.alloc())?;
+    let mut memory = FlatMemory::new(WRITABLE);
     let mut signals = catching(&rt, handler(0, 0x6));
     let mut saved = thread_at(0x1200);
     assert!(rt; push(&rt, &mut signals, &mut memory, &mut saved));
@@ -359,7 +361,7 @@ fn handler_returns_to_where_it_was(rt: HostRuntime) -> Result<(), Fail> {
 
 #[test]
 fn frame_that_a_handler_changed_is_read(rt: HostRuntime) -> Result<(), Fail> {
-    let mut memory = FlatMemory::new(rt.alloc())?;
+    let mut memory = FlatMemory::new(WRITABLE);
     let mut signals = Signals::new();
     let mut saved = thread_at(0x1008);
     for (at, word) in [
@@ -396,7 +398,7 @@ fn expect_popped(rt: &impl Abort, memory: &FlatMemory, sp: u64, popped: bool) {
 
 #[test]
 fn frame_needs_272_bytes_that_can_be_read(rt: HostRuntime) -> Result<(), Fail> {
-    let memory = FlatMemory::new(rt.alloc())?;
+    let memory = FlatMemory::new(WRITABLE);
     expect_popped(&rt, &memory, 0xfff, false);
     expect_popped(&rt, &memory, 0x1000, true);
     expect_popped(&rt, &memory, 0x12f0, true);

@@ -20,6 +20,8 @@ impl UserMem for Ramp {
 
     ghost can_write = { λ m a. false };
 
+    ghost IsAlike = { λ m m'. m' ≡ m };
+
     fn get(&self, at: u64, size: u8) -> Option<u64> {
         self.word(at, size)
     }
@@ -32,8 +34,12 @@ impl UserMem for Ramp {
         false
     }
 
-    ghost use Rattle.std.proofs.Common.{arith};
+    ghost use Rattle.std.proofs.Common.{arith, refl};
     ghost use Rattle.std.proofs.lemmas.Bool.Decides.{nat_tests};
+
+    ghost alike_itself = { λ m. refl };
+
+    ghost alike_next = { λ a b c first second. Prim.cc };
 
     ghost writable_is_readable = { λ m a e. Prim.cc };
 

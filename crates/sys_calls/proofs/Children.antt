@@ -60,6 +60,14 @@ pub asked_console : (h : Here) (t : ℕ) (b : Bool) → (cond b (cleared (next_n
 asked_console h t true = refl
 asked_console h t false = refl
 
+pub asked_areas : (h : Here) (t : ℕ) (b : Bool) → (cond b (cleared (next_number h.kernel) (argument h t 4) (had_child t h.kernel)) (had_child t h.kernel)).areas ≡ h.kernel.areas
+asked_areas h t true = refl
+asked_areas h t false = refl
+
+pub asked_ids : (h : Here) (t : ℕ) (b : Bool) → (cond b (cleared (next_number h.kernel) (argument h t 4) (had_child t h.kernel)) (had_child t h.kernel)).ids ≡ h.kernel.ids
+asked_ids h t true = refl
+asked_ids h t false = refl
+
 pub asked_pages : (h : Here) (t : ℕ) (b : Bool) → (cond b (cleared (next_number h.kernel) (argument h t 4) (had_child t h.kernel)) (had_child t h.kernel)).pages ≡ h.kernel.pages
 asked_pages h t true = refl
 asked_pages h t false = refl

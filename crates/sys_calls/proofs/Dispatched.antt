@@ -18,8 +18,8 @@ use Rattle.sys_calls.specs.declared.kernel.Kernel.{Kernel}
 use Rattle.sys_calls.specs.Answered.{IsTold}
 use Rattle.sys_calls.specs.Made.{IsAt}
 
-pub told_at : (h : Here) (k : Kernel) (m : Map) (here : Hart) (harts : ℕ) (tid : Tid) (saved : Saved) → IsAt h k m here harts tid saved → IsTold h k
-told_at h k m here harts tid saved at = record { threads = at.threads; scheduling = at.scheduling; console = at.console }
+pub told_at : (h : Here) (k : Kernel) (m : Map) (here : Hart) (harts : ℕ) (tid : Tid) (saved : Saved) (cid : ℕ) → IsAt h k m here harts tid saved cid → IsTold h k
+told_at h k m here harts tid saved cid at = record { threads = at.threads; scheduling = at.scheduling; areas = at.areas; console = at.console }
 
 -- the call that the number names
 pub numbered : (h : Here) (t n i : ℕ) (saved : Saved) → saved ≡ h.file t → n ≡ register saved.file 17 → n ≡ i → called h t ≡ call_of i h t

@@ -2,7 +2,7 @@
 use Rattle.std.proofs.Common.{◌≡◌, pos, ℕ, Bool, true, false, cond, eqb, List, [], ◌∷◌, Option, Some, None, refl, sym, ap, subst, ◌∙◌}
 use Rattle.std.proofs.lemmas.Bool.{eqb-true, eqb-false}
 use Rattle.mach_types.specs.declared.threads.Saved.{Saved}
-use Rattle.mach_types.specs.Kernel.Record as record_of
+use Rattle.block_model.specs.Record as record_of
 use Rattle.mach_types.specs.Kernel.Scheduling.{with_ready}
 use Rattle.mach_types.specs.Kernel.Threads.{Threads, running_on, state_of, with_state}
 use Rattle.mach_types.specs.Registers.{register}
@@ -12,6 +12,7 @@ use Rattle.kernel_threads.proofs.Laws.{is_kept, saved_of_others}
 use Rattle.page_map.specs.Map.{Map}
 use Rattle.block_model.specs.Here.{Here}
 use Rattle.block_model.specs.History.{file_among}
+use Rattle.block_model.specs.Ids.{without_id}
 use Rattle.block_model.specs.Calls.Answers.{said, returned}
 use Rattle.block_model.specs.Kernel.{left}
 use Rattle.block_model.specs.Tables.{on}
@@ -21,7 +22,9 @@ use Rattle.sys_calls.specs.declared.calling.CallEnd.{CallEnd}
 use Rattle.sys_calls.specs.declared.calling.CallEnd.TheVariants as over
 use Rattle.sys_calls.specs.declared.kernel.Kernel.{Kernel}
 use Rattle.sys_calls.specs.Made.{AreSaved, HasPages, IsAnswer, IsMade, StandsSo, gives_up, process_end}
+use Rattle.sys_calls.specs.Registered.{areas_by_number}
 use Rattle.sys_calls.proofs.Entering.{entered_none, pages_kept}
+use Rattle.sys_calls.proofs.Registering.{same_areas}
 use Rattle.sys_calls.proofs.Saying.{own_first}
 use Rattle.sys_calls.proofs.Tables.{runs_there}
 
@@ -40,13 +43,16 @@ kept_left t x file before after is all u y at =
 
 -- a call whose thread gave up its hart with the answer 0, and which changed the record so, but not its pages
 pub made_gone : (h : Here) (t here : ℕ) (k k' : Kernel) (m : Map) (saved' : Saved) (end : CallEnd) (after : record_of.Kernel) → h.hart ≡ here → HasPages h m → after.pages ≡ h.kernel.pages
+    → areas_by_number k'.areas.items ≡ after.areas → after.ids ≡ without_id t h.kernel.ids
     → k'.threads.threads ≡ after.threads → k'.ready ≡ after.scheduling → k'.console ≡ after.console → k'.threads.saved ≡ with_saved t (Some saved') k.threads.saved
     → saved' ≡ returned 0 (h.file t) → running_on here after.threads ≡ None → gives_up end ≡ true → StandsSo end t after.threads → process_end end ≡ None → IsAnswer end saved'
     → IsMade h t k m k' m saved' end (record (said h t 0) { kernel = after })
-made_gone h t here k k' m saved' end after hart has same_pages threads ready console kept file idle gives stands ends answers =
+made_gone h t here k k' m saved' end after hart has same_pages areas ids threads ready console kept file idle gives stands ends answers =
     record {
       threads = threads;
       scheduling = ready;
+      areas = areas;
+      ids = ids ∙ ap (λ (b : Bool). cond b (without_id t h.kernel.ids) h.kernel.ids) (sym gives);
       console = console;
       kept = λ all. kept_left t (returned 0 (h.file t)) h.file k.threads k'.threads (kept ∙ ap (λ (x : Saved). with_saved t (Some x) k.threads.saved) file) all;
       own = file ∙ sym (own_first t (returned 0 (h.file t)) (h.file t) []);
@@ -59,15 +65,17 @@ made_gone h t here k k' m saved' end after hart has same_pages threads ready con
     }
 
 -- a thread left its hart, and is ready; before, the record was this one
-pub made_left : (h : Here) (t here : ℕ) (k k1 k' : Kernel) (m : Map) (saved saved' : Saved) (end : CallEnd) (before : record_of.Kernel) → h.hart ≡ here → HasPages h m → before.pages ≡ h.kernel.pages → saved ≡ h.file t
+pub made_left : (h : Here) (t here : ℕ) (k k1 k' : Kernel) (m : Map) (saved saved' : Saved) (end : CallEnd) (before : record_of.Kernel) → h.hart ≡ here → HasPages h m → before.pages ≡ h.kernel.pages
+    → areas_by_number k1.areas.items ≡ before.areas → before.ids ≡ h.kernel.ids → saved ≡ h.file t
     → k1.threads.threads ≡ before.threads → k1.ready ≡ before.scheduling → k1.console ≡ before.console → k1.threads.saved ≡ k.threads.saved → IsCaller k1 here t
     → saved' ≡ returned 0 saved → k'.threads.threads ≡ with_state t Ready k1.threads.threads → k'.threads.saved ≡ with_saved t (Some saved') k1.threads.saved
-    → k'.ready ≡ with_ready t k1.ready → k'.console ≡ k1.console → end ≡ over.Leave (pos 0) → register saved'.file 10 ≡ 0
+    → k'.ready ≡ with_ready t k1.ready → k'.areas ≡ k1.areas → k'.console ≡ k1.console → end ≡ over.Leave (pos 0) → register saved'.file 10 ≡ 0
     → IsMade h t k m k' m saved' end (record (said h t 0) { kernel = left t before })
-made_left h t here k k1 k' m saved saved' end before hart has same_pages file threads ready console same caller after threads' saved'is ready' console' is a0 =
+made_left h t here k k1 k' m saved saved' end before hart has same_pages areas ids file threads ready console same caller after threads' saved'is ready' areas' console' is a0 =
     let ready_now = ap (λ (ts : Threads). state_of t (with_state t Ready ts)) (sym threads) ∙ state_now t Ready (on here) k1.threads.threads (runs_there k1 here t caller) in
     let idle = left_idle caller.tables.0 here t k1.threads.threads k1.ready caller.tables.1 caller.runs in
     made_gone h t here k k' m saved' end (left t before) hart has same_pages
+    (same_areas k1 k' areas' ∙ areas) (ap (without_id t) ids)
     (threads' ∙ ap (with_state t Ready) threads) (ready' ∙ ap (with_ready t) ready) (console' ∙ console)
     (saved'is ∙ ap (with_saved t (Some saved')) same) (after ∙ ap (returned 0) file)
     (ap (λ (ts : Threads). running_on here (with_state t Ready ts)) (sym threads) ∙ idle)

@@ -1,3 +1,4 @@
+mod AreaWords
 pub mod Children
 pub mod Dispatched
 pub mod Entering
@@ -5,9 +6,11 @@ pub mod Keeping
 mod Leaving
 mod PagesAnswered
 pub mod Reading
+pub mod Registering
 pub mod Remapping
 mod Running
 pub mod Saying
+mod Sequencing
 pub mod Spans
 pub mod Tables
 pub mod Waking

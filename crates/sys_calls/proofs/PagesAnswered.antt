@@ -2,7 +2,7 @@
 use Rattle.std.proofs.Common.{ℕ, List, [], Result, sym, ap, ◌∙◌}
 use Rattle.mach_types.specs.declared.errors.Errno.{Errno}
 use Rattle.mach_types.specs.declared.user_memory.Write.{Write}
-use Rattle.mach_types.specs.Kernel.Record as record_of
+use Rattle.block_model.specs.Record as record_of
 use Rattle.mach_types.specs.Kernel.Threads.{running_on}
 use Rattle.page_map.specs.Map.{Map}
 use Rattle.block_model.specs.Here.{Here}
@@ -16,6 +16,8 @@ pub answered_remapped : (h : Here) (t : ℕ) (k : Kernel) (m m' : Map) (written 
 answered_remapped h t k m m' written answer c told done = record {
   threads = told.threads ∙ ap (λ (r : record_of.Kernel). r.threads) (sym done.kernel);
   scheduling = told.scheduling ∙ ap (λ (r : record_of.Kernel). r.scheduling) (sym done.kernel);
+  areas = told.areas ∙ ap (λ (r : record_of.Kernel). r.areas) (sym done.kernel);
+  ids = ap (λ (r : record_of.Kernel). r.ids) done.kernel;
   console = told.console ∙ ap (λ (r : record_of.Kernel). r.console) (sym done.kernel);
   pages = λ has. done.pages;
   code = done.code;

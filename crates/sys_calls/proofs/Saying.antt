@@ -11,6 +11,7 @@ use Rattle.kernel_threads.proofs.Laws.{saved_of-forget_other, saved_of-forget_sa
 use Rattle.page_map.specs.Map.{Map}
 use Rattle.block_model.specs.Here.{Here}
 use Rattle.block_model.specs.History.{file_among}
+use Rattle.block_model.specs.Ids.{without_id}
 use Rattle.block_model.specs.Calls.Answers.{CallDone, said, returned}
 use Rattle.block_model.specs.Calls.Console.{wrote}
 use Rattle.block_model.specs.Tables.{IsTables}
@@ -20,6 +21,7 @@ use Rattle.sys_calls.specs.declared.kernel.Kernel.{Kernel}
 use Rattle.sys_calls.specs.Answered.{AreTables, IsAnswered, IsCaller, IsEntered, IsTold, answer_of}
 use Rattle.sys_calls.specs.Made.{AreSaved, HasPages, IsAnswer, IsMade, StandsSo, gives_up, process_end}
 use Rattle.sys_calls.proofs.Entering.{entered_none, pages_entered}
+use Rattle.sys_calls.proofs.Registering.{same_areas}
 
 -- an answer, and writes
 pub answered_wrote : (h : Here) (t : ℕ) (k : Kernel) (m m' : Map) (answer : Result ℕ Errno) (ws : List Write) → IsTold h k → IsEntered m m' ws
@@ -27,6 +29,8 @@ pub answered_wrote : (h : Here) (t : ℕ) (k : Kernel) (m m' : Map) (answer : Re
 answered_wrote h t k m m' answer ws told entered = record {
   threads = told.threads;
   scheduling = told.scheduling;
+  areas = told.areas;
+  ids = refl;
   console = told.console;
   pages = pages_entered h m m' ws entered;
   code = entered.code;
@@ -46,12 +50,14 @@ answered_said h t k m answer c told is =
     subst (λ (d : CallDone). IsAnswered h t k m k m [] answer d) (sym is) (answered_wrote h t k m m answer [] told (entered_none m))
 
 -- an answer, and bytes on the console
-pub answered_printed : (h : Here) (t : ℕ) (k k' : Kernel) (m : Map) (answer : Result ℕ Errno) (bytes : List ℕ) (c : CallDone) → IsTold h k → k'.threads ≡ k.threads → k'.ready ≡ k.ready
+pub answered_printed : (h : Here) (t : ℕ) (k k' : Kernel) (m : Map) (answer : Result ℕ Errno) (bytes : List ℕ) (c : CallDone) → IsTold h k → k'.threads ≡ k.threads → k'.ready ≡ k.ready → k'.areas ≡ k.areas
     → k'.console ≡ k.console ++ bytes → answer_of answer ≡ length bytes → c ≡ wrote h t bytes → IsAnswered h t k m k' m [] answer c
-answered_printed h t k k' m answer bytes c told threads ready console count is =
+answered_printed h t k k' m answer bytes c told threads ready areas console count is =
     subst (λ (d : CallDone). IsAnswered h t k m k' m [] answer d) (sym is) (record {
       threads = ap (λ (table : Table). table.threads) threads ∙ told.threads;
       scheduling = ready ∙ told.scheduling;
+      areas = same_areas k k' areas ∙ told.areas;
+      ids = refl;
       console = console ∙ ap (λ (c : List ℕ). c ++ bytes) told.console;
       pages = λ has. has;
       code = λ a. refl;
@@ -99,6 +105,8 @@ made_answered h t here k k' m m' saved saved' written answer end c hart told has
     record {
       threads = done.threads;
       scheduling = done.scheduling;
+      areas = done.areas;
+      ids = done.ids ∙ ap (λ (b : Bool). cond b (without_id t h.kernel.ids) h.kernel.ids) (sym stays);
       console = done.console;
       kept = λ all. subst (λ (fs : List (ℕ × Saved)). AreSaved (λ u. file_among fs u (h.file u)) k'.threads) (sym files)
           (kept_own t (returned (answer_of answer) (h.file t)) h.file done.others k'.threads (done.quiet caller.quiet) (done.kept all));
@@ -118,11 +126,13 @@ pub saved_alike : (file : ℕ → Saved) (before after : Table) → after.saved 
 saved_alike file before after same all u x at = all u x (ap (saved_of u) (sym same) ∙ at)
 
 -- an answer, and another scheduling
-pub answered_scheduled : (h : Here) (t : ℕ) (k k' : Kernel) (m : Map) (answer : Result ℕ Errno) (sc : Scheduling) → IsTold h k → k'.threads ≡ k.threads → k'.ready ≡ sc → k'.console ≡ k.console
+pub answered_scheduled : (h : Here) (t : ℕ) (k k' : Kernel) (m : Map) (answer : Result ℕ Errno) (sc : Scheduling) → IsTold h k → k'.threads ≡ k.threads → k'.ready ≡ sc → k'.areas ≡ k.areas → k'.console ≡ k.console
     → IsAnswered h t k m k' m [] answer (record (said h t (answer_of answer)) { kernel = record h.kernel { scheduling = sc } })
-answered_scheduled h t k k' m answer sc told threads ready console = record {
+answered_scheduled h t k k' m answer sc told threads ready areas console = record {
   threads = ap (λ (table : Table). table.threads) threads ∙ told.threads;
   scheduling = ready;
+  areas = same_areas k k' areas ∙ told.areas;
+  ids = refl;
   console = console ∙ told.console;
   pages = λ has. has;
   code = λ a. refl;

@@ -4,9 +4,9 @@ use Rattle.std.proofs.lemmas.Bool.{eqb-true, eqb-false, eq-eqb, ne_eqb, false≢
 use Rattle.std.proofs.lemmas.List.{set-set}
 use Rattle.std.specs.List.{find}
 use Rattle.std.specs.Option.{option_map, option_map_or}
-use Rattle.mach_types.specs.Kernel.Record.{Kernel}
+use Rattle.block_model.specs.Record.{Kernel}
 use Rattle.mach_types.specs.Kernel.Scheduling.{Scheduling, with_ready}
-use Rattle.mach_types.specs.Kernel.Threads.{Threads, is_waiting_at, longest_waiter, running_on, state_of, waits, with_woken}
+use Rattle.mach_types.specs.Kernel.Threads.{Threads, is_live, is_waiting_at, longest_waiter, running_on, state_of, waits, with_woken}
 use Rattle.mach_types.specs.declared.threads.Saved.{Saved}
 use Rattle.mach_types.specs.declared.threads.ThreadState.{ThreadState}
 use Rattle.mach_types.specs.declared.threads.ThreadState.TheVariants.{Ready, Running, Waiting}
@@ -19,7 +19,10 @@ use Rattle.block_model.specs.Calls.Futexes.{Woken, answered_wait, wake, woken_fi
 use Rattle.block_model.specs.Tables.{IsTables, on}
 use Rattle.block_model.proofs.Laws.{running_is, tables_woken, woken_same}
 use Rattle.sys_calls.specs.declared.kernel.Kernel.{Kernel as Tables}
+use Rattle.mach_types.specs.declared.sequences.Area.{Area}
 use Rattle.sys_calls.specs.Answered.{IsTold}
+use Rattle.sys_calls.specs.Registered.{areas_by_number}
+use Rattle.sys_calls.proofs.Registering.{live_changed, same_areas}
 use Rattle.sys_calls.specs.Made.{AreSaved}
 use Rattle.sys_calls.specs.Woken.{IsOnward, IsWoken}
 
@@ -153,13 +156,14 @@ runs_alone harts h t at (suc n) here f k tables runs =
 
 -- the kernel's record, with these tables
 abbrev pub kernel_now : Here → Tables → Kernel
-kernel_now h k = record { threads = k.threads.threads; scheduling = k.ready; pages = h.kernel.pages; console = k.console }
+kernel_now h k = record h.kernel { threads = k.threads.threads; scheduling = k.ready; areas = areas_by_number k.areas.items; console = k.console }
 
 pub kernel_told : (h : Here) (k : Tables) → IsTold h k → kernel_now h k ≡ h.kernel
 kernel_told h k told =
-    ap (λ (ts : Threads). record { threads = ts; scheduling = k.ready; pages = h.kernel.pages; console = k.console }) told.threads
-    ∙ ap (λ (sc : Scheduling). record { threads = h.kernel.threads; scheduling = sc; pages = h.kernel.pages; console = k.console }) told.scheduling
-    ∙ ap (λ (c : List ℕ). record { threads = h.kernel.threads; scheduling = h.kernel.scheduling; pages = h.kernel.pages; console = c }) told.console
+    ap (λ (ts : Threads). record h.kernel { threads = ts; scheduling = k.ready; areas = areas_by_number k.areas.items; console = k.console }) told.threads
+    ∙ ap (λ (sc : Scheduling). record h.kernel { scheduling = sc; areas = areas_by_number k.areas.items; console = k.console }) told.scheduling
+    ∙ ap (λ (xs : List (ℕ × Area)). record h.kernel { areas = xs; console = k.console }) told.areas
+    ∙ ap (λ (c : List ℕ). record h.kernel { console = c }) told.console
 
 -- so many of the threads were woken, these ones; what is left to wake is woken behind them
 pub record IsWaking (h : Here) (k : Tables) (k' : Tables) (most : ℕ) (at : ℕ) (count : ℕ) : Type 0 where
@@ -179,14 +183,15 @@ waking_none h k most at told = record {
 
 -- then one more was
 pub waking_more : (h : Here) (k k' k'' : Tables) (most at count u : ℕ) → count < most → IsWaking h k k' most at count → longest_waiter at k'.threads.threads ≡ Some u
-    → k''.threads.threads ≡ with_woken u k'.threads.threads → k''.threads.saved ≡ with_answer u 0 k'.threads.saved → k''.ready ≡ with_ready u k'.ready → k''.console ≡ k'.console
+    → k''.threads.threads ≡ with_woken u k'.threads.threads → k''.threads.saved ≡ with_answer u 0 k'.threads.saved → k''.ready ≡ with_ready u k'.ready → k''.areas ≡ k'.areas → k''.console ≡ k'.console
     → IsWaking h k k'' most at (count + 1)
-waking_more h k k' k'' most at count u lt waking longest threads saved ready console =
+waking_more h k k' k'' most at count u lt waking longest threads saved ready areas console =
     let left : most - count ≡ suc (most - (count + 1)) = omega arith in
     let now : woken u (kernel_now h k') ≡ kernel_now h k'' =
-    ap (λ (ts : Threads). record { threads = ts; scheduling = with_ready u k'.ready; pages = h.kernel.pages; console = k'.console }) (sym threads)
-    ∙ ap (λ (sc : Scheduling). record { threads = k''.threads.threads; scheduling = sc; pages = h.kernel.pages; console = k'.console }) (sym ready)
-    ∙ ap (λ (c : List ℕ). record { threads = k''.threads.threads; scheduling = k''.ready; pages = h.kernel.pages; console = c }) (sym console) in
+    ap (λ (ts : Threads). record h.kernel { threads = ts; scheduling = with_ready u k'.ready; areas = areas_by_number k'.areas.items; console = k'.console }) (sym threads)
+    ∙ ap (λ (sc : Scheduling). record h.kernel { threads = k''.threads.threads; scheduling = sc; areas = areas_by_number k'.areas.items; console = k'.console }) (sym ready)
+    ∙ ap (λ (xs : List (ℕ × Area)). record h.kernel { threads = k''.threads.threads; scheduling = k''.ready; areas = xs; console = k'.console }) (sym (same_areas k' k'' areas))
+    ∙ ap (λ (c : List ℕ). record h.kernel { threads = k''.threads.threads; scheduling = k''.ready; areas = areas_by_number k''.areas.items; console = c }) (sym console) in
     record {
       us = waking.us ++ u ∷ [];
       number = length-append waking.us (u ∷ []) ∙ ap (λ (n : ℕ). n + 1) waking.number;
@@ -205,19 +210,23 @@ woken_all h k k' most at count waking over =
       number = sym waking.number ∙ ap (λ (w : Woken). length w.threads) (sym is);
       threads = ap (λ (w : Woken). w.kernel.threads) (sym is);
       scheduling = ap (λ (w : Woken). w.kernel.scheduling) (sym is);
+      areas = ap (λ (w : Woken). w.kernel.areas) (sym is);
+      ids = ap (λ (w : Woken). w.kernel.ids) is;
       console = ap (λ (w : Woken). w.kernel.console) (sym is);
       kept = λ all. subst (λ (us : List ℕ). AreSaved (λ u. file_among (map (answered_wait h) us) u (h.file u)) k'.threads) (ap (λ (w : Woken). w.threads) (sym is)) (waking.kept all);
     }
 
 -- the tables go on
 pub onward_still : (k : Tables) → IsOnward k k
-onward_still k = record { tables = λ harts holds. holds; running = λ j. refl; quiet = λ t q. q }
+onward_still k = record { tables = λ harts holds. holds; running = λ j. refl; quiet = λ t q. q; live = λ t. refl; areas = refl }
 
 pub onward_more : (k k' k'' : Tables) (harts u : ℕ) → IsTables harts k.threads.threads k.ready → IsOnward k k' → waits k'.threads.threads u
-    → k''.threads.threads ≡ with_woken u k'.threads.threads → k''.threads.saved ≡ with_answer u 0 k'.threads.saved → k''.ready ≡ with_ready u k'.ready → IsOnward k k''
-onward_more k k' k'' harts u holds onward waiting threads saved ready = record {
+    → k''.threads.threads ≡ with_woken u k'.threads.threads → k''.threads.saved ≡ with_answer u 0 k'.threads.saved → k''.ready ≡ with_ready u k'.ready → k''.areas ≡ k'.areas → IsOnward k k''
+onward_more k k' k'' harts u holds onward waiting threads saved ready areas = record {
   tables = λ n all. subst (λ (ts : Threads). IsTables n ts k''.ready) (sym threads) (subst (λ (sc : Scheduling). IsTables n (with_woken u k'.threads.threads) sc) (sym ready)
       (tables_woken n u k'.threads.threads k'.ready (onward.tables n all) waiting));
   running = λ j. ap (running_on j) threads ∙ woken_same harts u k'.threads.threads k'.ready (onward.tables harts holds) waiting j ∙ onward.running j;
   quiet = λ t q. quiet_woken t u k'.threads k''.threads saved (onward.quiet t q);
+  live = λ t. ap (is_live t) threads ∙ live_changed u t Ready k'.threads.threads ∙ onward.live t;
+  areas = areas ∙ onward.areas;
 }

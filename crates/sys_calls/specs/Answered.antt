@@ -14,6 +14,7 @@ use Rattle.block_model.specs.Tables.{IsTables}
 use Rattle.block_model.specs.Calls.Answers.{CallDone, negative, returned}
 use Rattle.sys_calls.specs.declared.kernel.Kernel.{Kernel}
 use Rattle.sys_calls.specs.Made.{AreSaved, HasPages, HoldsPages}
+use Rattle.sys_calls.specs.Registered.{areas_by_number}
 
 -- what a0 gets: the number, or the negative of the error number
 abbrev pub answer_of : Result ℕ Errno → ℕ
@@ -30,6 +31,7 @@ pub record IsRead (h : Here) (m : Map) (t : ℕ) (saved : Saved) : Type 0 where
 pub record IsTold (h : Here) (k : Kernel) : Type 0 where
   pub threads : k.threads.threads ≡ h.kernel.threads
   pub scheduling : k.ready ≡ h.kernel.scheduling
+  pub areas : areas_by_number k.areas.items ≡ h.kernel.areas
   pub console : k.console ≡ h.kernel.console
 
 -- these writes entered memory, and nothing else of the page map changed
@@ -43,10 +45,12 @@ pub record IsEntered (m : Map) (m' : Map) (writes : List Write) : Type 0 where
   pub break_start : break_start_in m' ≡ break_start_in m
 
 -- the tables were changed as the call did, and the page map where it had the pages of the process, no code with it; its writes
--- were told; the thread runs on with this answer, and the files of other threads that the call set are kept with them
+-- were told; the thread runs on with this answer, no concurrency id changes hands, and the files of other threads that the call set are kept with them
 pub record IsAnswered (h : Here) (t : ℕ) (k : Kernel) (m : Map) (k' : Kernel) (m' : Map) (written : List Write) (answer : Result ℕ Errno) (c : CallDone) : Type 0 where
   pub threads : k'.threads.threads ≡ c.kernel.threads
   pub scheduling : k'.ready ≡ c.kernel.scheduling
+  pub areas : areas_by_number k'.areas.items ≡ c.kernel.areas
+  pub ids : c.kernel.ids ≡ h.kernel.ids
   pub console : k'.console ≡ c.kernel.console
   pub pages : HasPages h m → HoldsPages c.kernel.pages h.setting.program.break_at (λ a. written_by c.entered a (h.byte a)) m'
   pub code : (a : ℕ) → code_in m' a ≡ code_in m a

@@ -11,6 +11,7 @@ use Rattle.block_model.specs.Here.{Here}
 use Rattle.block_model.specs.Kernel.{next_number}
 use Rattle.block_model.specs.Calls.Answers.{CallDone, argument, returned}
 use Rattle.block_model.specs.Calls.Cloning.{child_file, clone_child_cleartid, clone_child_settid, clone_parent_settid, has_flag, with_new_child, written_if}
+use Rattle.sys_calls.specs.Registered.{areas_by_number}
 use Rattle.sys_calls.specs.declared.kernel.Kernel.{Kernel}
 
 -- the writes of a child's number
@@ -46,10 +47,11 @@ abbrev pub clear_asked : Saved → ℕ → process.Threads → process.Threads
 clear_asked saved child ts =
     if has_flag (register saved.file 10) clone_child_cleartid then process.with_clear child (register saved.file 14) ts else ts
 
--- the tables have the child
+-- the tables have the child, which has no area
 pub record HasChild (h : Here) (t : ℕ) (k : Kernel) (k' : Kernel) : Type 0 where
   pub threads : k'.threads.threads ≡ (with_new_child h t).threads
   pub scheduling : k'.ready ≡ (with_new_child h t).scheduling
+  pub areas : areas_by_number k'.areas.items ≡ (with_new_child h t).areas
   pub console : k'.console ≡ (with_new_child h t).console
   pub saved : k'.threads.saved ≡ with_start (next_number h.kernel) (child_file h t) k.threads.saved
   pub running : (j : ℕ) → process.running_on j k'.threads.threads ≡ process.running_on j k.threads.threads

@@ -5,5 +5,6 @@ pub mod Ended
 pub mod Joined
 pub mod Made
 pub mod Numbers
+pub mod Registered
 pub mod Remapped
 pub mod Woken

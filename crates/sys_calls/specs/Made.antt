@@ -16,7 +16,9 @@ use Rattle.mach_types.specs.Kernel.Pages.{Pages, permission_of}
 use Rattle.page_map.specs.Map.{Map, break_in, break_start_in, code_in, free_in, held_in, permission_in}
 use Rattle.block_model.specs.Here.{Here}
 use Rattle.block_model.specs.History.{file_among}
+use Rattle.block_model.specs.Ids.{id_of, without_id}
 use Rattle.block_model.specs.Calls.Answers.{CallDone}
+use Rattle.sys_calls.specs.Registered.{areas_by_number}
 use Rattle.sys_calls.specs.declared.kernel.Kernel.{Kernel}
 use Rattle.sys_calls.specs.declared.calling.CallEnd.{CallEnd}
 use Rattle.sys_calls.specs.declared.calling.CallEnd.TheVariants as over
@@ -37,15 +39,17 @@ pub record HoldsPages (pages : Pages) (lowest_break : ℕ) (byte : ℕ → ℕ) 
 abbrev pub HasPages : Here → Map → Type 0
 HasPages h m = HoldsPages h.kernel.pages h.setting.program.break_at h.byte m
 
--- a rule may read here what the tables, the page map and the caller's registers hold
-pub record IsAt (h : Here) (k : Kernel) (m : Map) (here : Hart) (harts : ℕ) (tid : Tid) (saved : Saved) : Type 0 where
+-- a rule may read here what the tables, the page map and the caller's registers hold, and the caller holds this concurrency id
+pub record IsAt (h : Here) (k : Kernel) (m : Map) (here : Hart) (harts : ℕ) (tid : Tid) (saved : Saved) (cid : ℕ) : Type 0 where
   pub hart : h.hart ≡ here.0
   pub count : h.setting.limits.harts ≡ harts
   pub threads : k.threads.threads ≡ h.kernel.threads
   pub scheduling : k.ready ≡ h.kernel.scheduling
+  pub areas : areas_by_number k.areas.items ≡ h.kernel.areas
   pub console : k.console ≡ h.kernel.console
   pub pages : HasPages h m
   pub file : saved ≡ h.file tid.0
+  pub id : id_of tid.0 h.kernel.ids ≡ cid
 
 -- whether the thread gave up its hart
 abbrev pub gives_up : CallEnd → Bool
@@ -88,10 +92,13 @@ IsAnswer (over.Barrier targets restart) x = Unit {0}
 IsAnswer over.ThreadEnd x = Unit {0}
 IsAnswer (over.ProcessEnd e) x = Unit {0}
 
--- the tables, the page map and the caller's registers were changed as the call did, and nothing else was; and so the call ended
+-- the tables, the page map and the caller's registers were changed as the call did, and nothing else was; a caller that gave up its
+-- hart holds no concurrency id any more, and no other id changes hands; and so the call ended
 pub record IsMade (h : Here) (t : ℕ) (k : Kernel) (m : Map) (k' : Kernel) (m' : Map) (saved : Saved) (end : CallEnd) (c : CallDone) : Type 0 where
   pub threads : k'.threads.threads ≡ c.kernel.threads
   pub scheduling : k'.ready ≡ c.kernel.scheduling
+  pub areas : areas_by_number k'.areas.items ≡ c.kernel.areas
+  pub ids : c.kernel.ids ≡ (if gives_up end then without_id t h.kernel.ids else h.kernel.ids)
   pub console : k'.console ≡ c.kernel.console
   pub kept : AreSaved h.file k.threads → AreSaved (λ u. file_among c.files u (h.file u)) k'.threads
   pub own : saved ≡ file_among c.files t (h.file t)

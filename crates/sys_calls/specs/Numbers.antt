@@ -8,6 +8,7 @@ pub record IsOther (number : ℕ) : Type 0 where
   pub futex : number ≢ 98
   pub sched_setaffinity : number ≢ 122
   pub sched_yield : number ≢ 124
+  pub rseq : number ≢ 293
 
 -- a number of a call that changes no pages
 pub record IsOffPages (number : ℕ) : Type 0 where

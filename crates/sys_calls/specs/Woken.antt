@@ -1,6 +1,6 @@
 -- futex(2): the tables once threads were woken.
 use Rattle.std.specs.Prelude.{ℕ, ◌≡◌, length, map, None}
-use Rattle.mach_types.specs.Kernel.Threads.{running_on}
+use Rattle.mach_types.specs.Kernel.Threads.{is_live, running_on}
 use Rattle.kernel_threads.specs.Table.{saved_of}
 use Rattle.block_model.specs.Here.{Here}
 use Rattle.block_model.specs.History.{file_among}
@@ -11,6 +11,7 @@ use Rattle.sys_calls.specs.declared.futexes.Operation.{Operation}
 use Rattle.sys_calls.specs.declared.futexes.Operation.TheVariants.{Wait, Wake}
 use Rattle.sys_calls.specs.declared.kernel.Kernel.{Kernel}
 use Rattle.sys_calls.specs.Made.{AreSaved}
+use Rattle.sys_calls.specs.Registered.{areas_by_number}
 
 -- what an operation does
 abbrev pub futex_of : Operation → Here → ℕ → CallDone
@@ -22,12 +23,17 @@ pub record IsWoken (h : Here) (k : Kernel) (k' : Kernel) (most : ℕ) (at : ℕ)
   pub number : count ≡ length (wake most at h.kernel).threads
   pub threads : k'.threads.threads ≡ (wake most at h.kernel).kernel.threads
   pub scheduling : k'.ready ≡ (wake most at h.kernel).kernel.scheduling
+  pub areas : areas_by_number k'.areas.items ≡ (wake most at h.kernel).kernel.areas
+  pub ids : (wake most at h.kernel).kernel.ids ≡ h.kernel.ids
   pub console : k'.console ≡ (wake most at h.kernel).kernel.console
   pub kept : AreSaved h.file k.threads
       → AreSaved (λ u. file_among (map (answered_wait h) (wake most at h.kernel).threads) u (h.file u)) k'.threads
 
--- the tables hold, each hart runs the thread that it ran, and nothing is saved of who had nothing saved
+-- the tables hold, each hart runs the thread that it ran, nothing is saved of who had nothing saved, the same threads live, and the
+-- areas are the same
 pub record IsOnward (k : Kernel) (k' : Kernel) : Type 0 where
   pub tables : (harts : ℕ) → IsTables harts k.threads.threads k.ready → IsTables harts k'.threads.threads k'.ready
   pub running : (j : ℕ) → running_on j k'.threads.threads ≡ running_on j k.threads.threads
   pub quiet : (t : ℕ) → saved_of t k.threads.saved ≡ None → saved_of t k'.threads.saved ≡ None
+  pub live : (t : ℕ) → is_live t k'.threads.threads ≡ is_live t k.threads.threads
+  pub areas : k'.areas ≡ k.areas

@@ -7,6 +7,7 @@ ghost use Rattle.block_model.specs.Calls.{call_of};
 ghost use Rattle.sys_calls.specs.Answered.{AreTables, IsAnswered, IsRead, IsTold, KeepsTables};
 ghost use Rattle.sys_calls.specs.Made.{HasPages};
 ghost use Rattle.sys_calls.specs.Numbers.{IsOffPages, IsOther};
+ghost use Rattle.sys_calls.specs.Registered.{KeepsAreas};
 
 use crate::affinity::{getcpu, sched_getaffinity};
 use crate::arguments::widened;
@@ -62,6 +63,7 @@ pub fn answered(
     requires others { IsOther number }
     ensures errno { IfErr result (λ e. 1 ≤ e.0) }
     ensures tables { KeepsTables kernel.old kernel.new }
+    ensures areas { KeepsAreas kernel.old kernel.new }
     ensures answered { (h : Here) → h.hart ≡ here.0 → IsTold h kernel.old → HasPages h pages.old → IsRead h pages.old tid.0 saved.now
         → IsAnswered h tid.0 kernel.old pages.old kernel.new pages.new written.new.items result (call_of number h tid.0) }
 {
@@ -92,6 +94,7 @@ fn answered_on_same_pages(
     requires off_pages { IsOffPages number }
     ensures errno { IfErr result (λ e. 1 ≤ e.0) }
     ensures tables { KeepsTables kernel.old kernel.new }
+    ensures areas { KeepsAreas kernel.old kernel.new }
     ensures answered { (h : Here) → h.hart ≡ here.0 → IsTold h kernel.old → IsRead h pages.old tid.0 saved.now
         → IsAnswered h tid.0 kernel.old pages.old kernel.new pages.new written.new.items result (call_of number h tid.0) }
 {

@@ -5,9 +5,10 @@ ghost use Rattle.kernel_threads.specs.Table.{IsTable, saved_of};
 ghost use Rattle.mach_types.specs.Kernel.Threads.{running_on, runs};
 ghost use Rattle.block_model.specs.Here.{Here};
 ghost use Rattle.block_model.specs.Calls.{called as call_done};
-ghost use Rattle.block_model.specs.Tables.{IsTables};
+ghost use Rattle.block_model.specs.Tables.{AreOfLive, IsTables};
 ghost use Rattle.sys_calls.specs.Answered.{IsCaller, KeepsTables};
 ghost use Rattle.sys_calls.specs.Made.{IsAt, IsMade};
+ghost use Rattle.sys_calls.specs.Registered.{HoldAreas, KeepsAreas, areas_by_number};
 
 use crate::affinity::{sched_setaffinity, sched_yield};
 use crate::answering::answered;
@@ -16,6 +17,7 @@ use crate::ending::{exit, exit_group};
 use crate::futexes::futex;
 use crate::kernel::Kernel;
 use crate::memory::{Written, shows_pages};
+use crate::sequences::rseq;
 use arrayvec::ArrayVec;
 use kernel_threads::Threads;
 use mach_types::{End, Hart, Saved, Tid, Write};
@@ -31,6 +33,8 @@ const FUTEX: u64 = 98;
 const SCHED_SETAFFINITY: u64 = 122;
 
 const SCHED_YIELD: u64 = 124;
+
+const RSEQ: u64 = 293;
 
 /// What a call comes to.
 #[derive(Clone, Copy, Debug, PartialEq, Eq, Drop)]
@@ -77,15 +81,17 @@ pub fn make_call(
     requires runs { running_on here.0 kernel.old.threads.threads ≡ Some tid.0 }
     requires numbers { kernel.old.threads.threads.given < 2 ^ 31 - 1 }
     requires tables { IsTables harts kernel.old.threads.threads kernel.old.ready }
-    ensures made { (h : Here) → IsAt h kernel.old pages.old here harts tid saved.old
+    requires areas { AreOfLive kernel.old.threads.threads (areas_by_number kernel.old.areas.items) }
+    ensures made { (h : Here) → IsAt h kernel.old pages.old here harts tid saved.old cid
         → IsMade h tid.0 kernel.old pages.old kernel.new pages.new saved.new result.end (call_done h tid.0) }
     ensures table { IsTable kernel.new.threads }
     ensures tables { IsTables harts kernel.new.threads.threads kernel.new.ready }
-    ensures written { (h : Here) → IsAt h kernel.old pages.old here harts tid saved.old → result.written.items ≡ (call_done h tid.0).entered }
+    ensures areas { AreOfLive kernel.new.threads.threads (areas_by_number kernel.new.areas.items) }
+    ensures written { (h : Here) → IsAt h kernel.old pages.old here harts tid saved.old cid → result.written.items ≡ (call_done h tid.0).entered }
 {
     has_nothing_saved(&kernel.threads, tid);
     let mut written = ArrayVec::new();
-    let end = dispatch(kernel, pages, &mut written, here, harts, tid, saved);
+    let end = dispatch(kernel, pages, &mut written, here, harts, tid, saved, cid);
     let _ = kernel.threads.live();
     Called { end, written }
 }
@@ -107,16 +113,19 @@ fn dispatch(
     harts: u8,
     tid: Tid,
     saved: &mut Saved,
+    cid: u8,
 ) -> CallEnd
     requires some_hart { 1 ≤ harts }
     requires eight_harts { harts ≤ 8 }
     requires caller { IsCaller kernel.old here.0 tid.0 }
+    requires areas { HoldAreas kernel.old }
     requires numbers { kernel.old.threads.threads.given < 2 ^ 31 - 1 }
     requires fresh { written.old.items ≡ [] }
     ensures tables { KeepsTables kernel.old kernel.new }
-    ensures made { (h : Here) → IsAt h kernel.old pages.old here harts tid saved.old
+    ensures areas { KeepsAreas kernel.old kernel.new }
+    ensures made { (h : Here) → IsAt h kernel.old pages.old here harts tid saved.old cid
         → IsMade h tid.0 kernel.old pages.old kernel.new pages.new saved.new result (call_done h tid.0) }
-    ensures told { (h : Here) → IsAt h kernel.old pages.old here harts tid saved.old → written.new.items ≡ (call_done h tid.0).entered }
+    ensures told { (h : Here) → IsAt h kernel.old pages.old here harts tid saved.old cid → written.new.items ≡ (call_done h tid.0).entered }
 {
     shows_pages(pages);
     match call_number(saved) {
@@ -125,6 +134,7 @@ fn dispatch(
         FUTEX => futex(kernel, pages, here, tid, saved),
         SCHED_SETAFFINITY => sched_setaffinity(kernel, pages, here, harts, tid, saved),
         SCHED_YIELD => sched_yield(kernel, here, tid, saved),
+        RSEQ => rseq(kernel, pages, written, here, tid, saved, cid),
         number => {
             let outcome = answered(number, kernel, pages, written, here, tid, saved);
             go_on(saved, outcome)
@@ -134,7 +144,8 @@ fn dispatch(
 
 /// The call of thread `tid`, which runs on hart `here` with the registers `saved`: its number is in a7, its arguments in a0 to a5.
 ///
-/// `running` is the set of harts on which a thread runs, and `cid` the id that the calling thread holds; no call asks for them yet.
+/// `running` is the set of harts on which a thread runs; no call asks for it yet. `cid` is the concurrency id that the calling thread
+/// holds, from 0 on: [`rseq`] writes it into the area that it registers.
 /// Refusals come in the order of the manual pages, and a refused call changes a0 and the pc alone.
 pub fn call(
     kernel: &mut Kernel,
@@ -152,9 +163,11 @@ pub fn call(
     requires runs { running_on here.0 kernel.old.threads.threads ≡ Some tid.0 }
     requires numbers { kernel.old.threads.threads.given < 2 ^ 31 - 1 }
     requires tables { IsTables harts kernel.old.threads.threads kernel.old.ready }
-    ensures made { (h : Here) → IsAt h kernel.old pages.old here harts tid saved.old
+    requires areas { AreOfLive kernel.old.threads.threads (areas_by_number kernel.old.areas.items) }
+    ensures made { (h : Here) → IsAt h kernel.old pages.old here harts tid saved.old cid
         → IsMade h tid.0 kernel.old pages.old kernel.new pages.new saved.new result (call_done h tid.0) }
     ensures tables { IsTables harts kernel.new.threads.threads kernel.new.ready }
+    ensures areas { AreOfLive kernel.new.threads.threads (areas_by_number kernel.new.areas.items) }
 {
     make_call(kernel, pages, here, running, harts, tid, saved, cid).end
 }

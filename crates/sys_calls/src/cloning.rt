@@ -11,6 +11,7 @@ ghost use Rattle.block_model.specs.Calls.Answers.{refused};
 ghost use Rattle.block_model.specs.Calls.Cloning.{are_flags, child_file, clone, has_flag, set_if, written_if};
 ghost use Rattle.sys_calls.specs.Answered.{AreTables, IsAnswered, IsEntered, IsRead, IsTold, KeepsTables};
 ghost use Rattle.sys_calls.specs.Cloned.{CanWriteNumbers, HasChild, can_write_numbers, clear_asked, cloned, numbers_written};
+ghost use Rattle.sys_calls.specs.Registered.{KeepsAreas};
 
 use crate::arguments::{answer, argument};
 use crate::kernel::Kernel;
@@ -141,6 +142,7 @@ fn add_child(kernel: &mut Kernel, tid: Tid, start: Saved) -> Result<Tid, Errno>
     ensures threads { kernel.new.threads.threads ≡ with_child kernel.old.threads.threads }
     ensures saved { kernel.new.threads.saved ≡ with_start (kernel.old.threads.threads.given + 1) start kernel.old.threads.saved }
     ensures ready { kernel.new.ready ≡ with_ready (kernel.old.threads.threads.given + 1) (with_thread tid.0 (kernel.old.threads.threads.given + 1) kernel.old.ready) }
+    ensures areas { kernel.new.areas ≡ kernel.old.areas }
     ensures console { kernel.new.console ≡ kernel.old.console }
 {
     let child = kernel.threads.clone_thread(tid, start)?;
@@ -169,6 +171,7 @@ fn make_child(kernel: &mut Kernel, tid: Tid, saved: &Saved) -> Result<Tid, Errno
     ensures child { IsOk result }
     ensures number { IfOk result (λ t. t.0 ≡ kernel.old.threads.threads.given + 1) }
     ensures tables { KeepsTables kernel.old kernel.new }
+    ensures areas { KeepsAreas kernel.old kernel.new }
     ensures made { (h : Here) → IsTold h kernel.old → saved.now ≡ h.file tid.0 → HasChild h tid.0 kernel.old kernel.new }
 {
     let child = add_child(kernel, tid, child_file(saved))?;
@@ -217,6 +220,7 @@ pub fn clone(
     requires numbers { kernel.old.threads.threads.given < 2 ^ 31 - 1 }
     ensures errno { IfErr result (λ e. 1 ≤ e.0) }
     ensures tables { KeepsTables kernel.old kernel.new }
+    ensures areas { KeepsAreas kernel.old kernel.new }
     ensures answered { (h : Here) → IsTold h kernel.old → IsRead h pages.old tid.0 saved.now
         → IsAnswered h tid.0 kernel.old pages.old kernel.new pages.new written.new.items result (clone h tid.0) }
 {

@@ -12,6 +12,7 @@ ghost use Rattle.block_model.specs.Kernel.{waited};
 ghost use Rattle.sys_calls.specs.Answered.{AreTables, IsCaller, IsRead, IsTold, KeepsTables};
 ghost use Rattle.sys_calls.specs.Made.{HasPages, IsMade};
 ghost use Rattle.sys_calls.specs.Woken.{IsOnward, IsWoken, futex_of};
+ghost use Rattle.sys_calls.specs.Registered.{KeepsAreas};
 
 use crate::arguments::{answer, argument, go_on, int_argument};
 use crate::calling::CallEnd;
@@ -45,6 +46,7 @@ fn wake_one(kernel: &mut Kernel, at: u64) -> Option<Tid>
     ensures threads { IfSome result (λ t. kernel.new.threads.threads ≡ with_woken t.0 kernel.old.threads.threads) }
     ensures saved { IfSome result (λ t. kernel.new.threads.saved ≡ with_answer t.0 0 kernel.old.threads.saved) }
     ensures ready { IfSome result (λ t. kernel.new.ready ≡ with_ready t.0 kernel.old.ready) }
+    ensures areas { kernel.new.areas ≡ kernel.old.areas }
     ensures console { kernel.new.console ≡ kernel.old.console }
 {
     let tid = kernel.threads.wake_one(at)?;
@@ -123,6 +125,7 @@ fn may_wait(pages: &PageMap, saved: &Saved) -> Result<(), Errno>
 fn wait(kernel: &mut Kernel, pages: &PageMap, here: Hart, tid: Tid, saved: &mut Saved) -> CallEnd
     requires { IsCaller kernel.old here.0 tid.0 }
     ensures tables { KeepsTables kernel.old kernel.new }
+    ensures areas { KeepsAreas kernel.old kernel.new }
     ensures made { (h : Here) → h.hart ≡ here.0 → IsTold h kernel.old → HasPages h pages.now → IsRead h pages.now tid.0 saved.old
         → IsMade h tid.0 kernel.old pages.now kernel.new pages.now saved.new result (futex_wait h tid.0) }
 {
@@ -147,6 +150,7 @@ pub fn futex(
 ) -> CallEnd
     requires { IsCaller kernel.old here.0 tid.0 }
     ensures tables { KeepsTables kernel.old kernel.new }
+    ensures areas { KeepsAreas kernel.old kernel.new }
     ensures made { (h : Here) → h.hart ≡ here.0 → IsTold h kernel.old → HasPages h pages.now → IsRead h pages.now tid.0 saved.old
         → IsMade h tid.0 kernel.old pages.now kernel.new pages.now saved.new result (futex h tid.0) }
 {

@@ -5,6 +5,7 @@
 
 mod affinity;
 mod answering;
+mod areas;
 mod arguments;
 mod calling;
 mod cloning;
@@ -15,10 +16,12 @@ mod kernel;
 mod memory;
 mod memory_calls;
 mod numbers;
+mod sequences;
 #[cfg(test)]
 mod tests;
 mod writing;
 
+pub use areas::{Areas, MOST_AREAS, Registered, area_of};
 pub use calling::{CallEnd, Called, call, make_call};
 pub use console::Console;
 pub use kernel::Kernel;

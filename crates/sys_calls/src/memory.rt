@@ -49,13 +49,20 @@ pub fn write_word(pages: &mut PageMap, written: &mut Written, at: u64, value: u3
     ensures same { (a : ℕ) → can_write_in pages.new a ≡ can_write_in pages.old a }
     ensures told { written.new.items ≡ written.old.items ++ word_written at value ∷ [] }
 {
-    let store = Store {
+    let _ = pages.set(at, 4, u64::from(value));
+    tell_word(written, at, value);
+}
+
+/// Tells the write of a u32.
+pub fn tell_word(written: &mut Written, at: u64, value: u32)
+    requires room { length written.old.items < 4 }
+    ensures { written.new.items ≡ written.old.items ++ word_written at value ∷ [] }
+{
+    written.push(Write::Stored(Store {
         at,
         size: 4,
         value: u64::from(value),
-    };
-    let _ = pages.set(at, 4, store.value);
-    written.push(Write::Stored(store));
+    }));
 }
 
 /// Writes a u64.

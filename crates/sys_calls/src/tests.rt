@@ -5,5 +5,6 @@ mod bench;
 mod memory_calls;
 mod numbers;
 mod refusals;
+mod sequences;
 mod threads;
 mod waiters;

@@ -8,6 +8,7 @@ ghost use Rattle.block_model.specs.Calls.Answers.{number_at as number_there};
 ghost use Rattle.block_model.specs.Calls.Console.{all_readable, bytes_from, bytes_of, is_elsewhere, spans_at, total, write, writev};
 ghost use Rattle.sys_calls.specs.Joined.{write_joined};
 ghost use Rattle.sys_calls.specs.Answered.{IsAnswered, IsRead, IsTold, KeepsTables};
+ghost use Rattle.sys_calls.specs.Registered.{KeepsAreas};
 
 use crate::arguments::{argument, int_argument};
 use crate::console::Console;
@@ -50,6 +51,7 @@ fn is_elsewhere(saved: &Saved) -> bool
 pub fn write(kernel: &mut Kernel, pages: &PageMap, saved: &Saved) -> Result<u32, Errno>
     ensures errno { IfErr result (λ e. 1 ≤ e.0) }
     ensures tables { KeepsTables kernel.old kernel.new }
+    ensures areas { KeepsAreas kernel.old kernel.new }
     ensures answered { (h : Here) (t : ℕ) → IsTold h kernel.old → IsRead h pages.now t saved.now
         → IsAnswered h t kernel.old pages.now kernel.new pages.now [] result (write h t) }
 {
@@ -155,6 +157,7 @@ impl Records {
 pub fn writev(kernel: &mut Kernel, pages: &PageMap, saved: &Saved) -> Result<u32, Errno>
     ensures errno { IfErr result (λ e. 1 ≤ e.0) }
     ensures tables { KeepsTables kernel.old kernel.new }
+    ensures areas { KeepsAreas kernel.old kernel.new }
     ensures answered { (h : Here) (t : ℕ) → IsTold h kernel.old → IsRead h pages.now t saved.now
         → IsAnswered h t kernel.old pages.now kernel.new pages.now [] result (writev h t) }
 {
@@ -179,6 +182,7 @@ fn write_records(kernel: &mut Kernel, pages: &PageMap, records: Records) -> Resu
     requires end { records.at + 16 * records.count ≤ 2 ^ 64 }
     ensures errno { IfErr result (λ e. 1 ≤ e.0) }
     ensures tables { KeepsTables kernel.old kernel.new }
+    ensures areas { KeepsAreas kernel.old kernel.new }
     ensures answered { (h : Here) (t : ℕ) → IsTold h kernel.old → byte_in pages.now ≡ memory h
         → IsAnswered h t kernel.old pages.now kernel.new pages.now [] result (write_joined h t (spans_at h records.at records.count)) }
 {

@@ -33,6 +33,13 @@ class Listing(unittest.TestCase):
         answer = lens('list', EXAMPLES / 'threads' / 'sleeps.output', EXAMPLES / 'threads' / 'threads.elf')
         self.assertEqual(answer.stdout.decode(), (GOLDEN / 'sleeps.listing').read_text())
 
+    @needs_objdump
+    def test_golden_of_a_restart(self):
+        folder = EXAMPLES / 'percpu_counter'
+        run, elf = folder / 'preempted.output', folder / 'percpu_counter.elf'
+        answer = lens('list', run, elf, '--around', 152, '--context', 20)
+        self.assertEqual(answer.stdout.decode(), (GOLDEN / 'preempted.listing').read_text())
+
     def rows(self, **chosen):
         return list(list_run(found(), Selection(**chosen)))[1:-2]
 

@@ -8,5 +8,6 @@ pub mod Futexes
 pub mod Memory
 pub mod Numbers
 pub mod Said
+pub mod Sequences
 pub mod Steps
 pub mod Table

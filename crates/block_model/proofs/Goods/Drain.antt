@@ -22,4 +22,5 @@ good_drain here good free = go (waiting_here here) refl free
       given = omega arith;
       one = omega arith;
       kernel = good.kernel;
+      held = λ is. is;
     }

@@ -1,5 +1,5 @@
 -- An instruction.
-use Rattle.std.proofs.Common.{◌≡◌, ℕ, ◌+◌, ◌≤◌, List, [], ◌∷◌, refl, sym, ◌∙◌, arith, Bool, true, false, cond, ◌&&◌, ◌||◌, leb, ltb, Option, Some, None, length, is_some}
+use Rattle.std.proofs.Common.{◌≡◌, ℕ, ◌+◌, ◌≤◌, List, [], ◌∷◌, refl, sym, ◌∙◌, arith, Bool, true, false, not, cond, ◌&&◌, ◌||◌, leb, ltb, Option, Some, None, length, is_some}
 use Rattle.std.specs.List.{AllByRecursion}
 use Rattle.std.specs.Option.{option_or}
 use Rattle.std.proofs.lemmas.Bool.{leb-false, lt-ltb}
@@ -18,8 +18,10 @@ use Rattle.block_model.specs.Here.{Here, runs, memory, view, waiting_here}
 use Rattle.block_model.specs.Instruction.{fault_by, fetched}
 use Rattle.block_model.specs.Calls.{called}
 use Rattle.block_model.specs.Calls.Answers.{call_number}
-use Rattle.block_model.specs.Calls.Memory.{taken_by}
-use Rattle.block_model.specs.Events.Exec.{refusal_exec, refusal_exec_by, done_exec, done_exec_by, by_fault, by_call, by_effect, by_outcome, outcome_of, next_effect, next_fault, is_held, others_gate}
+use Rattle.block_model.specs.Calls.Memory.{lies_waiting_on, taken_by}
+use Rattle.block_model.specs.Calls.Sequences.{killed_in_call}
+use Rattle.block_model.specs.Events.Exec.{refusal_exec, refusal_exec_by, done_exec, done_exec_by, by_fault, by_call, called_here, by_effect, by_outcome, outcome_of, next_effect, next_fault, is_held, others_gate}
+use Rattle.block_model.specs.Sequences.{is_inside_here}
 use Rattle.block_model.proofs.Good.{IsGoodHere, IsFit, MayEnter}
 use Rattle.block_model.proofs.Goods.Calls.Fit.{fit_by_call, own_apart}
 use Rattle.block_model.proofs.Goods.Calls.Table.{fit_called}
@@ -77,6 +79,7 @@ still here t signal good at = record {
   given = omega arith;
   one = omega arith;
   kernel = good.kernel;
+  held = λ is. is;
 }
 
 plain : (here : Here) (t : ℕ) (e : Effect) → IsGoodHere here → runs here ≡ Some t → IsExecuted here.kernel.pages e (outcome_of here t e) → length (waiting_here here) + cond (is_plain_store e) 1 0 ≤ STORE_BUFFER_CAPACITY → IsFit here (by_outcome here t (outcome_of here t e))
@@ -92,6 +95,7 @@ plain here t e good at is room = record {
   given = omega arith;
   one = omega arith;
   kernel = good.kernel;
+  held = λ is. is;
 }
 
 -- a call wants no store to wait
@@ -128,10 +132,34 @@ gates : (a b : Option Why) → option_or a b ≡ None → (a ≡ None) × (b ≡
 gates None b free = (refl, free)
 gates (Some why) b free = absurd cc
 
+-- a call inside a sequence kills the process
+killed : (here : Here) (t : ℕ) → IsGoodHere here → runs here ≡ Some t → IsFit here (by_call here (killed_in_call here))
+killed here t good at = record {
+  executed = tt;
+  few = let w = good.few in omega arith;
+  drained = omega arith;
+  idle = λ none. let bad : None ≡ Some t = sym none ∙ at in absurd (cc);
+  others = λ k ne. refl;
+  apart = λ k u f ne runs. refl;
+  within = good.within;
+  paged = λ is. is;
+  given = omega arith;
+  one = omega arith;
+  kernel = good.kernel;
+  held = λ is. is;
+}
+
+call_by : (here : Here) (t : ℕ) (b : Bool) → IsGoodHere here → runs here ≡ Some t → waiting_here here ≡ []
+    → (not b && lies_waiting_on (taken_by (call_number here t) here t) here.waiting here.setting.limits.harts) ≡ false
+    → IsFit here (by_call here (cond b (killed_in_call here) (called here t)))
+call_by here t true good at none clear = killed here t good at
+call_by here t false good at none clear =
+    fit_by_call here (taken_by (call_number here t) here t) (called here t) good none clear (fit_called here t good at)
+
 call_or_plain : (here : Here) (t : ℕ) (e : Effect) (b : Bool) → is_call e ≡ b → IsGoodHere here → runs here ≡ Some t → (is_call e ≡ true → is_held here t ≡ false) → instruction_gate (length (waiting_here here)) (Some e) false ≡ None →
-    IsExecuted here.kernel.pages e (outcome_of here t e) → IsFit here (cond b (by_call here (called here t)) (by_outcome here t (outcome_of here t e)))
+    IsExecuted here.kernel.pages e (outcome_of here t e) → IsFit here (cond b (by_call here (called_here here t)) (by_outcome here t (outcome_of here t e)))
 call_or_plain here t e true is good at clear free done =
-    fit_by_call here (taken_by (call_number here t) here t) (called here t) good (none_waits (waiting_here here) e (call_wants_empty e is) free) (clear is) (fit_called here t good at)
+    call_by here t (is_inside_here here t) good at (none_waits (waiting_here here) e (call_wants_empty e is) free) (clear is)
 call_or_plain here t e false is good at clear free done = plain here t e good at done (gate_room (length (waiting_here here)) e false good.few free)
 
 fit_effect : (here : Here) (t : ℕ) (f : Option ℕ) (o : Option Effect) → IsGoodHere here → runs here ≡ Some t →

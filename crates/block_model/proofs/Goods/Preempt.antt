@@ -7,8 +7,9 @@ use Rattle.block_model.specs.Kernel.{left}
 use Rattle.block_model.proofs.Allowances.{same_live}
 use Rattle.block_model.proofs.KernelTables.{tables_left, left_others}
 use Rattle.block_model.proofs.Good.{IsGoodHere, IsFit}
+use Rattle.block_model.proofs.Held.{held_left}
 
-none_waits : (ws : List Store) → unless_waiting ws ≡ None → ws ≡ []
+pub none_waits : (ws : List Store) → unless_waiting ws ≡ None → ws ≡ []
 none_waits [] e = refl
 none_waits (w ∷ ws) e = cc
 
@@ -40,4 +41,5 @@ good_preempt here good free = go (runs here) refl free
             allowed = λ some u live. good.kernel.allowed some u (sym (same_live harts u ts (left t here.kernel).threads sc (left t here.kernel).scheduling tables after refl) ∙ live);
             console = good.kernel.console;
           };
+          held = held_left harts t here.kernel;
         }

@@ -3,7 +3,7 @@
 use Rattle.std.specs.Prelude.{ℕ, ◌%◌, ◌==◌, ◌||◌, ◌&&◌, Bool, not, min, nat_lt, List, [], ◌∷◌, ◌++◌, if◌then◌else◌}
 use Rattle.mach_types.specs.declared.errors.TheConstants.{EFAULT, EINVAL, EPERM, ESRCH}
 use Rattle.mach_types.specs.declared.user_memory.Write.{Write}
-use Rattle.mach_types.specs.Kernel.Record.{Kernel}
+use Rattle.block_model.specs.Record.{Kernel}
 use Rattle.mach_types.specs.Kernel.Scheduling.{affinity_of, has_hart, harts_in}
 use Rattle.mach_types.specs.Kernel.Threads.{is_live}
 use Rattle.block_model.specs.Here.{Here}

@@ -8,7 +8,7 @@ use Rattle.mach_types.specs.declared.limits.End.{End}
 use Rattle.mach_types.specs.declared.threads.Saved.{Saved}
 use Rattle.mach_types.specs.declared.user_memory.Write.{Write}
 use Rattle.mach_types.specs.declared.user_memory.Write.TheVariants.{Stored}
-use Rattle.mach_types.specs.Kernel.Record.{Kernel}
+use Rattle.block_model.specs.Record.{Kernel}
 use Rattle.rv_inst.specs.Words.{sum_64}
 use Rattle.block_model.specs.Here.{Here, memory, is_writable}
 

@@ -5,7 +5,7 @@ use Rattle.mach_types.specs.declared.errors.TheConstants.{EAGAIN, EFAULT, EINVAL
 use Rattle.mach_types.specs.declared.registers.Regs.{Regs}
 use Rattle.mach_types.specs.declared.threads.Saved.{Saved}
 use Rattle.mach_types.specs.declared.user_memory.Write.{Write}
-use Rattle.mach_types.specs.Kernel.Record.{Kernel}
+use Rattle.block_model.specs.Record.{Kernel}
 use Rattle.mach_types.specs.Kernel.Threads.{is_full}
 use Rattle.rv_inst.specs.Words.{sum_64}
 use Rattle.block_model.specs.Here.{Here}

@@ -6,7 +6,7 @@ use Rattle.mach_types.specs.Registers.{with_register}
 use Rattle.mach_types.specs.declared.address_space.TheConstants.{USER_END}
 use Rattle.mach_types.specs.declared.errors.TheConstants.{EAGAIN, EFAULT, EINVAL, ENOSYS}
 use Rattle.mach_types.specs.declared.threads.Saved.{Saved}
-use Rattle.mach_types.specs.Kernel.Record.{Kernel}
+use Rattle.block_model.specs.Record.{Kernel}
 use Rattle.mach_types.specs.Kernel.Threads.{longest_waiter}
 use Rattle.block_model.specs.Here.{Here}
 use Rattle.block_model.specs.Kernel.{waited, woken}

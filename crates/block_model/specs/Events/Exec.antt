@@ -1,5 +1,5 @@
 -- exec: the thread on the hart executes its next instruction, makes its fault, or makes its call.
-use Rattle.std.specs.Prelude.{ℕ, [], ◌∷◌, ◌&&◌, Bool, false, length, if◌then◌else◌, Option, Some, None, is_some}
+use Rattle.std.specs.Prelude.{ℕ, [], ◌∷◌, ◌&&◌, Bool, false, not, length, if◌then◌else◌, Option, Some, None, is_some}
 use Rattle.std.specs.Option.{option_map_or, option_or}
 use Rattle.mach_types.specs.Bytes.{all_stored}
 use Rattle.mach_types.specs.declared.events.Why.{Why}
@@ -12,7 +12,9 @@ use Rattle.block_model.specs.Here.{Here, Done, nothing, memory, is_writable, vie
 use Rattle.block_model.specs.Instruction as instruction
 use Rattle.block_model.specs.Calls.{called}
 use Rattle.block_model.specs.Calls.Answers.{CallDone, call_number}
+use Rattle.block_model.specs.Calls.Sequences.{killed_in_call}
 use Rattle.block_model.specs.Calls.Memory.{lies_waiting_on, taken_by}
+use Rattle.block_model.specs.Sequences.{is_inside_here}
 
 -- the next instruction of thread t, and its fault
 abbrev pub next_effect : Here → ℕ → Option Effect
@@ -22,9 +24,9 @@ abbrev pub next_fault : Here → ℕ → Option ℕ
 next_fault here t = instruction.next_fault here.setting.program.pages (memory here) (is_writable here) (here.file t)
 
 -- whether a byte of a store that waits on some hart of the machine lies on a page that the call of thread t would take (own: so
--- a store that was executed can always enter memory)
+-- a store that was executed can always enter memory). A call inside a sequence takes none
 abbrev pub is_held : Here → ℕ → Bool
-is_held here t = lies_waiting_on (taken_by (call_number here t) here t) here.waiting here.setting.limits.harts
+is_held here t = not (is_inside_here here t) && lies_waiting_on (taken_by (call_number here t) here t) here.waiting here.setting.limits.harts
 
 -- a call waits until no such store does
 abbrev pub others_gate : Bool → Option Effect → Option Why
@@ -65,10 +67,14 @@ by_outcome here t o = record (one_instruction here) {
 abbrev pub outcome_of : Here → ℕ → Effect → Outcome
 outcome_of here t e = outcome (view here) (here.file t).file (here.file t).pc here.reserved e
 
+-- no call may be made inside a restartable sequence: the process is killed (own; Linux does so where it checks, CONFIG_DEBUG_RSEQ)
+abbrev pub called_here : Here → ℕ → CallDone
+called_here here t = if is_inside_here here t then killed_in_call here else called here t
+
 abbrev pub by_effect : Here → ℕ → Option ℕ → Option Effect → Done
 by_effect here t (Some signal) e = by_fault here signal
 by_effect here t None None = one_instruction here
-by_effect here t None (Some e) = if is_call e then by_call here (called here t) else by_outcome here t (outcome_of here t e)
+by_effect here t None (Some e) = if is_call e then by_call here (called_here here t) else by_outcome here t (outcome_of here t e)
 
 abbrev pub done_exec_by : Here → Option ℕ → Done
 done_exec_by here None = nothing here

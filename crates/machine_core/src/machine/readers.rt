@@ -2,17 +2,19 @@
 
 ghost use Rattle.std.specs.Prelude.{◌≡◌, ◌<◌};
 ghost use Rattle.mach_types.specs.Bytes.{IsAccessSize, word_at};
+ghost use Rattle.block_model.specs.Acts.{named_at};
 ghost use Rattle.block_model.specs.Choosing.{credit_at};
 ghost use Rattle.block_model.specs.Deciding.{history};
 ghost use Rattle.block_model.specs.Here.{view};
 ghost use Rattle.block_model.specs.History.{events, here_in_history, ran};
 ghost use Rattle.block_model.specs.Sights.{effect_here, sight_in};
 ghost use Rattle.machine_core.specs.Harts.{hart_in};
+ghost use Rattle.machine_core.specs.Sequences.{area_on};
 
 use crate::machine::Machine;
 use crate::next::{effect_of_next, is_local, next_of};
 use hart_state::HartState;
-use mach_types::{Hart, Sight};
+use mach_types::{Area, Hart, Named, Sight};
 use rv_inst::Effect;
 
 impl Machine {
@@ -49,6 +51,22 @@ impl Machine {
         } else {
             effect_of_next(&self.code, state)
         }
+    }
+
+    /// The area that is registered for the thread on a hart (rseq(2)). None exactly where the hart is idle, or its thread has none.
+    pub fn area(&self, hart: Hart) -> Option<Area>
+        requires { hart.0 < self.now.setting.limits.harts }
+        ensures { result ≡ area_on (here_in_history self.now.setting (history self.now.setting self.now.log) hart.0) }
+    {
+        self.parts.area(hart)
+    }
+
+    /// What the area of a hart's thread names at its pc, as the hart sees memory (rseq(2)). Nothing where it has no area.
+    pub fn named(&self, hart: Hart) -> Named
+        requires { hart.0 < self.now.setting.limits.harts }
+        ensures { result ≡ named_at self.now.setting hart.0 (history self.now.setting self.now.log) }
+    {
+        self.parts.named(hart)
     }
 
     /// What a scheduler sees of a hart.

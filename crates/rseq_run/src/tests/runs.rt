@@ -1,5 +1,9 @@
 //! Runs that have a text, and their texts.
 
+use super::counters::{
+    ADDS_ONCE, BEHIND_SCRIPT, BEHIND_TEXT, CLEARED_SCRIPT, CLEARED_TEXT, CUT_SCRIPT, CUT_TEXT,
+    EXITS_WITH_ID, OTHER_CLEARS, SECOND_ID_SCRIPT, SECOND_ID_TEXT,
+};
 use super::devices::Files;
 use super::programs::{
     DIVISION, DIVISION_TEXT, DRAINED_STORE_SCRIPT, DRAINED_STORE_TEXT, EMPTY_SCRIPT_TEXT,
@@ -89,7 +93,7 @@ pub(super) fn worker_runs() -> [Run; 6] {
 }
 
 /// The runs without workers.
-pub(super) fn runs() -> [Run; 15] {
+pub(super) fn runs() -> [Run; 19] {
     [
         solo("", &EXIT_WITH_7, EXIT_TEXT),
         solo("", &ILLEGAL, ILLEGAL_TEXT),
@@ -106,5 +110,9 @@ pub(super) fn runs() -> [Run; 15] {
         play("--harts=8", &EXIT_WITH_7, MOVED_SCRIPT, MOVED_TEXT),
         play("--steps 6", &EXIT_WITH_7, MOVED_SCRIPT, MOVED_TEXT),
         play("--frames=128", &EXIT_WITH_7, MOVED_SCRIPT, MOVED_TEXT),
+        play("", &ADDS_ONCE, CUT_SCRIPT, CUT_TEXT),
+        play("--harts 1", &ADDS_ONCE, BEHIND_SCRIPT, BEHIND_TEXT),
+        play("", &OTHER_CLEARS, CLEARED_SCRIPT, CLEARED_TEXT),
+        play("", &EXITS_WITH_ID, SECOND_ID_SCRIPT, SECOND_ID_TEXT),
     ]
 }

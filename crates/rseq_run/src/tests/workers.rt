@@ -7,8 +7,12 @@ use super::runs::worker_runs;
 use crate::sure::{sure_main, sure_quiet};
 use mach_types::Hart;
 use outside::{Gate, OpenGate, SureShelf, SureSink};
+use std::alloc::{AllocError, Global};
+use std::process::Abort;
+use std::sync::Wait;
 use std::sync::atomic::{AtomicBool, Ordering};
 use std::test::Fail;
+use std::thread::Threads;
 
 /// The program that exits with 7.
 const EXITS: Files<'static> = Files {
@@ -18,12 +22,6 @@ const EXITS: Files<'static> = Files {
 
 /// How often a worker looks for another at most.
 const LOOKS: u32 = 50_000_000;
-
-/// The program of two threads.
-const THREADS: Files<'static> = Files {
-    program: &TWO_THREADS,
-    script: &[],
-};
 
 #[test]
 fn one_hart_runs_as_solo_whatever_the_seed(rt: HostRuntime) -> Result<(), Fail> {
@@ -66,26 +64,43 @@ fn sure_devices_give_the_text_of_run(rt: HostRuntime) -> Result<(), Fail> {
     Ok(())
 }
 
+/// Each run of a program on so many harts must have this console and this end, and its log must replay.
+pub(super) fn expect_runs<R: Threads + Wait + Sync + Abort>(
+    alloc: Global,
+    rt: &R,
+    program: &[u8],
+    harts: u8,
+    console: &[u8],
+    end: &[u8],
+) -> Result<(), AllocError> {
+    for seed in 0..4u8 {
+        let line = format!(in alloc; "run F --harts {harts} --seed {seed}")?;
+        let files = Files {
+            program,
+            script: &[],
+        };
+        let printed = made(alloc, rt, &line, files, SURE)?;
+        assert_eq!(rt; printed.status, 0, "{line}");
+        assert!(rt; printed.held.starts_with(console), "{line}");
+        assert!(rt; printed.held.ends_with(end), "{line}");
+        let lines = log_lines(alloc, &printed.held)?;
+        let files = Files {
+            program,
+            script: &lines,
+        };
+        let replay = format!(in alloc; "play F S --harts {harts}")?;
+        let again = made(alloc, rt, &replay, files, SURE)?;
+        assert_eq!(rt; again.status, 0, "{line}");
+        assert_eq!(rt; again.held, printed.held, "{line}");
+    }
+    Ok(())
+}
+
 #[test]
 fn each_log_of_two_threads_replays(rt: HostRuntime) -> Result<(), Fail> {
-    let alloc = rt.alloc();
     for harts in 1..=4u8 {
-        for seed in 0..4u8 {
-            let line = format!(in alloc; "run F --harts {harts} --seed {seed}")?;
-            let printed = made(alloc, &rt, &line, THREADS, SURE)?;
-            assert_eq!(rt; printed.status, 0, "{line}");
-            assert!(rt; printed.held.starts_with(b"console 2\n"), "{line}");
-            assert!(rt; printed.held.ends_with(b"\nend exit 0\n"), "{line}");
-            let lines = log_lines(alloc, &printed.held)?;
-            let files = Files {
-                program: &TWO_THREADS,
-                script: &lines,
-            };
-            let replay = format!(in alloc; "play F S --harts {harts}")?;
-            let again = made(alloc, &rt, &replay, files, SURE)?;
-            assert_eq!(rt; again.status, 0, "{line}");
-            assert_eq!(rt; again.held, printed.held, "{line}");
-        }
+        let end = b"\nend exit 0\n";
+        expect_runs(rt.alloc(), &rt, &TWO_THREADS, harts, b"console 2\n", end)?;
     }
     Ok(())
 }

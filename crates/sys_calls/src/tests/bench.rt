@@ -4,13 +4,14 @@ ghost use Rattle.std.specs.Prelude.{◌≡◌, ◌<◌, None, Some};
 ghost use Rattle.mach_types.specs.Kernel.Threads.{running_on, state_of};
 ghost use Rattle.mach_types.specs.Kernel.Scheduling.{Scheduling};
 ghost use Rattle.mach_types.specs.declared.threads.ThreadState.TheVariants.{Ready, Running};
-ghost use Rattle.block_model.specs.Tables.{IsTables};
+ghost use Rattle.block_model.specs.Tables.{AreOfLive, IsTables};
+ghost use Rattle.sys_calls.specs.Registered.{areas_by_number};
 
-use crate::{CallEnd, Called, Console, Kernel, make_call};
+use crate::{Areas, CallEnd, Called, Console, Kernel, area_of, make_call};
 use elf_load::load;
 use frame_pool::FramePool;
 use kernel_threads::Threads;
-use mach_types::{Hart, Limits, Regs, Saved, ThreadState, Tid, UserMem, Write};
+use mach_types::{Area, Hart, Limits, Regs, Saved, ThreadState, Tid, UserMem, Write};
 use page_map::PageMap;
 use std::alloc::Global;
 use std::process::Abort;
@@ -27,6 +28,9 @@ pub const DATA_END: u64 = 0x22000;
 
 /// Addresses of a process end here.
 pub const USER_END: u64 = 0x40_0000_0000;
+
+/// The concurrency id that each thread holds that calls.
+pub const CID: u8 = 5;
 
 /// The number of the call by which a thread ends.
 const EXIT: u64 = 93;
@@ -118,6 +122,7 @@ pub struct Bench {
     kernel: Kernel,
     pages: PageMap,
     ghost tables: { IsTables 2 kernel.threads.threads kernel.ready },
+    ghost areas: { AreOfLive kernel.threads.threads (areas_by_number kernel.areas.items) },
 }
 
 impl Bench {
@@ -127,6 +132,7 @@ impl Bench {
         let kernel = Kernel {
             threads: Threads::new(alloc, start)?,
             ready: scheduler::Ready::new(2),
+            areas: Areas::new(),
             console: Console::new(alloc)?,
         };
         let pages = booted(alloc)?;
@@ -159,7 +165,7 @@ impl Bench {
             2,
             Tid(tid),
             &mut saved,
-            0,
+            CID,
         )
     }
 
@@ -238,6 +244,11 @@ impl Bench {
     /// A thread must be in this state; None of one that isn't live.
     pub fn expect_state(&self, rt: &impl Abort, tid: u32, state: Option<ThreadState>) {
         assert_eq!(rt; self.kernel.threads.state(Tid(tid)), state, "thread {tid}");
+    }
+
+    /// A thread must have this area registered.
+    pub fn expect_area(&self, rt: &impl Abort, tid: u32, area: Option<Area>) {
+        assert_eq!(rt; area_of(&self.kernel, Tid(tid)), area, "thread {tid}");
     }
 
     /// The first ready threads that may run on the harts must be these.

@@ -2,7 +2,7 @@
 use Rattle.std.proofs.Common.{◌∙◌, ◌≡◌, ◌≢◌, ℕ, ◌%◌, ◌^◌, ◌<◌, Bool, true, false, cond, not, ◌||◌, ◌&&◌, eqb, ltb, min, Some}
 use Rattle.std.proofs.lemmas.Bool.{eqb-false}
 use Rattle.mach_types.specs.declared.errors.TheConstants.{EFAULT, EINVAL, EPERM, ESRCH}
-use Rattle.mach_types.specs.Kernel.Record.{Kernel}
+use Rattle.block_model.specs.Record.{Kernel}
 use Rattle.mach_types.specs.Kernel.Scheduling.{has_hart, harts_in}
 use Rattle.block_model.specs.Here.{Here, runs}
 use Rattle.block_model.specs.Kernel.{left, restricted}

@@ -5,7 +5,7 @@ use Rattle.std.proofs.lemmas.Bool.{ne_eqb}
 use Rattle.mach_types.specs.declared.errors.TheConstants.{EAGAIN, EFAULT, EINVAL}
 use Rattle.mach_types.specs.declared.threads.Saved.{Saved}
 use Rattle.mach_types.specs.declared.user_memory.Write.{Write}
-use Rattle.mach_types.specs.Kernel.Record.{Kernel}
+use Rattle.block_model.specs.Record.{Kernel}
 use Rattle.mach_types.specs.Kernel.Threads.{Thread, is_full, running_on, state_of}
 use Rattle.block_model.specs.Setting.{Setting}
 use Rattle.block_model.specs.Here.{Here, runs}
@@ -18,6 +18,7 @@ use Rattle.block_model.proofs.KernelTables.{running_is}
 use Rattle.block_model.proofs.KernelCalls.{child_not_held, child_same, tables_child}
 use Rattle.mach_types.proofs.Laws.{next_is_new}
 use Rattle.block_model.proofs.Good.{IsGoodHere, IsSound}
+use Rattle.block_model.proofs.Held.{held_child}
 use Rattle.block_model.proofs.Goods.Calls.Fit.{IsFitCall}
 use Rattle.block_model.proofs.Goods.Calls.Said.{IsApart, apart_own, unless_refused}
 use Rattle.block_model.proofs.Goods.Calls.Steps.{IsKept, kept_cleared, kept_still}
@@ -92,6 +93,7 @@ fit_child here t entered good at free =
       pages = kept.pages;
       given = let same = kept.given in omega arith;
       kernel = kept.sound;
+      held = λ is. kept.held (held_child s.limits.harts t here.kernel good.kernel.tables.threads is);
     }
 
 pub fit_clone : (here : Here) (t : ℕ) → IsGoodHere here → runs here ≡ Some t → IsFitCall here (clone here t)

@@ -16,6 +16,7 @@ use Rattle.block_model.specs.Tables.{IsTables}
 use Rattle.block_model.proofs.KernelTables.{running_is, runs_once}
 use Rattle.block_model.proofs.Paged.{IsPaged}
 use Rattle.block_model.proofs.Good.{IsGoodHere, IsFit, IsSound, MayEnter}
+use Rattle.block_model.proofs.Held.{IsHeld}
 
 not_true : (b : Bool) → not b ≡ true → b ≡ false
 not_true true is = cc
@@ -36,6 +37,7 @@ pub record IsFitCall (here : Here) (c : CallDone) : Type 0 where
   pub pages : c.kernel.pages ≡ here.kernel.pages
   pub given : c.kernel.threads.given ≤ here.kernel.threads.given + 1
   pub kernel : IsSound here.setting c.kernel
+  pub held : IsHeld here.setting.limits.harts here.kernel → IsHeld here.setting.limits.harts c.kernel
 
 -- a thread that runs on one hart isn't that of another
 pub runs_apart : (harts h k t u : ℕ) (ts : Threads) (sc : _) → IsTables harts ts sc → running_on h ts ≡ Some t → k ≢ h → running_on k ts ≡ Some u → t ≢ u
@@ -60,6 +62,7 @@ pub record IsFitTaking (here : Here) (r : PageRun) (c : CallDone) : Type 0 where
   pub paged : IsPaged here.setting here.kernel.pages → IsPaged here.setting c.kernel.pages
   pub given : c.kernel.threads.given ≤ here.kernel.threads.given + 1
   pub kernel : IsSound here.setting c.kernel
+  pub held : IsHeld here.setting.limits.harts here.kernel → IsHeld here.setting.limits.harts c.kernel
 
 -- a call that changes no page takes none
 pub takes_none : (here : Here) (r : PageRun) (c : CallDone) → IsFitCall here c → IsFitTaking here r c
@@ -70,6 +73,7 @@ takes_none here r c fit = record {
   paged = λ is. subst (IsPaged here.setting) (sym fit.pages) is;
   given = fit.given;
   kernel = fit.kernel;
+  held = fit.held;
 }
 
 -- a store that has no byte on the pages of the run may enter still
@@ -125,6 +129,7 @@ fit_by_call here r c good none clear fit = record {
   given = fit.given;
   one = omega arith;
   kernel = fit.kernel;
+  held = fit.held;
 }
   where
     within : (k : ℕ) → AllByRecursion (MayEnter c.kernel.pages) (here.waiting k)

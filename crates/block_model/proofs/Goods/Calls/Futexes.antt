@@ -7,7 +7,7 @@ use Rattle.mach_types.specs.declared.errors.TheConstants.{EAGAIN, EFAULT, EINVAL
 use Rattle.mach_types.specs.declared.threads.Saved.{Saved}
 use Rattle.mach_types.specs.declared.threads.ThreadState.{ThreadState}
 use Rattle.mach_types.specs.declared.threads.ThreadState.TheVariants.{Ready, Running, Waiting}
-use Rattle.mach_types.specs.Kernel.Record.{Kernel}
+use Rattle.block_model.specs.Record.{Kernel}
 use Rattle.mach_types.specs.Kernel.Threads.{Threads, is_waiting_at, longest_waiter, running_on, state_of, waits}
 use Rattle.block_model.specs.Setting.{Setting}
 use Rattle.block_model.specs.Here.{Here, runs}
@@ -30,7 +30,7 @@ waits_there at ts t (Some Ready) was e = absurd (false≢true e)
 waits_there at ts t (Some (Running h)) was e = absurd (false≢true e)
 waits_there at ts t (Some (Waiting b)) was e = (b, was)
 
-longest_waits : (at : ℕ) (ts : Threads) (t : ℕ) → longest_waiter at ts ≡ Some t → waits ts t
+pub longest_waits : (at : ℕ) (ts : Threads) (t : ℕ) → longest_waiter at ts ≡ Some t → waits ts t
 longest_waits at ts t e =
     let there = found_passes (λ u. is_waiting_at at (state_of u ts)) ts.waiters t e in
     waits_there at ts t (state_of t ts) refl there

@@ -13,6 +13,7 @@ use Rattle.block_model.specs.Kernel.{paged}
 use Rattle.block_model.specs.Calls.Answers.{CallDone, argument, refused, returned, said}
 use Rattle.block_model.specs.Calls.Memory.{are_mapping_flags, brk, changed_unless, mapped_or_refused, may_break, mmap, mprotect, munmap, no_pages, permission_here, taken_by_brk, taken_by_mprotect, taken_by_munmap, unless_refused}
 use Rattle.block_model.proofs.Good.{IsGoodHere}
+use Rattle.block_model.proofs.Held.{held_paged}
 use Rattle.block_model.proofs.Paged.{IsPaged}
 use Rattle.block_model.proofs.PagedCalls.{paged_brk, paged_mmap, paged_mprotect, paged_munmap}
 use Rattle.block_model.proofs.Placing.{IsPlaced, is_inside, placed}
@@ -31,6 +32,7 @@ fit_paged here t n entered r pages good at stays paged_after = record {
   paged = paged_after;
   given = omega arith;
   kernel = record { tables = good.kernel.tables; allowed = good.kernel.allowed; console = good.kernel.console };
+  held = held_paged here.setting.limits.harts pages here.kernel;
 }
 
 -- a call that answers 0 unless it is refused

@@ -27,6 +27,7 @@ fit_moved here c apart moved = record {
   pages = moved.pages;
   given = let same = moved.given in omega arith;
   kernel = moved.sound;
+  held = moved.held;
 }
 
 pub fit_kept : (here : Here) (c : CallDone) → IsApart here c.files → IsKept here.setting here.kernel c.kernel

@@ -1,7 +1,7 @@
 -- Steps of the kernel's record that calls are made of: what each keeps.
 use Rattle.std.proofs.Common.{◌≡◌, ◌≢◌, ℕ, ◌+◌, ◌≤◌, ◌<◌, ◌^◌, List, refl, ◌∙◌, arith, Some, length, length-append}
 use Rattle.mach_types.specs.declared.kernel_words.TheConstants.{CONSOLE_ROOM}
-use Rattle.mach_types.specs.Kernel.Record.{Kernel}
+use Rattle.block_model.specs.Record.{Kernel}
 use Rattle.mach_types.specs.Kernel.Threads.{running_on, waits}
 use Rattle.block_model.specs.Setting.{Setting}
 use Rattle.block_model.specs.Kernel.{cleared, gone, left, printed, restricted, waited, woken}
@@ -10,6 +10,7 @@ use Rattle.block_model.specs.Tables.{IsTables}
 use Rattle.block_model.proofs.KernelTables.{tables_cleared, cleared_same, tables_left, left_others}
 use Rattle.block_model.proofs.KernelCalls.{tables_allowed, tables_woken, woken_same, tables_waited, waited_others, tables_ended, ended_others}
 use Rattle.block_model.proofs.Good.{IsSound}
+use Rattle.block_model.proofs.Held.{IsHeld, held_cleared, held_gone, held_left, held_printed, held_restricted, held_waited, held_woken}
 
 -- each hart runs the thread that it ran, the pages stay, no number is given, and the record stays sound
 pub record IsKept (s : Setting) (before after : Kernel) : Type 0 where
@@ -17,6 +18,7 @@ pub record IsKept (s : Setting) (before after : Kernel) : Type 0 where
   pub pages : after.pages ≡ before.pages
   pub given : after.threads.given ≡ before.threads.given
   pub sound : IsSound s after
+  pub held : IsHeld s.limits.harts before → IsHeld s.limits.harts after
 
 -- the same, but for the hart h
 pub record IsMoved (s : Setting) (h : ℕ) (before after : Kernel) : Type 0 where
@@ -24,6 +26,7 @@ pub record IsMoved (s : Setting) (h : ℕ) (before after : Kernel) : Type 0 wher
   pub pages : after.pages ≡ before.pages
   pub given : after.threads.given ≡ before.threads.given
   pub sound : IsSound s after
+  pub held : IsHeld s.limits.harts before → IsHeld s.limits.harts after
 
 -- each thread may run where it might before, if who is live and the affinities stay
 kept_as_was : (s : Setting) (before after : Kernel) → IsSound s before
@@ -37,7 +40,7 @@ kept_as_was s before after sound tables same =
     kept_allowed harts ts after.threads sc after.scheduling sound.tables tables same sound.allowed
 
 pub kept_still : (s : Setting) (k : Kernel) → IsSound s k → IsKept s k k
-kept_still s k sound = record { running = λ h. refl; pages = refl; given = refl; sound = sound }
+kept_still s k sound = record { running = λ h. refl; pages = refl; given = refl; sound = sound; held = λ is. is }
 
 pub kept_twice : (s : Setting) (a b c : Kernel) → IsKept s a b → IsKept s b c → IsKept s a c
 kept_twice s a b c p q = record {
@@ -45,6 +48,7 @@ kept_twice s a b c p q = record {
   pages = q.pages ∙ p.pages;
   given = q.given ∙ p.given;
   sound = q.sound;
+  held = λ is. q.held (p.held is);
 }
 
 pub moved_after : (s : Setting) (h : ℕ) (a b c : Kernel) → IsKept s a b → IsMoved s h b c → IsMoved s h a c
@@ -53,11 +57,12 @@ moved_after s h a b c p q = record {
   pages = q.pages ∙ p.pages;
   given = q.given ∙ p.given;
   sound = q.sound;
+  held = λ is. q.held (p.held is);
 }
 
 pub kept_moved : (s : Setting) (h : ℕ) (a b : Kernel) → IsKept s a b → IsMoved s h a b
 kept_moved s h a b p =
-    record { others = λ k ne. p.running k; pages = p.pages; given = p.given; sound = p.sound }
+    record { others = λ k ne. p.running k; pages = p.pages; given = p.given; sound = p.sound; held = p.held }
 
 -- bytes that the console has room for
 pub kept_printed : (s : Setting) (bytes : List ℕ) (k : Kernel) → IsSound s k
@@ -71,6 +76,7 @@ kept_printed s bytes k sound room = record {
     allowed = sound.allowed;
     console = omega (arith, length-append k.console bytes);
   };
+  held = held_printed s.limits.harts bytes k;
 }
 
 pub kept_cleared : (s : Setting) (t at : ℕ) (k : Kernel) → IsSound s k → IsKept s k (cleared t at k)
@@ -86,6 +92,7 @@ kept_cleared s t at k sound =
         allowed = kept_as_was s k (cleared t at k) sound after refl;
         console = sound.console;
       };
+      held = held_cleared s.limits.harts t at k;
     }
 
 pub kept_woken : (s : Setting) (t : ℕ) (k : Kernel) → IsSound s k → waits k.threads t → IsKept s k (woken t k)
@@ -101,6 +108,7 @@ kept_woken s t k sound waiting =
         allowed = kept_as_was s k (woken t k) sound after refl;
         console = sound.console;
       };
+      held = held_woken s.limits.harts t k waiting;
     }
 
 pub kept_restricted : (s : Setting) (t set : ℕ) (k : Kernel) → IsSound s k → set < 2 ^ s.limits.harts
@@ -116,6 +124,7 @@ kept_restricted s t set k sound below some =
         allowed = restricted_allowed harts t set k.threads k.scheduling sound.tables below some sound.allowed;
         console = sound.console;
       };
+      held = held_restricted s.limits.harts t set k;
     }
 
 -- the thread on hart h leaves it: it is ready, it waits, or it is gone
@@ -133,6 +142,7 @@ moved_left s h t k sound at =
         allowed = kept_as_was s k (left t k) sound after refl;
         console = sound.console;
       };
+      held = held_left s.limits.harts t k;
     }
 
 pub moved_waited : (s : Setting) (h t at : ℕ) (k : Kernel) → IsSound s k → running_on h k.threads ≡ Some t
@@ -149,6 +159,7 @@ moved_waited s h t at k sound runs =
         allowed = kept_as_was s k (waited t at k) sound after refl;
         console = sound.console;
       };
+      held = held_waited s.limits.harts t at k;
     }
 
 pub moved_gone : (s : Setting) (h t : ℕ) (k : Kernel) → IsSound s k → running_on h k.threads ≡ Some t
@@ -164,4 +175,5 @@ moved_gone s h t k sound at =
         allowed = ended_allowed harts t k.threads k.scheduling sound.allowed;
         console = sound.console;
       };
+      held = held_gone s.limits.harts t k;
     }

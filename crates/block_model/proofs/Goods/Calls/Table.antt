@@ -17,6 +17,7 @@ use Rattle.block_model.proofs.Goods.Calls.Futexes.{fit_futex}
 use Rattle.block_model.proofs.Goods.Calls.Memory.{fit_brk, fit_mmap, fit_mprotect, fit_munmap}
 use Rattle.block_model.proofs.Goods.Calls.Numbers.{fit_getpid, fit_gettid, fit_set_tid_address}
 use Rattle.block_model.proofs.Goods.Calls.Said.{fit_refused}
+use Rattle.block_model.proofs.Goods.Calls.Sequences.{fit_rseq}
 
 -- one of two calls, by a test
 either : (here : Here) (r : PageRun) (b : Bool) (x y : CallDone) → (b ≡ true → IsFitTaking here r x) → (b ≡ false → IsFitTaking here r y)
@@ -54,7 +55,8 @@ module _ (number : ℕ) (here : Here) (t : ℕ) (good : IsGoodHere here) (at : r
       either here taken (eqb number 220) _ _ (λ _. still _ (fit_clone here t good at)) (λ _.
       either here taken (eqb number 222) _ _ (λ is. takes 222 (mmap here t) is (fit_mmap here t good at)) (λ _.
       either here taken (eqb number 226) _ _ (λ is. takes 226 (mprotect here t) is (fit_mprotect here t good at)) (λ _.
-      still _ (fit_refused here t ENOSYS good at))))))))))))))))))
+      either here taken (eqb number 293) _ _ (λ _. still _ (fit_rseq here t good at)) (λ _.
+      still _ (fit_refused here t ENOSYS good at)))))))))))))))))))
 
 pub fit_called : (here : Here) (t : ℕ) → IsGoodHere here → runs here ≡ Some t
     → IsFitTaking here (taken_by (call_number here t) here t) (called here t)

@@ -1,5 +1,5 @@
 use Rattle.block_model.proofs.theorems.chosen_runs_go_on.Goals as goal
-use Rattle.block_model.proofs.Choosing.{chosen_start, chosen_more, chosen_shorter}
+use Rattle.block_model.proofs.Laws.{chosen_start, chosen_more, chosen_shorter}
 
 pub returns : goal.returns
 returns c = record {

@@ -5,8 +5,8 @@ use Rattle.block_model.proofs.Sound.{idle_harts, one_hart, writable_stores}
 
 pub returns : goal.returns
 returns c = record {
-  idle = λ s log h run none. idle_harts s log h run none;
-  few = λ s log h run. (settled s (history s log) run).good.few h;
-  alone = λ s log h k t run here there. one_hart s log h k t run here there;
-  writable = λ s log h run. writable_stores s log h run;
+  idle = λ s log h run none. idle_harts s log h run.allowed none;
+  few = λ s log h run. (settled s (history s log) run.allowed).good.few h;
+  alone = λ s log h k t run here there. one_hart s log h k t run.allowed here there;
+  writable = λ s log h run. writable_stores s log h run.allowed;
 }

@@ -3,8 +3,8 @@ use Rattle.block_model.proofs.Agreement.{agreement, agreement_decide, agreement_
 
 pub returns : goal.returns
 returns c = record {
-  state = λ s log run. agreement s log run;
-  here = λ s log h run. agreement_here s log h run;
-  answer = λ s log h choice run. agreement_decide s log h choice run;
-  end = λ s log run. agreement_end s log run;
+  state = λ s log run. agreement s log run.allowed;
+  here = λ s log h run. agreement_here s log h run.allowed;
+  answer = λ s log h choice run. agreement_decide s log h choice run.allowed;
+  end = λ s log run. agreement_end s log run.allowed;
 }

@@ -2,4 +2,4 @@ use Rattle.block_model.proofs.theorems.refused_call_changes_nothing.Goals as goa
 use Rattle.block_model.proofs.ErrorEvents.{error_changes_nothing}
 
 pub returns : goal.returns
-returns c = λ s earlier later entry short run gives. error_changes_nothing s earlier later entry short run gives
+returns c = λ s earlier later entry short run gives. error_changes_nothing s earlier later entry short run.allowed gives

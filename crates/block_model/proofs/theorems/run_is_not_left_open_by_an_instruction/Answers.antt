@@ -3,4 +3,4 @@ use Rattle.block_model.specs.Deciding.{history}
 use Rattle.block_model.proofs.Ends.{not_open}
 
 pub returns : goal.returns
-returns c = λ s log run. not_open s (history s log) run
+returns c = λ s log run. not_open s (history s log) run.allowed

@@ -3,7 +3,7 @@ use Rattle.block_model.proofs.Entries.{all_harts, all_threads, all_addresses}
 
 pub returns : goal.returns
 returns c = record {
-  harts = λ s log run. all_harts s log run;
-  threads = λ s log short run. all_threads s log short run;
-  addresses = λ s log start run. all_addresses s log start run;
+  harts = λ s log run. all_harts s log run.allowed;
+  threads = λ s log short run. all_threads s log short run.allowed;
+  addresses = λ s log start run. all_addresses s log start run.allowed;
 }

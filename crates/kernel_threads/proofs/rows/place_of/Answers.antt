@@ -1,7 +1,7 @@
 use Rattle.std.proofs.Common.{rules, ◌∙◌}
 use Rattle.std.proofs.lemmas.List.Sorted.{answers_always}
 use Rattle.kernel_threads.specs.declared.rows.Row.{Row}
-use Rattle.kernel_threads.proofs.Places.{searched_place}
+use Rattle.mach_types.proofs.Places.{searched_place}
 use Rattle.kernel_threads.proofs.rows.place_of.Goals as goal
 
 -- the closure gives a row's number

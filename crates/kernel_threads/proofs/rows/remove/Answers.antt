@@ -2,7 +2,7 @@ use Rattle.std.proofs.Common.{◌≡◌, Some, None, sym, ap, ◌∙◌}
 use Rattle.std.specs.List.{position}
 use Rattle.kernel_threads.specs.declared.rows.Row.{Row}
 use Rattle.kernel_threads.specs.Rows.{is_row}
-use Rattle.kernel_threads.proofs.Places.{alone, without, once_if_rising}
+use Rattle.mach_types.proofs.Places.{alone, without, once_if_rising}
 use Rattle.kernel_threads.proofs.rows.remove.Goals as goal
 
 pub returns-in-Some : goal.returns-in-Some

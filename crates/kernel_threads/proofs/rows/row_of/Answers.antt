@@ -2,7 +2,7 @@ use Rattle.std.proofs.Common.{◌≡◌, get_or, List, Some, None, sym, ap, ◌�
 use Rattle.std.specs.List.{position}
 use Rattle.kernel_threads.specs.declared.rows.Row.{Row}
 use Rattle.kernel_threads.specs.Rows.{is_row}
-use Rattle.kernel_threads.proofs.Places.{found_there, not_found}
+use Rattle.mach_types.proofs.Places.{found_there, not_found}
 use Rattle.kernel_threads.proofs.rows.row_of.Goals as goal
 
 pub returns : goal.returns

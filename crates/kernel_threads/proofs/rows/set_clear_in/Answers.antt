@@ -1,7 +1,7 @@
 use Rattle.std.proofs.Common.{sym, ◌∙◌}
 use Rattle.kernel_threads.specs.declared.rows.Row.{Row}
 use Rattle.kernel_threads.specs.Rows.{is_row}
-use Rattle.kernel_threads.proofs.Places.{alone, without, once_if_rising}
+use Rattle.mach_types.proofs.Places.{alone, without, once_if_rising}
 use Rattle.kernel_threads.proofs.rows.set_clear_in.Goals as goal
 
 pub returns-in-Some : goal.returns-in-Some

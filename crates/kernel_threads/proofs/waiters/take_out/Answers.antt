@@ -2,7 +2,7 @@ use Rattle.std.proofs.Common.{◌≡◌, Some, None, sym, ap, ◌∙◌}
 use Rattle.std.specs.List.{position}
 use Rattle.kernel_threads.specs.Waits.{is_waiter}
 use Rattle.kernel_threads.specs.declared.waiters.Waiter.{Waiter}
-use Rattle.kernel_threads.proofs.Places.{alone, without, once_if_distinct}
+use Rattle.mach_types.proofs.Places.{alone, without, once_if_distinct}
 use Rattle.kernel_threads.proofs.waiters.take_out.Goals as goal
 
 pub returns-in-Some : goal.returns-in-Some

@@ -2,7 +2,7 @@ use Rattle.std.proofs.Common.{◌≡◌, ℕ, List, length, set, ap, sym, ◌∙
 use Rattle.std.proofs.Math.ListN.{length-set}
 use Rattle.arrayvec.proofs.ArrayVecLemmas.{items-with_items}
 use Rattle.mach_types.specs.Kernel.Scheduling.{is_of}
-use Rattle.scheduler.proofs.Places.{alone, without, once_if_distinct}
+use Rattle.mach_types.proofs.Places.{alone, without, once_if_distinct}
 use Rattle.scheduler.proofs.entry_list.change_at.Goals as goal
 
 pub returns-in-Some : goal.returns-in-Some

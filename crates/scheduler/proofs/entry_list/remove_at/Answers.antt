@@ -1,6 +1,6 @@
 use Rattle.std.proofs.Common.{ℕ, sym, ◌∙◌}
 use Rattle.mach_types.specs.Kernel.Scheduling.{is_of}
-use Rattle.scheduler.proofs.Places.{alone, without, once_if_distinct}
+use Rattle.mach_types.proofs.Places.{alone, without, once_if_distinct}
 use Rattle.scheduler.proofs.entry_list.remove_at.Goals as goal
 
 pub returns-in-Some : goal.returns-in-Some

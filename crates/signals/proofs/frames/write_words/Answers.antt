@@ -7,6 +7,7 @@ pub loop-index-init : goal.loop-index-init
 loop-index-init g c = record {
   bytes = all_left (g.M.UserMem.byte c.args.mem.now) c.args.at c.args.words.now;
   permissions = λ a i. g.M.UserMem.can_write c.args.mem.now a;
+  alike = g.met.M.UserMem.alike_itself c.args.mem.now;
   writable = sym (from_the_first (g.M.UserMem.can_write c.args.mem.now) c.args.at (length c.args.words.now)) ∙ c.requires.writable;
 }
 
@@ -23,6 +24,7 @@ loop-index-preserved g c =
       bytes = one_less (g.M.UserMem.byte c.args.mem.now) (g.M.UserMem.byte c.loop-index.mem) _ c.args.at i words c.set-written.result
           c.loop-index-test.true made c.set-written.ensures.bytes c.loop-index.invariant.bytes;
       permissions = λ a. c.set-written.ensures.permissions a ∙ c.loop-index.invariant.permissions a;
+      alike = g.met.M.UserMem.alike_next c.args.mem.now c.loop-index.mem _ c.loop-index.invariant.alike c.set-written.ensures.alike;
       writable = later_words first c.args.at i (length words) c.loop-index-test.true c.loop-index.invariant.writable;
     }
 
@@ -30,3 +32,6 @@ pub returns-clause-bytes : goal.returns-clause-bytes
 returns-clause-bytes g c =
     nothing_left (g.M.UserMem.byte c.args.mem.now) (g.M.UserMem.byte c.loop-index.mem) c.args.at c.loop-index.index c.args.words.now (omega arith)
     c.loop-index.invariant.bytes
+
+pub returns-clause-alike : goal.returns-clause-alike
+returns-clause-alike g c = c.loop-index.invariant.alike

@@ -1,15 +1,48 @@
 -- Each call that changes no pages, by its number.
-use Rattle.std.proofs.Common.{◌≡◌, ℕ, List, [], eqb, false, sym, subst, ◌∙◌, arith}
+use Rattle.std.proofs.Common.{◌≡◌, ℕ, List, [], eqb, false, refl, sym, subst, ◌∙◌, arith}
 use Rattle.std.specs.Prelude.{Ok, Err}
 use Rattle.std.proofs.lemmas.Bool.{ne_eqb}
 use Rattle.mach_types.specs.declared.errors.TheConstants.{ENOSYS}
 use Rattle.mach_types.specs.declared.user_memory.Write.{Write}
 use Rattle.block_model.specs.Calls.{call_of}
 use Rattle.block_model.specs.Calls.Answers.{refused}
+use Rattle.block_model.specs.Calls.Numbers.{getpid, gettid}
 use Rattle.sys_calls.specs.Answered.{IsAnswered}
 use Rattle.sys_calls.proofs.Reading.{if_false}
 use Rattle.sys_calls.proofs.Saying.{answered_said}
 use Rattle.sys_calls.proofs.answering.answered_on_same_pages.Goals as goal
+
+pub returns-in-64-clause-answered : goal.returns-in-64-clause-answered
+returns-in-64-clause-answered c = λ h hart told read.
+    let t = c.args.tid.0 in
+    let k = c.args.kernel.now in
+    let m = c.args.pages.now in
+    subst (λ (w : List Write). IsAnswered h t k m c.write.new.kernel m w c.write.result (call_of c.args.number h t)) (sym c.requires.fresh)
+    (subst (λ (n : ℕ). IsAnswered h t k m c.write.new.kernel m [] c.write.result (call_of n h t)) (sym c.in-64.is) (c.write.ensures.answered h t told read))
+
+pub returns-in-66-clause-answered : goal.returns-in-66-clause-answered
+returns-in-66-clause-answered c = λ h hart told read.
+    let t = c.args.tid.0 in
+    let k = c.args.kernel.now in
+    let m = c.args.pages.now in
+    subst (λ (w : List Write). IsAnswered h t k m c.writev.new.kernel m w c.writev.result (call_of c.args.number h t)) (sym c.requires.fresh)
+    (subst (λ (n : ℕ). IsAnswered h t k m c.writev.new.kernel m [] c.writev.result (call_of n h t)) (sym c.in-66.is) (c.writev.ensures.answered h t told read))
+
+pub returns-in-172-clause-answered : goal.returns-in-172-clause-answered
+returns-in-172-clause-answered c = λ h hart told read.
+    let t = c.args.tid.0 in
+    let k = c.args.kernel.now in
+    let m = c.args.pages.now in
+    subst (λ (w : List Write). IsAnswered h t k m k m w (Ok 1) (call_of c.args.number h t)) (sym c.requires.fresh)
+    (subst (λ (n : ℕ). IsAnswered h t k m k m [] (Ok 1) (call_of n h t)) (sym c.in-172.is) (answered_said h t k m (Ok 1) (getpid h t) told refl))
+
+pub returns-in-178-clause-answered : goal.returns-in-178-clause-answered
+returns-in-178-clause-answered c = λ h hart told read.
+    let t = c.args.tid.0 in
+    let k = c.args.kernel.now in
+    let m = c.args.pages.now in
+    subst (λ (w : List Write). IsAnswered h t k m k m w (Ok t) (call_of c.args.number h t)) (sym c.requires.fresh)
+    (subst (λ (n : ℕ). IsAnswered h t k m k m [] (Ok t) (call_of n h t)) (sym c.in-178.is) (answered_said h t k m (Ok t) (gettid h t) told refl))
 
 pub returns-in-96-clause-answered : goal.returns-in-96-clause-answered
 returns-in-96-clause-answered c = λ h hart told read.
@@ -63,9 +96,11 @@ returns-in_default-clause-answered c = λ h hart told read.
     let n215 : eqb n 215 ≡ false = ne_eqb n 215 p.munmap in
     let n222 : eqb n 222 ≡ false = ne_eqb n 222 p.mmap in
     let n226 : eqb n 226 ≡ false = ne_eqb n 226 p.mprotect in
+    let n293 : eqb n 293 ≡ false = ne_eqb n 293 o.rseq in
     let n220 : eqb n 220 ≡ false = ne_eqb n 220 (λ e. absurd (omega (arith, d, e))) in
     let is : call_of n h t ≡ refused h t ENOSYS =
     if_false (eqb n 64) _ _ n64 ∙ if_false (eqb n 66) _ _ n66 ∙ if_false (eqb n 93) _ _ n93 ∙ if_false (eqb n 94) _ _ n94 ∙ if_false (eqb n 96) _ _ n96 ∙ if_false (eqb n 98) _ _ n98
     ∙ if_false (eqb n 122) _ _ n122 ∙ if_false (eqb n 123) _ _ n123 ∙ if_false (eqb n 124) _ _ n124 ∙ if_false (eqb n 168) _ _ n168 ∙ if_false (eqb n 172) _ _ n172 ∙ if_false (eqb n 178) _ _ n178
-    ∙ if_false (eqb n 214) _ _ n214 ∙ if_false (eqb n 215) _ _ n215 ∙ if_false (eqb n 220) _ _ n220 ∙ if_false (eqb n 222) _ _ n222 ∙ if_false (eqb n 226) _ _ n226 in
+    ∙ if_false (eqb n 214) _ _ n214 ∙ if_false (eqb n 215) _ _ n215 ∙ if_false (eqb n 220) _ _ n220 ∙ if_false (eqb n 222) _ _ n222 ∙ if_false (eqb n 226) _ _ n226
+    ∙ if_false (eqb n 293) _ _ n293 in
     subst (λ (w : List Write). IsAnswered h t k m k m w (Err ENOSYS) (call_of n h t)) (sym c.requires.fresh) (answered_said h t k m (Err ENOSYS) (call_of n h t) told is)

@@ -23,6 +23,8 @@ made_group h t here k m end told has hart caller is =
     subst (λ (e : CallEnd). IsMade h t k m k m (h.file t) e (exit_group h t)) (sym is) (record {
       threads = told.threads;
       scheduling = told.scheduling;
+      areas = told.areas;
+      ids = refl;
       console = told.console;
       kept = λ all. all;
       own = refl;
@@ -40,14 +42,14 @@ answered-outcome-requires-clause-live c = caller_lives c.args.kernel.now c.args.
 pub returns-in-93-clause-made : goal.returns-in-93-clause-made
 returns-in-93-clause-made c = λ h at.
     let t = c.args.tid.0 in
-    let told = told_at h c.args.kernel.now c.args.pages.now c.args.here c.args.harts c.args.tid c.args.saved.now at in
+    let told = told_at h c.args.kernel.now c.args.pages.now c.args.here c.args.harts c.args.tid c.args.saved.now c.args.cid at in
     let read = c.shows_pages.ensures h c.args.tid.0 c.args.saved.now at.pages at.file in
     subst (λ (d : CallDone). IsMade h t c.args.kernel.now c.args.pages.now c.exit.new.kernel c.exit.new.pages c.args.saved.now c.exit.result d)
     (sym (numbered h t c.call_number.result 93 c.args.saved.now at.file c.call_number.ensures c.in-93.is)) (c.exit.ensures.made h at.hart told at.pages read)
 
 pub returns-in-93-clause-told : goal.returns-in-93-clause-told
 returns-in-93-clause-told c = λ h at.
-    let told = told_at h c.args.kernel.now c.args.pages.now c.args.here c.args.harts c.args.tid c.args.saved.now at in
+    let told = told_at h c.args.kernel.now c.args.pages.now c.args.here c.args.harts c.args.tid c.args.saved.now c.args.cid at in
     let read = c.shows_pages.ensures h c.args.tid.0 c.args.saved.now at.pages at.file in
     c.exit.ensures.told h told read ∙ ap (λ (d : CallDone). d.entered) (sym (numbered h c.args.tid.0 c.call_number.result 93 c.args.saved.now at.file c.call_number.ensures c.in-93.is))
 
@@ -56,7 +58,7 @@ returns-in-94-clause-made c = λ h at.
     let t = c.args.tid.0 in
     let k = c.args.kernel.now in
     let m = c.args.pages.now in
-    let told = told_at h k m c.args.here c.args.harts c.args.tid c.args.saved.now at in
+    let told = told_at h k m c.args.here c.args.harts c.args.tid c.args.saved.now c.args.cid at in
     let made = made_group h t c.args.here.0 k m c.exit_group.result told at.pages at.hart c.requires.caller (c.exit_group.ensures h t at.file) in
     subst (λ (d : CallDone). IsMade h t k m k m c.args.saved.now c.exit_group.result d) (sym (numbered h t c.call_number.result 94 c.args.saved.now at.file c.call_number.ensures c.in-94.is))
     (subst (λ (x : Saved). IsMade h t k m k m x c.exit_group.result (exit_group h t)) (sym at.file) made)
@@ -64,7 +66,7 @@ returns-in-94-clause-made c = λ h at.
 pub returns-in-98-clause-made : goal.returns-in-98-clause-made
 returns-in-98-clause-made c = λ h at.
     let t = c.args.tid.0 in
-    let told = told_at h c.args.kernel.now c.args.pages.now c.args.here c.args.harts c.args.tid c.args.saved.now at in
+    let told = told_at h c.args.kernel.now c.args.pages.now c.args.here c.args.harts c.args.tid c.args.saved.now c.args.cid at in
     let read = c.shows_pages.ensures h c.args.tid.0 c.args.saved.now at.pages at.file in
     subst (λ (d : CallDone). IsMade h t c.args.kernel.now c.args.pages.now c.futex.new.kernel c.args.pages.now c.futex.new.saved c.futex.result d)
     (sym (numbered h t c.call_number.result 98 c.args.saved.now at.file c.call_number.ensures c.in-98.is)) (c.futex.ensures.made h at.hart told at.pages read)
@@ -76,7 +78,7 @@ returns-in-98-clause-told c = λ h at.
 pub returns-in-122-clause-made : goal.returns-in-122-clause-made
 returns-in-122-clause-made c = λ h at.
     let t = c.args.tid.0 in
-    let told = told_at h c.args.kernel.now c.args.pages.now c.args.here c.args.harts c.args.tid c.args.saved.now at in
+    let told = told_at h c.args.kernel.now c.args.pages.now c.args.here c.args.harts c.args.tid c.args.saved.now c.args.cid at in
     let read = c.shows_pages.ensures h c.args.tid.0 c.args.saved.now at.pages at.file in
     subst (λ (d : CallDone). IsMade h t c.args.kernel.now c.args.pages.now c.sched_setaffinity.new.kernel c.args.pages.now c.sched_setaffinity.new.saved c.sched_setaffinity.result d)
     (sym (numbered h t c.call_number.result 122 c.args.saved.now at.file c.call_number.ensures c.in-122.is)) (c.sched_setaffinity.ensures.made h at.hart at.count told at.pages read)
@@ -88,16 +90,32 @@ returns-in-122-clause-told c = λ h at.
 pub returns-in-124-clause-made : goal.returns-in-124-clause-made
 returns-in-124-clause-made c = λ h at.
     let t = c.args.tid.0 in
-    let told = told_at h c.args.kernel.now c.args.pages.now c.args.here c.args.harts c.args.tid c.args.saved.now at in
+    let told = told_at h c.args.kernel.now c.args.pages.now c.args.here c.args.harts c.args.tid c.args.saved.now c.args.cid at in
     subst (λ (d : CallDone). IsMade h t c.args.kernel.now c.args.pages.now c.sched_yield.new.kernel c.args.pages.now c.sched_yield.new.saved c.sched_yield.result d)
     (sym (numbered h t c.call_number.result 124 c.args.saved.now at.file c.call_number.ensures c.in-124.is)) (c.sched_yield.ensures.made h c.args.pages.now at.hart told at.pages at.file)
+
+pub returns-in-293-clause-made : goal.returns-in-293-clause-made
+returns-in-293-clause-made c = λ h at.
+    let t = c.args.tid.0 in
+    let told = told_at h c.args.kernel.now c.args.pages.now c.args.here c.args.harts c.args.tid c.args.saved.now c.args.cid at in
+    let read = c.shows_pages.ensures h t c.args.saved.now at.pages at.file in
+    subst (λ (d : CallDone). IsMade h t c.args.kernel.now c.args.pages.now c.rseq.new.kernel c.rseq.new.pages c.rseq.new.saved c.rseq.result d)
+    (sym (numbered h t c.call_number.result 293 c.args.saved.now at.file c.call_number.ensures c.in-293.is)) (c.rseq.ensures.made h at.hart told at.pages read at.id)
+
+pub returns-in-293-clause-told : goal.returns-in-293-clause-told
+returns-in-293-clause-told c = λ h at.
+    let t = c.args.tid.0 in
+    let told = told_at h c.args.kernel.now c.args.pages.now c.args.here c.args.harts c.args.tid c.args.saved.now c.args.cid at in
+    let read = c.shows_pages.ensures h t c.args.saved.now at.pages at.file in
+    c.rseq.ensures.told h at.hart told read at.id
+    ∙ ap (λ (d : CallDone). d.entered) (sym (numbered h t c.call_number.result 293 c.args.saved.now at.file c.call_number.ensures c.in-293.is))
 
 pub returns-in_default-clause-made : goal.returns-in_default-clause-made
 returns-in_default-clause-made c = λ h at.
     let t = c.args.tid.0 in
     let k = c.args.kernel.now in
     let m = c.args.pages.now in
-    let told = told_at h k m c.args.here c.args.harts c.args.tid c.args.saved.now at in
+    let told = told_at h k m c.args.here c.args.harts c.args.tid c.args.saved.now c.args.cid at in
     let read = c.shows_pages.ensures h t c.args.saved.now at.pages at.file in
     let done = c.answered-outcome.ensures.answered h at.hart told at.pages read in
     let made = made_answered h t c.args.here.0 k c.answered-outcome.new.kernel m c.answered-outcome.new.pages c.args.saved.now c.go_on.new.saved c.answered-outcome.new.written.items c.answered-outcome.result c.go_on.result
@@ -110,7 +128,7 @@ returns-in_default-clause-made c = λ h at.
 pub returns-in_default-clause-told : goal.returns-in_default-clause-told
 returns-in_default-clause-told c = λ h at.
     let t = c.args.tid.0 in
-    let told = told_at h c.args.kernel.now c.args.pages.now c.args.here c.args.harts c.args.tid c.args.saved.now at in
+    let told = told_at h c.args.kernel.now c.args.pages.now c.args.here c.args.harts c.args.tid c.args.saved.now c.args.cid at in
     let read = c.shows_pages.ensures h c.args.tid.0 c.args.saved.now at.pages at.file in
     let done = c.answered-outcome.ensures.answered h at.hart told at.pages read in
     done.told ∙ ap (λ (d : CallDone). d.entered) (sym (numbered h t c.call_number.result c.call_number.result c.args.saved.now at.file c.call_number.ensures refl))

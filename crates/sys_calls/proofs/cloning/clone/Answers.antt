@@ -8,7 +8,7 @@ use Rattle.block_model.specs.Calls.Answers.{CallDone, argument, returned}
 use Rattle.block_model.specs.Calls.Cloning.{child_file, clone_child_cleartid, has_flag}
 use Rattle.sys_calls.specs.Answered.{IsAnswered, IsEntered}
 use Rattle.sys_calls.specs.Cloned.{cloned, numbers_written}
-use Rattle.sys_calls.proofs.Children.{asked_pages, kept_started, lives_other, quiet_started}
+use Rattle.sys_calls.proofs.Children.{asked_ids, asked_pages, kept_started, lives_other, quiet_started}
 use Rattle.sys_calls.proofs.Entering.{pages_kept}
 use Rattle.sys_calls.proofs.cloning.clone.Goals as goal
 
@@ -27,6 +27,8 @@ returns-clause-answered c = λ h told read.
     let done : IsAnswered h t k c.args.pages.now k' c.write_numbers.new.pages c.write_numbers.new.written.items (Ok u) (cloned h t) = record {
       threads = child.threads;
       scheduling = child.scheduling;
+      areas = child.areas;
+      ids = asked_ids h t (has_flag (argument h t 0) clone_child_cleartid);
       console = child.console;
       pages = pages_kept h c.args.pages.now c.write_numbers.new.pages (cloned h t) (subst (IsEntered c.args.pages.now c.write_numbers.new.pages) written c.write_numbers.ensures.entered)
           (asked_pages h t (has_flag (argument h t 0) clone_child_cleartid));

@@ -42,6 +42,8 @@ made_last : (h : Here) (t here : ℕ) (k : Kernel) (m m' : Map) (saved : Saved) 
 made_last h t here k m m' saved ws e hart told file caller has entered writes end = record {
   threads = told.threads;
   scheduling = told.scheduling;
+  areas = told.areas;
+  ids = refl;
   console = told.console;
   kept = λ all. all;
   own = file;
@@ -59,6 +61,8 @@ made_one : (h : Here) (t here : ℕ) (k k' : Kernel) (m m' : Map) (saved : Saved
 made_one h t here k k' m m' saved ws hart file has entered writes gone = record {
   threads = gone.threads;
   scheduling = gone.scheduling;
+  areas = gone.areas;
+  ids = gone.ids;
   console = gone.console;
   kept = gone.kept;
   own = file ∙ sym gone.alone;

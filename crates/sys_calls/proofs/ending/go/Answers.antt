@@ -1,13 +1,18 @@
 -- A thread that runs goes on running while others are woken, and then is gone.
-use Rattle.std.proofs.Common.{ℕ, sym, ap, subst, ◌∙◌}
+use Rattle.std.proofs.Common.{ℕ, List, sym, ap, subst, ◌∙◌}
 use Rattle.mach_types.specs.Kernel.Scheduling.{Scheduling, forget}
 use Rattle.mach_types.specs.Kernel.Threads.{Threads, running_on, without}
-use Rattle.block_model.specs.Tables.{IsTables}
+use Rattle.mach_types.specs.Kernel.Areas.{without_area}
+use Rattle.mach_types.specs.declared.sequences.Area.{Area}
+use Rattle.block_model.specs.Ids.{without_id}
+use Rattle.block_model.specs.Tables.{AreOfLive, IsTables}
 use Rattle.block_model.proofs.Laws.{ended_idle, tables_ended}
 use Rattle.sys_calls.specs.declared.kernel.Kernel.{Kernel}
 use Rattle.sys_calls.specs.Answered.{IsCaller}
+use Rattle.sys_calls.specs.Registered.{HoldAreas, areas_by_number}
 use Rattle.sys_calls.specs.Woken.{IsOnward}
 use Rattle.sys_calls.proofs.Keeping.{keeps_by, keeps_twice}
+use Rattle.sys_calls.proofs.Registering.{area_gone, keeps_alive, live_without}
 use Rattle.sys_calls.proofs.Saying.{kept_gone}
 use Rattle.sys_calls.proofs.Tables.{caller_held, caller_lives, caller_unlisted}
 use Rattle.sys_calls.proofs.Waking.{runs_alone}
@@ -35,11 +40,23 @@ returns-clause-tables c =
     let t = c.args.tid.0 in
     let k = c.args.kernel.now in
     let k1 = c.wake.new.kernel in
-    let k' : Kernel = record { threads = c.exit.new.self; ready = c.remove.new.self; console = k1.console } in
+    let k' : Kernel = record { threads = c.exit.new.self; ready = c.remove.new.self; areas = c.remove_area.new.registered; console = k1.console } in
     let caller : IsCaller k1 c.args.here.0 t = still k k1 c.args.here.0 t c.wake.ensures.onward c.requires in
     keeps_twice k k1 k' c.wake.ensures.onward.tables
     (keeps_by k1 k' (without t k1.threads.threads) (forget t k1.ready) c.exit.ensures.threads c.remove.ensures
     (λ harts holds. tables_ended harts c.args.here.0 t k1.threads.threads k1.ready holds caller.runs))
+
+pub returns-clause-areas : goal.returns-clause-areas
+returns-clause-areas c = λ holds.
+    let t = c.args.tid.0 in
+    let k = c.args.kernel.now in
+    let k1 = c.wake.new.kernel in
+    let ts = k1.threads.threads in
+    let onward = c.wake.ensures.onward in
+    let woken : HoldAreas k1 = keeps_alive k k1 onward.areas (λ u live. onward.live u ∙ live) holds in
+    subst (λ (areas : List (ℕ × Area)). AreOfLive c.exit.new.self.threads areas) (sym c.remove_area.ensures)
+    (subst (λ (us : Threads). AreOfLive us (without_area t (areas_by_number k1.areas.items))) (sym c.exit.ensures.threads)
+    (area_gone t ts (without t ts) (areas_by_number k1.areas.items) (λ u other live. live_without t u ts other ∙ live) woken))
 
 pub returns-clause-gone : goal.returns-clause-gone
 returns-clause-gone c = λ h told.
@@ -53,6 +70,8 @@ returns-clause-gone c = λ h told.
     record {
       threads = c.exit.ensures.threads ∙ ap (without t) woken.threads;
       scheduling = c.remove.ensures ∙ ap (forget t) woken.scheduling;
+      areas = c.remove_area.ensures ∙ ap (without_area t) woken.areas;
+      ids = ap (without_id t) woken.ids;
       console = woken.console;
       kept = λ all. kept_gone t _ k1.threads c.exit.new.self c.exit.ensures.saved (woken.kept all);
       idle = ap (running_on c.args.here.0) c.exit.ensures.threads ∙ ended_idle caller.tables.0 c.args.here.0 t k1.threads.threads k1.ready caller.tables.1 caller.runs;

@@ -8,6 +8,7 @@ use Rattle.block_model.specs.Calls.Answers.{argument}
 use Rattle.block_model.proofs.Laws.{tables_cleared}
 use Rattle.sys_calls.specs.declared.kernel.Kernel.{Kernel}
 use Rattle.sys_calls.proofs.Keeping.{keeps_by}
+use Rattle.sys_calls.proofs.Registering.{keeps_same, live_cleared}
 use Rattle.sys_calls.proofs.Saying.{saved_alike}
 use Rattle.sys_calls.proofs.Tables.{cleared_runs}
 use Rattle.sys_calls.proofs.numbers.set_tid_address.Goals as goal
@@ -15,9 +16,16 @@ use Rattle.sys_calls.proofs.numbers.set_tid_address.Goals as goal
 pub returns-clause-tables : goal.returns-clause-tables
 returns-clause-tables c =
     let k = c.args.kernel.now in
-    let k' : Kernel = record { threads = c.set_clear.new.self; ready = k.ready; console = k.console } in
+    let k' : Kernel = record { threads = c.set_clear.new.self; ready = k.ready; areas = k.areas; console = k.console } in
     keeps_by k k' (with_clear c.args.tid.0 c.argument.result k.threads.threads) k.ready c.set_clear.ensures.threads refl
     (λ harts holds. tables_cleared harts c.args.tid.0 c.argument.result k.threads.threads k.ready holds)
+
+pub returns-clause-areas : goal.returns-clause-areas
+returns-clause-areas c =
+    let k = c.args.kernel.now in
+    let k' : Kernel = record { threads = c.set_clear.new.self; ready = k.ready; areas = k.areas; console = k.console } in
+    keeps_same k k' (with_clear c.args.tid.0 c.argument.result k.threads.threads) refl c.set_clear.ensures.threads
+    (λ u. live_cleared c.args.tid.0 c.argument.result u k.threads.threads)
 
 pub returns-clause-answered : goal.returns-clause-answered
 returns-clause-answered c = λ h m told read.
@@ -26,6 +34,8 @@ returns-clause-answered c = λ h m told read.
       threads = c.set_clear.ensures.threads ∙ ap (λ (a : ℕ). with_clear c.args.tid.0 a c.args.kernel.now.threads.threads) at
           ∙ ap (with_clear c.args.tid.0 (argument h c.args.tid.0 0)) told.threads;
       scheduling = told.scheduling;
+      areas = told.areas;
+      ids = refl;
       console = told.console;
       pages = λ has. has;
       code = λ a. refl;

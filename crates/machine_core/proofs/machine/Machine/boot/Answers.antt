@@ -2,6 +2,7 @@
 use Rattle.std.proofs.Common.{◌≡◌, ◌∙◌, ap, arith, length, refl, None}
 use Rattle.elf_load.specs.Start.{program_of, start_file}
 use Rattle.kernel_threads.specs.Table.{start_table}
+use Rattle.sys_calls.specs.Registered.{areas_by_number}
 use Rattle.block_model.proofs.Laws.{start_run, start_plain}
 use Rattle.block_model.specs.Setting.{setting_of as setting_by}
 use Rattle.machine_core.specs.declared.parts.Parts.{Parts}
@@ -14,11 +15,11 @@ invariant_of-result c =
     let parts : Parts = record {
       pages = c.in_ok-pages.pages;
       harts = c.in_ok-harts.harts;
-      kernel = record { threads = c.in_ok-threads.threads; ready = c.new-ready.result; console = c.in_ok-console.console };
+      kernel = record { threads = c.in_ok-threads.threads; ready = c.new-ready.result; console = c.in_ok-console.console; areas = c.new-areas.result };
       ended = None;
     } in
     let first : c.in_ok-threads.threads ≡ start_table (start_file (program_of c.args.image.now)) = c.in_ok-threads.ensures.start ∙ ap start_table c.first_file.ensures in
-    let tied = tied-start c.args.image.now c.args.limits c.args.seed parts c.requires.image.permissions c.in_ok-pages.ensures.permissions c.in_ok-pages.ensures.held (c.in_ok-pages.ensures.free ∙ c.in_ok-pool.ensures.free) c.in_ok-pages.ensures.break_at c.in_ok-pages.ensures.break_start c.in_ok-harts.ensures.count c.in_ok-harts.ensures.idle first c.new-ready.ensures c.in_ok-console.ensures c.in_ok-threads.ensures.table refl in
+    let tied = tied-start c.args.image.now c.args.limits c.args.seed parts c.requires.image.permissions c.in_ok-pages.ensures.permissions c.in_ok-pages.ensures.held (c.in_ok-pages.ensures.free ∙ c.in_ok-pool.ensures.free) c.in_ok-pages.ensures.break_at c.in_ok-pages.ensures.break_start c.in_ok-harts.ensures.count c.in_ok-harts.ensures.idle first c.new-ready.ensures c.in_ok-console.ensures (ap areas_by_number c.new-areas.ensures) c.in_ok-threads.ensures.table refl in
     record {
       run = rw (c.in_ok-log.ensures.items, same_pages) (start_run (setting_by c.args.image.now c.args.limits c.args.seed));
       tied = rw (c.in_ok-log.ensures.items, same_pages, start_plain (setting_by c.args.image.now c.args.limits c.args.seed)) tied;

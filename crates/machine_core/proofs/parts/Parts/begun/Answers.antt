@@ -1,48 +1,97 @@
-use Rattle.std.proofs.Common.{◌≡◌, ◌+◌, eqb, arith, refl, sym, ap, ◌∙◌}
-use Rattle.std.specs.List.{list_any}
-use Rattle.std.proofs.lemmas.Bool.{OnTrue_at}
-use Rattle.mach_types.specs.Kernel.Scheduling.{Scheduling, without_ready}
-use Rattle.mach_types.specs.Kernel.Threads.{with_state}
-use Rattle.mach_types.specs.declared.events.Choice.TheVariants as asked
-use Rattle.mach_types.specs.declared.threads.ThreadState.TheVariants.{Running}
-use Rattle.hart_state.specs.declared.hart.HartState.{HartState}
-use Rattle.block_model.specs.Kernel.{ran}
-use Rattle.block_model.specs.Events.{done_of}
+use Rattle.std.proofs.Common.{◌≡◌, refl, sym, ap, ◌∙◌, true, false}
+use Rattle.mach_types.specs.Kernel.Areas.{lowest_cid}
+use Rattle.mach_types.specs.Kernel.Scheduling.{without_ready}
+use Rattle.mach_types.specs.Kernel.Threads.{state_of}
+use Rattle.scheduler.specs.Holding.{is_ready}
+use Rattle.kernel_threads.specs.Table.{Table}
+use Rattle.sys_calls.specs.declared.kernel.Kernel.{Kernel}
+use Rattle.block_model.specs.Ids.{next_id}
 use Rattle.block_model.specs.Plain.{here_of, plain_seen}
-use Rattle.block_model.proofs.Laws.{ready_listed, run_ready}
-use Rattle.machine_core.proofs.Events.{changed, none_lost}
-use Rattle.machine_core.proofs.HartEvents.{run_own}
-use Rattle.machine_core.proofs.KernelTies.{saved_ran}
-use Rattle.machine_core.proofs.NotStuck.{not_stuck, ready_live}
-use Rattle.machine_core.proofs.Places.{events_fit, fit_at, goes_on, hart_is, tables_at}
+use Rattle.machine_core.specs.Beginning.{IsReadied}
+use Rattle.machine_core.proofs.Ids.{held_here}
+use Rattle.machine_core.proofs.RunBegun.{begun_killed, begun_running, counted, listed, runs_then, some_free, waiting}
 use Rattle.machine_core.proofs.parts.Parts.begun.Goals as goal
 
--- src/moving.rt:121:9
-pub overflow_add-state : goal.overflow_add-state
-overflow_add-state c = let few = events_fit c.requires.seen c.args.self.now c.args.hart.0 c.index_mut-state.result.now c.requires.place c.index_mut-state.ensures.value in let same : c.enter.new.self.events ≡ c.index_mut-state.result.now.events = ap (λ (z : HartState). z.events) c.enter.ensures in omega (arith, few, same)
+pub next_id-id-requires : goal.next_id-id-requires
+next_id-id-requires c = some_free c.requires.seen c.args.self.now c.args.hart c.args.tid c.requires.place c.requires.free
 
--- src/moving.rt:113:5
-pub returns : goal.returns
-returns c = record {
-  entry = λ v place free. rw (c.entry_of.ensures, c.enter.ensures, place.tied.saved c.args.tid.0 c.run-saved.result (sym c.run-saved.ensures.answer)) refl;
+pub take_up-requires-clause-counted : goal.take_up-requires-clause-counted
+take_up-requires-clause-counted c =
+    let v = c.requires.seen in
+    let m = c.args.self.now in
+    let h = c.args.hart in
+    let t = c.args.tid in
+    let waits = waiting v m h t c.requires.place c.requires.free c.area_of-area.result c.next_id-id.result c.run-saved.result c.area_of-area.ensures c.next_id-id.ensures c.run-saved.ensures.answer in
+    let r = c.readied.ensures.readied (here_of v h.0) t.0 waits in
+    let m1 = c.readied.new.self in
+    let is : IsReadied (here_of v h.0) t.0 c.readied.result c.readied.new.saved m m1 = record { lives = r.lives; file = r.file; pages = r.pages; harts = r.harts } in
+    counted v m h t c.requires.place c.requires.free m1 c.readied.result c.readied.new.saved is
+
+pub kill-requires-clause-counted : goal.kill-requires-clause-counted
+kill-requires-clause-counted c =
+    let v = c.requires.seen in
+    let m = c.args.self.now in
+    let h = c.args.hart in
+    let t = c.args.tid in
+    let waits = waiting v m h t c.requires.place c.requires.free c.area_of-area.result c.next_id-id.result c.run-saved.result c.area_of-area.ensures c.next_id-id.ensures c.run-saved.ensures.answer in
+    let r = c.readied.ensures.readied (here_of v h.0) t.0 waits in
+    let m1 = c.readied.new.self in
+    let is : IsReadied (here_of v h.0) t.0 c.readied.result c.readied.new.saved m m1 = record { lives = r.lives; file = r.file; pages = r.pages; harts = r.harts } in
+    counted v m h t c.requires.place c.requires.free m1 c.readied.result c.readied.new.saved is
+
+pub take_up-requires-clause-ready : goal.take_up-requires-clause-ready
+take_up-requires-clause-ready c =
+    ap (λ (k : Kernel). is_ready c.args.tid.0 k.ready) c.readied.ensures.kernel ∙ listed c.requires.seen c.args.self.now c.args.hart c.args.tid c.requires.place c.requires.free
+
+pub kill-requires-clause-runs : goal.kill-requires-clause-runs
+kill-requires-clause-runs c =
+    let m = c.args.self.now in
+    let t = c.args.tid in (
+      c.args.hart,
+      ap (λ (k : Kernel). state_of t.0 k.threads.threads) c.readied.ensures.kernel ∙ ap (state_of t.0) c.run-saved.ensures.threads
+          ∙ runs_then c.requires.seen m c.args.hart t c.requires.place c.requires.free,
+    )
+
+pub returns-then-readied : goal.returns-then-readied
+returns-then-readied c = record {
+  entry = λ v place free. rw (place.tied.saved c.args.tid.0 c.run-saved.result (sym c.run-saved.ensures.answer)) refl;
   after = λ v place free.
-      let h = c.args.hart.0 in
-      let t = c.args.tid.0 in
-      let p = plain_seen v in
-      let is = run_ready (here_of v h) t free in
-      let tables = tables_at v c.args.self.now h place in
-      let x = c.index_mut-state.result.now in
-      let kept = place.tied.saved t c.run-saved.result (sym c.run-saved.ensures.answer) in
-      changed v h (done_of (asked.Run c.args.tid) (here_of v h)) c.args.self.now _ _ place (fit_at v c.args.self.now h (asked.Run c.args.tid) place free) (record {
-        own = run_own _ v.setting p h t c.run-saved.result x _ (hart_is v c.args.self.now h x place c.index_mut-state.ensures.value) tables is.1 is.0 place.lt kept (ap (λ (z : HartState). record z { events = z.events + 1 }) c.enter.ensures);
-        harts = none_lost h (done_of (asked.Run c.args.tid) (here_of v h)) _ refl;
-        pages = place.tied.pages;
-        readable = place.tied.readable;
-        threads = c.run-saved.ensures.threads ∙ ap (with_state t (Running c.args.hart)) place.tied.threads;
-        scheduling = OnTrue_at (c.take-ready.ensures.ready ∙ (ap (λ (sc : Scheduling). list_any (λ u. eqb u t) sc.order) place.tied.scheduling ∙ (ready_listed v.setting.limits.harts t p.kernel.threads p.kernel.scheduling tables ∙ is.1))) c.take-ready.ensures.taken ∙ ap (without_ready t) place.tied.scheduling;
-        console = place.tied.console;
-        table = c.run-saved.ensures.table;
-        saved = saved_ran p.file t c.args.self.now.kernel.threads c.run-saved.new.self c.run-saved.ensures.saved place.tied.saved;
-        ended = goes_on v c.args.self.now h (ran t h p.kernel) place (not_stuck t (Running c.args.hart) p.kernel.threads refl (ready_live t p.kernel.threads is.1));
-      });
+      let m = c.args.self.now in
+      let h = c.args.hart in
+      let t = c.args.tid in
+      let waits = waiting v m h t place free c.area_of-area.result c.next_id-id.result c.run-saved.result c.area_of-area.ensures c.next_id-id.ensures c.run-saved.ensures.answer in
+      let r = c.readied.ensures.readied (here_of v h.0) t.0 waits in
+      let m1 = c.readied.new.self in
+      let m2 = c.take_up.new.self in
+      let is : IsReadied (here_of v h.0) t.0 true c.readied.new.saved m m1 = record { lives = sym c.if-readied.true ∙ r.lives; file = r.file; pages = r.pages; harts = r.harts } in
+      let its : c.next_id-id.result ≡ next_id (plain_seen v).kernel.ids = c.next_id-id.ensures ∙ ap lowest_cid (held_here v m h.0 place) in
+      let threads : m2.kernel.threads ≡ c.run-saved.new.self = c.take_up.ensures.threads ∙ ap (λ (k : Kernel). k.threads) c.readied.ensures.kernel in
+      begun_running v m h t place free m1 m2 c.readied.new.saved c.next_id-id.result is its c.take_up.ensures.harts c.take_up.ensures.pages
+      (ap (λ (x : Table). x.threads) threads ∙ c.run-saved.ensures.threads) (ap (λ (x : Table). x.saved) threads ∙ c.run-saved.ensures.saved) (rw threads c.run-saved.ensures.table)
+      (c.take_up.ensures.ready ∙ ap (λ (k : Kernel). without_ready t.0 k.ready) c.readied.ensures.kernel)
+      (c.take_up.ensures.areas ∙ ap (λ (k : Kernel). k.areas) c.readied.ensures.kernel)
+      (c.take_up.ensures.console ∙ ap (λ (k : Kernel). k.console) c.readied.ensures.kernel)
+      (c.take_up.ensures.ended ∙ c.readied.ensures.ended);
+}
+
+pub returns-else-readied : goal.returns-else-readied
+returns-else-readied c = record {
+  entry = λ v place free. rw (place.tied.saved c.args.tid.0 c.run-saved.result (sym c.run-saved.ensures.answer)) refl;
+  after = λ v place free.
+      let m = c.args.self.now in
+      let h = c.args.hart in
+      let t = c.args.tid in
+      let waits = waiting v m h t place free c.area_of-area.result c.next_id-id.result c.run-saved.result c.area_of-area.ensures c.next_id-id.ensures c.run-saved.ensures.answer in
+      let r = c.readied.ensures.readied (here_of v h.0) t.0 waits in
+      let m1 = c.readied.new.self in
+      let m2 = c.kill.new.self in
+      let is : IsReadied (here_of v h.0) t.0 false c.readied.new.saved m m1 = record { lives = sym c.if-readied.false ∙ r.lives; file = r.file; pages = r.pages; harts = r.harts } in
+      let threads : m1.kernel.threads ≡ c.run-saved.new.self = ap (λ (k : Kernel). k.threads) c.readied.ensures.kernel in
+      begun_killed v m h t place free m1 m2 c.readied.new.saved m1.kernel.threads is c.kill.ensures.harts c.kill.ensures.pages
+      (ap (λ (x : Table). x.threads) threads ∙ c.run-saved.ensures.threads) (ap (λ (x : Table). x.saved) threads ∙ c.run-saved.ensures.saved)
+      c.kill.ensures.threads c.kill.ensures.saved c.kill.ensures.table
+      (c.kill.ensures.ready ∙ ap (λ (k : Kernel). k.ready) c.readied.ensures.kernel)
+      (c.kill.ensures.areas ∙ ap (λ (k : Kernel). k.areas) c.readied.ensures.kernel)
+      (c.kill.ensures.console ∙ ap (λ (k : Kernel). k.console) c.readied.ensures.kernel)
+      c.kill.ensures.ended;
 }

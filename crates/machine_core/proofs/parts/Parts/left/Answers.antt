@@ -10,6 +10,7 @@ use Rattle.block_model.specs.Plain.{here_of, plain_seen}
 use Rattle.machine_core.proofs.Entries.{changed_as, entry_preempt}
 use Rattle.machine_core.proofs.Events.{none_lost}
 use Rattle.machine_core.proofs.HartEvents.{preempt_own}
+use Rattle.machine_core.proofs.Ids.{id_without_other, others_apart}
 use Rattle.machine_core.proofs.KernelTies.{saved_left}
 use Rattle.machine_core.proofs.Leaving.{leaving}
 use Rattle.machine_core.proofs.NotStuck.{not_stuck}
@@ -53,6 +54,8 @@ returns c = record {
         readable = place.tied.readable;
         threads = c.leave.ensures.threads ∙ ap (with_state t Ready) place.tied.threads;
         scheduling = c.push.ensures ∙ ap (with_ready t) place.tied.scheduling;
+        areas = place.tied.areas;
+        ids = λ k u ne runs. id_without_other t u p.kernel.ids (others_apart v.setting.limits.harts h k t u p.kernel.threads p.kernel.scheduling (tables_at v m h place) is.at runs ne);
         console = place.tied.console;
         table = c.leave.ensures.table;
         saved = saved_left p.file t c.leave-saved.result m.kernel.threads c.leave.new.self c.leave.ensures.saved (c.leave-saved.ensures.file ∙ is.file) place.tied.saved;

@@ -1,9 +1,10 @@
-use Rattle.std.proofs.Common.{◌≡◌, ◌+◌, List, [], ◌∷◌, eqb, arith, sym, ap, ◌∙◌, slice_get, set, subst}
+use Rattle.std.proofs.Common.{refl, ◌≡◌, ◌+◌, List, [], ◌∷◌, eqb, arith, sym, ap, ◌∙◌, slice_get, set, subst}
 use Rattle.std.specs.Option.{option_map}
 use Rattle.mach_types.specs.Bytes.{all_stored, written}
 use Rattle.mach_types.specs.declared.events.Choice.TheVariants as asked
 use Rattle.mach_types.specs.declared.user_memory.Store.{Store}
 use Rattle.mach_types.specs.declared.user_memory.Write.{Write}
+use Rattle.mach_types.specs.declared.user_memory.Write.TheVariants.{Stored}
 use Rattle.rv_inst.specs.Execution.{Outcome}
 use Rattle.hart_state.specs.State.{hart_after, stores}
 use Rattle.hart_state.specs.declared.hart.HartState.{HartState}
@@ -15,7 +16,7 @@ use Rattle.machine_core.proofs.Entries.{changed_as, entry_exec}
 use Rattle.machine_core.proofs.Events.{none_lost}
 use Rattle.machine_core.proofs.HartEvents.{plain_own}
 use Rattle.machine_core.proofs.KernelTies.{saved_plain}
-use Rattle.machine_core.proofs.MemoryTies.{pages_stored, readable_stored}
+use Rattle.machine_core.proofs.MemoryTies.{pages_written, readable_written}
 use Rattle.machine_core.proofs.Performing.{may_perform, performing}
 use Rattle.machine_core.proofs.Places.{events_fit, hart_is, ran_fits, runs_there}
 use Rattle.machine_core.proofs.parts.Parts.plain.Goals as goal
@@ -55,10 +56,12 @@ returns-in-Some c = record {
         own = plain_own _ v.setting p h t is.outcome x y is.own plan.at (ap (λ (z : HartState). record z { ran = z.ran + 1; events = z.events + 1 }) (c.execute-made.ensures.hart ∙ ap (hart_after x) is.same));
         harts = λ k. c.enter.ensures.harts k ∙ ap (λ (ws : List Write). option_map (lost_unless (eqb k h) ws) (slice_get (set m.harts.items h y) k)) (sym (ap all_stored entered));
         pages = subst (λ (ws : List Store). HoldsPages p.kernel.pages v.setting.program.break_at (λ a. written (all_stored ws) a (p.byte a)) c.enter.new.self.pages) (sym entered)
-            (pages_stored p.kernel.pages v.setting.program.break_at p.byte w m.pages c.enter.new.self.pages place.tied.pages c.enter.ensures.pages);
-        readable = readable_stored w m.pages c.enter.new.self.pages place.tied.readable c.enter.ensures.pages;
+            (pages_written p.kernel.pages v.setting.program.break_at p.byte (Stored w ∷ []) m.pages c.enter.new.self.pages place.tied.pages c.enter.ensures.pages);
+        readable = readable_written (Stored w ∷ []) m.pages c.enter.new.self.pages place.tied.readable c.enter.ensures.pages;
         threads = rw c.enter.ensures.kernel place.tied.threads;
         scheduling = rw c.enter.ensures.kernel place.tied.scheduling;
+        areas = rw c.enter.ensures.kernel place.tied.areas;
+        ids = λ k u ne runs. refl;
         console = rw c.enter.ensures.kernel place.tied.console;
         saved = rw c.enter.ensures.kernel (saved_plain p.file t (record { file = is.outcome.regs; pc = is.outcome.pc }) c.args.hart m.kernel.threads place.tied.table (runs_there v m c.args.hart t place plan.at) place.tied.saved);
         table = rw c.enter.ensures.kernel place.tied.table;
@@ -86,6 +89,8 @@ returns-in_default c = record {
         readable = place.tied.readable;
         threads = place.tied.threads;
         scheduling = place.tied.scheduling;
+        areas = place.tied.areas;
+        ids = λ k u ne runs. refl;
         console = place.tied.console;
         saved = saved_plain p.file t (record { file = is.outcome.regs; pc = is.outcome.pc }) c.args.hart m.kernel.threads place.tied.table (runs_there v m c.args.hart t place plan.at) place.tied.saved;
         table = place.tied.table;

@@ -1,4 +1,4 @@
-use Rattle.std.proofs.Common.{◌≡◌, ◌<◌, ◌≤◌, ◌+◌, ◌∙◌, ℕ, arith, is_some, sym}
+use Rattle.std.proofs.Common.{◌+◌, arith, is_some, sym}
 use Rattle.mach_types.proofs.Laws.{each_page-fails, each_page-of}
 use Rattle.page_map.specs.Map.{permission_in}
 use Rattle.page_map.proofs.map.PageMap.is_mapped.Goals as goal

@@ -1,4 +1,4 @@
-use Rattle.std.proofs.Common.{◌≡◌, ◌∙◌, ap, is_some}
+use Rattle.std.proofs.Common.{ap, is_some}
 use Rattle.std.specs.Vec.{vec_capacity}
 use Rattle.page_map.specs.Map.{Map, permission_in}
 use Rattle.page_map.proofs.Maps.{is_mapped-placed, shown}

@@ -1,4 +1,4 @@
-use Rattle.std.proofs.Common.{◌≡◌, ◌<◌, ◌≤◌, ◌+◌, ◌-◌, ◌∙◌, ℕ, Some, None, arith, is_some, refl, sym}
+use Rattle.std.proofs.Common.{◌+◌, ◌-◌, ◌∙◌, arith, is_some, refl, sym}
 use Rattle.mach_types.proofs.Laws.{first_page-some}
 use Rattle.page_map.specs.Map.{permission_in}
 use Rattle.page_map.proofs.Runs.{code-found, code-none, code-step}

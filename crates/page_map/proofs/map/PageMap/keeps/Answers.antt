@@ -1,4 +1,4 @@
-use Rattle.std.proofs.Common.{◌≡◌, ◌≤◌, ◌<◌, subst, ℕ, true, false, None, ap, arith}
+use Rattle.std.proofs.Common.{◌≡◌, ◌≤◌, ◌<◌, subst, ℕ, true, false, None}
 use Rattle.std.specs.Vec.{vec_capacity}
 use Rattle.mach_types.specs.Kernel.Pages.{can_execute, can_read, can_write, pages_of}
 use Rattle.page_map.specs.Map.{Map, page_in, permission_in}

@@ -1,4 +1,4 @@
-use Rattle.std.proofs.Common.{◌≡◌, ℕ, ◌+◌, ◌≤◌, Some}
+use Rattle.std.proofs.Common.{◌≡◌, ℕ, ◌+◌, Some}
 use Rattle.mach_types.specs.Kernel.Pages.{run}
 use Rattle.page_map.specs.Map.{break_in, break_start_in, free_in, page_in, page_over}
 use Rattle.page_map.proofs.map.PageMap.map_zeros.Given as goal

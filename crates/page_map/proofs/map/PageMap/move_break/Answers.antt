@@ -1,4 +1,4 @@
-use Rattle.std.proofs.Common.{◌≡◌, ◌-◌, ◌≤◌, ◌∙◌, Some, ap, arith, refl, sym}
+use Rattle.std.proofs.Common.{◌≡◌, ◌-◌, ◌∙◌, Some, ap, arith, refl, sym}
 use Rattle.std.proofs.lemmas.Bool.{le-leb}
 use Rattle.mach_types.specs.Kernel.Pages.{PageRun, pages_of, run}
 use Rattle.mach_types.specs.Kernel.PageCalls.{break_run}

@@ -1,4 +1,4 @@
-use Rattle.std.proofs.Common.{◌≡◌, ◌-◌, ◌∙◌, ℕ, Bool, Option, ap, is_some}
+use Rattle.std.proofs.Common.{◌-◌, ◌∙◌, ap, is_some}
 use Rattle.std.specs.Vec.{vec_capacity}
 use Rattle.mach_types.specs.Kernel.Pages.{first_page}
 use Rattle.page_map.specs.Map.{Map, permission_in}

@@ -1,9 +1,9 @@
-use Rattle.std.proofs.Common.{◌≡◌, ◌<◌, ◌≤◌, ◌+◌, ◌/◌, ◌∙◌, ℕ, None, Some, ap, arith, refl, sym}
-use Rattle.mach_types.specs.Kernel.Pages.{can_execute, pages_of, run, run_over}
-use Rattle.mach_types.specs.Kernel.PageCalls.{mprotect_refusal, permission_for}
-use Rattle.page_map.specs.Map.{page_in, permission_in}
+use Rattle.std.proofs.Common.{◌≡◌, ◌/◌, ◌∙◌, ℕ, None, Some, ap, arith, sym}
+use Rattle.mach_types.specs.Kernel.Pages.{can_execute, run, run_over}
+use Rattle.mach_types.specs.Kernel.PageCalls.{mprotect_refusal}
+use Rattle.page_map.specs.Map.{permission_in}
 use Rattle.page_map.proofs.Runs.{is-mapped, prot-no-code, protected-code, protected-permissions}
-use Rattle.page_map.proofs.Unrefused.{IsProtectable, protectable}
+use Rattle.page_map.proofs.Unrefused.{protectable}
 use Rattle.page_map.proofs.map.PageMap.protect.Goals as goal
 
 pub protect_pages-requires-clause-mapped : goal.protect_pages-requires-clause-mapped

@@ -1,11 +1,9 @@
-use Rattle.std.proofs.Common.{◌≡◌, ◌≢◌, ◌<◌, ◌≤◌, ◌+◌, ◌-◌, ◌∙◌, List, Option, Some, None, ℕ, cond, is_some, length, get_or, nat_eq, slice_get, slice_set, ap, arith, subst, sym}
+use Rattle.std.proofs.Common.{◌≡◌, ◌<◌, ◌+◌, ◌-◌, ◌∙◌, List, Option, Some, None, ℕ, cond, is_some, length, get_or, nat_eq, slice_get, slice_set, ap, arith, subst, sym}
 use Rattle.std.specs.Vec.{vec_capacity, vec_len}
 use Rattle.frame_pool.specs.Pool.{IsTaken, free_count}
 use Rattle.page_map.specs.Map.{Map, Page, free_in, page_in}
-use Rattle.page_map.specs.Mapping.{IsMap}
-use Rattle.page_map.specs.Table.{Table, place_in}
-use Rattle.page_map.specs.declared.mapped_page.MappedPage.{MappedPage}
-use Rattle.page_map.proofs.Maps.{page-lies, page-none, page-taken, place-within, shown, slice_get-read}
+use Rattle.page_map.specs.Table.{place_in}
+use Rattle.page_map.proofs.Maps.{page-lies, page-none, place-within, shown, slice_get-read}
 use Rattle.page_map.proofs.Removing.{IsRemoved, removed-by, removed-free, removed-map, removed-pages, removed-taken}
 use Rattle.page_map.proofs.map.PageMap.remove.Goals as goal
 

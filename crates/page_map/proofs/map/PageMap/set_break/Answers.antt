@@ -1,4 +1,4 @@
-use Rattle.std.proofs.Common.{◌≡◌, ◌≤◌, ◌∙◌, ℕ, ap, arith}
+use Rattle.std.proofs.Common.{◌∙◌, ap, arith}
 use Rattle.std.specs.Vec.{vec_capacity}
 use Rattle.page_map.specs.Map.{Map, page_in}
 use Rattle.page_map.proofs.Keeping.{moved-break}

@@ -1,4 +1,4 @@
-use Rattle.std.proofs.Common.{◌≡◌, ◌∙◌, arith, List, Option, Some, None, ℕ, cond, is_some, nat_eq, slice_get, ap, sym}
+use Rattle.std.proofs.Common.{◌≡◌, ◌∙◌, arith, Option, Some, None, cond, is_some, nat_eq, slice_get, ap, sym}
 use Rattle.std.specs.Vec.{vec_capacity}
 use Rattle.page_map.specs.Map.{Map, Page, page_in, protected_page}
 use Rattle.std.specs.Option.{option_map}

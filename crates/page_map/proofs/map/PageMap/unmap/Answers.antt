@@ -1,5 +1,5 @@
-use Rattle.std.proofs.Common.{◌≡◌, ◌+◌, ◌<◌, ◌/◌, ◌∙◌, None, refl, sym, arith}
-use Rattle.mach_types.specs.Kernel.Pages.{pages_of, run}
+use Rattle.std.proofs.Common.{◌≡◌, ◌/◌, ◌∙◌, None, refl, sym, arith}
+use Rattle.mach_types.specs.Kernel.Pages.{run}
 use Rattle.mach_types.specs.Kernel.PageCalls.{munmap_refusal}
 use Rattle.page_map.specs.Map.{permission_in}
 use Rattle.page_map.proofs.Runs.{over-code, run-in}

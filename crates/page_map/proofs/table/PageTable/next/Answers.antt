@@ -1,6 +1,4 @@
 use Rattle.std.proofs.Common.{ap, arith, is_some}
-use Rattle.std.specs.Vec.{vec_capacity}
-use Rattle.page_map.specs.Table.{place_in}
 use Rattle.page_map.proofs.Tables.{found, found-none}
 use Rattle.page_map.proofs.table.PageTable.next.Goals as goal
 

@@ -4,7 +4,7 @@ use Rattle.std.specs.List.Sorted.{IsStrictlyIncreasing}
 use Rattle.std.proofs.lemmas.List.Sorted.{answers_always}
 use Rattle.mach_types.specs.Kernel.Scheduling.{is_of}
 use Rattle.scheduler.specs.Entries.{numbers}
-use Rattle.scheduler.proofs.Places.{searched_place}
+use Rattle.mach_types.proofs.Places.{searched_place}
 use Rattle.scheduler.proofs.affinities.Affinities.place_of.Goals as goal
 
 -- the closure gives an entry's number

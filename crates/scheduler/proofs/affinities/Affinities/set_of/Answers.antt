@@ -1,7 +1,7 @@
 use Rattle.std.proofs.Common.{ℕ, List, Option, get_or, ap, sym, ◌∙◌}
 use Rattle.std.specs.Option.{option_map_or}
 use Rattle.mach_types.specs.Kernel.Scheduling.{is_of}
-use Rattle.scheduler.proofs.Places.{found_there, not_found}
+use Rattle.mach_types.proofs.Places.{found_there, not_found}
 use Rattle.scheduler.proofs.affinities.Affinities.set_of.Goals as goal
 
 pub returns-in-Some : goal.returns-in-Some

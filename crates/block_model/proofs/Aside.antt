@@ -1,0 +1,185 @@
+-- What a call leaves as it is of other threads: who is ready stays so with its file, and each other thread keeps its area.
+use Rattle.std.proofs.Common.{◌≡◌, ◌≢◌, ℕ, ◌+◌, zero, suc, List, [], map, refl, sym, ap, ◌∙◌, inl, inr, Bool, true, false, cond, Option, Some, None}
+use Rattle.std.specs.Option.{option_map, option_map_or}
+use Rattle.std.proofs.lemmas.Bool.{false≢true, ne_eqb}
+use Rattle.std.proofs.lemmas.Bool.Decides.{eqb_tells}
+use Rattle.mach_types.proofs.Laws.{area_of-with_area_other, area_of-without_area_other, next_is_new, state_of-with_child_other, state_of-with_child_same, state_of-with_clear, state_of-with_state_other, state_of-with_state_same, state_of-without_other}
+use Rattle.mach_types.specs.Kernel.Areas.{area_of}
+use Rattle.mach_types.specs.Kernel.Threads.{IsThreads, Thread, Threads, is_ready, longest_waiter, state_of, waits, with_child, with_state}
+use Rattle.mach_types.specs.declared.errors.Errno.{Errno}
+use Rattle.mach_types.specs.declared.sequences.Area.{Area}
+use Rattle.mach_types.specs.declared.threads.Saved.{Saved}
+use Rattle.mach_types.specs.declared.threads.ThreadState.{ThreadState}
+use Rattle.mach_types.specs.declared.threads.ThreadState.TheVariants.{Ready, Waiting}
+use Rattle.mach_types.specs.declared.user_memory.Write.{Write}
+use Rattle.block_model.specs.Calls.Answers.{CallDone, refused, returned, said}
+use Rattle.block_model.specs.Calls.Futexes.{Woken, answered_wait, wake, woken_first}
+use Rattle.block_model.specs.Here.{Here, runs}
+use Rattle.block_model.specs.History.{file_among}
+use Rattle.block_model.specs.Kernel.{cleared, gone, had_child, left, registered, unregistered, waited, woken}
+use Rattle.block_model.specs.Record.{Kernel}
+use Rattle.block_model.proofs.Good.{IsGoodHere}
+use Rattle.block_model.proofs.Goods.Calls.Futexes.{longest_waits}
+use Rattle.block_model.proofs.Goods.Run.{ready_apart}
+use Rattle.block_model.proofs.KernelTables.{its_ready}
+
+-- WHO IS READY
+
+changed_ready : (o : Option ThreadState) → its_ready o ≡ true → its_ready (option_map (λ old. Ready) o) ≡ true
+changed_ready None is = absurd (false≢true is)
+changed_ready (Some old) is = refl
+
+-- while a thread becomes ready
+ready_beside : (t u : ℕ) (ts : Threads) → is_ready u ts ≡ true → is_ready u (with_state t Ready ts) ≡ true
+ready_beside t u ts is = elim (eqb_tells u t) [
+  | inl p ↦
+      ap (λ n. is_ready n (with_state t Ready ts)) p.1 ∙ ap its_ready (state_of-with_state_same t Ready ts)
+      ∙ changed_ready (state_of t ts) (sym (ap (λ n. is_ready n ts) p.1) ∙ is)
+  | inr q ↦ ap its_ready (state_of-with_state_other t u q.1 Ready ts) ∙ is
+]
+
+-- beside a child, which is ready too
+ready_beside_child : (u : ℕ) (ts : Threads) → IsThreads ts → is_ready u ts ≡ true → is_ready u (with_child ts) ≡ true
+ready_beside_child u ts threads is = elim (eqb_tells u (ts.given + 1)) [
+  | inl p ↦ ap (λ n. is_ready n (with_child ts)) p.1 ∙ ap its_ready (state_of-with_child_same ts threads)
+  | inr q ↦ ap its_ready (state_of-with_child_other u ts q.1) ∙ is
+]
+
+-- a ready thread isn't the next, nor one that waits
+pub ready_not_next : (u : ℕ) (ts : Threads) → IsThreads ts → is_ready u ts ≡ true → ts.given + 1 ≢ u
+ready_not_next u ts threads is same =
+    let none = ap (λ (o : Option Thread). option_map (λ (th : Thread). th.state) o) (next_is_new ts threads) in
+    false≢true (sym (ap its_ready none) ∙ ap (λ n. is_ready n ts) same ∙ is)
+
+ready_not_waiting : (u v : ℕ) (ts : Threads) → is_ready u ts ≡ true → waits ts v → v ≢ u
+ready_not_waiting u v ts is waiting same =
+    false≢true (sym (ap its_ready waiting.1) ∙ ap (λ n. is_ready n ts) same ∙ is)
+
+-- STEPS OF THE RECORD
+
+-- what a step leaves as it is of threads beside t
+pub record IsBeside (t : ℕ) (before after : Kernel) : Type 0 where
+  pub ready : (u : ℕ) → t ≢ u → is_ready u before.threads ≡ true → is_ready u after.threads ≡ true
+  pub areas : (u : ℕ) → t ≢ u → area_of u after.areas ≡ area_of u before.areas
+
+pub beside_same : (t : ℕ) (k : Kernel) → IsBeside t k k
+beside_same t k = record { ready = λ u ne is. is; areas = λ u ne. refl }
+
+pub beside_after : (t : ℕ) (a b c : Kernel) → IsBeside t a b → IsBeside t b c → IsBeside t a c
+beside_after t a b c p q = record {
+  ready = λ u ne is. q.ready u ne (p.ready u ne is);
+  areas = λ u ne. q.areas u ne ∙ p.areas u ne;
+}
+
+pub beside_left : (t v : ℕ) (k : Kernel) → IsBeside t k (left v k)
+beside_left t v k = record { ready = λ u ne is. ready_beside v u k.threads is; areas = λ u ne. refl }
+
+pub beside_woken : (t v : ℕ) (k : Kernel) → IsBeside t k (woken v k)
+beside_woken t v k = record { ready = λ u ne is. ready_beside v u k.threads is; areas = λ u ne. refl }
+
+pub beside_waited : (t p : ℕ) (k : Kernel) → IsBeside t k (waited t p k)
+beside_waited t p k = record {
+  ready = λ u ne is. ap its_ready (state_of-with_state_other t u (λ e. ne (sym e)) (Waiting p) k.threads) ∙ is;
+  areas = λ u ne. refl;
+}
+
+pub beside_gone : (t : ℕ) (k : Kernel) → IsBeside t k (gone t k)
+beside_gone t k = record {
+  ready = λ u ne is. ap its_ready (state_of-without_other t u (λ e. ne (sym e)) k.threads) ∙ is;
+  areas = λ u ne. area_of-without_area_other t u k.areas (λ e. ne (sym e));
+}
+
+pub beside_cleared : (t v p : ℕ) (k : Kernel) → IsBeside t k (cleared v p k)
+beside_cleared t v p k = record { ready = λ u ne is. ap its_ready (state_of-with_clear v p u k.threads) ∙ is; areas = λ u ne. refl }
+
+pub beside_child : (t : ℕ) (k : Kernel) → IsThreads k.threads → IsBeside t k (had_child t k)
+beside_child t k threads = record { ready = λ u ne is. ready_beside_child u k.threads threads is; areas = λ u ne. refl }
+
+pub beside_registered : (t : ℕ) (area : Area) (k : Kernel) → IsBeside t k (registered t area k)
+beside_registered t area k = record { ready = λ u ne is. is; areas = λ u ne. area_of-with_area_other t u area k.areas (λ e. ne (sym e)) }
+
+pub beside_unregistered : (t : ℕ) (k : Kernel) → IsBeside t k (unregistered t k)
+beside_unregistered t k = record { ready = λ u ne is. is; areas = λ u ne. area_of-without_area_other t u k.areas (λ e. ne (sym e)) }
+
+pub beside_if : (t : ℕ) (k x y : Kernel) (b : Bool) → IsBeside t k x → IsBeside t k y → IsBeside t k (cond b x y)
+beside_if t k x y true p q = p
+beside_if t k x y false p q = q
+
+-- one more is woken before others, where one waits
+abbrev woken_next : ℕ → ℕ → Kernel → Option ℕ → Woken
+woken_next n at k o =
+    option_map_or (λ u. woken_first u (wake n at (woken u k))) o (record { threads = []; kernel = k })
+
+beside_next : (t n at : ℕ) (k : Kernel) (o : Option ℕ) → ((u : ℕ) → IsBeside t (woken u k) (wake n at (woken u k)).kernel)
+    → IsBeside t k (woken_next n at k o).kernel
+beside_next t n at k None rest = beside_same t k
+beside_next t n at k (Some u) rest = beside_after t k (woken u k) (wake n at (woken u k)).kernel (beside_woken t u k) (rest u)
+
+pub beside_wake : (t n at : ℕ) (k : Kernel) → IsBeside t k (wake n at k).kernel
+beside_wake t zero at k = beside_same t k
+beside_wake t (suc n) at k = beside_next t n at k (longest_waiter at k.threads) (λ u. beside_wake t n at (woken u k))
+
+-- the files that a wake sets aren't those of ready threads
+abbrev answered : Here → Woken → ℕ → Saved → Saved
+answered here done u f = file_among (map (answered_wait here) done.threads) u f
+
+answered_next : (here : Here) (n at u : ℕ) (f : Saved) (k : Kernel) → is_ready u k.threads ≡ true
+    → ((v : ℕ) → answered here (wake n at (woken v k)) u f ≡ f)
+    → (o : Option ℕ) → longest_waiter at k.threads ≡ o → answered here (woken_next n at k o) u f ≡ f
+answered_next here n at u f k ready rest None is = refl
+answered_next here n at u f k ready rest (Some v) is =
+    rw (ne_eqb v u (ready_not_waiting u v k.threads ready (longest_waits at k.threads v is))) (rest v)
+
+pub answered_beside : (here : Here) (n at u : ℕ) (f : Saved) (k : Kernel) → is_ready u k.threads ≡ true → answered here (wake n at k) u f ≡ f
+answered_beside here zero at u f k ready = refl
+answered_beside here (suc n) at u f k ready =
+    answered_next here n at u f k ready (λ v. answered_beside here n at u f (woken v k) (ready_beside v u k.threads ready))
+    (longest_waiter at k.threads) refl
+
+-- CALLS
+
+-- a call of thread t sets no file of a ready thread, and leaves who is ready and the areas of others as they are
+pub record IsAside (here : Here) (t : ℕ) (c : CallDone) : Type 0 where
+  pub files : (u : ℕ) (f : Saved) → is_ready u here.kernel.threads ≡ true → file_among c.files u f ≡ f
+  pub beside : IsBeside t here.kernel c.kernel
+
+module _ (here : Here) (t : ℕ) (good : IsGoodHere here) (at : runs here ≡ Some t) where
+  pub caller_apart : (u : ℕ) → is_ready u here.kernel.threads ≡ true → t ≢ u
+  caller_apart u ready same =
+      ready_apart here.setting.limits.harts u here.hart t here.kernel.threads here.kernel.scheduling good.kernel.tables ready at (sym same)
+
+  -- a call that answers, perhaps writes, and leaves this record
+  pub aside_own : (n : ℕ) (entered : List Write) (k : Kernel) → IsBeside t here.kernel k
+      → IsAside here t (record (said here t n) { entered = entered; kernel = k })
+  aside_own n entered k beside = record {
+    files = λ u f ready. ap (λ b. cond b (returned n (here.file t)) f) (ne_eqb t u (caller_apart u ready));
+    beside = beside;
+  }
+
+  pub aside_wrote : (n : ℕ) (entered : List Write) → IsAside here t (record (said here t n) { entered = entered })
+  aside_wrote n entered = aside_own n entered here.kernel (beside_same t here.kernel)
+
+  pub aside_refused : (errno : Errno) → IsAside here t (refused here t errno)
+  aside_refused errno = aside_wrote _ []
+
+  -- one that sets no file and leaves the record
+  pub aside_none : (c : CallDone) → c.files ≡ [] → c.kernel ≡ here.kernel → IsAside here t c
+  aside_none c none same = record {
+    files = λ u f ready. ap (λ (ps : List (ℕ × Saved)). file_among ps u f) none;
+    beside = rw same (beside_same t here.kernel);
+  }
+
+  pub either : (b : Bool) (x y : CallDone) → IsAside here t x → IsAside here t y → IsAside here t (cond b x y)
+  either true x y p q = p
+  either false x y p q = q
+
+  pub unless_refused : (errno : Errno) (b : Bool) (y : CallDone) → IsAside here t y → IsAside here t (cond b (refused here t errno) y)
+  unless_refused errno b y p = either b (refused here t errno) y (aside_refused errno) p
+
+  -- pages, the console and affinities are of no thread's state
+  pub aside_alike : (n : ℕ) (entered : List Write) (k : Kernel) → k.threads ≡ here.kernel.threads → k.areas ≡ here.kernel.areas
+      → IsAside here t (record (said here t n) { entered = entered; kernel = k })
+  aside_alike n entered k threads areas = aside_own n entered k (record {
+    ready = λ u ne is. ap (is_ready u) threads ∙ is;
+    areas = λ u ne. ap (area_of u) areas;
+  })

@@ -1,0 +1,144 @@
+-- While a thread runs it holds the same id.
+use Rattle.std.proofs.Common.{◌≡◌, ◌≢◌, ℕ, ◌≤◌, ◌∷◌, ◌++◌, ◌⊎◌, ◌∙◌, ◌||◌, Bool, true, false, not, cond, eqb, List, [], find, Option, Some, None, refl, sym, ap, subst, inl, inr}
+use Rattle.std.specs.List.{list_any}
+use Rattle.std.specs.Option.{option_map_or}
+use Rattle.std.proofs.lemmas.Bool.{eqb-true, false≢true, ne_eqb}
+use Rattle.std.proofs.lemmas.Bool.Decides.{eqb_tells}
+use Rattle.mach_types.specs.declared.events.Choice.{Choice}
+use Rattle.mach_types.specs.declared.events.Choice.TheVariants as asked
+use Rattle.mach_types.specs.declared.events.Entry.{Entry}
+use Rattle.mach_types.specs.declared.user_memory.Store.{Store}
+use Rattle.mach_types.specs.Events.{choice_of}
+use Rattle.rv_inst.specs.Class.{is_call}
+use Rattle.rv_inst.specs.declared.effects.Effect.{Effect}
+use Rattle.block_model.specs.Calls.{called}
+use Rattle.block_model.specs.Calls.Sequences.{killed_in_call}
+use Rattle.block_model.specs.Deciding.{done, event, history}
+use Rattle.block_model.specs.Events.{done_of}
+use Rattle.block_model.specs.Events.Drain.{done_drain_of}
+use Rattle.block_model.specs.Events.Exec.{by_call, by_effect, by_outcome, called_here, done_exec_by, next_effect, next_fault, outcome_of}
+use Rattle.block_model.specs.Events.Preempt.{done_preempt_by}
+use Rattle.block_model.specs.Events.Run.{done_killed, done_running, lives_on}
+use Rattle.block_model.specs.Here.{Done, Here, runs, waiting_here}
+use Rattle.block_model.specs.History.{History, here_in_history, kernel, running}
+use Rattle.block_model.specs.Ids.{id_of, is_id_of, next_id, without_id}
+use Rattle.block_model.specs.Run.{IsAllowedLog, IsRunHistory}
+use Rattle.block_model.specs.Sequences.{interruption_here, is_inside_here}
+use Rattle.block_model.specs.Setting.{Setting}
+use Rattle.block_model.proofs.Held.{none_left}
+use Rattle.block_model.proofs.Ids.{first_id, holder_there, its_run}
+use Rattle.block_model.proofs.IdsOfCalls.{HasLostOne, ids_called}
+use Rattle.block_model.proofs.IdsOfRuns.{held_in}
+use Rattle.block_model.proofs.KernelTables.{running_is}
+use Rattle.block_model.proofs.Runs.{history-append, settled}
+
+-- a thread holds the id that it held, or none
+abbrev Keeps : ℕ → List (ℕ × ℕ) → List (ℕ × ℕ) → Type 0
+Keeps u before after = (id_of u after ≡ id_of u before) ⊎ (list_any (is_id_of u) after ≡ false)
+
+-- another thread holds none any more
+found_step : (t u : ℕ) (x : ℕ × ℕ) (ids : List (ℕ × ℕ)) → u ≢ t → (b : Bool) → eqb x.0 t ≡ b → find (is_id_of u) (without_id t ids) ≡ find (is_id_of u) ids
+    → find (is_id_of u) (cond (not b) (x ∷ without_id t ids) (without_id t ids)) ≡ find (is_id_of u) (x ∷ ids)
+found_step t u x ids other true same rest =
+    let apart : eqb x.0 u ≡ false = ne_eqb x.0 u (λ e. other (sym e ∙ eqb-true x.0 t same)) in
+    rest ∙ sym (ap (λ b. cond b (Some x) (find (is_id_of u) ids)) apart)
+found_step t u x ids other false new rest = ap (cond (eqb x.0 u) (Some x)) rest
+
+found_other : (t u : ℕ) (ids : List (ℕ × ℕ)) → u ≢ t → find (is_id_of u) (without_id t ids) ≡ find (is_id_of u) ids
+found_other t u [] other = refl
+found_other t u (x ∷ ids) other = found_step t u x ids other (eqb x.0 t) refl (found_other t u ids other)
+
+keeps_without : (t u : ℕ) (ids : List (ℕ × ℕ)) → Keeps u ids (without_id t ids)
+keeps_without t u ids = elim (eqb_tells u t) [
+  | inl p ↦ inr (ap (λ n. list_any (is_id_of n) (without_id t ids)) p.1 ∙ none_left t ids)
+  | inr q ↦ inl (ap (λ (o : Option (ℕ × ℕ)). option_map_or (λ pair. pair.1) o 0) (found_other t u ids q.1))
+]
+
+keeps_lost : (t u : ℕ) (before after : List (ℕ × ℕ)) → HasLostOne t before after → Keeps u before after
+keeps_lost t u before after (inl same) = inl (ap (id_of u) same)
+keeps_lost t u before after (inr less) = subst (Keeps u before) (sym less) (keeps_without t u before)
+
+-- another thread begins to hold one
+found_before : (u : ℕ) (ids : List (ℕ × ℕ)) (y : ℕ × ℕ) → list_any (is_id_of u) ids ≡ true → id_of u (ids ++ y ∷ []) ≡ id_of u ids
+found_before u [] y there = absurd (false≢true there)
+found_before u (x ∷ ids) y there = go (eqb x.0 u) (found_before u ids y) there
+  where
+    go : (b : Bool) → (list_any (is_id_of u) ids ≡ true → id_of u (ids ++ y ∷ []) ≡ id_of u ids) → (b || list_any (is_id_of u) ids) ≡ true
+        → first_id u x (ids ++ y ∷ []) b ≡ first_id u x ids b
+    go true rest there = refl
+    go false rest there = rest there
+
+-- the events by their kinds
+module _ (here : Here) (u : ℕ) where
+  abbrev After : Done → Type 0
+  After d = Keeps u here.kernel.ids d.kernel.ids
+
+  keeps_called : (t : ℕ) (b : Bool) → After (by_call here (cond b (killed_in_call here) (called here t)))
+  keeps_called t true = inl refl
+  keeps_called t false = keeps_lost t u here.kernel.ids (called here t).kernel.ids (ids_called here t)
+
+  keeps_instruction : (t : ℕ) (e : Effect) (b : Bool) → After (cond b (by_call here (called_here here t)) (by_outcome here t (outcome_of here t e)))
+  keeps_instruction t e true = keeps_called t (is_inside_here here t)
+  keeps_instruction t e false = inl refl
+
+  keeps_effect : (t : ℕ) (fault : Option ℕ) (e : Option Effect) → After (by_effect here t fault e)
+  keeps_effect t (Some signal) e = inl refl
+  keeps_effect t None None = inl refl
+  keeps_effect t None (Some e) = keeps_instruction t e (is_call e)
+
+  keeps_exec : (o : Option ℕ) → After (done_exec_by here o)
+  keeps_exec None = inl refl
+  keeps_exec (Some t) = keeps_effect t (next_fault here t) (next_effect here t)
+
+  keeps_drain : (stores : List Store) → After (done_drain_of here stores)
+  keeps_drain [] = inl refl
+  keeps_drain (w ∷ ws) = inl refl
+
+  keeps_preempt : (o : Option ℕ) → After (done_preempt_by here o)
+  keeps_preempt None = inl refl
+  keeps_preempt (Some t) = keeps_without t u here.kernel.ids
+
+  keeps_run : (t : ℕ) (b : Bool) → list_any (is_id_of u) here.kernel.ids ≡ true
+      → After (cond b (done_running here t (interruption_here here t)) (done_killed here t (interruption_here here t)))
+  keeps_run t true there = inl (found_before u here.kernel.ids (t, next_id here.kernel.ids) there)
+  keeps_run t false there = inl refl
+
+  keeps_of : (c : Choice) → list_any (is_id_of u) here.kernel.ids ≡ true → After (done_of c here)
+  keeps_of asked.Exec there = keeps_exec (runs here)
+  keeps_of asked.Drain there = keeps_drain (waiting_here here)
+  keeps_of asked.Take there = inl refl
+  keeps_of asked.Done there = inl refl
+  keeps_of asked.Preempt there = keeps_preempt (runs here)
+  keeps_of (asked.Run t) there = keeps_run t.0 (lives_on here t.0 (interruption_here here t.0)) there
+  keeps_of asked.Signal there = inl refl
+
+-- a thread that runs holds one
+holds : (s : Setting) (before : History) (h t : ℕ) → s.limits.harts ≤ 8 → IsRunHistory s before → running s h before ≡ Some t
+    → list_any (is_id_of t) (kernel s before).ids ≡ true
+holds s before h t few run at =
+    let k = kernel s before in
+    let state = running_is s.limits.harts h t k.threads k.scheduling (settled s before run).good.kernel.tables at in
+    holder_there t k.threads k.ids ((held_in s before run).ids few) (ap its_run state)
+
+-- who holds one after an event of a run holds the same
+stays : (t : ℕ) (before after : List (ℕ × ℕ)) → Keeps t before after → list_any (is_id_of t) after ≡ true → id_of t after ≡ id_of t before
+stays t before after (inl same) there = same
+stays t before after (inr none) there = absurd (false≢true (sym none ∙ there))
+
+stays_at : (s : Setting) (before : History) (entry : Entry) (h k t : ℕ) → s.limits.harts ≤ 8 → IsRunHistory s (event s before entry ∷ before)
+    → running s h before ≡ Some t → running s k (event s before entry ∷ before) ≡ Some t
+    → id_of t (done s before entry).kernel.ids ≡ id_of t (kernel s before).ids
+unfolding done
+stays_at s before entry h k t few run was is =
+    let there = holds s before h t few run.0 was in
+    let kept = keeps_of (here_in_history s before entry.hart.0) t (choice_of entry) there in
+    stays t (kernel s before).ids (done_of (choice_of entry) (here_in_history s before entry.hart.0)).kernel.ids kept
+    (holds s (event s before entry ∷ before) k t few run is)
+
+pub id_stays : (s : Setting) (log : List Entry) (entry : Entry) (h k t : ℕ) → s.limits.harts ≤ 8 → IsAllowedLog s (log ++ entry ∷ [])
+    → running s h (history s log) ≡ Some t → running s k (history s (log ++ entry ∷ [])) ≡ Some t
+    → id_of t (kernel s (history s (log ++ entry ∷ []))).ids ≡ id_of t (kernel s (history s log)).ids
+id_stays s log entry h k t few run was is =
+    let more = history-append s log entry in
+    ap (λ (b : History). id_of t (kernel s b).ids) more
+    ∙ stays_at s (history s log) entry h k t few (subst (IsRunHistory s) more run) was (sym (ap (running s k) more) ∙ is)

@@ -1,0 +1,159 @@
+-- Where the thread of a sequence is: it runs on the sequence's hart from the place before the first event on.
+use Rattle.std.proofs.Common.{◌≡◌, ◌≢◌, ℕ, List, [], ◌∷◌, refl, sym, ap, ◌∙◌, subst, Bool, true, false, not, cond, Option, Some, None}
+use Rattle.std.specs.Option.{option_map_or}
+use Rattle.std.proofs.lemmas.Bool.{eqb-true, eqb-false, false≢true}
+use Rattle.mach_types.specs.Events.{choice_of, choice_with}
+use Rattle.mach_types.specs.Kernel.Threads.{running_on}
+use Rattle.mach_types.specs.declared.events.Entry.{Entry}
+use Rattle.mach_types.specs.declared.events.Kind.{Kind}
+use Rattle.mach_types.specs.declared.events.Kind.TheVariants as kind
+use Rattle.mach_types.specs.declared.sequences.Outcome.{Outcome}
+use Rattle.mach_types.specs.declared.user_memory.Store.{Store}
+use Rattle.rv_inst.specs.Class.{is_call}
+use Rattle.rv_inst.specs.declared.effects.Effect.{Effect}
+use Rattle.block_model.specs.Acts.{Sequence, begun_with, is_inside_at, is_instruction, is_taken_in, sequence_on, taken_up, with_event}
+use Rattle.block_model.specs.Calls.{called}
+use Rattle.block_model.specs.Calls.Sequences.{killed_in_call}
+use Rattle.block_model.specs.Deciding.{done, number_of, thread_in}
+use Rattle.block_model.specs.Events.{done_of}
+use Rattle.block_model.specs.Events.Drain.{done_drain_of}
+use Rattle.block_model.specs.Events.Exec.{by_call, called_here, by_effect, by_outcome, done_exec_by, next_effect, next_fault, outcome_of}
+use Rattle.block_model.specs.Here.{Done, Here, runs, waiting_here}
+use Rattle.block_model.specs.History.{Event, History, here_in_history, is_of_hart, running}
+use Rattle.block_model.specs.Record.{Kernel}
+use Rattle.block_model.specs.Run.{IsRunHistory}
+use Rattle.block_model.specs.Sequences.{is_inside_here}
+use Rattle.block_model.specs.Setting.{Setting}
+use Rattle.block_model.specs.Whole.{RunsThroughout}
+use Rattle.block_model.proofs.Allowed.{allowed_at}
+use Rattle.block_model.proofs.Runs.{fit_at}
+
+-- WHAT A SEQUENCE TAKES IN KEEPS THE RECORD
+
+-- a call inside does nothing but end the process
+call_keeps : (here : Here) (t : ℕ) (b : Bool) → b ≡ true → (cond b (killed_in_call here) (called here t)).kernel ≡ here.kernel
+call_keeps here t true inside = refl
+call_keeps here t false inside = absurd (false≢true inside)
+
+either_keeps : (b : Bool) (x y : Done) (k : Kernel) → x.kernel ≡ k → y.kernel ≡ k → (cond b x y).kernel ≡ k
+either_keeps true x y k p q = p
+either_keeps false x y k p q = q
+
+effect_keeps : (here : Here) (t : ℕ) (fault : Option ℕ) (o : Option Effect) → is_inside_here here t ≡ true → (by_effect here t fault o).kernel ≡ here.kernel
+effect_keeps here t (Some signal) o inside = refl
+effect_keeps here t None None inside = refl
+effect_keeps here t None (Some e) inside =
+    either_keeps (is_call e) (by_call here (called_here here t)) (by_outcome here t (outcome_of here t e)) here.kernel
+    (call_keeps here t (is_inside_here here t) inside) refl
+
+exec_keeps : (here : Here) (r : Option ℕ) → option_map_or (is_inside_here here) r false ≡ true → (done_exec_by here r).kernel ≡ here.kernel
+exec_keeps here None inside = refl
+exec_keeps here (Some t) inside = effect_keeps here t (next_fault here t) (next_effect here t) inside
+
+drain_keeps : (here : Here) (ws : List Store) → (done_drain_of here ws).kernel ≡ here.kernel
+drain_keeps here [] = refl
+drain_keeps here (w ∷ ws) = refl
+
+-- what a sequence takes in, by its kind
+pub taken_keeps : (k : Kind) (x : Entry) (o : Option Outcome) (here : Here) → is_taken_in k o ≡ true
+    → option_map_or (is_inside_here here) (runs here) false ≡ true → (done_of (choice_with k x) here).kernel ≡ here.kernel
+taken_keeps kind.Exec x o here taken inside = exec_keeps here (runs here) inside
+taken_keeps kind.Drain x o here taken inside = drain_keeps here (waiting_here here)
+taken_keeps kind.Take x o here taken inside = refl
+taken_keeps kind.Done x o here taken inside = absurd (false≢true taken)
+taken_keeps kind.Preempt x o here taken inside = absurd (false≢true taken)
+taken_keeps kind.Run x o here taken inside = absurd (false≢true taken)
+taken_keeps kind.Signal x o here taken inside = absurd (false≢true taken)
+
+-- and is an event of the thread that runs
+taken_thread : (k : Kind) (x : Entry) (o : Option Outcome) (here : Here) → is_taken_in k o ≡ true → thread_in (choice_with k x) here ≡ runs here
+taken_thread kind.Exec x o here taken = refl
+taken_thread kind.Drain x o here taken = refl
+taken_thread kind.Take x o here taken = refl
+taken_thread kind.Done x o here taken = absurd (false≢true taken)
+taken_thread kind.Preempt x o here taken = absurd (false≢true taken)
+taken_thread kind.Run x o here taken = absurd (false≢true taken)
+taken_thread kind.Signal x o here taken = absurd (false≢true taken)
+
+pub instruction_taken : (k : Kind) (o : Option Outcome) → is_instruction k ≡ true → is_taken_in k o ≡ true
+instruction_taken kind.Exec o is = refl
+instruction_taken kind.Drain o is = refl
+instruction_taken kind.Take o is = absurd (false≢true is)
+instruction_taken kind.Done o is = absurd (false≢true is)
+instruction_taken kind.Preempt o is = absurd (false≢true is)
+instruction_taken kind.Run o is = absurd (false≢true is)
+instruction_taken kind.Signal o is = absurd (false≢true is)
+
+-- ONE EVENT
+
+-- an event of hart h of the thread that runs there, which goes on to run there
+pub record GoesOn (s : Setting) (e : Event) (before : History) (h : ℕ) : Type 0 where
+  pub thread : running s h before ≡ Some e.entry.tid.0
+  pub still : running s h (e ∷ before) ≡ running s h before
+
+inside_runs : (here : Here) (r : Option ℕ) → option_map_or (is_inside_here here) r false ≡ true → r ≡ Some (number_of r)
+inside_runs here None inside = absurd (false≢true inside)
+inside_runs here (Some t) inside = refl
+
+pub goes_on : (s : Setting) (e : Event) (before : History) → IsRunHistory s (e ∷ before) → is_taken_in e.entry.kind e.done.interrupted ≡ true
+    → is_inside_at s e.entry.hart.0 before ≡ true → GoesOn s e before e.entry.hart.0
+unfolding done
+goes_on s e before run taken inside =
+    let here = here_in_history s before e.entry.hart.0 in
+    let a = allowed_at s before e.entry.hart.0 (choice_of e.entry) e.entry run.1 in
+    let number : e.entry.tid.0 ≡ number_of (runs here) =
+    ap (λ (x : Entry). x.tid.0) a.is ∙ ap number_of (taken_thread e.entry.kind e.entry e.done.interrupted here taken) in
+    let kept : e.done.kernel ≡ here.kernel =
+    ap (λ (x : Event). x.done.kernel) run.2 ∙ taken_keeps e.entry.kind e.entry e.done.interrupted here taken inside in
+    record {
+      thread = inside_runs here (runs here) inside ∙ ap Some (sym number);
+      still = ap (λ (k : Kernel). running_on e.entry.hart.0 k.threads) kept;
+    }
+
+-- SEQUENCES
+
+module _ (s : Setting) (e : Event) (before : History) (h : ℕ) (q : Sequence) (run : IsRunHistory s (e ∷ before))
+    (rest : (r : Sequence) → sequence_on s h before ≡ Some r → RunsThroughout s before h r) where
+  begins : (b : Bool) → (b ≡ true → GoesOn s e before h) → cond b (Some (begun_with h e before)) None ≡ Some q → RunsThroughout s (e ∷ before) h q
+  begins false goes is = absurd cc
+  begins true goes is =
+      let one = goes refl in
+      let same : begun_with h e before ≡ q = cc in
+      subst (λ (x : Sequence). RunsThroughout s (e ∷ before) h x) same (record { hart = refl; first = one.thread; now = one.still ∙ one.thread })
+
+  takes_in : (b : Bool) (r : Sequence) → sequence_on s h before ≡ Some r → (b ≡ true → GoesOn s e before h)
+      → cond b (Some (with_event e before r)) None ≡ Some q → RunsThroughout s (e ∷ before) h q
+  takes_in false r was goes is = absurd cc
+  takes_in true r was goes is =
+      let one = goes refl in
+      let old = rest r was in
+      let same : with_event e before r ≡ q = cc in
+      subst (λ (x : Sequence). RunsThroughout s (e ∷ before) h x) same (record { hart = old.hart; first = old.first; now = one.still ∙ old.now })
+
+  by_sequence : (o : Option Sequence) → sequence_on s h before ≡ o → (is_taken_in e.entry.kind e.done.interrupted ≡ true → GoesOn s e before h)
+      → taken_up h e before o ≡ Some q → RunsThroughout s (e ∷ before) h q
+  by_sequence None was goes is =
+      begins (is_instruction e.entry.kind) (λ first. goes (instruction_taken e.entry.kind e.done.interrupted first)) is
+  by_sequence (Some r) was goes is = takes_in (is_taken_in e.entry.kind e.done.interrupted) r was goes is
+
+  by_inside : (c : Bool) → is_inside_at s h before ≡ c → e.entry.hart.0 ≡ h
+      → cond c (taken_up h e before (sequence_on s h before)) None ≡ Some q → RunsThroughout s (e ∷ before) h q
+  by_inside false inside same is = absurd cc
+  by_inside true inside same is =
+      by_sequence (sequence_on s h before) refl
+      (λ taken. subst (GoesOn s e before) same (goes_on s e before run taken (ap (λ k. is_inside_at s k before) same ∙ inside))) is
+
+  by_hart : (b : Bool) → is_of_hart h e ≡ b
+      → cond (not b) (sequence_on s h before) (cond (is_inside_at s h before) (taken_up h e before (sequence_on s h before)) None) ≡ Some q
+      → RunsThroughout s (e ∷ before) h q
+  by_hart true own is = by_inside (is_inside_at s h before) refl (eqb-true e.entry.hart.0 h own) is
+  by_hart false other is =
+      let was = rest q is in
+      let apart : h ≢ e.entry.hart.0 = λ same. eqb-false e.entry.hart.0 h other (sym same) in
+      record { hart = was.hart; first = was.first; now = (fit_at s e before run).others h apart ∙ was.now }
+
+pub runs_throughout : (s : Setting) (before : History) (h : ℕ) (q : Sequence) → IsRunHistory s before → sequence_on s h before ≡ Some q
+    → RunsThroughout s before h q
+runs_throughout s [] h q run is = absurd cc
+runs_throughout s (e ∷ before) h q run is =
+    by_hart s e before h q run (λ r was. runs_throughout s before h r run.0 was) (is_of_hart h e) refl is

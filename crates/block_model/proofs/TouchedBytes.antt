@@ -1,0 +1,241 @@
+-- An event that doesn't touch bytes leaves them as they are: in memory, and as each hart sees them.
+use Rattle.std.proofs.Common.{◌≡◌, ℕ, ◌+◌, ◌-◌, ◌/◌, ◌≤◌, ◌<◌, ◌⊎◌, inl, inr, List, [], ◌∷◌, ◌++◌, drop, refl, sym, ap, ◌∙◌, subst, arith, Bool, true, false, not, cond, ◌&&◌, ◌||◌, eqb, leb, ltb, Option, Some, None}
+use Rattle.std.specs.List.{list_any}
+use Rattle.std.specs.Option.{option_map}
+use Rattle.std.proofs.lemmas.Bool.{and_parts, cases_eq, eqb-true, false≢true, leb-true, lt-ltb, ltb-true}
+use Rattle.std.proofs.lemmas.List.{append-nil}
+use Rattle.mach_types.specs.Bytes.{byte_after, byte_over, overlay, written}
+use Rattle.mach_types.specs.Events.{choice_with}
+use Rattle.mach_types.specs.Kernel.Pages.{can_read, permission_at, permission_of}
+use Rattle.mach_types.specs.declared.address_space.TheConstants.{PAGE_SIZE}
+use Rattle.mach_types.specs.declared.events.Entry.{Entry}
+use Rattle.mach_types.specs.declared.events.Kind.{Kind}
+use Rattle.mach_types.specs.declared.events.Kind.TheVariants as kind
+use Rattle.mach_types.specs.declared.user_memory.Store.{Store}
+use Rattle.mach_types.specs.declared.user_memory.Write.{Write}
+use Rattle.mach_types.specs.declared.user_memory.Write.TheVariants.{Stored, Zeroed}
+use Rattle.rv_inst.specs.Class.{is_call}
+use Rattle.rv_inst.specs.declared.effects.Effect.{Effect}
+use Rattle.block_model.specs.Deciding.{done}
+use Rattle.block_model.specs.Events.{done_of}
+use Rattle.block_model.specs.Events.Drain.{done_drain_of}
+use Rattle.block_model.specs.Events.Exec.{by_call, by_effect, by_outcome, called_here, done_exec, done_exec_by, next_effect, next_fault, outcome_of}
+use Rattle.block_model.specs.Events.Preempt.{done_preempt, done_preempt_by}
+use Rattle.block_model.specs.Events.Run.{done_killed, done_run, done_running, lives_on}
+use Rattle.block_model.specs.Here.{Done, Here, memory, nothing, runs, view, waiting_here}
+use Rattle.block_model.specs.History.{Event, History, byte, drains, here_in_history, kernel, stores, waiting}
+use Rattle.block_model.specs.Run.{IsRunHistory}
+use Rattle.block_model.specs.Sequences.{interruption_here}
+use Rattle.block_model.specs.Setting.{Setting}
+use Rattle.block_model.specs.Whole.{Bytes, changed_page, is_same, meets, permission_changed, store_meets, touches, write_meets}
+use Rattle.block_model.proofs.Applied.{drop_more}
+use Rattle.block_model.proofs.NamedStays.{Agree}
+use Rattle.block_model.proofs.Runs.{settled}
+
+pub neither : (a b : Bool) → (a || b) ≡ false → (a ≡ false) × (b ≡ false)
+neither true b is = absurd (false≢true (sym is))
+neither false b is = (refl, is)
+
+pub not_false : (b : Bool) → not b ≡ false → b ≡ true
+not_false true is = refl
+not_false false is = absurd (false≢true (sym is))
+
+both : (a b : Bool) → a ≡ true → b ≡ true → (a && b) ≡ true
+both true b p q = q
+both false b p q = absurd (false≢true p)
+
+-- older stores, then younger ones
+overlay_append : (a : ℕ) (vs us : List Store) (below : ℕ) → overlay (vs ++ us) a below ≡ overlay us a (overlay vs a below)
+overlay_append a [] us below = refl
+overlay_append a (v ∷ vs) us below = overlay_append a vs us (byte_over v a below)
+
+-- two changes of a byte that may be missing
+mapped_same : (f g : ℕ → ℕ) → ((n : ℕ) → f n ≡ g n) → (o p : Option ℕ) → o ≡ p → option_map f o ≡ option_map g p
+mapped_same f g same o None is = ap (option_map f) is
+mapped_same f g same o (Some n) is = ap (option_map f) is ∙ ap Some (same n)
+
+-- HOW MANY STORES AN EVENT DRAINS
+
+-- none, but where it is a drain
+none_by : (here : Here) (t : ℕ) (e : Effect) (b : Bool) → (cond b (by_call here (called_here here t)) (by_outcome here t (outcome_of here t e))).drained ≡ 0
+none_by here t e true = refl
+none_by here t e false = refl
+
+none_effect : (here : Here) (t : ℕ) (fault : Option ℕ) (o : Option Effect) → (by_effect here t fault o).drained ≡ 0
+none_effect here t (Some signal) o = refl
+none_effect here t None None = refl
+none_effect here t None (Some e) = none_by here t e (is_call e)
+
+none_exec : (here : Here) (r : Option ℕ) → (done_exec_by here r).drained ≡ 0
+none_exec here None = refl
+none_exec here (Some t) = none_effect here t (next_fault here t) (next_effect here t)
+
+none_preempt : (here : Here) (r : Option ℕ) → (done_preempt_by here r).drained ≡ 0
+none_preempt here None = refl
+none_preempt here (Some t) = refl
+
+none_if : (b : Bool) (x y : Done) → x.drained ≡ 0 → y.drained ≡ 0 → (cond b x y).drained ≡ 0
+none_if true x y p q = p
+none_if false x y p q = q
+
+-- A PERMISSION THAT STAYS
+
+same_permission : (o p : Option ℕ) → is_same o p ≡ true → p ≡ o
+same_permission None None is = refl
+same_permission None (Some n) is = absurd (false≢true is)
+same_permission (Some m) None is = absurd (false≢true is)
+same_permission (Some m) (Some n) is = ap Some (sym (eqb-true m n is))
+
+kept_page : (s : Setting) (e : Event) (before : History) (page : ℕ) → permission_changed s e before page ≡ false
+    → permission_of e.done.kernel.pages.runs page ≡ permission_of (kernel s before).pages.runs page
+kept_page s e before page is =
+    same_permission (permission_of (kernel s before).pages.runs page) (permission_of e.done.kernel.pages.runs page) (not_false _ is)
+
+-- STORES AND WRITES THAT DON'T MEET BYTES
+
+module _ (w : Bytes) (a : ℕ) (low : w.at ≤ a) (high : a < w.at + w.count) where
+  -- what has the address meets the bytes
+  met : (at n : ℕ) → (leb at a && ltb a (at + n)) ≡ true → meets w at n ≡ true
+  met at n has =
+      let parts = and_parts (leb at a) (ltb a (at + n)) has in
+      let from = leb-true at a parts.0 in
+      let to = ltb-true a (at + n) parts.1 in
+      both (ltb at (w.at + w.count)) (ltb w.at (at + n)) (lt-ltb at (w.at + w.count) (omega arith)) (lt-ltb w.at (at + n) (omega arith))
+
+  apart : (at n : ℕ) → meets w at n ≡ false → (leb at a && ltb a (at + n)) ≡ false
+  apart at n none = go (leb at a && ltb a (at + n)) refl
+    where
+      go : (b : Bool) → (leb at a && ltb a (at + n)) ≡ b → b ≡ false
+      go true has = absurd (false≢true (sym none ∙ met at n has))
+      go false has = refl
+
+  clear_store : (v : Store) (below : ℕ) → store_meets w v ≡ false → byte_over v a below ≡ below
+  clear_store v below none = rw (apart v.at v.size none) refl
+
+  clear_write : (v : Write) (below : ℕ) → write_meets w v ≡ false → byte_after v a below ≡ below
+  clear_write (Stored v) below none = clear_store v below none
+  clear_write (Zeroed at n) below none = rw (apart at n none) refl
+
+  clear_stores : (vs : List Store) (below : ℕ) → list_any (store_meets w) vs ≡ false → overlay vs a below ≡ below
+  clear_stores [] below none = refl
+  clear_stores (v ∷ vs) below none =
+      let parts = neither (store_meets w v) (list_any (store_meets w) vs) none in
+      ap (overlay vs a) (clear_store v below parts.0) ∙ clear_stores vs below parts.1
+
+  clear_writes : (vs : List Write) (below : ℕ) → list_any (write_meets w) vs ≡ false → written vs a below ≡ below
+  clear_writes [] below none = refl
+  clear_writes (v ∷ vs) below none =
+      let parts = neither (write_meets w v) (list_any (write_meets w) vs) none in
+      ap (written vs a) (clear_write v below parts.0) ∙ clear_writes vs below parts.1
+
+  -- WAITING STORES
+
+  -- what a hart sees past its waiting stores, after what an event did
+  abbrev IsSeen : Here → Done → Type 0
+  IsSeen here d =
+      list_any (store_meets w) d.executed ≡ false → list_any (write_meets w) d.entered ≡ false
+      → (below : ℕ) → overlay (drop d.drained (waiting_here here ++ d.executed)) a below ≡ overlay (waiting_here here) a below
+
+  seen_still : (here : Here) (d : Done) → d.drained ≡ 0 → IsSeen here d
+  seen_still here d none executed entered below =
+      ap (λ n. overlay (drop n (waiting_here here ++ d.executed)) a below) none
+      ∙ overlay_append a (waiting_here here) d.executed below
+      ∙ clear_stores d.executed (overlay (waiting_here here) a below) executed
+
+  -- the store that enters memory
+  seen_drain : (here : Here) (vs : List Store) → waiting_here here ≡ vs → list_any (write_meets w) (done_drain_of here vs).entered ≡ false
+      → (below : ℕ) → overlay (drop (done_drain_of here vs).drained (vs ++ (done_drain_of here vs).executed)) a below ≡ overlay vs a below
+  seen_drain here [] is entered below = refl
+  seen_drain here (v ∷ vs) is entered below =
+      let parts = neither (store_meets w v) false entered in
+      ap (λ (us : List Store). overlay us a below) (append-nil vs) ∙ ap (overlay vs a) (sym (clear_store v below parts.0))
+
+  seen_of : (k : Kind) (x : Entry) (here : Here) → IsSeen here (done_of (choice_with k x) here)
+  seen_of kind.Exec x here = seen_still here (done_exec here) (none_exec here (runs here))
+  seen_of kind.Drain x here = λ executed entered below. seen_drain here (waiting_here here) refl entered below
+  seen_of kind.Take x here = seen_still here (nothing here) refl
+  seen_of kind.Done x here = seen_still here (nothing here) refl
+  seen_of kind.Preempt x here = seen_still here (done_preempt here) (none_preempt here (runs here))
+  seen_of kind.Run x here =
+      let t = x.tid.0 in
+      let o = interruption_here here t in
+      seen_still here (done_run here t) (none_if (lives_on here t o) (done_running here t o) (done_killed here t o) refl refl)
+  seen_of kind.Signal x here = seen_still here (nothing here) refl
+
+  -- PERMISSIONS
+
+  first_or_last : w.count ≤ PAGE_SIZE → (a / PAGE_SIZE ≡ w.at / PAGE_SIZE) ⊎ (a / PAGE_SIZE ≡ (w.at + w.count - 1) / PAGE_SIZE)
+  first_or_last few = elim (cases_eq (a / PAGE_SIZE) (w.at / PAGE_SIZE)) [ inl first ↦ inl first | inr past ↦ inr (omega arith) ]
+
+  kept_permission : (s : Setting) (e : Event) (before : History) → w.count ≤ PAGE_SIZE → changed_page s e before w ≡ false
+      → permission_at e.done.kernel.pages a ≡ permission_at (kernel s before).pages a
+  kept_permission s e before few is =
+      let parts = neither (permission_changed s e before (w.at / PAGE_SIZE)) (permission_changed s e before ((w.at + w.count - 1) / PAGE_SIZE)) is in
+      elim (first_or_last few) [
+        | inl first ↦
+            ap (permission_of e.done.kernel.pages.runs) first ∙ kept_page s e before (w.at / PAGE_SIZE) parts.0
+            ∙ sym (ap (permission_of (kernel s before).pages.runs) first)
+        | inr last ↦
+            ap (permission_of e.done.kernel.pages.runs) last ∙ kept_page s e before ((w.at + w.count - 1) / PAGE_SIZE) parts.1
+            ∙ sym (ap (permission_of (kernel s before).pages.runs) last)
+      ]
+
+-- ONE EVENT OF A RUN
+
+-- an event that doesn't touch bytes, by what could
+record IsClear (s : Setting) (e : Event) (before : History) (w : Bytes) : Type 0 where
+  executed : list_any (store_meets w) e.done.executed ≡ false
+  entered : list_any (write_meets w) e.done.entered ≡ false
+  pages : changed_page s e before w ≡ false
+
+clear_of_touch : (s : Setting) (e : Event) (before : History) (w : Bytes) → touches s e before w ≡ false → IsClear s e before w
+clear_of_touch s e before w none =
+    let one = neither (list_any (store_meets w) e.done.executed || list_any (write_meets w) e.done.entered) (changed_page s e before w) none in
+    let two = neither (list_any (store_meets w) e.done.executed) (list_any (write_meets w) e.done.entered) one.0 in
+    record { executed = two.0; entered = two.1; pages = one.1 }
+
+module _ (s : Setting) (e : Event) (before : History) (w : Bytes) (few : w.count ≤ PAGE_SIZE) (none : touches s e before w ≡ false) where
+  byte_stays : (a : ℕ) → w.at ≤ a → a < w.at + w.count → byte s (e ∷ before) a ≡ byte s before a
+  byte_stays a low high = clear_writes w a low high e.done.entered (byte s before a) (clear_of_touch s e before w none).entered
+
+  memory_at : (h : ℕ) (a : ℕ) → w.at ≤ a → a < w.at + w.count → memory (here_in_history s (e ∷ before) h) a ≡ memory (here_in_history s before h) a
+  memory_at h a low high =
+      let permission = kept_permission w a low high s e before few (clear_of_touch s e before w none).pages in
+      ap (λ (o : Option ℕ). cond (can_read o) (Some (byte s (e ∷ before) a)) None) permission
+      ∙ ap (λ n. cond (can_read (permission_at (kernel s before).pages a)) (Some n) None) (byte_stays a low high)
+
+  pub memory_stays : (h : ℕ) → Agree (memory (here_in_history s before h)) (memory (here_in_history s (e ∷ before) h)) w.at w.count
+  memory_stays h = record { same = memory_at h }
+
+  module _ (run : IsRunHistory s (e ∷ before)) where
+    seen_done : (a : ℕ) (low : w.at ≤ a) (high : a < w.at + w.count) → IsSeen w a low high (here_in_history s before e.entry.hart.0) (done s before e.entry)
+    unfolding done
+    seen_done a low high = seen_of w a low high e.entry.kind e.entry (here_in_history s before e.entry.hart.0)
+
+    seen_event : (a : ℕ) (low : w.at ≤ a) (high : a < w.at + w.count) → IsSeen w a low high (here_in_history s before e.entry.hart.0) e.done
+    seen_event a low high =
+        subst (λ (x : Event). IsSeen w a low high (here_in_history s before e.entry.hart.0) x.done) (sym run.2) (seen_done a low high)
+
+    waits_own : (a : ℕ) → w.at ≤ a → a < w.at + w.count → (below : ℕ)
+        → overlay (drop (drains e.entry.hart.0 before + e.done.drained) (stores e.entry.hart.0 before ++ e.done.executed)) a below ≡ overlay (waiting e.entry.hart.0 before) a below
+    waits_own a low high below =
+        let h = e.entry.hart.0 in
+        let is = clear_of_touch s e before w none in
+        ap (λ (vs : List Store). overlay vs a below) (drop_more (drains h before) e.done.drained (stores h before) e.done.executed ((settled s before run.0).counted h))
+        ∙ seen_event a low high is.executed is.entered below
+
+    waits_by : (h a : ℕ) → w.at ≤ a → a < w.at + w.count → (b : Bool) → eqb e.entry.hart.0 h ≡ b → (below : ℕ)
+        → overlay (drop (cond b (drains h before + e.done.drained) (drains h before)) (cond b (stores h before ++ e.done.executed) (stores h before))) a below
+        ≡ overlay (waiting h before) a below
+    waits_by h a low high true own below =
+        subst (λ k. overlay (drop (drains k before + e.done.drained) (stores k before ++ e.done.executed)) a below ≡ overlay (waiting k before) a below)
+        (eqb-true e.entry.hart.0 h own) (waits_own a low high below)
+    waits_by h a low high false other below = refl
+
+    view_at : (h a : ℕ) → w.at ≤ a → a < w.at + w.count → view (here_in_history s (e ∷ before) h) a ≡ view (here_in_history s before h) a
+    view_at h a low high =
+        mapped_same (overlay (waiting h (e ∷ before)) a) (overlay (waiting h before) a) (waits_by h a low high (eqb e.entry.hart.0 h) refl)
+        (memory (here_in_history s (e ∷ before) h) a) (memory (here_in_history s before h) a) (memory_at h a low high)
+
+    pub view_stays : (h : ℕ) → Agree (view (here_in_history s before h)) (view (here_in_history s (e ∷ before) h)) w.at w.count
+    view_stays h = record { same = view_at h }

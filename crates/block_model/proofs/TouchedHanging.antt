@@ -1,0 +1,217 @@
+-- A sequence that hangs: what its thread keeps from the place on at which it was preempted, and that bytes stay which nothing touched.
+use Rattle.std.proofs.Common.{◌≡◌, ◌≢◌, ℕ, ◌+◌, ◌<◌, ◌⊎◌, inl, inr, List, [], ◌∷◌, length, refl, sym, ap, ◌∙◌, arith, Bool, true, false, cond, eqb, Option, Some, None}
+use Rattle.std.specs.List.{list_any}
+use Rattle.std.specs.Option.{option_map}
+use Rattle.std.proofs.lemmas.Bool.{eqb-false, eqb-true}
+use Rattle.mach_types.specs.Bytes.{overlay}
+use Rattle.mach_types.specs.Events.{choice_of, choice_with}
+use Rattle.mach_types.specs.Kernel.Areas.{area_of}
+use Rattle.mach_types.specs.Kernel.Threads.{is_ready}
+use Rattle.mach_types.specs.declared.events.Entry.{Entry}
+use Rattle.mach_types.specs.declared.events.Kind.{Kind}
+use Rattle.mach_types.specs.declared.events.Kind.TheVariants as kind
+use Rattle.mach_types.specs.declared.threads.ThreadState.TheVariants.{Ready}
+use Rattle.mach_types.specs.declared.user_memory.Store.{Store}
+use Rattle.block_model.specs.Acts.{Sequence, hanging, hanging_after, is_inside_at, sequence_on}
+use Rattle.block_model.specs.Deciding.{done, number_of, thread_in}
+use Rattle.block_model.specs.Events.{done_of, refusal_of}
+use Rattle.block_model.specs.Events.Preempt.{done_preempt_by, refusal_preempt_by}
+use Rattle.block_model.specs.Here.{Done, Here, memory, view, waiting_here}
+use Rattle.block_model.specs.History.{Event, History, file, file_among, here_in_history, kernel, running}
+use Rattle.block_model.specs.Kernel.{left}
+use Rattle.block_model.specs.Record.{Kernel}
+use Rattle.block_model.specs.Run.{IsRunHistory}
+use Rattle.block_model.specs.Setting.{Setting}
+use Rattle.block_model.specs.Tables.{on}
+use Rattle.block_model.specs.Whole.{Bytes, before_last, touched_in, touches}
+use Rattle.block_model.proofs.Allowed.{allowed_at}
+use Rattle.block_model.proofs.Goods.Preempt.{none_waits}
+use Rattle.block_model.proofs.Goods.Run.{ready_apart}
+use Rattle.block_model.proofs.KernelTables.{its_ready, running_is, state_now}
+use Rattle.block_model.proofs.ReadyFiles.{area_stays, ready_file_stays, ready_stays}
+use Rattle.block_model.proofs.Runs.{settled}
+use Rattle.block_model.proofs.SequencePlaces.{runs_throughout}
+use Rattle.block_model.proofs.TouchedBytes.{memory_stays, neither}
+use Rattle.block_model.proofs.TouchedPlaces.{AgreeAll, AreSmall, agree_twice, peeled, since_count, since_last}
+
+-- THE NEWEST EVENT
+
+-- the thread is preempted by the newest event, inside its sequence
+record IsPreempted (s : Setting) (e : Event) (before : History) (t : ℕ) (q : Sequence) : Type 0 where
+  kind_is : e.entry.kind ≡ kind.Preempt
+  tid : e.entry.tid.0 ≡ t
+  inside : is_inside_at s e.entry.hart.0 before ≡ true
+  newest : sequence_on s e.entry.hart.0 before ≡ Some q
+
+-- or the sequence hung before it, and it isn't the thread's beginning to run
+abbrev Shape : Setting → Event → History → ℕ → Sequence → Type 0
+Shape s e before t q = ((hanging s t before ≡ Some q) × (e.entry.kind ≡ kind.Run → e.entry.tid.0 ≢ t)) ⊎ IsPreempted s e before t q
+
+module _ (s : Setting) (e : Event) (before : History) (t : ℕ) (q : Sequence) where
+  preempted_by : (b : Bool) → is_inside_at s e.entry.hart.0 before ≡ b → e.entry.kind ≡ kind.Preempt → e.entry.tid.0 ≡ t
+      → cond b (sequence_on s e.entry.hart.0 before) None ≡ Some q → IsPreempted s e before t q
+  preempted_by true inside kind_is tid is = record { kind_is = kind_is; tid = tid; inside = inside; newest = is }
+  preempted_by false inside kind_is tid is = absurd cc
+
+  other_kind : (k : Kind) → e.entry.kind ≡ k → k ≢ kind.Run → hanging s t before ≡ Some q → Shape s e before t q
+  other_kind k kind_is other is = inl (is, λ runs. absurd (other (sym kind_is ∙ runs)))
+
+  shape_of : (k : Kind) → e.entry.kind ≡ k → e.entry.tid.0 ≡ t → hanging_after s t e before k (hanging s t before) ≡ Some q → Shape s e before t q
+  shape_of kind.Exec kind_is tid is = other_kind kind.Exec kind_is (λ same. absurd cc) is
+  shape_of kind.Drain kind_is tid is = other_kind kind.Drain kind_is (λ same. absurd cc) is
+  shape_of kind.Take kind_is tid is = other_kind kind.Take kind_is (λ same. absurd cc) is
+  shape_of kind.Done kind_is tid is = other_kind kind.Done kind_is (λ same. absurd cc) is
+  shape_of kind.Preempt kind_is tid is = inr (preempted_by (is_inside_at s e.entry.hart.0 before) refl kind_is tid is)
+  shape_of kind.Run kind_is tid is = absurd cc
+  shape_of kind.Signal kind_is tid is = other_kind kind.Signal kind_is (λ same. absurd cc) is
+
+  shape_by : (b : Bool) → eqb e.entry.tid.0 t ≡ b → cond b (hanging_after s t e before e.entry.kind (hanging s t before)) (hanging s t before) ≡ Some q
+      → Shape s e before t q
+  shape_by true own is = shape_of e.entry.kind refl (eqb-true e.entry.tid.0 t own) is
+  shape_by false other is = inl (is, λ runs. eqb-false e.entry.tid.0 t other)
+
+  shape : hanging s t (e ∷ before) ≡ Some q → Shape s e before t q
+  shape is = shape_by (eqb e.entry.tid.0 t) refl is
+
+-- A PREEMPTION
+
+module _ (s : Setting) (e : Event) (before : History) (t : ℕ) (run : IsRunHistory s (e ∷ before)) (kind_is : e.entry.kind ≡ kind.Preempt)
+    (at : running s e.entry.hart.0 before ≡ Some t) where
+  abbrev place : Here
+  place = here_in_history s before e.entry.hart.0
+
+  preempt_done : e.done ≡ done_preempt_by place (Some t)
+  unfolding done
+  preempt_done =
+      ap (λ (x : Event). x.done) run.2 ∙ ap (λ (k : Kind). done_of (choice_with k e.entry) place) kind_is ∙ ap (done_preempt_by place) at
+
+  preempt_record : kernel s (e ∷ before) ≡ left t (kernel s before)
+  preempt_record = ap (λ (d : Done). d.kernel) preempt_done
+
+  preempt_file : file s t (e ∷ before) ≡ file s t before
+  preempt_file = ap (λ (d : Done). file_among d.files t (file s t before)) preempt_done
+
+  preempt_waits : waiting_here place ≡ []
+  preempt_waits =
+      let a = allowed_at s before e.entry.hart.0 (choice_of e.entry) e.entry run.1 in
+      none_waits (waiting_here place)
+      (sym (ap (λ (k : Kind). refusal_of (choice_with k e.entry) place) kind_is ∙ ap (refusal_preempt_by place) at) ∙ a.free)
+
+  preempt_tid : e.entry.tid.0 ≡ t
+  preempt_tid =
+      let a = allowed_at s before e.entry.hart.0 (choice_of e.entry) e.entry run.1 in
+      ap (λ (x : Entry). x.tid.0) a.is ∙ ap (λ (k : Kind). number_of (thread_in (choice_with k e.entry) place)) kind_is ∙ ap number_of at
+
+  preempt_ready : is_ready t (kernel s (e ∷ before)).threads ≡ true
+  preempt_ready =
+      let k = kernel s before in
+      let tables = (settled s before run.0).good.kernel.tables in
+      let was = running_is s.limits.harts e.entry.hart.0 t k.threads k.scheduling tables at in
+      ap (λ (k : Kernel). is_ready t k.threads) preempt_record ∙ ap its_ready (state_now t Ready (on e.entry.hart.0) k.threads was)
+
+-- SINCE IT WAS PREEMPTED
+
+-- where no store waits a hart sees memory
+mapped_still : (o : Option ℕ) → option_map (λ (b : ℕ). b) o ≡ o
+mapped_still None = refl
+mapped_still (Some b) = refl
+
+sees_memory : (here : Here) (a : ℕ) → waiting_here here ≡ [] → view here a ≡ memory here a
+sees_memory here a none = ap (λ (ws : List Store). option_map (overlay ws a) (memory here a)) none ∙ mapped_still (memory here a)
+
+see_memory : (here : Here) (ws : List Bytes) → waiting_here here ≡ [] → AgreeAll (view here) (memory here) ws
+see_memory here [] none = tt
+see_memory here (w ∷ ws) none = (record { same = λ a low high. sym (sees_memory here a none) }, see_memory here ws none)
+
+memories_stay : (s : Setting) (e : Event) (before : History) (h : ℕ) (ws : List Bytes) → AreSmall ws → list_any (touches s e before) ws ≡ false
+    → AgreeAll (memory (here_in_history s before h)) (memory (here_in_history s (e ∷ before) h)) ws
+memories_stay s e before h [] small none = tt
+memories_stay s e before h (w ∷ ws) small none =
+    let parts = neither (touches s e before w) (list_any (touches s e before) ws) none in
+    (memory_stays s e before w small.0 parts.0 h, memories_stay s e before h ws small.1 parts.1)
+
+-- the place before the preemption, where the sequence was the newest of its hart and its thread was inside; from there on the
+-- thread is ready, with its file and its area, and what nothing touched is in memory as its hart saw it
+pub record IsHanging (s : Setting) (before : History) (t : ℕ) (q : Sequence) : Type 0 where
+  pub place : History
+  pub run : IsRunHistory s place
+  pub thread : q.thread ≡ t
+  pub newest : sequence_on s q.hart place ≡ Some q
+  pub inside : is_inside_at s q.hart place ≡ true
+  pub longer : length (before_last q) < length before
+  pub ready : is_ready t (kernel s before).threads ≡ true
+  pub same_file : file s t before ≡ file s t place
+  pub same_area : area_of t (kernel s before).areas ≡ area_of t (kernel s place).areas
+  pub agree : (ws : List Bytes) → AreSmall ws → touched_in s (since_count q before) before ws ≡ false
+      → (touched_in s (since_count q place) place ws ≡ false)
+      × AgreeAll (view (here_in_history s place q.hart)) (memory (here_in_history s before q.hart)) ws
+
+module _ (s : Setting) (e : Event) (before : History) (t : ℕ) (q : Sequence) (run : IsRunHistory s (e ∷ before)) where
+  more_count : length (before_last q) < length before → since_count q (e ∷ before) ≡ since_count q before + 1
+  more_count longer = omega arith
+
+  -- on the hart of the sequence
+  hanging_from : q.hart ≡ e.entry.hart.0 → e.entry.kind ≡ kind.Preempt → running s e.entry.hart.0 before ≡ Some q.thread
+      → IsPreempted s e before t q → IsHanging s (e ∷ before) t q
+  hanging_from hart kind_is at new =
+      let thread : q.thread ≡ t = sym (preempt_tid s e before q.thread run kind_is at) ∙ new.tid in
+      let runs = at ∙ ap Some thread in
+      let newest = ap (λ k. sequence_on s k before) hart ∙ new.newest in
+      let longer = (since_last s before q.hart q run.0 newest).longer in
+      let waits = ap (λ k. waiting_here (here_in_history s before k)) hart ∙ preempt_waits s e before t run kind_is runs in
+      record {
+        place = before;
+        run = run.0;
+        thread = thread;
+        newest = newest;
+        inside = ap (λ k. is_inside_at s k before) hart ∙ new.inside;
+        longer = omega (arith, longer);
+        ready = preempt_ready s e before t run kind_is runs;
+        same_file = preempt_file s e before t run kind_is runs;
+        same_area = ap (λ (k : Kernel). area_of t k.areas) (preempt_record s e before t run kind_is runs);
+        agree = λ ws small none.
+            let parts = peeled s e before ws (since_count q (e ∷ before)) (since_count q before) (more_count longer) none in (
+              parts.1,
+              agree_twice (view (here_in_history s before q.hart)) (memory (here_in_history s before q.hart)) (memory (here_in_history s (e ∷ before) q.hart)) ws
+                  (see_memory (here_in_history s before q.hart) ws waits) (memories_stay s e before q.hart ws small parts.0),
+            );
+      }
+
+  hanging_begins : IsPreempted s e before t q → IsHanging s (e ∷ before) t q
+  hanging_begins new =
+      let at = runs_throughout s before e.entry.hart.0 q run.0 new.newest in
+      hanging_from at.hart new.kind_is at.now new
+
+  hanging_goes_on : (e.entry.kind ≡ kind.Run → e.entry.tid.0 ≢ t) → IsHanging s before t q → IsHanging s (e ∷ before) t q
+  hanging_goes_on other was =
+      let longer = was.longer in
+      let k = kernel s before in
+      let tables = (settled s before run.0).good.kernel.tables in
+      let elsewhere : running s e.entry.hart.0 before ≢ Some t =
+      λ there. ready_apart s.limits.harts t e.entry.hart.0 t k.threads k.scheduling tables was.ready there refl in
+      record {
+        place = was.place;
+        run = was.run;
+        thread = was.thread;
+        newest = was.newest;
+        inside = was.inside;
+        longer = omega (arith, longer);
+        ready = ready_stays s e before t run was.ready other;
+        same_file = ready_file_stays s e before t run was.ready other ∙ was.same_file;
+        same_area = area_stays s e before t run elsewhere ∙ was.same_area;
+        agree = λ ws small none.
+            let parts = peeled s e before ws (since_count q (e ∷ before)) (since_count q before) (more_count longer) none in
+            let rest = was.agree ws small parts.1 in (
+              rest.0,
+              agree_twice (view (here_in_history s was.place q.hart)) (memory (here_in_history s before q.hart)) (memory (here_in_history s (e ∷ before) q.hart)) ws
+                  rest.1 (memories_stay s e before q.hart ws small parts.0),
+            );
+      }
+
+  hanging_by : Shape s e before t q → (hanging s t before ≡ Some q → IsHanging s before t q) → IsHanging s (e ∷ before) t q
+  hanging_by (inl later) rest = hanging_goes_on later.1 (rest later.0)
+  hanging_by (inr new) rest = hanging_begins new
+
+pub hangs_since : (s : Setting) (before : History) (t : ℕ) (q : Sequence) → IsRunHistory s before → hanging s t before ≡ Some q → IsHanging s before t q
+hangs_since s [] t q run is = absurd cc
+hangs_since s (e ∷ before) t q run is = hanging_by s e before t q run (shape s e before t q is) (λ was. hangs_since s before t q run.0 was)

@@ -1,0 +1,255 @@
+-- From the place before the last event of a sequence on: what its thread keeps, and that bytes stay which nothing touched since.
+use Rattle.std.proofs.Common.{◌≡◌, ◌≢◌, ℕ, ◌+◌, ◌-◌, ◌≤◌, ◌<◌, ◌⊎◌, inl, inr, List, [], ◌∷◌, length, refl, sym, ap, ◌∙◌, subst, arith, Bool, true, false, not, cond, ◌&&◌, ◌||◌, eqb, Option, Some, None}
+use Rattle.std.specs.List.{AllByRecursion, list_any}
+use Rattle.std.proofs.lemmas.Bool.{eqb-false, eqb-true, false≢true, ne_eqb}
+use Rattle.mach_types.specs.Events.{choice_with}
+use Rattle.mach_types.specs.Kernel.Areas.{area_of}
+use Rattle.mach_types.specs.Kernel.Threads.{running_on}
+use Rattle.mach_types.specs.declared.address_space.TheConstants.{PAGE_SIZE}
+use Rattle.mach_types.specs.declared.events.Entry.{Entry}
+use Rattle.mach_types.specs.declared.events.Kind.{Kind}
+use Rattle.mach_types.specs.declared.events.Kind.TheVariants as kind
+use Rattle.mach_types.specs.declared.sequences.Outcome.{Outcome}
+use Rattle.mach_types.specs.declared.threads.Saved.{Saved}
+use Rattle.mach_types.specs.declared.user_memory.Store.{Store}
+use Rattle.block_model.specs.Acts.{Sequence, begun_with, is_inside_at, is_instruction, is_taken_in, sequence_on, taken_up, with_event}
+use Rattle.block_model.specs.Deciding.{done}
+use Rattle.block_model.specs.Events.{done_of}
+use Rattle.block_model.specs.Events.Drain.{done_drain_of}
+use Rattle.block_model.specs.Here.{Here, view, waiting_here}
+use Rattle.block_model.specs.History.{Event, History, file, file_among, here_in_history, is_of_hart, kernel, running}
+use Rattle.block_model.specs.Record.{Kernel}
+use Rattle.block_model.specs.Run.{IsRunHistory}
+use Rattle.block_model.specs.Setting.{Setting}
+use Rattle.block_model.specs.Whole.{Bytes, before_last, touched_in, touches}
+use Rattle.block_model.proofs.Goods.Calls.Fit.{runs_apart}
+use Rattle.block_model.proofs.NamedStays.{Agree}
+use Rattle.block_model.proofs.ReadyFiles.{area_stays}
+use Rattle.block_model.proofs.Runs.{fit_at, settled}
+use Rattle.block_model.proofs.SequencePlaces.{instruction_taken, runs_throughout, taken_keeps}
+use Rattle.block_model.proofs.TouchedBytes.{neither, view_stays}
+
+-- THE NEWEST EVENT
+
+-- the newest event is of the sequence, as an instruction or not
+record IsNewest (s : Setting) (e : Event) (before : History) (h : ℕ) (q : Sequence) : Type 0 where
+  own : e.entry.hart.0 ≡ h
+  inside : is_inside_at s h before ≡ true
+  taken : is_taken_in e.entry.kind e.done.interrupted ≡ true
+  reached : q.reached ≡ e ∷ before
+  last : (q.last_instruction ≡ before) ⊎ (is_instruction e.entry.kind ≡ false)
+
+-- or it is of another hart, and the sequence is as it was
+abbrev Shape : Setting → Event → History → ℕ → Sequence → Type 0
+Shape s e before h q = ((is_of_hart h e ≡ false) × (sequence_on s h before ≡ Some q)) ⊎ IsNewest s e before h q
+
+module _ (s : Setting) (e : Event) (before : History) (h : ℕ) (q : Sequence) (own : e.entry.hart.0 ≡ h) (inside : is_inside_at s h before ≡ true) where
+  newest_begun : (b : Bool) → is_instruction e.entry.kind ≡ b → cond b (Some (begun_with h e before)) None ≡ Some q → IsNewest s e before h q
+  newest_begun false first is = absurd cc
+  newest_begun true first is =
+      let same : begun_with h e before ≡ q = cc in
+      subst (λ (x : Sequence). IsNewest s e before h x) same (record {
+        own = own;
+        inside = inside;
+        taken = instruction_taken e.entry.kind e.done.interrupted first;
+        reached = refl;
+        last = inl refl;
+      })
+
+  last_of : (r : Sequence) (b : Bool) → is_instruction e.entry.kind ≡ b → (cond b before r.last_instruction ≡ before) ⊎ (is_instruction e.entry.kind ≡ false)
+  last_of r true is = inl refl
+  last_of r false is = inr is
+
+  newest_taken : (r : Sequence) (b : Bool) → is_taken_in e.entry.kind e.done.interrupted ≡ b → cond b (Some (with_event e before r)) None ≡ Some q → IsNewest s e before h q
+  newest_taken r false taken is = absurd cc
+  newest_taken r true taken is =
+      let same : with_event e before r ≡ q = cc in
+      subst (λ (x : Sequence). IsNewest s e before h x) same (record {
+        own = own;
+        inside = inside;
+        taken = taken;
+        reached = refl;
+        last = last_of r (is_instruction e.entry.kind) refl;
+      })
+
+  newest_of : (o : Option Sequence) → taken_up h e before o ≡ Some q → IsNewest s e before h q
+  newest_of None is = newest_begun (is_instruction e.entry.kind) refl is
+  newest_of (Some r) is = newest_taken r (is_taken_in e.entry.kind e.done.interrupted) refl is
+
+module _ (s : Setting) (e : Event) (before : History) (h : ℕ) (q : Sequence) where
+  shape_own : (c : Bool) → is_inside_at s h before ≡ c → e.entry.hart.0 ≡ h
+      → cond c (taken_up h e before (sequence_on s h before)) None ≡ Some q → IsNewest s e before h q
+  shape_own false inside own is = absurd cc
+  shape_own true inside own is = newest_of s e before h q own inside (sequence_on s h before) is
+
+  shape_by : (b : Bool) → is_of_hart h e ≡ b
+      → cond (not b) (sequence_on s h before) (cond (is_inside_at s h before) (taken_up h e before (sequence_on s h before)) None) ≡ Some q
+      → Shape s e before h q
+  shape_by true own is = inr (shape_own (is_inside_at s h before) refl (eqb-true e.entry.hart.0 h own) is)
+  shape_by false other is = inl (other, is)
+
+  shape : sequence_on s h (e ∷ before) ≡ Some q → Shape s e before h q
+  shape is = shape_by (is_of_hart h e) refl is
+
+-- WHAT THE EVENTS OF A SEQUENCE LEAVE
+
+-- a store that enters memory sets no file
+drain_sets_none : (here : Here) (ws : List Store) → (done_drain_of here ws).files ≡ []
+drain_sets_none here [] = refl
+drain_sets_none here (w ∷ ws) = refl
+
+none_set : (k : Kind) (x : Entry) (o : Option Outcome) (here : Here) → is_taken_in k o ≡ true → is_instruction k ≡ false
+    → (done_of (choice_with k x) here).files ≡ []
+none_set kind.Exec x o here taken no_instruction = absurd (false≢true (sym no_instruction))
+none_set kind.Drain x o here taken no_instruction = drain_sets_none here (waiting_here here)
+none_set kind.Take x o here taken no_instruction = refl
+none_set kind.Done x o here taken no_instruction = absurd (false≢true taken)
+none_set kind.Preempt x o here taken no_instruction = absurd (false≢true taken)
+none_set kind.Run x o here taken no_instruction = absurd (false≢true taken)
+none_set kind.Signal x o here taken no_instruction = absurd (false≢true taken)
+
+module _ (s : Setting) (e : Event) (before : History) (run : IsRunHistory s (e ∷ before)) (taken : is_taken_in e.entry.kind e.done.interrupted ≡ true) where
+  kept_record : is_inside_at s e.entry.hart.0 before ≡ true → kernel s (e ∷ before) ≡ kernel s before
+  unfolding done
+  kept_record inside =
+      ap (λ (x : Event). x.done.kernel) run.2
+      ∙ taken_keeps e.entry.kind e.entry e.done.interrupted (here_in_history s before e.entry.hart.0) taken inside
+
+  kept_file : (t : ℕ) → is_instruction e.entry.kind ≡ false → file s t (e ∷ before) ≡ file s t before
+  unfolding done
+  kept_file t no_instruction =
+      let none = ap (λ (x : Event). x.done.files) run.2
+      ∙ none_set e.entry.kind e.entry e.done.interrupted (here_in_history s before e.entry.hart.0) taken no_instruction in
+      ap (λ (ps : List (ℕ × Saved)). file_among ps t (file s t before)) none
+
+-- SINCE ITS LAST EVENT
+
+-- a place at which a sequence is the newest of its hart: its thread was inside and ran before its last event; that was its last
+-- instruction, or set no file; and since then the thread keeps its file and its area
+pub record IsSince (s : Setting) (before : History) (h : ℕ) (q : Sequence) : Type 0 where
+  pub inside : is_inside_at s h (before_last q) ≡ true
+  pub runs : running s h (before_last q) ≡ Some q.thread
+  pub longer : length (before_last q) < length before
+  pub last : (q.last_instruction ≡ before_last q) ⊎ (file s q.thread q.reached ≡ file s q.thread (before_last q))
+  pub same_file : file s q.thread before ≡ file s q.thread q.reached
+  pub same_area : area_of q.thread (kernel s before).areas ≡ area_of q.thread (kernel s (before_last q)).areas
+
+-- the place before the last event, where it is the newest
+last_place : (e : Event) (before : History) (q : Sequence) → q.reached ≡ e ∷ before → before_last q ≡ before
+last_place e before q is = ap (λ (r : History). elim r [ [] ↦ [] | e ∷ before ↦ before ]) is
+
+module _ (s : Setting) (e : Event) (before : History) (h : ℕ) (q : Sequence) (run : IsRunHistory s (e ∷ before)) where
+  since_own : sequence_on s h (e ∷ before) ≡ Some q → IsNewest s e before h q → IsSince s (e ∷ before) h q
+  since_own is new =
+      let at = last_place e before q new.reached in
+      let inside = ap (λ k. is_inside_at s k before) new.own ∙ new.inside in
+      let kept = kept_record s e before run new.taken inside in
+      let now = (runs_throughout s (e ∷ before) h q run is).now in
+      record {
+        inside = ap (is_inside_at s h) at ∙ new.inside;
+        runs = ap (running s h) at ∙ sym (ap (λ (k : Kernel). running_on h k.threads) kept) ∙ now;
+        longer = subst (λ (b : History). length b < length (e ∷ before)) (sym at) (omega arith);
+        last = elim new.last [
+          | inl first ↦ inl (first ∙ sym at)
+          | inr no_instruction ↦ inr (ap (file s q.thread) new.reached ∙ kept_file s e before run new.taken q.thread no_instruction ∙ sym (ap (file s q.thread) at))
+        ];
+        same_file = sym (ap (file s q.thread) new.reached);
+        same_area = ap (λ (k : Kernel). area_of q.thread k.areas) kept ∙ sym (ap (λ (b : History). area_of q.thread (kernel s b).areas) at);
+      }
+
+  -- another hart's event
+  since_other : is_of_hart h e ≡ false → sequence_on s h before ≡ Some q → IsSince s before h q → IsSince s (e ∷ before) h q
+  since_other other was since =
+      let at = (runs_throughout s before h q run.0 was).now in
+      let apart : h ≢ e.entry.hart.0 = λ same. eqb-false e.entry.hart.0 h other (sym same) in
+      let record_at = kernel s before in
+      let tables = (settled s before run.0).good.kernel.tables in
+      let elsewhere : running s e.entry.hart.0 before ≢ Some q.thread =
+      λ there. runs_apart s.limits.harts h e.entry.hart.0 q.thread q.thread record_at.threads record_at.scheduling tables at (λ e. apart (sym e)) there refl in
+      let longer = since.longer in
+      record {
+        inside = since.inside;
+        runs = since.runs;
+        longer = omega (arith, longer);
+        last = since.last;
+        same_file = (fit_at s e before run).apart h q.thread (file s q.thread before) apart at ∙ since.same_file;
+        same_area = area_stays s e before q.thread run elsewhere ∙ since.same_area;
+      }
+
+  since_by : sequence_on s h (e ∷ before) ≡ Some q → Shape s e before h q → (sequence_on s h before ≡ Some q → IsSince s before h q) → IsSince s (e ∷ before) h q
+  since_by is (inl other) rest = since_other other.0 other.1 (rest other.1)
+  since_by is (inr new) rest = since_own is new
+
+pub since_last : (s : Setting) (before : History) (h : ℕ) (q : Sequence) → IsRunHistory s before → sequence_on s h before ≡ Some q → IsSince s before h q
+since_last s [] h q run is = absurd cc
+since_last s (e ∷ before) h q run is = since_by s e before h q run is (shape s e before h q is) (λ was. since_last s before h q run.0 was)
+
+-- BYTES THAT NOTHING TOUCHED
+
+abbrev pub AreSmall : List Bytes → Type 0
+AreSmall ws = AllByRecursion (λ (w : Bytes). w.count ≤ PAGE_SIZE) ws
+
+-- two readings have the same bytes at each of these
+abbrev pub AgreeAll : (ℕ → Option ℕ) → (ℕ → Option ℕ) → List Bytes → Type 0
+AgreeAll byte byte' ws = AllByRecursion (λ (w : Bytes). Agree byte byte' w.at w.count) ws
+
+pub agree_twice : (a b c : ℕ → Option ℕ) (ws : List Bytes) → AgreeAll a b ws → AgreeAll b c ws → AgreeAll a c ws
+agree_twice a b c [] p q = tt
+agree_twice a b c (w ∷ ws) p q =
+    (record { same = λ n low high. q.0.same n low high ∙ p.0.same n low high }, agree_twice a b c ws p.1 q.1)
+
+pub views_stay : (s : Setting) (e : Event) (before : History) (h : ℕ) (ws : List Bytes) → IsRunHistory s (e ∷ before) → AreSmall ws
+    → list_any (touches s e before) ws ≡ false → AgreeAll (view (here_in_history s before h)) (view (here_in_history s (e ∷ before) h)) ws
+views_stay s e before h [] run small none = tt
+views_stay s e before h (w ∷ ws) run small none =
+    let parts = neither (touches s e before w) (list_any (touches s e before) ws) none in
+    (view_stays s e before w small.0 parts.0 run h, views_stay s e before h ws run small.1 parts.1)
+
+-- one event of those that are looked through
+pub peeled : (s : Setting) (e : Event) (before : History) (ws : List Bytes) (n m : ℕ) → n ≡ m + 1 → touched_in s n (e ∷ before) ws ≡ false
+    → (list_any (touches s e before) ws ≡ false) × (touched_in s m before ws ≡ false)
+peeled s e before ws n m is none =
+    let some : eqb n 0 ≡ false = ne_eqb n 0 (λ zero. omega arith) in
+    let fewer : n - 1 ≡ m = omega arith in
+    neither (list_any (touches s e before) ws) (touched_in s m before ws)
+    (sym (ap (λ b. not b && (list_any (touches s e before) ws || touched_in s (n - 1) before ws)) some
+    ∙ ap (λ k. list_any (touches s e before) ws || touched_in s k before ws) fewer) ∙ none)
+
+-- how many events there were since the last of a sequence
+abbrev pub since_count : Sequence → History → ℕ
+since_count q before = length before - length (before_last q)
+
+module _ (s : Setting) (e : Event) (before : History) (h : ℕ) (q : Sequence) (run : IsRunHistory s (e ∷ before)) (ws : List Bytes) (small : AreSmall ws) where
+  abbrev seen_last : ℕ → Option ℕ
+  seen_last = view (here_in_history s (before_last q) h)
+
+  agree_own : IsNewest s e before h q → touched_in s (since_count q (e ∷ before)) (e ∷ before) ws ≡ false
+      → AgreeAll seen_last (view (here_in_history s (e ∷ before) h)) ws
+  agree_own new none =
+      let at = last_place e before q new.reached in
+      let one : since_count q (e ∷ before) ≡ 0 + 1 = ap (λ (b : History). length (e ∷ before) - length b) at ∙ omega arith in
+      let clear = (peeled s e before ws (since_count q (e ∷ before)) 0 one none).0 in
+      subst (λ (b : History). AgreeAll (view (here_in_history s b h)) (view (here_in_history s (e ∷ before) h)) ws) (sym at)
+      (views_stay s e before h ws run small clear)
+
+  agree_other : sequence_on s h before ≡ Some q → touched_in s (since_count q (e ∷ before)) (e ∷ before) ws ≡ false
+      → (touched_in s (since_count q before) before ws ≡ false → AgreeAll seen_last (view (here_in_history s before h)) ws)
+      → AgreeAll seen_last (view (here_in_history s (e ∷ before) h)) ws
+  agree_other was none rest =
+      let longer = (since_last s before h q run.0 was).longer in
+      let more : since_count q (e ∷ before) ≡ since_count q before + 1 = omega (arith, longer) in
+      let parts = peeled s e before ws (since_count q (e ∷ before)) (since_count q before) more none in
+      agree_twice seen_last (view (here_in_history s before h)) (view (here_in_history s (e ∷ before) h)) ws (rest parts.1) (views_stay s e before h ws run small parts.0)
+
+  agree_by : Shape s e before h q → touched_in s (since_count q (e ∷ before)) (e ∷ before) ws ≡ false
+      → (sequence_on s h before ≡ Some q → touched_in s (since_count q before) before ws ≡ false → AgreeAll seen_last (view (here_in_history s before h)) ws)
+      → AgreeAll seen_last (view (here_in_history s (e ∷ before) h)) ws
+  agree_by (inl other) none rest = agree_other other.1 none (rest other.1)
+  agree_by (inr new) none rest = agree_own new none
+
+pub agree_since : (s : Setting) (before : History) (h : ℕ) (q : Sequence) → IsRunHistory s before → sequence_on s h before ≡ Some q
+    → (ws : List Bytes) → AreSmall ws → touched_in s (since_count q before) before ws ≡ false
+    → AgreeAll (view (here_in_history s (before_last q) h)) (view (here_in_history s before h)) ws
+agree_since s [] h q run is ws small none = absurd cc
+agree_since s (e ∷ before) h q run is ws small none =
+    agree_by s e before h q run ws small (shape s e before h q is) none (λ was clear. agree_since s before h q run.0 was ws small clear)

@@ -1,0 +1,224 @@
+-- What the next event of its hart makes of a sequence that it isn't of: it isn't interrupted there, since `run` alone interrupts, and
+-- its hart isn't idle; and no event had ended the process.
+use Rattle.std.proofs.Common.{◌≡◌, ℕ, [], ◌∷◌, ◌&&◌, ◌||◌, refl, sym, ap, ◌∙◌, Bool, true, false, not, cond, eqb, List, Option, Some, None, is_some}
+use Rattle.std.specs.Option.{option_or}
+use Rattle.std.proofs.lemmas.Bool.{false≢true}
+use Rattle.mach_types.proofs.Laws.{eqb_same}
+use Rattle.mach_types.specs.Events.{choice_with}
+use Rattle.mach_types.specs.declared.events.Entry.{Entry}
+use Rattle.mach_types.specs.declared.events.Kind.{Kind}
+use Rattle.mach_types.specs.declared.events.Kind.TheVariants as kind
+use Rattle.mach_types.specs.declared.events.Why.TheVariants.{NoSignal, NotInBarrier}
+use Rattle.mach_types.specs.declared.limits.End.{End}
+use Rattle.mach_types.specs.declared.sequences.Outcome.{Outcome}
+use Rattle.mach_types.specs.declared.user_memory.Store.{Store}
+use Rattle.rv_inst.specs.Class.{is_call}
+use Rattle.rv_inst.specs.declared.effects.Effect.{Effect}
+use Rattle.block_model.specs.declared.acts.SeqEnd.{SeqEnd}
+use Rattle.block_model.specs.declared.acts.SeqEnd.TheVariants as ends
+use Rattle.block_model.specs.Acts.{Sequence, abort_of, cut_or, end_before, end_so_far, hanging, hanging_after, has_died, has_killed, is_inside_at, is_taken_in, left_or_dropped, moved_out, sequence_on, taken_up, with_event}
+use Rattle.block_model.specs.Deciding.{number_of}
+use Rattle.block_model.specs.Events.{done_of, refusal_of}
+use Rattle.block_model.specs.Events.Drain.{done_drain_of}
+use Rattle.block_model.specs.Events.Exec.{by_call, by_effect, by_outcome, called_here, done_exec_by, next_effect, next_fault, outcome_of}
+use Rattle.block_model.specs.Events.Preempt.{done_preempt_by}
+use Rattle.block_model.specs.Events.Run.{refusal_run_by}
+use Rattle.block_model.specs.Here.{Done, Here, runs, waiting_here}
+use Rattle.block_model.specs.History.{Event, History, ended, is_of_hart}
+use Rattle.block_model.specs.Run.{IsRunHistory}
+use Rattle.block_model.specs.Setting.{Setting}
+use Rattle.block_model.specs.Whole.{EndsWhole, WasTouched}
+use Rattle.block_model.proofs.Ends.{neither}
+use Rattle.block_model.proofs.Goods.Unbuilt.{never_free}
+use Rattle.block_model.proofs.SequencePlaces.{runs_throughout}
+use Rattle.block_model.proofs.Touched.{dropped_is_touched}
+use Rattle.block_model.proofs.WholeEvents.{did, is_free, its_thread, not_over, place}
+use Rattle.block_model.proofs.WholeHangs.{own_now}
+
+-- NOTHING HAD ENDED
+
+-- a sequence of which an event ended the process is the end of the run
+module _ (s : Setting) (e : Event) (before : History) (h : ℕ) (q : Sequence) where
+  alive_by : (b : Bool) → is_of_hart h e ≡ b → option_or e.done.ended (ended before) ≡ None
+      → (ended before ≡ None → sequence_on s h before ≡ Some q → has_died q ≡ false)
+      → cond (not b) (sequence_on s h before) (cond (is_inside_at s h before) (taken_up h e before (sequence_on s h before)) None) ≡ Some q
+      → has_died q ≡ false
+  alive_by true own none rest is =
+      ap (λ (r : History). elim r [ [] ↦ false | x ∷ xs ↦ has_killed x ]) (own_now s e before h q (is_inside_at s h before) is)
+      ∙ ap (λ (o : Option End). is_some o) (neither e.done.ended (ended before) none).0
+  alive_by false other none rest is = rest (neither e.done.ended (ended before) none).1 is
+
+alive : (s : Setting) (before : History) (h : ℕ) (q : Sequence) → ended before ≡ None → sequence_on s h before ≡ Some q → has_died q ≡ false
+alive s [] h q none is = absurd cc
+alive s (e ∷ before) h q none is = alive_by s e before h q (is_of_hart h e) refl none (λ n was. alive s before h q n was) is
+
+-- NOTHING INTERRUPTS
+
+either_quiet : (b : Bool) (x y : Done) → x.interrupted ≡ None → y.interrupted ≡ None → (cond b x y).interrupted ≡ None
+either_quiet true x y p q = p
+either_quiet false x y p q = q
+
+effect_quiet : (here : Here) (t : ℕ) (fault : Option ℕ) (o : Option Effect) → (by_effect here t fault o).interrupted ≡ None
+effect_quiet here t (Some signal) o = refl
+effect_quiet here t None None = refl
+effect_quiet here t None (Some e) =
+    either_quiet (is_call e) (by_call here (called_here here t)) (by_outcome here t (outcome_of here t e)) refl refl
+
+exec_quiet : (here : Here) (r : Option ℕ) → (done_exec_by here r).interrupted ≡ None
+exec_quiet here None = refl
+exec_quiet here (Some t) = effect_quiet here t (next_fault here t) (next_effect here t)
+
+drain_quiet : (here : Here) (ws : List Store) → (done_drain_of here ws).interrupted ≡ None
+drain_quiet here [] = refl
+drain_quiet here (w ∷ ws) = refl
+
+preempt_quiet : (here : Here) (r : Option ℕ) → (done_preempt_by here r).interrupted ≡ None
+preempt_quiet here None = refl
+preempt_quiet here (Some t) = refl
+
+busy : (here : Here) (t u : ℕ) (r : Option ℕ) → r ≡ Some u → refusal_run_by here t r ≡ None → ⊥
+busy here t u None on free = cc
+busy here t u (Some v) on free = cc
+
+-- no event of a hart that runs a thread interrupts it
+quiet_by : (k : Kind) (x : Entry) (here : Here) (u : ℕ) → runs here ≡ Some u → refusal_of (choice_with k x) here ≡ None
+    → (done_of (choice_with k x) here).interrupted ≡ None
+quiet_by kind.Exec x here u on free = exec_quiet here (runs here)
+quiet_by kind.Drain x here u on free = drain_quiet here (waiting_here here)
+quiet_by kind.Take x here u on free = refl
+quiet_by kind.Done x here u on free = refl
+quiet_by kind.Preempt x here u on free = preempt_quiet here (runs here)
+quiet_by kind.Run x here u on free = absurd (busy here x.tid.0 u (runs here) on free)
+quiet_by kind.Signal x here u on free = refl
+
+quiet : (s : Setting) (e : Event) (before : History) (q : Sequence) → IsRunHistory s (e ∷ before) → sequence_on s e.entry.hart.0 before ≡ Some q
+    → e.done.interrupted ≡ None
+quiet s e before q run is =
+    ap (λ (d : Done). d.interrupted) (did s e before run e.entry.kind refl)
+    ∙ quiet_by e.entry.kind e.entry (place s e before run) q.thread (runs_throughout s before e.entry.hart.0 q run.0 is).now
+    (is_free s e before run e.entry.kind refl)
+
+-- ENDS
+
+-- where nothing had ended and nothing interrupts
+plain_end : (died killed moved inside : Bool) (i : Option Outcome) (other : SeqEnd) → died ≡ false → i ≡ None
+    → cond (died || (is_some i && killed) && not (moved && not inside)) ends.Dead (cut_or other inside (abort_of i)) ≡ other
+plain_end true killed moved inside i other p q = absurd cc
+plain_end false killed moved inside (Some o) other p q = absurd cc
+plain_end false killed moved inside None other p q = refl
+
+not_cut : (s : Setting) (q : Sequence) (inside : Bool) (at : ℕ) → left_or_dropped s q inside ≡ ends.Cut at → ⊥
+not_cut s q true at is = cc
+not_cut s q false at is = go (moved_out s q) is
+  where
+    go : (b : Bool) → cond b ends.Left ends.Dropped ≡ ends.Cut at → ⊥
+    go true is = cc
+    go false is = cc
+
+not_dead : (s : Setting) (q : Sequence) (inside : Bool) → left_or_dropped s q inside ≡ ends.Dead → ⊥
+not_dead s q true is = cc
+not_dead s q false is = go (moved_out s q) is
+  where
+    go : (b : Bool) → cond b ends.Left ends.Dropped ≡ ends.Dead → ⊥
+    go true is = cc
+    go false is = cc
+
+dropped_by : (s : Setting) (q : Sequence) (inside : Bool) → left_or_dropped s q inside ≡ ends.Dropped → (inside ≡ false) × (moved_out s q ≡ false)
+dropped_by s q true is = absurd cc
+dropped_by s q false is = (refl, go (moved_out s q) refl is)
+  where
+    go : (b : Bool) → moved_out s q ≡ b → cond b ends.Left ends.Dropped ≡ ends.Dropped → moved_out s q ≡ false
+    go true moved is = absurd cc
+    go false moved is = moved
+
+-- a sequence that would be dropped was touched
+pub dropped_so : (s : Setting) (before : History) (h : ℕ) (q : Sequence) → IsRunHistory s before → sequence_on s h before ≡ Some q
+    → has_died q ≡ false → left_or_dropped s q (is_inside_at s q.hart before) ≡ ends.Dropped → WasTouched s before q
+dropped_so s before h q run is lives drops =
+    let p = dropped_by s q (is_inside_at s q.hart before) drops in
+    let outside : is_inside_at s h before ≡ false = ap (λ k. is_inside_at s k before) (sym (runs_throughout s before h q run is).hart) ∙ p.0 in
+    dropped_is_touched s before h q run is lives outside p.1
+
+-- ONE THAT ISN'T OVER HANGS
+
+unended_by : (s : Setting) (q : Sequence) (inside : Bool) → left_or_dropped s q inside ≡ ends.Unended → inside ≡ true
+unended_by s q true is = refl
+unended_by s q false is = absurd (go (moved_out s q) is)
+  where
+    go : (b : Bool) → cond b ends.Left ends.Dropped ≡ ends.Unended → ⊥
+    go true is = cc
+    go false is = cc
+
+-- the event isn't taken in
+not_taken : (b : Bool) (q : Sequence) → cond b (Some q) None ≡ None → b ≡ false
+not_taken true q is = absurd cc
+not_taken false q is = refl
+
+-- so it is a preempt
+preempts : (k : Kind) (x : Entry) (here : Here) (u : ℕ) → runs here ≡ Some u → refusal_of (choice_with k x) here ≡ None → is_taken_in k None ≡ false
+    → k ≡ kind.Preempt
+preempts kind.Exec x here u on free isnt = absurd (false≢true (sym isnt))
+preempts kind.Drain x here u on free isnt = absurd (false≢true (sym isnt))
+preempts kind.Take x here u on free isnt = absurd (false≢true (sym isnt))
+preempts kind.Done x here u on free isnt = never_free (kind.Done ≡ kind.Preempt) NotInBarrier (runs here) free
+preempts kind.Preempt x here u on free isnt = refl
+preempts kind.Run x here u on free isnt = absurd (busy here x.tid.0 u (runs here) on free)
+preempts kind.Signal x here u on free isnt = never_free (kind.Signal ≡ kind.Preempt) NoSignal (runs here) free
+
+module _ (s : Setting) (e : Event) (before : History) (q : Sequence) (run : IsRunHistory s (e ∷ before)) (is : sequence_on s e.entry.hart.0 before ≡ Some q)
+    (over : sequence_on s e.entry.hart.0 (e ∷ before) ≡ None) (inside : is_inside_at s e.entry.hart.0 before ≡ true) where
+  abbrev h : ℕ
+  h = e.entry.hart.0
+
+  left_out : is_taken_in e.entry.kind None ≡ false
+  left_out =
+      let own = ap (λ b. cond (not b) (sequence_on s h before) (cond (is_inside_at s h before) (taken_up h e before (sequence_on s h before)) None)) (eqb_same h) in
+      let taken : taken_up h e before (Some q) ≡ None =
+      ap (taken_up h e before) (sym is)
+      ∙ ap (λ b. cond b (taken_up h e before (sequence_on s h before)) None) (sym inside)
+      ∙ sym own ∙ over in
+      sym (ap (is_taken_in e.entry.kind) (quiet s e before q run is)) ∙ not_taken (is_taken_in e.entry.kind e.done.interrupted) (with_event e before q) taken
+
+  hangs_then : hanging s q.thread (e ∷ before) ≡ Some q
+  hangs_then =
+      let here = place s e before run in
+      let there = (runs_throughout s before h q run.0 is).now in
+      let preempt = preempts e.entry.kind e.entry here q.thread there (is_free s e before run e.entry.kind refl) left_out in
+      let own : e.entry.tid.0 ≡ q.thread = its_thread s e before run kind.Preempt preempt ∙ ap number_of there in
+      let still = hanging s q.thread before in
+      ap (λ n. cond (eqb n q.thread) (hanging_after s q.thread e before e.entry.kind still) still) own
+      ∙ ap (λ b. cond b (hanging_after s q.thread e before e.entry.kind still) still) (eqb_same q.thread)
+      ∙ ap (λ k. hanging_after s q.thread e before k still) preempt
+      ∙ ap (λ b. cond b (sequence_on s h before) None) inside
+      ∙ is
+
+pub ends_whole : (s : Setting) (e : Event) (before : History) (q : Sequence) → IsRunHistory s (e ∷ before) → sequence_on s e.entry.hart.0 before ≡ Some q
+    → sequence_on s e.entry.hart.0 (e ∷ before) ≡ None → EndsWhole s e before q
+ends_whole s e before q run is over =
+    let none = quiet s e before q run is in
+    let goes = neither (ended before) _ (not_over s e before run) in
+    let lives = alive s before e.entry.hart.0 q goes.0 is in
+    let inside = is_inside_at s q.hart before in
+    let so : end_before s q e before ≡ left_or_dropped s q inside =
+    plain_end (has_died q) (has_killed e) (moved_out s q) inside e.done.interrupted (left_or_dropped s q inside) lives none in
+    let hart = (runs_throughout s before e.entry.hart.0 q run.0 is).hart in
+    record {
+      unended = λ goes_on.
+          let there : is_inside_at s e.entry.hart.0 before ≡ true = ap (λ k. is_inside_at s k before) (sym hart) ∙ unended_by s q inside (sym so ∙ goes_on) in
+          hangs_then s e before q run is over there;
+      interrupted = λ some there. absurd (false≢true (sym (ap (λ (o : Option Outcome). is_some o) none) ∙ some));
+      cut = λ at cuts. absurd (not_cut s q inside at (sym so ∙ cuts));
+      dropped = λ drops. dropped_so s before e.entry.hart.0 q run.0 is lives (sym so ∙ drops);
+      dead = λ dies. absurd (not_dead s q inside (sym so ∙ dies));
+    }
+
+-- one that has ended as dropped at a place, where nothing ended the process
+died_or : (died : Bool) (other : SeqEnd) → cond died ends.Dead other ≡ ends.Dropped → (died ≡ false) × (other ≡ ends.Dropped)
+died_or true other is = absurd cc
+died_or false other is = (refl, is)
+
+pub dropped_at : (s : Setting) (before : History) (h : ℕ) (q : Sequence) → IsRunHistory s before → sequence_on s h before ≡ Some q
+    → end_so_far s q before ≡ ends.Dropped → WasTouched s before q
+dropped_at s before h q run is drops =
+    let p = died_or (has_died q) (left_or_dropped s q (is_inside_at s q.hart before)) drops in
+    dropped_so s before h q run is p.0 p.1

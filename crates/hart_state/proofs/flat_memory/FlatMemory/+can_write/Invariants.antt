@@ -1,4 +1,0 @@
-use Rattle.hart_state.proofs.flat_memory.FlatMemory.+can_write.Given as goal
-
-abbrev pub decreases-can_write : goal.decreases-can_write
-decreases-can_write l = l.count

@@ -1,4 +1,0 @@
-use Rattle.signals.proofs.flat_memory.FlatMemory.+word.Given as goal
-
-abbrev pub decreases-word : goal.decreases-word
-decreases-word l = l.count

@@ -1,0 +1,106 @@
+-- The area is registered, or the process is killed.
+use Rattle.std.proofs.Common.{◌≡◌, ℕ, Bool, true, false, List, [], length, sym, ap, subst, ◌∙◌, arith}
+use Rattle.std.specs.Prelude.{Ok}
+use Rattle.std.proofs.lemmas.List.{length-map}
+use Rattle.mach_types.specs.Kernel.Areas.{are_words_writable, with_area, words_entered, words_on, words_written}
+use Rattle.mach_types.specs.declared.limits.End.TheVariants.{Killed}
+use Rattle.mach_types.specs.declared.sequences.Area.{Area}
+use Rattle.mach_types.specs.declared.signals.TheConstants.{SIGSEGV}
+use Rattle.mach_types.specs.declared.user_memory.Write.{Write}
+use Rattle.block_model.specs.Here.{Here, is_writable}
+use Rattle.block_model.specs.Ids.{id_of}
+use Rattle.block_model.specs.Calls.Answers.{CallDone}
+use Rattle.block_model.specs.Tables.{AreOfLive}
+use Rattle.sys_calls.specs.Answered.{IsEntered}
+use Rattle.sys_calls.specs.Made.{IsMade}
+use Rattle.sys_calls.specs.Registered.{areas_by_number}
+use Rattle.sys_calls.specs.declared.areas.Registered.{Registered}
+use Rattle.sys_calls.specs.declared.calling.CallEnd.TheVariants as over
+use Rattle.sys_calls.specs.declared.kernel.Kernel.{Kernel}
+use Rattle.sys_calls.proofs.Registering.{area_added, room_left}
+use Rattle.sys_calls.proofs.Saying.{made_answered}
+use Rattle.sys_calls.proofs.Sequencing.{answered_area, made_killed, registered_done, registers_killed, registers_made, words_can}
+use Rattle.sys_calls.proofs.Tables.{caller_lives}
+use Rattle.sys_calls.proofs.sequences.register_area.Goals as goal
+
+-- the words, as a rule reads the hart and the id
+words_are : (h : Here) (t hart cid here id : ℕ) (area : Area) (b : Bool) (ws : List Write) → hart ≡ here → cid ≡ id → h.hart ≡ here → id_of t h.kernel.ids ≡ id → b ≡ true
+    → ws ≡ words_entered b area (words_on hart cid) → ws ≡ words_written area (words_on h.hart (id_of t h.kernel.ids))
+words_are h t hart cid here id area b ws of_hart of_id at holds made is =
+    is ∙ ap (λ (x : Bool). words_entered x area (words_on hart cid)) made
+    ∙ ap (λ n. words_written area (words_on n cid)) (of_hart ∙ sym at) ∙ ap (λ n. words_written area (words_on h.hart n)) (of_id ∙ sym holds)
+
+pub returns-then-not-write_words-clause-told : goal.returns-then-not-write_words-clause-told
+returns-then-not-write_words-clause-told c = λ h hart read id.
+    let m = c.args.pages.now in
+    let t = c.args.tid.0 in
+    let area = c.args.area in
+    let cannot : are_words_writable (is_writable h) area ≡ false =
+    sym (words_can h m t c.args.saved.now read area) ∙ sym c.write_words.ensures.answer ∙ c.if-not-write_words.true in
+    c.write_words.ensures.told ∙ ap (λ (b : Bool). words_entered b area (words_on c.from-hart.result c.from.result)) c.if-not-write_words.true
+    ∙ ap (λ (d : CallDone). d.entered) (sym (registers_killed h t area cannot))
+
+pub returns-then-not-write_words-clause-made : goal.returns-then-not-write_words-clause-made
+returns-then-not-write_words-clause-made c = λ h hart told has read id.
+    let m = c.args.pages.now in
+    let t = c.args.tid.0 in
+    let k = c.args.kernel.now in
+    let area = c.args.area in
+    let m' = c.write_words.new.pages in
+    let saved = c.args.saved.now in
+    let cannot : are_words_writable (is_writable h) area ≡ false =
+    sym (words_can h m t saved read area) ∙ sym c.write_words.ensures.answer ∙ c.if-not-write_words.true in
+    let none : c.write_words.new.written.items ≡ [] =
+    c.write_words.ensures.told ∙ ap (λ (b : Bool). words_entered b area (words_on c.from-hart.result c.from.result)) c.if-not-write_words.true in
+    let made = made_killed h t c.args.here.0 k m m' saved c.write_words.new.written.items hart told read.file c.requires.caller has c.write_words.ensures.entered none in
+    subst (λ (d : CallDone). IsMade h t k m k m' saved (over.ProcessEnd (Killed SIGSEGV)) d) (sym (registers_killed h t area cannot)) made
+
+pub add_area-requires : goal.add_area-requires
+add_area-requires c =
+    let k = c.args.kernel.now in
+    let t = c.args.tid.0 in
+    let ts = k.threads.threads in
+    let few = room_left t ts (areas_by_number k.areas.items) c.requires.areas (caller_lives k c.args.here.0 t c.requires.caller) c.requires.none c.requires.caller.tables.1.threads in
+    let same : length (areas_by_number k.areas.items) ≡ length k.areas.items = length-map k.areas.items (λ (entry : Registered). (entry.tid.0, entry.area)) in
+    record { room = omega (arith, few, same) }
+
+pub returns-clause-areas : goal.returns-clause-areas
+returns-clause-areas c = λ holds.
+    let k = c.args.kernel.now in
+    let t = c.args.tid.0 in
+    let ts = k.threads.threads in
+    subst (λ (areas : List (ℕ × Area)). AreOfLive ts areas) (sym c.add_area.ensures)
+    (area_added t ts (areas_by_number k.areas.items) holds (caller_lives k c.args.here.0 t c.requires.caller) c.requires.none c.args.area)
+
+pub returns-clause-told : goal.returns-clause-told
+returns-clause-told c = λ h hart read id.
+    let m = c.args.pages.now in
+    let t = c.args.tid.0 in
+    let area = c.args.area in
+    let can : are_words_writable (is_writable h) area ≡ true =
+    sym (words_can h m t c.args.saved.now read area) ∙ sym c.write_words.ensures.answer ∙ c.if-not-write_words.false in
+    words_are h t c.from-hart.result c.from.result c.args.here.0 c.args.cid area c.write_words.result c.write_words.new.written.items
+    c.from-hart.ensures c.from.ensures hart id c.if-not-write_words.false c.write_words.ensures.told
+    ∙ ap (λ (d : CallDone). d.entered) (sym (registers_made h t area can))
+
+pub returns-clause-made : goal.returns-clause-made
+returns-clause-made c = λ h hart told has read id.
+    let m = c.args.pages.now in
+    let t = c.args.tid.0 in
+    let k = c.args.kernel.now in
+    let area = c.args.area in
+    let m' = c.write_words.new.pages in
+    let saved = c.args.saved.now in
+    let ws = words_written area (words_on h.hart (id_of t h.kernel.ids)) in
+    let k' : Kernel = record { threads = k.threads; ready = k.ready; areas = c.add_area.new.registered; console = k.console } in
+    let can : are_words_writable (is_writable h) area ≡ true =
+    sym (words_can h m t saved read area) ∙ sym c.write_words.ensures.answer ∙ c.if-not-write_words.false in
+    let writes : c.write_words.new.written.items ≡ ws =
+    words_are h t c.from-hart.result c.from.result c.args.here.0 c.args.cid area c.write_words.result c.write_words.new.written.items
+    c.from-hart.ensures c.from.ensures hart id c.if-not-write_words.false c.write_words.ensures.told in
+    let done = answered_area h t k c.add_area.new.registered m m' ws c.write_words.new.written.items (with_area t area h.kernel.areas) told
+    (c.add_area.ensures ∙ ap (with_area t area) told.areas) (subst (IsEntered m m') writes c.write_words.ensures.entered) writes in
+    let made = made_answered h t c.args.here.0 k k' m m' saved c.go_on.new.saved c.write_words.new.written.items (Ok 0) c.go_on.result (registered_done h t area)
+    hart told has read.file c.requires.caller done c.requires.caller.tables
+    c.go_on.ensures.saved c.go_on.ensures.stays c.go_on.ensures.runs_on c.go_on.ensures.ends c.go_on.ensures.answer in
+    subst (λ (d : CallDone). IsMade h t k m k' m' c.go_on.new.saved c.go_on.result d) (sym (registers_made h t area can)) made

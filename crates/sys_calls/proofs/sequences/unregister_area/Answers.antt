@@ -1,0 +1,76 @@
+-- An area is unregistered, or its words can't be written.
+use Rattle.std.proofs.Common.{◌≡◌, ℕ, Bool, true, false, List, [], Some, sym, ap, subst, ◌∙◌}
+use Rattle.std.specs.Prelude.{Err, Ok}
+use Rattle.mach_types.specs.Kernel.Areas.{are_words_writable, area_of, without_area, words_entered, words_unregistered, words_written}
+use Rattle.mach_types.specs.declared.errors.TheConstants.{EFAULT}
+use Rattle.mach_types.specs.declared.sequences.Area.{Area}
+use Rattle.mach_types.specs.declared.threads.Saved.{Saved}
+use Rattle.mach_types.specs.declared.user_memory.Write.{Write}
+use Rattle.block_model.specs.Here.{Here, is_writable}
+use Rattle.block_model.specs.Calls.Answers.{CallDone, refused}
+use Rattle.block_model.specs.Calls.Sequences.{unregisters, unregisters_or_refused}
+use Rattle.block_model.specs.Tables.{AreOfLive}
+use Rattle.sys_calls.specs.Answered.{IsAnswered, IsEntered, IsTold}
+use Rattle.sys_calls.specs.Registered.{areas_by_number, unregistration_asked}
+use Rattle.sys_calls.specs.declared.kernel.Kernel.{Kernel}
+use Rattle.sys_calls.proofs.Registering.{area_gone}
+use Rattle.sys_calls.proofs.Saying.{answered_wrote}
+use Rattle.sys_calls.proofs.Sequencing.{answered_area, unregistered_done, unregisters_made, unregisters_refused, words_can}
+use Rattle.sys_calls.proofs.sequences.unregister_area.Goals as goal
+
+-- the call that isn't refused, of a thread that has this area
+not_refused : (h : Here) (t : ℕ) (k : Kernel) (saved : Saved) (area : Area) (unit : Unit {0}) → IsTold h k → unregistration_asked saved (area_of t (areas_by_number k.areas.items)) ≡ Ok unit
+    → area_of t (areas_by_number k.areas.items) ≡ Some area → unregisters_or_refused h t (unregistration_asked saved (area_of t h.kernel.areas)) ≡ unregisters h t (Some area)
+not_refused h t k saved area unit told may is =
+    ap (λ (areas : List (ℕ × Area)). unregisters_or_refused h t (unregistration_asked saved (area_of t areas))) (sym told.areas)
+    ∙ ap (unregisters_or_refused h t) may
+    ∙ ap (λ (areas : List (ℕ × Area)). unregisters h t (area_of t areas)) (sym told.areas) ∙ ap (unregisters h t) is
+
+pub returns-then-not-write_words-clause-answered : goal.returns-then-not-write_words-clause-answered
+returns-then-not-write_words-clause-answered c = λ h told read.
+    let t = c.args.tid.0 in
+    let k = c.args.kernel.now in
+    let m = c.args.pages.now in
+    let m' = c.write_words.new.pages in
+    let area = c.in-Some.area in
+    let saved = c.args.saved.now in
+    let call = unregisters_or_refused h t (unregistration_asked saved (area_of t h.kernel.areas)) in
+    let cannot : are_words_writable (is_writable h) area ≡ false =
+    sym (words_can h m t saved read area) ∙ sym c.write_words.ensures.answer ∙ c.if-not-write_words.true in
+    let none : c.write_words.new.written.items ≡ [] =
+    c.write_words.ensures.told ∙ ap (λ (b : Bool). words_entered b area words_unregistered) c.if-not-write_words.true in
+    let is : call ≡ refused h t EFAULT =
+    not_refused h t k saved area c.in_ok-may_unregister.field-0 told (sym c.may_unregister.ensures.answer ∙ c.in_ok-may_unregister.was) (sym c.area_of.ensures ∙ c.in-Some.is)
+    ∙ unregisters_refused h t area cannot in
+    let done = answered_wrote h t k m m' (Err EFAULT) [] told (subst (IsEntered m m') none c.write_words.ensures.entered) in
+    subst (λ (w : List Write). IsAnswered h t k m k m' w (Err EFAULT) call) (sym none)
+    (subst (λ (d : CallDone). IsAnswered h t k m k m' [] (Err EFAULT) d) (sym is) done)
+
+pub returns-clause-areas : goal.returns-clause-areas
+returns-clause-areas c = λ holds.
+    let k = c.args.kernel.now in
+    let ts = k.threads.threads in
+    subst (λ (areas : List (ℕ × Area)). AreOfLive ts areas) (sym c.remove_area.ensures)
+    (area_gone c.args.tid.0 ts ts (areas_by_number k.areas.items) (λ u other live. live) holds)
+
+pub returns-clause-answered : goal.returns-clause-answered
+returns-clause-answered c = λ h told read.
+    let t = c.args.tid.0 in
+    let k = c.args.kernel.now in
+    let m = c.args.pages.now in
+    let m' = c.write_words.new.pages in
+    let area = c.in-Some.area in
+    let saved = c.args.saved.now in
+    let call = unregisters_or_refused h t (unregistration_asked saved (area_of t h.kernel.areas)) in
+    let ws = words_written area words_unregistered in
+    let k' : Kernel = record { threads = k.threads; ready = k.ready; areas = c.remove_area.new.registered; console = k.console } in
+    let can : are_words_writable (is_writable h) area ≡ true =
+    sym (words_can h m t saved read area) ∙ sym c.write_words.ensures.answer ∙ c.if-not-write_words.false in
+    let writes : c.write_words.new.written.items ≡ ws =
+    c.write_words.ensures.told ∙ ap (λ (b : Bool). words_entered b area words_unregistered) c.if-not-write_words.false in
+    let is : call ≡ unregistered_done h t area =
+    not_refused h t k saved area c.in_ok-may_unregister.field-0 told (sym c.may_unregister.ensures.answer ∙ c.in_ok-may_unregister.was) (sym c.area_of.ensures ∙ c.in-Some.is)
+    ∙ unregisters_made h t area can in
+    let done = answered_area h t k c.remove_area.new.registered m m' ws c.write_words.new.written.items (without_area t h.kernel.areas) told
+    (c.remove_area.ensures ∙ ap (without_area t) told.areas) (subst (IsEntered m m') writes c.write_words.ensures.entered) writes in
+    subst (λ (d : CallDone). IsAnswered h t k m k' m' c.write_words.new.written.items (Ok 0) d) (sym is) done
