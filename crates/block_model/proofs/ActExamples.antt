@@ -1,15 +1,16 @@
 -- Worked examples, proved by computation: the sequence of a program, each way in which it ends, and beside each what is there then.
-use Rattle.std.proofs.Common.{◌≡◌, ℕ, Bool, true, false, List, [], ◌∷◌, ◌++◌, replicate, length, ◌-◌, refl, Option, Some, None, Result, Ok, Err}
+use Rattle.std.proofs.Common.{◌≡◌, ℕ, ◌*◌, ◌/◌, ◌%◌, Bool, true, false, List, [], ◌∷◌, ◌++◌, replicate, length, ◌-◌, refl, Option, Some, None, Result, Ok, Err}
 use Rattle.std.specs.Option.{option_map}
+use Rattle.mach_types.specs.Bytes.{word_at}
 use Rattle.mach_types.specs.declared.events.Choice.{Choice}
 use Rattle.mach_types.specs.declared.events.Choice.TheVariants as asked
 use Rattle.mach_types.specs.declared.events.Entry.{Entry}
-use Rattle.mach_types.specs.declared.events.Kind.TheVariants as kind
 use Rattle.mach_types.specs.declared.limits.End.TheVariants.{Killed}
-use Rattle.mach_types.specs.declared.sequences.Outcome.{Outcome}
-use Rattle.mach_types.specs.declared.sequences.Outcome.TheVariants as comes_to
 use Rattle.mach_types.specs.declared.signals.TheConstants.{SIGSEGV}
 use Rattle.mach_types.specs.Kernel.Areas.{are_readable, number_at}
+use Rattle.mach_types.specs.Kernel.Barriers as barriers
+use Rattle.mach_types.specs.Kernel.SignalFrames.{can_write_frame}
+use Rattle.mach_types.specs.Kernel.Signals.{all_signals}
 use Rattle.mach_types.specs.Registers.{register}
 use Rattle.rv_inst.specs.Meaning.{meaning}
 use Rattle.rv_inst.specs.Table.{row_of, rows, lui_rows, auipc_rows, jal_rows, jalr_rows, branch_rows, load_rows, store_rows, op_imm_rows, op_imm_32_rows, op_rows, op_32_rows, misc_mem_rows, amo_rows, system_rows}
@@ -17,8 +18,8 @@ use Rattle.block_model.specs.declared.acts.SeqEnd.{SeqEnd}
 use Rattle.block_model.specs.declared.acts.SeqEnd.TheVariants as ends
 use Rattle.block_model.specs.Acts.{Sequence, end_at_verdict, end_before, end_so_far, hanging, is_inside_at, sequence_on}
 use Rattle.block_model.specs.Deciding.{decide, done, history}
-use Rattle.block_model.specs.Here.{nothing}
-use Rattle.block_model.specs.History.{Event, History, ended, file, here_in_history}
+use Rattle.block_model.specs.Here.{memory}
+use Rattle.block_model.specs.History.{History, ended, file, here_in_history}
 use Rattle.block_model.specs.Replay.{Ask, played}
 use Rattle.block_model.specs.Setting.{Setting}
 use Rattle.block_model.specs.Whole.{before_last, touched_in, watched_at}
@@ -45,13 +46,15 @@ puts_two = 0x93 ∷ 0x02 ∷ 0x20 ∷ 0x00 ∷ []
 abbrev calls : List ℕ
 calls = 0x73 ∷ 0x00 ∷ 0x00 ∷ 0x00 ∷ []
 
--- an area, which names a descriptor behind it; and the descriptor of a sequence that begins at 0x100`start`, with its abort handler
--- at 0x100`abort`
+-- an area, which names a descriptor behind it; and the descriptor of a sequence that begins at 0x10000 + `start`, with its abort
+-- handler at 0x10000 + `abort`
 abbrev area : List ℕ
 area = replicate 8 0 ++ 0x20 ∷ 0 ∷ 2 ∷ replicate 21 0
 
 abbrev descriptor : ℕ → ℕ → List ℕ
-descriptor start abort = replicate 8 0 ++ start ∷ 0 ∷ 1 ∷ 0 ∷ 0 ∷ 0 ∷ 0 ∷ 0 ∷ 8 ∷ 0 ∷ 0 ∷ 0 ∷ 0 ∷ 0 ∷ 0 ∷ 0 ∷ abort ∷ 0 ∷ 1 ∷ 0 ∷ 0 ∷ 0 ∷ 0 ∷ 0 ∷ []
+descriptor start abort =
+    replicate 8 0 ++ (start % 256) ∷ (start / 256) ∷ 1 ∷ 0 ∷ 0 ∷ 0 ∷ 0 ∷ 0 ∷ 8 ∷ 0 ∷ 0 ∷ 0 ∷ 0 ∷ 0 ∷ 0 ∷ 0
+    ∷ (abort % 256) ∷ (abort / 256) ∷ 1 ∷ 0 ∷ 0 ∷ 0 ∷ 0 ∷ 0 ∷ []
 
 abbrev program_with : List ℕ → List ℕ → Setting
 program_with code data_bytes = record {
@@ -85,6 +88,36 @@ child = 0x37 ∷ 0x03 ∷ 0x02 ∷ 0x00 ∷ 0x23 ∷ 0x34 ∷ 0x03 ∷ 0x00 ∷ 
 abbrev shared : Setting
 shared = program_with (clones ++ registration ++ sequence_of puts_two ++ child) (descriptor 0xE0 0xF0)
 
+-- the same with a child that registers the process for private barriers, and makes one: one that asks for a restart, and one that
+-- doesn't
+abbrev fences : ℕ → ℕ → List ℕ
+fences registers command =
+    0x13 ∷ 0x05 ∷ 0x00 ∷ registers ∷ 0x93 ∷ 0x08 ∷ 0xB0 ∷ 0x11 ∷ 0x73 ∷ 0x00 ∷ 0x00 ∷ 0x00 ∷
+    0x13 ∷ 0x05 ∷ (16 * command % 256) ∷ (command / 16) ∷ 0x73 ∷ 0x00 ∷ 0x00 ∷ 0x00 ∷ []
+
+abbrev restarting : Setting
+restarting = program_with (clones ++ registration ++ sequence_of puts_two ++ fences 0x10 128) (descriptor 0xE0 0xF0)
+
+abbrev fencing : Setting
+fencing = program_with (clones ++ registration ++ sequence_of puts_two ++ fences 0x01 8) (descriptor 0xE0 0xF0)
+
+-- the same of a thread that set the action behind its descriptor for signal 10 before, a handler at 0x10120, and posted signal 10 to
+-- itself; and of one that posted signal 15 to itself, which kills it
+abbrev sets_action : List ℕ
+sets_action =
+    0x13 ∷ 0x05 ∷ 0xA0 ∷ 0x00 ∷ 0xB7 ∷ 0x05 ∷ 0x02 ∷ 0x00 ∷ 0x93 ∷ 0x85 ∷ 0x05 ∷ 0x04 ∷ 0x93 ∷ 0x06 ∷ 0x80 ∷ 0x00 ∷
+    0x93 ∷ 0x08 ∷ 0x60 ∷ 0x08 ∷ 0x73 ∷ 0x00 ∷ 0x00 ∷ 0x00 ∷ []
+
+abbrev posts : ℕ → List ℕ
+posts signal =
+    0x13 ∷ 0x05 ∷ 0x10 ∷ 0x00 ∷ 0x93 ∷ 0x05 ∷ (16 * signal) ∷ 0x00 ∷ 0x93 ∷ 0x08 ∷ 0x20 ∷ 0x08 ∷ 0x73 ∷ 0x00 ∷ 0x00 ∷ 0x00 ∷ []
+
+abbrev handling : Setting
+handling = program_with (sets_action ++ posts 10 ++ registration ++ sequence_of puts_two) (descriptor 0xF4 0x104 ++ 0x20 ∷ 1 ∷ 1 ∷ [])
+
+abbrev unhandling : Setting
+unhandling = program_with (posts 15 ++ registration ++ sequence_of puts_two) (descriptor 0xDC 0xEC)
+
 -- SCRIPTS
 
 abbrev line : ℕ → Choice → Ask
@@ -117,6 +150,18 @@ child_stores = parent_inside ++ runs 1 2 ∷ replicate 3 (line 1 asked.Exec)
 
 abbrev child_writes : List Ask
 child_writes = child_stores ++ line 1 asked.Drain ∷ []
+
+-- the parent executes so many instructions; then the child, on hart 1, makes its barrier, whose request hart 0 takes
+abbrev fenced_after : ℕ → List Ask
+fenced_after executed = runs 0 1 ∷ replicate executed (line 0 asked.Exec) ++ runs 1 2 ∷ replicate 6 (line 1 asked.Exec) ++ line 0 asked.Take ∷ []
+
+-- the same where the parent leaves its hart after the child made its barrier
+abbrev fenced_idle : List Ask
+fenced_idle = parent_inside ++ runs 1 2 ∷ replicate 6 (line 1 asked.Exec) ++ line 0 asked.Preempt ∷ line 0 asked.Take ∷ []
+
+-- thread 1 begins to run on hart 0 and executes so many instructions, and then a signal is delivered to it
+abbrev signalled_after : ℕ → List Ask
+signalled_after executed = runs 0 1 ∷ replicate executed (line 0 asked.Exec) ++ line 0 asked.Signal ∷ []
 
 -- what is read at the end of a log
 abbrev read_of : {X : Type 0} → Setting → (History → X) → Result (List Entry) ℕ → Result X ℕ
@@ -214,24 +259,92 @@ hangs_no_more : read hanging_thread moved ≡ Ok None
 unfolding played decide history done meaning row_of rows lui_rows auipc_rows jal_rows jalr_rows branch_rows load_rows store_rows op_imm_rows op_imm_32_rows op_rows op_32_rows misc_mem_rows amo_rows system_rows are_readable number_at
 hangs_no_more = refl
 
--- an event by which hart 0 interrupts its thread, which came to this. (No event of a hart that runs a thread does so yet.)
-abbrev interrupts : Outcome → History → Event
-interrupts o before = record {
-  entry = record { hart = record { 0 = 0 }; kind = kind.Take; tid = record { 0 = 1 }; pc = 0x100D0 };
-  done = record (nothing (here_in_history program before 0)) { interrupted = Some o };
-}
+-- a signal is delivered between both instructions: the handler is entered, and returns to the abort handler, which is the first word of
+-- its frame; the thread isn't inside any more
+cut_by_signal : read_of handling (last_end handling) (played handling (signalled_after 18)) ≡ Ok (Some (ends.Cut 0x10104))
+unfolding all_signals can_write_frame played decide history done meaning row_of rows lui_rows auipc_rows jal_rows jalr_rows branch_rows load_rows store_rows op_imm_rows op_imm_32_rows op_rows op_32_rows misc_mem_rows amo_rows system_rows are_readable number_at
+cut_by_signal = refl
 
-abbrev end_by : Outcome → History → Option SeqEnd
-end_by o before = option_map (λ (q : Sequence). end_before program q (interrupts o before) before) (sequence_on program 0 before)
+enters_its_handler : read_of handling (λ before. (file handling 1 before).pc) (played handling (signalled_after 18)) ≡ Ok 0x10120
+unfolding all_signals can_write_frame played decide history done meaning row_of rows lui_rows auipc_rows jal_rows jalr_rows branch_rows load_rows store_rows op_imm_rows op_imm_32_rows op_rows op_32_rows misc_mem_rows amo_rows system_rows are_readable number_at
+enters_its_handler = refl
 
--- it would cut the sequence between both instructions, and not behind them
-would_cut : read (end_by (comes_to.Aborted 0x100DC)) one_inside ≡ Ok (Some (ends.Cut 0x100DC))
-unfolding played decide history done meaning row_of rows lui_rows auipc_rows jal_rows jalr_rows branch_rows load_rows store_rows op_imm_rows op_imm_32_rows op_rows op_32_rows misc_mem_rows amo_rows system_rows are_readable number_at
-would_cut = refl
+abbrev returns_to : History → Option ℕ
+returns_to before = word_at (memory (here_in_history handling before 0)) 0x3FFFF3FE20 8
 
-would_not_cut : read (end_by (comes_to.Aborted 0x100DC)) (registered ++ replicate 2 (line 0 asked.Exec)) ≡ Ok (Some ends.Left)
-unfolding played decide history done meaning row_of rows lui_rows auipc_rows jal_rows jalr_rows branch_rows load_rows store_rows op_imm_rows op_imm_32_rows op_rows op_32_rows misc_mem_rows amo_rows system_rows are_readable number_at
-would_not_cut = refl
+returns_to_its_abort_handler : read_of handling returns_to (played handling (signalled_after 18)) ≡ Ok (Some 0x10104)
+unfolding all_signals can_write_frame played decide history done meaning row_of rows lui_rows auipc_rows jal_rows jalr_rows branch_rows load_rows store_rows op_imm_rows op_imm_32_rows op_rows op_32_rows misc_mem_rows amo_rows system_rows are_readable number_at
+returns_to_its_abort_handler = refl
+
+isnt_inside_then : read_of handling (is_inside_at handling 0) (played handling (signalled_after 18)) ≡ Ok false
+unfolding all_signals can_write_frame played decide history done meaning row_of rows lui_rows auipc_rows jal_rows jalr_rows branch_rows load_rows store_rows op_imm_rows op_imm_32_rows op_rows op_32_rows misc_mem_rows amo_rows system_rows are_readable number_at
+isnt_inside_then = refl
+
+-- behind both instructions it cuts nothing, and the handler returns there
+left_before_signal : read_of handling (last_end handling) (played handling (signalled_after 19)) ≡ Ok (Some ends.Left)
+unfolding all_signals can_write_frame played decide history done meaning row_of rows lui_rows auipc_rows jal_rows jalr_rows branch_rows load_rows store_rows op_imm_rows op_imm_32_rows op_rows op_32_rows misc_mem_rows amo_rows system_rows are_readable number_at
+left_before_signal = refl
+
+returns_behind : read_of handling returns_to (played handling (signalled_after 19)) ≡ Ok (Some 0x100FC)
+unfolding all_signals can_write_frame played decide history done meaning row_of rows lui_rows auipc_rows jal_rows jalr_rows branch_rows load_rows store_rows op_imm_rows op_imm_32_rows op_rows op_32_rows misc_mem_rows amo_rows system_rows are_readable number_at
+returns_behind = refl
+
+-- where no instruction was executed inside yet no sequence ends, and the handler returns to the abort handler too
+none_ends : read_of handling (last_end handling) (played handling (signalled_after 17)) ≡ Ok None
+unfolding all_signals can_write_frame played decide history done meaning row_of rows lui_rows auipc_rows jal_rows jalr_rows branch_rows load_rows store_rows op_imm_rows op_imm_32_rows op_rows op_32_rows misc_mem_rows amo_rows system_rows are_readable number_at
+none_ends = refl
+
+aborts_at_its_start : read_of handling returns_to (played handling (signalled_after 17)) ≡ Ok (Some 0x10104)
+unfolding all_signals can_write_frame played decide history done meaning row_of rows lui_rows auipc_rows jal_rows jalr_rows branch_rows load_rows store_rows op_imm_rows op_imm_32_rows op_rows op_32_rows misc_mem_rows amo_rows system_rows are_readable number_at
+aborts_at_its_start = refl
+
+-- hart 0 takes the request of a barrier that asks for a restart between both instructions: the thread goes on at its abort handler
+cut_by_barrier : read_of restarting (last_end restarting) (played restarting (fenced_after 13)) ≡ Ok (Some (ends.Cut 0x100F0))
+unfolding barriers.asked played decide history done meaning row_of rows lui_rows auipc_rows jal_rows jalr_rows branch_rows load_rows store_rows op_imm_rows op_imm_32_rows op_rows op_32_rows misc_mem_rows amo_rows system_rows are_readable number_at
+cut_by_barrier = refl
+
+goes_on_at_handler_then : read_of restarting (λ before. (file restarting 1 before).pc) (played restarting (fenced_after 13)) ≡ Ok 0x100F0
+unfolding barriers.asked played decide history done meaning row_of rows lui_rows auipc_rows jal_rows jalr_rows branch_rows load_rows store_rows op_imm_rows op_imm_32_rows op_rows op_32_rows misc_mem_rows amo_rows system_rows are_readable number_at
+goes_on_at_handler_then = refl
+
+cut_is_outside : read_of restarting (is_inside_at restarting 0) (played restarting (fenced_after 13)) ≡ Ok false
+unfolding barriers.asked played decide history done meaning row_of rows lui_rows auipc_rows jal_rows jalr_rows branch_rows load_rows store_rows op_imm_rows op_imm_32_rows op_rows op_32_rows misc_mem_rows amo_rows system_rows are_readable number_at
+cut_is_outside = refl
+
+-- behind both instructions it cuts nothing; where none was executed inside yet no sequence ends, and the thread goes on there too
+left_before_barrier : read_of restarting (last_end restarting) (played restarting (fenced_after 14)) ≡ Ok (Some ends.Left)
+unfolding barriers.asked played decide history done meaning row_of rows lui_rows auipc_rows jal_rows jalr_rows branch_rows load_rows store_rows op_imm_rows op_imm_32_rows op_rows op_32_rows misc_mem_rows amo_rows system_rows are_readable number_at
+left_before_barrier = refl
+
+stays_behind : read_of restarting (λ before. (file restarting 1 before).pc) (played restarting (fenced_after 14)) ≡ Ok 0x100E8
+unfolding barriers.asked played decide history done meaning row_of rows lui_rows auipc_rows jal_rows jalr_rows branch_rows load_rows store_rows op_imm_rows op_imm_32_rows op_rows op_32_rows misc_mem_rows amo_rows system_rows are_readable number_at
+stays_behind = refl
+
+none_ends_by_barrier : read_of restarting (last_end restarting) (played restarting (fenced_after 12)) ≡ Ok None
+unfolding barriers.asked played decide history done meaning row_of rows lui_rows auipc_rows jal_rows jalr_rows branch_rows load_rows store_rows op_imm_rows op_imm_32_rows op_rows op_32_rows misc_mem_rows amo_rows system_rows are_readable number_at
+none_ends_by_barrier = refl
+
+aborts_at_its_start_too : read_of restarting (λ before. (file restarting 1 before).pc) (played restarting (fenced_after 12)) ≡ Ok 0x100F0
+unfolding barriers.asked played decide history done meaning row_of rows lui_rows auipc_rows jal_rows jalr_rows branch_rows load_rows store_rows op_imm_rows op_imm_32_rows op_rows op_32_rows misc_mem_rows amo_rows system_rows are_readable number_at
+aborts_at_its_start_too = refl
+
+-- one that asks for no restart cuts nothing: the thread is inside still
+not_cut_by_barrier : read_of fencing (end_of_log fencing) (played fencing (fenced_after 13)) ≡ Ok (Some ends.Unended)
+unfolding barriers.asked played decide history done meaning row_of rows lui_rows auipc_rows jal_rows jalr_rows branch_rows load_rows store_rows op_imm_rows op_imm_32_rows op_rows op_32_rows misc_mem_rows amo_rows system_rows are_readable number_at
+not_cut_by_barrier = refl
+
+still_inside : read_of fencing (is_inside_at fencing 0) (played fencing (fenced_after 13)) ≡ Ok true
+unfolding barriers.asked played decide history done meaning row_of rows lui_rows auipc_rows jal_rows jalr_rows branch_rows load_rows store_rows op_imm_rows op_imm_32_rows op_rows op_32_rows misc_mem_rows amo_rows system_rows are_readable number_at
+still_inside = refl
+
+-- nor does one whose request an idle hart takes: the sequence hangs still, and is cut where its thread begins to run
+hangs_still : read_of restarting (λ before. option_map (λ (q : Sequence). q.thread) (hanging restarting 1 before)) (played restarting fenced_idle) ≡ Ok (Some 1)
+unfolding barriers.asked played decide history done meaning row_of rows lui_rows auipc_rows jal_rows jalr_rows branch_rows load_rows store_rows op_imm_rows op_imm_32_rows op_rows op_32_rows misc_mem_rows amo_rows system_rows are_readable number_at
+hangs_still = refl
+
+cut_where_it_runs : read_of restarting (verdict restarting) (played restarting (fenced_idle ++ runs 0 1 ∷ [])) ≡ Ok (Some (ends.Cut 0x100F0))
+unfolding barriers.asked played decide history done meaning row_of rows lui_rows auipc_rows jal_rows jalr_rows branch_rows load_rows store_rows op_imm_rows op_imm_32_rows op_rows op_32_rows misc_mem_rows amo_rows system_rows are_readable number_at
+cut_where_it_runs = refl
 
 -- DEAD
 
@@ -243,6 +356,15 @@ dead = refl
 dead_by_signal : read_of calling ended (played calling (one_inside ++ line 0 asked.Exec ∷ [])) ≡ Ok (Some (Killed SIGSEGV))
 unfolding played decide history done meaning row_of rows lui_rows auipc_rows jal_rows jalr_rows branch_rows load_rows store_rows op_imm_rows op_imm_32_rows op_rows op_32_rows misc_mem_rows amo_rows system_rows are_readable number_at
 dead_by_signal = refl
+
+-- a signal that has no handler is delivered between both instructions: the process is killed by it
+dead_unhandled : read_of unhandling (last_end unhandling) (played unhandling (signalled_after 12)) ≡ Ok (Some ends.Dead)
+unfolding all_signals played decide history done meaning row_of rows lui_rows auipc_rows jal_rows jalr_rows branch_rows load_rows store_rows op_imm_rows op_imm_32_rows op_rows op_32_rows misc_mem_rows amo_rows system_rows are_readable number_at
+dead_unhandled = refl
+
+dead_by_its_signal : read_of unhandling ended (played unhandling (signalled_after 12)) ≡ Ok (Some (Killed 15))
+unfolding all_signals played decide history done meaning row_of rows lui_rows auipc_rows jal_rows jalr_rows branch_rows load_rows store_rows op_imm_rows op_imm_32_rows op_rows op_32_rows misc_mem_rows amo_rows system_rows are_readable number_at
+dead_by_its_signal = refl
 
 -- DROPPED
 

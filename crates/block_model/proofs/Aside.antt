@@ -5,18 +5,19 @@ use Rattle.std.proofs.lemmas.Bool.{false≢true, ne_eqb}
 use Rattle.std.proofs.lemmas.Bool.Decides.{eqb_tells}
 use Rattle.mach_types.proofs.Laws.{area_of-with_area_other, area_of-without_area_other, next_is_new, state_of-with_child_other, state_of-with_child_same, state_of-with_clear, state_of-with_state_other, state_of-with_state_same, state_of-without_other}
 use Rattle.mach_types.specs.Kernel.Areas.{area_of}
-use Rattle.mach_types.specs.Kernel.Threads.{IsThreads, Thread, Threads, is_ready, longest_waiter, state_of, waits, with_child, with_state}
+use Rattle.mach_types.specs.Kernel.Signals.{Signalling}
+use Rattle.mach_types.specs.Kernel.Threads.{IsThreads, Thread, Threads, is_ready, is_waiting_state, longest_waiter, state_of, waits, with_child, with_state}
 use Rattle.mach_types.specs.declared.errors.Errno.{Errno}
 use Rattle.mach_types.specs.declared.sequences.Area.{Area}
 use Rattle.mach_types.specs.declared.threads.Saved.{Saved}
 use Rattle.mach_types.specs.declared.threads.ThreadState.{ThreadState}
-use Rattle.mach_types.specs.declared.threads.ThreadState.TheVariants.{Ready, Waiting}
+use Rattle.mach_types.specs.declared.threads.ThreadState.TheVariants.{Ready, Running, Waiting}
 use Rattle.mach_types.specs.declared.user_memory.Write.{Write}
 use Rattle.block_model.specs.Calls.Answers.{CallDone, refused, returned, said}
 use Rattle.block_model.specs.Calls.Futexes.{Woken, answered_wait, wake, woken_first}
 use Rattle.block_model.specs.Here.{Here, runs}
 use Rattle.block_model.specs.History.{file_among}
-use Rattle.block_model.specs.Kernel.{cleared, gone, had_child, left, registered, unregistered, waited, woken}
+use Rattle.block_model.specs.Kernel.{cleared, gone, had_child, left, registered, signalled, unregistered, waited, woken}
 use Rattle.block_model.specs.Record.{Kernel}
 use Rattle.block_model.proofs.Good.{IsGoodHere}
 use Rattle.block_model.proofs.Goods.Calls.Futexes.{longest_waits}
@@ -54,6 +55,15 @@ ready_not_next u ts threads is same =
 ready_not_waiting : (u v : ℕ) (ts : Threads) → is_ready u ts ≡ true → waits ts v → v ≢ u
 ready_not_waiting u v ts is waiting same =
     false≢true (sym (ap its_ready waiting.1) ∙ ap (λ n. is_ready n ts) same ∙ is)
+
+not_both : (o : Option ThreadState) → its_ready o ≡ true → option_map_or is_waiting_state o false ≡ true → ⊥
+not_both None ready waiting = false≢true ready
+not_both (Some Ready) ready waiting = false≢true waiting
+not_both (Some (Running h)) ready waiting = false≢true ready
+not_both (Some (Waiting at)) ready waiting = false≢true ready
+
+pub waiting_not_ready : (v u : ℕ) (ts : Threads) → option_map_or is_waiting_state (state_of v ts) false ≡ true → is_ready u ts ≡ true → v ≢ u
+waiting_not_ready v u ts waiting is same = not_both (state_of v ts) (ap (λ n. is_ready n ts) same ∙ is) waiting
 
 -- STEPS OF THE RECORD
 
@@ -100,6 +110,9 @@ beside_registered t area k = record { ready = λ u ne is. is; areas = λ u ne. a
 
 pub beside_unregistered : (t : ℕ) (k : Kernel) → IsBeside t k (unregistered t k)
 beside_unregistered t k = record { ready = λ u ne is. is; areas = λ u ne. area_of-without_area_other t u k.areas (λ e. ne (sym e)) }
+
+pub beside_signalled : (t : ℕ) (g : Signalling) (k : Kernel) → IsBeside t k (signalled g k)
+beside_signalled t g k = record { ready = λ u ne is. is; areas = λ u ne. refl }
 
 pub beside_if : (t : ℕ) (k x y : Kernel) (b : Bool) → IsBeside t k x → IsBeside t k y → IsBeside t k (cond b x y)
 beside_if t k x y true p q = p

@@ -1,34 +1,42 @@
 -- Each call of the table leaves ready threads, their files and the areas of other threads as they are.
-use Rattle.std.proofs.Common.{◌≡◌, ℕ, ◌*◌, ◌%◌, ◌^◌, List, [], ◌∷◌, length, map, take, min, refl, ap, ◌∙◌, Bool, not, cond, eqb, leb, ltb, ◌&&◌, ◌||◌, true, Option, Some, None, Result, Ok, Err}
-use Rattle.std.proofs.lemmas.Bool.{ne_eqb}
+use Rattle.std.proofs.Common.{◌≡◌, ℕ, ◌*◌, ◌%◌, ◌^◌, List, [], ◌∷◌, length, map, take, min, refl, ap, ◌∙◌, Bool, not, cond, eqb, leb, ltb, ◌&&◌, ◌||◌, true, false, Option, Some, None, is_some, Result, Ok, Err}
+use Rattle.std.specs.Option.{option_map_or}
+use Rattle.std.proofs.lemmas.Bool.{and_parts, ne_eqb}
 use Rattle.mach_types.specs.Kernel.Areas.{are_words_writable}
 use Rattle.mach_types.specs.Kernel.PageCalls.{mmap_answer}
 use Rattle.mach_types.specs.Kernel.Pages.{Pages}
 use Rattle.mach_types.specs.Kernel.Scheduling.{harts_in, has_hart}
-use Rattle.mach_types.specs.Kernel.Threads.{clear_of, is_full, is_ready}
+use Rattle.mach_types.specs.Kernel.SignalFrames as frame
+use Rattle.mach_types.specs.Kernel.Signals.{acted, next_for, refuses_action, refuses_how}
+use Rattle.mach_types.specs.Kernel.Threads.{clear_of, is_full, is_live, is_ready, is_waiting_state, state_of}
 use Rattle.mach_types.specs.declared.address_space.TheConstants.{USER_END}
+use Rattle.mach_types.specs.declared.barriers.Answer.{Answer}
+use Rattle.mach_types.specs.declared.barriers.Answer.TheVariants.{Begin, Value}
 use Rattle.mach_types.specs.declared.errors.Errno.{Errno}
-use Rattle.mach_types.specs.declared.errors.TheConstants.{EAGAIN, EBADF, EFAULT, EINVAL, ENOSPC, ENOSYS, EPERM, ESRCH}
+use Rattle.mach_types.specs.declared.errors.TheConstants.{EAGAIN, EBADF, EFAULT, EINTR, EINVAL, ENOSPC, ENOSYS, EPERM, ESRCH}
 use Rattle.mach_types.specs.declared.kernel_words.TheConstants.{CONSOLE_ROOM}
 use Rattle.mach_types.specs.declared.sequences.Area.{Area}
 use Rattle.mach_types.specs.declared.threads.Saved.{Saved}
 use Rattle.mach_types.specs.declared.user_memory.Write.{Write}
+use Rattle.rv_inst.specs.Words.{sum_64, word}
 use Rattle.block_model.specs.Calls.{call_of, called}
 use Rattle.block_model.specs.Calls.Affinity.{getcpu, is_usable, moved_off, names_nobody, sched_getaffinity, sched_setaffinity, set_at}
-use Rattle.block_model.specs.Calls.Answers.{CallDone, argument, are_readable, are_writable, call_number, int_argument, number_at, refused, returned, said}
+use Rattle.block_model.specs.Calls.Answers.{CallDone, argument, are_readable, are_writable, call_number, int_argument, number_at, refused, returned, said, killed_in_call}
+use Rattle.block_model.specs.Calls.Barriers.{answers}
 use Rattle.block_model.specs.Calls.Cloning.{are_flags, child_file, clone, clone_child_cleartid, clone_child_settid, clone_parent_settid, has_flag, may_write, with_new_child}
 use Rattle.block_model.specs.Calls.Console.{Span, all_readable, bytes_of, is_elsewhere, room, spans_at, total, write, write_spans, writev}
 use Rattle.block_model.specs.Calls.Ending.{clears, exit, exit_group, is_last, last_exits, one_exits}
 use Rattle.block_model.specs.Calls.Futexes.{answered_wait, futex, futex_wait, futex_wake, operation, wake}
 use Rattle.block_model.specs.Calls.Memory.{are_mapping_flags, changed_unless, mapped_or_refused, mmap, permission_here}
-use Rattle.block_model.specs.Calls.Sequences.{killed_in_call, registers_or_refused, rseq, unregisters, unregisters_or_refused}
+use Rattle.block_model.specs.Calls.Sequences.{registers_or_refused, rseq, unregisters, unregisters_or_refused}
+use Rattle.block_model.specs.Calls.Signals as signals
 use Rattle.block_model.specs.Here.{Here, is_writable, memory, runs}
 use Rattle.block_model.specs.History.{file_among}
-use Rattle.block_model.specs.Kernel.{cleared, gone, had_child, left, next_number, paged, printed, registered, restricted, unregistered, waited}
+use Rattle.block_model.specs.Kernel.{cleared, gone, had_child, left, next_number, paged, printed, registered, restricted, signalled, unregistered, waited, woken}
 use Rattle.block_model.specs.Record.{Kernel}
 use Rattle.block_model.specs.Sequences.{area_here}
 use Rattle.block_model.proofs.Good.{IsGoodHere}
-use Rattle.block_model.proofs.Aside.{IsAside, IsBeside, answered_beside, aside_alike, aside_none, aside_own, aside_wrote, beside_after, beside_child, beside_cleared, beside_gone, beside_if, beside_left, beside_registered, beside_unregistered, beside_waited, beside_wake, caller_apart, either, ready_not_next, unless_refused}
+use Rattle.block_model.proofs.Aside.{IsAside, IsBeside, answered_beside, aside_alike, aside_none, aside_own, aside_wrote, beside_after, beside_child, beside_cleared, beside_gone, beside_if, beside_left, beside_registered, beside_same, beside_signalled, beside_unregistered, beside_waited, beside_wake, beside_woken, caller_apart, either, ready_not_next, unless_refused, waiting_not_ready}
 
 module _ (here : Here) (t : ℕ) (good : IsGoodHere here) (at : runs here ≡ Some t) where
   abbrev Aside : CallDone → Type 0
@@ -89,7 +97,8 @@ module _ (here : Here) (t : ℕ) (good : IsGoodHere here) (at : runs here ≡ So
       unless EINVAL (not (eqb (argument here t 3) 0)) _
       (unless EFAULT (not (are_readable here p 4)) _
       (unless EAGAIN (not (eqb (number_at here p 4) (int_argument here t 2))) _
-      (aside_changed 0 [] (waited t p here.kernel) (beside_waited t p here.kernel))))
+      (unless EINTR (is_some (next_for t here.kernel.signals)) _
+      (aside_changed 0 [] (waited t p here.kernel) (beside_waited t p here.kernel)))))
 
   aside_wake : Aside (futex_wake here t)
   aside_wake =
@@ -217,6 +226,91 @@ module _ (here : Here) (t : ℕ) (good : IsGoodHere here) (at : runs here ≡ So
   aside_rseq : Aside (rseq here t)
   aside_rseq = let flags = int_argument here t 2 in aside_if (eqb (flags % 2) 1) _ _ (aside_unregisters_or _) (aside_registers _)
 
+  -- tkill(2) and tgkill(2): a thread whose wait is broken isn't ready
+  aside_broken : (u sig : ℕ) → signals.waits_in_vain u (signals.with_posted here u sig) ≡ true
+      → Aside (record {
+        files = (t, returned 0 (here.file t)) ∷ signals.broken_wait here u ∷ [];
+        entered = [];
+        kernel = woken u (signals.with_posted here u sig);
+        barrier = None;
+        ended = None;
+      })
+  aside_broken u sig vain =
+      let after = signals.with_posted here u sig in
+      let broken = signals.broken_wait here u in
+      let waiting = and_parts (option_map_or is_waiting_state (state_of u here.kernel.threads) false) (is_some (next_for u after.signals)) vain in
+      record {
+        files = λ v f ready.
+            ap (λ b. cond b (returned 0 (here.file t)) (file_among (broken ∷ []) v f)) (ne_eqb t v (caller_apart here t good at v ready))
+            ∙ ap (λ b. cond b broken.1 f) (ne_eqb u v (waiting_not_ready u v here.kernel.threads waiting.0 ready));
+        beside = beside_after t here.kernel after (woken u after) (beside_signalled t after.signals here.kernel) (beside_woken t u after);
+      }
+
+  aside_post_by : (u sig : ℕ) (b : Bool) (x y : CallDone) → signals.waits_in_vain u (signals.with_posted here u sig) ≡ b
+      → (signals.waits_in_vain u (signals.with_posted here u sig) ≡ true → Aside x) → Aside y → Aside (cond b x y)
+  aside_post_by u sig true x y is p q = p is
+  aside_post_by u sig false x y is p q = q
+
+  aside_post : (u sig : ℕ) → Aside (signals.post here t u sig)
+  aside_post u sig =
+      let after = signals.with_posted here u sig in
+      aside_post_by u sig (signals.waits_in_vain u after) _ _ refl (aside_broken u sig) (aside_changed 0 [] after (beside_signalled t after.signals here.kernel))
+
+  aside_send : (u sig : ℕ) → Aside (signals.send here t u sig)
+  aside_send u sig = unless EINVAL (signals.refuses_signal sig) _ (aside_if (eqb sig 0) _ _ (aside_said 0) (aside_post u sig))
+
+  aside_tkill : Aside (signals.tkill here t)
+  aside_tkill =
+      let u = int_argument here t 0 in
+      unless EINVAL (signals.is_below_one u) _
+      (unless ESRCH (not (is_live u here.kernel.threads)) _ (aside_send u (int_argument here t 1)))
+
+  aside_tgkill : Aside (signals.tgkill here t)
+  aside_tgkill =
+      let pid = int_argument here t 0 in
+      let u = int_argument here t 1 in
+      unless EINVAL (signals.is_below_one pid || signals.is_below_one u) _
+      (unless ESRCH (not (eqb pid 1 && is_live u here.kernel.threads)) _ (aside_send u (int_argument here t 2)))
+
+  -- rt_sigaction(2), rt_sigprocmask(2) and rt_sigreturn(2)
+  aside_sigaction : Aside (signals.rt_sigaction here t)
+  aside_sigaction =
+      let sig = int_argument here t 0 in
+      let act = argument here t 1 in
+      let old = argument here t 2 in
+      let given = signals.action_given here act in
+      unless EINVAL (not (eqb (argument here t 3) 8)) _
+      (unless EFAULT (not (signals.may_read here act signals.action_size)) _
+      (unless EINVAL (refuses_action sig given) _
+      (unless EFAULT (not (signals.may_write here old signals.action_size)) _
+      (aside_changed 0 _ (signalled (acted sig given here.kernel.signals) here.kernel) (beside_signalled t _ here.kernel)))))
+
+  aside_sigprocmask : Aside (signals.rt_sigprocmask here t)
+  aside_sigprocmask =
+      let how = int_argument here t 0 in
+      let set = argument here t 1 in
+      let old = argument here t 2 in
+      unless EINVAL (not (eqb (argument here t 3) 8)) _
+      (unless EFAULT (not (signals.may_read here set 8)) _
+      (unless EINVAL (not (eqb set 0) && refuses_how how) _
+      (unless EFAULT (not (signals.may_write here old 8)) _
+      (aside_changed 0 _ (signalled (signals.masked here t how set) here.kernel) (beside_signalled t _ here.kernel)))))
+
+  aside_resumed : (o : Option (List ℕ)) → Aside (signals.resumed here t o)
+  aside_resumed None = aside_killed
+  aside_resumed (Some words) = record {
+    files = λ u f ready. ap (λ b. cond b (frame.restored words) f) (ne_eqb t u (caller_apart here t good at u ready));
+    beside = beside_signalled t _ here.kernel;
+  }
+
+  -- membarrier(2)
+  aside_answers : (x : Answer) → Aside (answers here t x)
+  aside_answers (Value n) = aside_alike here t good at (word n) [] _ refl refl
+  aside_answers (Begin targets restart) = record {
+    files = λ u f ready. ap (λ b. cond b (record (here.file t) { pc = sum_64 (here.file t).pc 4 }) f) (ne_eqb t u (caller_apart here t good at u ready));
+    beside = beside_same t here.kernel;
+  }
+
   -- each call of the table
   aside_call_of : (number : ℕ) → Aside (call_of number here t)
   aside_call_of number =
@@ -229,6 +323,11 @@ module _ (here : Here) (t : ℕ) (good : IsGoodHere here) (at : runs here ≡ So
       (aside_if (eqb number 122) _ _ aside_setaffinity
       (aside_if (eqb number 123) _ _ aside_getaffinity
       (aside_if (eqb number 124) _ _ (aside_changed 0 [] (left t here.kernel) (beside_left t t here.kernel))
+      (aside_if (eqb number 130) _ _ aside_tkill
+      (aside_if (eqb number 131) _ _ aside_tgkill
+      (aside_if (eqb number 134) _ _ aside_sigaction
+      (aside_if (eqb number 135) _ _ aside_sigprocmask
+      (aside_if (eqb number 139) _ _ (aside_resumed _)
       (aside_if (eqb number 168) _ _ aside_getcpu
       (aside_if (eqb number 172) _ _ (aside_said 1)
       (aside_if (eqb number 178) _ _ (aside_said t)
@@ -237,8 +336,9 @@ module _ (here : Here) (t : ℕ) (good : IsGoodHere here) (at : runs here ≡ So
       (aside_if (eqb number 220) _ _ aside_clone
       (aside_if (eqb number 222) _ _ aside_mmap
       (aside_if (eqb number 226) _ _ (aside_unless _ _)
+      (aside_if (eqb number 283) _ _ (aside_answers _)
       (aside_if (eqb number 293) _ _ aside_rseq
-      (aside_said _))))))))))))))))))
+      (aside_said _))))))))))))))))))))))))
 
   pub aside_called : Aside (called here t)
   aside_called = aside_call_of (call_number here t)

@@ -16,7 +16,7 @@ use Rattle.mach_types.specs.declared.events.Entry.{Entry}
 use Rattle.mach_types.specs.declared.events.Sight.{Sight}
 use Rattle.mach_types.specs.declared.events.Tid.{Tid}
 use Rattle.mach_types.specs.declared.events.Why.{Why}
-use Rattle.mach_types.specs.declared.events.Why.TheVariants.{Waiting, FullBuffer}
+use Rattle.mach_types.specs.declared.events.Why.TheVariants.{FullBuffer, NoRequest, Waiting}
 use Rattle.mach_types.specs.declared.limits.End.{End}
 use Rattle.mach_types.specs.declared.threads.Saved.{Saved}
 use Rattle.mach_types.specs.declared.threads.ThreadState.{ThreadState}
@@ -30,7 +30,7 @@ use Rattle.rv_inst.specs.Meaning.{meaning}
 use Rattle.rv_inst.specs.declared.effects.Effect.{Effect}
 use Rattle.rv_inst.specs.declared.effects.Effect.TheVariants as effect
 use Rattle.rv_inst.specs.declared.instruction.Inst.{Inst}
-use Rattle.chooser.specs.Cases.{draws, by_word, credit_of, drains_by, has_credit, has_stores, leaves_by, on_credit, pick, pick_in, plainly, when_held_up, when_idle, when_in_barrier}
+use Rattle.chooser.specs.Cases.{draws, by_word, credit_of, drains_by, emptied_before, has_credit, has_stores, leaves_by, on_credit, pick, pick_in, plainly, when_held_up, when_idle, when_in_barrier}
 use Rattle.chooser.specs.Generators.{after_words, first_generator, word}
 use Rattle.chooser.specs.declared.cases.Case.{Case}
 use Rattle.chooser.specs.declared.cases.Case.TheVariants.{Settled, Open}
@@ -39,20 +39,23 @@ use Rattle.block_model.specs.Choosing.{IsChosen, Luck, all_chosen, choice_at, ha
 use Rattle.block_model.specs.Deciding.{decide, entry_in, event, history, over_at, unless}
 use Rattle.block_model.specs.Events.{refusal_of}
 use Rattle.block_model.specs.Events.Drain.{refusal_drain_of}
+use Rattle.block_model.specs.Events.Finish.{refusal_done_by, refusal_return}
 use Rattle.block_model.specs.Events.Exec.{is_held, next_effect, next_fault, others_gate, refusal_exec, refusal_exec_by}
 use Rattle.block_model.specs.Events.Preempt.{refusal_preempt_by, unless_waiting}
 use Rattle.block_model.specs.Here.{Here, is_writable, memory, runs, waiting_here}
-use Rattle.block_model.specs.History.{History, ended, here_in_history, is_of_hart, kernel, ran, waiting}
+use Rattle.block_model.specs.History.{History, awaits, ended, here_in_history, is_of_hart, kernel, ran, requests, waiting}
 use Rattle.block_model.specs.Instruction.{fault_by, fetched, instruction_of}
 use Rattle.block_model.specs.Run.{IsAllowedLog, IsRunHistory}
 use Rattle.block_model.specs.Setting.{Setting}
-use Rattle.block_model.specs.Sights.{is_local_on, sight_in, thread}
+use Rattle.block_model.specs.Sights.{first_ready, is_all_taken, is_deliverable_on, is_local_on, sight_in, thread}
 use Rattle.block_model.proofs.Allowed.{decided_is}
+use Rattle.block_model.proofs.Applied.{plain_of}
 use Rattle.block_model.proofs.Ends.{some_live}
-use Rattle.block_model.proofs.Good.{IsSound}
+use Rattle.block_model.proofs.Good.{IsGoodHere, IsSound, good_here}
+use Rattle.block_model.proofs.HartSets.{some_hart, some_in}
 use Rattle.block_model.proofs.KernelTables.{found_passes, found_sorted, running_there}
 use Rattle.block_model.proofs.Open.{IsOpen, decide-open}
-use Rattle.block_model.proofs.Rules.{ended_parts, allowed_where_none_waits, found_where, found_where_any, goes_somewhere, run_free}
+use Rattle.block_model.proofs.Rules.{ended_parts, allowed_where_none_waits, in_no_barrier, found_where, found_where_any, goes_somewhere, run_free, signal_free}
 use Rattle.block_model.proofs.Runs.{IsAllowedLog-append, history-append, history-nil, settled}
 
 -- what is picked isn't refused
@@ -117,11 +120,12 @@ free_others held byte writable fetched_word f (Some i) is =
 pub none_of_both : (a b : Option Why) → a ≡ None → b ≡ None → option_or a b ≡ None
 none_of_both a b first second = rw (first, second) refl
 
-local_free : (here : Here) (t : ℕ) → runs here ≡ Some t → is_local_on here (runs here) ≡ true → refusal_exec here ≡ None
-local_free here t busy is =
+local_free : (here : Here) (t : ℕ) → here.awaits ≡ None → runs here ≡ Some t → is_local_on here (runs here) ≡ true → refusal_exec here ≡ None
+local_free here t apart busy is =
     let word = fetched here.setting.program.pages (here.file t).pc in
     let only = sym (ap (is_local_on here) busy) ∙ is in
     ap (refusal_exec_by here) busy
+    ∙ in_no_barrier here.awaits _ apart
     ∙ none_of_both (instruction_gate (length (waiting_here here)) (next_effect here t) (is_some (next_fault here t))) (others_gate (is_held here t) (next_effect here t))
     (free_row (length (waiting_here here)) (memory here) (is_writable here) word (here.file t) (instruction_of word) only)
     (free_others (is_held here t) (memory here) (is_writable here) word (here.file t) (instruction_of word) only)
@@ -136,16 +140,51 @@ drain_free : (stores : List Store) → ltb 0 (length stores) ≡ true → refusa
 drain_free [] some = absurd (false≢true some)
 drain_free (w ∷ stores) some = refl
 
+none_waits : (stores : List Store) → ltb 0 (length stores) ≡ false → stores ≡ []
+none_waits [] none = refl
+none_waits (w ∷ stores) none = absurd (false≢true (sym none ∙ lt-ltb 0 (length (w ∷ stores)) (omega arith)))
+
 leave_free : (stores : List Store) → eqb (length stores) 0 ≡ true → unless_waiting stores ≡ None
 leave_free [] none = refl
 leave_free (w ∷ stores) none = let bad = eqb-true (length (w ∷ stores)) 0 none in absurd (omega arith)
 
+-- requests may be taken where some are pending and no store waits
+take_free : (here : Here) → not (eqb here.requests 0) ≡ true → waiting_here here ≡ [] → refusal_of asked.Take here ≡ None
+take_free here some none = go (eqb here.requests 0) some
+  where
+    go : (b : Bool) → not b ≡ true → cond b (Some NoRequest) (unless_waiting (waiting_here here)) ≡ None
+    go true bad = absurd (false≢true bad)
+    go false is = ap unless_waiting none
+
 -- what an idle hart picks
-free_when_idle : (here : Here) (first : Option ℕ) → IsSound here.setting here.kernel → runs here ≡ None
+first_free : (here : Here) (first : Option ℕ) → IsSound here.setting here.kernel → runs here ≡ None
     → first_for here.hart here.kernel.scheduling ≡ first
     → IsFree here (option_map plainly (option_map asked.Run (option_map thread first)))
-free_when_idle here None sound idle found = tt
-free_when_idle here (Some t) sound idle found = run_free here t sound idle found
+first_free here None sound idle found = tt
+first_free here (Some t) sound idle found = run_free here t sound idle found
+
+free_when_idle : (here : Here) (some : Bool) → IsGoodHere here → runs here ≡ None → not (eqb here.requests 0) ≡ some
+    → IsFree here (option_map plainly (cond some (Some asked.Take) (option_map asked.Run (first_ready here))))
+free_when_idle here true good idle is = take_free here is (good.idle here.hart idle)
+free_when_idle here false good idle is = first_free here (first_for here.hart here.kernel.scheduling) good.kernel idle refl
+
+-- what a hart picks whose thread waits in a barrier
+return_free : (awaits : Option ℕ) → is_all_taken awaits ≡ true → refusal_return awaits ≡ None
+return_free None none = absurd (false≢true none)
+return_free (Some left) all = rw all refl
+
+free_in_barrier : (here : Here) (t : ℕ) (some all : Bool) → waiting_here here ≡ [] → runs here ≡ Some t
+    → not (eqb here.requests 0) ≡ some → is_all_taken here.awaits ≡ all
+    → IsFree here (option_map plainly (cond some (Some asked.Take) (cond all (Some asked.Done) None)))
+free_in_barrier here t true all empty busy is over = take_free here is empty
+free_in_barrier here t false true empty busy is over = ap (refusal_done_by here) busy ∙ return_free here.awaits over
+free_in_barrier here t false false empty busy is over = tt
+
+-- what a hart picks at which requests are pending
+free_when_requested : (here : Here) (some : Bool) → not (eqb here.requests 0) ≡ true → ltb 0 (length (waiting_here here)) ≡ some
+    → IsFree here (Some (plainly (cond some asked.Drain asked.Take)))
+free_when_requested here true requested is = drain_free (waiting_here here) is
+free_when_requested here false requested is = take_free here requested (none_waits (waiting_here here) is)
 
 -- what a hart picks that is held up
 free_when_held_up : (here : Here) (some : Bool) → ltb 0 (length (waiting_here here)) ≡ some
@@ -154,12 +193,15 @@ free_when_held_up here true is = drain_free (waiting_here here) is
 free_when_held_up here false is = tt
 
 -- what a word picks
-free_by_word : (here : Here) (t r : ℕ) (seen : Sight) → runs here ≡ Some t → refusal_exec here ≡ None
+free_by_word : (here : Here) (t r : ℕ) (seen : Sight) → here.awaits ≡ None → runs here ≡ Some t → refusal_exec here ≡ None
     → seen.stores ≡ length (waiting_here here) → IsFree here (Some (by_word r seen))
-free_by_word here t r seen busy free same =
+free_by_word here t r seen apart busy free same =
     cond_both (leaves_by r seen) (plainly asked.Preempt) (cond (drains_by r seen) (plainly asked.Drain) (record { choice = asked.Exec; credit = credit_of r }))
     (λ p. IsFree here (Some p))
-    (λ leaves. ap (refusal_preempt_by here) busy ∙ leave_free (waiting_here here) (rw (← same) (no_store leaves)))
+    (λ leaves.
+    ap (refusal_preempt_by here) busy
+    ∙ in_no_barrier here.awaits (unless_waiting (waiting_here here)) apart
+    ∙ leave_free (waiting_here here) (rw (← same) (no_store leaves)))
     (λ stays. cond_both (drains_by r seen) (plainly asked.Drain) (record { choice = asked.Exec; credit = credit_of r }) (λ p. IsFree here (Some p))
     (λ drains. drain_free (waiting_here here) (rw (← same) (and_parts (eqb (r % 4) 1) (has_stores seen) drains).1))
     (λ executes. free))
@@ -169,39 +211,72 @@ free_by_word here t r seen busy free same =
         let front = (and_parts (eqb (r % 8) 0 && leb 16 seen.ran && eqb seen.stores 0) (is_some seen.first_ready) leaves).0 in
         (and_parts (eqb (r % 8) 0 && leb 16 seen.ran) (eqb seen.stores 0) front).1
 
--- the cases by what is seen of a hart: no barrier, no request and no signal can come yet
-abbrev busy_case : Sight → Case
-busy_case seen =
-    cond (has_credit seen) (Settled (Some (on_credit seen)))
+-- what a hart picks where a signal is deliverable to its thread
+free_when_deliverable : (here : Here) (t : ℕ) (some : Bool) → here.awaits ≡ None → runs here ≡ Some t → is_deliverable_on here (runs here) ≡ true
+    → ltb 0 (length (waiting_here here)) ≡ some
+    → IsFree here (Some (plainly (cond some asked.Drain asked.Signal)))
+free_when_deliverable here t true apart busy deliverable is = drain_free (waiting_here here) is
+free_when_deliverable here t false apart busy deliverable is = signal_free here t apart busy deliverable (none_waits (waiting_here here) is)
+
+-- the cases by what is seen of a hart, from the last ones on
+abbrev unrequested_case : Sight → Case
+unrequested_case seen =
+    cond seen.deliverable (Settled (Some (plainly (emptied_before seen asked.Signal))))
     (cond seen.exec_enabled Open (Settled (option_map plainly (when_held_up seen))))
 
+abbrev uncredited_case : Sight → Case
+uncredited_case seen = cond seen.requested (Settled (Some (plainly (emptied_before seen asked.Take)))) (unrequested_case seen)
+
+abbrev apart_case : Sight → Case
+apart_case seen = cond (has_credit seen) (Settled (Some (on_credit seen))) (uncredited_case seen)
+
+abbrev busy_case : Bool → Sight → Case
+busy_case in_barrier seen = cond in_barrier (Settled (option_map plainly (when_in_barrier seen))) (apart_case seen)
+
 abbrev case_by : Bool → Sight → Case
-case_by idle seen = cond idle (Settled (option_map plainly (option_map asked.Run seen.first_ready))) (busy_case seen)
+case_by idle seen = cond idle (Settled (option_map plainly (when_idle seen))) (busy_case seen.in_barrier seen)
 
 -- whatever the word and the credit are
-free_when_busy : (here : Here) (t since credit r : ℕ) → runs here ≡ Some t
-    → IsFree here (pick_in (busy_case (sight_in here since credit)) r (sight_in here since credit))
-free_when_busy here t since credit r busy =
+free_when_unrequested : (here : Here) (t since credit r : ℕ) → here.awaits ≡ None → runs here ≡ Some t
+    → IsFree here (pick_in (unrequested_case (sight_in here since credit)) r (sight_in here since credit))
+free_when_unrequested here t since credit r apart busy =
     let seen = sight_in here since credit in
     let after : Case = cond seen.exec_enabled Open (Settled (option_map plainly (when_held_up seen))) in
-    cond_both (has_credit seen) (Settled (Some (on_credit seen))) after (λ c. IsFree here (pick_in c r seen))
-    (λ credited. local_free here t busy (and_parts (ltb 0 credit) seen.«local» credited).1)
-    (λ uncredited. cond_both seen.exec_enabled Open (Settled (option_map plainly (when_held_up seen)))
+    cond_both seen.deliverable (Settled (Some (plainly (emptied_before seen asked.Signal)))) after
     (λ c. IsFree here (pick_in c r seen))
-    (λ enabled. free_by_word here t r seen busy (none_is (refusal_exec here) enabled) refl)
+    (λ deliverable. free_when_deliverable here t (has_stores seen) apart busy deliverable refl)
+    (λ none. cond_both seen.exec_enabled Open (Settled (option_map plainly (when_held_up seen)))
+    (λ c. IsFree here (pick_in c r seen))
+    (λ enabled. free_by_word here t r seen apart busy (none_is (refusal_exec here) enabled) refl)
     (λ held. free_when_held_up here (has_stores seen) refl))
 
-free_by : (here : Here) (since credit r : ℕ) (running : Option ℕ) → IsSound here.setting here.kernel
+free_when_apart : (here : Here) (t since credit r : ℕ) → here.awaits ≡ None → runs here ≡ Some t
+    → IsFree here (pick_in (apart_case (sight_in here since credit)) r (sight_in here since credit))
+free_when_apart here t since credit r apart busy =
+    let seen = sight_in here since credit in
+    cond_both (has_credit seen) (Settled (Some (on_credit seen))) (uncredited_case seen) (λ c. IsFree here (pick_in c r seen))
+    (λ credited. local_free here t apart busy (and_parts (ltb 0 credit) seen.«local» credited).1)
+    (λ uncredited. cond_both seen.requested (Settled (Some (plainly (emptied_before seen asked.Take)))) (unrequested_case seen)
+    (λ c. IsFree here (pick_in c r seen))
+    (λ requested. free_when_requested here (has_stores seen) requested refl)
+    (λ none. free_when_unrequested here t since credit r apart busy))
+
+free_when_busy : (here : Here) (t since credit r : ℕ) (awaits : Option ℕ) → IsGoodHere here → runs here ≡ Some t → here.awaits ≡ awaits
+    → IsFree here (pick_in (busy_case (is_some awaits) (sight_in here since credit)) r (sight_in here since credit))
+free_when_busy here t since credit r None good busy apart = free_when_apart here t since credit r apart busy
+free_when_busy here t since credit r (Some left) good busy waits =
+    free_in_barrier here t (not (eqb here.requests 0)) (is_all_taken here.awaits) (good.empty left waits) busy refl refl
+
+free_by : (here : Here) (since credit r : ℕ) (running : Option ℕ) → IsGoodHere here
     → runs here ≡ running
     → IsFree here (pick_in (case_by (is_none running) (sight_in here since credit)) r (sight_in here since credit))
-free_by here since credit r None sound idle =
-    free_when_idle here (first_for here.hart here.kernel.scheduling) sound idle refl
-free_by here since credit r (Some t) sound busy = free_when_busy here t since credit r busy
+free_by here since credit r None good idle = free_when_idle here (not (eqb here.requests 0)) good idle refl
+free_by here since credit r (Some t) good busy = free_when_busy here t since credit r here.awaits good busy refl
 
-pick_is_free : (here : Here) (since credit r : ℕ) → IsSound here.setting here.kernel
+pick_is_free : (here : Here) (since credit r : ℕ) → IsGoodHere here
     → IsFree here (pick (sight_in here since credit) r)
 unfolding pick
-pick_is_free here since credit r sound = free_by here since credit r (runs here) sound refl
+pick_is_free here since credit r good = free_by here since credit r (runs here) good refl
 
 -- so what is chosen isn't refused
 free_choice : (here : Here) (o : Option Pick) (c : Choice) → IsFree here o
@@ -247,9 +322,11 @@ pub choice_is_allowed : (s : Setting) (log : List Entry) (h : ℕ) (c : Choice) 
 choice_is_allowed s log h c run chosen =
     let before = history s log in
     let l = luck s h before in
+    let has = has_choice s h before c chosen in
+    let good : IsGoodHere (here_in_history s before h) = good_here s (plain_of s before) h has.lt (settled s before run).good in
     free_choice (here_in_history s before h) (pick_at s h before) c
-    (pick_is_free (here_in_history s before h) (ran h before) l.credit (word (after_words l.drawn (first_generator s.seed h))) (settled s before run).good.kernel)
-    (has_choice s h before c chosen).picked
+    (pick_is_free (here_in_history s before h) (ran h before) l.credit (word (after_words l.drawn (first_generator s.seed h))) good)
+    has.picked
 
 pub choice_decides : (s : Setting) (log : List Entry) (h : ℕ) (c : Choice) → IsAllowedLog s log
     → choice_at s h (history s log) ≡ Some c
@@ -261,46 +338,86 @@ choice_decides s log h c run chosen =
 
 -- some hart has a choice
 
--- a hart with a thread has one, where it may execute, or a store waits
+-- where a hart at which no request is pending has one: an idle hart where a ready thread may run there; one whose thread waits in a
+-- barrier where no hart is left that has to take its request; another one where a store waits, if the thread may not execute
+record IsGoing (here : Here) : Type 0 where
+  idle : here.requests ≡ 0 → runs here ≡ None → is_some (first_for here.hart here.kernel.scheduling) ≡ true
+  in_barrier : (left : ℕ) → here.requests ≡ 0 → here.awaits ≡ Some left → left ≡ 0
+  held : (t : ℕ) (why : Why) → here.requests ≡ 0 → here.awaits ≡ None → runs here ≡ Some t → refusal_exec here ≡ Some why
+      → ltb 0 (length (waiting_here here)) ≡ true
+
 held_up_picks : (stores : List Store) → ltb 0 (length stores) ≡ true
     → is_some (option_map plainly (cond (ltb 0 (length stores)) (Some asked.Drain) None)) ≡ true
 held_up_picks [] some = absurd cc
 held_up_picks (w ∷ stores) some = rw some refl
 
--- a hart that may not execute has a store that waits
-abbrev IsHeldUp : Here → Type 0
-IsHeldUp here = (t : ℕ) (why : Why) → runs here ≡ Some t → refusal_exec here ≡ Some why → ltb 0 (length (waiting_here here)) ≡ true
+-- no request is pending
+none_asks : (requests : ℕ) → not (eqb requests 0) ≡ false → requests ≡ 0
+none_asks requests is = eqb-true requests 0 (go (eqb requests 0) is)
+  where
+    go : (b : Bool) → not b ≡ false → b ≡ true
+    go true none = refl
+    go false some = absurd (false≢true (sym some))
 
-busy_by : (here : Here) (t since credit r : ℕ) (why : Option Why) → IsHeldUp here → runs here ≡ Some t → refusal_exec here ≡ why
+busy_by : (here : Here) (t since credit r : ℕ) (why : Option Why) → IsGoing here → here.requests ≡ 0 → here.awaits ≡ None
+    → runs here ≡ Some t → refusal_exec here ≡ why
     → is_some (pick_in (cond (is_none why) Open (Settled (option_map plainly (when_held_up (sight_in here since credit))))) r (sight_in here since credit)) ≡ true
-busy_by here t since credit r None held busy at = refl
-busy_by here t since credit r (Some why) held busy at = held_up_picks (waiting_here here) (held t why busy at)
+busy_by here t since credit r None going none apart busy at = refl
+busy_by here t since credit r (Some why) going none apart busy at = held_up_picks (waiting_here here) (going.held t why none apart busy at)
 
-picks_when_busy : (here : Here) (t since credit r : ℕ) → IsHeldUp here → runs here ≡ Some t
-    → is_some (pick_in (busy_case (sight_in here since credit)) r (sight_in here since credit)) ≡ true
-picks_when_busy here t since credit r held busy =
+picks_when_unrequested : (here : Here) (t since credit r : ℕ) → IsGoing here → here.requests ≡ 0 → here.awaits ≡ None → runs here ≡ Some t
+    → is_some (pick_in (unrequested_case (sight_in here since credit)) r (sight_in here since credit)) ≡ true
+picks_when_unrequested here t since credit r going none apart busy =
     let seen = sight_in here since credit in
     let after : Case = cond seen.exec_enabled Open (Settled (option_map plainly (when_held_up seen))) in
-    cond_both (has_credit seen) (Settled (Some (on_credit seen))) after (λ c. is_some (pick_in c r seen) ≡ true)
-    (λ credited. refl) (λ uncredited. busy_by here t since credit r (refusal_exec here) held busy refl)
+    cond_both seen.deliverable (Settled (Some (plainly (emptied_before seen asked.Signal)))) after
+    (λ c. is_some (pick_in c r seen) ≡ true)
+    (λ deliverable. refl) (λ masked. busy_by here t since credit r (refusal_exec here) going none apart busy refl)
+
+picks_when_apart : (here : Here) (t since credit r : ℕ) → IsGoing here → here.awaits ≡ None → runs here ≡ Some t
+    → is_some (pick_in (apart_case (sight_in here since credit)) r (sight_in here since credit)) ≡ true
+picks_when_apart here t since credit r going apart busy =
+    let seen = sight_in here since credit in
+    cond_both (has_credit seen) (Settled (Some (on_credit seen))) (uncredited_case seen) (λ c. is_some (pick_in c r seen) ≡ true)
+    (λ credited. refl)
+    (λ uncredited. cond_both seen.requested (Settled (Some (plainly (emptied_before seen asked.Take)))) (unrequested_case seen)
+    (λ c. is_some (pick_in c r seen) ≡ true)
+    (λ requested. refl)
+    (λ none. picks_when_unrequested here t since credit r going (none_asks here.requests none) apart busy))
+
+picks_in_barrier : (here : Here) (left : ℕ) (some : Bool) → IsGoing here → here.awaits ≡ Some left → not (eqb here.requests 0) ≡ some
+    → is_some (option_map plainly (cond some (Some asked.Take) (cond (eqb left 0) (Some asked.Done) None))) ≡ true
+picks_in_barrier here left true going waits is = refl
+picks_in_barrier here left false going waits is =
+    rw (eq-eqb left 0 (going.in_barrier left (none_asks here.requests is) waits)) refl
+
+picks_when_busy : (here : Here) (t since credit r : ℕ) (awaits : Option ℕ) → IsGoing here → runs here ≡ Some t → here.awaits ≡ awaits
+    → is_some (pick_in (busy_case (is_some awaits) (sight_in here since credit)) r (sight_in here since credit)) ≡ true
+picks_when_busy here t since credit r None going busy apart = picks_when_apart here t since credit r going apart busy
+picks_when_busy here t since credit r (Some left) going busy waits =
+    let some = not (eqb here.requests 0) in
+    ap (λ (o : Option ℕ). is_some (option_map plainly (cond some (Some asked.Take) (cond (is_all_taken o) (Some asked.Done) None)))) waits
+    ∙ picks_in_barrier here left some going waits refl
 
 -- an idle hart has one where a ready thread may run there
-picks_when_idle : (first : Option ℕ) → is_some first ≡ true
+picks_first : (first : Option ℕ) → is_some first ≡ true
     → is_some (option_map plainly (option_map asked.Run (option_map thread first))) ≡ true
-picks_when_idle None some = absurd (false≢true some)
-picks_when_idle (Some t) some = refl
+picks_first None some = absurd (false≢true some)
+picks_first (Some t) some = refl
 
-picks_by : (here : Here) (since credit r : ℕ) (running : Option ℕ) → IsHeldUp here → runs here ≡ running
-    → (running ≡ None → is_some (first_for here.hart here.kernel.scheduling) ≡ true)
+picks_when_idle : (here : Here) (some : Bool) → IsGoing here → runs here ≡ None → not (eqb here.requests 0) ≡ some
+    → is_some (option_map plainly (cond some (Some asked.Take) (option_map asked.Run (first_ready here)))) ≡ true
+picks_when_idle here true going idle is = refl
+picks_when_idle here false going idle is = picks_first (first_for here.hart here.kernel.scheduling) (going.idle (none_asks here.requests is) idle)
+
+picks_by : (here : Here) (since credit r : ℕ) (running : Option ℕ) → IsGoing here → runs here ≡ running
     → is_some (pick_in (case_by (is_none running) (sight_in here since credit)) r (sight_in here since credit)) ≡ true
-picks_by here since credit r None held at first = picks_when_idle (first_for here.hart here.kernel.scheduling) (first refl)
-picks_by here since credit r (Some t) held at first = picks_when_busy here t since credit r held at
+picks_by here since credit r None going at = picks_when_idle here (not (eqb here.requests 0)) going at refl
+picks_by here since credit r (Some t) going at = picks_when_busy here t since credit r here.awaits going at refl
 
-something_picked : (here : Here) (since credit r : ℕ) → IsHeldUp here
-    → (runs here ≡ None → is_some (first_for here.hart here.kernel.scheduling) ≡ true)
-    → is_some (pick (sight_in here since credit) r) ≡ true
+something_picked : (here : Here) (since credit r : ℕ) → IsGoing here → is_some (pick (sight_in here since credit) r) ≡ true
 unfolding pick
-something_picked here since credit r held first = picks_by here since credit r (runs here) held refl first
+something_picked here since credit r going = picks_by here since credit r (runs here) going refl
 
 -- a hart that a thread runs on, or that a ready thread may run on
 record GoesOnAt (s : Setting) (k : Kernel) : Type 0 where
@@ -363,35 +480,76 @@ find_waiting stores (suc n) = go (stores n) refl (find_waiting stores n)
     go [] is (inl found) = let lt = found.1 in inl (found.0, omega arith, found.2)
     go [] is (inr none) = inr (λ k lt. elim (cases_eq k n) [ inl same ↦ ap stores same ∙ is | inr two ↦ none k (omega arith) ])
 
--- so some hart has a choice: one on which a store waits, or else any that goes on
+-- so some hart has a choice: one on which a store waits; where none waits, one that goes on, or else one for which its thread waits in
+-- a barrier, since the request is pending there
 record Picks (s : Setting) (before : History) : Type 0 where
   pub hart : ℕ
   pub lt : hart < s.limits.harts
-  pub first : runs (here_in_history s before hart) ≡ None → is_some (first_for hart (kernel s before).scheduling) ≡ true
-  pub held : IsHeldUp (here_in_history s before hart)
+  pub going : IsGoing (here_in_history s before hart)
 
 stores_wait : (stores : List Store) → stores ≡ [] → ltb 0 (length stores) ≡ true → ⊥
 stores_wait stores none some = false≢true (sym (ap (λ (ws : List Store). ltb 0 (length ws)) none) ∙ some)
 
+-- a hart at which a request is pending
+going_where_asked : (here : Here) → here.requests ≢ 0 → IsGoing here
+going_where_asked here asks = record {
+  idle = λ none. absurd (asks none);
+  in_barrier = λ left none. absurd (asks none);
+  held = λ t why none. absurd (asks none);
+}
+
+-- where no store waits, a hart that goes on and whose thread waits for no hart in a barrier
+going_where_none_waits : (s : Setting) (before : History) (at : GoesOnAt s (kernel s before)) → ((k : ℕ) → k < s.limits.harts → waiting k before ≡ [])
+    → ((left : ℕ) → awaits at.hart before ≡ Some left → left ≡ 0) → Picks s before
+going_where_none_waits s before at none over = record {
+  hart = at.hart;
+  lt = at.lt;
+  going = record {
+    idle = λ quiet. at.first;
+    in_barrier = λ left quiet waits. over left waits;
+    held = λ t why quiet apart busy refused.
+        let here = here_in_history s before at.hart in
+        let free = allowed_where_none_waits here t apart (none at.hart at.lt) none in
+        let bad : None ≡ Some why = sym free ∙ sym (ap (refusal_exec_by here) busy) ∙ refused in
+        absurd cc;
+  };
+}
+
+picks_in : (s : Setting) (before : History) (at : GoesOnAt s (kernel s before)) (o : Option ℕ) → IsRunHistory s before
+    → ((k : ℕ) → k < s.limits.harts → waiting k before ≡ []) → awaits at.hart before ≡ o → Picks s before
+picks_in s before at None run none waits = going_where_none_waits s before at none (λ left is. let bad : None ≡ Some left = sym waits ∙ is in absurd cc)
+picks_in s before at (Some left) run none waits = elim (cases_eq left 0) [
+  | inl over ↦ going_where_none_waits s before at none
+      (λ other is. let same : left ≡ other = some_is left other (sym waits ∙ is) in sym same ∙ over)
+  | inr some ↦
+      let awaited = (settled s before run).good.awaited in
+      let found = some_hart left some in
+      let pending = awaited.pending at.hart left found.0 waits found.1 in
+      record {
+        hart = found.0;
+        lt = awaited.below at.hart left found.0 waits found.1;
+        going = going_where_asked (here_in_history s before found.0) (some_in (requests found.0 before) at.hart pending);
+      }
+]
+  where
+    some_is : (a b : ℕ) → Some a ≡ Some b → a ≡ b
+    some_is a b is = cc
+
 picks_at : (s : Setting) (before : History) → IsRunHistory s before → GoesOnAt s (kernel s before)
     → ((k : ℕ) × (k < s.limits.harts) × (ltb 0 (length (waiting k before)) ≡ true)) ⊎ ((k : ℕ) → k < s.limits.harts → waiting k before ≡ [])
     → Picks s before
-picks_at s before run at (inl found) = record {
-  hart = found.0;
-  lt = found.1;
-  first = λ idle. absurd (stores_wait (waiting found.0 before) ((settled s before run).good.idle found.0 idle) found.2);
-  held = λ t why busy refused. found.2;
-}
-picks_at s before run at (inr none) = record {
-  hart = at.hart;
-  lt = at.lt;
-  first = at.first;
-  held = λ t why busy refused.
-      let here = here_in_history s before at.hart in
-      let free = allowed_where_none_waits here t (none at.hart at.lt) none in
-      let bad : None ≡ Some why = sym free ∙ sym (ap (refusal_exec_by here) busy) ∙ refused in
-      absurd cc;
-}
+picks_at s before run at (inl found) =
+    let good = (settled s before run).good in
+    record {
+      hart = found.0;
+      lt = found.1;
+      going = record {
+        idle = λ quiet idle. absurd (stores_wait (waiting found.0 before) (good.idle found.0 idle) found.2);
+        in_barrier = λ left quiet waits. absurd (stores_wait (waiting found.0 before) (good.empty found.0 left waits) found.2);
+        held = λ t why quiet apart busy refused. found.2;
+      };
+    }
+picks_at s before run at (inr none) = picks_in s before at (awaits at.hart before) run none refl
 
 pub some_hart_goes_on : (s : Setting) (log : List Entry) → IsAllowedLog s log → 0 < s.limits.harts
     → has_ended s (history s log) ≡ false
@@ -403,7 +561,7 @@ some_hart_goes_on s log run harts goes =
       at.hart,
       at.lt,
       next_where s at.hart before goes at.lt (something_picked (here_in_history s before at.hart) (ran at.hart before) l.credit
-          (word (after_words l.drawn (first_generator s.seed at.hart))) at.held at.first),
+          (word (after_words l.drawn (first_generator s.seed at.hart))) at.going),
     )
 
 -- logs of choices

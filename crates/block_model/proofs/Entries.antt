@@ -15,17 +15,19 @@ use Rattle.mach_types.specs.declared.threads.ThreadState.{ThreadState}
 use Rattle.block_model.specs.Setting.{Setting}
 use Rattle.block_model.specs.Here.{Here, runs}
 use Rattle.block_model.specs.Events.{refusal_of}
-use Rattle.block_model.specs.History.{Event, History, file, file_among, here_in_history, kernel}
+use Rattle.block_model.specs.History.{Event, History, byte, file, file_among, here_in_history, kernel}
 use Rattle.block_model.specs.Deciding.{event, history, number_of, pc_in, thread_in}
 use Rattle.block_model.specs.Run.{IsRunHistory, IsAllowedLog}
 use Rattle.block_model.proofs.Allowed.{allowed_at}
+use Rattle.block_model.proofs.BytesOfMemory.{HaveBytes, start_small, written_small}
 use Rattle.block_model.proofs.Ends.{proper_at}
 use Rattle.block_model.proofs.Good.{IsSound}
 use Rattle.block_model.proofs.Goods.Run.{run_ready}
 use Rattle.block_model.proofs.KernelTables.{ready_state, running_is}
 use Rattle.block_model.proofs.Pcs.{StandsIn}
-use Rattle.block_model.proofs.ProperCalls.{FilesStand}
+use Rattle.block_model.proofs.ProperCalls.{AllStand, FilesStand}
 use Rattle.block_model.proofs.Runs.{length-history, settled}
+use Rattle.block_model.proofs.SignalSteps.{start_stand}
 
 -- P holds of the entry of each event
 abbrev AllEntries : (Entry → Type 0) → History → Type 0
@@ -109,27 +111,36 @@ threads_in s (e ∷ before) short run =
 pub all_threads : (s : Setting) (log : List Entry) → s.limits.steps < 2 ^ 31 - 1 → IsAllowedLog s log → All (λ (e : Entry). e.tid.0 < 2 ^ 32) log
 all_threads s log short run = entries_of s (λ e. e.tid.0 < 2 ^ 32) log (threads_in s (history s log) short run)
 
--- where the first instruction stands below 2^64, each thread does at every place of a run
+-- a thread's file among those that an event set stands below 2^64
 among_stands : (ps : List (ℕ × Saved)) (t : ℕ) (f : Saved) → FilesStand ps → StandsIn f → StandsIn (file_among ps t f)
 among_stands [] t f all small = small
 among_stands (p ∷ ps) t f all small = elim (eqb p.0 t) as (λ b. StandsIn (cond b p.1 (file_among ps t f))) [ true ↦ all.0 | false ↦ among_stands ps t f all.1 small ]
 
-pub files_stand : (s : Setting) (before : History) → s.program.entry < 2 ^ 64 → IsRunHistory s before → (t : ℕ) → StandsIn (file s t before)
-files_stand s [] start run t = start
-files_stand s (e ∷ before) start run t =
-    let was = files_stand s before start run.0 in
-    among_stands e.done.files t (file s t before) ((proper_at s e before run).files was) (was t)
+-- where the first instruction stands below 2^64, and the program's pages have bytes, each thread and each handler stands below 2^64 at
+-- every place of a run
+pub all_stand : (s : Setting) (before : History) (h : ℕ) → s.program.entry < 2 ^ 64 → HaveBytes s.program.pages → IsRunHistory s before
+    → AllStand (here_in_history s before h)
+all_stand s [] h start bytes run = record { threads = λ t. start; handlers = start_stand; bytes = λ a. start_small s.program a bytes }
+all_stand s (e ∷ before) h start bytes run =
+    let was = all_stand s before e.entry.hart.0 start bytes run.0 in
+    let proper = proper_at s e before run in
+    record {
+      threads = λ t. among_stands e.done.files t (file s t before) (proper.files was) (was.threads t);
+      handlers = proper.handlers was;
+      bytes = λ a. written_small e.done.entered a (byte s before a) (was.bytes a);
+    }
 
 pc_stands : (here : Here) (r : Option ℕ) → ((t : ℕ) → StandsIn (here.file t)) → pc_in here r < 2 ^ 64
 pc_stands here None small = omega arith
 pc_stands here (Some t) small = small t
 
-addresses_in : (s : Setting) (before : History) → s.program.entry < 2 ^ 64 → IsRunHistory s before → AllEntries (λ e. e.pc < 2 ^ 64) before
-addresses_in s [] start run = tt
-addresses_in s (e ∷ before) start run =
+addresses_in : (s : Setting) (before : History) → s.program.entry < 2 ^ 64 → HaveBytes s.program.pages → IsRunHistory s before → AllEntries (λ e. e.pc < 2 ^ 64) before
+addresses_in s [] start bytes run = tt
+addresses_in s (e ∷ before) start bytes run =
     let a = allowed_at s before e.entry.hart.0 (choice_of e.entry) e.entry run.1 in
     let here = here_in_history s before e.entry.hart.0 in
-    (subst (λ (y : Entry). y.pc < 2 ^ 64) (sym a.is) (pc_stands here (thread_in (choice_of e.entry) here) (files_stand s before start run.0)), addresses_in s before start run.0)
+    let stand = all_stand s before e.entry.hart.0 start bytes run.0 in
+    (subst (λ (y : Entry). y.pc < 2 ^ 64) (sym a.is) (pc_stands here (thread_in (choice_of e.entry) here) stand.threads), addresses_in s before start bytes run.0)
 
-pub all_addresses : (s : Setting) (log : List Entry) → s.program.entry < 2 ^ 64 → IsAllowedLog s log → All (λ (e : Entry). e.pc < 2 ^ 64) log
-all_addresses s log start run = entries_of s (λ e. e.pc < 2 ^ 64) log (addresses_in s (history s log) start run)
+pub all_addresses : (s : Setting) (log : List Entry) → s.program.entry < 2 ^ 64 → HaveBytes s.program.pages → IsAllowedLog s log → All (λ (e : Entry). e.pc < 2 ^ 64) log
+all_addresses s log start bytes run = entries_of s (λ e. e.pc < 2 ^ 64) log (addresses_in s (history s log) start bytes run)

@@ -1,20 +1,33 @@
 -- Each call of the table is refused, or gives no error at its own entry.
-use Rattle.std.proofs.Common.{◌≡◌, ℕ, ◌+◌, ◌-◌, ◌/◌, ◌⊎◌, inl, inr, ◌*◌, ◌%◌, ◌<◌, ◌≤◌, ◌^◌, List, [], ◌∷◌, length, map, take, min, set, get_or, refl, sym, ap, ◌∙◌, subst, Bool, true, false, not, cond, eqb, leb, ltb, ◌&&◌, ◌||◌, Option, Some, None, Result, Err, is_some, arith, zero, suc, length-take}
+use Rattle.std.proofs.Common.{◌≡◌, ◌≢◌, ℕ, ◌+◌, ◌-◌, ◌/◌, ◌⊎◌, inl, inr, ◌*◌, ◌%◌, ◌<◌, ◌≤◌, ◌^◌, List, [], ◌∷◌, length, map, take, min, set, get_or, refl, sym, ap, ◌∙◌, subst, Bool, true, false, not, cond, eqb, leb, ltb, ◌&&◌, ◌||◌, Option, Some, None, Result, Err, is_some, arith, zero, suc, length-take}
 use Rattle.std.specs.Option.{option_map_or}
-use Rattle.std.proofs.lemmas.Bool.{and_parts, false≢true, leb-true}
+use Rattle.std.proofs.lemmas.Bool.{and_parts, false≢true, leb-true, ne_eqb}
+use Rattle.std.proofs.lemmas.Bool.Decides.{Decides-int_eq}
+use Rattle.std.proofs.lemmas.Int.{of_z-to_z}
+use Rattle.std.proofs.lemmas.Nat.{mod-mul-add}
 use Rattle.std.proofs.Math.Nat.{mod-lt}
+use Rattle.std.specs.Int.{w32, cast_unsigned}
+use Rattle.std.specs.Ordering.{int_eq}
+use Rattle.std.specs.Prelude.{ℤ, pos, neg_ℤ}
 use Rattle.mach_types.specs.Registers.{register}
 use Rattle.mach_types.specs.declared.address_space.TheConstants.{MAPPING_START, USER_END}
+use Rattle.mach_types.specs.declared.barriers.Answer.{Answer}
+use Rattle.mach_types.specs.declared.barriers.Answer.TheVariants.{Begin, Value}
+use Rattle.mach_types.specs.declared.barriers.BarrierCommand.{BarrierCommand}
+use Rattle.mach_types.specs.declared.barriers.BarrierCommand.TheVariants.{Query, Global, GlobalExpedited, RegisterGlobalExpedited, PrivateExpedited, RegisterPrivateExpedited, PrivateExpeditedRseq, RegisterPrivateExpeditedRseq, GetRegistrations}
+use Rattle.mach_types.specs.declared.barriers.Registered.{Registered}
 use Rattle.mach_types.specs.declared.errors.Errno.{Errno}
-use Rattle.mach_types.specs.declared.errors.TheConstants.{EACCES, EAGAIN, EBADF, EFAULT, EINVAL, ENOMEM, ENOSPC, ENOSYS, EPERM, ESRCH}
+use Rattle.mach_types.specs.declared.errors.TheConstants.{EACCES, EAGAIN, EBADF, EFAULT, EINTR, EINVAL, ENOMEM, ENOSPC, ENOSYS, EPERM, ESRCH}
 use Rattle.mach_types.specs.declared.kernel_words.TheConstants.{CONSOLE_ROOM, MOST_PROT, PROT_EXEC}
 use Rattle.mach_types.specs.declared.limits.End.{End}
 use Rattle.mach_types.specs.declared.threads.Saved.{Saved}
 use Rattle.mach_types.specs.declared.user_memory.Write.{Write}
+use Rattle.mach_types.specs.Kernel.Barriers.{answer_of, asked, barrier_at, counted_if, is_asked, number_of, offered, query_value, refusal, registered_after, registered_by, registrations, takes_flags}
 use Rattle.mach_types.specs.Kernel.PageCalls.{address_of, break_run, has_prot}
 use Rattle.mach_types.specs.Kernel.Pages.{Pages, is_mapped, is_without_code, lowest_hole, pages_of}
 use Rattle.block_model.specs.Record.{Kernel}
 use Rattle.mach_types.specs.Kernel.Scheduling.{harts_in}
+use Rattle.mach_types.specs.Kernel.Signals.{acted, next_for, refuses_action, refuses_how}
 use Rattle.mach_types.specs.Kernel.Threads.{Thread, is_full, is_live, longest_waiter}
 use Rattle.mach_types.specs.declared.sequences.Area.{Area}
 use Rattle.mach_types.specs.declared.sequences.TheConstants.{AREA_SIZE, RSEQ_FLAG_UNREGISTER}
@@ -22,19 +35,23 @@ use Rattle.mach_types.specs.Kernel.Areas.{are_words_writable, registered_again, 
 use Rattle.block_model.specs.Here.{Here, is_writable, memory}
 use Rattle.block_model.specs.Ids.{id_of}
 use Rattle.block_model.specs.Sequences.{area_here}
-use Rattle.block_model.specs.Calls.Sequences.{killed_in_call, registers, registers_or_refused, rseq, unregisters, unregisters_or_refused}
+use Rattle.block_model.specs.Calls.Sequences.{registers, registers_or_refused, rseq, unregisters, unregisters_or_refused}
 use Rattle.block_model.specs.History.{file_among}
-use Rattle.block_model.specs.Kernel.{cleared, gone, left, next_number, paged, printed, registered, unregistered, waited, woken}
+use Rattle.rv_inst.specs.Words.{signed_32, sum_64, word}
+use Rattle.block_model.specs.Kernel.{cleared, for_barriers, gone, left, next_number, paged, printed, registered, signalled, unregistered, waited, woken}
 use Rattle.block_model.specs.Calls.{call_of, called}
 use Rattle.block_model.specs.Calls.Affinity.{getcpu, is_usable, moved_off, names_nobody, sched_getaffinity, sched_setaffinity, set_at}
-use Rattle.block_model.specs.Calls.Answers.{CallDone, argument, are_readable, are_writable, call_number, int_argument, negative, number_at, refused, returned, said}
+use Rattle.block_model.specs.Calls.Answers.{CallDone, argument, are_readable, are_writable, call_number, int_argument, negative, number_at, refused, returned, said, killed_in_call}
+use Rattle.block_model.specs.Calls.Barriers.{answers, membarrier}
 use Rattle.block_model.specs.Calls.Cloning.{are_flags, child_file, clone, clone_child_settid, clone_parent_settid, may_write, with_new_child}
 use Rattle.block_model.specs.Calls.Console.{Span, all_readable, bytes_of, is_elsewhere, room, spans_at, total, write, write_spans, writev}
 use Rattle.block_model.specs.Calls.Ending.{exit, exit_group, is_last, last_exits, one_exits, woken_at_exit}
 use Rattle.block_model.specs.Calls.Futexes.{Woken, answered_wait, futex, futex_wait, futex_wake, operation, wake, woken_first}
 use Rattle.block_model.specs.Calls.Memory.{are_mapping_flags, brk, changed_unless, mapped_or_refused, may_break, mmap, mprotect, munmap, permission_here, zeros_if_mapped}
+use Rattle.block_model.specs.Calls.Signals as signals
 use Rattle.block_model.specs.ErrorCalls.{IsError}
 use Rattle.block_model.proofs.Goods.Calls.Memory.{moved}
+use Rattle.block_model.proofs.KernelTables.{found_passes}
 use Rattle.block_model.proofs.Placing.{placed_by}
 use Rattle.mach_types.proofs.Laws.{filtered_same, eqb_same}
 
@@ -98,6 +115,7 @@ answering here t n rest entered k = record {
   files = (t, returned n (here.file t)) ∷ rest;
   entered = entered;
   kernel = k;
+  barrier = None;
   ended = None;
 }
 
@@ -187,7 +205,8 @@ tells_wait here t =
     unless_refused here t EINVAL (not (eqb (argument here t 3) 0)) _ (omega arith) (omega arith)
     (unless_refused here t EFAULT (not (are_readable here p 4)) _ (omega arith) (omega arith)
     (unless_refused here t EAGAIN (not same) _ (omega arith) (omega arith)
-    (answers_low here t 0 [] [] (waited t p here.kernel) (omega arith))))
+    (unless_refused here t EINTR (is_some (next_for t here.kernel.signals)) _ (omega arith) (omega arith)
+    (answers_low here t 0 [] [] (waited t p here.kernel) (omega arith)))))
 
 tells_futex : (here : Here) (t : ℕ) → TellsErrors here t (futex here t)
 tells_futex here t =
@@ -426,10 +445,183 @@ tells_rseq here t =
     (tells_unregistering here t (not (eqb flags RSEQ_FLAG_UNREGISTER)) EINVAL _ (omega arith, omega arith) (tells_unregisters_held here t at len sig old))
     (tells_registers here t (not (eqb flags 0)) EINVAL _ (omega arith, omega arith) (tells_held here t at len sig old))
 
--- each call of the table, where few numbers were given, also to its thread
+-- tkill(2) and tgkill(2)
+tells_post : (here : Here) (t u sig : ℕ) → TellsErrors here t (signals.post here t u sig)
+tells_post here t u sig =
+    let after = signals.with_posted here u sig in
+    either here t (signals.waits_in_vain u after) _ _
+    (answers_low here t 0 (signals.broken_wait here u ∷ []) [] (woken u after) (omega arith))
+    (answers_low here t 0 [] [] after (omega arith))
+
+tells_send : (here : Here) (t u sig : ℕ) → TellsErrors here t (signals.send here t u sig)
+tells_send here t u sig =
+    unless_refused here t EINVAL (signals.refuses_signal sig) _ (omega arith) (omega arith)
+    (either here t (eqb sig 0) _ _ (answers_small here t 0 (omega arith)) (tells_post here t u sig))
+
+tells_tkill : (here : Here) (t : ℕ) → TellsErrors here t (signals.tkill here t)
+tells_tkill here t =
+    let u = int_argument here t 0 in
+    unless_refused here t EINVAL (signals.is_below_one u) _ (omega arith) (omega arith)
+    (unless_refused here t ESRCH (not (is_live u here.kernel.threads)) _ (omega arith) (omega arith)
+    (tells_send here t u (int_argument here t 1)))
+
+tells_tgkill : (here : Here) (t : ℕ) → TellsErrors here t (signals.tgkill here t)
+tells_tgkill here t =
+    let pid = int_argument here t 0 in
+    let u = int_argument here t 1 in
+    unless_refused here t EINVAL (signals.is_below_one pid || signals.is_below_one u) _ (omega arith) (omega arith)
+    (unless_refused here t ESRCH (not (eqb pid 1 && is_live u here.kernel.threads)) _ (omega arith) (omega arith)
+    (tells_send here t u (int_argument here t 2)))
+
+-- rt_sigaction(2) and rt_sigprocmask(2)
+tells_sigaction : (here : Here) (t : ℕ) → TellsErrors here t (signals.rt_sigaction here t)
+tells_sigaction here t =
+    let sig = int_argument here t 0 in
+    let act = argument here t 1 in
+    let given = signals.action_given here act in
+    unless_refused here t EINVAL (not (eqb (argument here t 3) 8)) _ (omega arith) (omega arith)
+    (unless_refused here t EFAULT (not (signals.may_read here act signals.action_size)) _ (omega arith) (omega arith)
+    (unless_refused here t EINVAL (refuses_action sig given) _ (omega arith) (omega arith)
+    (unless_refused here t EFAULT (not (signals.may_write here (argument here t 2) signals.action_size)) _ (omega arith) (omega arith)
+    (answers_low here t 0 [] _ (signalled (acted sig given here.kernel.signals) here.kernel) (omega arith)))))
+
+tells_sigprocmask : (here : Here) (t : ℕ) → TellsErrors here t (signals.rt_sigprocmask here t)
+tells_sigprocmask here t =
+    let how = int_argument here t 0 in
+    let set = argument here t 1 in
+    unless_refused here t EINVAL (not (eqb (argument here t 3) 8)) _ (omega arith) (omega arith)
+    (unless_refused here t EFAULT (not (signals.may_read here set 8)) _ (omega arith) (omega arith)
+    (unless_refused here t EINVAL (not (eqb set 0) && refuses_how how) _ (omega arith) (omega arith)
+    (unless_refused here t EFAULT (not (signals.may_write here (argument here t 2) 8)) _ (omega arith) (omega arith)
+    (answers_low here t 0 [] _ (signalled (signals.masked here t how set) here.kernel) (omega arith)))))
+
+-- membarrier(2): the command that a call asks for is the low 32 bits of a0
+asked_number : (cmd : ℤ) (flags : ℕ) (c : BarrierCommand) → asked cmd flags ≡ Some c → cmd ≡ pos (number_of c)
+unfolding asked
+asked_number cmd flags c is =
+    let passes = found_passes (is_asked cmd flags) offered c is in
+    (Decides-int_eq cmd (pos (number_of c))).0 (and_parts (int_eq cmd (pos (number_of c))) (takes_flags flags c) passes).0
+
+low_number : (v n : ℕ) → signed_32 v ≡ pos n → v % 2 ^ 32 ≡ n
+low_number v n is = sym (of_z-to_z w32 (v % 2 ^ 32) (mod-lt v (omega arith))) ∙ ap (cast_unsigned w32) is
+
+number_low : (c : BarrierCommand) → number_of c < 2 ^ 10
+number_low Query = omega arith
+number_low Global = omega arith
+number_low GlobalExpedited = omega arith
+number_low RegisterGlobalExpedited = omega arith
+number_low PrivateExpedited = omega arith
+number_low RegisterPrivateExpedited = omega arith
+number_low PrivateExpeditedRseq = omega arith
+number_low RegisterPrivateExpeditedRseq = omega arith
+number_low GetRegistrations = omega arith
+
+-- so where a barrier begins, a0 is no error: the low 32 bits of an error are more than each command
+error_low : (errno : ℕ) → 1 ≤ errno → errno ≤ 4095 → negative errno % 2 ^ 32 ≡ 2 ^ 32 - errno
+error_low errno least most =
+    let split : negative errno ≡ (2 ^ 32 - 1) * 2 ^ 32 + (2 ^ 32 - errno) = omega arith in
+    ap (λ n. n % 2 ^ 32) split ∙ mod-mul-add (2 ^ 32 - 1) (2 ^ 32) (2 ^ 32 - errno) (omega arith)
+
+not_so_low : (n errno : ℕ) → errno ≤ 4095 → n < 2 ^ 10 → n ≢ 2 ^ 32 - errno
+not_so_low n errno most low same = omega arith
+
+number_no_error : (v n : ℕ) → v % 2 ^ 32 ≡ n → n < 2 ^ 10 → IsError v → ⊥
+number_no_error v n is low error =
+    not_so_low n error.errno error.most low (sym is ∙ ap (λ m. m % 2 ^ 32) error.is ∙ error_low error.errno error.least error.most)
+
+counted_low : (b : Bool) (c : BarrierCommand) → counted_if b c < 2 ^ 10
+counted_low true c = number_low c
+counted_low false c = omega arith
+
+registrations_low : (r : Registered) → registrations r < 2 ^ 32
+registrations_low r =
+    let one = counted_low r.global RegisterGlobalExpedited in
+    let two = counted_low r.private RegisterPrivateExpedited in
+    let three = counted_low r.rseq RegisterPrivateExpeditedRseq in
+    omega (arith, one, two, three)
+
+module _ (here : Here) (t : ℕ) where
+  abbrev cmd : ℤ
+  cmd = signed_32 (argument here t 0)
+
+  abbrev flags : ℕ
+  flags = int_argument here t 1
+
+  abbrev barriers_after : Registered
+  barriers_after = registered_after here.kernel.barriers cmd flags
+
+  -- a small answer, a refusal, and a barrier that begins
+  tells_value : (n : ℕ) → n < 2 ^ 32 → TellsErrors here t (answers here t (Value (pos n)))
+  tells_value n small = answers_low here t n [] [] (for_barriers barriers_after here.kernel) small
+
+  tells_barrier_refused : (e : Errno) → 1 ≤ e.0 → e.0 ≤ 4095 → word (neg_ℤ (pos e.0)) ≡ negative e.0
+      → barriers_after ≡ here.kernel.barriers → TellsErrors here t (answers here t (refusal e))
+  tells_barrier_refused e least most is same goes lives error = record {
+    errno = e.0;
+    least = least;
+    most = most;
+    is = ap (λ (r : Registered). answering here t (word (neg_ℤ (pos e.0))) [] [] (for_barriers r here.kernel)) same ∙ ap (said here t) is;
+  }
+
+  tells_begins : (c : BarrierCommand) (targets : ℕ) (restart : Bool) → asked cmd flags ≡ Some c → TellsErrors here t (answers here t (Begin targets restart))
+  tells_begins c targets restart is goes lives error =
+      let x : Saved = record (here.file t) { pc = sum_64 (here.file t).pc 4 } in
+      let there = ap (λ (f : Saved). register f.file 10) (own_first t x (here.file t) []) in
+      let small = number_low c in
+      let low = low_number (argument here t 0) (number_of c) (asked_number cmd flags c is) in
+      absurd (number_no_error (argument here t 0) (number_of c) low small (subst IsError there error))
+
+  either_answer : (b : Bool) (x y : Answer) → TellsErrors here t (answers here t x) → TellsErrors here t (answers here t y)
+      → TellsErrors here t (answers here t (cond b x y))
+  either_answer true x y p q = p
+  either_answer false x y p q = q
+
+  -- the command of a refusal registers nothing
+  kept : (c : BarrierCommand) → asked cmd flags ≡ Some c → registered_by here.kernel.barriers c ≡ here.kernel.barriers
+      → barriers_after ≡ here.kernel.barriers
+  kept c is same = ap (λ o. option_map_or (registered_by here.kernel.barriers) o here.kernel.barriers) is ∙ same
+
+  tells_barrier : (c : BarrierCommand) (targets : ℕ) (restart : Bool) → asked cmd flags ≡ Some c
+      → TellsErrors here t (answers here t (barrier_at targets restart))
+  tells_barrier c targets restart is =
+      either_answer (eqb targets 0) _ _ (tells_value 0 (omega arith)) (tells_begins c targets restart is)
+
+  tells_command : (targets : ℕ) (c : BarrierCommand) → asked cmd flags ≡ Some c
+      → TellsErrors here t (answers here t (answer_of here.kernel.barriers targets c))
+  tells_command targets Query is = tells_value query_value (omega arith)
+  tells_command targets Global is = tells_barrier Global targets false is
+  tells_command targets GlobalExpedited is =
+      either_answer here.kernel.barriers.global _ _ (tells_barrier GlobalExpedited targets false is) (tells_value 0 (omega arith))
+  tells_command targets RegisterGlobalExpedited is = tells_value 0 (omega arith)
+  tells_command targets PrivateExpedited is =
+      either_answer here.kernel.barriers.private _ _ (tells_barrier PrivateExpedited targets false is)
+      (tells_barrier_refused EPERM (omega arith) (omega arith) refl (kept PrivateExpedited is refl))
+  tells_command targets RegisterPrivateExpedited is = tells_value 0 (omega arith)
+  tells_command targets PrivateExpeditedRseq is =
+      either_answer here.kernel.barriers.rseq _ _ (tells_barrier PrivateExpeditedRseq targets true is)
+      (tells_barrier_refused EPERM (omega arith) (omega arith) refl (kept PrivateExpeditedRseq is refl))
+  tells_command targets RegisterPrivateExpeditedRseq is = tells_value 0 (omega arith)
+  tells_command targets GetRegistrations is = tells_value (registrations here.kernel.barriers) (registrations_low here.kernel.barriers)
+
+  tells_found : (targets : ℕ) (o : Option BarrierCommand) → asked cmd flags ≡ o
+      → TellsErrors here t (answers here t (option_map_or (answer_of here.kernel.barriers targets) o (refusal EINVAL)))
+  tells_found targets None is =
+      tells_barrier_refused EINVAL (omega arith) (omega arith) refl
+      (ap (λ o. option_map_or (registered_by here.kernel.barriers) o here.kernel.barriers) is)
+  tells_found targets (Some c) is = tells_command targets c is
+
+  tells_membarrier : TellsErrors here t (membarrier here t)
+  tells_membarrier = tells_found _ (asked cmd flags) refl
+
+-- a call that isn't the one of a row
+is_other : (here : Here) (t : ℕ) (b : Bool) (x y : CallDone) → b ≡ false → TellsErrors here t y → TellsErrors here t (cond b x y)
+is_other here t true x y other q = absurd (false≢true (sym other))
+is_other here t false x y other q = q
+
+-- each call of the table but rt_sigreturn(2), where few numbers were given, also to its thread
 module _ (here : Here) (t : ℕ) (low : t < 2 ^ 32) (few : here.kernel.threads.given < 2 ^ 31) where
-  tells_call_of : (number : ℕ) → TellsErrors here t (call_of number here t)
-  tells_call_of number =
+  tells_call_of : (number : ℕ) → number ≢ 139 → TellsErrors here t (call_of number here t)
+  tells_call_of number answers =
       let at = argument here t 0 in
       either here t (eqb number 64) _ _ (tells_write here t)
       (either here t (eqb number 66) _ _ (tells_writev here t)
@@ -440,6 +632,11 @@ module _ (here : Here) (t : ℕ) (low : t < 2 ^ 32) (few : here.kernel.threads.g
       (either here t (eqb number 122) _ _ (tells_setaffinity here t)
       (either here t (eqb number 123) _ _ (tells_getaffinity here t)
       (either here t (eqb number 124) _ _ (answers_low here t 0 [] [] (left t here.kernel) (omega arith))
+      (either here t (eqb number 130) _ _ (tells_tkill here t)
+      (either here t (eqb number 131) _ _ (tells_tgkill here t)
+      (either here t (eqb number 134) _ _ (tells_sigaction here t)
+      (either here t (eqb number 135) _ _ (tells_sigprocmask here t)
+      (is_other here t (eqb number 139) _ _ (ne_eqb number 139 answers)
       (either here t (eqb number 168) _ _ (tells_getcpu here t)
       (either here t (eqb number 172) _ _ (answers_small here t 1 (omega arith))
       (either here t (eqb number 178) _ _ (answers_small here t t low)
@@ -448,8 +645,9 @@ module _ (here : Here) (t : ℕ) (low : t < 2 ^ 32) (few : here.kernel.threads.g
       (either here t (eqb number 220) _ _ (tells_clone here t few)
       (either here t (eqb number 222) _ _ (tells_mmap here t)
       (either here t (eqb number 226) _ _ (tells_mprotect here t)
+      (either here t (eqb number 283) _ _ (tells_membarrier here t)
       (either here t (eqb number 293) _ _ (tells_rseq here t)
-      (tells_refused here t ENOSYS (omega arith) (omega arith)))))))))))))))))))
+      (tells_refused here t ENOSYS (omega arith) (omega arith)))))))))))))))))))))))))
 
-  pub tells_errors : TellsErrors here t (called here t)
-  tells_errors = tells_call_of (call_number here t)
+  pub tells_errors : call_number here t ≢ 139 → TellsErrors here t (called here t)
+  tells_errors answers = tells_call_of (call_number here t) answers

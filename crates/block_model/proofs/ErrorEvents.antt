@@ -13,11 +13,10 @@ use Rattle.mach_types.specs.declared.limits.End.TheVariants.{Killed}
 use Rattle.mach_types.specs.declared.signals.TheConstants.{SIGSEGV}
 use Rattle.block_model.specs.Sequences.{is_inside_here}
 use Rattle.block_model.specs.Calls.{called}
-use Rattle.block_model.specs.Calls.Answers.{CallDone, negative, returned, said}
+use Rattle.block_model.specs.Calls.Answers.{CallDone, negative, returned, said, killed_in_call}
 use Rattle.block_model.specs.Deciding.{done, event, history, number_of, thread_in}
 use Rattle.block_model.specs.ErrorCalls.{GivesError, GivesErrorAlone, IsCall, IsError, up_to}
 use Rattle.block_model.specs.Events.{done_of, refusal_of}
-use Rattle.block_model.specs.Calls.Sequences.{killed_in_call}
 use Rattle.block_model.specs.Events.Exec.{by_call, called_here, by_effect, done_exec_by, refusal_exec, refusal_exec_by}
 use Rattle.block_model.specs.Here.{Done, Here, is_writable, memory, runs}
 use Rattle.block_model.specs.Instruction.{fault_by, fetched}
@@ -129,7 +128,7 @@ refusal_of_error s before entry short run gives did =
     let t = entry.tid.0 in
     let small = few_given s before entry short run in
     let old = file s t before in
-    tells_errors here t small.0 small.1
+    tells_errors here t small.0 small.1 gives.answers
     (sym (ap (λ (d : Done). d.ended) did) ∙ gives.goes_on)
     (subst (λ (d : Done). is_live t d.kernel.threads ≡ true) did gives.stays)
     (subst (λ (d : Done). IsError (register (file_among d.files t old).file 10)) did gives.error)

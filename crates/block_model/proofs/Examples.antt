@@ -14,6 +14,7 @@ use Rattle.mach_types.specs.declared.threads.ThreadState.TheVariants as state
 use Rattle.mach_types.specs.declared.user_memory.Store.{Store}
 use Rattle.mach_types.specs.declared.user_memory.Write.{Write}
 use Rattle.mach_types.specs.declared.user_memory.Write.TheVariants.{Stored, Zeroed}
+use Rattle.mach_types.specs.Kernel.Signals.{all_signals}
 use Rattle.mach_types.specs.Kernel.Threads.{Threads, clear_of, is_stuck, start_threads, state_of, with_state}
 use Rattle.mach_types.specs.Registers.{no_registers, register, with_register}
 use Rattle.rv_inst.specs.declared.effects.Effect.TheVariants as effect
@@ -104,7 +105,7 @@ unfolding exit_log decide history done end_of meaning row_of rows lui_rows auipc
 exit_ends = refl
 
 exit_solo : (plain_solo exits 200).log ≡ exit_log
-unfolding exit_log plain_solo meaning row_of rows lui_rows auipc_rows jal_rows jalr_rows branch_rows load_rows store_rows op_imm_rows op_imm_32_rows op_rows op_32_rows misc_mem_rows amo_rows system_rows
+unfolding all_signals exit_log plain_solo meaning row_of rows lui_rows auipc_rows jal_rows jalr_rows branch_rows load_rows store_rows op_imm_rows op_imm_32_rows op_rows op_32_rows misc_mem_rows amo_rows system_rows
 exit_solo = refl
 
 exit_after : plain_end exits (plain_after exits exit_log) ≡ over.Exit 7
@@ -228,7 +229,7 @@ unfolding decide history done
 no_barrier = refl
 
 no_signal : answer begun 0 asked.Signal ≡ Err (NotEnabled NoSignal)
-unfolding decide history done
+unfolding all_signals decide history done
 no_signal = refl
 
 -- the plain machine answers the same
@@ -400,7 +401,7 @@ division_plain = refl
 
 -- so does the fixed rule, which lets both enter before the call
 division_solo : plain_outcome divides (Ok (plain_solo divides 30)) ≡ Ok (quotients, over.Exit 0)
-unfolding quotients plain_solo meaning row_of rows lui_rows auipc_rows jal_rows jalr_rows branch_rows load_rows store_rows op_imm_rows op_imm_32_rows op_rows op_32_rows misc_mem_rows amo_rows system_rows
+unfolding all_signals quotients plain_solo meaning row_of rows lui_rows auipc_rows jal_rows jalr_rows branch_rows load_rows store_rows op_imm_rows op_imm_32_rows op_rows op_32_rows misc_mem_rows amo_rows system_rows
 division_solo = refl
 
 division_waits : played divides (starts ∷ execs 12) ≡ Err 13
@@ -711,7 +712,7 @@ two_wait = record {
 }
 
 sight_of_two : sight_in (sees stores_nine two_stores) (ran 0 (history stores_nine two_stores)) 0 ≡ two_wait
-unfolding history done is_register_only meaning row_of rows lui_rows auipc_rows jal_rows jalr_rows branch_rows load_rows store_rows op_imm_rows op_imm_32_rows op_rows op_32_rows misc_mem_rows amo_rows system_rows
+unfolding all_signals history done is_register_only meaning row_of rows lui_rows auipc_rows jal_rows jalr_rows branch_rows load_rows store_rows op_imm_rows op_imm_32_rows op_rows op_32_rows misc_mem_rows amo_rows system_rows
 sight_of_two = refl
 
 -- the fixed rule: it executes where it may, and drains where it may not; a signal waits for the drains; an idle hart runs the first

@@ -2,6 +2,8 @@
 pub mod Calls
 pub mod Drain
 pub mod Exec
+pub mod Finish
 pub mod Preempt
 pub mod Run
-pub mod Unbuilt
+pub mod Signal
+pub mod Take

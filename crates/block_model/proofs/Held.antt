@@ -1,23 +1,29 @@
--- What the kernel's record holds for threads: ids for those that run, and areas for live ones alone. It stays so after each step.
+-- What the kernel's record holds for threads: ids for those that run, and areas and signals for live ones alone. It stays so after
+-- each step.
 use Rattle.std.proofs.Common.{ℕ, ◌+◌, ◌<◌, ◌≤◌, ◌≡◌, ◌≢◌, ◌||◌, ◌⊎◌, Bool, true, false, not, cond, eqb, List, [], ◌∷◌, ◌++◌, length, map, filter, find, Option, Some, None, is_some, refl, sym, ap, ◌∙◌, inl, inr, arith}
 use Rattle.std.specs.List.{list_any}
 use Rattle.std.specs.Option.{option_map}
 use Rattle.std.proofs.lemmas.Bool.{eqb-true, false≢true}
 use Rattle.std.proofs.lemmas.Bool.Decides.{eqb_tells}
 use Rattle.std.proofs.lemmas.List.{map_push}
-use Rattle.mach_types.proofs.Laws.{next_is_new, state_of-with_child_other, state_of-with_child_same, state_of-with_clear, state_of-with_state_other, state_of-with_state_same, state_of-without_other, state_of-without_same, times_cons, times_push}
+use Rattle.mach_types.proofs.Laws.{map_filters, next_is_new, same_clear_numbers, same_numbers, state_of-with_child_other, state_of-with_child_same, state_of-with_clear, state_of-with_state_other, state_of-with_state_same, state_of-without_other, state_of-without_same, times_cons, times_push}
 use Rattle.mach_types.specs.Kernel.Areas.{area_of, is_area_of, with_area, without_area}
 use Rattle.mach_types.specs.Kernel.Pages.{Pages}
-use Rattle.mach_types.specs.Kernel.Threads.{IsThreads, Thread, Threads, is_live, is_running_state, state_of, thread_of, times, waits, with_child, with_state, without}
+use Rattle.mach_types.specs.Kernel.Signals as signals
+use Rattle.mach_types.specs.Kernel.Signals.{Signalling, mask_of}
+use Rattle.mach_types.specs.Kernel.Threads.{IsThreads, Thread, Threads, is_live, is_running_state, new_thread, state_of, thread_of, times, waits, with_child, with_state, without}
+use Rattle.mach_types.specs.declared.barriers.Registered.{Registered}
 use Rattle.mach_types.specs.declared.sequences.Area.{Area}
+use Rattle.mach_types.specs.declared.signal_words.ThreadSignals.{ThreadSignals}
 use Rattle.mach_types.specs.declared.threads.ThreadState.{ThreadState}
 use Rattle.mach_types.specs.declared.threads.ThreadState.TheVariants.{Ready, Waiting}
-use Rattle.block_model.specs.Kernel.{cleared, first_kernel, gone, had_child, left, paged, printed, ran, registered, restricted, unregistered, waited, woken}
+use Rattle.block_model.specs.Kernel.{cleared, first_kernel, for_barriers, gone, had_child, left, next_number, paged, printed, ran, registered, restricted, signalled, unregistered, waited, woken}
 use Rattle.block_model.specs.Record.{Kernel}
 use Rattle.block_model.specs.Setting.{Setting}
-use Rattle.block_model.specs.Tables.{AreOfLive, on}
+use Rattle.block_model.specs.Tables.{AreOfLive, AreSignalsOfLive, on}
 use Rattle.block_model.specs.Ids.{AreIdsApart}
 use Rattle.block_model.proofs.KernelTables.{once}
+use Rattle.block_model.proofs.SignalSteps.{KeepsThreads}
 use Rattle.block_model.proofs.Ids.{filtered_less, ids_ran, ids_same, ids_start, ids_stopped, is_run, its_run}
 
 -- a thread is live where it has a state
@@ -43,9 +49,10 @@ owners areas = map (λ pair. pair.0) areas
 pub record IsHeld (harts : ℕ) (k : Kernel) : Type 0 where
   pub ids : harts ≤ 8 → AreIdsApart k.threads k.ids
   pub areas : AreOfLive k.threads k.areas
+  pub signals : AreSignalsOfLive k.threads k.signals
 
 pub held_start : (harts : ℕ) → (s : Setting) → IsHeld harts (first_kernel s)
-held_start harts s = record { ids = λ small. ids_start; areas = record { live = λ t is. absurd (false≢true is); one = λ t. omega arith } }
+held_start harts s = record { ids = λ small. ids_start; areas = record { live = λ t is. absurd (false≢true is); one = λ t. omega arith }; signals = refl }
 
 -- STATES
 
@@ -83,29 +90,35 @@ areas_stay ts us areas on is = record {
 state_follows : (t : ℕ) (st : ThreadState) (ts : Threads) → LiveOn ts (with_state t st ts)
 state_follows t st ts u live = state_stays t u st ts ∙ live
 
+-- the live threads keep their numbers, and so their signals
+signals_stay : (t : ℕ) (st : ThreadState) (ts : Threads) (g : Signalling) → AreSignalsOfLive ts g → AreSignalsOfLive (with_state t st ts) g
+signals_stay t st ts g is = is ∙ sym (same_numbers t st ts.live)
+
 -- STEPS OF THREADS
 
--- what changes neither threads nor areas nor ids
+-- what changes neither threads nor signals nor areas nor ids
 pub held_paged : (harts : ℕ) → (pages : Pages) (k : Kernel) → IsHeld harts k → IsHeld harts (paged pages k)
-held_paged harts pages k is = record { ids = is.ids; areas = is.areas }
+held_paged harts pages k is = record { ids = is.ids; areas = is.areas; signals = is.signals }
 
 pub held_printed : (harts : ℕ) → (bytes : List ℕ) (k : Kernel) → IsHeld harts k → IsHeld harts (printed bytes k)
-held_printed harts bytes k is = record { ids = is.ids; areas = is.areas }
+held_printed harts bytes k is = record { ids = is.ids; areas = is.areas; signals = is.signals }
 
 pub held_restricted : (harts : ℕ) → (t set : ℕ) (k : Kernel) → IsHeld harts k → IsHeld harts (restricted t set k)
-held_restricted harts t set k is = record { ids = is.ids; areas = is.areas }
+held_restricted harts t set k is = record { ids = is.ids; areas = is.areas; signals = is.signals }
 
 -- a thread leaves its hart
 pub held_left : (harts : ℕ) → (t : ℕ) (k : Kernel) → IsHeld harts k → IsHeld harts (left t k)
 held_left harts t k is = record {
   ids = λ small. ids_stopped t k.threads (left t k).threads k.ids (λ u other. run_stays t u Ready k.threads other) (run_stops t Ready k.threads refl) (is.ids small);
   areas = areas_stay k.threads (left t k).threads k.areas (state_follows t Ready k.threads) is.areas;
+  signals = signals_stay t Ready k.threads k.signals is.signals;
 }
 
 pub held_waited : (harts : ℕ) → (t at : ℕ) (k : Kernel) → IsHeld harts k → IsHeld harts (waited t at k)
 held_waited harts t at k is = record {
   ids = λ small. ids_stopped t k.threads (waited t at k).threads k.ids (λ u other. run_stays t u (Waiting at) k.threads other) (run_stops t (Waiting at) k.threads refl) (is.ids small);
   areas = areas_stay k.threads (waited t at k).threads k.areas (state_follows t (Waiting at) k.threads) is.areas;
+  signals = signals_stay t (Waiting at) k.threads k.signals is.signals;
 }
 
 -- a waiting thread is ready
@@ -120,6 +133,7 @@ pub held_woken : (harts : ℕ) → (t : ℕ) (k : Kernel) → waits k.threads t 
 held_woken harts t k waiting is = record {
   ids = λ small. ids_same k.threads (woken t k).threads k.ids (λ u. woken_runs t u k.threads waiting) (is.ids small);
   areas = areas_stay k.threads (woken t k).threads k.areas (state_follows t Ready k.threads) is.areas;
+  signals = signals_stay t Ready k.threads k.signals is.signals;
 }
 
 -- an address to clear
@@ -128,6 +142,7 @@ held_cleared harts t at k is = record {
   ids = λ small. ids_same k.threads (cleared t at k).threads k.ids (λ u. ap its_run (state_of-with_clear t at u k.threads)) (is.ids small);
   areas = areas_stay k.threads (cleared t at k).threads k.areas
       (λ u live. ap (λ (o : Option ThreadState). is_some o) (state_of-with_clear t at u k.threads) ∙ live) is.areas;
+  signals = is.signals ∙ sym (same_clear_numbers t at k.threads.live);
 }
 
 -- a child, which doesn't run
@@ -154,7 +169,15 @@ pub held_child : (harts : ℕ) → (t : ℕ) (k : Kernel) → IsThreads k.thread
 held_child harts t k threads is = record {
   ids = λ small. ids_same k.threads (had_child t k).threads k.ids (child_runs k.threads threads) (is.ids small);
   areas = areas_stay k.threads (had_child t k).threads k.areas (child_state k.threads threads) is.areas;
+  signals = child_signals;
 }
+  where
+    child_signals : AreSignalsOfLive (had_child t k).threads (had_child t k).signals
+    child_signals =
+        let next = next_number k in
+        map_push (λ (th : ThreadSignals). th.tid) k.signals.threads (signals.new_thread next (mask_of t k.signals))
+        ∙ ap (λ (ts : List ℕ). ts ++ next ∷ []) is.signals
+        ∙ sym (map_push (λ (th : Thread). th.tid) k.threads.live (new_thread next))
 
 -- a ready thread begins to run
 pub held_ran : (harts : ℕ) → (t h : ℕ) (k : Kernel) → state_of t k.threads ≡ Some Ready → (harts ≤ 8 → AreIdsApart k.threads k.ids → length k.ids < 8) → IsHeld harts k → IsHeld harts (ran t h k)
@@ -163,7 +186,16 @@ held_ran harts t h k ready few is =
     record {
       ids = λ small. ids_ran t k.threads (ran t h k).threads k.ids (λ u other. run_stays t u (on h) k.threads other) (ap its_run ready) (ap its_run now) (few small (is.ids small)) (is.ids small);
       areas = areas_stay k.threads (ran t h k).threads k.areas (state_follows t (on h) k.threads) is.areas;
+      signals = signals_stay t (on h) k.threads k.signals is.signals;
     }
+
+-- STEPS OF SIGNALS
+
+pub held_signalled : (harts : ℕ) → (g : Signalling) (k : Kernel) → KeepsThreads k.signals g → IsHeld harts k → IsHeld harts (signalled g k)
+held_signalled harts g k keeps is = record { ids = is.ids; areas = is.areas; signals = keeps ∙ is.signals }
+
+pub held_for_barriers : (harts : ℕ) → (r : Registered) (k : Kernel) → IsHeld harts k → IsHeld harts (for_barriers r k)
+held_for_barriers harts r k is = record { ids = is.ids; areas = is.areas; signals = is.signals }
 
 -- STEPS OF AREAS
 
@@ -239,6 +271,7 @@ pub held_gone : (harts : ℕ) → (t : ℕ) (k : Kernel) → IsHeld harts k → 
 held_gone harts t k is = record {
   ids = λ small. ids_stopped t k.threads (gone t k).threads k.ids (λ u other. ap its_run (state_of-without_other t u other k.threads)) (gone_runs t k.threads) (is.ids small);
   areas = record { live = live; one = fewer_areas t k.areas is.areas.one };
+  signals = fewer_signals;
 }
   where
     live : (u : ℕ) → list_any (is_area_of u) (without_area t k.areas) ≡ true → is_live u (without t k.threads) ≡ true
@@ -251,10 +284,16 @@ held_gone harts t k is = record {
           ∙ is.areas.live u (in_filtered (is_area_of u) (λ pair. not (is_area_of t pair)) k.areas has)
     ]
 
+    fewer_signals : AreSignalsOfLive (gone t k).threads (gone t k).signals
+    fewer_signals =
+        map_filters (λ (th : ThreadSignals). th.tid) (λ u. not (eqb u t)) k.signals.threads
+        ∙ ap (λ (ts : List ℕ). filter (λ u. not (eqb u t)) ts) is.signals
+        ∙ sym (map_filters (λ (th : Thread). th.tid) (λ u. not (eqb u t)) k.threads.live)
+
 -- a live thread that has no area gets one; and a thread has none any more
 pub held_registered : (harts : ℕ) → (t : ℕ) (area : Area) (k : Kernel) → has_state t k.threads ≡ true → area_of t k.areas ≡ None → IsHeld harts k
     → IsHeld harts (registered t area k)
-held_registered harts t area k alive none is = record { ids = is.ids; areas = record { live = live; one = one } }
+held_registered harts t area k alive none is = record { ids = is.ids; areas = record { live = live; one = one }; signals = is.signals }
   where
     live : (u : ℕ) → list_any (is_area_of u) (with_area t area k.areas) ≡ true → is_live u k.threads ≡ true
     live u has = elim (at_end (is_area_of u) k.areas (t, area) has) [
@@ -283,4 +322,5 @@ held_unregistered harts t k is = record {
     live = λ u has. is.areas.live u (in_filtered (is_area_of u) (λ pair. not (is_area_of t pair)) k.areas has);
     one = fewer_areas t k.areas is.areas.one;
   };
+  signals = is.signals;
 }

@@ -1,24 +1,29 @@
 -- What a call leaves of the ids: all of them, or all but that of its thread.
-use Rattle.std.proofs.Common.{◌≡◌, ℕ, zero, suc, ◌*◌, ◌^◌, ◌%◌, ◌⊎◌, ◌&&◌, ◌||◌, Bool, true, false, not, cond, eqb, leb, ltb, min, List, [], ◌∷◌, length, Option, Some, None, Result, Ok, Err, refl, ap, inl, inr}
+use Rattle.std.proofs.Common.{◌≡◌, ℕ, zero, suc, ◌*◌, ◌^◌, ◌%◌, ◌⊎◌, ◌&&◌, ◌||◌, Bool, true, false, not, cond, eqb, leb, ltb, min, List, [], ◌∷◌, length, Option, Some, None, is_some, Result, Ok, Err, refl, ap, inl, inr}
 use Rattle.std.specs.Option.{option_map_or}
 use Rattle.mach_types.specs.declared.address_space.TheConstants.{USER_END}
 use Rattle.mach_types.specs.declared.kernel_words.TheConstants.{CONSOLE_ROOM}
 use Rattle.mach_types.specs.declared.errors.Errno.{Errno}
-use Rattle.mach_types.specs.declared.errors.TheConstants.{EAGAIN, EBADF, EFAULT, EINVAL, ENOSPC, ENOSYS, EPERM, ESRCH}
+use Rattle.mach_types.specs.declared.errors.TheConstants.{EAGAIN, EBADF, EFAULT, EINTR, EINVAL, ENOSPC, ENOSYS, EPERM, ESRCH}
+use Rattle.mach_types.specs.declared.barriers.Answer.{Answer}
+use Rattle.mach_types.specs.declared.barriers.Answer.TheVariants.{Begin, Value}
 use Rattle.mach_types.specs.declared.sequences.Area.{Area}
 use Rattle.mach_types.specs.Kernel.Areas.{are_words_writable}
 use Rattle.mach_types.specs.Kernel.Pages.{Pages}
 use Rattle.mach_types.specs.Kernel.Scheduling.{has_hart, harts_in}
-use Rattle.mach_types.specs.Kernel.Threads.{is_full, longest_waiter}
+use Rattle.mach_types.specs.Kernel.Signals.{next_for, refuses_action, refuses_how}
+use Rattle.mach_types.specs.Kernel.Threads.{is_full, is_live, longest_waiter}
 use Rattle.block_model.specs.Calls.{call_of, called}
 use Rattle.block_model.specs.Calls.Affinity.{getcpu, is_usable, names_nobody, sched_getaffinity, sched_setaffinity, set_at}
 use Rattle.block_model.specs.Calls.Answers.{CallDone, are_readable, are_writable, argument, call_number, int_argument, number_at, refused}
+use Rattle.block_model.specs.Calls.Barriers.{answers}
 use Rattle.block_model.specs.Calls.Cloning.{are_flags, clone, clone_child_cleartid, clone_child_settid, clone_parent_settid, has_flag, may_write}
 use Rattle.block_model.specs.Calls.Console.{Span, all_readable, is_elsewhere, spans_at, total, write, write_spans, writev}
 use Rattle.block_model.specs.Calls.Ending.{clears, exit, is_last}
 use Rattle.block_model.specs.Calls.Futexes.{futex, futex_wait, futex_wake, operation, wake, woken_first}
 use Rattle.block_model.specs.Calls.Memory.{are_mapping_flags, changed_unless, mapped_or_refused, mmap}
 use Rattle.block_model.specs.Calls.Sequences.{registers_or_refused, rseq, unregisters, unregisters_or_refused}
+use Rattle.block_model.specs.Calls.Signals as signals
 use Rattle.block_model.specs.Here.{Here, is_writable}
 use Rattle.block_model.specs.Ids.{without_id}
 use Rattle.block_model.specs.Kernel.{cleared, had_child, left, next_number, restricted, woken}
@@ -88,7 +93,8 @@ module _ (here : Here) (t : ℕ) where
       let p = argument here t 0 in
       unless EINVAL (not (eqb (argument here t 3) 0)) _ (
       unless EFAULT (not (are_readable here p 4)) _ (
-      unless EAGAIN (not (eqb (number_at here p 4) (int_argument here t 2))) _ (loses _ refl)))
+      unless EAGAIN (not (eqb (number_at here p 4) (int_argument here t 2))) _ (
+      unless EINTR (is_some (next_for t here.kernel.signals)) _ (loses _ refl))))
 
   after_wake : After (futex_wake here t)
   after_wake = keeps _ (ids_woken (int_argument here t 2) (argument here t 0) here.kernel)
@@ -168,6 +174,49 @@ module _ (here : Here) (t : ℕ) where
   after_rseq : After (rseq here t)
   after_rseq = either (eqb (int_argument here t 2 % 2) 1) _ _ (after_unregisters_or _) (after_registers _)
 
+  after_send : (u sig : ℕ) → After (signals.send here t u sig)
+  after_send u sig =
+      unless EINVAL (signals.refuses_signal sig) _ (
+      either (eqb sig 0) _ _ (keeps _ refl) (
+      either (signals.waits_in_vain u (signals.with_posted here u sig)) _ _ (keeps _ refl) (keeps _ refl)))
+
+  after_tkill : After (signals.tkill here t)
+  after_tkill =
+      let u = int_argument here t 0 in
+      unless EINVAL (signals.is_below_one u) _ (
+      unless ESRCH (not (is_live u here.kernel.threads)) _ (after_send u (int_argument here t 1)))
+
+  after_tgkill : After (signals.tgkill here t)
+  after_tgkill =
+      let pid = int_argument here t 0 in
+      let u = int_argument here t 1 in
+      unless EINVAL (signals.is_below_one pid || signals.is_below_one u) _ (
+      unless ESRCH (not (eqb pid 1 && is_live u here.kernel.threads)) _ (after_send u (int_argument here t 2)))
+
+  after_sigaction : After (signals.rt_sigaction here t)
+  after_sigaction =
+      let act = argument here t 1 in
+      unless EINVAL (not (eqb (argument here t 3) 8)) _ (
+      unless EFAULT (not (signals.may_read here act signals.action_size)) _ (
+      unless EINVAL (refuses_action (int_argument here t 0) (signals.action_given here act)) _ (
+      unless EFAULT (not (signals.may_write here (argument here t 2) signals.action_size)) _ (keeps _ refl))))
+
+  after_sigprocmask : After (signals.rt_sigprocmask here t)
+  after_sigprocmask =
+      let set = argument here t 1 in
+      unless EINVAL (not (eqb (argument here t 3) 8)) _ (
+      unless EFAULT (not (signals.may_read here set 8)) _ (
+      unless EINVAL (not (eqb set 0) && refuses_how (int_argument here t 0)) _ (
+      unless EFAULT (not (signals.may_write here (argument here t 2) 8)) _ (keeps _ refl))))
+
+  after_resumed : (o : Option (List ℕ)) → After (signals.resumed here t o)
+  after_resumed None = keeps _ refl
+  after_resumed (Some words) = keeps _ refl
+
+  after_answers : (x : Answer) → After (answers here t x)
+  after_answers (Value n) = keeps _ refl
+  after_answers (Begin targets restart) = keeps _ refl
+
   after_call_of : (number : ℕ) → After (call_of number here t)
   after_call_of number =
       either (eqb number 64) _ _ after_write (
@@ -179,6 +228,11 @@ module _ (here : Here) (t : ℕ) where
       either (eqb number 122) _ _ after_setaffinity (
       either (eqb number 123) _ _ after_getaffinity (
       either (eqb number 124) _ _ (loses _ refl) (
+      either (eqb number 130) _ _ after_tkill (
+      either (eqb number 131) _ _ after_tgkill (
+      either (eqb number 134) _ _ after_sigaction (
+      either (eqb number 135) _ _ after_sigprocmask (
+      either (eqb number 139) _ _ (after_resumed _) (
       either (eqb number 168) _ _ after_getcpu (
       either (eqb number 172) _ _ (keeps _ refl) (
       either (eqb number 178) _ _ (keeps _ refl) (
@@ -187,7 +241,8 @@ module _ (here : Here) (t : ℕ) where
       either (eqb number 220) _ _ after_clone (
       either (eqb number 222) _ _ after_mmap (
       either (eqb number 226) _ _ (after_changed _ _) (
-      either (eqb number 293) _ _ after_rseq (keeps _ refl))))))))))))))))))
+      either (eqb number 283) _ _ (after_answers _) (
+      either (eqb number 293) _ _ after_rseq (keeps _ refl))))))))))))))))))))))))
 
   pub ids_called : HasLostOne t here.kernel.ids (called here t).kernel.ids
   ids_called = (after_call_of (call_number here t)).ids

@@ -12,25 +12,29 @@ use Rattle.mach_types.specs.Events.{choice_of}
 use Rattle.rv_inst.specs.Class.{is_call}
 use Rattle.rv_inst.specs.declared.effects.Effect.{Effect}
 use Rattle.block_model.specs.Calls.{called}
-use Rattle.block_model.specs.Calls.Sequences.{killed_in_call}
+use Rattle.block_model.specs.Calls.Answers.{killed_in_call}
 use Rattle.block_model.specs.Deciding.{done, event, history}
 use Rattle.block_model.specs.Events.{done_of}
 use Rattle.block_model.specs.Events.Drain.{done_drain_of}
-use Rattle.block_model.specs.Events.Exec.{by_call, by_effect, by_outcome, called_here, done_exec_by, next_effect, next_fault, outcome_of}
+use Rattle.block_model.specs.Events.Exec.{by_call, by_effect, by_fault, by_outcome, called_here, done_exec_by, next_effect, next_fault, outcome_of}
 use Rattle.block_model.specs.Events.Preempt.{done_preempt_by}
 use Rattle.block_model.specs.Events.Run.{done_killed, done_running, lives_on}
+use Rattle.block_model.specs.Events.Signal.{done_signal}
 use Rattle.block_model.specs.Here.{Done, Here, runs, waiting_here}
 use Rattle.block_model.specs.History.{History, here_in_history, kernel, running}
 use Rattle.block_model.specs.Ids.{id_of, is_id_of, next_id, without_id}
+use Rattle.block_model.specs.Record.{Kernel}
 use Rattle.block_model.specs.Run.{IsAllowedLog, IsRunHistory}
 use Rattle.block_model.specs.Sequences.{interruption_here, is_inside_here}
 use Rattle.block_model.specs.Setting.{Setting}
+use Rattle.block_model.proofs.BarrierEvents.{return_keeps, take_keeps}
 use Rattle.block_model.proofs.Held.{none_left}
 use Rattle.block_model.proofs.Ids.{first_id, holder_there, its_run}
 use Rattle.block_model.proofs.IdsOfCalls.{HasLostOne, ids_called}
 use Rattle.block_model.proofs.IdsOfRuns.{held_in}
 use Rattle.block_model.proofs.KernelTables.{running_is}
 use Rattle.block_model.proofs.Runs.{history-append, settled}
+use Rattle.block_model.proofs.SignalEvents.{OnlySignals, fault_keeps, signal_keeps}
 
 -- a thread holds the id that it held, or none
 abbrev Keeps : ℕ → List (ℕ × ℕ) → List (ℕ × ℕ) → Type 0
@@ -73,6 +77,10 @@ module _ (here : Here) (u : ℕ) where
   abbrev After : Done → Type 0
   After d = Keeps u here.kernel.ids d.kernel.ids
 
+  -- where of the record only the signals change
+  keeps_only : (d : Done) → OnlySignals here.kernel d.kernel → After d
+  keeps_only d only = inl (ap (λ (k : Kernel). id_of u k.ids) only)
+
   keeps_called : (t : ℕ) (b : Bool) → After (by_call here (cond b (killed_in_call here) (called here t)))
   keeps_called t true = inl refl
   keeps_called t false = keeps_lost t u here.kernel.ids (called here t).kernel.ids (ids_called here t)
@@ -82,7 +90,7 @@ module _ (here : Here) (u : ℕ) where
   keeps_instruction t e false = inl refl
 
   keeps_effect : (t : ℕ) (fault : Option ℕ) (e : Option Effect) → After (by_effect here t fault e)
-  keeps_effect t (Some signal) e = inl refl
+  keeps_effect t (Some signal) e = keeps_only (by_fault here t signal) (fault_keeps here t signal)
   keeps_effect t None None = inl refl
   keeps_effect t None (Some e) = keeps_instruction t e (is_call e)
 
@@ -106,11 +114,11 @@ module _ (here : Here) (u : ℕ) where
   keeps_of : (c : Choice) → list_any (is_id_of u) here.kernel.ids ≡ true → After (done_of c here)
   keeps_of asked.Exec there = keeps_exec (runs here)
   keeps_of asked.Drain there = keeps_drain (waiting_here here)
-  keeps_of asked.Take there = inl refl
-  keeps_of asked.Done there = inl refl
+  keeps_of asked.Take there = inl (ap (λ (k : Kernel). id_of u k.ids) (take_keeps here))
+  keeps_of asked.Done there = inl (ap (λ (k : Kernel). id_of u k.ids) (return_keeps here))
   keeps_of asked.Preempt there = keeps_preempt (runs here)
   keeps_of (asked.Run t) there = keeps_run t.0 (lives_on here t.0 (interruption_here here t.0)) there
-  keeps_of asked.Signal there = inl refl
+  keeps_of asked.Signal there = keeps_only (done_signal here) (signal_keeps here)
 
 -- a thread that runs holds one
 holds : (s : Setting) (before : History) (h t : ℕ) → s.limits.harts ≤ 8 → IsRunHistory s before → running s h before ≡ Some t

@@ -6,6 +6,7 @@ use Rattle.mach_types.specs.declared.events.Choice.TheVariants as asked
 use Rattle.mach_types.specs.declared.events.Entry.{Entry}
 use Rattle.mach_types.specs.declared.events.Kind.{Kind}
 use Rattle.mach_types.specs.declared.events.Kind.TheVariants as kind
+use Rattle.mach_types.specs.Kernel.Signals.{all_signals}
 use Rattle.mach_types.specs.Registers.{register}
 use Rattle.rv_inst.specs.Local.{is_register_only}
 use Rattle.rv_inst.specs.Meaning.{meaning}
@@ -50,6 +51,7 @@ unknown_gives_error : GivesError asks_unknown (history asks_unknown before_call)
 unfolding history done meaning row_of rows lui_rows auipc_rows jal_rows jalr_rows branch_rows load_rows store_rows op_imm_rows op_imm_32_rows op_rows op_32_rows misc_mem_rows amo_rows system_rows
 unknown_gives_error = record {
   call = record { executes = refl; calls = refl };
+  answers = λ is. let same : 1000 ≡ 139 = is in absurd (omega (arith, same));
   goes_on = refl;
   stays = refl;
   error = record { errno = 38; least = omega arith; most = omega arith; is = refl };
@@ -87,13 +89,13 @@ unfolding history done meaning row_of rows lui_rows auipc_rows jal_rows jalr_row
 is_walk = record {
   starts = refl;
   each = (
-    λ is. inr (record { executes = refl; no_fault = refl; no_call = λ e. absurd cc }),
+    λ is. inr (inr (record { executes = refl; no_fault = refl; no_call = λ e. absurd cc })),
     (
-      λ is. inr (record { executes = refl; no_fault = refl; no_call = λ e. absurd cc }),
+      λ is. inr (inr (record { executes = refl; no_fault = refl; no_call = λ e. absurd cc })),
       (
-        λ is. inr (record { executes = refl; no_fault = refl; no_call = λ e. absurd cc }),
+        λ is. inr (inr (record { executes = refl; no_fault = refl; no_call = λ e. absurd cc })),
         (
-          λ is. inr (record { executes = refl; no_fault = refl; no_call = λ e. absurd cc }),
+          λ is. inr (inr (record { executes = refl; no_fault = refl; no_call = λ e. absurd cc })),
           (λ is. inl refl, tt),
         ),
       ),
@@ -155,38 +157,38 @@ module _ (first : word (first_generator 1 0) ≡ 0xcfc5d07f6f03c29b)
     (second : word (next_generator (first_generator 1 0)) ≡ 0xbf424132963fe08d)
     (third : word (next_generator (next_generator (first_generator 1 0))) ≡ 0x19a37d5757aaf520) where
   credit_given : luck stores 0 (place 1) ≡ record { drawn = 1; credit = 1 }
-  unfolding history done is_register_only has_ended choice_at next_entry pick meaning row_of rows lui_rows auipc_rows jal_rows jalr_rows branch_rows load_rows store_rows op_imm_rows op_imm_32_rows op_rows op_32_rows misc_mem_rows amo_rows system_rows
+  unfolding all_signals history done is_register_only has_ended choice_at next_entry pick meaning row_of rows lui_rows auipc_rows jal_rows jalr_rows branch_rows load_rows store_rows op_imm_rows op_imm_32_rows op_rows op_32_rows misc_mem_rows amo_rows system_rows
   credit_given = rw first refl
 
   credit_used : luck stores 0 (place 2) ≡ record { drawn = 1; credit = 0 }
-  unfolding history done is_register_only has_ended choice_at next_entry pick meaning row_of rows lui_rows auipc_rows jal_rows jalr_rows branch_rows load_rows store_rows op_imm_rows op_imm_32_rows op_rows op_32_rows misc_mem_rows amo_rows system_rows
+  unfolding all_signals history done is_register_only has_ended choice_at next_entry pick meaning row_of rows lui_rows auipc_rows jal_rows jalr_rows branch_rows load_rows store_rows op_imm_rows op_imm_32_rows op_rows op_32_rows misc_mem_rows amo_rows system_rows
   credit_used = ap (and_then asked.Exec 1) credit_given
 
   word_without_credit : luck stores 0 (place 3) ≡ record { drawn = 2; credit = 0 }
-  unfolding history done is_register_only has_ended choice_at next_entry pick meaning row_of rows lui_rows auipc_rows jal_rows jalr_rows branch_rows load_rows store_rows op_imm_rows op_imm_32_rows op_rows op_32_rows misc_mem_rows amo_rows system_rows
+  unfolding all_signals history done is_register_only has_ended choice_at next_entry pick meaning row_of rows lui_rows auipc_rows jal_rows jalr_rows branch_rows load_rows store_rows op_imm_rows op_imm_32_rows op_rows op_32_rows misc_mem_rows amo_rows system_rows
   word_without_credit = ap (and_then asked.Exec 2) credit_used ∙ rw second refl
 
   credit_again : luck stores 0 (place 4) ≡ record { drawn = 3; credit = 2 }
-  unfolding history done is_register_only has_ended choice_at next_entry pick meaning row_of rows lui_rows auipc_rows jal_rows jalr_rows branch_rows load_rows store_rows op_imm_rows op_imm_32_rows op_rows op_32_rows misc_mem_rows amo_rows system_rows
+  unfolding all_signals history done is_register_only has_ended choice_at next_entry pick meaning row_of rows lui_rows auipc_rows jal_rows jalr_rows branch_rows load_rows store_rows op_imm_rows op_imm_32_rows op_rows op_32_rows misc_mem_rows amo_rows system_rows
   credit_again = ap (and_then asked.Exec 3) word_without_credit ∙ rw third refl
 
   drains_when_held_up : next_entry stores 0 (place 4) ≡ Some (entry kind.Drain 0x100C0)
-  unfolding history done is_register_only has_ended choice_at next_entry pick meaning row_of rows lui_rows auipc_rows jal_rows jalr_rows branch_rows load_rows store_rows op_imm_rows op_imm_32_rows op_rows op_32_rows misc_mem_rows amo_rows system_rows
+  unfolding all_signals history done is_register_only has_ended choice_at next_entry pick meaning row_of rows lui_rows auipc_rows jal_rows jalr_rows branch_rows load_rows store_rows op_imm_rows op_imm_32_rows op_rows op_32_rows misc_mem_rows amo_rows system_rows
   drains_when_held_up =
       ap (λ l. option_map (λ c. entry_in c (here_in_history stores (place 4) 0)) (option_map (λ (p : Pick). p.choice) (picks 4 l))) credit_again
 
   -- no credit is left after a drain, and no word is drawn for it
   credit_ends : luck stores 0 (place 5) ≡ record { drawn = 3; credit = 0 }
-  unfolding history done is_register_only has_ended choice_at next_entry pick meaning row_of rows lui_rows auipc_rows jal_rows jalr_rows branch_rows load_rows store_rows op_imm_rows op_imm_32_rows op_rows op_32_rows misc_mem_rows amo_rows system_rows
+  unfolding all_signals history done is_register_only has_ended choice_at next_entry pick meaning row_of rows lui_rows auipc_rows jal_rows jalr_rows branch_rows load_rows store_rows op_imm_rows op_imm_32_rows op_rows op_32_rows misc_mem_rows amo_rows system_rows
   credit_ends = ap (and_then asked.Drain 4) credit_again
 
   -- a drain in place of the load draws no word, and leaves no credit
   other_event_draws_none : and_then asked.Drain 3 (luck stores 0 (place 3)) ≡ record { drawn = 2; credit = 0 }
-  unfolding history done is_register_only has_ended choice_at next_entry pick meaning row_of rows lui_rows auipc_rows jal_rows jalr_rows branch_rows load_rows store_rows op_imm_rows op_imm_32_rows op_rows op_32_rows misc_mem_rows amo_rows system_rows
+  unfolding all_signals history done is_register_only has_ended choice_at next_entry pick meaning row_of rows lui_rows auipc_rows jal_rows jalr_rows branch_rows load_rows store_rows op_imm_rows op_imm_32_rows op_rows op_32_rows misc_mem_rows amo_rows system_rows
   other_event_draws_none = ap (and_then asked.Drain 3) word_without_credit ∙ rw third refl
 
   walk_is_chosen : IsChosen stores (before_walk ++ walk)
-  unfolding IsChosen history done is_register_only has_ended choice_at next_entry pick meaning row_of rows lui_rows auipc_rows jal_rows jalr_rows branch_rows load_rows store_rows op_imm_rows op_imm_32_rows op_rows op_32_rows misc_mem_rows amo_rows system_rows
+  unfolding all_signals IsChosen history done is_register_only has_ended choice_at next_entry pick meaning row_of rows lui_rows auipc_rows jal_rows jalr_rows branch_rows load_rows store_rows op_imm_rows op_imm_32_rows op_rows op_32_rows misc_mem_rows amo_rows system_rows
   walk_is_chosen =
       let lui : is_picked 0 (record { drawn = 0; credit = 0 }) asked.Exec ≡ true = rw first refl in
       let addi : is_picked 1 (luck stores 0 (place 1)) asked.Exec ≡ true = ap (λ l. is_picked 1 l asked.Exec) credit_given in
@@ -200,5 +202,5 @@ module _ (first : word (first_generator 1 0) ≡ 0xcfc5d07f6f03c29b)
 
   -- a drain in place of the load isn't the choice
   early_drain_is_not : is_choice (choice_at stores 0 (place 3)) asked.Drain ≡ false
-  unfolding history done is_register_only has_ended choice_at next_entry pick meaning row_of rows lui_rows auipc_rows jal_rows jalr_rows branch_rows load_rows store_rows op_imm_rows op_imm_32_rows op_rows op_32_rows misc_mem_rows amo_rows system_rows
+  unfolding all_signals history done is_register_only has_ended choice_at next_entry pick meaning row_of rows lui_rows auipc_rows jal_rows jalr_rows branch_rows load_rows store_rows op_imm_rows op_imm_32_rows op_rows op_32_rows misc_mem_rows amo_rows system_rows
   early_drain_is_not = ap (λ l. is_picked 3 l asked.Drain) word_without_credit ∙ rw third refl

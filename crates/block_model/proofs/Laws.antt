@@ -1,5 +1,5 @@
 -- The laws that crates above cite: what is decided at a place, what an event that is allowed did, and where a log begins.
-use Rattle.std.proofs.Common.{◌≡◌, ◌≢◌, ℕ, ◌+◌, ◌≤◌, ◌<◌, ◌-◌, ◌^◌, ◌&&◌, List, [], ◌∷◌, ◌++◌, length, map, All, eqb, arith, refl, sym, ap, ◌∙◌, subst, true, is_some, Option, Some, None, Ok, Err}
+use Rattle.std.proofs.Common.{◌≡◌, ◌≢◌, ℕ, ◌+◌, ◌≤◌, ◌<◌, ◌-◌, ◌^◌, ◌&&◌, List, [], ◌∷◌, ◌++◌, length, map, All, eqb, arith, refl, sym, ap, ◌∙◌, subst, true, false, is_some, Option, Some, None, Ok, Err}
 use Rattle.std.proofs.lemmas.Bool.{le-leb, lt-leb}
 use Rattle.std.specs.Result.{IsOk}
 use Rattle.std.specs.List.{list_any}
@@ -19,7 +19,7 @@ use Rattle.block_model.specs.Setting.{Setting, Seen, setting_of}
 use Rattle.mach_types.specs.Kernel.Scheduling.{Scheduling, has_hart}
 use Rattle.mach_types.specs.Kernel.Threads.{Threads, is_ready, running_on, with_state}
 use Rattle.block_model.specs.Ids.{AreIdsApart, IsLeastFree, held_ids, id_of, is_taken, next_id}
-use Rattle.block_model.specs.Tables.{AreOfLive, IsTables, on}
+use Rattle.block_model.specs.Tables.{AreOfLive, AreSignalsOfLive, IsTables, on}
 use Rattle.block_model.specs.Here.{Here, Done, runs}
 use Rattle.block_model.specs.Events.Run.{refusal_run}
 use Rattle.block_model.specs.Events.{refusal_of, done_of}
@@ -30,7 +30,7 @@ use Rattle.block_model.specs.Choosing.{IsChosen, all_chosen, choice_at, has_ende
 use Rattle.block_model.specs.Deciding.{decide, decide_in, end_of, entry_in, event, history, over_at, unless}
 use Rattle.block_model.specs.Replay.{Ask, AllAnswer, IsFirstBad, IsFirstRefused, play_line, played, played_read, script_of}
 use Rattle.block_model.specs.Run.{IsAllowedLog, IsBlockRun, IsRunHistory}
-use Rattle.block_model.specs.Sights.{sight_in}
+use Rattle.block_model.specs.Sights.{is_deliverable_on, sight_in}
 use Rattle.block_model.specs.Solo.{IsSolo, solo_choice, solo_rule}
 use Rattle.block_model.specs.Plain.{Plain, apply, here_of, plain_after, plain_end, plain_over, plain_seen, plain_solo, plain_solo_choice, plain_start}
 use Rattle.block_model.specs.PlainOf.{plain_of}
@@ -39,6 +39,7 @@ use Rattle.block_model.proofs.Agreement as agrees
 use Rattle.block_model.proofs.Agreement.{agreement_decide, agreement_end, agreement_here, good_after, plain-append, plain-made}
 use Rattle.block_model.proofs.Allowed.{IsAllowed, allowed}
 use Rattle.block_model.proofs.Allowed as decisions
+use Rattle.block_model.proofs.BarriersReturn.{have_returned}
 use Rattle.block_model.proofs.Choosing as choices
 use Rattle.block_model.proofs.Counts as counts
 use Rattle.block_model.proofs.Goods.Run as run_laws_of
@@ -62,8 +63,12 @@ use Rattle.block_model.proofs.Rules as rules
 use Rattle.block_model.proofs.Runs as run_laws
 use Rattle.block_model.proofs.Runs.{good_of}
 use Rattle.block_model.proofs.Whole.{allowed_is_whole}
+pub use Rattle.block_model.proofs.Awaited.{IsAwaited, IsAwaitedBy, alone_awaits, alone_requests, asked_below}
+pub use Rattle.block_model.proofs.BarrierSteps.{IsAtOthers, IsBegun, IsFitBarriers, IsStill}
+pub use Rattle.block_model.proofs.BytesOfMemory.{HaveBytes, image_bytes}
 pub use Rattle.block_model.proofs.Choosing.{no_call_held, none_of_both}
 pub use Rattle.block_model.proofs.Good.{IsFit, IsGood, IsGoodHere, IsSound, MayEnter}
+pub use Rattle.block_model.proofs.HartSets.{harts_fit, same_sets, some_hart, with_hart-fits, with_hart-itself, with_hart-or, with_hart-other, without_hart-and, without_hart-fits, without_hart-has, without_hart-itself, without_hart-other}
 pub use Rattle.block_model.proofs.KernelCalls.{as_many_held, child_not_held, child_same, ended_idle, order_has, tables_allowed, tables_child, tables_ended, tables_waited, tables_woken, waited_idle, woken_same}
 pub use Rattle.block_model.proofs.IdsOnHarts.{IsHeldOnHart, has_hart-set, is_held_below, is_held_by}
 pub use Rattle.block_model.proofs.Stretches.{HasStayed, HasSteps, IsLent, Steps, is_lent, stays, steps_of, worked_keeps}
@@ -71,7 +76,7 @@ pub use Rattle.block_model.proofs.KernelTables.{cleared_same, left_idle, running
 
 -- a log of which every entry is allowed is a block run
 pub block_run : (s : Setting) (log : List Entry) → IsAllowedLog s log → IsBlockRun s log
-block_run s log run = record { allowed = run; whole = allowed_is_whole s (history s log) run }
+block_run s log run = record { allowed = run; whole = allowed_is_whole s (history s log) run; barriers = have_returned s (history s log) run }
 
 -- a run that goes on is a run
 pub run_on : (v : Seen) (h : ℕ) (c : Choice) (e : Entry) → IsBlockRun v.setting v.log → decide v.setting (history v.setting v.log) h c ≡ Ok e → IsBlockRun v.setting (v.log ++ e ∷ [])
@@ -174,15 +179,17 @@ IsSolo-append s log e solo first chosen = solo_runs.IsSolo-append s log e solo f
 pub within_limit : (s : Setting) (log : List Entry) → IsBlockRun s log → length log ≤ s.limits.steps
 within_limit s log run = ends.within_limit s log run.allowed
 
--- each entry is of a hart of the machine, its thread's number fits 32 bits where the step limit is small, and its pc fits 64
+-- each entry is of a hart of the machine, its thread's number fits 32 bits where the step limit is small, and its pc fits 64 where
+-- that of the first instruction does and the program's pages have bytes
 pub all_harts : (s : Setting) (log : List Entry) → IsBlockRun s log → All (λ (e : Entry). e.hart.0 < s.limits.harts) log
 all_harts s log run = entries.all_harts s log run.allowed
 
 pub all_threads : (s : Setting) (log : List Entry) → s.limits.steps < 2 ^ 31 - 1 → IsBlockRun s log → All (λ (e : Entry). e.tid.0 < 2 ^ 32) log
 all_threads s log short run = entries.all_threads s log short run.allowed
 
-pub all_addresses : (s : Setting) (log : List Entry) → s.program.entry < 2 ^ 64 → IsBlockRun s log → All (λ (e : Entry). e.pc < 2 ^ 64) log
-all_addresses s log start run = entries.all_addresses s log start run.allowed
+pub all_addresses : (s : Setting) (log : List Entry) → s.program.entry < 2 ^ 64 → HaveBytes s.program.pages → IsBlockRun s log
+    → All (λ (e : Entry). e.pc < 2 ^ 64) log
+all_addresses s log start bytes run = entries.all_addresses s log start bytes run.allowed
 
 -- a guest call that gives an error changes, of thread files, memory and the kernel's record, only a0 and the pc of its thread
 pub error_changes_nothing : (s : Setting) (earlier later : List Entry) (entry : Entry) → s.limits.steps < 2 ^ 31 - 1
@@ -282,15 +289,16 @@ plain_solo_says s log run solo over = solo_runs.plain_solo_says s log run.allowe
 -- the fixed rule
 
 -- it has a choice where the machine has one hart and the run is open; its choice is made; and where hart 0 may execute its next
--- instruction, that is the choice
+-- instruction and no signal is deliverable to its thread, that is the choice
 pub rule_chooses : (s : Setting) (log : List Entry) → s.limits.harts ≡ 1 → IsBlockRun s log → end_of s (history s log) ≡ Unended → is_some (solo_choice s (history s log)) ≡ true
 rule_chooses s log one run end = rules.rule_chooses s log one run.allowed end
 
-pub rule_is_made : (s : Setting) (log : List Entry) (c : Choice) → IsBlockRun s log → 0 < s.limits.harts → end_of s (history s log) ≡ Unended → solo_choice s (history s log) ≡ Some c → IsOk (decide s (history s log) 0 c)
-rule_is_made s log c run harts end chosen = rules.rule_is_made s log c run.allowed harts end chosen
+pub rule_is_made : (s : Setting) (log : List Entry) (c : Choice) → s.limits.harts ≡ 1 → IsBlockRun s log → end_of s (history s log) ≡ Unended → solo_choice s (history s log) ≡ Some c → IsOk (decide s (history s log) 0 c)
+rule_is_made s log c one run end chosen = rules.rule_is_made s log c run.allowed one end chosen
 
-pub executes_when_allowed : (s : Setting) (log : List Entry) (e : Entry) → decide s (history s log) 0 asked.Exec ≡ Ok e → solo_choice s (history s log) ≡ Some asked.Exec
-executes_when_allowed s log e made = rules.executes_when_allowed s log e made
+pub executes_when_allowed : (s : Setting) (log : List Entry) (e : Entry) → decide s (history s log) 0 asked.Exec ≡ Ok e
+    → is_deliverable_on (here_in_history s (history s log) 0) (running s 0 (history s log)) ≡ false → solo_choice s (history s log) ≡ Some asked.Exec
+executes_when_allowed s log e made none = rules.executes_when_allowed s log e made none
 
 -- an empty log is a run by the rule
 pub start_solo : (s : Setting) → IsSolo s []
@@ -404,7 +412,7 @@ ran_runs harts h t ts sc tables ready idle lt = tables_laws.ran_runs harts h t t
 pub run_ready : (here : Here) (t : ℕ) → refusal_run here t ≡ None → (runs here ≡ None) × (is_ready t here.kernel.threads ≡ true)
 run_ready here t free = run_laws_of.run_ready here t free
 
--- areas and ids
+-- areas, signals and ids
 
 -- what the record holds for threads
 held_at : (v : Seen) → IsBlockRun v.setting v.log → IsHeld v.setting.limits.harts (plain_seen v).kernel
@@ -414,6 +422,10 @@ held_at v run =
 -- each registered area is that of a live thread, and a thread has at most one
 pub live_areas : (v : Seen) → IsBlockRun v.setting v.log → AreOfLive (plain_seen v).kernel.threads (plain_seen v).kernel.areas
 live_areas v run = (held_at v run).areas
+
+-- masks and pending signals are kept of the live threads alone, in the same order
+pub live_signals : (v : Seen) → IsBlockRun v.setting v.log → AreSignalsOfLive (plain_seen v).kernel.threads (plain_seen v).kernel.signals
+live_signals v run = (held_at v run).signals
 
 -- each thread that runs holds an id, and no two hold the same
 pub ids_apart_at : (v : Seen) → IsBlockRun v.setting v.log → v.setting.limits.harts ≤ 8 → AreIdsApart (plain_seen v).kernel.threads (plain_seen v).kernel.ids

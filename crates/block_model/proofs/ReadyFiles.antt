@@ -9,32 +9,37 @@ use Rattle.mach_types.specs.declared.events.Entry.{Entry}
 use Rattle.mach_types.specs.declared.events.Kind.{Kind}
 use Rattle.mach_types.specs.declared.events.Kind.TheVariants as kind
 use Rattle.mach_types.specs.declared.sequences.Outcome.{Outcome}
-use Rattle.mach_types.specs.declared.sequences.Outcome.TheVariants as comes_to
 use Rattle.mach_types.specs.declared.threads.Saved.{Saved}
 use Rattle.mach_types.specs.declared.user_memory.Store.{Store}
 use Rattle.rv_inst.specs.Class.{is_call}
 use Rattle.rv_inst.specs.declared.effects.Effect.{Effect}
 use Rattle.block_model.specs.Calls.{called}
-use Rattle.block_model.specs.Calls.Sequences.{killed_in_call}
+use Rattle.block_model.specs.Calls.Answers.{killed_in_call}
 use Rattle.block_model.specs.Deciding.{done}
 use Rattle.block_model.specs.Events.{done_of}
 use Rattle.block_model.specs.Events.Drain.{done_drain_of}
-use Rattle.block_model.specs.Events.Exec.{by_call, by_effect, by_outcome, called_here, done_exec_by, next_effect, next_fault, outcome_of}
+use Rattle.block_model.specs.Events.Exec.{by_call, by_effect, by_fault, by_outcome, called_here, done_exec_by, next_effect, next_fault, outcome_of}
+use Rattle.block_model.specs.Events.Finish.{done_done}
 use Rattle.block_model.specs.Events.Preempt.{done_preempt_by}
 use Rattle.block_model.specs.Events.Run.{done_killed, done_running, lives_on}
+use Rattle.block_model.specs.Events.Signal.{done_signal}
+use Rattle.block_model.specs.Events.Take.{done_take}
 use Rattle.block_model.specs.Here.{Done, Here, runs, waiting_here}
 use Rattle.block_model.specs.History.{Event, History, file, file_among, here_in_history, kernel, running}
+use Rattle.block_model.specs.Record.{Kernel}
 use Rattle.block_model.specs.Run.{IsRunHistory}
-use Rattle.block_model.specs.Sequences.{files_interrupted, interruption_here, is_inside_here}
+use Rattle.block_model.specs.Sequences.{interruption_here, is_inside_here}
 use Rattle.block_model.specs.Setting.{Setting}
 use Rattle.block_model.specs.Tables.{on}
 use Rattle.block_model.proofs.Allowed.{allowed_at}
 use Rattle.block_model.proofs.Applied.{plain_of}
 use Rattle.block_model.proofs.Aside.{IsAside, beside_left, caller_apart}
 use Rattle.block_model.proofs.AsideCalls.{aside_called, aside_killed}
+use Rattle.block_model.proofs.BarrierEvents.{return_file, return_keeps, take_file, take_keeps}
 use Rattle.block_model.proofs.Good.{IsGoodHere, good_here}
 use Rattle.block_model.proofs.KernelTables.{its_ready}
 use Rattle.block_model.proofs.Runs.{settled}
+use Rattle.block_model.proofs.SignalEvents.{fault_files, fault_keeps, interrupted_file, signal_file, signal_keeps}
 
 -- what an event leaves as it is of a thread, where that is ready
 pub record IsReadyKept (here : Here) (u : ℕ) (d : Done) : Type 0 where
@@ -52,10 +57,10 @@ kept_call here t true good at = aside_killed here t good at
 kept_call here t false good at = aside_called here t good at
 
 module _ (here : Here) (good : IsGoodHere here) (u : ℕ) where
-  still_ready : (d : Done) → is_ready u here.kernel.threads ≡ true → d.files ≡ [] → d.kernel ≡ here.kernel → IsReadyKept here u d
+  still_ready : (d : Done) → is_ready u here.kernel.threads ≡ true → d.files ≡ [] → d.kernel.threads ≡ here.kernel.threads → IsReadyKept here u d
   still_ready d ready none same = record {
     file = λ f. ap (λ (ps : List (ℕ × Saved)). file_among ps u f) none;
-    ready = rw same ready;
+    ready = ap (is_ready u) same ∙ ready;
   }
 
   ready_by : (t : ℕ) (e : Effect) (b : Bool) → runs here ≡ Some t → is_ready u here.kernel.threads ≡ true
@@ -73,7 +78,8 @@ module _ (here : Here) (good : IsGoodHere here) (u : ℕ) where
 
   ready_effect : (t : ℕ) (fault : Option ℕ) (o : Option Effect) → runs here ≡ Some t → is_ready u here.kernel.threads ≡ true
       → IsReadyKept here u (by_effect here t fault o)
-  ready_effect t (Some signal) o at ready = still_ready _ ready refl refl
+  ready_effect t (Some signal) o at ready =
+      still_ready (by_fault here t signal) ready (fault_files here t signal) (ap (λ (k : Kernel). k.threads) (fault_keeps here t signal))
   ready_effect t None None at ready = still_ready _ ready refl refl
   ready_effect t None (Some e) at ready = ready_by t e (is_call e) at ready
 
@@ -93,31 +99,45 @@ module _ (here : Here) (good : IsGoodHere here) (u : ℕ) where
   }
 
   -- another thread begins to run, or is killed at it
-  file_interrupted : (t : ℕ) (o : Outcome) (f : Saved) → t ≢ u → file_among (files_interrupted here t o) u f ≡ f
-  file_interrupted t comes_to.Nothing f other = refl
-  file_interrupted t comes_to.Cleared f other = refl
-  file_interrupted t (comes_to.Aborted at) f other = ap (λ b. cond b (record (here.file t) { pc = at }) f) (ne_eqb t u other)
-  file_interrupted t (comes_to.Killed why) f other = refl
-
   ready_run : (t : ℕ) (o : Outcome) (b : Bool) → t ≢ u → is_ready u here.kernel.threads ≡ true
       → IsReadyKept here u (cond b (done_running here t o) (done_killed here t o))
   ready_run t o true other ready = record {
-    file = λ f. file_interrupted t o f other;
+    file = λ f. interrupted_file here t u o f other;
     ready = ap its_ready (state_of-with_state_other t u (λ e. other (sym e)) (on here.hart) here.kernel.threads) ∙ ready;
   }
-  ready_run t o false other ready = record { file = λ f. file_interrupted t o f other; ready = ready }
+  ready_run t o false other ready = record { file = λ f. interrupted_file here t u o f other; ready = ready }
+
+  -- a signal is delivered to the thread that runs
+  ready_signal : is_ready u here.kernel.threads ≡ true → IsReadyKept here u (done_signal here)
+  ready_signal ready = record {
+    file = λ f. signal_file here u f (λ t at. caller_apart here t good at u ready);
+    ready = ap (λ (k : Kernel). is_ready u k.threads) (signal_keeps here) ∙ ready;
+  }
+
+  -- a hart takes its requests, or the barrier of its thread returns
+  ready_take : is_ready u here.kernel.threads ≡ true → IsReadyKept here u (done_take here)
+  ready_take ready = record {
+    file = λ f. take_file here u f (λ t at. caller_apart here t good at u ready);
+    ready = ap (λ (k : Kernel). is_ready u k.threads) (take_keeps here) ∙ ready;
+  }
+
+  ready_return : is_ready u here.kernel.threads ≡ true → IsReadyKept here u (done_done here)
+  ready_return ready = record {
+    file = λ f. return_file here u f (λ t at. caller_apart here t good at u ready);
+    ready = ap (λ (k : Kernel). is_ready u k.threads) (return_keeps here) ∙ ready;
+  }
 
   ready_of : (k : Kind) (x : Entry) → (k ≡ kind.Run → x.tid.0 ≢ u) → is_ready u here.kernel.threads ≡ true → IsReadyKept here u (done_of (choice_with k x) here)
   ready_of kind.Exec x other ready = ready_exec (runs here) refl ready
   ready_of kind.Drain x other ready = ready_drain (waiting_here here) ready
-  ready_of kind.Take x other ready = still_ready _ ready refl refl
-  ready_of kind.Done x other ready = still_ready _ ready refl refl
+  ready_of kind.Take x other ready = ready_take ready
+  ready_of kind.Done x other ready = ready_return ready
   ready_of kind.Preempt x other ready = ready_preempt (runs here) refl ready
   ready_of kind.Run x other ready =
       let t = x.tid.0 in
       let o = interruption_here here t in
       ready_run t o (lives_on here t o) (other refl) ready
-  ready_of kind.Signal x other ready = still_ready _ ready refl refl
+  ready_of kind.Signal x other ready = ready_signal ready
 
   -- AREAS
 
@@ -130,7 +150,7 @@ module _ (here : Here) (good : IsGoodHere here) (u : ℕ) where
   area_by t e false at apart = refl
 
   area_effect : (t : ℕ) (fault : Option ℕ) (o : Option Effect) → runs here ≡ Some t → runs here ≢ Some u → IsAreaKept here u (by_effect here t fault o)
-  area_effect t (Some signal) o at apart = refl
+  area_effect t (Some signal) o at apart = ap (λ (k : Kernel). area_of u k.areas) (fault_keeps here t signal)
   area_effect t None None at apart = refl
   area_effect t None (Some e) at apart = area_by t e (is_call e) at apart
 
@@ -153,13 +173,13 @@ module _ (here : Here) (good : IsGoodHere here) (u : ℕ) where
   area_of_event : (k : Kind) (x : Entry) → runs here ≢ Some u → IsAreaKept here u (done_of (choice_with k x) here)
   area_of_event kind.Exec x apart = area_exec (runs here) refl apart
   area_of_event kind.Drain x apart = area_drain (waiting_here here)
-  area_of_event kind.Take x apart = refl
-  area_of_event kind.Done x apart = refl
+  area_of_event kind.Take x apart = ap (λ (k : Kernel). area_of u k.areas) (take_keeps here)
+  area_of_event kind.Done x apart = ap (λ (k : Kernel). area_of u k.areas) (return_keeps here)
   area_of_event kind.Preempt x apart = area_preempt (runs here)
   area_of_event kind.Run x apart =
       let o = interruption_here here x.tid.0 in
       area_run x.tid.0 o (lives_on here x.tid.0 o)
-  area_of_event kind.Signal x apart = refl
+  area_of_event kind.Signal x apart = ap (λ (k : Kernel). area_of u k.areas) (signal_keeps here)
 
 -- EVENTS OF A RUN
 

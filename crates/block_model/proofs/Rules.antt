@@ -16,6 +16,7 @@ use Rattle.mach_types.specs.declared.threads.ThreadState.TheVariants.{Ready, Run
 use Rattle.mach_types.specs.declared.user_memory.Store.{Store}
 use Rattle.block_model.specs.Record.{Kernel}
 use Rattle.mach_types.specs.Kernel.Scheduling.{affinity_of, first_for, has_hart}
+use Rattle.mach_types.specs.Kernel.Signals.{next_for}
 use Rattle.mach_types.specs.Kernel.Threads.{Thread, Threads, goes_on, is_live, is_ready, is_ready_state, is_stuck, is_waiting_state, numbers, running_on, state_of, thread_of, times}
 use Rattle.rv_inst.specs.Execution.{instruction_gate}
 use Rattle.rv_inst.specs.Class.{is_call}
@@ -28,14 +29,17 @@ use Rattle.block_model.specs.Here.{Here, runs, waiting_here}
 use Rattle.block_model.specs.Events.{refusal_of}
 use Rattle.block_model.specs.Events.Drain.{refusal_drain_of}
 use Rattle.block_model.specs.Events.Exec.{is_held, next_effect, next_fault, others_gate, refusal_exec, refusal_exec_by}
+use Rattle.block_model.specs.Events.Preempt.{unless_in_barrier, unless_waiting}
 use Rattle.block_model.specs.Events.Run.{refusal_run_by}
-use Rattle.block_model.specs.History.{History, ended, here_in_history, kernel}
+use Rattle.block_model.specs.Events.Signal.{refusal_delivery, refusal_signal_by}
+use Rattle.block_model.specs.History.{History, awaits, ended, here_in_history, kernel, requests, running}
 use Rattle.block_model.specs.Deciding.{decide, end_of, entry_in, history, unless}
 use Rattle.block_model.specs.Run.{IsAllowedLog, IsRunHistory}
 use Rattle.block_model.specs.Sequences.{is_inside_here}
-use Rattle.block_model.specs.Sights.{thread}
+use Rattle.block_model.specs.Sights.{is_deliverable_on, thread}
 use Rattle.block_model.specs.Solo.{solo_choice}
 use Rattle.block_model.proofs.Allowed.{allowed_at}
+use Rattle.block_model.proofs.Awaited.{IsAwaited, alone_awaits}
 use Rattle.block_model.proofs.Ends.{some_live}
 use Rattle.block_model.proofs.Good.{IsSound}
 use Rattle.block_model.specs.Tables.{IsTables, on}
@@ -44,12 +48,16 @@ use Rattle.block_model.proofs.Open.{decide-open, is_open}
 use Rattle.block_model.proofs.Runs.{settled}
 use Rattle.mach_types.proofs.Laws.{eqb_same, times_cons}
 
--- the choice by what is read of the hart: whether a thread runs there, the first ready thread, whether it may execute, and how many
--- stores wait
-abbrev rule_by : Option ℕ → Option ℕ → Option Why → ℕ → Option Choice
-rule_by running first why stores =
-    cond (is_none running) (option_map asked.Run (option_map thread first))
+-- the choice by what is read of the hart: whether a thread runs there, the first ready thread, whether a signal is deliverable,
+-- whether the thread may execute, and how many stores wait
+abbrev rule_when_busy : Bool → Option Why → ℕ → Option Choice
+rule_when_busy deliverable why stores =
+    cond deliverable (cond (ltb 0 stores) (Some asked.Drain) (Some asked.Signal))
     (cond (is_none why) (Some asked.Exec) (cond (ltb 0 stores) (Some asked.Drain) None))
+
+abbrev rule_by : Option ℕ → Option ℕ → Bool → Option Why → ℕ → Option Choice
+rule_by running first deliverable why stores =
+    cond (is_none running) (option_map asked.Run (option_map thread first)) (rule_when_busy deliverable why stores)
 
 -- what is in a list is found there by a test that it passes, and what is found there is in it
 step_found : (p : ℕ → Bool) (t u : ℕ) (us : List ℕ) (b : Bool) → eqb u t ≡ b → 0 < cond b 1 0 + times t us → p t ≡ true
@@ -128,12 +136,18 @@ first_there s k one sound r =
     (subst (λ h. has_hart (affinity_of r.thread k.scheduling) h ≡ true) zero_hart at.2)
 
 -- so the rule has a choice
-busy_choice : (why : Option Why) (stores : ℕ) → ((w : Why) → why ≡ Some w → ltb 0 stores ≡ true)
-    → is_some (cond (is_none why) (Some asked.Exec) (cond (ltb 0 stores) (Some asked.Drain) None)) ≡ true
-busy_choice None stores waits = refl
-busy_choice (Some w) stores waits = rw (waits w refl) refl
+busy_choice : (deliverable : Bool) (why : Option Why) (stores : ℕ) → ((w : Why) → why ≡ Some w → ltb 0 stores ≡ true)
+    → is_some (rule_when_busy deliverable why stores) ≡ true
+busy_choice true why stores waits = elim (ltb 0 stores) as (λ b. is_some (cond b (Some asked.Drain) (Some asked.Signal)) ≡ true) [ true ↦ refl | false ↦ refl ]
+busy_choice false None stores waits = refl
+busy_choice false (Some w) stores waits = rw (waits w refl) refl
 
--- where no store waits on any hart of the machine an instruction is allowed
+-- where a thread waits in no barrier, that refuses nothing
+pub in_no_barrier : (awaits : Option ℕ) (why : Option Why) → awaits ≡ None → unless_in_barrier awaits why ≡ why
+in_no_barrier None why free = refl
+in_no_barrier (Some left) why free = absurd cc
+
+-- where no store waits on any hart of the machine, and the thread waits in no barrier, an instruction is allowed
 none_lies : (r : PageRun) (waiting : ℕ → List Store) (n : ℕ) → ((k : ℕ) → k < n → waiting k ≡ []) → lies_waiting_on r waiting n ≡ false
 none_lies r waiting zero none = refl
 none_lies r waiting (suc n) none = rw (none n (omega arith)) (none_lies r waiting n (λ k lt. none k (omega arith)))
@@ -146,22 +160,23 @@ and_false : (a b : Bool) → b ≡ false → (a && b) ≡ false
 and_false true b is = is
 and_false false b is = refl
 
-pub allowed_where_none_waits : (here : Here) (t : ℕ) → waiting_here here ≡ [] → ((k : ℕ) → k < here.setting.limits.harts → here.waiting k ≡ [])
-    → refusal_exec_by here (Some t) ≡ None
-allowed_where_none_waits here t own none =
+pub allowed_where_none_waits : (here : Here) (t : ℕ) → here.awaits ≡ None → waiting_here here ≡ []
+    → ((k : ℕ) → k < here.setting.limits.harts → here.waiting k ≡ []) → refusal_exec_by here (Some t) ≡ None
+allowed_where_none_waits here t free own none =
     let held : is_held here t ≡ false =
     and_false (not (is_inside_here here t)) _ (none_lies (taken_by (call_number here t) here t) here.waiting here.setting.limits.harts none) in
     let o = next_effect here t in
     let faults = is_some (next_fault here t) in
     let gate : instruction_gate (length (waiting_here here)) o faults ≡ None = ap (λ (ws : List Store). instruction_gate (length ws) o faults) own in
-    ap (λ (g : Option Why). option_or g (others_gate (is_held here t) o)) gate ∙ call_goes (option_map_or is_call o false) (is_held here t) held
+    in_no_barrier here.awaits (option_or (instruction_gate (length (waiting_here here)) o faults) (others_gate (is_held here t) o)) free
+    ∙ ap (λ (g : Option Why). option_or g (others_gate (is_held here t) o)) gate ∙ call_goes (option_map_or is_call o false) (is_held here t) held
 
 -- so where the machine has one hart, and an instruction isn't allowed, a store waits
-alone_waits : (here : Here) (t : ℕ) (w : Why) (ws : List Store) → here.setting.limits.harts ≡ 1 → here.hart ≡ 0 → waiting_here here ≡ ws
-    → refusal_exec_by here (Some t) ≡ Some w → ltb 0 (length ws) ≡ true
-alone_waits here t w (x ∷ ws) one first own held = lt-ltb 0 (length (x ∷ ws)) (omega arith)
-alone_waits here t w [] one first own held =
-    let free = allowed_where_none_waits here t own (λ k lt. ap here.waiting (let same : k ≡ here.hart = omega arith in same) ∙ own) in
+alone_waits : (here : Here) (t : ℕ) (w : Why) (ws : List Store) → here.awaits ≡ None → here.setting.limits.harts ≡ 1 → here.hart ≡ 0
+    → waiting_here here ≡ ws → refusal_exec_by here (Some t) ≡ Some w → ltb 0 (length ws) ≡ true
+alone_waits here t w (x ∷ ws) apart one first own held = lt-ltb 0 (length (x ∷ ws)) (omega arith)
+alone_waits here t w [] apart one first own held =
+    let free = allowed_where_none_waits here t apart own (λ k lt. ap here.waiting (let same : k ≡ here.hart = omega arith in same) ∙ own) in
     let bad : None ≡ Some w = sym free ∙ held in
     absurd cc
 
@@ -169,12 +184,13 @@ idle_choice : (first : Option ℕ) → is_some first ≡ true → is_some (optio
 idle_choice None some = some
 idle_choice (Some t) some = refl
 
-chooses_by : (s : Setting) (here : Here) (running : Option ℕ) → here.setting.limits.harts ≡ 1 → here.hart ≡ 0 → runs here ≡ running → (runs here ≡ None → is_some (first_for 0 here.kernel.scheduling) ≡ true)
-    → is_some (rule_by running (first_for 0 here.kernel.scheduling) (refusal_exec here) (length (waiting_here here))) ≡ true
-chooses_by s here None one hart at first = idle_choice (first_for 0 here.kernel.scheduling) (first at)
-chooses_by s here (Some t) one hart at first =
-    busy_choice (refusal_exec here) (length (waiting_here here))
-    (λ w held. alone_waits here t w (waiting_here here) one hart refl (sym (ap (refusal_exec_by here) at) ∙ held))
+chooses_by : (s : Setting) (here : Here) (running : Option ℕ) → here.awaits ≡ None → here.setting.limits.harts ≡ 1 → here.hart ≡ 0 → runs here ≡ running
+    → (runs here ≡ None → is_some (first_for 0 here.kernel.scheduling) ≡ true)
+    → is_some (rule_by running (first_for 0 here.kernel.scheduling) (is_deliverable_on here (runs here)) (refusal_exec here) (length (waiting_here here))) ≡ true
+chooses_by s here None apart one hart at first = idle_choice (first_for 0 here.kernel.scheduling) (first at)
+chooses_by s here (Some t) apart one hart at first =
+    busy_choice (is_deliverable_on here (runs here)) (refusal_exec here) (length (waiting_here here))
+    (λ w held. alone_waits here t w (waiting_here here) apart one hart refl (sym (ap (refusal_exec_by here) at) ∙ held))
 
 -- a place where nothing ended the run is not stuck
 pub ended_parts : (process : Option End) (stuck : Bool) → option_or process (cond stuck (Some over.Stuck) None) ≡ None → (process ≡ None) × (stuck ≡ false)
@@ -182,12 +198,18 @@ ended_parts (Some e) stuck is = absurd cc
 ended_parts None true is = absurd cc
 ended_parts None false is = (refl, refl)
 
+-- where the machine has one hart, its thread waits in no barrier
+pub apart_when_alone : (s : Setting) (before : History) (h : ℕ) → s.limits.harts ≡ 1 → IsRunHistory s before → awaits h before ≡ None
+apart_when_alone s before h one run =
+    alone_awaits (λ k. requests k before) (λ k. awaits k before) h
+    (subst (λ n. IsAwaited n (λ k. requests k before) (λ k. awaits k before)) one (settled s before run).good.awaited)
+
 chooses_at : (s : Setting) (before : History) → s.limits.harts ≡ 1 → IsRunHistory s before → end_of s before ≡ over.Unended → is_some (solo_choice s before) ≡ true
 chooses_at s before one run end =
     let goes = ended_parts (ended before) (is_stuck (kernel s before).threads) (is_open s before run end).goes in
     let sound = (settled s before run).good.kernel in
     let tables : IsTables 1 (kernel s before).threads (kernel s before).scheduling = subst (λ n. IsTables n (kernel s before).threads (kernel s before).scheduling) one sound.tables in
-    chooses_by s (here_in_history s before 0) (runs (here_in_history s before 0)) one refl refl
+    chooses_by s (here_in_history s before 0) (runs (here_in_history s before 0)) (apart_when_alone s before 0 one run) one refl refl
     (λ idle. first_there s (kernel s before) one sound (some_ready (kernel s before) tables idle goes.1 (some_live s before run goes.0)))
 
 pub rule_chooses : (s : Setting) (log : List Entry) → s.limits.harts ≡ 1 → IsAllowedLog s log → end_of s (history s log) ≡ over.Unended → is_some (solo_choice s (history s log)) ≡ true
@@ -215,12 +237,35 @@ drain_by here c (w ∷ ws) own is =
     let it : asked.Drain ≡ c = sym_some asked.Drain c (sym (ap (λ b. cond b (Some asked.Drain) None) (lt-ltb 0 (length (w ∷ ws)) (omega arith))) ∙ is) in
     subst (λ x. refusal_of x here ≡ None) it (ap refusal_drain_of own)
 
-busy_free : (here : Here) (t : ℕ) (c : Choice) (why : Option Why) → runs here ≡ Some t → refusal_exec here ≡ why
-    → cond (is_none why) (Some asked.Exec) (cond (ltb 0 (length (waiting_here here))) (Some asked.Drain) None) ≡ Some c → refusal_of c here ≡ None
-busy_free here t c None at free is =
+-- a signal that is deliverable isn't refused where no store waits
+deliverable_free : (here : Here) (signal : Option ℕ) → is_some signal ≡ true → waiting_here here ≡ [] → refusal_delivery here signal ≡ None
+deliverable_free here None some none = absurd (false≢true some)
+deliverable_free here (Some signal) some none = ap unless_waiting none
+
+pub signal_free : (here : Here) (t : ℕ) → here.awaits ≡ None → runs here ≡ Some t → is_deliverable_on here (runs here) ≡ true → waiting_here here ≡ []
+    → refusal_of asked.Signal here ≡ None
+signal_free here t apart at some none =
+    ap (refusal_signal_by here) at
+    ∙ in_no_barrier here.awaits (refusal_delivery here (next_for t here.kernel.signals)) apart
+    ∙ deliverable_free here (next_for t here.kernel.signals) (sym (ap (is_deliverable_on here) at) ∙ some) none
+
+-- where one is, the rule's choice is its delivery, or a store that enters memory
+delivery_by : (here : Here) (t : ℕ) (c : Choice) (ws : List Store) → here.awaits ≡ None → runs here ≡ Some t → is_deliverable_on here (runs here) ≡ true → waiting_here here ≡ ws
+    → cond (ltb 0 (length ws)) (Some asked.Drain) (Some asked.Signal) ≡ Some c → refusal_of c here ≡ None
+delivery_by here t c [] apart at some own is =
+    let it : asked.Signal ≡ c = cc in
+    subst (λ x. refusal_of x here ≡ None) it (signal_free here t apart at some own)
+delivery_by here t c (w ∷ ws) apart at some own is =
+    let it : asked.Drain ≡ c = sym_some asked.Drain c (sym (ap (λ b. cond b (Some asked.Drain) (Some asked.Signal)) (lt-ltb 0 (length (w ∷ ws)) (omega arith))) ∙ is) in
+    subst (λ x. refusal_of x here ≡ None) it (ap refusal_drain_of own)
+
+busy_free : (here : Here) (t : ℕ) (c : Choice) (deliverable : Bool) (why : Option Why) → here.awaits ≡ None → runs here ≡ Some t → is_deliverable_on here (runs here) ≡ deliverable
+    → refusal_exec here ≡ why → rule_when_busy deliverable why (length (waiting_here here)) ≡ Some c → refusal_of c here ≡ None
+busy_free here t c true why apart at some is_why is = delivery_by here t c (waiting_here here) apart at some refl is
+busy_free here t c false None apart at none free is =
     let it : asked.Exec ≡ c = cc in
     subst (λ x. refusal_of x here ≡ None) it free
-busy_free here t c (Some why) at held is = drain_by here c (waiting_here here) refl is
+busy_free here t c false (Some why) apart at none held is = drain_by here c (waiting_here here) refl is
 
 idle_free : (here : Here) (c : Choice) (first : Option ℕ) → IsSound here.setting here.kernel → runs here ≡ None → first_for here.hart here.kernel.scheduling ≡ first
     → option_map asked.Run (option_map thread first) ≡ Some c → refusal_of c here ≡ None
@@ -229,29 +274,39 @@ idle_free here c (Some t) sound idle found is =
     let it : asked.Run (thread t) ≡ c = cc in
     subst (λ x. refusal_of x here ≡ None) it (run_free here t sound idle found)
 
-rule_free : (here : Here) (c : Choice) (running : Option ℕ) → IsSound here.setting here.kernel → runs here ≡ running
-    → rule_by running (first_for here.hart here.kernel.scheduling) (refusal_exec here) (length (waiting_here here)) ≡ Some c → refusal_of c here ≡ None
-rule_free here c None sound at is = idle_free here c (first_for here.hart here.kernel.scheduling) sound at refl is
-rule_free here c (Some t) sound at is = busy_free here t c (refusal_exec here) at refl is
+rule_free : (here : Here) (c : Choice) (running : Option ℕ) → here.awaits ≡ None → IsSound here.setting here.kernel → runs here ≡ running
+    → rule_by running (first_for here.hart here.kernel.scheduling) (is_deliverable_on here (runs here)) (refusal_exec here) (length (waiting_here here)) ≡ Some c → refusal_of c here ≡ None
+rule_free here c None apart sound at is = idle_free here c (first_for here.hart here.kernel.scheduling) sound at refl is
+rule_free here c (Some t) apart sound at is = busy_free here t c (is_deliverable_on here (runs here)) (refusal_exec here) apart at refl refl is
 
 made_where_free : (c : Choice) (here : Here) (why : Option Why) → why ≡ None → IsOk (unless (entry_in c here) why)
 made_where_free c here why free = rw free refl
 
-pub rule_is_made : (s : Setting) (log : List Entry) (choice : Choice) → IsAllowedLog s log → 0 < s.limits.harts → end_of s (history s log) ≡ over.Unended → solo_choice s (history s log) ≡ Some choice → IsOk (decide s (history s log) 0 choice)
-rule_is_made s log choice run harts end chosen =
+-- it is made where hart 0's thread waits in no barrier, so always where the machine has one hart
+pub rule_is_made_apart : (s : Setting) (log : List Entry) (choice : Choice) → IsAllowedLog s log → 0 < s.limits.harts
+    → awaits 0 (history s log) ≡ None → end_of s (history s log) ≡ over.Unended → solo_choice s (history s log) ≡ Some choice
+    → IsOk (decide s (history s log) 0 choice)
+rule_is_made_apart s log choice run harts apart end chosen =
     let here = here_in_history s (history s log) 0 in
     subst IsOk (sym (decide-open s (history s log) 0 choice (is_open s (history s log) run end) harts))
-    (made_where_free choice here (refusal_of choice here) (rule_free here choice (runs here) (settled s (history s log) run).good.kernel refl chosen))
+    (made_where_free choice here (refusal_of choice here) (rule_free here choice (runs here) apart (settled s (history s log) run).good.kernel refl chosen))
 
--- where an instruction is allowed, that is the rule's choice
-executes_by : (here : Here) (first running : Option ℕ) → runs here ≡ running → refusal_exec here ≡ None → rule_by running first (refusal_exec here) (length (waiting_here here)) ≡ Some asked.Exec
-executes_by here first None at free = let held = sym (ap (refusal_exec_by here) at) ∙ free in absurd cc
-executes_by here first (Some t) at free = rw free refl
+pub rule_is_made : (s : Setting) (log : List Entry) (choice : Choice) → IsAllowedLog s log → s.limits.harts ≡ 1
+    → end_of s (history s log) ≡ over.Unended → solo_choice s (history s log) ≡ Some choice → IsOk (decide s (history s log) 0 choice)
+rule_is_made s log choice run one end chosen =
+    rule_is_made_apart s log choice run (omega arith) (apart_when_alone s (history s log) 0 one run) end chosen
 
-pub executes_when_allowed : (s : Setting) (log : List Entry) (e : Entry) → decide s (history s log) 0 asked.Exec ≡ Ok e → solo_choice s (history s log) ≡ Some asked.Exec
-executes_when_allowed s log e made =
+-- where an instruction is allowed and no signal is deliverable, that is the rule's choice
+executes_by : (here : Here) (first running : Option ℕ) → runs here ≡ running → is_deliverable_on here (runs here) ≡ false → refusal_exec here ≡ None
+    → rule_by running first (is_deliverable_on here (runs here)) (refusal_exec here) (length (waiting_here here)) ≡ Some asked.Exec
+executes_by here first None at none free = let held = sym (ap (refusal_exec_by here) at) ∙ free in absurd cc
+executes_by here first (Some t) at none free = rw (none, free) refl
+
+pub executes_when_allowed : (s : Setting) (log : List Entry) (e : Entry) → decide s (history s log) 0 asked.Exec ≡ Ok e
+    → is_deliverable_on (here_in_history s (history s log) 0) (running s 0 (history s log)) ≡ false → solo_choice s (history s log) ≡ Some asked.Exec
+executes_when_allowed s log e made none =
     let here = here_in_history s (history s log) 0 in
-    executes_by here (first_for 0 here.kernel.scheduling) (runs here) refl (allowed_at s (history s log) 0 asked.Exec e made).free
+    executes_by here (first_for 0 here.kernel.scheduling) (runs here) refl none (allowed_at s (history s log) 0 asked.Exec e made).free
 
 -- where it has none, the run is over
 pub rule_stops : (s : Setting) (log : List Entry) → s.limits.harts ≡ 1 → IsAllowedLog s log → solo_choice s (history s log) ≡ None → end_of s (history s log) ≢ over.Unended

@@ -5,10 +5,9 @@ use Rattle.std.proofs.lemmas.List.Sums.{fold-append}
 use Rattle.mach_types.specs.declared.events.Choice.{Choice}
 use Rattle.mach_types.specs.declared.events.Choice.TheVariants as asked
 use Rattle.mach_types.specs.declared.events.Entry.{Entry}
-use Rattle.mach_types.specs.declared.events.Why.TheVariants.{NotInBarrier, NoSignal}
 use Rattle.mach_types.specs.Events.{choice_of}
 use Rattle.block_model.specs.Setting.{Setting}
-use Rattle.block_model.specs.Here.{Here, nothing, runs}
+use Rattle.block_model.specs.Here.{Here}
 use Rattle.block_model.specs.Events.{refusal_of, done_of}
 use Rattle.block_model.specs.History.{Event, History, here_in_history}
 use Rattle.block_model.specs.Deciding.{done, event, history, decide}
@@ -17,23 +16,26 @@ use Rattle.block_model.specs.Plain.{plain_start, plain_next}
 use Rattle.block_model.proofs.Applied.{plain_of, IsCounted, counted_next, applied}
 use Rattle.block_model.proofs.Allowed.{allowed_at, decided_is}
 use Rattle.block_model.proofs.Allowances.{start_allowed}
+use Rattle.block_model.proofs.Awaited.{awaited_start}
 use Rattle.block_model.proofs.KernelTables.{tables_start}
 use Rattle.block_model.proofs.Good.{IsGood, IsGoodHere, IsFit, good_here, good_next}
 use Rattle.block_model.proofs.Goods.Exec.{good_exec}
 use Rattle.block_model.proofs.Goods.Drain.{good_drain}
+use Rattle.block_model.proofs.Goods.Finish.{good_done}
 use Rattle.block_model.proofs.Goods.Preempt.{good_preempt}
 use Rattle.block_model.proofs.Goods.Run.{good_run}
-use Rattle.block_model.proofs.Goods.Unbuilt.{never_free}
+use Rattle.block_model.proofs.Goods.Signal.{good_signal}
+use Rattle.block_model.proofs.Goods.Take.{good_take}
 
 -- the events by their kinds
 pub good_of : (c : Choice) (here : Here) → IsGoodHere here → refusal_of c here ≡ None → IsFit here (done_of c here)
 good_of asked.Exec here good free = good_exec here good free
 good_of asked.Drain here good free = good_drain here good free
-good_of asked.Take here good free = cc
-good_of asked.Done here good free = never_free (IsFit here (nothing here)) NotInBarrier (runs here) free
+good_of asked.Take here good free = good_take here good free
+good_of asked.Done here good free = good_done here good free
 good_of asked.Preempt here good free = good_preempt here good free
 good_of (asked.Run t) here good free = good_run here t.0 good free
-good_of asked.Signal here good free = never_free (IsFit here (nothing here)) NoSignal (runs here) free
+good_of asked.Signal here good free = good_signal here good free
 
 -- the machine when it starts
 good_start : (s : Setting) → IsGood s (plain_start s)
@@ -42,6 +44,10 @@ good_start s = record {
   few = λ h. omega arith;
   idle = λ h none. refl;
   given = omega arith;
+  busy = λ h left waits. absurd cc;
+  empty = λ h left waits. refl;
+  awaited = awaited_start s.limits.harts;
+  restart = λ k is. absurd cc;
   kernel = record { tables = tables_start s.limits.harts; allowed = start_allowed s.limits.harts; console = omega arith };
 }
 

@@ -36,7 +36,7 @@ page_of_data =
     0x73 ∷ 0x10 ∷ 0x40 ∷ 0xF1 ∷ []
 
 -- a program with a page of code, that page of data, which may be written, and a page that can only be read, at 0x21000
-abbrev program : Setting
+abbrev pub program : Setting
 program = record {
   program = record {
     pages = record { number = 0x10; perm = 5; bytes = replicate 0xB0 0 } ∷ record { number = 0x20; perm = 6; bytes = page_of_data } ∷ record { number = 0x21; perm = 4; bytes = [] } ∷ [];
@@ -88,7 +88,7 @@ words = word_stored 0x20000 1 ∷ word_stored 0x20004 1 ∷ word_stored 0x20014 
 abbrev cleared : List Write
 cleared = Stored (record { at = 0x20008; size = 8; value = 0 }) ∷ []
 
-abbrev pcs : List (ℕ × Saved) → List (ℕ × ℕ)
+abbrev pub pcs : List (ℕ × Saved) → List (ℕ × ℕ)
 pcs files = map (λ pair. (pair.0, pair.1.pc)) files
 
 begins_inside : (done_run (stands_at 0x100B0) 1).entered ≡ cleared ++ words

@@ -13,7 +13,7 @@ use Rattle.rv_inst.specs.Class.{is_call}
 use Rattle.rv_inst.specs.declared.effects.Effect.{Effect}
 use Rattle.block_model.specs.Acts.{Sequence, begun_with, is_inside_at, is_instruction, is_taken_in, sequence_on, taken_up, with_event}
 use Rattle.block_model.specs.Calls.{called}
-use Rattle.block_model.specs.Calls.Sequences.{killed_in_call}
+use Rattle.block_model.specs.Calls.Answers.{killed_in_call}
 use Rattle.block_model.specs.Deciding.{done, number_of, thread_in}
 use Rattle.block_model.specs.Events.{done_of}
 use Rattle.block_model.specs.Events.Drain.{done_drain_of}
@@ -26,40 +26,43 @@ use Rattle.block_model.specs.Sequences.{is_inside_here}
 use Rattle.block_model.specs.Setting.{Setting}
 use Rattle.block_model.specs.Whole.{RunsThroughout}
 use Rattle.block_model.proofs.Allowed.{allowed_at}
+use Rattle.block_model.proofs.BarrierEvents.{take_keeps}
 use Rattle.block_model.proofs.Runs.{fit_at}
+use Rattle.block_model.proofs.SignalEvents.{OnlySignals, fault_keeps}
 
--- WHAT A SEQUENCE TAKES IN KEEPS THE RECORD
+-- WHAT A SEQUENCE TAKES IN KEEPS THE RECORD, BUT FOR ITS SIGNALS
 
 -- a call inside does nothing but end the process
-call_keeps : (here : Here) (t : ℕ) (b : Bool) → b ≡ true → (cond b (killed_in_call here) (called here t)).kernel ≡ here.kernel
+call_keeps : (here : Here) (t : ℕ) (b : Bool) → b ≡ true → OnlySignals here.kernel (cond b (killed_in_call here) (called here t)).kernel
 call_keeps here t true inside = refl
 call_keeps here t false inside = absurd (false≢true inside)
 
-either_keeps : (b : Bool) (x y : Done) (k : Kernel) → x.kernel ≡ k → y.kernel ≡ k → (cond b x y).kernel ≡ k
+either_keeps : (b : Bool) (x y : Done) (k : Kernel) → OnlySignals k x.kernel → OnlySignals k y.kernel → OnlySignals k (cond b x y).kernel
 either_keeps true x y k p q = p
 either_keeps false x y k p q = q
 
-effect_keeps : (here : Here) (t : ℕ) (fault : Option ℕ) (o : Option Effect) → is_inside_here here t ≡ true → (by_effect here t fault o).kernel ≡ here.kernel
-effect_keeps here t (Some signal) o inside = refl
+effect_keeps : (here : Here) (t : ℕ) (fault : Option ℕ) (o : Option Effect) → is_inside_here here t ≡ true
+    → OnlySignals here.kernel (by_effect here t fault o).kernel
+effect_keeps here t (Some signal) o inside = fault_keeps here t signal
 effect_keeps here t None None inside = refl
 effect_keeps here t None (Some e) inside =
     either_keeps (is_call e) (by_call here (called_here here t)) (by_outcome here t (outcome_of here t e)) here.kernel
     (call_keeps here t (is_inside_here here t) inside) refl
 
-exec_keeps : (here : Here) (r : Option ℕ) → option_map_or (is_inside_here here) r false ≡ true → (done_exec_by here r).kernel ≡ here.kernel
+exec_keeps : (here : Here) (r : Option ℕ) → option_map_or (is_inside_here here) r false ≡ true → OnlySignals here.kernel (done_exec_by here r).kernel
 exec_keeps here None inside = refl
 exec_keeps here (Some t) inside = effect_keeps here t (next_fault here t) (next_effect here t) inside
 
-drain_keeps : (here : Here) (ws : List Store) → (done_drain_of here ws).kernel ≡ here.kernel
+drain_keeps : (here : Here) (ws : List Store) → OnlySignals here.kernel (done_drain_of here ws).kernel
 drain_keeps here [] = refl
 drain_keeps here (w ∷ ws) = refl
 
--- what a sequence takes in, by its kind
+-- what a sequence takes in, by its kind: of the record only the signals change
 pub taken_keeps : (k : Kind) (x : Entry) (o : Option Outcome) (here : Here) → is_taken_in k o ≡ true
-    → option_map_or (is_inside_here here) (runs here) false ≡ true → (done_of (choice_with k x) here).kernel ≡ here.kernel
+    → option_map_or (is_inside_here here) (runs here) false ≡ true → OnlySignals here.kernel (done_of (choice_with k x) here).kernel
 taken_keeps kind.Exec x o here taken inside = exec_keeps here (runs here) inside
 taken_keeps kind.Drain x o here taken inside = drain_keeps here (waiting_here here)
-taken_keeps kind.Take x o here taken inside = refl
+taken_keeps kind.Take x o here taken inside = rw (take_keeps here) refl
 taken_keeps kind.Done x o here taken inside = absurd (false≢true taken)
 taken_keeps kind.Preempt x o here taken inside = absurd (false≢true taken)
 taken_keeps kind.Run x o here taken inside = absurd (false≢true taken)
@@ -103,11 +106,12 @@ goes_on s e before run taken inside =
     let a = allowed_at s before e.entry.hart.0 (choice_of e.entry) e.entry run.1 in
     let number : e.entry.tid.0 ≡ number_of (runs here) =
     ap (λ (x : Entry). x.tid.0) a.is ∙ ap number_of (taken_thread e.entry.kind e.entry e.done.interrupted here taken) in
-    let kept : e.done.kernel ≡ here.kernel =
-    ap (λ (x : Event). x.done.kernel) run.2 ∙ taken_keeps e.entry.kind e.entry e.done.interrupted here taken inside in
+    let kept : e.done.kernel.threads ≡ here.kernel.threads =
+    ap (λ (x : Event). x.done.kernel.threads) run.2
+    ∙ ap (λ (k : Kernel). k.threads) (taken_keeps e.entry.kind e.entry e.done.interrupted here taken inside) in
     record {
       thread = inside_runs here (runs here) inside ∙ ap Some (sym number);
-      still = ap (λ (k : Kernel). running_on e.entry.hart.0 k.threads) kept;
+      still = ap (running_on e.entry.hart.0) kept;
     }
 
 -- SEQUENCES

@@ -1,12 +1,14 @@
 -- What a hart keeps while other harts make events, and the instructions of a stretch one by one.
-use Rattle.std.proofs.Common.{◌≡◌, ◌≢◌, ℕ, ◌+◌, ◌≤◌, ◌<◌, List, [], ◌∷◌, ◌++◌, refl, sym, ap, ◌∙◌, subst, arith, Bool, true, false, cond, eqb, ◌&&◌, not, ltb, Option, Some, None, zero, suc, append_assoc}
+use Rattle.std.proofs.Common.{◌≡◌, ◌≢◌, ℕ, ◌+◌, ◌≤◌, ◌<◌, List, [], ◌∷◌, ◌++◌, refl, sym, ap, ◌∙◌, subst, arith, Bool, true, false, cond, eqb, ◌&&◌, not, ltb, Option, Some, None, is_some, zero, suc, append_assoc}
 use Rattle.std.specs.List.{fold}
+use Rattle.std.specs.Option.{option_map}
 use Rattle.std.proofs.lemmas.Bool.{and_parts, cond-false, cond-true, eqb-false, ltb-true}
 use Rattle.mach_types.specs.declared.events.Entry.{Entry}
 use Rattle.elf_load.specs.declared.image.ImagePage.{ImagePage}
 use Rattle.block_model.specs.Choosing.{has_ended, luck, sight_with}
-use Rattle.block_model.specs.Deciding.{event, history}
-use Rattle.block_model.specs.History.{History, events, file, running}
+use Rattle.block_model.specs.Deciding.{done, event, history}
+use Rattle.block_model.specs.History.{History, awaits, events, file, running}
+use Rattle.block_model.specs.Requests.{awaits_of_own, without_hart}
 use Rattle.block_model.specs.Run.{IsAllowedLog, IsRunHistory}
 use Rattle.block_model.specs.Setting.{Setting}
 use Rattle.block_model.specs.Stretches.{Stretch, goes_on, is_on_credit, lent, lent_to, may_lend, stepped, worked}
@@ -26,11 +28,18 @@ events_rise s h (e ∷ rest) before =
     one_more true = omega arith
     one_more false = omega arith
 
--- a thread that runs on a hart, its file, and the hart's words and credit, as they were
+-- a thread that runs on a hart, its file, the hart's words and credit, and whether the thread waits in a barrier, as they were
 pub record HasStayed (s : Setting) (h t : ℕ) (before later : History) : Type 0 where
   pub runs : running s h later ≡ Some t
   pub same_file : file s t later ≡ file s t before
   pub same_luck : luck s h later ≡ luck s h before
+  pub same_waits : is_some (awaits h later) ≡ is_some (awaits h before)
+
+-- an event of another hart lets a barrier wait for fewer harts, and begins and ends none
+waits_as_before : (h : ℕ) (took : Bool) (awaits : Option ℕ) → is_some (cond took (option_map (without_hart h) awaits) awaits) ≡ is_some awaits
+waits_as_before h false awaits = refl
+waits_as_before h true None = refl
+waits_as_before h true (Some left) = refl
 
 -- while the hart makes no event they stay
 stays_by : (s : Setting) (h t : ℕ) (e : Entry) (rest : List Entry) (before : History) (own : Bool) → eqb e.hart.0 h ≡ own
@@ -46,6 +55,7 @@ stays_by s h t e rest before true own run at same go =
     absurd (omega (arith, more, one, same))
 stays_by s h t e rest before false own run at same go =
     let fit = fit_at s (event s before e) before (run_before s rest (event s before e ∷ before) run) in
+    let d = done s before e in
     let ne : h ≢ e.hart.0 = λ is. eqb-false e.hart.0 h own (sym is) in
     let none : events h (event s before e ∷ before) ≡ events h before = cond-false (eqb e.hart.0 h) (events h before + 1) (events h before) own in
     let is = go run (fit.others h ne ∙ at) (same ∙ sym none) in
@@ -53,13 +63,16 @@ stays_by s h t e rest before false own run at same go =
       runs = is.runs;
       same_file = is.same_file ∙ fit.apart h t (file s t before) ne at;
       same_luck = is.same_luck ∙ cond-false (eqb e.hart.0 h) _ (luck s h before) own;
+      same_waits = is.same_waits
+          ∙ ap is_some (cond-false (eqb e.hart.0 h) (awaits_of_own d (awaits h before)) _ own)
+          ∙ waits_as_before e.hart.0 d.took (awaits h before);
     }
 
 stays_over : (s : Setting) (h t : ℕ) (rest : List Entry) (before : History)
     → IsRunHistory s (fold (λ b e. event s b e ∷ b) before rest) → running s h before ≡ Some t
     → events h (fold (λ b e. event s b e ∷ b) before rest) ≡ events h before
     → HasStayed s h t before (fold (λ b e. event s b e ∷ b) before rest)
-stays_over s h t [] before run at same = record { runs = at; same_file = refl; same_luck = refl }
+stays_over s h t [] before run at same = record { runs = at; same_file = refl; same_luck = refl; same_waits = refl }
 stays_over s h t (e ∷ rest) before run at same =
     stays_by s h t e rest before (eqb e.hart.0 h) refl run at same (stays_over s h t rest (event s before e ∷ before))
 

@@ -11,6 +11,8 @@ use Rattle.mach_types.specs.declared.address_space.TheConstants.{PAGE_SIZE}
 use Rattle.mach_types.specs.declared.events.Entry.{Entry}
 use Rattle.mach_types.specs.declared.events.Kind.{Kind}
 use Rattle.mach_types.specs.declared.events.Kind.TheVariants as kind
+use Rattle.mach_types.specs.Kernel.Signals.{next_for}
+use Rattle.mach_types.specs.declared.sequences.Outcome.{Outcome}
 use Rattle.mach_types.specs.declared.user_memory.Store.{Store}
 use Rattle.mach_types.specs.declared.user_memory.Write.{Write}
 use Rattle.mach_types.specs.declared.user_memory.Write.TheVariants.{Stored, Zeroed}
@@ -19,10 +21,13 @@ use Rattle.rv_inst.specs.declared.effects.Effect.{Effect}
 use Rattle.block_model.specs.Deciding.{done}
 use Rattle.block_model.specs.Events.{done_of}
 use Rattle.block_model.specs.Events.Drain.{done_drain_of}
-use Rattle.block_model.specs.Events.Exec.{by_call, by_effect, by_outcome, called_here, done_exec, done_exec_by, next_effect, next_fault, outcome_of}
+use Rattle.block_model.specs.Events.Exec.{by_call, by_effect, by_outcome, called_here, done_exec, done_exec_by, has_handler, next_effect, next_fault, outcome_of}
+use Rattle.block_model.specs.Events.Finish.{done_done, done_done_by}
 use Rattle.block_model.specs.Events.Preempt.{done_preempt, done_preempt_by}
 use Rattle.block_model.specs.Events.Run.{done_killed, done_run, done_running, lives_on}
-use Rattle.block_model.specs.Here.{Done, Here, memory, nothing, runs, view, waiting_here}
+use Rattle.block_model.specs.Events.Signal.{done_next, done_signal, done_signal_by, handled_unless_killed, kills}
+use Rattle.block_model.specs.Events.Take.{done_take, done_take_by}
+use Rattle.block_model.specs.Here.{Done, Here, memory, runs, view, waiting_here}
 use Rattle.block_model.specs.History.{Event, History, byte, drains, here_in_history, kernel, stores, waiting}
 use Rattle.block_model.specs.Run.{IsRunHistory}
 use Rattle.block_model.specs.Sequences.{interruption_here}
@@ -57,12 +62,16 @@ mapped_same f g same o (Some n) is = ap (option_map f) is ∙ ap Some (same n)
 -- HOW MANY STORES AN EVENT DRAINS
 
 -- none, but where it is a drain
+none_if : (b : Bool) (x y : Done) → x.drained ≡ 0 → y.drained ≡ 0 → (cond b x y).drained ≡ 0
+none_if true x y p q = p
+none_if false x y p q = q
+
 none_by : (here : Here) (t : ℕ) (e : Effect) (b : Bool) → (cond b (by_call here (called_here here t)) (by_outcome here t (outcome_of here t e))).drained ≡ 0
 none_by here t e true = refl
 none_by here t e false = refl
 
 none_effect : (here : Here) (t : ℕ) (fault : Option ℕ) (o : Option Effect) → (by_effect here t fault o).drained ≡ 0
-none_effect here t (Some signal) o = refl
+none_effect here t (Some signal) o = none_if (has_handler here t signal) _ _ refl refl
 none_effect here t None None = refl
 none_effect here t None (Some e) = none_by here t e (is_call e)
 
@@ -74,9 +83,28 @@ none_preempt : (here : Here) (r : Option ℕ) → (done_preempt_by here r).drain
 none_preempt here None = refl
 none_preempt here (Some t) = refl
 
-none_if : (b : Bool) (x y : Done) → x.drained ≡ 0 → y.drained ≡ 0 → (cond b x y).drained ≡ 0
-none_if true x y p q = p
-none_if false x y p q = q
+none_take : (here : Here) (restart : Bool) (r : Option ℕ) → (done_take_by here restart r).drained ≡ 0
+none_take here false r = refl
+none_take here true None = refl
+none_take here true (Some t) = refl
+
+none_done : (here : Here) (r : Option ℕ) → (done_done_by here r).drained ≡ 0
+none_done here None = refl
+none_done here (Some t) = refl
+
+none_delivery : (here : Here) (t signal : ℕ) (o : Outcome) (killer : Option ℕ) → (handled_unless_killed here t signal o killer).drained ≡ 0
+none_delivery here t signal o None = refl
+none_delivery here t signal o (Some killer) = refl
+
+none_next : (here : Here) (t : ℕ) (next : Option ℕ) → (done_next here t next).drained ≡ 0
+none_next here t None = refl
+none_next here t (Some signal) =
+    let o = interruption_here here t in
+    none_delivery here t signal o (kills here t signal o)
+
+none_signal : (here : Here) (r : Option ℕ) → (done_signal_by here r).drained ≡ 0
+none_signal here None = refl
+none_signal here (Some t) = none_next here t (next_for t here.kernel.signals)
 
 -- A PERMISSION THAT STAYS
 
@@ -153,14 +181,14 @@ module _ (w : Bytes) (a : ℕ) (low : w.at ≤ a) (high : a < w.at + w.count) wh
   seen_of : (k : Kind) (x : Entry) (here : Here) → IsSeen here (done_of (choice_with k x) here)
   seen_of kind.Exec x here = seen_still here (done_exec here) (none_exec here (runs here))
   seen_of kind.Drain x here = λ executed entered below. seen_drain here (waiting_here here) refl entered below
-  seen_of kind.Take x here = seen_still here (nothing here) refl
-  seen_of kind.Done x here = seen_still here (nothing here) refl
+  seen_of kind.Take x here = seen_still here (done_take here) (none_take here here.restart (runs here))
+  seen_of kind.Done x here = seen_still here (done_done here) (none_done here (runs here))
   seen_of kind.Preempt x here = seen_still here (done_preempt here) (none_preempt here (runs here))
   seen_of kind.Run x here =
       let t = x.tid.0 in
       let o = interruption_here here t in
       seen_still here (done_run here t) (none_if (lives_on here t o) (done_running here t o) (done_killed here t o) refl refl)
-  seen_of kind.Signal x here = seen_still here (nothing here) refl
+  seen_of kind.Signal x here = seen_still here (done_signal here) (none_signal here (runs here))
 
   -- PERMISSIONS
 

@@ -15,7 +15,7 @@ use Rattle.mach_types.specs.declared.user_memory.Store.{Store}
 use Rattle.block_model.specs.Acts.{Sequence, hanging, hanging_after, is_inside_at, sequence_on}
 use Rattle.block_model.specs.Deciding.{done, number_of, thread_in}
 use Rattle.block_model.specs.Events.{done_of, refusal_of}
-use Rattle.block_model.specs.Events.Preempt.{done_preempt_by, refusal_preempt_by}
+use Rattle.block_model.specs.Events.Preempt.{done_preempt_by, refusal_preempt_by, unless_waiting}
 use Rattle.block_model.specs.Here.{Done, Here, memory, view, waiting_here}
 use Rattle.block_model.specs.History.{Event, History, file, file_among, here_in_history, kernel, running}
 use Rattle.block_model.specs.Kernel.{left}
@@ -25,7 +25,7 @@ use Rattle.block_model.specs.Setting.{Setting}
 use Rattle.block_model.specs.Tables.{on}
 use Rattle.block_model.specs.Whole.{Bytes, before_last, touched_in, touches}
 use Rattle.block_model.proofs.Allowed.{allowed_at}
-use Rattle.block_model.proofs.Goods.Preempt.{none_waits}
+use Rattle.block_model.proofs.Goods.Preempt.{none_waits, out_of_barrier}
 use Rattle.block_model.proofs.Goods.Run.{ready_apart}
 use Rattle.block_model.proofs.KernelTables.{its_ready, running_is, state_now}
 use Rattle.block_model.proofs.ReadyFiles.{area_stays, ready_file_stays, ready_stays}
@@ -94,8 +94,8 @@ module _ (s : Setting) (e : Event) (before : History) (t : ℕ) (run : IsRunHist
   preempt_waits : waiting_here place ≡ []
   preempt_waits =
       let a = allowed_at s before e.entry.hart.0 (choice_of e.entry) e.entry run.1 in
-      none_waits (waiting_here place)
-      (sym (ap (λ (k : Kind). refusal_of (choice_with k e.entry) place) kind_is ∙ ap (refusal_preempt_by place) at) ∙ a.free)
+      let free = sym (ap (λ (k : Kind). refusal_of (choice_with k e.entry) place) kind_is ∙ ap (refusal_preempt_by place) at) ∙ a.free in
+      none_waits (waiting_here place) (out_of_barrier place.awaits (unless_waiting (waiting_here place)) free).1
 
   preempt_tid : e.entry.tid.0 ≡ t
   preempt_tid =
@@ -116,7 +116,7 @@ mapped_still : (o : Option ℕ) → option_map (λ (b : ℕ). b) o ≡ o
 mapped_still None = refl
 mapped_still (Some b) = refl
 
-sees_memory : (here : Here) (a : ℕ) → waiting_here here ≡ [] → view here a ≡ memory here a
+pub sees_memory : (here : Here) (a : ℕ) → waiting_here here ≡ [] → view here a ≡ memory here a
 sees_memory here a none = ap (λ (ws : List Store). option_map (overlay ws a) (memory here a)) none ∙ mapped_still (memory here a)
 
 see_memory : (here : Here) (ws : List Bytes) → waiting_here here ≡ [] → AgreeAll (view here) (memory here) ws

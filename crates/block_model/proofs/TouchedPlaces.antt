@@ -1,5 +1,5 @@
 -- From the place before the last event of a sequence on: what its thread keeps, and that bytes stay which nothing touched since.
-use Rattle.std.proofs.Common.{◌≡◌, ◌≢◌, ℕ, ◌+◌, ◌-◌, ◌≤◌, ◌<◌, ◌⊎◌, inl, inr, List, [], ◌∷◌, length, refl, sym, ap, ◌∙◌, subst, arith, Bool, true, false, not, cond, ◌&&◌, ◌||◌, eqb, Option, Some, None}
+use Rattle.std.proofs.Common.{◌≡◌, ◌≢◌, ℕ, ◌+◌, ◌-◌, ◌≤◌, ◌<◌, ◌⊎◌, inl, inr, List, [], ◌∷◌, length, refl, sym, ap, ◌∙◌, subst, arith, Bool, true, false, not, cond, ◌&&◌, ◌||◌, eqb, Option, Some, None, is_none}
 use Rattle.std.specs.List.{AllByRecursion, list_any}
 use Rattle.std.proofs.lemmas.Bool.{eqb-false, eqb-true, false≢true, ne_eqb}
 use Rattle.mach_types.specs.Events.{choice_with}
@@ -9,14 +9,14 @@ use Rattle.mach_types.specs.declared.address_space.TheConstants.{PAGE_SIZE}
 use Rattle.mach_types.specs.declared.events.Entry.{Entry}
 use Rattle.mach_types.specs.declared.events.Kind.{Kind}
 use Rattle.mach_types.specs.declared.events.Kind.TheVariants as kind
-use Rattle.mach_types.specs.declared.sequences.Outcome.{Outcome}
 use Rattle.mach_types.specs.declared.threads.Saved.{Saved}
 use Rattle.mach_types.specs.declared.user_memory.Store.{Store}
 use Rattle.block_model.specs.Acts.{Sequence, begun_with, is_inside_at, is_instruction, is_taken_in, sequence_on, taken_up, with_event}
 use Rattle.block_model.specs.Deciding.{done}
 use Rattle.block_model.specs.Events.{done_of}
 use Rattle.block_model.specs.Events.Drain.{done_drain_of}
-use Rattle.block_model.specs.Here.{Here, view, waiting_here}
+use Rattle.block_model.specs.Events.Take.{done_take, done_take_by, only_took}
+use Rattle.block_model.specs.Here.{Done, Here, runs, view, waiting_here}
 use Rattle.block_model.specs.History.{Event, History, file, file_among, here_in_history, is_of_hart, kernel, running}
 use Rattle.block_model.specs.Record.{Kernel}
 use Rattle.block_model.specs.Run.{IsRunHistory}
@@ -27,6 +27,7 @@ use Rattle.block_model.proofs.NamedStays.{Agree}
 use Rattle.block_model.proofs.ReadyFiles.{area_stays}
 use Rattle.block_model.proofs.Runs.{fit_at, settled}
 use Rattle.block_model.proofs.SequencePlaces.{instruction_taken, runs_throughout, taken_keeps}
+use Rattle.block_model.proofs.SignalEvents.{OnlySignals}
 use Rattle.block_model.proofs.TouchedBytes.{neither, view_stays}
 
 -- THE NEWEST EVENT
@@ -98,28 +99,43 @@ drain_sets_none : (here : Here) (ws : List Store) → (done_drain_of here ws).fi
 drain_sets_none here [] = refl
 drain_sets_none here (w ∷ ws) = refl
 
-none_set : (k : Kind) (x : Entry) (o : Option Outcome) (here : Here) → is_taken_in k o ≡ true → is_instruction k ≡ false
-    → (done_of (choice_with k x) here).files ≡ []
-none_set kind.Exec x o here taken no_instruction = absurd (false≢true (sym no_instruction))
-none_set kind.Drain x o here taken no_instruction = drain_sets_none here (waiting_here here)
-none_set kind.Take x o here taken no_instruction = refl
-none_set kind.Done x o here taken no_instruction = absurd (false≢true taken)
-none_set kind.Preempt x o here taken no_instruction = absurd (false≢true taken)
-none_set kind.Run x o here taken no_instruction = absurd (false≢true taken)
-none_set kind.Signal x o here taken no_instruction = absurd (false≢true taken)
+-- a take that interrupts nothing does no more than take
+only_takes : (here : Here) (restart : Bool) (r : Option ℕ) → is_none (done_take_by here restart r).interrupted ≡ true
+    → done_take_by here restart r ≡ only_took here
+only_takes here false r none = refl
+only_takes here true None none = refl
+only_takes here true (Some t) none = absurd (false≢true none)
+
+pub take_taken : (here : Here) → is_taken_in kind.Take (done_take here).interrupted ≡ true → done_take here ≡ only_took here
+take_taken here taken = only_takes here here.restart (runs here) taken
+
+-- an event is taken in
+abbrev pub IsTakenIn : Kind → Entry → Here → Type 0
+IsTakenIn k x here = is_taken_in k (done_of (choice_with k x) here).interrupted ≡ true
+
+none_set : (k : Kind) (x : Entry) (here : Here) → IsTakenIn k x here → is_instruction k ≡ false → (done_of (choice_with k x) here).files ≡ []
+none_set kind.Exec x here taken no_instruction = absurd (false≢true (sym no_instruction))
+none_set kind.Drain x here taken no_instruction = drain_sets_none here (waiting_here here)
+none_set kind.Take x here taken no_instruction = ap (λ (d : Done). d.files) (take_taken here taken)
+none_set kind.Done x here taken no_instruction = absurd (false≢true taken)
+none_set kind.Preempt x here taken no_instruction = absurd (false≢true taken)
+none_set kind.Run x here taken no_instruction = absurd (false≢true taken)
+none_set kind.Signal x here taken no_instruction = absurd (false≢true taken)
 
 module _ (s : Setting) (e : Event) (before : History) (run : IsRunHistory s (e ∷ before)) (taken : is_taken_in e.entry.kind e.done.interrupted ≡ true) where
-  kept_record : is_inside_at s e.entry.hart.0 before ≡ true → kernel s (e ∷ before) ≡ kernel s before
+  kept_record : is_inside_at s e.entry.hart.0 before ≡ true → OnlySignals (kernel s before) (kernel s (e ∷ before))
   unfolding done
   kept_record inside =
-      ap (λ (x : Event). x.done.kernel) run.2
-      ∙ taken_keeps e.entry.kind e.entry e.done.interrupted (here_in_history s before e.entry.hart.0) taken inside
+      subst (λ (x : Event). OnlySignals (kernel s before) x.done.kernel) (sym run.2)
+      (taken_keeps e.entry.kind e.entry e.done.interrupted (here_in_history s before e.entry.hart.0) taken inside)
 
   kept_file : (t : ℕ) → is_instruction e.entry.kind ≡ false → file s t (e ∷ before) ≡ file s t before
   unfolding done
   kept_file t no_instruction =
-      let none = ap (λ (x : Event). x.done.files) run.2
-      ∙ none_set e.entry.kind e.entry e.done.interrupted (here_in_history s before e.entry.hart.0) taken no_instruction in
+      let here = here_in_history s before e.entry.hart.0 in
+      let done : e.done ≡ done_of (choice_with e.entry.kind e.entry) here = ap (λ (x : Event). x.done) run.2 in
+      let taken_in : IsTakenIn e.entry.kind e.entry here = subst (λ (d : Done). is_taken_in e.entry.kind d.interrupted ≡ true) done taken in
+      let none = ap (λ (d : Done). d.files) done ∙ none_set e.entry.kind e.entry here taken_in no_instruction in
       ap (λ (ps : List (ℕ × Saved)). file_among ps t (file s t before)) none
 
 -- SINCE ITS LAST EVENT

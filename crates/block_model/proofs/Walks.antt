@@ -19,11 +19,12 @@ use Rattle.block_model.specs.Deciding.{done, event, history}
 use Rattle.block_model.specs.Events.{done_of}
 use Rattle.block_model.specs.Events.Drain.{done_drain_of}
 use Rattle.block_model.specs.Events.Exec.{by_call, called_here, by_effect, by_outcome, done_exec_by, next_effect, outcome_of}
+use Rattle.block_model.specs.Events.Take.{done_take_by}
 use Rattle.block_model.specs.Here.{Done, Here, runs, waiting_here}
 use Rattle.block_model.specs.History.{History, file, file_among, here_in_history, running}
 use Rattle.block_model.specs.Run.{IsAllowedLog, IsRunHistory}
 use Rattle.block_model.specs.Setting.{Setting}
-use Rattle.block_model.specs.Walks.{AreOfWalk, IsOfWalk, IsPlainExec, IsWalk, Answer, answer_in, answered, answers, computed, file_by, file_next, file_of, is_exec}
+use Rattle.block_model.specs.Walks.{AreOfWalk, IsOfWalk, IsPlainExec, IsPlainTake, IsWalk, Answer, answer_in, answered, answers, computed, file_by, file_next, file_of, is_exec}
 use Rattle.block_model.proofs.Replay.{history-more}
 use Rattle.block_model.proofs.Runs.{fit_at, run_before}
 use Rattle.mach_types.proofs.Laws.{eqb_same}
@@ -89,6 +90,17 @@ drain_done : (here : Here) (t : ℕ) (ws : List Store) → IsPlainDone here t No
 drain_done here t [] = record { own = refl; same = refl }
 drain_done here t (w ∷ ws) = record { own = refl; same = refl }
 
+-- what a hart does that takes requests, where that interrupts nothing
+take_by : (here : Here) (t : ℕ) (restarts : Bool) (running : Option ℕ) → (done_take_by here restarts running).interrupted ≡ None
+    → IsPlainDone here t None (done_take_by here restarts running)
+take_by here t false running quiet = record { own = refl; same = refl }
+take_by here t true None quiet = record { own = refl; same = refl }
+take_by here t true (Some u) quiet = absurd cc
+
+take_done : (here : Here) (t : ℕ) (entry : Entry) → IsPlainTake here entry → IsPlainDone here t None (done_of (choice_of entry) here)
+take_done here t entry plain =
+    subst (λ c. IsPlainDone here t None (done_of c here)) (sym plain.takes) (take_by here t here.restart (runs here) plain.quiet)
+
 -- one answer is given to an instruction of the hart, and none to another entry
 answered_if : (s : Setting) (h : ℕ) (before : History) (e : Entry) (f : Saved) (b : Bool)
     → (eqb e.hart.0 h && is_exec (choice_of e)) ≡ b
@@ -115,7 +127,15 @@ own_step s t before e at (inl drains) =
       file_is = did.own ∙ answered_if s e.hart.0 before e (file s t before) false none;
       still = ap (λ (k : Kernel). running_on e.hart.0 k.threads) did.same ∙ at;
     }
-own_step s t before e at (inr plain) =
+own_step s t before e at (inr (inl plain)) =
+    let here = here_in_history s before e.hart.0 in
+    let did = take_done here t e plain in
+    let none = own_is e asked.Take plain.takes in
+    record {
+      file_is = did.own ∙ answered_if s e.hart.0 before e (file s t before) false none;
+      still = ap (λ (k : Kernel). running_on e.hart.0 k.threads) did.same ∙ at;
+    }
+own_step s t before e at (inr (inr plain)) =
     let here = here_in_history s before e.hart.0 in
     let did = exec_done here t e at plain in
     let one = own_is e asked.Exec plain.executes in

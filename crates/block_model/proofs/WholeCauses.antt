@@ -13,7 +13,11 @@ use Rattle.mach_types.specs.declared.sequences.Seq.{Seq}
 use Rattle.block_model.specs.Events.Run.{lives_on}
 use Rattle.block_model.specs.Here.{Here, is_writable, memory}
 use Rattle.block_model.specs.Sequences.{area_here, can_write_words, files_interrupted, interruption_here, is_inside_waiting}
-use Rattle.block_model.specs.Whole.{HasCause, IsBad, IsGood, can_clear}
+use Rattle.block_model.specs.Whole.{FindsBad, HasCause, IsBad, IsGood, can_clear}
+
+-- an interruption that ends the process
+abbrev pub IsKilled : Outcome → Type 0
+IsKilled o = (why : BadWhy) × (o ≡ comes_to.Killed why)
 
 -- over an area, or none
 module _ (here : Here) (pc : ℕ) where
@@ -71,13 +75,20 @@ module _ (here : Here) (pc : ℕ) where
   outside_goes_on (Some area) at outside is = outside_sent area (named (memory here) area pc) at outside is
 
 module _ (here : Here) (t : ℕ) where
-  -- the process ends where there is a cause
+  -- an interruption ends the process where its check finds something bad, and only there
+  pub found_by : (why : BadWhy) → interruption_here here t ≡ comes_to.Killed why → FindsBad here t
+  found_by why is = killed_by here (here.file t).pc (area_here here t) why is
+
+  pub bad_found : FindsBad here t → IsKilled (interruption_here here t)
+  bad_found (inl named_bad) = (named_bad.0, bad_kills here (here.file t).pc (area_here here t) named_bad.0 named_bad.1)
+  bad_found (inr unclear) = (bad.AreaBytes, unclear_kills here (here.file t).pc (area_here here t) unclear.0.0 unclear.0.1 unclear.1)
+
+  -- so it does where a waiting thread begins to run, or where the words of its area can't be written
   cause_by : (o : Outcome) → interruption_here here t ≡ o → lives_on here t o ≡ false → HasCause here t
-  cause_by comes_to.Nothing is dies = inr (inr dies)
-  cause_by comes_to.Cleared is dies = inr (inr dies)
-  cause_by (comes_to.Aborted at) is dies = inr (inr dies)
-  cause_by (comes_to.Killed why) is dies =
-      elim (killed_by here (here.file t).pc (area_here here t) why is) [ inl named_bad ↦ inl named_bad | inr unclear ↦ inr (inl unclear) ]
+  cause_by comes_to.Nothing is dies = inr dies
+  cause_by comes_to.Cleared is dies = inr dies
+  cause_by (comes_to.Aborted at) is dies = inr dies
+  cause_by (comes_to.Killed why) is dies = inl (found_by why is)
 
   pub cause_of_death : lives_on here t (interruption_here here t) ≡ false → HasCause here t
   cause_of_death dies = cause_by (interruption_here here t) refl dies
@@ -89,10 +100,8 @@ module _ (here : Here) (t : ℕ) where
   words_kill (comes_to.Killed why) never = refl
 
   pub dies_of : HasCause here t → lives_on here t (interruption_here here t) ≡ false
-  dies_of (inl named_bad) = ap (lives_on here t) (bad_kills here (here.file t).pc (area_here here t) named_bad.0 named_bad.1)
-  dies_of (inr (inl unclear)) =
-      ap (lives_on here t) (unclear_kills here (here.file t).pc (area_here here t) unclear.0.0 unclear.0.1 unclear.1)
-  dies_of (inr (inr never)) = words_kill (interruption_here here t) never
+  dies_of (inl found) = ap (lives_on here t) (bad_found found).1
+  dies_of (inr never) = words_kill (interruption_here here t) never
 
   -- and a thread that is outside keeps its registers and its pc
   outside_files_by : (o : Outcome) → interruption_here here t ≡ o → is_inside_waiting here t ≡ false → files_interrupted here t o ≡ []

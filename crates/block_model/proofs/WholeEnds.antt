@@ -1,6 +1,6 @@
--- What the next event of its hart makes of a sequence that it isn't of: it isn't interrupted there, since `run` alone interrupts, and
--- its hart isn't idle; and no event had ended the process.
-use Rattle.std.proofs.Common.{◌≡◌, ℕ, [], ◌∷◌, ◌&&◌, ◌||◌, refl, sym, ap, ◌∙◌, Bool, true, false, not, cond, eqb, List, Option, Some, None, is_some}
+-- What the next event of its hart makes of a sequence that it isn't of, where it doesn't interrupt the thread: beside a `signal` and a
+-- `take` only a `run` could, and its hart isn't idle; and no event had ended the process.
+use Rattle.std.proofs.Common.{◌≡◌, ◌≢◌, ℕ, [], ◌∷◌, ◌&&◌, ◌||◌, refl, sym, ap, ◌∙◌, Bool, true, false, not, cond, eqb, List, Option, Some, None, is_some}
 use Rattle.std.specs.Option.{option_or}
 use Rattle.std.proofs.lemmas.Bool.{false≢true}
 use Rattle.mach_types.proofs.Laws.{eqb_same}
@@ -8,9 +8,11 @@ use Rattle.mach_types.specs.Events.{choice_with}
 use Rattle.mach_types.specs.declared.events.Entry.{Entry}
 use Rattle.mach_types.specs.declared.events.Kind.{Kind}
 use Rattle.mach_types.specs.declared.events.Kind.TheVariants as kind
-use Rattle.mach_types.specs.declared.events.Why.TheVariants.{NoSignal, NotInBarrier}
+use Rattle.mach_types.specs.declared.events.Why.TheVariants.{NotInBarrier}
 use Rattle.mach_types.specs.declared.limits.End.{End}
+use Rattle.mach_types.specs.declared.limits.End.TheVariants.{Killed}
 use Rattle.mach_types.specs.declared.sequences.Outcome.{Outcome}
+use Rattle.mach_types.specs.declared.sequences.Outcome.TheVariants as comes_to
 use Rattle.mach_types.specs.declared.user_memory.Store.{Store}
 use Rattle.rv_inst.specs.Class.{is_call}
 use Rattle.rv_inst.specs.declared.effects.Effect.{Effect}
@@ -20,7 +22,8 @@ use Rattle.block_model.specs.Acts.{Sequence, abort_of, cut_or, end_before, end_s
 use Rattle.block_model.specs.Deciding.{number_of}
 use Rattle.block_model.specs.Events.{done_of, refusal_of}
 use Rattle.block_model.specs.Events.Drain.{done_drain_of}
-use Rattle.block_model.specs.Events.Exec.{by_call, by_effect, by_outcome, called_here, done_exec_by, next_effect, next_fault, outcome_of}
+use Rattle.block_model.specs.Events.Exec.{by_call, by_effect, by_outcome, called_here, done_exec_by, has_handler, next_effect, next_fault, one_instruction, outcome_of}
+use Rattle.block_model.specs.Events.Finish.{done_done_by, refusal_done_by, refusal_return}
 use Rattle.block_model.specs.Events.Preempt.{done_preempt_by}
 use Rattle.block_model.specs.Events.Run.{refusal_run_by}
 use Rattle.block_model.specs.Here.{Done, Here, runs, waiting_here}
@@ -29,9 +32,9 @@ use Rattle.block_model.specs.Run.{IsRunHistory}
 use Rattle.block_model.specs.Setting.{Setting}
 use Rattle.block_model.specs.Whole.{EndsWhole, WasTouched}
 use Rattle.block_model.proofs.Ends.{neither}
-use Rattle.block_model.proofs.Goods.Unbuilt.{never_free}
 use Rattle.block_model.proofs.SequencePlaces.{runs_throughout}
 use Rattle.block_model.proofs.Touched.{dropped_is_touched}
+use Rattle.block_model.proofs.WholeBarriers.{in_no_barrier}
 use Rattle.block_model.proofs.WholeEvents.{did, is_free, its_thread, not_over, place}
 use Rattle.block_model.proofs.WholeHangs.{own_now}
 
@@ -48,7 +51,7 @@ module _ (s : Setting) (e : Event) (before : History) (h : ℕ) (q : Sequence) w
       ∙ ap (λ (o : Option End). is_some o) (neither e.done.ended (ended before) none).0
   alive_by false other none rest is = rest (neither e.done.ended (ended before) none).1 is
 
-alive : (s : Setting) (before : History) (h : ℕ) (q : Sequence) → ended before ≡ None → sequence_on s h before ≡ Some q → has_died q ≡ false
+pub alive : (s : Setting) (before : History) (h : ℕ) (q : Sequence) → ended before ≡ None → sequence_on s h before ≡ Some q → has_died q ≡ false
 alive s [] h q none is = absurd cc
 alive s (e ∷ before) h q none is = alive_by s e before h q (is_of_hart h e) refl none (λ n was. alive s before h q n was) is
 
@@ -59,7 +62,8 @@ either_quiet true x y p q = p
 either_quiet false x y p q = q
 
 effect_quiet : (here : Here) (t : ℕ) (fault : Option ℕ) (o : Option Effect) → (by_effect here t fault o).interrupted ≡ None
-effect_quiet here t (Some signal) o = refl
+effect_quiet here t (Some signal) o =
+    either_quiet (has_handler here t signal) _ (record (one_instruction here) { ended = Some (Killed signal) }) refl refl
 effect_quiet here t None None = refl
 effect_quiet here t None (Some e) =
     either_quiet (is_call e) (by_call here (called_here here t)) (by_outcome here t (outcome_of here t e)) refl refl
@@ -80,22 +84,26 @@ busy : (here : Here) (t u : ℕ) (r : Option ℕ) → r ≡ Some u → refusal_r
 busy here t u None on free = cc
 busy here t u (Some v) on free = cc
 
--- no event of a hart that runs a thread interrupts it
-quiet_by : (k : Kind) (x : Entry) (here : Here) (u : ℕ) → runs here ≡ Some u → refusal_of (choice_with k x) here ≡ None
-    → (done_of (choice_with k x) here).interrupted ≡ None
-quiet_by kind.Exec x here u on free = exec_quiet here (runs here)
-quiet_by kind.Drain x here u on free = drain_quiet here (waiting_here here)
-quiet_by kind.Take x here u on free = refl
-quiet_by kind.Done x here u on free = refl
-quiet_by kind.Preempt x here u on free = preempt_quiet here (runs here)
-quiet_by kind.Run x here u on free = absurd (busy here x.tid.0 u (runs here) on free)
-quiet_by kind.Signal x here u on free = refl
+done_quiet : (here : Here) (r : Option ℕ) → (done_done_by here r).interrupted ≡ None
+done_quiet here None = refl
+done_quiet here (Some t) = refl
 
-quiet : (s : Setting) (e : Event) (before : History) (q : Sequence) → IsRunHistory s (e ∷ before) → sequence_on s e.entry.hart.0 before ≡ Some q
-    → e.done.interrupted ≡ None
-quiet s e before q run is =
+-- no event of a hart that runs a thread interrupts it, but the delivery of a signal and the taking of requests
+quiet_by : (k : Kind) (x : Entry) (here : Here) (u : ℕ) → k ≢ kind.Signal → k ≢ kind.Take → runs here ≡ Some u → refusal_of (choice_with k x) here ≡ None
+    → (done_of (choice_with k x) here).interrupted ≡ None
+quiet_by kind.Exec x here u no_signal no_take on free = exec_quiet here (runs here)
+quiet_by kind.Drain x here u no_signal no_take on free = drain_quiet here (waiting_here here)
+quiet_by kind.Take x here u no_signal no_take on free = absurd (no_take refl)
+quiet_by kind.Done x here u no_signal no_take on free = done_quiet here (runs here)
+quiet_by kind.Preempt x here u no_signal no_take on free = preempt_quiet here (runs here)
+quiet_by kind.Run x here u no_signal no_take on free = absurd (busy here x.tid.0 u (runs here) on free)
+quiet_by kind.Signal x here u no_signal no_take on free = absurd (no_signal refl)
+
+pub quiet : (s : Setting) (e : Event) (before : History) (q : Sequence) → IsRunHistory s (e ∷ before) → e.entry.kind ≢ kind.Signal
+    → e.entry.kind ≢ kind.Take → sequence_on s e.entry.hart.0 before ≡ Some q → e.done.interrupted ≡ None
+quiet s e before q run no_signal no_take is =
     ap (λ (d : Done). d.interrupted) (did s e before run e.entry.kind refl)
-    ∙ quiet_by e.entry.kind e.entry (place s e before run) q.thread (runs_throughout s before e.entry.hart.0 q run.0 is).now
+    ∙ quiet_by e.entry.kind e.entry (place s e before run) q.thread no_signal no_take (runs_throughout s before e.entry.hart.0 q run.0 is).now
     (is_free s e before run e.entry.kind refl)
 
 -- ENDS
@@ -107,7 +115,7 @@ plain_end true killed moved inside i other p q = absurd cc
 plain_end false killed moved inside (Some o) other p q = absurd cc
 plain_end false killed moved inside None other p q = refl
 
-not_cut : (s : Setting) (q : Sequence) (inside : Bool) (at : ℕ) → left_or_dropped s q inside ≡ ends.Cut at → ⊥
+pub not_cut : (s : Setting) (q : Sequence) (inside : Bool) (at : ℕ) → left_or_dropped s q inside ≡ ends.Cut at → ⊥
 not_cut s q true at is = cc
 not_cut s q false at is = go (moved_out s q) is
   where
@@ -115,7 +123,7 @@ not_cut s q false at is = go (moved_out s q) is
     go true is = cc
     go false is = cc
 
-not_dead : (s : Setting) (q : Sequence) (inside : Bool) → left_or_dropped s q inside ≡ ends.Dead → ⊥
+pub not_dead : (s : Setting) (q : Sequence) (inside : Bool) → left_or_dropped s q inside ≡ ends.Dead → ⊥
 not_dead s q true is = cc
 not_dead s q false is = go (moved_out s q) is
   where
@@ -141,7 +149,7 @@ dropped_so s before h q run is lives drops =
 
 -- ONE THAT ISN'T OVER HANGS
 
-unended_by : (s : Setting) (q : Sequence) (inside : Bool) → left_or_dropped s q inside ≡ ends.Unended → inside ≡ true
+pub unended_by : (s : Setting) (q : Sequence) (inside : Bool) → left_or_dropped s q inside ≡ ends.Unended → inside ≡ true
 unended_by s q true is = refl
 unended_by s q false is = absurd (go (moved_out s q) is)
   where
@@ -154,18 +162,25 @@ not_taken : (b : Bool) (q : Sequence) → cond b (Some q) None ≡ None → b �
 not_taken true q is = absurd cc
 not_taken false q is = refl
 
--- so it is a preempt
-preempts : (k : Kind) (x : Entry) (here : Here) (u : ℕ) → runs here ≡ Some u → refusal_of (choice_with k x) here ≡ None → is_taken_in k None ≡ false
-    → k ≡ kind.Preempt
-preempts kind.Exec x here u on free isnt = absurd (false≢true (sym isnt))
-preempts kind.Drain x here u on free isnt = absurd (false≢true (sym isnt))
-preempts kind.Take x here u on free isnt = absurd (false≢true (sym isnt))
-preempts kind.Done x here u on free isnt = never_free (kind.Done ≡ kind.Preempt) NotInBarrier (runs here) free
-preempts kind.Preempt x here u on free isnt = refl
-preempts kind.Run x here u on free isnt = absurd (busy here x.tid.0 u (runs here) on free)
-preempts kind.Signal x here u on free isnt = never_free (kind.Signal ≡ kind.Preempt) NoSignal (runs here) free
+-- so it is a preempt, since its thread waits in no barrier
+never_returns : (here : Here) (r : Option ℕ) → here.awaits ≡ None → refusal_done_by here r ≡ None → ⊥
+never_returns here None out free = cc
+never_returns here (Some t) out free =
+    let other : Some NotInBarrier ≡ None = sym (ap refusal_return out) ∙ free in
+    cc
 
-module _ (s : Setting) (e : Event) (before : History) (q : Sequence) (run : IsRunHistory s (e ∷ before)) (is : sequence_on s e.entry.hart.0 before ≡ Some q)
+preempts : (k : Kind) (x : Entry) (here : Here) (u : ℕ) → k ≢ kind.Signal → here.awaits ≡ None → runs here ≡ Some u
+    → refusal_of (choice_with k x) here ≡ None → is_taken_in k None ≡ false → k ≡ kind.Preempt
+preempts kind.Exec x here u other out on free isnt = absurd (false≢true (sym isnt))
+preempts kind.Drain x here u other out on free isnt = absurd (false≢true (sym isnt))
+preempts kind.Take x here u other out on free isnt = absurd (false≢true (sym isnt))
+preempts kind.Done x here u other out on free isnt = absurd (never_returns here (runs here) out free)
+preempts kind.Preempt x here u other out on free isnt = refl
+preempts kind.Run x here u other out on free isnt = absurd (busy here x.tid.0 u (runs here) on free)
+preempts kind.Signal x here u other out on free isnt = absurd (other refl)
+
+module _ (s : Setting) (e : Event) (before : History) (q : Sequence) (run : IsRunHistory s (e ∷ before))
+    (isnt : e.entry.kind ≢ kind.Signal) (none : e.done.interrupted ≡ None) (is : sequence_on s e.entry.hart.0 before ≡ Some q)
     (over : sequence_on s e.entry.hart.0 (e ∷ before) ≡ None) (inside : is_inside_at s e.entry.hart.0 before ≡ true) where
   abbrev h : ℕ
   h = e.entry.hart.0
@@ -177,13 +192,14 @@ module _ (s : Setting) (e : Event) (before : History) (q : Sequence) (run : IsRu
       ap (taken_up h e before) (sym is)
       ∙ ap (λ b. cond b (taken_up h e before (sequence_on s h before)) None) (sym inside)
       ∙ sym own ∙ over in
-      sym (ap (is_taken_in e.entry.kind) (quiet s e before q run is)) ∙ not_taken (is_taken_in e.entry.kind e.done.interrupted) (with_event e before q) taken
+      sym (ap (is_taken_in e.entry.kind) none) ∙ not_taken (is_taken_in e.entry.kind e.done.interrupted) (with_event e before q) taken
 
   hangs_then : hanging s q.thread (e ∷ before) ≡ Some q
   hangs_then =
       let here = place s e before run in
       let there = (runs_throughout s before h q run.0 is).now in
-      let preempt = preempts e.entry.kind e.entry here q.thread there (is_free s e before run e.entry.kind refl) left_out in
+      let out = in_no_barrier s before h q run.0 is in
+      let preempt = preempts e.entry.kind e.entry here q.thread isnt out there (is_free s e before run e.entry.kind refl) left_out in
       let own : e.entry.tid.0 ≡ q.thread = its_thread s e before run kind.Preempt preempt ∙ ap number_of there in
       let still = hanging s q.thread before in
       ap (λ n. cond (eqb n q.thread) (hanging_after s q.thread e before e.entry.kind still) still) own
@@ -192,10 +208,11 @@ module _ (s : Setting) (e : Event) (before : History) (q : Sequence) (run : IsRu
       ∙ ap (λ b. cond b (sequence_on s h before) None) inside
       ∙ is
 
-pub ends_whole : (s : Setting) (e : Event) (before : History) (q : Sequence) → IsRunHistory s (e ∷ before) → sequence_on s e.entry.hart.0 before ≡ Some q
+pub ends_whole_uninterrupted : (s : Setting) (e : Event) (before : History) (q : Sequence) → IsRunHistory s (e ∷ before)
+    → e.entry.kind ≢ kind.Signal → e.done.interrupted ≡ None → sequence_on s e.entry.hart.0 before ≡ Some q
     → sequence_on s e.entry.hart.0 (e ∷ before) ≡ None → EndsWhole s e before q
-ends_whole s e before q run is over =
-    let none = quiet s e before q run is in
+ends_whole_uninterrupted s e before q run isnt none is over =
+    let never : is_some e.done.interrupted ≡ true → ⊥ = λ some. false≢true (sym (ap (λ (o : Option Outcome). is_some o) none) ∙ some) in
     let goes = neither (ended before) _ (not_over s e before run) in
     let lives = alive s before e.entry.hart.0 q goes.0 is in
     let inside = is_inside_at s q.hart before in
@@ -205,11 +222,16 @@ ends_whole s e before q run is over =
     record {
       unended = λ goes_on.
           let there : is_inside_at s e.entry.hart.0 before ≡ true = ap (λ k. is_inside_at s k before) (sym hart) ∙ unended_by s q inside (sym so ∙ goes_on) in
-          hangs_then s e before q run is over there;
-      interrupted = λ some there. absurd (false≢true (sym (ap (λ (o : Option Outcome). is_some o) none) ∙ some));
+          hangs_then s e before q run isnt none is over there;
+      interrupted = λ some there. absurd (never some);
       cut = λ at cuts. absurd (not_cut s q inside at (sym so ∙ cuts));
+      aborted = λ at sent. let other : None ≡ Some (comes_to.Aborted at) = sym none ∙ sent in absurd cc;
       dropped = λ drops. dropped_so s before e.entry.hart.0 q run.0 is lives (sym so ∙ drops);
+      kept = λ some goes_on left. absurd (never some);
+      emptied = λ area some goes_on registered. absurd (never some);
       dead = λ dies. absurd (not_dead s q inside (sym so ∙ dies));
+      killed = λ some ends_it. absurd (never some);
+      caused = λ some found. absurd (never some);
     }
 
 -- one that has ended as dropped at a place, where nothing ended the process

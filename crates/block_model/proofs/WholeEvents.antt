@@ -1,12 +1,14 @@
 -- What an event of a run tells, by its kind: what it did, its thread, that no condition failed, and that nothing had ended before it.
-use Rattle.std.proofs.Common.{◌≡◌, ◌<◌, ◌∷◌, sym, ap, ◌∙◌, None}
+use Rattle.std.proofs.Common.{◌≡◌, ◌<◌, ℕ, [], ◌∷◌, sym, ap, ◌∙◌, cond, None}
+use Rattle.mach_types.proofs.Laws.{eqb_same}
 use Rattle.mach_types.specs.Events.{choice_of, choice_with}
 use Rattle.mach_types.specs.declared.events.Entry.{Entry}
 use Rattle.mach_types.specs.declared.events.Kind.{Kind}
+use Rattle.mach_types.specs.declared.threads.Saved.{Saved}
 use Rattle.block_model.specs.Deciding.{done, number_of, over_at, thread_in}
 use Rattle.block_model.specs.Events.{done_of, refusal_of}
 use Rattle.block_model.specs.Here.{Here}
-use Rattle.block_model.specs.History.{Event, History, here_in_history}
+use Rattle.block_model.specs.History.{Event, History, file_among, here_in_history}
 use Rattle.block_model.specs.Run.{IsRunHistory}
 use Rattle.block_model.specs.Setting.{Setting}
 use Rattle.block_model.specs.Tables.{IsTables}
@@ -39,3 +41,7 @@ module _ (s : Setting) (e : Event) (before : History) (run : IsRunHistory s (e �
   its_thread k is =
       ap (λ (x : Entry). x.tid.0) (allowed_at s before e.entry.hart.0 (choice_of e.entry) e.entry run.1).is
       ∙ ap (λ n. number_of (thread_in (choice_with n e.entry) place)) is
+
+-- the one file that is set
+pub among_own : (t : ℕ) (f g : Saved) → file_among ((t, g) ∷ []) t f ≡ g
+among_own t f g = ap (λ b. cond b g f) (eqb_same t)

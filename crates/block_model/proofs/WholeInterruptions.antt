@@ -1,12 +1,13 @@
 -- What the interruption of a thread comes to that is inside, and the pointer of its area afterwards, where the process lives on.
-use Rattle.std.proofs.Common.{◌≡◌, ℕ, ◌+◌, ◌⊎◌, ◌++◌, refl, sym, ap, ◌∙◌, subst, Bool, true, false, not, cond, Option, Some, None, inl, inr}
+use Rattle.std.proofs.Common.{◌≡◌, ℕ, ◌+◌, ◌⊎◌, List, ◌++◌, refl, sym, ap, ◌∙◌, subst, arith, Bool, true, false, not, cond, Option, Some, None, Any, inl, inr}
 use Rattle.std.specs.Option.{option_map_or}
 use Rattle.std.proofs.lemmas.Bool.{false≢true}
 use Rattle.mach_types.proofs.Laws.{word_at-read}
 use Rattle.mach_types.specs.Bytes.{word_at, written}
-use Rattle.mach_types.specs.Kernel.Areas.{Words, are_readable, interruption, is_clearable, is_inside, is_inside_named, named, number_at, outcome_of, pointer_cleared, pointer_of, words_on, writes_of}
+use Rattle.mach_types.specs.Kernel.Areas.{are_readable, interruption, is_clearable, is_inside, is_inside_named, named, number_at, outcome_of, pointer_of, words_on, writes_of}
 use Rattle.mach_types.specs.Kernel.Pages.{can_read, permission_at}
 use Rattle.mach_types.specs.declared.sequences.Area.{Area}
+use Rattle.mach_types.specs.declared.sequences.BadWhy.{BadWhy}
 use Rattle.mach_types.specs.declared.sequences.BadWhy.TheVariants as bad
 use Rattle.mach_types.specs.declared.sequences.Named.{Named}
 use Rattle.mach_types.specs.declared.sequences.Named.TheVariants as names
@@ -14,12 +15,14 @@ use Rattle.mach_types.specs.declared.sequences.Outcome.{Outcome}
 use Rattle.mach_types.specs.declared.sequences.Outcome.TheVariants as comes_to
 use Rattle.mach_types.specs.declared.sequences.Seq.{Seq}
 use Rattle.mach_types.specs.declared.sequences.TheConstants.{RSEQ_CS}
+use Rattle.mach_types.specs.declared.user_memory.Write.{Write}
+use Rattle.mach_types.specs.declared.user_memory.Write.TheVariants.{Stored}
 use Rattle.block_model.specs.Events.Run.{done_running, lives_on}
 use Rattle.block_model.specs.Here.{Done, Here, is_writable, memory, memory_in}
 use Rattle.block_model.specs.Ids.{next_id}
 use Rattle.block_model.specs.Sequences.{area_here, can_write_words, interruption_here, words_to}
-use Rattle.block_model.proofs.WholeNamed.{good_read, nothing_null}
-use Rattle.block_model.proofs.WholePointers.{pointer_cleared_is, pointer_stays, readable_after, readable_stays}
+use Rattle.block_model.proofs.WholeNamed.{nothing_null, read_unless_bad}
+use Rattle.block_model.proofs.WholePointers.{Leaves, cleared_then, readable_after, readable_stays, stays_then, words_leave}
 
 -- WHAT AN INTERRUPTION COMES TO
 
@@ -61,6 +64,11 @@ pub inside_of : (byte : ℕ → Option ℕ) (can_write : ℕ → Bool) (o : Opti
 inside_of byte can_write None pc inside = absurd (false≢true inside)
 inside_of byte can_write (Some area) pc inside = inside_area byte can_write area pc (named byte area pc) refl inside
 
+-- where it does, the first write clears the pointer
+pub first_cleared : (its : Option Area) (area : Area) (o : Outcome) (at : ℕ) (ws : List Write) → its ≡ Some area → o ≡ comes_to.Aborted at
+    → Any (λ w. w ≡ Stored (record { at = area.at + RSEQ_CS; size = 8; value = 0 })) (writes_of its o ++ ws)
+first_cleared its area o at ws has aborts = rw (has, aborts) (0, Stored (record { at = area.at + RSEQ_CS; size = 8; value = 0 }), omega arith, refl, refl)
+
 -- an interruption that comes to nothing found a pointer of 0
 good_some : (b c : Bool) (at : ℕ) → cond b (comes_to.Killed bad.AreaBytes) (cond c (comes_to.Aborted at) comes_to.Cleared) ≡ comes_to.Nothing → ⊥
 good_some true c at is = cc
@@ -79,50 +87,72 @@ nothing_named can_write area pc (names.Good sequence) is =
 abbrev pub memory_after : Here → Done → ℕ → Option ℕ
 memory_after here d = memory_in d.kernel (λ a. written d.entered a (here.byte a))
 
-module _ (here : Here) (t : ℕ) (area : Area) (has : area_here here t ≡ Some area) where
-  abbrev its_words : Words
-  its_words = words_on here.hart (next_id here.kernel.ids)
+abbrev pub may_read : Here → ℕ → Bool
+may_read here a = can_read (permission_at here.kernel.pages a)
 
-  abbrev may_read : ℕ → Bool
-  may_read a = can_read (permission_at here.kernel.pages a)
+-- an interruption of a thread that has an area, which doesn't end the process, leaves the pointer of the area 0, where the writes that
+-- come after it leave that: it cleared it; or it came to nothing, since the pointer was 0
+module _ (here : Here) (t : ℕ) (area : Area) (has : area_here here t ≡ Some area) (rest : List Write) (leaves : Leaves area rest) where
+  abbrev pc : ℕ
+  pc = (here.file t).pc
 
-  abbrev IsNullAfter : Outcome → Option Area → Type 0
-  IsNullAfter o its = pointer_of (readable_after may_read (writes_of its o ++ words_to here its its_words) here.byte) area ≡ 0
+  abbrev after_writes : List Write → ℕ → Option ℕ
+  after_writes ws = readable_after (may_read here) ws here.byte
 
-  null_cleared : pointer_of (readable_after may_read (pointer_cleared (Some area) ++ words_to here (Some area) its_words) here.byte) area ≡ 0
-  null_cleared = pointer_cleared_is may_read here.byte area (can_write_words here (Some area)) its_words
+  null_after : (o : Outcome) → interruption (memory here) (is_writable here) (Some area) pc ≡ o → ((why : BadWhy) → o ≡ comes_to.Killed why → ⊥)
+      → pointer_of (after_writes (writes_of (Some area) o ++ rest)) area ≡ 0
+  null_after comes_to.Nothing is never =
+      stays_then (may_read here) here.byte area rest leaves
+      ∙ nothing_null (memory here) area pc (nothing_named (is_writable here) area pc (named (memory here) area pc) is)
+  null_after comes_to.Cleared is never = cleared_then (may_read here) here.byte area rest leaves
+  null_after (comes_to.Aborted at) is never = cleared_then (may_read here) here.byte area rest leaves
+  null_after (comes_to.Killed why) is never = absurd (never why refl)
 
-  null_kept : pointer_of (memory here) area ≡ 0 → pointer_of (readable_after may_read (words_to here (Some area) its_words) here.byte) area ≡ 0
-  null_kept null = pointer_stays may_read here.byte area (can_write_words here (Some area)) its_words ∙ null
-
-  null_after : (o : Outcome) → interruption (memory here) (is_writable here) (Some area) (here.file t).pc ≡ o → lives_on here t o ≡ true
-      → IsNullAfter o (Some area)
-  null_after comes_to.Nothing is lives =
-      let pc = (here.file t).pc in
-      let null = nothing_null (memory here) area pc (nothing_named (is_writable here) area pc (named (memory here) area pc) is) in
-      null_kept null
-  null_after comes_to.Cleared is lives = null_cleared
-  null_after (comes_to.Aborted at) is lives = null_cleared
-  null_after (comes_to.Killed why) is lives = absurd (false≢true lives)
-
-  pub pointer_is_null : lives_on here t (interruption_here here t) ≡ true
-      → pointer_of (memory_after here (done_running here t (interruption_here here t))) area ≡ 0
-  pointer_is_null lives =
-      let same : interruption (memory here) (is_writable here) (Some area) (here.file t).pc ≡ interruption_here here t =
-      ap (λ its. interruption (memory here) (is_writable here) its (here.file t).pc) (sym has) in
-      subst (IsNullAfter (interruption_here here t)) (sym has) (null_after (interruption_here here t) same lives)
-
-  -- where it named a good sequence, its bytes can be read: they are 0
-  abbrev ran_memory : ℕ → Option ℕ
-  ran_memory = memory_after here (done_running here t (interruption_here here t))
-
-  pub pointer_word : lives_on here t (interruption_here here t) ≡ true → (pc : ℕ) (sequence : Seq) → named (memory here) area pc ≡ names.Good sequence
-      → word_at ran_memory (area.at + RSEQ_CS) 8 ≡ Some 0
-  pointer_word lives pc sequence good =
+  -- its bytes can be read, since the area names nothing bad
+  word_is_null : (entered : List Write) → ((why : BadWhy) → interruption (memory here) (is_writable here) (Some area) pc ≡ comes_to.Killed why → ⊥)
+      → pointer_of (after_writes entered) area ≡ 0 → word_at (after_writes entered) (area.at + RSEQ_CS) 8 ≡ Some 0
+  word_is_null entered never null =
       let at = area.at + RSEQ_CS in
-      let read : are_readable ran_memory at 8 ≡ true =
-      readable_stays may_read (done_running here t (interruption_here here t)).entered here.byte at 8
-      ∙ good_read (memory here) area pc sequence good in
-      word_at-read ran_memory at 8
-      ∙ ap (λ b. cond b (Some (number_at ran_memory at 8)) None) read
-      ∙ ap Some (pointer_is_null lives)
+      let after = after_writes entered in
+      let good : are_readable (memory here) at 8 ≡ true =
+      read_unless_bad (memory here) area pc (λ why is. never why (ap (outcome_of (is_writable here) area pc) is)) in
+      let read : are_readable after at 8 ≡ true = readable_stays (may_read here) entered here.byte at 8 ∙ good in
+      word_at-read after at 8 ∙ ap (λ b. cond b (Some (number_at after at 8)) None) read ∙ ap Some null
+
+  module _ (never : (why : BadWhy) → interruption_here here t ≡ comes_to.Killed why → ⊥) where
+    abbrev its : Outcome
+    its = interruption (memory here) (is_writable here) (Some area) pc
+
+    same : interruption_here here t ≡ its
+    same = ap (λ o. interruption (memory here) (is_writable here) o pc) has
+
+    never_its : (why : BadWhy) → its ≡ comes_to.Killed why → ⊥
+    never_its why is = never why (same ∙ is)
+
+    entered_is : writes_of (area_here here t) (interruption_here here t) ++ rest ≡ writes_of (Some area) its ++ rest
+    entered_is = ap (λ o. writes_of o (interruption_here here t) ++ rest) has ∙ ap (λ o. writes_of (Some area) o ++ rest) same
+
+    pub pointer_is_null : pointer_of (after_writes (writes_of (area_here here t) (interruption_here here t) ++ rest)) area ≡ 0
+    pointer_is_null = ap (λ ws. pointer_of (after_writes ws) area) entered_is ∙ null_after its refl never_its
+
+    pub pointer_word : word_at (after_writes (writes_of (area_here here t) (interruption_here here t) ++ rest)) (area.at + RSEQ_CS) 8 ≡ Some 0
+    pointer_word = word_is_null (writes_of (area_here here t) (interruption_here here t) ++ rest) never_its pointer_is_null
+
+-- so the pointer is 0 where a waiting thread begins to run, once the words of its area are written
+module _ (here : Here) (t : ℕ) (area : Area) (has : area_here here t ≡ Some area) (lives : lives_on here t (interruption_here here t) ≡ true) where
+  abbrev words : Option Area → List Write
+  words its = words_to here its (words_on here.hart (next_id here.kernel.ids))
+
+  leave_it : Leaves area (words (area_here here t))
+  leave_it =
+      subst (λ its. Leaves area (words its)) (sym has)
+      (words_leave (can_write_words here (Some area)) area (words_on here.hart (next_id here.kernel.ids)))
+
+  never_dies : (why : BadWhy) → interruption_here here t ≡ comes_to.Killed why → ⊥
+  never_dies why is = false≢true (sym (ap (lives_on here t) is) ∙ lives)
+
+  pub running_is_null : pointer_of (memory_after here (done_running here t (interruption_here here t))) area ≡ 0
+  running_is_null = pointer_is_null here t area has (words (area_here here t)) leave_it never_dies
+
+  pub running_word : word_at (memory_after here (done_running here t (interruption_here here t))) (area.at + RSEQ_CS) 8 ≡ Some 0
+  running_word = pointer_word here t area has (words (area_here here t)) leave_it never_dies

@@ -101,16 +101,15 @@ pub good_signed : (byte : ℕ → Option ℕ) (area : Area) (pc : ℕ) (sequence
     → (4 ≤ sequence.abort) × (word_at byte (sequence.abort - 4) 4 ≡ Some area.sig)
 good_signed byte area pc sequence is = subst (IsSignedGood byte area) is (named_signed byte area pc)
 
--- and its pointer can be read
-pointer_read : (pointer flags : Bool) (n : Named) (sequence : Seq) → cond (not (pointer && flags)) (names.Bad bad.AreaBytes) n ≡ names.Good sequence
+-- the pointer of an area can be read that names nothing bad
+read_unless : (pointer flags : Bool) (n : Named) → ((why : BadWhy) → cond (not (pointer && flags)) (names.Bad bad.AreaBytes) n ≡ names.Bad why → ⊥)
     → pointer ≡ true
-pointer_read true flags n sequence is = refl
-pointer_read false flags n sequence is = absurd cc
+read_unless true flags n never = refl
+read_unless false flags n never = absurd (never bad.AreaBytes refl)
 
-pub good_read : (byte : ℕ → Option ℕ) (area : Area) (pc : ℕ) (sequence : Seq) → named byte area pc ≡ names.Good sequence
+pub read_unless_bad : (byte : ℕ → Option ℕ) (area : Area) (pc : ℕ) → ((why : BadWhy) → named byte area pc ≡ names.Bad why → ⊥)
     → are_readable byte (area.at + RSEQ_CS) 8 ≡ true
-good_read byte area pc sequence is =
-    pointer_read (are_readable byte (area.at + RSEQ_CS) 8) (are_readable byte (area.at + FLAGS) 4) _ sequence is
+read_unless_bad byte area pc never = read_unless (are_readable byte (area.at + RSEQ_CS) 8) (are_readable byte (area.at + FLAGS) 4) _ never
 
 -- an area that names nothing has a pointer of 0
 abbrev IsNullNothing : ℕ → Named → Type 0

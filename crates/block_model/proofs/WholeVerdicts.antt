@@ -1,11 +1,11 @@
 -- What `run` makes of a sequence that hangs: the process ends, or the sequence is cut, or it was dropped; and its thread isn't inside
 -- any more.
-use Rattle.std.proofs.Common.{◌≡◌, ℕ, ◌+◌, ◌-◌, ◌≤◌, List, [], ◌∷◌, ◌++◌, drop, refl, sym, ap, ◌∙◌, subst, arith, Bool, true, false, cond, Option, Some, None, Any, is_some, inl, inr}
-use Rattle.std.specs.Option.{option_map, option_map_or}
+use Rattle.std.proofs.Common.{◌≡◌, ℕ, ◌+◌, ◌-◌, ◌≤◌, List, [], ◌∷◌, ◌++◌, drop, refl, sym, ap, ◌∙◌, subst, Bool, true, false, cond, Option, Some, None, Any, is_some, inl, inr}
+use Rattle.std.specs.Option.{option_map_or}
 use Rattle.std.proofs.lemmas.Bool.{false≢true}
 use Rattle.mach_types.proofs.Laws.{eqb_same}
-use Rattle.mach_types.specs.Bytes.{overlay, word_at}
-use Rattle.mach_types.specs.Kernel.Areas.{area_of, named, pointer_of, writes_of}
+use Rattle.mach_types.specs.Bytes.{word_at}
+use Rattle.mach_types.specs.Kernel.Areas.{area_of, named, pointer_of}
 use Rattle.mach_types.specs.Kernel.Threads.{is_ready, running_on}
 use Rattle.mach_types.specs.declared.events.Kind.TheVariants as kind
 use Rattle.mach_types.specs.declared.sequences.Area.{Area}
@@ -15,7 +15,6 @@ use Rattle.mach_types.specs.declared.sequences.Outcome.TheVariants as comes_to
 use Rattle.mach_types.specs.declared.sequences.TheConstants.{RSEQ_CS}
 use Rattle.mach_types.specs.declared.threads.Saved.{Saved}
 use Rattle.mach_types.specs.declared.user_memory.Store.{Store}
-use Rattle.mach_types.specs.declared.user_memory.Write.{Write}
 use Rattle.mach_types.specs.declared.user_memory.Write.TheVariants.{Stored}
 use Rattle.block_model.specs.declared.acts.SeqEnd.{SeqEnd}
 use Rattle.block_model.specs.declared.acts.SeqEnd.TheVariants as ends
@@ -27,17 +26,18 @@ use Rattle.block_model.specs.Plain.{Plain}
 use Rattle.block_model.specs.Run.{IsRunHistory}
 use Rattle.block_model.specs.Sequences.{area_here, files_interrupted, interruption_here, is_inside_here, is_inside_waiting}
 use Rattle.block_model.specs.Setting.{Setting}
-use Rattle.block_model.specs.Whole.{EndsWholeAtVerdict, GoesOnAt, HasCause, IsCutProperly, IsDeadBy}
+use Rattle.block_model.specs.Whole.{EndsWholeAtVerdict, GoesOnWith, HasCause, IsCutProperly, IsDeadBy, IsLeftNull}
 use Rattle.block_model.proofs.Applied.{applied}
 use Rattle.block_model.proofs.Goods.Run.{run_ready}
 use Rattle.block_model.proofs.KernelTables.{ran_runs}
 use Rattle.block_model.proofs.NamedStays.{number_agrees}
 use Rattle.block_model.proofs.Runs.{settled}
 use Rattle.block_model.proofs.Touched.{hanging_is_touched}
+use Rattle.block_model.proofs.TouchedHanging.{sees_memory}
 use Rattle.block_model.proofs.WholeCauses.{cause_of_death, dies_of, outside_files, outside_goes_on}
-use Rattle.block_model.proofs.WholeEvents.{below, did, is_free, place, tables_before}
+use Rattle.block_model.proofs.WholeEvents.{among_own, below, did, is_free, place, tables_before}
 use Rattle.block_model.proofs.WholeHangs.{hangs}
-use Rattle.block_model.proofs.WholeInterruptions.{InsideOf, inside_of, memory_after, pointer_is_null, pointer_word}
+use Rattle.block_model.proofs.WholeInterruptions.{InsideOf, first_cleared, inside_of, memory_after, running_is_null, running_word}
 use Rattle.block_model.proofs.WholeNamed.{good_signed, outside_where_null}
 
 -- ENDS
@@ -55,20 +55,8 @@ dropped_outside o = go (abort_of o)
 -- ITS THREAD
 
 -- the pc alone changes
-among_own : (t : ℕ) (f g : Saved) → file_among ((t, g) ∷ []) t f ≡ g
-among_own t f g = ap (λ b. cond b g f) (eqb_same t)
-
 abbrev with_pc : ℕ → Saved → Saved
 with_pc at f = record f { pc = at }
-
--- the first write clears the pointer
-first_cleared : (its : Option Area) (area : Area) (o : Outcome) (at : ℕ) (ws : List Write) → its ≡ Some area → o ≡ comes_to.Aborted at
-    → Any (λ w. w ≡ Stored (record { at = area.at + RSEQ_CS; size = 8; value = 0 })) (writes_of its o ++ ws)
-first_cleared its area o at ws has aborts = rw (has, aborts) (0, Stored (record { at = area.at + RSEQ_CS; size = 8; value = 0 }), omega arith, refl, refl)
-
-seen_none : (o : Option ℕ) (a : ℕ) → option_map (overlay [] a) o ≡ o
-seen_none None a = refl
-seen_none (Some b) a = refl
 
 module _ (s : Setting) (e : Event) (before : History) (q : Sequence) (run : IsRunHistory s (e ∷ before)) (is : e.entry.kind ≡ kind.Run)
     (own : e.entry.tid.0 ≡ q.thread) (hung : hanging s q.thread before ≡ Some q) where
@@ -108,11 +96,9 @@ module _ (s : Setting) (e : Event) (before : History) (q : Sequence) (run : IsRu
   null_afterwards ran lives area has =
       let before_it : area_here here q.thread ≡ Some area = ap (λ (d : Done). area_of q.thread d.kernel.areas) (sym ran) ∙ has in
       let null : pointer_of (memory afterwards) area ≡ 0 =
-      subst (λ (d : Done). pointer_of (memory_after here d) area ≡ 0) (sym ran) (pointer_is_null here q.thread area before_it lives) in
+      subst (λ (d : Done). pointer_of (memory_after here d) area ≡ 0) (sym ran) (running_is_null here q.thread area before_it lives) in
       let none = none_waits (ap (λ (d : Done). d.executed) ran) (ap (λ (d : Done). d.drained) ran) in
-      let seen : (a : ℕ) → view afterwards a ≡ memory afterwards a =
-      λ a. ap (λ (ws : List Store). option_map (overlay ws a) (memory afterwards a)) none ∙ seen_none (memory afterwards a) a in
-      number_agrees (memory afterwards) (view afterwards) (area.at + RSEQ_CS) 8 (record { same = λ a low high. seen a }) ∙ null
+      number_agrees (memory afterwards) (view afterwards) (area.at + RSEQ_CS) 8 (record { same = λ a low high. sees_memory afterwards a none }) ∙ null
 
   outside_running : e.done ≡ done_running here q.thread came_to → lives_on here q.thread came_to ≡ true → is_inside_at s e.entry.hart.0 (e ∷ before) ≡ false
   outside_running ran lives =
@@ -141,7 +127,7 @@ module _ (s : Setting) (e : Event) (before : History) (q : Sequence) (run : IsRu
         aborted = λ at aborts. inr dead;
         dropped = λ drops. let other : ends.Dead ≡ ends.Dropped = sym dead ∙ drops in absurd cc;
         kept = λ drops. let other : ends.Dead ≡ ends.Dropped = sym dead ∙ drops in absurd cc;
-        dead = λ so. subst (λ k. IsDeadBy k e) (sym is) (ap (λ (d : Done). d.ended) killed);
+        dead = λ so. subst (λ k. IsDeadBy s k e before) (sym is) (ap (λ (d : Done). d.ended) killed);
         cause = λ so. cause_of_death here q.thread dies;
         caused = λ cause. dead;
       }
@@ -154,12 +140,12 @@ module _ (s : Setting) (e : Event) (before : History) (q : Sequence) (run : IsRu
   abbrev Inside : Type 0
   Inside = InsideOf (memory here) (is_writable here) (area_here here q.thread) (here.file q.thread).pc
 
-  goes_on_at : (at : ℕ) → e.done ≡ done_running here q.thread came_to → came_to ≡ comes_to.Aborted at → GoesOnAt s e.entry.kind e before q at
+  goes_on_at : (at : ℕ) → e.done ≡ done_running here q.thread came_to → came_to ≡ comes_to.Aborted at → GoesOnWith s e.entry.kind e before q.thread (with_pc at (file s q.thread q.reached))
   goes_on_at at ran aborts =
       let f = file s q.thread before in
       let files : e.done.files ≡ (q.thread, with_pc at f) ∷ [] =
       ap (λ (d : Done). d.files) ran ∙ ap (files_interrupted here q.thread) aborts in
-      subst (λ k. GoesOnAt s k e before q at) (sym is)
+      subst (λ k. GoesOnWith s k e before q.thread (with_pc at (file s q.thread q.reached))) (sym is)
       (ap (λ (fs : List (ℕ × Saved)). file_among fs q.thread f) files
       ∙ among_own q.thread f (with_pc at f)
       ∙ ap (with_pc at) (hangs s before q.thread q run.0 hung).file)
@@ -180,8 +166,9 @@ module _ (s : Setting) (e : Event) (before : History) (q : Sequence) (run : IsRu
         signed = subst (λ n. word_at (memory here) (n - 4) 4 ≡ Some its.area.sig) same signed.1;
         cleared = subst (λ (d : Done). Any (λ w. w ≡ Stored (record { at = its.area.at + RSEQ_CS; size = 8; value = 0 })) d.entered) (sym ran)
             (first_cleared (area_here here q.thread) its.area came_to at _ its.registered aborts);
-        null = subst (λ (d : Done). word_at (memory_after here d) (its.area.at + RSEQ_CS) 8 ≡ Some 0) (sym ran)
-            (pointer_word here q.thread its.area its.registered lives pc its.sequence its.good);
+        null = subst (λ k. IsLeftNull s k e before q.thread its.area) (sym is)
+            (subst (λ (d : Done). word_at (memory_after here d) (its.area.at + RSEQ_CS) 8 ≡ Some 0) (sym ran)
+            (running_word here q.thread its.area its.registered lives));
         goes_on = goes_on_at at ran aborts;
       }
 

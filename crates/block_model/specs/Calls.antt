@@ -5,6 +5,7 @@ use Rattle.mach_types.specs.declared.errors.TheConstants.{ENOSYS}
 use Rattle.block_model.specs.Here.{Here}
 use Rattle.block_model.specs.Calls.Answers.{CallDone, call_number, refused}
 use Rattle.block_model.specs.Calls.Affinity.{getcpu, sched_getaffinity, sched_setaffinity, sched_yield}
+use Rattle.block_model.specs.Calls.Barriers.{membarrier}
 use Rattle.block_model.specs.Calls.Cloning.{clone}
 use Rattle.block_model.specs.Calls.Console.{write, writev}
 use Rattle.block_model.specs.Calls.Ending.{exit, exit_group}
@@ -12,8 +13,10 @@ use Rattle.block_model.specs.Calls.Futexes.{futex}
 use Rattle.block_model.specs.Calls.Memory.{brk, mmap, mprotect, munmap}
 use Rattle.block_model.specs.Calls.Numbers.{getpid, gettid, set_tid_address}
 use Rattle.block_model.specs.Calls.Sequences.{rseq}
+use Rattle.block_model.specs.Calls.Signals.{rt_sigaction, rt_sigprocmask, rt_sigreturn, tgkill, tkill}
 pub mod Affinity
 pub mod Answers
+pub mod Barriers
 pub mod Cloning
 pub mod Console
 pub mod Ending
@@ -21,6 +24,7 @@ pub mod Futexes
 pub mod Memory
 pub mod Numbers
 pub mod Sequences
+pub mod Signals
 
 -- the call of this number; one that isn't there answers ENOSYS
 abbrev pub call_of : ℕ → Here → ℕ → CallDone
@@ -34,6 +38,11 @@ call_of number here t =
     else if number == 122 then sched_setaffinity here t
     else if number == 123 then sched_getaffinity here t
     else if number == 124 then sched_yield here t
+    else if number == 130 then tkill here t
+    else if number == 131 then tgkill here t
+    else if number == 134 then rt_sigaction here t
+    else if number == 135 then rt_sigprocmask here t
+    else if number == 139 then rt_sigreturn here t
     else if number == 168 then getcpu here t
     else if number == 172 then getpid here t
     else if number == 178 then gettid here t
@@ -42,6 +51,7 @@ call_of number here t =
     else if number == 220 then clone here t
     else if number == 222 then mmap here t
     else if number == 226 then mprotect here t
+    else if number == 283 then membarrier here t
     else if number == 293 then rseq here t
     else refused here t ENOSYS
 

@@ -7,7 +7,7 @@ use Rattle.mach_types.specs.Registers.{register}
 use Rattle.mach_types.specs.declared.events.Choice.TheVariants as asked
 use Rattle.mach_types.specs.declared.events.Entry.{Entry}
 use Rattle.rv_inst.specs.declared.effects.Effect.TheVariants.{Call}
-use Rattle.block_model.specs.Calls.Answers.{negative, returned}
+use Rattle.block_model.specs.Calls.Answers.{call_number, negative, returned}
 use Rattle.block_model.specs.Deciding.{done, event}
 use Rattle.block_model.specs.Events.Exec.{next_effect}
 use Rattle.block_model.specs.Here.{Here}
@@ -30,10 +30,11 @@ pub record IsError (value : ℕ) : Type 0 where
   pub most : errno ≤ 4095
   pub is : value ≡ negative errno
 
--- a guest call gives an error: it ends neither the process nor its thread, and its thread then has an error
--- in a0
+-- a guest call gives an error: it isn't rt_sigreturn, which gives no answer (sigreturn(2)); it ends neither the process nor its
+-- thread, and its thread then has an error in a0
 pub record GivesError (s : Setting) (before : History) (entry : Entry) : Type 0 where
   pub call : IsCall (here_in_history s before entry.hart.0) entry
+  pub answers : call_number (here_in_history s before entry.hart.0) entry.tid.0 ≢ 139
   pub goes_on : (done s before entry).ended ≡ None
   pub stays : is_live entry.tid.0 (kernel s (up_to s before entry)).threads ≡ true
   pub error : IsError (register (file s entry.tid.0 (up_to s before entry)).file 10)

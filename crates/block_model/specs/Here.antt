@@ -11,8 +11,15 @@ use Rattle.mach_types.specs.Kernel.Threads.{running_on}
 use Rattle.rv_inst.specs.Execution.{seen_byte}
 use Rattle.block_model.specs.Setting.{Setting}
 
+-- a barrier: the harts that have to take its request, and whether it asks that their restartable sequences be begun anew
+pub record Barrier : Type 0 where
+  pub targets : ℕ
+  pub restart : Bool
+
 -- the setting; the hart that is asked; the file of each thread; each byte of memory; the waiting stores of each hart, the oldest
--- first; where the aligned 8 bytes begin that the hart has reserved; and the kernel's record
+-- first; where the aligned 8 bytes begin that the hart has reserved; the harts whose barriers have requests pending at the hart, and
+-- whether one of these asks for a restart; the harts that the barrier of the hart's thread waits for, where the thread waits in one;
+-- and the kernel's record
 pub record Here : Type 0 where
   pub setting : Setting
   pub hart : ℕ
@@ -20,6 +27,9 @@ pub record Here : Type 0 where
   pub byte : ℕ → ℕ
   pub waiting : ℕ → List Store
   pub reserved : Option ℕ
+  pub requests : ℕ
+  pub restart : Bool
+  pub awaits : Option ℕ
   pub kernel : Kernel
 
 -- a byte of memory, where it can be read
@@ -50,7 +60,8 @@ runs here = running_on here.hart here.kernel.threads
 
 -- what an event did: the files of threads that it set; the plain store that it executed (none or one); how many waiting
 -- stores of its hart entered memory; the writes that entered memory in it, in order; its hart's reservation after it;
--- whether it is a `run`; what the interruption of its thread came to, where it is a `run`, a `signal`, or a `take` that asks a
+-- the barrier that its thread began; whether its hart took the requests that were pending there; whether the barrier of its thread
+-- returned; whether it is a `run`; what the interruption of its thread came to, where it is a `run`, a `signal`, or a `take` that asks a
 -- running thread to restart; how many instructions were executed (none or one); the kernel's record after it; and how it ended
 -- the process
 pub record Done : Type 0 where
@@ -59,6 +70,9 @@ pub record Done : Type 0 where
   pub drained : ℕ
   pub entered : List Write
   pub reserved : Option ℕ
+  pub barrier : Option Barrier
+  pub took : Bool
+  pub returned : Bool
   pub started : Bool
   pub interrupted : Option Outcome
   pub instructions : ℕ
@@ -73,6 +87,9 @@ nothing here = record {
   drained = 0;
   entered = [];
   reserved = here.reserved;
+  barrier = None;
+  took = false;
+  returned = false;
   started = false;
   interrupted = None;
   instructions = 0;

@@ -1,5 +1,5 @@
 -- Histories: what happened, newest first, and what is read by looking back. What an event did says all that a look back needs.
-use Rattle.std.specs.Prelude.{ℕ, ◌+◌, ◌==◌, List, [], ◌∷◌, ◌++◌, Bool, if◌then◌else◌, Option, None, drop}
+use Rattle.std.specs.Prelude.{ℕ, ◌+◌, ◌==◌, List, [], ◌∷◌, ◌++◌, Bool, false, if◌then◌else◌, Option, None, drop}
 use Rattle.std.specs.Option.{option_or}
 use Rattle.mach_types.specs.declared.events.Entry.{Entry}
 use Rattle.mach_types.specs.declared.limits.End.{End}
@@ -15,6 +15,7 @@ use Rattle.rv_inst.specs.Execution.{lost_by}
 use Rattle.block_model.specs.Setting.{Setting}
 use Rattle.block_model.specs.Kernel.{first_kernel}
 use Rattle.block_model.specs.Here.{Here, Done, writable_in}
+use Rattle.block_model.specs.Requests.{awaits_after, requests_after, restart_after}
 
 -- an entry of the log, and what it did
 pub record Event : Type 0 where
@@ -72,6 +73,20 @@ abbrev pub reservation : ℕ → History → Option ℕ
 reservation h [] = None
 reservation h (e ∷ before) = if is_of_hart h e then e.done.reserved else lost_after e.done.entered (reservation h before)
 
+-- the harts whose barriers have requests pending at hart h; whether one of these asks for a restart; and the harts that the barrier of
+-- the thread on hart h waits for, where it waits in one
+abbrev pub requests : ℕ → History → ℕ
+requests h [] = 0
+requests h (e ∷ before) = requests_after h e.entry.hart.0 e.done (requests h before)
+
+abbrev pub restart : ℕ → History → Bool
+restart h [] = false
+restart h (e ∷ before) = restart_after h e.entry.hart.0 e.done (restart h before)
+
+abbrev pub awaits : ℕ → History → Option ℕ
+awaits h [] = None
+awaits h (e ∷ before) = awaits_after h e.entry.hart.0 e.done (awaits h before)
+
 -- the kernel's record
 abbrev pub kernel : Setting → History → Kernel
 kernel s [] = first_kernel s
@@ -114,5 +129,8 @@ here_in_history s before h = record {
   byte = λ a. byte s before a;
   waiting = λ k. waiting k before;
   reserved = reservation h before;
+  requests = requests h before;
+  restart = restart h before;
+  awaits = awaits h before;
   kernel = kernel s before;
 }

@@ -6,8 +6,12 @@ use Rattle.block_model.specs.Record.{Kernel}
 use Rattle.mach_types.specs.Kernel.Pages.{Pages}
 use Rattle.mach_types.specs.Kernel.Threads.{start_threads, with_state, with_clear, with_waiter, with_woken, with_child, without}
 use Rattle.mach_types.specs.Kernel.Scheduling.{start_scheduling, with_ready, without_ready, with_thread, with_affinity, forget}
+use Rattle.mach_types.specs.Kernel.Signals.{Signalling, start_signalling}
+use Rattle.mach_types.specs.Kernel.Signals as signals
 use Rattle.mach_types.specs.declared.sequences.Area.{Area}
 use Rattle.mach_types.specs.Kernel.Areas.{with_area, without_area}
+use Rattle.mach_types.specs.Kernel.Barriers.{none_registered}
+use Rattle.mach_types.specs.declared.barriers.Registered.{Registered}
 use Rattle.elf_load.specs.Start.{start_runs}
 use Rattle.block_model.specs.Ids.{with_id, without_id}
 use Rattle.block_model.specs.Setting.{Setting}
@@ -18,8 +22,10 @@ abbrev pub first_kernel : Setting → Kernel
 first_kernel s = record {
   threads = start_threads;
   scheduling = start_scheduling s.limits.harts;
+  signals = start_signalling;
   areas = [];
   ids = [];
+  barriers = none_registered;
   pages = record {
     runs = start_runs s.program.pages;
     free = s.limits.frames - (length s.program.pages + STACK_PAGES + 1);
@@ -48,15 +54,16 @@ left t k = record k {
 abbrev pub waited : ℕ → ℕ → Kernel → Kernel
 waited t at k = record k { threads = with_waiter t at k.threads; ids = without_id t k.ids }
 
--- a waiting thread waits no longer, and is the last ready thread
+-- a waiting thread waits no longer, woken or by a signal, and is the last ready thread
 abbrev pub woken : ℕ → Kernel → Kernel
 woken t k = record k { threads = with_woken t k.threads; scheduling = with_ready t k.scheduling }
 
--- a running thread is gone, and with it its area
+-- a running thread is gone, and with it its signals and its area
 abbrev pub gone : ℕ → Kernel → Kernel
 gone t k = record k {
   threads = without t k.threads;
   scheduling = forget t k.scheduling;
+  signals = signals.forget t k.signals;
   areas = without_area t k.areas;
   ids = without_id t k.ids;
 }
@@ -65,9 +72,13 @@ gone t k = record k {
 abbrev pub next_number : Kernel → ℕ
 next_number k = k.threads.given + 1
 
--- a thread has a child, which has its affinity and is the last ready thread
+-- a thread has a child, which has its affinity and its mask, and is the last ready thread
 abbrev pub had_child : ℕ → Kernel → Kernel
-had_child t k = record k { threads = with_child k.threads; scheduling = with_ready (next_number k) (with_thread t (next_number k) k.scheduling) }
+had_child t k = record k {
+  threads = with_child k.threads;
+  scheduling = with_ready (next_number k) (with_thread t (next_number k) k.scheduling);
+  signals = signals.with_thread t (next_number k) k.signals;
+}
 
 -- a thread may run on these harts alone
 abbrev pub restricted : ℕ → ℕ → Kernel → Kernel
@@ -83,6 +94,14 @@ registered t area k = record k { areas = with_area t area k.areas }
 
 abbrev pub unregistered : ℕ → Kernel → Kernel
 unregistered t k = record k { areas = without_area t k.areas }
+
+-- something was done with actions, masks or pending signals: these are the signals after it
+abbrev pub signalled : Signalling → Kernel → Kernel
+signalled g k = record k { signals = g }
+
+-- the process is registered for these barriers
+abbrev pub for_barriers : Registered → Kernel → Kernel
+for_barriers r k = record k { barriers = r }
 
 -- pages were mapped, removed or protected, or the break moved: these are the pages after it
 abbrev pub paged : Pages → Kernel → Kernel

@@ -1,4 +1,5 @@
 pub mod Acts
+pub mod Barriers
 pub mod Calls
 pub mod Choosing
 pub mod Deciding
@@ -15,6 +16,7 @@ pub mod PlainOf
 pub mod PlainSays
 pub mod Record
 pub mod Replay
+pub mod Requests
 pub mod Run
 pub mod Sequences
 pub mod Setting

@@ -1,6 +1,6 @@
 -- The machine step by step: a state of plain values, and what an event makes of it. It keeps what a log would have to be looked
 -- back for, and never looks at a log (own).
-use Rattle.std.specs.Prelude.{ℕ, ◌+◌, suc, zero, ◌==◌, List, [], ◌∷◌, ◌++◌, if◌then◌else◌, Option, Some, None, drop, Result, Ok, Err, fold}
+use Rattle.std.specs.Prelude.{ℕ, ◌+◌, suc, zero, ◌==◌, Bool, false, List, [], ◌∷◌, ◌++◌, if◌then◌else◌, Option, Some, None, drop, Result, Ok, Err, fold}
 use Rattle.std.specs.Option.{option_or}
 use Rattle.mach_types.specs.Events.{choice_of}
 use Rattle.mach_types.specs.declared.events.Choice.{Choice}
@@ -20,14 +20,19 @@ use Rattle.block_model.specs.Events.{done_of}
 use Rattle.block_model.specs.History.{file_among, lost_after}
 use Rattle.block_model.specs.Deciding.{decide_in, final, end_unless}
 use Rattle.block_model.specs.Replay.{Ask, is_as_said}
+use Rattle.block_model.specs.Requests.{awaits_after, requests_after, restart_after}
 use Rattle.block_model.specs.Solo.{solo_choice_in}
 
--- by hart: the stores that wait, the oldest first, the reservation, how many events and how many instructions since a thread
+-- by hart: the stores that wait, the oldest first, the reservation, the requests that are pending and whether one asks for a restart,
+-- what the thread's barrier waits for, how many events and how many instructions since a thread
 -- began to run; by thread: its file; memory, byte by byte; the kernel's record; how many events were made; and how one ended
 -- the process, if one did
 pub record Plain : Type 0 where
   pub waiting : ℕ → List Store
   pub reserved : ℕ → Option ℕ
+  pub requests : ℕ → ℕ
+  pub restart : ℕ → Bool
+  pub awaits : ℕ → Option ℕ
   pub events : ℕ → ℕ
   pub ran : ℕ → ℕ
   pub file : ℕ → Saved
@@ -41,6 +46,9 @@ abbrev pub plain_start : Setting → Plain
 plain_start s = record {
   waiting = λ h. [];
   reserved = λ h. None;
+  requests = λ h. 0;
+  restart = λ h. false;
+  awaits = λ h. None;
   events = λ h. 0;
   ran = λ h. 0;
   file = λ t. start_file s.program;
@@ -59,6 +67,9 @@ here_in_plain s m h = record {
   byte = m.byte;
   waiting = m.waiting;
   reserved = m.reserved h;
+  requests = m.requests h;
+  restart = m.restart h;
+  awaits = m.awaits h;
   kernel = m.kernel;
 }
 
@@ -67,6 +78,9 @@ abbrev pub apply : ℕ → Done → Plain → Plain
 apply h d m = record {
   waiting = λ k. if h == k then drop d.drained (m.waiting k ++ d.executed) else m.waiting k;
   reserved = λ k. if h == k then d.reserved else lost_after d.entered (m.reserved k);
+  requests = λ k. requests_after k h d (m.requests k);
+  restart = λ k. restart_after k h d (m.restart k);
+  awaits = λ k. awaits_after k h d (m.awaits k);
   events = λ k. if h == k then m.events k + 1 else m.events k;
   ran = λ k. if h == k then (if d.started then 0 else m.ran k) + d.instructions else m.ran k;
   file = λ t. file_among d.files t (m.file t);

@@ -1,9 +1,10 @@
 -- What is read of one hart at a place of a log: its next instruction, and what a scheduler sees of it.
-use Rattle.std.specs.Prelude.{ℕ, Bool, false, ◌&&◌, length, Option, Some, None, is_none}
+use Rattle.std.specs.Prelude.{ℕ, ◌==◌, Bool, false, not, ◌&&◌, length, Option, Some, None, is_none, is_some}
 use Rattle.std.specs.Option.{option_map, option_map_or}
 use Rattle.mach_types.specs.declared.events.Sight.{Sight}
 use Rattle.mach_types.specs.declared.events.Tid.{Tid}
 use Rattle.mach_types.specs.Kernel.Scheduling as scheduling
+use Rattle.mach_types.specs.Kernel.Signals.{next_for}
 use Rattle.rv_inst.specs.Local.{is_register_only}
 use Rattle.rv_inst.specs.declared.effects.Effect.{Effect}
 use Rattle.block_model.specs.Instruction.{next_instruction}
@@ -32,17 +33,26 @@ thread t = record { 0 = t }
 abbrev pub first_ready : Here → Option Tid
 first_ready here = option_map thread (scheduling.first_for here.hart here.kernel.scheduling)
 
+-- whether a signal can be delivered to the thread on the hart
+abbrev pub is_deliverable_on : Here → Option ℕ → Bool
+is_deliverable_on here None = false
+is_deliverable_on here (Some t) = is_some (next_for t here.kernel.signals)
+
+-- whether the barrier of the hart's thread can return, since no hart is left that has to take its request
+abbrev pub is_all_taken : Option ℕ → Bool
+is_all_taken awaits = option_map_or (λ left. left == 0) awaits false
+
 -- what a scheduler sees of the hart, which executed so many instructions since a thread began to run there, and which has this
--- credit. No barrier, no request and no signal can come yet
+-- credit
 abbrev pub sight_in : Here → ℕ → ℕ → Sight
 sight_in here ran credit = record {
   idle = is_none (runs here);
   first_ready = first_ready here;
-  in_barrier = false;
-  all_taken = false;
-  requested = false;
+  in_barrier = is_some here.awaits;
+  all_taken = is_all_taken here.awaits;
+  requested = not (here.requests == 0);
   stores = length (waiting_here here);
-  deliverable = false;
+  deliverable = is_deliverable_on here (runs here);
   exec_enabled = is_none (refusal_exec here);
   local = is_local_on here (runs here);
   ran = ran;

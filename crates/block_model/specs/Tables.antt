@@ -1,4 +1,4 @@
--- What holds of the threads of a process and of their scheduling together at each place of a block run.
+-- What holds of the threads of a process together with their scheduling, their signals and their areas at each place of a block run.
 use Rattle.std.specs.Prelude.{ℕ, ◌≡◌, ◌<◌, ◌≤◌, if◌then◌else◌, List, Some, map, true}
 use Rattle.std.specs.List.{list_any}
 use Rattle.mach_types.specs.declared.events.Hart.{Hart}
@@ -8,6 +8,7 @@ use Rattle.mach_types.specs.Kernel.Areas.{is_area_of}
 use Rattle.mach_types.specs.declared.sequences.Area.{Area}
 use Rattle.mach_types.specs.Kernel.Threads.{Threads, IsThreads, state_of, is_ready, is_live, numbers, times}
 use Rattle.mach_types.specs.Kernel.Scheduling.{Scheduling, is_of}
+use Rattle.mach_types.specs.Kernel.Signals.{Signalling}
 
 -- the state of a thread that runs on hart h
 abbrev pub on : ℕ → ThreadState
@@ -27,3 +28,7 @@ pub record IsTables (harts : ℕ) (ts : Threads) (sc : Scheduling) : Type 0 wher
 pub record AreOfLive (ts : Threads) (areas : List (ℕ × Area)) : Type 0 where
   pub live : (t : ℕ) → list_any (is_area_of t) areas ≡ true → is_live t ts ≡ true
   pub one : (t : ℕ) → times t (map (λ pair. pair.0) areas) ≤ 1
+
+-- the threads of which a mask and pending signals are kept are the live ones, in the same order
+abbrev pub AreSignalsOfLive : Threads → Signalling → Type 0
+AreSignalsOfLive ts g = map (λ th. th.tid) g.threads ≡ numbers ts.live

@@ -13,6 +13,7 @@ use Rattle.rv_inst.specs.declared.effects.Effect.{Effect}
 use Rattle.rv_inst.specs.declared.effects.Effect.TheVariants.{Call}
 use Rattle.block_model.specs.Deciding.{event}
 use Rattle.block_model.specs.Events.Exec.{next_effect, next_fault}
+use Rattle.block_model.specs.Events.Take.{done_take}
 use Rattle.block_model.specs.Here.{Here, view}
 use Rattle.block_model.specs.History.{History, here_in_history, running}
 use Rattle.block_model.specs.Instruction as instruction
@@ -24,10 +25,15 @@ pub record IsPlainExec (here : Here) (t : ℕ) (entry : Entry) : Type 0 where
   pub no_fault : next_fault here t ≡ None
   pub no_call : next_effect here t ≢ Some Call
 
--- what an entry of a walk's hart may be: the oldest waiting store enters memory, or the thread executes such
+-- the hart takes requests of barriers, which interrupts nothing
+pub record IsPlainTake (here : Here) (entry : Entry) : Type 0 where
+  pub takes : choice_of entry ≡ asked.Take
+  pub quiet : (done_take here).interrupted ≡ None
+
+-- what an entry of a walk's hart may be: the oldest waiting store enters memory, the hart takes requests, or the thread executes such
 -- an instruction
 abbrev pub IsOfWalk : Here → ℕ → Entry → Type 0
-IsOfWalk here t entry = (choice_of entry ≡ asked.Drain) ⊎ (IsPlainExec here t entry)
+IsOfWalk here t entry = (choice_of entry ≡ asked.Drain) ⊎ (IsPlainTake here entry ⊎ IsPlainExec here t entry)
 
 -- each entry of hart h in a stretch, which comes after a history
 abbrev pub AreOfWalk : Setting → ℕ → ℕ → History → List Entry → Type 0

@@ -1,11 +1,13 @@
 -- Whole logs: what holds of each restartable sequence of a log (rseq(2)). Each condition is one at an event, or at a place, and is
 -- read by looking back from it.
-use Rattle.std.specs.Prelude.{ℕ, ◌+◌, ◌-◌, ◌≡◌, ◌≤◌, ◌/◌, ◌⊎◌, Bool, true, false, not, ◌&&◌, ◌||◌, ◌==◌, List, [], ◌∷◌, Any, length, nat_lt, Option, Some, None, is_some}
+use Rattle.std.specs.Prelude.{ℕ, ◌+◌, ◌-◌, ◌≡◌, ◌≤◌, ◌/◌, ◌⊎◌, Bool, true, false, not, ◌&&◌, ◌||◌, ◌==◌, List, [], ◌∷◌, ◌++◌, Any, length, nat_lt, Option, Some, None, is_some}
 use Rattle.std.specs.Option.{option_map_or}
 use Rattle.std.specs.List.{list_any}
 use Rattle.mach_types.specs.Bytes.{word_at}
 use Rattle.mach_types.specs.Kernel.Areas.{is_clearable, is_inside, pointer_of}
 use Rattle.mach_types.specs.Kernel.Pages.{permission_of}
+use Rattle.mach_types.specs.Kernel.SignalFrames.{can_write_frame, frame_at, frame_writes, handler_file, stack_pointer}
+use Rattle.mach_types.specs.Kernel.Signals.{action_of, is_handler, mask_of, next_for}
 use Rattle.mach_types.specs.Kernel.Threads.{is_ready}
 use Rattle.mach_types.specs.declared.address_space.TheConstants.{PAGE_SIZE}
 use Rattle.mach_types.specs.declared.events.Kind.{Kind}
@@ -19,7 +21,8 @@ use Rattle.mach_types.specs.declared.sequences.Named.TheVariants as names
 use Rattle.mach_types.specs.declared.sequences.Outcome.TheVariants as comes_to
 use Rattle.mach_types.specs.declared.sequences.Seq.{Seq}
 use Rattle.mach_types.specs.declared.sequences.TheConstants.{AREA_SIZE, DESCRIPTOR_SIZE, RSEQ_CS}
-use Rattle.mach_types.specs.declared.signals.TheConstants.{SIGSEGV}
+use Rattle.mach_types.specs.declared.signals.TheConstants.{SIGNAL_FRAME_SIZE, SIGSEGV}
+use Rattle.mach_types.specs.declared.threads.Saved.{Saved}
 use Rattle.mach_types.specs.declared.user_memory.Store.{Store}
 use Rattle.mach_types.specs.declared.user_memory.Write.{Write}
 use Rattle.mach_types.specs.declared.user_memory.Write.TheVariants.{Stored, Zeroed}
@@ -29,9 +32,20 @@ use Rattle.block_model.specs.declared.acts.SeqEnd.TheVariants as ends
 use Rattle.block_model.specs.Acts.{Sequence, end_at_verdict, end_before, end_so_far, hanging, is_inside_at, is_instruction, named_at, sequence_on}
 use Rattle.block_model.specs.Events.Exec.{next_effect, next_fault}
 use Rattle.block_model.specs.Here.{Here, is_writable, memory, view}
-use Rattle.block_model.specs.History.{Event, History, file, here_in_history, kernel, running}
+use Rattle.block_model.specs.History.{Event, History, can_be_written, file, here_in_history, kernel, running}
 use Rattle.block_model.specs.Sequences.{area_here, can_write_words, named_waiting}
 use Rattle.block_model.specs.Setting.{Setting}
+
+-- BYTES
+
+-- bytes of memory: so many from an address on
+pub record Bytes : Type 0 where
+  pub at : ℕ
+  pub count : ℕ
+
+-- whether one of so many bytes from an address on is one of these
+abbrev pub meets : Bytes → ℕ → ℕ → Bool
+meets bytes at n = nat_lt at (bytes.at + bytes.count) && nat_lt bytes.at (at + n)
 
 -- WHERE ITS THREAD IS
 
@@ -48,21 +62,49 @@ pub record HangsReady (s : Setting) (before : History) (t : ℕ) (q : Sequence) 
 
 -- CUT
 
--- where an interrupted thread goes on: at an abort handler, with all other registers as they were. (A signal can't come yet; what
--- its frame holds is said with it.)
-abbrev pub GoesOnAt : Setting → Kind → Event → History → Sequence → ℕ → Type 0
-GoesOnAt s kind.Exec e before q at = ⊥
-GoesOnAt s kind.Drain e before q at = ⊥
-GoesOnAt s kind.Take e before q at = file s q.thread (e ∷ before) ≡ record (file s q.thread q.reached) { pc = at }
-GoesOnAt s kind.Done e before q at = ⊥
-GoesOnAt s kind.Preempt e before q at = ⊥
-GoesOnAt s kind.Run e before q at = file s q.thread (e ∷ before) ≡ record (file s q.thread q.reached) { pc = at }
-GoesOnAt s kind.Signal e before q at = ⊥
+-- the handler of the signal that is delivered to thread t was entered, and returns to this file: the frame, which is what the event
+-- wrote last, has the file and the mask that the thread had, and the thread starts the handler
+pub record IsHandled (s : Setting) (e : Event) (before : History) (t : ℕ) (saved : Saved) : Type 0 where
+  pub signal : ℕ
+  pub next : next_for t (kernel s before).signals ≡ Some signal
+  pub handler : is_handler (action_of signal (kernel s before).signals) ≡ true
+  pub earlier : List Write
+  pub frame : e.done.entered ≡ earlier ++ frame_writes saved (mask_of t (kernel s before).signals)
+  pub starts : file s t (e ∷ before) ≡ handler_file signal (action_of signal (kernel s before).signals) saved
+
+-- a thread t that an event interrupts goes on with this file: at once, or where a signal is delivered once the handler returns
+abbrev pub GoesOnWith : Setting → Kind → Event → History → ℕ → Saved → Type 0
+GoesOnWith s kind.Exec e before t saved = ⊥
+GoesOnWith s kind.Drain e before t saved = ⊥
+GoesOnWith s kind.Take e before t saved = file s t (e ∷ before) ≡ saved
+GoesOnWith s kind.Done e before t saved = ⊥
+GoesOnWith s kind.Preempt e before t saved = ⊥
+GoesOnWith s kind.Run e before t saved = file s t (e ∷ before) ≡ saved
+GoesOnWith s kind.Signal e before t saved = IsHandled s e before t saved
+
+-- the pointer of an area is 0, as memory is
+abbrev pub IsNull : Setting → History → ℕ → Area → Type 0
+IsNull s before h area = word_at (memory (here_in_history s before h)) (area.at + RSEQ_CS) 8 ≡ Some 0
+
+-- the frame of a handler that is entered in thread t lies on the pointer of an area
+abbrev pub lies_on_pointer : Setting → History → ℕ → Area → Bool
+lies_on_pointer s before t area =
+    meets (record { at = area.at + RSEQ_CS; count = 8 }) (frame_at (stack_pointer (file s t before))) SIGNAL_FRAME_SIZE
+
+-- an event that interrupts thread t leaves the pointer of its area 0; but the frame of a signal's handler may lie on it
+abbrev pub IsLeftNull : Setting → Kind → Event → History → ℕ → Area → Type 0
+IsLeftNull s kind.Exec e before t area = ⊥
+IsLeftNull s kind.Drain e before t area = ⊥
+IsLeftNull s kind.Take e before t area = IsNull s (e ∷ before) e.entry.hart.0 area
+IsLeftNull s kind.Done e before t area = ⊥
+IsLeftNull s kind.Preempt e before t area = ⊥
+IsLeftNull s kind.Run e before t area = IsNull s (e ∷ before) e.entry.hart.0 area
+IsLeftNull s kind.Signal e before t area = lies_on_pointer s before t area ≡ false → IsNull s (e ∷ before) e.entry.hart.0 area
 
 -- an interruption e after a history cut a sequence: the area of its thread named a good sequence with this abort handler, in which
 -- the thread was; the word before the handler could be read and was the signature with which the area was registered; the pointer
--- of the area became 0, and is 0 after e; and the thread goes on at the handler. No store of a hart waits where it interrupts a
--- thread, so memory is what the hart sees
+-- of the area became 0, and is left so by e; and the thread goes on at the handler, with all other registers as they were. No store
+-- of a hart waits where it interrupts a thread, so memory is what the hart sees
 pub record IsCutProperly (s : Setting) (e : Event) (before : History) (q : Sequence) (at : ℕ) : Type 0 where
   pub area : Area
   pub named : Seq
@@ -73,20 +115,12 @@ pub record IsCutProperly (s : Setting) (e : Event) (before : History) (q : Seque
   pub above : 4 ≤ at
   pub signed : word_at (memory (here_in_history s before e.entry.hart.0)) (at - 4) 4 ≡ Some area.sig
   pub cleared : Any (λ w. w ≡ Stored (record { at = area.at + RSEQ_CS; size = 8; value = 0 })) e.done.entered
-  pub null : word_at (memory (here_in_history s (e ∷ before) e.entry.hart.0)) (area.at + RSEQ_CS) 8 ≡ Some 0
-  pub goes_on : GoesOnAt s e.entry.kind e before q at
+  pub null : IsLeftNull s e.entry.kind e before q.thread area
+  pub goes_on : GoesOnWith s e.entry.kind e before q.thread (record (file s q.thread q.reached) { pc = at })
 
 -- DROPPED
 
--- bytes of memory: so many from an address on
-pub record Bytes : Type 0 where
-  pub at : ℕ
-  pub count : ℕ
-
 -- whether a store, or a write, has one of these bytes
-abbrev pub meets : Bytes → ℕ → ℕ → Bool
-meets bytes at n = nat_lt at (bytes.at + bytes.count) && nat_lt bytes.at (at + n)
-
 abbrev pub store_meets : Bytes → Store → Bool
 store_meets bytes w = meets bytes w.at w.size
 
@@ -166,16 +200,6 @@ pub record IsFatalInstruction (s : Setting) (e : Event) (before : History) : Typ
   pub instruction : is_instruction e.entry.kind ≡ true
   pub fails : faults_or_calls (here_in_history s before e.entry.hart.0) e.entry.tid.0 ≡ true
 
--- how an interruption ends the process, by its kind: SIGSEGV. (A signal that is delivered may do so by itself; it can't come yet.)
-abbrev pub IsDeadBy : Kind → Event → Type 0
-IsDeadBy kind.Exec e = ⊥
-IsDeadBy kind.Drain e = ⊥
-IsDeadBy kind.Take e = e.done.ended ≡ Some (Killed SIGSEGV)
-IsDeadBy kind.Done e = ⊥
-IsDeadBy kind.Preempt e = ⊥
-IsDeadBy kind.Run e = e.done.ended ≡ Some (Killed SIGSEGV)
-IsDeadBy kind.Signal e = ⊥
-
 -- what is named is bad
 abbrev pub IsBad : Named → Type 0
 IsBad n = (why : BadWhy) × (n ≡ names.Bad why)
@@ -189,13 +213,38 @@ abbrev pub can_clear : Here → Option Area → Bool
 can_clear here None = true
 can_clear here (Some area) = is_clearable (is_writable here) area
 
--- why the process ends where a waiting thread would begin to run: what its area names is bad; or is a good sequence, and the pointer
--- of the area can't be written; or the words of the area can't be
+-- the check of an interrupted thread finds something bad: what its area names is bad; or is a good sequence, and the pointer of the
+-- area can't be written
+abbrev pub FindsBad : Here → ℕ → Type 0
+FindsBad here t = IsBad (named_waiting here t) ⊎ (IsGood (named_waiting here t) × (can_clear here (area_here here t) ≡ false))
+
+-- why the process ends where a waiting thread would begin to run: its check finds something bad, or the words of its area can't be
+-- written
 abbrev pub HasCause : Here → ℕ → Type 0
-HasCause here t =
-    IsBad (named_waiting here t)
-    ⊎ ((IsGood (named_waiting here t) × (can_clear here (area_here here t) ≡ false))
-    ⊎ (can_write_words here (area_here here t) ≡ false))
+HasCause here t = FindsBad here t ⊎ (can_write_words here (area_here here t) ≡ false)
+
+-- the delivery of a signal to a thread ends the process: by SIGSEGV where the check of the thread finds something bad; else by the
+-- signal where its action is no handler; and else by SIGSEGV, since the frame of the handler can't be written
+pub record IsKilledByDelivery (s : Setting) (e : Event) (before : History) : Type 0 where
+  pub signal : ℕ
+  pub next : next_for e.entry.tid.0 (kernel s before).signals ≡ Some signal
+  pub checked : FindsBad (here_in_history s before e.entry.hart.0) e.entry.tid.0 → e.done.ended ≡ Some (Killed SIGSEGV)
+  pub unhandled : (FindsBad (here_in_history s before e.entry.hart.0) e.entry.tid.0 → ⊥)
+      → is_handler (action_of signal (kernel s before).signals) ≡ false → e.done.ended ≡ Some (Killed signal)
+  pub unframed : (FindsBad (here_in_history s before e.entry.hart.0) e.entry.tid.0 → ⊥)
+      → is_handler (action_of signal (kernel s before).signals) ≡ true
+      → (e.done.ended ≡ Some (Killed SIGSEGV)) × (can_write_frame (can_be_written s before) (file s e.entry.tid.0 before) ≡ false)
+
+-- how an interruption ends the process, by its kind; a take of requests does so only where the check of the thread finds something bad
+abbrev pub IsDeadBy : Setting → Kind → Event → History → Type 0
+IsDeadBy s kind.Exec e before = ⊥
+IsDeadBy s kind.Drain e before = ⊥
+IsDeadBy s kind.Take e before =
+    (e.done.ended ≡ Some (Killed SIGSEGV)) × FindsBad (here_in_history s before e.entry.hart.0) e.entry.tid.0
+IsDeadBy s kind.Done e before = ⊥
+IsDeadBy s kind.Preempt e before = ⊥
+IsDeadBy s kind.Run e before = e.done.ended ≡ Some (Killed SIGSEGV)
+IsDeadBy s kind.Signal e before = IsKilledByDelivery s e before
 
 -- PREEMPTED
 
@@ -211,13 +260,28 @@ pub record TouchesNothing (s : Setting) (e : Event) (before : History) : Type 0 
 abbrev pub IsCutOrDead : SeqEnd → Type 0
 IsCutOrDead end = (end ≡ ends.Dead) ⊎ ((at : ℕ) × (end ≡ ends.Cut at))
 
--- what the next event of the hart of a sequence, which isn't of the sequence, may do to it. One that isn't over hangs from then on
+-- the end of a sequence is that its thread left it, or is no longer inside
+abbrev pub IsLeftOrDropped : SeqEnd → Type 0
+IsLeftOrDropped end = (end ≡ ends.Left) ⊎ (end ≡ ends.Dropped)
+
+-- what the next event of the hart of a sequence, which isn't of the sequence, may do to it. One that isn't over hangs from then on.
+-- Where the event sends the thread to an abort handler, the sequence is cut or dead. Where it interrupts the thread: one that isn't
+-- inside goes on with its registers and its pc, at once or when the handler of a signal returns; the pointer of the thread's area is
+-- left 0, unless the process ends; and something bad ends the process. How an interruption ends the process is said of each that does,
+-- whatever the end of the sequence
 pub record EndsWhole (s : Setting) (e : Event) (before : History) (q : Sequence) : Type 0 where
   pub unended : end_before s q e before ≡ ends.Unended → hanging s q.thread (e ∷ before) ≡ Some q
   pub interrupted : is_some e.done.interrupted ≡ true → is_inside_at s q.hart before ≡ true → IsCutOrDead (end_before s q e before)
   pub cut : (at : ℕ) → end_before s q e before ≡ ends.Cut at → IsCutProperly s e before q at
+  pub aborted : (at : ℕ) → e.done.interrupted ≡ Some (comes_to.Aborted at) → IsCutOrDead (end_before s q e before)
   pub dropped : end_before s q e before ≡ ends.Dropped → WasTouched s before q
-  pub dead : end_before s q e before ≡ ends.Dead → IsDeadBy e.entry.kind e
+  pub kept : is_some e.done.interrupted ≡ true → e.done.ended ≡ None → IsLeftOrDropped (end_before s q e before)
+      → GoesOnWith s e.entry.kind e before q.thread (file s q.thread q.reached)
+  pub emptied : (area : Area) → is_some e.done.interrupted ≡ true → e.done.ended ≡ None
+      → area_here (here_in_history s before e.entry.hart.0) q.thread ≡ Some area → IsLeftNull s e.entry.kind e before q.thread area
+  pub dead : end_before s q e before ≡ ends.Dead → IsDeadBy s e.entry.kind e before
+  pub killed : is_some e.done.interrupted ≡ true → is_some e.done.ended ≡ true → IsDeadBy s e.entry.kind e before
+  pub caused : is_some e.done.interrupted ≡ true → FindsBad (here_in_history s before e.entry.hart.0) q.thread → e.done.ended ≡ Some (Killed SIGSEGV)
 
 -- what the event by which the thread of a hanging sequence begins to run may do to it. Where it sends the thread to an abort handler,
 -- the sequence is cut or dead; it is dead where there is a cause, and only there; and where it was dropped, its thread keeps its
@@ -230,7 +294,7 @@ pub record EndsWholeAtVerdict (s : Setting) (e : Event) (before : History) (q : 
       → (end_at_verdict s q e before ≡ ends.Cut at) ⊎ (end_at_verdict s q e before ≡ ends.Dead)
   pub dropped : end_at_verdict s q e before ≡ ends.Dropped → WasTouched s before q
   pub kept : end_at_verdict s q e before ≡ ends.Dropped → file s q.thread (e ∷ before) ≡ file s q.thread q.reached
-  pub dead : end_at_verdict s q e before ≡ ends.Dead → IsDeadBy e.entry.kind e
+  pub dead : end_at_verdict s q e before ≡ ends.Dead → IsDeadBy s e.entry.kind e before
   pub cause : end_at_verdict s q e before ≡ ends.Dead → HasCause (here_in_history s before e.entry.hart.0) q.thread
   pub caused : HasCause (here_in_history s before e.entry.hart.0) q.thread → end_at_verdict s q e before ≡ ends.Dead
 

@@ -11,6 +11,7 @@ ghost use Rattle.mach_types.specs.Kernel.Threads.{is_live, is_ready, numbers, ti
 ghost use Rattle.mach_types.specs.declared.events.Choice.{Choice};
 ghost use Rattle.mach_types.specs.declared.events.Choice.TheVariants as asked;
 ghost use Rattle.mach_types.specs.declared.events.Entry.{Entry};
+ghost use Rattle.mach_types.specs.declared.events.Kind.TheVariants as kind;
 ghost use Rattle.mach_types.specs.declared.events.Tid.{Tid};
 ghost use Rattle.mach_types.specs.declared.kernel_words.TheConstants.{CONSOLE_ROOM, MOST_THREADS};
 ghost use Rattle.mach_types.specs.declared.limits.End.TheVariants.{Unended};
@@ -18,13 +19,15 @@ ghost use Rattle.mach_types.specs.declared.limits.Limits.{Limits};
 ghost use Rattle.mach_types.specs.declared.user_memory.Store.{Store};
 ghost use Rattle.mach_types.specs.declared.user_memory.TheConstants.{STORE_BUFFER_CAPACITY};
 ghost use Rattle.elf_load.specs.declared.image.Image.{Image};
+ghost use Rattle.elf_load.specs.declared.image.ImagePage.{ImagePage};
 ghost use Rattle.elf_load.specs.Images.{IsBootable, IsImage};
 ghost use Rattle.elf_load.specs.Start.{program_of};
 ghost use Rattle.block_model.specs.Acts.{Sequence, sequence_on};
+ghost use Rattle.block_model.specs.Barriers.{Begun, IsWaiting, begun_on};
 ghost use Rattle.block_model.specs.Choosing.{IsChosen, choice_at, has_ended, luck, next_entry};
-ghost use Rattle.block_model.specs.Deciding.{decide, end_of, entry_in, history};
+ghost use Rattle.block_model.specs.Deciding.{decide, done, end_of, entry_in, history};
 ghost use Rattle.block_model.specs.ErrorCalls.{GivesError, GivesErrorAlone};
-ghost use Rattle.block_model.specs.History.{can_be_written, console, ended, events, file, here_in_history, kernel, running, waiting};
+ghost use Rattle.block_model.specs.History.{Event, History, awaits, can_be_written, console, drains, ended, events, file, here_in_history, kernel, restart, running, stores, waiting};
 ghost use Rattle.block_model.specs.Ids.{AreIdsApart, IsLeastFree, id_of, next_id};
 ghost use Rattle.block_model.specs.Kernel.{first_kernel};
 ghost use Rattle.block_model.specs.Layouts.{IsLaidOut, mapped_pages};
@@ -34,7 +37,9 @@ ghost use Rattle.block_model.specs.PlainSays.{MakesLog, SaysOf};
 ghost use Rattle.block_model.specs.Replay.{Ask, AllAnswer, IsFirstBad, IsFirstRefused, played, play_line, played_read, play_read_line, script_of};
 ghost use Rattle.block_model.specs.Run.{IsAllowedLog, IsBlockRun};
 ghost use Rattle.block_model.specs.Setting.{Setting, setting_of};
+ghost use Rattle.block_model.specs.Sights.{is_deliverable_on};
 ghost use Rattle.block_model.specs.Solo.{IsSolo, solo_choice};
+ghost use Rattle.block_model.specs.Tables.{AreSignalsOfLive};
 ghost use Rattle.block_model.specs.Whole.{RunsThroughout};
 ghost use Rattle.block_model.specs.Walks.{IsWalk, answers, computed};
 
@@ -108,11 +113,14 @@ pub fn plain_machine_makes_solo_run()
 {}
 
 /// In a block run each entry is of a hart of the machine, and its thread's number and its pc fit 32 and 64 bits. That a
-/// number fits 32 bits takes a step limit that a machine's has: an event gives at most one number.
+/// number fits 32 bits takes a step limit that a machine's has: an event gives at most one number. That a pc fits 64 bits takes
+/// a program whose entry fits them and whose pages have bytes: a signal's handler is read from memory.
 pub fn run_is_printable()
     ensures harts { (s : Setting) (log : List Entry) → IsBlockRun s log → All (λ (e : Entry). e.hart.0 < s.limits.harts) log }
     ensures threads { (s : Setting) (log : List Entry) → s.limits.steps < 2 ^ 31 - 1 → IsBlockRun s log → All (λ (e : Entry). e.tid.0 < 2 ^ 32) log }
-    ensures addresses { (s : Setting) (log : List Entry) → s.program.entry < 2 ^ 64 → IsBlockRun s log → All (λ (e : Entry). e.pc < 2 ^ 64) log }
+    ensures addresses { (s : Setting) (log : List Entry) → s.program.entry < 2 ^ 64
+        → All (λ (p : ImagePage). All (λ b. b < 256) p.bytes) s.program.pages
+        → IsBlockRun s log → All (λ (e : Entry). e.pc < 2 ^ 64) log }
 {}
 
 /// A block run has no more entries than the step limit says.
@@ -125,7 +133,8 @@ pub fn run_is_not_left_open_by_an_instruction()
     ensures { (s : Setting) (log : List Entry) → IsBlockRun s log → ended (history s log) ≢ Some Unended }
 {}
 
-/// At each place of a block run, on each hart: what waits may enter memory, and no thread runs on two harts.
+/// At each place of a block run, on each hart: what waits may enter memory, no thread runs on two harts, and one that waits in a barrier
+/// runs on its own.
 pub fn harts_are_sound()
     // No store waits on a hart that runs no thread.
     ensures idle { (s : Setting) (log : List Entry) (h : ℕ) → IsBlockRun s log → running s h (history s log) ≡ None → waiting h (history s log) ≡ [] }
@@ -135,6 +144,9 @@ pub fn harts_are_sound()
     // Each byte of each waiting store can be written.
     ensures writable { (s : Setting) (log : List Entry) (h : ℕ) → IsBlockRun s log
         → All (λ (w : Store). each_byte (can_be_written s (history s log)) w.at w.size ≡ true) (waiting h (history s log)) }
+    // A thread that waits in a barrier stays on its hart, where no store waits.
+    ensures in_barrier { (s : Setting) (log : List Entry) (h left : ℕ) → IsBlockRun s log → awaits h (history s log) ≡ Some left
+        → (running s h (history s log) ≢ None) × (waiting h (history s log) ≡ []) }
 {}
 
 /// At each place of a block run the kernel's record is sound.
@@ -196,6 +208,12 @@ pub fn areas_belong_to_live_threads()
     ensures one { (s : Setting) (log : List Entry) (t : ℕ) → IsBlockRun s log → times t (map (λ pair. pair.0) (kernel s (history s log)).areas) ≤ 1 }
 {}
 
+/// At each place of a block run masks and pending signals are kept of the live threads alone, in the same order.
+pub fn signals_belong_to_live_threads()
+    ensures { (s : Setting) (log : List Entry) → IsBlockRun s log
+        → AreSignalsOfLive (kernel s (history s log)).threads (kernel s (history s log)).signals }
+{}
+
 /// At each place of a block run the thread of the restartable sequence that a hart's newest event is of runs on that hart, and
 /// ran there before the sequence's first event.
 pub fn sequences_stay_on_their_harts()
@@ -208,9 +226,40 @@ pub fn sequences_stay_on_their_harts()
 /// its abort handler, which is signed, with all other registers as they were and the pointer of its area cleared; or the
 /// process ends with it, by the signal of its fault or by SIGSEGV; or it was dropped, since something touched its area, its
 /// descriptor, its signature or a page of theirs; or it has no end yet where the log ends. One whose thread leaves the hart
-/// inside it hangs, and is over when the thread begins to run again, which is then not inside.
+/// inside it hangs, and is over when the thread begins to run again, which is then not inside. And each barrier that returned
+/// (membarrier(2)) did so once each hart that it is about was passed by it, as the next law says in its clauses.
 pub fn block_runs_are_whole()
     ensures { (s : Setting) (log : List Entry) → IsAllowedLog s log → IsBlockRun s log }
+{}
+
+/// Where `done` comes in a block run, the barrier returns that the hart's thread began last (membarrier(2)), once each hart that it is
+/// about is passed by it.
+pub fn barriers_return_when_they_are_passed()
+    // There is that barrier, and it was begun by an entry of the hart: its call, which stands right after `b.call`.
+    ensures begun { (s : Setting) (earlier later : List Entry) (entry : Entry) → IsBlockRun s (earlier ++ entry ∷ later) → entry.kind ≡ kind.Done
+        → (b : Begun) × (begun_on entry.hart.0 (history s earlier) ≡ Some b) × (awaits entry.hart.0 (history s earlier) ≡ Some 0) }
+    ensures call { (s : Setting) (log : List Entry) (h : ℕ) (b : Begun) → begun_on h (history s log) ≡ Some b
+        → (since : History) × (call : Event) × (history s log ≡ since ++ call ∷ b.call)
+        × (call.entry.hart.0 ≡ h) × (call.done.barrier ≡ Some b.barrier) }
+    // As long as a thread waits in a barrier it stays on its hart, which makes no event but takes of requests.
+    ensures waits { (s : Setting) (log : List Entry) (h left : ℕ) (b : Begun) → IsBlockRun s log → awaits h (history s log) ≡ Some left
+        → begun_on h (history s log) ≡ Some b → IsWaiting s (history s log) h b }
+    // The harts that it is about are others than its own, and ran a thread where it was called.
+    ensures about { (s : Setting) (log : List Entry) (h k : ℕ) (b : Begun) → IsBlockRun s log → begun_on h (history s log) ≡ Some b
+        → has_hart b.barrier.targets k ≡ true → (k ≢ h) × (running s k b.call ≢ None) }
+    // A take of requests interrupts a thread only where one of them asks for a restart.
+    ensures restarts { (s : Setting) (earlier later : List Entry) (entry : Entry) → IsBlockRun s (earlier ++ entry ∷ later)
+        → entry.kind ≡ kind.Take → IsSome (done s (history s earlier) entry).interrupted → restart entry.hart.0 (history s earlier) ≡ true }
+    // Each plain store that a hart which it is about executed before the call has entered memory.
+    ensures stores { (s : Setting) (earlier later : List Entry) (entry : Entry) (b : Begun) (k : ℕ) → IsBlockRun s (earlier ++ entry ∷ later)
+        → entry.kind ≡ kind.Done → begun_on entry.hart.0 (history s earlier) ≡ Some b → has_hart b.barrier.targets k ≡ true
+        → length (stores k b.call) ≤ drains k (history s earlier) }
+    // Where it asks for a restart, no sequence of such a hart has an entry before the call and one after the return: at each later
+    // place the sequence that the hart's newest event is of began no earlier than the call.
+    ensures sequences { (s : Setting) (earlier later : List Entry) (entry : Entry) (b : Begun) (k : ℕ) (q : Sequence)
+        → IsBlockRun s (earlier ++ entry ∷ later) → entry.kind ≡ kind.Done → begun_on entry.hart.0 (history s earlier) ≡ Some b
+        → has_hart b.barrier.targets k ≡ true → b.barrier.restart ≡ true
+        → sequence_on s k (history s (earlier ++ entry ∷ later)) ≡ Some q → length b.call ≤ length q.begun }
 {}
 
 /// In a block run a guest call that gives an error changes, of thread files, memory and the kernel's record, only a0 and
@@ -239,10 +288,12 @@ pub fn walks_are_computed()
 pub fn rule_has_a_choice()
     ensures chooses { (s : Setting) (log : List Entry) → s.limits.harts ≡ 1 → IsBlockRun s log → end_of s (history s log) ≡ Unended
         → IsSome (solo_choice s (history s log)) }
-    ensures makes { (s : Setting) (log : List Entry) (choice : Choice) → IsBlockRun s log → 0 < s.limits.harts → end_of s (history s log) ≡ Unended
+    ensures makes { (s : Setting) (log : List Entry) (choice : Choice) → s.limits.harts ≡ 1 → IsBlockRun s log → end_of s (history s log) ≡ Unended
         → solo_choice s (history s log) ≡ Some choice → IsOk (decide s (history s log) 0 choice) }
-    // Where hart 0 may execute its next instruction, that is the choice.
+    // Where hart 0 may execute its next instruction, that is the choice, if no signal can be delivered to its thread: a signal comes
+    // first, and before it each waiting store.
     ensures allowed { (s : Setting) (log : List Entry) (entry : Entry) → decide s (history s log) 0 asked.Exec ≡ Ok entry
+        → is_deliverable_on (here_in_history s (history s log) 0) (running s 0 (history s log)) ≡ false
         → solo_choice s (history s log) ≡ Some asked.Exec }
 {}
 

@@ -1,7 +1,7 @@
 -- Instructions that touch registers alone, one after another, as `run` chooses them on credit: what becomes of the parts of a
 -- machine and of its log.
 use Rattle.std.proofs.Common.{◌≡◌, ◌≢◌, ℕ, ◌+◌, ◌-◌, ◌<◌, ◌≤◌, ◌&&◌, List, [], ◌∷◌, ◌++◌, length, map, refl, sym, ap, ◌∙◌, subst, arith, Bool, true, false, cond, eqb, ltb, leb, get_or, set, slice_get, Option, None, Some, Ok, is_none, is_some, append-nil, append_assoc, suc, eq-eqb, ◌⊎◌, inl, inr}
-use Rattle.std.specs.Option.{option_and_then, option_map, option_map_or}
+use Rattle.std.specs.Option.{option_and_then, option_map, option_map_or, option_or}
 use Rattle.std.specs.Vec.{with_item}
 use Rattle.std.proofs.lemmas.List.{length-append}
 use Rattle.std.proofs.lemmas.Bool.{and_parts, cases_eq, ne_eqb}
@@ -36,6 +36,7 @@ use Rattle.block_model.specs.Choosing.{all_chosen, choice_at, credit_at, has_end
 use Rattle.block_model.specs.Deciding.{entry_in, history, over_at}
 use Rattle.block_model.specs.Events.{done_of, refusal_of}
 use Rattle.block_model.specs.Events.Exec.{by_outcome, is_held, next_effect as effect_at, next_fault as fault_at, others_gate, refusal_exec_by}
+use Rattle.block_model.specs.Events.Preempt.{unless_in_barrier}
 use Rattle.block_model.specs.Here.{Here, is_writable, memory, runs, waiting_here}
 use Rattle.block_model.specs.History.{History, here_in_history, ran}
 use Rattle.block_model.specs.Instruction.{fault_by, fetched, next_effect}
@@ -54,7 +55,7 @@ use Rattle.machine_core.specs.Deeds.{entry_from}
 use Rattle.machine_core.specs.Planned.{IsPlanned}
 use Rattle.machine_core.proofs.Chosen.{choice_where, pick_read}
 use Rattle.machine_core.proofs.Entries.{changed_as, entry_exec}
-use Rattle.machine_core.proofs.Events.{none_lost}
+use Rattle.machine_core.proofs.Events.{none_beside}
 use Rattle.machine_core.proofs.HartEvents.{plain_own}
 use Rattle.machine_core.proofs.HartTies.{get_set_other, get_set_same}
 use Rattle.machine_core.proofs.KernelTies.{saved_plain}
@@ -109,6 +110,7 @@ pub record IsOnWay (s : Setting) (log : List Entry) (m : Parts) (words : List Ge
   pub lt : h.0 < s.limits.harts
   pub there : slice_get m.harts.items h.0 ≡ Some x
   pub busy : x.running ≡ Some t
+  pub no_barrier : x.waits ≡ None
 
 abbrev at_log : Setting → List Entry → Seen
 at_log s log = record { setting = s; log = log }
@@ -146,14 +148,20 @@ file_is s log m words h t x way =
     let here = here_of (at_log s log) h.0 in
     ap file_of (own_is s log m words h t x way) ∙ ap (λ o. let f : Saved = record { file = (file_on here o).file; pc = (file_on here o).pc } in f) (runs_is s log m words h t x way)
 
+-- and it waits in no barrier
+waits_is : (s : Setting) (log : List Entry) (m : Parts) (words : List Generator) (h : Hart) (t : Tid) (x : HartState) → IsOnWay s log m words h t x
+    → (here_of (at_log s log) h.0).awaits ≡ None
+waits_is s log m words h t x way = sym (ap (λ (y : HartState). y.waits) (own_is s log m words h t x way)) ∙ way.no_barrier
+
 -- the next instruction there, which makes no fault and may be executed
 fault_by_effect : (here : Here) (t : ℕ) (rd value to : ℕ) → effect_at here t ≡ Some (effect.Next rd value to) → fault_at here t ≡ None
 fault_by_effect here t rd value to is =
     ap (λ o. fault_by (memory here) (is_writable here) (here.file t).pc (fetched here.setting.program.pages (here.file t).pc) o) is
 
-free_by_effect : (here : Here) (t : ℕ) (rd value to : ℕ) → runs here ≡ Some t → effect_at here t ≡ Some (effect.Next rd value to) → refusal_of asked.Exec here ≡ None
-free_by_effect here t rd value to at is =
+free_by_effect : (here : Here) (t : ℕ) (rd value to : ℕ) → runs here ≡ Some t → here.awaits ≡ None → effect_at here t ≡ Some (effect.Next rd value to) → refusal_of asked.Exec here ≡ None
+free_by_effect here t rd value to at none is =
     ap (refusal_exec_by here) at
+    ∙ ap (λ a. unless_in_barrier a (option_or (instruction_gate (length (waiting_here here)) (effect_at here t) (is_some (fault_at here t))) (others_gate (is_held here t) (effect_at here t)))) none
     ∙ none_of_both (instruction_gate (length (waiting_here here)) (effect_at here t) (is_some (fault_at here t))) (others_gate (is_held here t) (effect_at here t))
     (ap (λ o. instruction_gate (length (waiting_here here)) o (is_some (fault_at here t))) is
     ∙ (ap (λ o. instruction_gate (length (waiting_here here)) (Some (effect.Next rd value to)) (is_some o)) (fault_by_effect here t rd value to is)
@@ -194,7 +202,7 @@ move s log m words h t x rd value to way room is =
     let place = place_on s log m words h t x way room in
     let at = runs_is s log m words h t x way in
     let its : effect_at here t.0 ≡ Some e = sym (ap (next_effect s.program.pages) (file_is s log m words h t x way)) ∙ is in
-    let free = free_by_effect here t.0 rd value to at its in
+    let free = free_by_effect here t.0 rd value to at (waits_is s log m words h t x way) its in
     let plan : IsPlanned v h.0 (plain_next e) = record {
       thread = t.0;
       at = at;
@@ -213,13 +221,15 @@ move s log m words h t x rd value to way room is =
       after = changed_as v h.0 asked.Exec (by_outcome here t.0 done.outcome) m (with_state m h.0 y) y place free done.done (record {
         own = plain_own (credit_of m.harts.items h.0) s (plain_after s log) h.0 t.0 done.outcome x y done.own at
             (same_buffer x rd value to ∙ ap (λ (o : Outcome). record (hart_after x o) { ran = x.ran + 1; events = x.events + 1 }) done.same);
-        harts = none_lost h.0 (by_outcome here t.0 done.outcome) (set m.harts.items h.0 y) (ap all_stored none);
+        harts = none_beside h.0 (by_outcome here t.0 done.outcome) (set m.harts.items h.0 y) (record { none_begun = refl; none_taken = refl }) (ap all_stored none);
         pages = subst (λ (ws : List Store). HoldsPages (plain_seen v).kernel.pages s.program.break_at (λ a. written (all_stored ws) a ((plain_seen v).byte a)) m.pages) (sym none) way.settled.tied.pages;
         readable = way.settled.tied.readable;
         threads = way.settled.tied.threads;
+        signals = way.settled.tied.signals;
         scheduling = way.settled.tied.scheduling;
         areas = way.settled.tied.areas;
         ids = λ k u ne at. refl;
+        registered = way.settled.tied.registered;
         console = way.settled.tied.console;
         saved = saved_plain (plain_seen v).file t.0 (record { file = done.outcome.regs; pc = done.outcome.pc }) h m.kernel.threads way.settled.tied.table (runs_there v m h t.0 place at) way.settled.tied.saved;
         table = way.settled.tied.table;
@@ -312,9 +322,10 @@ one_on s log m words h t x a way room file credit goes =
     let its_file : a.file ≡ there.file t.0 = file ∙ (file_is s log m words h t x way ∙ ap (λ (k : Here). k.file t.0) (same_here v h.0 way.run)) in
     let is_local : seen.«local» ≡ true =
     ap (is_local_on there) at ∙ (sym (next_local (memory there) (is_writable there) s.program.pages (there.file t.0)) ∙ (ap (λ f. option_map_or sets_register (next_effect s.program.pages f) false) (sym its_file) ∙ go.sets)) in
+    let out : seen.in_barrier ≡ false = ap (λ (k : Here). is_some k.awaits) (sym (same_here v h.0 way.run)) ∙ ap is_some (waits_is s log m words h t x way) in
     let on_it : has_credit seen ≡ true = both (ltb 0 (credit_at s h.0 past)) seen.«local» (ap (ltb 0) shown ∙ go.credit) is_local in
-    let picks : pick seen (word (generator_in words h.0)) ≡ Some (on_credit seen) = pick_on_credit seen (word (generator_in words h.0)) busy refl on_it in
-    let no_draw = no_draw_on_credit seen busy refl on_it in
+    let picks : pick seen (word (generator_in words h.0)) ≡ Some (on_credit seen) = pick_on_credit seen (word (generator_in words h.0)) busy out on_it in
+    let no_draw = no_draw_on_credit seen busy out on_it in
     let all : true ≡ all_chosen s past = way.settled.chosen in
     let place_pick : pick_at s h.0 past ≡ Some (on_credit seen) = sym (pick_read s past h.0 words all (way.settled.generators refl h.0 way.lt)) ∙ picks in
     let chosen : choice_at s h.0 past ≡ Some asked.Exec = choice_where s h.0 past going way.lt ∙ ap (option_map (λ (p : Pick). p.choice)) place_pick in
@@ -338,6 +349,7 @@ one_on s log m words h t x a way room file credit goes =
         lt = way.lt;
         there = get_set_same m.harts.items h.0 x y way.there;
         busy = way.busy;
+        no_barrier = way.no_barrier;
       };
     }
 

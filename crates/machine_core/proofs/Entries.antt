@@ -39,6 +39,15 @@ entry_drain credit s p h x is = entry_own (here_in_plain s p h.0) h kind.Drain (
 pub entry_preempt : (credit : ℕ) (s : Setting) (p : Plain) (h : Hart) (x : HartState) → x ≡ hart_at s p h.0 credit → entry_from h kind.Preempt x.running x.pc ≡ entry_in asked.Preempt (here_in_plain s p h.0)
 entry_preempt credit s p h x is = entry_own (here_in_plain s p h.0) h kind.Preempt (runs (here_in_plain s p h.0)) x refl (ap (λ (y : HartState). y.running) is) (ap (λ (y : HartState). y.pc) is)
 
+pub entry_signal : (credit : ℕ) (s : Setting) (p : Plain) (h : Hart) (x : HartState) → x ≡ hart_at s p h.0 credit → entry_from h kind.Signal x.running x.pc ≡ entry_in asked.Signal (here_in_plain s p h.0)
+entry_signal credit s p h x is = entry_own (here_in_plain s p h.0) h kind.Signal (runs (here_in_plain s p h.0)) x refl (ap (λ (y : HartState). y.running) is) (ap (λ (y : HartState). y.pc) is)
+
+pub entry_take : (credit : ℕ) (s : Setting) (p : Plain) (h : Hart) (x : HartState) → x ≡ hart_at s p h.0 credit → entry_from h kind.Take x.running x.pc ≡ entry_in asked.Take (here_in_plain s p h.0)
+entry_take credit s p h x is = entry_own (here_in_plain s p h.0) h kind.Take (runs (here_in_plain s p h.0)) x refl (ap (λ (y : HartState). y.running) is) (ap (λ (y : HartState). y.pc) is)
+
+pub entry_done : (credit : ℕ) (s : Setting) (p : Plain) (h : Hart) (x : HartState) → x ≡ hart_at s p h.0 credit → entry_from h kind.Done x.running x.pc ≡ entry_in asked.Done (here_in_plain s p h.0)
+entry_done credit s p h x is = entry_own (here_in_plain s p h.0) h kind.Done (runs (here_in_plain s p h.0)) x refl (ap (λ (y : HartState). y.running) is) (ap (λ (y : HartState). y.pc) is)
+
 -- where a thread can leave a hart, one runs there
 pub leaver : (here : Here) → refusal_of asked.Preempt here ≡ None → (t : ℕ) × (runs here ≡ Some t)
 leaver here free = go (runs here) refl free

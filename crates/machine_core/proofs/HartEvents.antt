@@ -14,8 +14,8 @@ use Rattle.block_model.specs.Here.{runs}
 use Rattle.block_model.specs.Tables.{IsTables}
 use Rattle.block_model.specs.Plain.{Plain, here_in_plain}
 use Rattle.block_model.specs.Sights.{thread}
-use Rattle.block_model.specs.Calls.Sequences.{killed_in_call}
-use Rattle.block_model.specs.Events.Exec.{by_call, by_fault, by_outcome}
+use Rattle.block_model.specs.Calls.Answers.{killed_in_call}
+use Rattle.block_model.specs.Events.Exec.{by_call, by_outcome}
 use Rattle.block_model.specs.Events.Drain.{done_drain_of}
 use Rattle.block_model.specs.Events.Preempt.{done_preempt_by}
 use Rattle.block_model.specs.Events.Run.{done_killed, done_running}
@@ -25,62 +25,38 @@ use Rattle.block_model.specs.Sequences.{files_interrupted}
 use Rattle.block_model.proofs.Laws.{left_idle, ran_runs}
 use Rattle.machine_core.specs.Beginning.{begun_with, begun_without}
 use Rattle.machine_core.specs.Harts.{file_on, hart_at, id_on}
+use Rattle.machine_core.proofs.Executed.{fault_killing, fault_pending}
 use Rattle.machine_core.proofs.HartTies.{own_after}
 
-zero_more : (n : ℕ) → n + 0 ≡ n
+pub zero_more : (n : ℕ) → n + 0 ≡ n
 zero_more n = omega arith
 
--- drain
-pub drain_own : (credit : ℕ) (s : Setting) (p : Plain) (h : ℕ) (w : Store) (ws : List Store) (x y : HartState) → x ≡ hart_at s p h credit →
-    y ≡ record x { buffer = drop 1 x.buffer; events = x.events + 1 } → y ≡ own_after s p h (done_drain_of (here_in_plain s p h) (w ∷ ws)) credit
-drain_own credit s p h w ws x y at is = is ∙ rw (at, append-nil, zero_more (p.ran h)) (go (runs (here_in_plain s p h)))
-  where
-    go : (o : Option ℕ) → (let a : HartState = record {
-      file = (file_on (here_in_plain s p h) o).file;
-      pc = (file_on (here_in_plain s p h) o).pc;
-      buffer = drop 1 (p.waiting h);
-      running = option_map thread o;
-      requests = 0;
-      restart = false;
-      waits = None;
-      reserved = p.reserved h;
-      ran = p.ran h;
-      credit = credit;
-      events = p.events h + 1;
-      cid = id_on (here_in_plain s p h) o;
-    } in a) ≡ (let b : HartState = record {
-      file = (file_on (here_in_plain s p h) o).file;
-      pc = (file_on (here_in_plain s p h) o).pc;
-      buffer = drop 1 (p.waiting h);
-      running = option_map thread o;
-      requests = 0;
-      restart = false;
-      waits = None;
-      reserved = p.reserved h;
-      ran = p.ran h;
-      credit = credit;
-      events = p.events h + 1;
-      cid = id_on (here_in_plain s p h) o;
-    } in b)
-    go None = refl
-    go (Some t) = refl
-
--- a hart of these parts
-abbrev made_of : Saved → Option ℕ → List Store → Option ℕ → ℕ → ℕ → ℕ → ℕ → HartState
-made_of f o buffer reserved ran events credit cid = record {
+-- a hart of these parts, whose barriers are those of hart h of the plain machine
+abbrev made_of : Plain → ℕ → Saved → Option ℕ → List Store → Option ℕ → ℕ → ℕ → ℕ → ℕ → HartState
+made_of p h f o buffer reserved ran events credit cid = record {
   file = f.file;
   pc = f.pc;
   buffer = buffer;
   running = option_map thread o;
-  requests = 0;
-  restart = false;
-  waits = None;
+  requests = p.requests h;
+  restart = p.restart h;
+  waits = p.awaits h;
   reserved = reserved;
   ran = ran;
   credit = credit;
   events = events;
   cid = cid;
 }
+
+-- drain
+pub drain_own : (credit : ℕ) (s : Setting) (p : Plain) (h : ℕ) (w : Store) (ws : List Store) (x y : HartState) → x ≡ hart_at s p h credit →
+    y ≡ record x { buffer = drop 1 x.buffer; events = x.events + 1 } → y ≡ own_after s p h (done_drain_of (here_in_plain s p h) (w ∷ ws)) credit
+drain_own credit s p h w ws x y at is = is ∙ rw (at, append-nil, zero_more (p.ran h)) (go (runs (here_in_plain s p h)))
+  where
+    go : (o : Option ℕ) → made_of p h (file_on (here_in_plain s p h) o) o (drop 1 (p.waiting h)) (p.reserved h) (p.ran h) (p.events h + 1) credit (id_on (here_in_plain s p h) o)
+        ≡ made_of p h (file_on (here_in_plain s p h) o) o (drop 1 (p.waiting h)) (p.reserved h) (p.ran h) (p.events h + 1) credit (id_on (here_in_plain s p h) o)
+    go None = refl
+    go (Some t) = refl
 
 -- preempt
 pub preempt_own : (credit : ℕ) (s : Setting) (p : Plain) (h t : ℕ) (x y : HartState) → x ≡ hart_at s p h credit → IsTables s.limits.harts p.kernel.threads p.kernel.scheduling → runs (here_in_plain s p h) ≡ Some t →
@@ -99,13 +75,22 @@ pub killed_own : (credit : ℕ) (s : Setting) (p : Plain) (h t : ℕ) (o : Comes
     y ≡ begun_without x → y ≡ own_after s p h (done_killed (here_in_plain s p h) t o) credit
 killed_own credit s p h t o x y at idle is = is ∙ rw (at, append-nil, idle) refl
 
--- a fault
-pub fault_own : (credit : ℕ) (s : Setting) (p : Plain) (h signal : ℕ) (x y : HartState) → x ≡ hart_at s p h credit →
-    y ≡ record x { ran = x.ran + 1; events = x.events + 1 } → y ≡ own_after s p h (by_fault (here_in_plain s p h) signal) credit
-fault_own credit s p h signal x y at is = is ∙ rw (at, append-nil) (go (runs (here_in_plain s p h)))
+-- a fault, whether its thread has a handler or not
+pub pending_own : (credit : ℕ) (s : Setting) (p : Plain) (h t signal : ℕ) (x y : HartState) → x ≡ hart_at s p h credit →
+    y ≡ record x { ran = x.ran + 1; events = x.events + 1 } → y ≡ own_after s p h (fault_pending (here_in_plain s p h) t signal) credit
+pending_own credit s p h t signal x y at is = is ∙ rw (at, append-nil) (go (runs (here_in_plain s p h)))
   where
-    go : (o : Option ℕ) → made_of (file_on (here_in_plain s p h) o) o (p.waiting h) (p.reserved h) (p.ran h + 1) (p.events h + 1) credit (id_on (here_in_plain s p h) o)
-        ≡ made_of (file_on (here_in_plain s p h) o) o (p.waiting h) (p.reserved h) (p.ran h + 1) (p.events h + 1) credit (id_on (here_in_plain s p h) o)
+    go : (o : Option ℕ) → made_of p h (file_on (here_in_plain s p h) o) o (p.waiting h) (p.reserved h) (p.ran h + 1) (p.events h + 1) credit (id_on (here_in_plain s p h) o)
+        ≡ made_of p h (file_on (here_in_plain s p h) o) o (p.waiting h) (p.reserved h) (p.ran h + 1) (p.events h + 1) credit (id_on (here_in_plain s p h) o)
+    go None = refl
+    go (Some t) = refl
+
+pub killing_own : (credit : ℕ) (s : Setting) (p : Plain) (h signal : ℕ) (x y : HartState) → x ≡ hart_at s p h credit →
+    y ≡ record x { ran = x.ran + 1; events = x.events + 1 } → y ≡ own_after s p h (fault_killing (here_in_plain s p h) signal) credit
+killing_own credit s p h signal x y at is = is ∙ rw (at, append-nil) (go (runs (here_in_plain s p h)))
+  where
+    go : (o : Option ℕ) → made_of p h (file_on (here_in_plain s p h) o) o (p.waiting h) (p.reserved h) (p.ran h + 1) (p.events h + 1) credit (id_on (here_in_plain s p h) o)
+        ≡ made_of p h (file_on (here_in_plain s p h) o) o (p.waiting h) (p.reserved h) (p.ran h + 1) (p.events h + 1) credit (id_on (here_in_plain s p h) o)
     go None = refl
     go (Some t) = refl
 

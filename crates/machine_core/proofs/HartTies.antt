@@ -1,19 +1,19 @@
--- The harts after an event: the own one is as the event left it, and the others have lost what was written.
-use Rattle.std.proofs.Common.{◌≡◌, ◌≢◌, ℕ, ◌+◌, ◌<◌, List, [], ◌∷◌, ◌++◌, drop, refl, sym, ap, ◌∙◌, subst, Bool, true, false, cond, eqb, Option, Some, None, slice_get, eq-eqb, set, ◌⊎◌, inl, inr, zero, suc}
+-- The harts after an event: the own one is as the event left it, and the others as it leaves those beside it.
+use Rattle.std.proofs.Common.{◌≡◌, ◌≢◌, ℕ, ◌+◌, ◌<◌, List, [], ◌∷◌, ◌++◌, drop, refl, sym, ap, ◌∙◌, subst, Bool, true, false, cond, eqb, ◌||◌, Option, Some, None, slice_get, eq-eqb, set, ◌⊎◌, inl, inr, zero, suc}
 use Rattle.std.specs.Option.{option_map, option_map_or}
 use Rattle.std.proofs.lemmas.Bool.{ne_eqb, cases_eq}
 use Rattle.mach_types.specs.Kernel.Threads.{running_on}
-use Rattle.mach_types.specs.declared.user_memory.Write.{Write}
+use Rattle.mach_types.specs.declared.threads.Saved.{Saved}
 use Rattle.hart_state.specs.declared.hart.HartState.{HartState}
 use Rattle.block_model.specs.Setting.{Setting}
 use Rattle.block_model.specs.Here.{Done}
 use Rattle.block_model.specs.History.{file_among, lost_after}
 use Rattle.block_model.specs.Ids.{id_of}
 use Rattle.block_model.specs.Plain.{Plain, apply, here_in_plain}
+use Rattle.block_model.specs.Requests.{awaits_after, awaits_of_own, is_about, requests_after, restart_after, restarts_at, with_hart, without_hart}
 use Rattle.block_model.specs.Sights.{thread}
 use Rattle.block_model.proofs.Laws.{IsFit}
 use Rattle.machine_core.specs.Harts.{credit_of, file_on, hart_at, hart_in, id_on}
-use Rattle.machine_core.specs.Losing.{lost_by_all, lost_unless}
 
 -- the own hart
 abbrev pub own_after : Setting → Plain → ℕ → Done → ℕ → HartState
@@ -21,6 +21,9 @@ own_after s p h d credit = hart_in (record (here_in_plain s p h) {
   file = λ t. file_among d.files t (p.file t);
   waiting = λ _. drop d.drained (p.waiting h ++ d.executed);
   reserved = d.reserved;
+  requests = cond d.took 0 (cond (is_about h d.barrier) (with_hart h (p.requests h)) (p.requests h));
+  restart = cond d.took false (restarts_at h d.barrier || p.restart h);
+  awaits = awaits_of_own d (p.awaits h);
   kernel = d.kernel;
 }) (cond d.started 0 (p.ran h) + d.instructions) (p.events h + 1) credit
 
@@ -32,37 +35,41 @@ hart_own s p h d credit = rw (eq-eqb h h refl) refl
 abbrev pub KeepsIds : Plain → ℕ → Done → Type 0
 KeepsIds p h d = (k u : ℕ) → k ≢ h → running_on k p.kernel.threads ≡ Some u → id_of u d.kernel.ids ≡ id_of u p.kernel.ids
 
-pub hart_other : (s : Setting) (p : Plain) (h k : ℕ) (d : Done) (credit : ℕ) → k ≢ h → IsFit (here_in_plain s p h) d → KeepsIds p h d → hart_at s (apply h d p) k credit ≡ lost_by_all d.entered (hart_at s p k credit)
+-- it lost what was written, it has a request where the event began a barrier that is about it, and where the event took requests its
+-- own barrier waits for that hart no longer
+abbrev pub beside : ℕ → ℕ → Done → HartState → HartState
+beside k h d x = record x {
+  reserved = lost_after d.entered x.reserved;
+  requests = requests_after k h d x.requests;
+  restart = restart_after k h d x.restart;
+  waits = awaits_after k h d x.waits;
+}
+
+-- the same, but for the hart of the event
+abbrev pub beside_unless : Bool → ℕ → ℕ → Done → HartState → HartState
+beside_unless is_own k h d x = cond is_own x (beside k h d x)
+
+pub hart_other : (s : Setting) (p : Plain) (h k : ℕ) (d : Done) (credit : ℕ) → k ≢ h → IsFit (here_in_plain s p h) d → KeepsIds p h d → hart_at s (apply h d p) k credit ≡ beside k h d (hart_at s p k credit)
 hart_other s p h k d credit ne fit ids = rw (ne_eqb h k (λ e. ne (sym e)), fit.others k ne) (go (running_on k p.kernel.threads) refl)
   where
-    go : (o : Option ℕ) → running_on k p.kernel.threads ≡ o →
-        (let x : HartState = record {
-          file = (file_on (here_in_plain s (apply h d p) k) o).file;
-          pc = (file_on (here_in_plain s (apply h d p) k) o).pc;
-          buffer = p.waiting k;
-          running = option_map thread o;
-          requests = 0;
-          restart = false;
-          waits = None;
-          reserved = lost_after d.entered (p.reserved k);
-          ran = p.ran k;
-          credit = credit;
-          events = p.events k;
-          cid = id_on (here_in_plain s (apply h d p) k) o;
-        } in x) ≡ (let y : HartState = record {
-          file = (file_on (here_in_plain s p k) o).file;
-          pc = (file_on (here_in_plain s p k) o).pc;
-          buffer = p.waiting k;
-          running = option_map thread o;
-          requests = 0;
-          restart = false;
-          waits = None;
-          reserved = lost_after d.entered (p.reserved k);
-          ran = p.ran k;
-          credit = credit;
-          events = p.events k;
-          cid = id_on (here_in_plain s p k) o;
-        } in y)
+    state : Saved → Option ℕ → ℕ → HartState
+    state f o cid = record {
+      file = f.file;
+      pc = f.pc;
+      buffer = p.waiting k;
+      running = option_map thread o;
+      requests = cond (is_about k d.barrier) (with_hart h (p.requests k)) (p.requests k);
+      restart = restarts_at k d.barrier || p.restart k;
+      waits = cond d.took (option_map (without_hart h) (p.awaits k)) (p.awaits k);
+      reserved = lost_after d.entered (p.reserved k);
+      ran = p.ran k;
+      credit = credit;
+      events = p.events k;
+      cid = cid;
+    }
+
+    go : (o : Option ℕ) → running_on k p.kernel.threads ≡ o
+        → state (file_on (here_in_plain s (apply h d p) k) o) o (id_on (here_in_plain s (apply h d p) k) o) ≡ state (file_on (here_in_plain s p k) o) o (id_on (here_in_plain s p k) o)
     go None at = refl
     go (Some u) at = let same = fit.apart k u (p.file u) ne at in let its = ids k u ne at in rw (same, its) refl
 
@@ -82,7 +89,7 @@ get_set_other (z ∷ xs) (suc i) (suc j) y ne = get_set_other xs i j y (λ e. ne
 abbrev pub AreHarts : Setting → Plain → List HartState → Type 0
 AreHarts s p xs = (k : ℕ) → k < s.limits.harts → slice_get xs k ≡ Some (hart_at s p k (credit_of xs k))
 
--- credits stay where the own hart keeps its, and the others lose a reservation at most
+-- credits stay where the own hart keeps its
 credit_set : (xs : List HartState) (h k : ℕ) (y : HartState) → y.credit ≡ credit_of xs h → credit_of (set xs h y) k ≡ credit_of xs k
 credit_set [] h k y same = refl
 credit_set (z ∷ xs) zero zero y same = same
@@ -90,29 +97,31 @@ credit_set (z ∷ xs) zero (suc k) y same = refl
 credit_set (z ∷ xs) (suc h) zero y same = refl
 credit_set (z ∷ xs) (suc h) (suc k) y same = credit_set xs h k y same
 
-credit_lost : (b : Bool) (ws : List Write) (o : Option HartState) → option_map_or (λ (x : HartState). x.credit) (option_map (lost_unless b ws) o) 0 ≡ option_map_or (λ (x : HartState). x.credit) o 0
-credit_lost b ws None = refl
-credit_lost true ws (Some x) = refl
-credit_lost false ws (Some x) = refl
+credit_beside : (b : Bool) (k h : ℕ) (d : Done) (o : Option HartState) → option_map_or (λ (x : HartState). x.credit) (option_map (beside_unless b k h d) o) 0 ≡ option_map_or (λ (x : HartState). x.credit) o 0
+credit_beside b k h d None = refl
+credit_beside true k h d (Some x) = refl
+credit_beside false k h d (Some x) = refl
 
 pub credits_kept : (h : ℕ) (d : Done) (xs ys : List HartState) (y : HartState) → y.credit ≡ credit_of xs h →
-    ((k : ℕ) → slice_get ys k ≡ option_map (lost_unless (eqb k h) d.entered) (slice_get (set xs h y) k)) → (k : ℕ) → credit_of ys k ≡ credit_of xs k
+    ((k : ℕ) → slice_get ys k ≡ option_map (beside_unless (eqb k h) k h d) (slice_get (set xs h y) k)) → (k : ℕ) → credit_of ys k ≡ credit_of xs k
 credits_kept h d xs ys y same lose k =
     ap (λ o. option_map_or (λ (x : HartState). x.credit) o 0) (lose k)
-    ∙ (credit_lost (eqb k h) d.entered (slice_get (set xs h y) k) ∙ credit_set xs h k y same)
+    ∙ (credit_beside (eqb k h) k h d (slice_get (set xs h y) k) ∙ credit_set xs h k y same)
 
--- all harts, where the others lost what was written
+-- all harts
 pub harts_tied : (s : Setting) (p : Plain) (h : ℕ) (d : Done) (xs ys : List HartState) (y : HartState) → AreHarts s p xs → h < s.limits.harts → IsFit (here_in_plain s p h) d → KeepsIds p h d → y ≡ own_after s p h d (credit_of xs h) →
-    ((k : ℕ) → slice_get ys k ≡ option_map (lost_unless (eqb k h) d.entered) (slice_get (set xs h y) k)) → AreHarts s (apply h d p) ys
+    ((k : ℕ) → slice_get ys k ≡ option_map (beside_unless (eqb k h) k h d) (slice_get (set xs h y) k)) → AreHarts s (apply h d p) ys
 harts_tied s p h d xs ys y tied lt fit ids own lose k below =
     go (cases_eq k h) ∙ ap (λ n. Some (hart_at s (apply h d p) k n)) (sym (credits_kept h d xs ys y (ap (λ (x : HartState). x.credit) own) lose k))
   where
-    own_lost : option_map (lost_unless (eqb h h) d.entered) (slice_get (set xs h y) h) ≡ Some y
-    own_lost = rw (eq-eqb h h refl, get_set_same xs h (hart_at s p h (credit_of xs h)) y (tied h lt)) refl
+    own_stays : option_map (beside_unless (eqb h h) h h d) (slice_get (set xs h y) h) ≡ Some y
+    own_stays = rw (eq-eqb h h refl, get_set_same xs h (hart_at s p h (credit_of xs h)) y (tied h lt)) refl
 
-    other_lost : k ≢ h → option_map (lost_unless (eqb k h) d.entered) (slice_get (set xs h y) k) ≡ Some (lost_by_all d.entered (hart_at s p k (credit_of xs k)))
-    other_lost ne = rw (ne_eqb k h ne, get_set_other xs h k y ne) (ap (option_map (lost_by_all d.entered)) (tied k below))
+    other_is : k ≢ h → option_map (beside_unless (eqb k h) k h d) (slice_get (set xs h y) k) ≡ Some (beside k h d (hart_at s p k (credit_of xs k)))
+    other_is ne =
+        ap (λ b. option_map (beside_unless b k h d) (slice_get (set xs h y) k)) (ne_eqb k h ne)
+        ∙ ap (option_map (beside k h d)) (get_set_other xs h k y ne ∙ tied k below)
 
     go : (k ≡ h) ⊎ (k ≢ h) → slice_get ys k ≡ Some (hart_at s (apply h d p) k (credit_of xs k))
-    go (inl same) = subst (λ j. slice_get ys j ≡ Some (hart_at s (apply h d p) j (credit_of xs j))) (sym same) (lose h ∙ own_lost ∙ ap Some (own ∙ sym (hart_own s p h d (credit_of xs h))))
-    go (inr ne) = lose k ∙ other_lost ne ∙ ap Some (sym (hart_other s p h k d (credit_of xs k) ne fit ids))
+    go (inl same) = subst (λ j. slice_get ys j ≡ Some (hart_at s (apply h d p) j (credit_of xs j))) (sym same) (lose h ∙ own_stays ∙ ap Some (own ∙ sym (hart_own s p h d (credit_of xs h))))
+    go (inr ne) = lose k ∙ other_is ne ∙ ap Some (sym (hart_other s p h k d (credit_of xs k) ne fit ids))

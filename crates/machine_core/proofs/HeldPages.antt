@@ -1,5 +1,5 @@
 -- Stores that wait on pages, and the gate of the next instruction.
-use Rattle.std.proofs.Common.{◌≡◌, ℕ, zero, suc, ◌+◌, ◌/◌, ◌<◌, ◌≤◌, ◌↔◌, List, length, take, get_or, refl, sym, ap, ◌∙◌, arith, inl, inr, Bool, true, false, not, ◌&&◌, ◌||◌, Option, Some, None, is_some}
+use Rattle.std.proofs.Common.{◌≡◌, ℕ, zero, suc, ◌+◌, ◌/◌, ◌<◌, ◌≤◌, ◌↔◌, List, length, take, get_or, refl, sym, ap, ◌∙◌, arith, inl, inr, Bool, true, false, cond, not, ◌&&◌, ◌||◌, Option, Some, None, is_some}
 use Rattle.std.specs.Bool.{IsTrue}
 use Rattle.std.specs.List.{Any, list_any}
 use Rattle.std.specs.Option.{option_or}
@@ -12,7 +12,7 @@ use Rattle.mach_types.proofs.Laws.{each_byte-same}
 use Rattle.mach_types.specs.Bytes.{covers, each_byte}
 use Rattle.mach_types.specs.Kernel.Pages.{PageRun, is_in}
 use Rattle.mach_types.specs.declared.events.Why.{Why}
-use Rattle.mach_types.specs.declared.events.Why.TheVariants.{Idle}
+use Rattle.mach_types.specs.declared.events.Why.TheVariants.{Idle, InBarrier}
 use Rattle.mach_types.specs.declared.user_memory.Store.{Store}
 use Rattle.store_buffers.specs.Pages.{HasByteAmong}
 use Rattle.rv_inst.specs.Execution.{instruction_gate}
@@ -20,6 +20,7 @@ use Rattle.hart_state.specs.State.{exec_refusal}
 use Rattle.hart_state.specs.declared.hart.HartState.{HartState}
 use Rattle.block_model.specs.Calls.Memory.{lies_on, lies_waiting_on}
 use Rattle.block_model.specs.Events.Exec.{is_held, next_effect, next_fault, others_gate, refusal_exec}
+use Rattle.block_model.specs.Events.Preempt.{unless_in_barrier}
 use Rattle.block_model.specs.Here.{runs}
 use Rattle.block_model.specs.Plain.{Plain, here_in_plain}
 use Rattle.block_model.specs.Setting.{Setting}
@@ -172,6 +173,10 @@ pub gate_is : (s : Setting) (p : Plain) (h credit : ℕ) (x : HartState) (next :
     → ((o ≡ Some Idle) → r ≡ o) → r ≡ refusal_exec (here_in_plain s p h)
 gate_is s p h credit x next o r own is first then idle = go (runs (here_in_plain s p h)) refl
   where
+    by_barrier : (a : Option ℕ) (one other : Option Why) → option_or (cond (is_some a) (Some InBarrier) one) other ≡ unless_in_barrier a (option_or one other)
+    by_barrier None one other = refl
+    by_barrier (Some left) one other = refl
+
     go : (u : Option ℕ) → runs (here_in_plain s p h) ≡ u → r ≡ refusal_exec (here_in_plain s p h)
     go None at =
         let none : o ≡ Some Idle = first ∙ rw (own, at) refl in
@@ -179,6 +184,8 @@ gate_is s p h credit x next o r own is first then idle = go (runs (here_in_plain
     go (Some t) at =
         let effect : next.effect ≡ next_effect (here_in_plain s p h) t = is.effect ∙ rw at refl in
         let fault : next.fault ≡ next_fault (here_in_plain s p h) t = is.fault ∙ rw at refl in
-        let gate : o ≡ instruction_gate (length (p.waiting h)) (next_effect (here_in_plain s p h) t) (is_some (next_fault (here_in_plain s p h) t)) =
+        let gate : o ≡ cond (is_some (p.awaits h)) (Some InBarrier) (instruction_gate (length (p.waiting h)) (next_effect (here_in_plain s p h) t) (is_some (next_fault (here_in_plain s p h) t))) =
         first ∙ rw (own, at, effect, fault) refl in
-        then t at ∙ rw (gate, effect, at) refl
+        then t at ∙ rw (gate, effect, at)
+        (by_barrier (p.awaits h) (instruction_gate (length (p.waiting h)) (next_effect (here_in_plain s p h) t) (is_some (next_fault (here_in_plain s p h) t)))
+        (others_gate (is_held (here_in_plain s p h) t) (next_effect (here_in_plain s p h) t)))

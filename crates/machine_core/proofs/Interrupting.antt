@@ -28,7 +28,7 @@ use Rattle.machine_core.specs.Beginning.{IsChanged, IsReadied, IsWaiting}
 use Rattle.machine_core.specs.Losing.{lost_unless}
 use Rattle.machine_core.specs.Stored.{IsWritten}
 use Rattle.machine_core.specs.declared.parts.Parts.{Parts}
-use Rattle.machine_core.proofs.Events.{HaveLost}
+use Rattle.machine_core.proofs.Events.{AreBeside, HaveLost, IsQuiet, quietly}
 use Rattle.machine_core.proofs.HartTies.{get_set_other, get_set_same}
 
 -- HARTS
@@ -45,7 +45,7 @@ changed_set h xs x y f at is k = go (cases_eq k h)
     go (inr ne) = get_set_other xs h k y ne ∙ sym (rw (ne_eqb k h ne) refl)
 
 -- a hart that changed after the others lost what was written
-pub begun_lost : (h : ℕ) (d : Done) (xs ys zs : List HartState) (x : HartState) (f : HartState → HartState) → slice_get xs h ≡ Some x
+begun_lost : (h : ℕ) (d : Done) (xs ys zs : List HartState) (x : HartState) (f : HartState → HartState) → slice_get xs h ≡ Some x
     → ((k : ℕ) → slice_get ys k ≡ option_map (lost_unless (eqb k h) d.entered) (slice_get xs k)) → IsChanged h f ys zs → HaveLost h d (set xs h (f x)) zs
 begun_lost h d xs ys zs x f at lost changed k = go (cases_eq k h)
   where
@@ -64,6 +64,10 @@ begun_lost h d xs ys zs x f at lost changed k = go (cases_eq k h)
     go : (k ≡ h) ⊎ (k ≢ h) → slice_get zs k ≡ option_map (lost_unless (eqb k h) d.entered) (slice_get (set xs h (f x)) k)
     go (inl same) = subst (λ j. slice_get zs j ≡ option_map (lost_unless (eqb j h) d.entered) (slice_get (set xs h (f x)) j)) (sym same) own
     go (inr ne) = other ne
+
+pub begun_beside : (h : ℕ) (d : Done) (xs ys zs : List HartState) (x : HartState) (f : HartState → HartState) → IsQuiet d → slice_get xs h ≡ Some x
+    → ((k : ℕ) → slice_get ys k ≡ option_map (lost_unless (eqb k h) d.entered) (slice_get xs k)) → IsChanged h f ys zs → AreBeside h d (set xs h (f x)) zs
+begun_beside h d xs ys zs x f quiet at lost changed = quietly h d (set xs h (f x)) zs quiet (begun_lost h d xs ys zs x f at lost changed)
 
 -- reservations that are lost to some writes and to others behind them
 lost_app : (ws vs : List Write) (r : Option ℕ) → lost_after vs (lost_after ws r) ≡ lost_after (ws ++ vs) r

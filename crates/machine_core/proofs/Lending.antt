@@ -1,5 +1,5 @@
 -- The stretch that a machine lends of a hart is the one that is lent by its log.
-use Rattle.std.proofs.Common.{List, [], sym, ◌∷◌, ◌++◌, ◌+◌, subst, if◌then◌else◌, arith, ◌≡◌, ℕ, ◌≤◌, ◌<◌, ◌||◌, ◌&&◌, refl, ap, ◌∙◌, Bool, true, false, not, cond, eqb, ltb, Option, None, Some, zero, suc}
+use Rattle.std.proofs.Common.{List, [], sym, ◌∷◌, ◌++◌, ◌+◌, subst, if◌then◌else◌, arith, ◌≡◌, ℕ, ◌≤◌, ◌<◌, ◌||◌, ◌&&◌, refl, ap, ◌∙◌, Bool, true, false, not, cond, eqb, ltb, Option, None, Some, is_some, zero, suc}
 use Rattle.std.specs.Option.{option_and_then, option_map, option_map_or}
 use Rattle.std.specs.Prelude.{IsSome}
 use Rattle.mach_types.specs.declared.events.Advance.{Advance}
@@ -36,10 +36,12 @@ past_lends_none s h before past = rw (le-ltb h s.limits.harts past) (none_either
     none_either false = refl
 
 -- two ways to say that credit is left and the next instruction touches registers alone
-on_credit : {X : Type 0} (credit : ℕ) (is_local : Bool) (x : Option X) → cond (false || eqb credit 0 || not is_local) None x ≡ cond (ltb 0 credit && is_local) x None
-on_credit zero true x = refl
-on_credit zero false x = refl
-on_credit (suc n) is_local x = rw (ne_eqb (suc n) 0 (λ none. omega (arith, none)), lt-ltb 0 (suc n) (omega arith)) (either is_local)
+on_credit : {X : Type 0} (waits : Bool) (credit : ℕ) (is_local : Bool) (x : Option X)
+    → cond (false || waits || eqb credit 0 || not is_local) None x ≡ cond (not waits && (ltb 0 credit && is_local)) x None
+on_credit true credit is_local x = refl
+on_credit false zero true x = refl
+on_credit false zero false x = refl
+on_credit false (suc n) is_local x = rw (ne_eqb (suc n) 0 (λ none. omega (arith, none)), lt-ltb 0 (suc n) (omega arith)) (either is_local)
   where
     either : (b : Bool) → cond (not b) None x ≡ cond b x None
     either true = refl
@@ -54,9 +56,9 @@ state_on s h before o =
       pc = (file_on here o).pc;
       buffer = waiting_here here;
       running = option_map thread o;
-      requests = 0;
-      restart = false;
-      waits = None;
+      requests = here.requests;
+      restart = here.restart;
+      waits = here.awaits;
       reserved = here.reserved;
       ran = ran h before;
       credit = (luck s h before).credit;
@@ -75,7 +77,7 @@ lent_on s h before (Some t) at goes lt =
     let same : is_local ≡ is_local_on here (Some t) = next_local (memory here) (is_writable here) s.program.pages (here.file t) in
     let whole : Option Stretch = lent_to s h before (Some t) in
     rw (goes, lt-ltb h s.limits.harts lt, at)
-    (on_credit credit is_local whole ∙ ap (λ b. cond (ltb 0 credit && b) whole None) same)
+    (on_credit (is_some here.awaits) credit is_local whole ∙ ap (λ b. cond (not (is_some here.awaits) && (ltb 0 credit && b)) whole None) same)
 
 pub lent_is : (s : Setting) (h : ℕ) (before : History) (x : HartState) → x ≡ hart_in (here_in_history s before h) (ran h before) (events h before) (luck s h before).credit
     → has_ended s before ≡ false → h < s.limits.harts → stretch_on s.program.pages h x ≡ lent s h before

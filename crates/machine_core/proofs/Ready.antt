@@ -1,5 +1,5 @@
 -- A machine that takes a stretch in: the hart is as it was when the stretch was lent.
-use Rattle.std.proofs.Common.{List, [], ◌∷◌, ◌-◌, take, zero, suc, eqb, eq-eqb, min, ◌+◌, ◌^◌, map, Bool, leb, ◌||◌, is_some, ◌≡◌, ℕ, ◌<◌, ◌≤◌, ◌++◌, length, refl, sym, ap, ◌∙◌, subst, true, false, get_or, Option, None, Some, arith}
+use Rattle.std.proofs.Common.{List, [], ◌∷◌, ◌-◌, take, zero, suc, eqb, eq-eqb, min, ◌+◌, ◌^◌, map, Bool, leb, ◌||◌, is_some, not, ◌&&◌, ◌≡◌, ℕ, ◌<◌, ◌≤◌, ◌++◌, length, refl, sym, ap, ◌∙◌, subst, true, false, get_or, Option, None, Some, arith}
 use Rattle.std.specs.Option.{option_map}
 use Rattle.std.specs.Vec.{with_item}
 use Rattle.std.proofs.lemmas.Option.{get_or_from_slice_get, same_Some, slice_get-get_or}
@@ -13,7 +13,7 @@ use Rattle.hart_state.specs.declared.hart.HartState.{HartState}
 use Rattle.mach_types.specs.declared.limits.End.{End}
 use Rattle.block_model.specs.Choosing.{IsChosen, Luck, all_chosen, has_ended}
 use Rattle.block_model.specs.Deciding.{history, over_at}
-use Rattle.block_model.specs.History.{History, events}
+use Rattle.block_model.specs.History.{History, awaits, events}
 use Rattle.block_model.specs.Run.{IsBlockRun}
 use Rattle.block_model.specs.Sights.{thread}
 use Rattle.block_model.specs.Plain.{plain_seen}
@@ -54,6 +54,17 @@ goes_on m machine goes = over_read m machine ∙ none_first (over_at (setting_of
     none_first None b is = refl
     none_first (Some e) b is = cc
 
+-- a hart on credit waits in no barrier
+out_of_barrier : (idle in_barrier credit : Bool) → not idle && not in_barrier && credit ≡ true → in_barrier ≡ false
+out_of_barrier true true credit is = cc
+out_of_barrier true false credit is = refl
+out_of_barrier false true credit is = cc
+out_of_barrier false false credit is = refl
+
+none_some : (o : Option ℕ) → is_some o ≡ false → o ≡ None
+none_some None is = refl
+none_some (Some x) is = cc
+
 pub ready : (m : Inside) (h : Hart) (l : Stretch) (x : HartState) → IsMachine m → IsChosen (setting_of m) m.log.items
     → IsStretchOf (setting_of m) h.0 m.log.items l → has_ended (setting_of m) (past_of m) ≡ false → events h.0 (past_of m) ≡ l.events
     → x ≡ get_or m.parts.harts.items h.0 x → IsReady m h l x
@@ -84,6 +95,7 @@ ready m h l x machine chosen fits goes same value =
         lt = began.lt;
         there = slice_get-get_or m.parts.harts.items h.0 x in_list ∙ ap Some (sym value);
         busy = ap (λ (y : HartState). y.running) is ∙ ap (option_map thread) stayed.runs;
+        no_barrier = ap (λ (y : HartState). y.waits) is ∙ none_some (awaits h.0 (past_of m)) (stayed.same_waits ∙ out_of_barrier _ _ _ began.on_credit);
       };
       first = fits.first;
       file = ap (λ (a : Stretch). a.file) began.is ∙ (sym stayed.same_file

@@ -49,7 +49,7 @@ use Rattle.machine_core.specs.declared.parts.Parts.{Parts}
 use Rattle.machine_core.proofs.Entries.{changed_as}
 use Rattle.machine_core.proofs.HartEvents.{killed_own, run_own}
 use Rattle.machine_core.proofs.Ids.{held_here, id_with_other, id_with_same, ready_apart}
-use Rattle.machine_core.proofs.Interrupting.{begun_lost}
+use Rattle.machine_core.proofs.Interrupting.{begun_beside}
 use Rattle.machine_core.proofs.KernelTies.{saved_ran}
 use Rattle.machine_core.proofs.MemoryTies.{pages_written, readable_written}
 use Rattle.machine_core.proofs.NotStuck.{not_stuck, ready_live}
@@ -108,7 +108,7 @@ state_ready t ts is = go (state_of t ts) is
 -- FILES
 
 -- an interruption sets the file of no other thread
-file_other : (here : Here) (t u : ℕ) (o : Outcome) (f : Saved) → u ≢ t → file_among (files_interrupted here t o) u f ≡ f
+pub file_other : (here : Here) (t u : ℕ) (o : Outcome) (f : Saved) → u ≢ t → file_among (files_interrupted here t o) u f ≡ f
 file_other here t u comes_to.Nothing f other = refl
 file_other here t u comes_to.Cleared f other = refl
 file_other here t u (comes_to.Aborted at) f other = rw (ne_eqb t u (λ e. other (sym e))) refl
@@ -190,9 +190,9 @@ module _ (v : Seen) (m : Parts) (h : Hart) (t : Tid) (place : IsPlace v m h.0) (
   pub begun_running : (m1 m2 : Parts) (x : Saved) (id : ℕ) → IsReadied here t.0 true x m m1 → id ≡ next_id (plain_seen v).kernel.ids
       → IsChanged h.0 (begun_with t x id) m1.harts.items m2.harts.items → m2.pages ≡ m1.pages
       → m2.kernel.threads.threads ≡ with_state t.0 (Running h) m.kernel.threads.threads → m2.kernel.threads.saved ≡ with_saved t.0 None m.kernel.threads.saved → IsTable m2.kernel.threads
-      → m2.kernel.ready ≡ without_ready t.0 m.kernel.ready → m2.kernel.areas ≡ m.kernel.areas → m2.kernel.console ≡ m.kernel.console → m2.ended ≡ m.ended
+      → m2.kernel.signals ≡ m.kernel.signals → m2.kernel.ready ≡ without_ready t.0 m.kernel.ready → m2.kernel.areas ≡ m.kernel.areas → m2.kernel.registered ≡ m.kernel.registered → m2.kernel.console ≡ m.kernel.console → m2.ended ≡ m.ended
       → IsAfter v h.0 (done_run here t.0) m m2
-  begun_running m1 m2 x id is its changed pages threads saved table order areas console ended =
+  begun_running m1 m2 x id is its changed pages threads saved table signals order areas registered console ended =
       let p = plain_seen v in
       let tables = tables_at v m h.0 place in
       let d = done_running here t.0 comes in
@@ -204,14 +204,16 @@ module _ (v : Seen) (m : Parts) (h : Hart) (t : Tid) (place : IsPlace v m h.0) (
       changed_as v h.0 (asked.Run t) d m m2 (begun_with t x id own_hart) place free same (record {
         own = run_own (credit_of m.harts.items h.0) v.setting p h.0 t.0 comes x id own_hart (begun_with t x id own_hart) refl tables ready (run_ready here t.0 free).0 place.lt
             (is.file ∙ ap (λ (e : Done). file_among e.files t.0 (p.file t.0)) same) (its ∙ sym its_next) refl;
-        harts = begun_lost h.0 d m.harts.items m1.harts.items m2.harts.items own_hart (begun_with t x id) (place.tied.harts h.0 place.lt)
+        harts = begun_beside h.0 d m.harts.items m1.harts.items m2.harts.items own_hart (begun_with t x id) (record { none_begun = refl; none_taken = refl }) (place.tied.harts h.0 place.lt)
             (λ k. is.harts k ∙ ap (λ (e : Done). option_map (lost_unless (eqb k h.0) e.entered) (slice_get m.harts.items k)) same) changed;
         pages = pages_written p.kernel.pages v.setting.program.break_at p.byte d.entered m.pages m2.pages place.tied.pages wrote;
         readable = readable_written d.entered m.pages m2.pages place.tied.readable wrote;
         threads = threads ∙ ap (with_state t.0 (Running h)) place.tied.threads;
+        signals = signals ∙ place.tied.signals;
         scheduling = order ∙ ap (without_ready t.0) place.tied.scheduling;
         areas = rw areas place.tied.areas;
         ids = λ k u ne runs. id_with_other t.0 u p.kernel.ids (ready_apart v.setting.limits.harts k t.0 u p.kernel.threads p.kernel.scheduling tables ready runs);
+        registered = registered ∙ place.tied.registered;
         console = console ∙ place.tied.console;
         table = table;
         saved = kept_running p.file (λ u. file_among d.files u (p.file u)) t.0 m.kernel.threads m2.kernel.threads saved (λ u other. file_other here t.0 u comes (p.file u) other) place.tied.saved;
@@ -223,9 +225,9 @@ module _ (v : Seen) (m : Parts) (h : Hart) (t : Tid) (place : IsPlace v m h.0) (
       → IsChanged h.0 begun_without m1.harts.items m2.harts.items → m2.pages ≡ m1.pages
       → mid.threads ≡ with_state t.0 (Running h) m.kernel.threads.threads → mid.saved ≡ with_saved t.0 None m.kernel.threads.saved
       → m2.kernel.threads.threads ≡ with_state t.0 Ready mid.threads → m2.kernel.threads.saved ≡ with_saved t.0 (Some x) mid.saved → IsTable m2.kernel.threads
-      → m2.kernel.ready ≡ m.kernel.ready → m2.kernel.areas ≡ m.kernel.areas → m2.kernel.console ≡ m.kernel.console → m2.ended ≡ Some (Killed SIGSEGV)
+      → m2.kernel.signals ≡ m.kernel.signals → m2.kernel.ready ≡ m.kernel.ready → m2.kernel.areas ≡ m.kernel.areas → m2.kernel.registered ≡ m.kernel.registered → m2.kernel.console ≡ m.kernel.console → m2.ended ≡ Some (Killed SIGSEGV)
       → IsAfter v h.0 (done_run here t.0) m m2
-  begun_killed m1 m2 x mid is changed pages ran_threads ran_saved threads saved table order areas console ended =
+  begun_killed m1 m2 x mid is changed pages ran_threads ran_saved threads saved table signals order areas registered console ended =
       let p = plain_seen v in
       let tables = tables_at v m h.0 place in
       let d = done_killed here t.0 comes in
@@ -237,14 +239,16 @@ module _ (v : Seen) (m : Parts) (h : Hart) (t : Tid) (place : IsPlace v m h.0) (
       let back : with_state t.0 Ready (with_state t.0 (Running h) p.kernel.threads) ≡ p.kernel.threads = put_back t.0 h p.kernel.threads tables.threads.rising (state_ready t.0 p.kernel.threads ready) in
       changed_as v h.0 (asked.Run t) d m m2 (begun_without own_hart) place free same (record {
         own = killed_own (credit_of m.harts.items h.0) v.setting p h.0 t.0 comes own_hart (begun_without own_hart) refl (run_ready here t.0 free).0 refl;
-        harts = begun_lost h.0 d m.harts.items m1.harts.items m2.harts.items own_hart begun_without (place.tied.harts h.0 place.lt)
+        harts = begun_beside h.0 d m.harts.items m1.harts.items m2.harts.items own_hart begun_without (record { none_begun = refl; none_taken = refl }) (place.tied.harts h.0 place.lt)
             (λ k. is.harts k ∙ ap (λ (e : Done). option_map (lost_unless (eqb k h.0) e.entered) (slice_get m.harts.items k)) same) changed;
         pages = pages_written p.kernel.pages v.setting.program.break_at p.byte d.entered m.pages m2.pages place.tied.pages wrote;
         readable = readable_written d.entered m.pages m2.pages place.tied.readable wrote;
         threads = threads ∙ ap (with_state t.0 Ready) (ran_threads ∙ ap (with_state t.0 (Running h)) place.tied.threads) ∙ back;
+        signals = signals ∙ place.tied.signals;
         scheduling = order ∙ place.tied.scheduling;
         areas = rw areas place.tied.areas;
         ids = λ k u ne runs. refl;
+        registered = registered ∙ place.tied.registered;
         console = console ∙ place.tied.console;
         table = table;
         saved = kept_again p.file (λ u. file_among d.files u (p.file u)) t.0 x m.kernel.threads mid m2.kernel.threads ran_saved saved

@@ -1,9 +1,10 @@
 -- What a scheduler sees of a hart, told by the hart's state.
 use Rattle.std.proofs.Common.{◌≡◌, ℕ, ◌&&◌, List, sym, ap, ◌∙◌, refl, not, Bool, true, false, is_none, is_some, Option, Some, None}
-use Rattle.std.specs.Option.{option_map, option_map_or}
+use Rattle.std.specs.Option.{option_and_then, option_map, option_map_or}
 use Rattle.mach_types.specs.declared.events.Sight.{Sight}
 use Rattle.mach_types.specs.declared.events.Tid.{Tid}
 use Rattle.mach_types.specs.declared.threads.Saved.{Saved}
+use Rattle.mach_types.specs.Kernel.Signals.{next_for}
 use Rattle.elf_load.specs.declared.image.ImagePage.{ImagePage}
 use Rattle.hart_state.specs.declared.hart.HartState.{HartState}
 use Rattle.rv_inst.proofs.Laws.{local-rows}
@@ -13,7 +14,8 @@ use Rattle.rv_inst.specs.Meaning.{meaning}
 use Rattle.rv_inst.specs.declared.instruction.Inst.{Inst}
 use Rattle.block_model.specs.Here.{Here, is_writable, memory, runs}
 use Rattle.block_model.specs.Instruction.{fault_by, fetched, instruction_of, next_effect, next_fault, next_instruction}
-use Rattle.block_model.specs.Sights.{effect_here, effect_on, is_local_on, thread}
+use Rattle.block_model.specs.Sights.{effect_here, effect_on, is_deliverable_on, is_local_on, thread}
+use Rattle.machine_core.specs.Delivering.{next_on}
 use Rattle.machine_core.specs.Harts.{file_of, file_on, hart_in}
 
 -- the effect that is read from the file of a hart with a thread
@@ -25,6 +27,14 @@ pub effect_read : (here : Here) (x : HartState) (n k credit : ℕ) → x ≡ har
 effect_read here x n k credit is busy =
     ap (λ (y : HartState). next_effect here.setting.program.pages (file_of y)) is
     ∙ effect_by here (runs here) (sym (ap (λ (y : HartState). is_some y.running) is) ∙ busy)
+
+-- an idle hart has none
+no_effect_by : (here : Here) (o : Option ℕ) (idle : Bool) → idle ≡ not (is_some (option_map thread o)) → idle ≡ true → None ≡ effect_on here o
+no_effect_by here None idle is on = refl
+no_effect_by here (Some t) idle is on = cc
+
+pub no_effect_read : (here : Here) (x : HartState) (n k credit : ℕ) → x ≡ hart_in here n k credit → (idle : Bool) → idle ≡ not (is_some x.running) → idle ≡ true → None ≡ effect_here here
+no_effect_read here x n k credit own idle is on = no_effect_by here (runs here) idle (is ∙ ap (λ (y : HartState). not (is_some y.running)) own) on
 
 -- a hart is idle where no thread runs on it
 idle_by : (o : Option ℕ) → not (is_some (option_map thread o)) ≡ is_none o
@@ -77,15 +87,15 @@ numbered None = refl
 numbered (Some t) = refl
 
 -- a sight, field by field
-abbrev pub sight_by : Bool → Option Tid → ℕ → Bool → Bool → ℕ → ℕ → Sight
-sight_by idle first stores enabled is_local ran credit = record {
+abbrev pub sight_by : Bool → Option Tid → Bool → Bool → Bool → ℕ → Bool → Bool → Bool → ℕ → ℕ → Sight
+sight_by idle first waits taken requested stores deliverable enabled is_local ran credit = record {
   idle = idle;
   first_ready = first;
-  in_barrier = false;
-  all_taken = false;
-  requested = false;
+  in_barrier = waits;
+  all_taken = taken;
+  requested = requested;
   stores = stores;
-  deliverable = false;
+  deliverable = deliverable;
   exec_enabled = enabled;
   local = is_local;
   ran = ran;
@@ -95,11 +105,25 @@ sight_by idle first stores enabled is_local ran credit = record {
 pub record AreSame (a b : Sight) : Type 0 where
   pub idle : a.idle ≡ b.idle
   pub first_ready : a.first_ready ≡ b.first_ready
+  pub in_barrier : a.in_barrier ≡ b.in_barrier
+  pub all_taken : a.all_taken ≡ b.all_taken
+  pub requested : a.requested ≡ b.requested
   pub stores : a.stores ≡ b.stores
+  pub deliverable : a.deliverable ≡ b.deliverable
   pub exec_enabled : a.exec_enabled ≡ b.exec_enabled
   pub local : a.local ≡ b.local
   pub ran : a.ran ≡ b.ran
   pub credit : a.credit ≡ b.credit
 
-pub same_sight : (i i' : Bool) (f f' : Option Tid) (s s' : ℕ) (e e' l l' : Bool) (r r' c c' : ℕ) → AreSame (sight_by i f s e l r c) (sight_by i' f' s' e' l' r' c') → sight_by i f s e l r c ≡ sight_by i' f' s' e' l' r' c'
-same_sight i i' f f' s s' e e' l l' r r' c c' same = rw (same.idle, same.first_ready, same.stores, same.exec_enabled, same.local, same.ran, same.credit) refl
+pub same_sight : (i i' : Bool) (f f' : Option Tid) (w w' t t' q q' : Bool) (s s' : ℕ) (d d' e e' l l' : Bool) (r r' c c' : ℕ)
+    → AreSame (sight_by i f w t q s d e l r c) (sight_by i' f' w' t' q' s' d' e' l' r' c') → sight_by i f w t q s d e l r c ≡ sight_by i' f' w' t' q' s' d' e' l' r' c'
+same_sight i i' f f' w w' t t' q q' s s' d d' e e' l l' r r' c c' same =
+    rw (same.idle, same.first_ready, same.in_barrier, same.all_taken, same.requested, same.stores, same.deliverable, same.exec_enabled, same.local, same.ran, same.credit) refl
+
+-- whether a signal can be delivered to the thread on a hart
+some_next : (here : Here) (o : Option ℕ) → is_some (option_and_then (λ t. next_for t here.kernel.signals) o) ≡ is_deliverable_on here o
+some_next here None = refl
+some_next here (Some t) = refl
+
+pub deliverable_read : (here : Here) (o : Option ℕ) (b : Bool) → b ≡ is_some o → o ≡ next_on here → b ≡ is_deliverable_on here (runs here)
+deliverable_read here o b some is = some ∙ ap is_some is ∙ some_next here (runs here)

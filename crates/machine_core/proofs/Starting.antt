@@ -4,6 +4,8 @@ use Rattle.std.specs.List.{All}
 use Rattle.std.proofs.lemmas.Bool.{and_parts}
 use Rattle.std.proofs.lemmas.Option.{same_Some}
 use Rattle.std.specs.Option.{option_and_then, option_map, option_map_or}
+use Rattle.mach_types.specs.Kernel.Signals.{start_signalling}
+use Rattle.mach_types.specs.Kernel.Barriers.{none_registered}
 use Rattle.mach_types.specs.Kernel.Pages.{can_read, can_write, is_in, permission_of}
 use Rattle.mach_types.specs.declared.limits.Limits.{Limits}
 use Rattle.mach_types.specs.declared.threads.Saved.{Saved}
@@ -72,9 +74,9 @@ pub tied-start : (image : Image) (limits : Limits) (seed : ℕ) (m : Parts) → 
     ((a : ℕ) → held_in m.pages a ≡ cond (is_some (permission_of (start_runs image.pages.items) (a / 4096))) (Some (start_byte (program_of image) a)) None) →
     free_in m.pages + 65 + length image.pages.items ≡ limits.frames → break_in m.pages ≡ image.break_at → break_start_in m.pages ≡ image.break_at →
     length m.harts.items ≡ limits.harts → All (λ hart. hart ≡ idle_hart) m.harts.items →
-    m.kernel.threads ≡ start_table (start_file (program_of image)) → m.kernel.ready ≡ (first_kernel (setting_by image limits seed)).scheduling → m.kernel.console ≡ [] → areas_by_number m.kernel.areas.items ≡ [] → IsTable m.kernel.threads → m.ended ≡ None →
+    m.kernel.threads ≡ start_table (start_file (program_of image)) → m.kernel.signals ≡ start_signalling → m.kernel.ready ≡ (first_kernel (setting_by image limits seed)).scheduling → m.kernel.registered ≡ none_registered → m.kernel.console ≡ [] → areas_by_number m.kernel.areas.items ≡ [] → IsTable m.kernel.threads → m.ended ≡ None →
     IsTied (setting_by image limits seed) (plain_start (setting_by image limits seed)) m
-tied-start image limits seed m allowed permissions held free break_at break_start count idles threads ready console areas table ended = record {
+tied-start image limits seed m allowed permissions held free break_at break_start count idles threads signals ready registered console areas table ended = record {
   all_harts = count;
   harts = λ h lt.
       let at = each idle_hart m.harts.items h idles (omega (arith, count)) in
@@ -92,8 +94,10 @@ tied-start image limits seed m allowed permissions held free break_at break_star
       let whole : may_write o ≡ true = start_alone image.pages.items n allowed ∙ sym (ap can_write (permissions n)) ∙ may in
       ap can_read (permissions n) ∙ (and_parts (can_read o) (can_write o) whole).0;
   threads = ap (λ t. t.threads) threads;
+  signals = signals;
   scheduling = ready;
   areas = areas;
+  registered = registered;
   console = console;
   table = table;
   saved = λ u x is. saved_start (start_file (program_of image)) u x (ap (λ t. saved_of u t.saved) (sym threads) ∙ is);

@@ -1,5 +1,5 @@
 -- What is kept of one hart, as a rule may read it at a place.
-use Rattle.std.specs.Prelude.{ℕ, false, List, Option, Some, None, slice_get}
+use Rattle.std.specs.Prelude.{ℕ, List, Option, Some, None, slice_get}
 use Rattle.std.specs.Option.{option_map, option_map_or}
 use Rattle.mach_types.specs.Registers.{no_registers}
 use Rattle.mach_types.specs.declared.threads.Saved.{Saved}
@@ -20,18 +20,18 @@ abbrev pub id_on : Here → Option ℕ → ℕ
 id_on here None = 0
 id_on here (Some t) = id_of t here.kernel.ids
 
--- the state of the hart: its thread, that thread's registers, pc and id; its waiting stores and its reservation; how many
--- instructions it executed since a thread began to run there, how many events it made, and its credit. No barrier asks for
--- anything
+-- the state of the hart: its thread, that thread's registers, pc and id; its waiting stores and its reservation; the requests of
+-- barriers that are pending there, and what its thread's barrier waits for; how many instructions it executed since a thread began to
+-- run there, how many events it made, and its credit
 abbrev pub hart_in : Here → ℕ → ℕ → ℕ → HartState
 hart_in here ran events credit = record {
   file = (file_on here (runs here)).file;
   pc = (file_on here (runs here)).pc;
   buffer = waiting_here here;
   running = option_map thread (runs here);
-  requests = 0;
-  restart = false;
-  waits = None;
+  requests = here.requests;
+  restart = here.restart;
+  waits = here.awaits;
   reserved = here.reserved;
   ran = ran;
   credit = credit;

@@ -35,11 +35,11 @@ code_of pages = filter is_executable pages
 abbrev pub executed : Hart → Tid → ℕ → Entry
 executed h t pc = record { hart = h; kind = kind.Exec; tid = t; pc = pc }
 
--- the stretch of hart h in this state, over this code: none where no thread runs on it, where it has no credit, or where its next
--- instruction touches more than registers
+-- the stretch of hart h in this state, over this code: none where no thread runs on it or one waits in a barrier, where it has no
+-- credit, or where its next instruction touches more than registers
 abbrev pub stretch_on : List ImagePage → ℕ → HartState → Option plain.Stretch
 stretch_on code h x =
-    if not (is_some x.running) || x.credit == 0 || not (option_map_or sets_register (next_effect code (file_of x)) false) then None
+    if not (is_some x.running) || is_some x.waits || x.credit == 0 || not (option_map_or sets_register (next_effect code (file_of x)) false) then None
     else Some (record { hart = h; events = x.events; file = file_of x; credit = x.credit; pcs = [] })
 
 -- a hart as a stretch of its work leaves it: the file and the credit are the stretch's, and each of its instructions counts

@@ -28,15 +28,17 @@ abbrev pub IsReadable : Map → Type 0
 IsReadable m = (n : ℕ) → can_write (permission_in m n) ≡ true → can_read (permission_in m n) ≡ true
 
 -- each part is that of the plain machine: the harts, but for their credits; the pages and their bytes; the threads with their
--- files, the ready list, the areas and the console; and how the run has ended
+-- files, the signals, the ready list, the areas, the registrations for barriers and the console; and how the run has ended
 pub record IsTied (s : Setting) (p : Plain) (m : Parts) : Type 0 where
   pub all_harts : length m.harts.items ≡ s.limits.harts
   pub harts : (h : ℕ) → h < s.limits.harts → slice_get m.harts.items h ≡ Some (hart_at s p h (credit_of m.harts.items h))
   pub pages : HoldsPages p.kernel.pages s.program.break_at p.byte m.pages
   pub readable : IsReadable m.pages
   pub threads : m.kernel.threads.threads ≡ p.kernel.threads
+  pub signals : m.kernel.signals ≡ p.kernel.signals
   pub scheduling : m.kernel.ready ≡ p.kernel.scheduling
   pub areas : areas_by_number m.kernel.areas.items ≡ p.kernel.areas
+  pub registered : m.kernel.registered ≡ p.kernel.barriers
   pub console : m.kernel.console ≡ p.kernel.console
   pub table : IsTable m.kernel.threads
   pub saved : AreSaved p.file m.kernel.threads

@@ -64,7 +64,7 @@ fn held_ids(harts: &[HartState]) -> u8
 }
 
 /// Where a thread goes on that was interrupted at a pc.
-fn pc_after(pc: u64, outcome: Outcome) -> u64
+pub fn pc_after(pc: u64, outcome: Outcome) -> u64
     ensures { result ≡ pc_after pc outcome }
 {
     match outcome {
@@ -135,8 +135,8 @@ impl Parts {
         }
     }
 
-    /// A thread with this area that waits at a pc to run on a hart is interrupted: its pointer becomes 0 where it has one.
-    fn interrupted(&mut self, hart: Hart, area: Option<Area>, pc: u64) -> Outcome
+    /// A thread of a hart with this area is interrupted at a pc: its pointer becomes 0 where it has one.
+    pub fn interrupted(&mut self, hart: Hart, area: Option<Area>, pc: u64) -> Outcome
         ensures outcome { result ≡ interruption (byte_in self.old.pages) (can_write_in self.old.pages) area pc }
         ensures pages { IsWritten (areas.writes_of area result) self.old.pages self.new.pages }
         ensures writable { (a : ℕ) → can_write_in self.new.pages a ≡ can_write_in self.old.pages a }
@@ -197,7 +197,9 @@ impl Parts {
         ensures harts { IsChanged hart.0 (begun_with tid saved id) self.old.harts.items self.new.harts.items }
         ensures ready { self.new.kernel.ready ≡ without_ready tid.0 self.old.kernel.ready }
         ensures threads { self.new.kernel.threads ≡ self.old.kernel.threads }
+        ensures signals { self.new.kernel.signals ≡ self.old.kernel.signals }
         ensures areas { self.new.kernel.areas ≡ self.old.kernel.areas }
+        ensures registered { self.new.kernel.registered ≡ self.old.kernel.registered }
         ensures console { self.new.kernel.console ≡ self.old.kernel.console }
         ensures pages { self.new.pages ≡ self.old.pages }
         ensures ended { self.new.ended ≡ self.old.ended }
@@ -217,7 +219,9 @@ impl Parts {
         ensures threads { self.new.kernel.threads.threads ≡ with_state tid.0 ThreadState.Ready self.old.kernel.threads.threads }
         ensures saved { self.new.kernel.threads.saved ≡ with_saved tid.0 (Some saved) self.old.kernel.threads.saved }
         ensures table { IsTable self.new.kernel.threads }
+        ensures signals { self.new.kernel.signals ≡ self.old.kernel.signals }
         ensures areas { self.new.kernel.areas ≡ self.old.kernel.areas }
+        ensures registered { self.new.kernel.registered ≡ self.old.kernel.registered }
         ensures console { self.new.kernel.console ≡ self.old.kernel.console }
         ensures pages { self.new.pages ≡ self.old.pages }
         ensures ended { self.new.ended ≡ Some (End.Killed SIGSEGV) }

@@ -11,9 +11,9 @@ ghost use Rattle.machine_core.specs.Planned.{IsPlanned, IsInside, HasPlan, IsExe
 ghost use Rattle.machine_core.specs.Tied.{IsPlace, HasCode, IsAfter, answer_to};
 
 use crate::code::Code;
+use crate::handlers::has_handler;
 use crate::next::{Next, next_of};
 use crate::parts::{Parts, entry_of};
-use crate::reservations::lose_others;
 use hart_state::HartState;
 use mach_types::signals::SIGSEGV;
 use mach_types::{Choice, End, Entry, Hart, Kind, Saved, Why};
@@ -36,7 +36,7 @@ impl Parts {
         }
     }
 
-    /// A fault: the process is killed by its signal.
+    /// A fault: its signal becomes pending for the thread where it has a handler, and else the process is killed by it.
     fn fault(&mut self, hart: Hart, signal: u8) -> Entry
         requires { (effect : Option Effect) × HasPlan self.old hart.0 (record { effect = effect; fault = Some signal }) }
         ensures { (effect : Option Effect) → IsExecuted self.old hart.0 (record { effect = effect; fault = Some signal }) result self.new }
@@ -45,7 +45,11 @@ impl Parts {
         let entry = entry_of(hart, Kind::Exec, state);
         state.ran += 1;
         state.events += 1;
-        self.ended = Some(End::Killed(signal));
+        if has_handler(&self.kernel.signals, entry.tid, signal) {
+            self.kernel.signals.post(entry.tid, signal);
+        } else {
+            self.ended = Some(End::Killed(signal));
+        }
         entry
     }
 
@@ -99,6 +103,7 @@ impl Parts {
         ensures { IsExecuted self.old hart.0 (record { effect = Some Effect.Call; fault = None }) result self.new }
     {
         let harts = self.harts.len() as u8;
+        let running = self.busy_harts();
         let state = &mut self.harts[hart.0 as usize];
         let entry = entry_of(hart, Kind::Exec, state);
         let mut saved = Saved {
@@ -109,7 +114,7 @@ impl Parts {
             &mut self.kernel,
             &mut self.pages,
             hart,
-            0,
+            running,
             harts,
             entry.tid,
             &mut saved,
@@ -119,7 +124,8 @@ impl Parts {
         state.ran += 1;
         state.events += 1;
         self.pages.keeps();
-        lose_others(&mut self.harts, hart, done.written.as_slice());
+        self.lose(hart, done.written.as_slice());
+        self.ask(hart, done.end);
         self.ended = self.end_after(done.end);
         entry
     }
@@ -165,7 +171,16 @@ impl Parts {
     }
 }
 
-/// The hart after the call of its thread, which left this in its registers: it goes on, or gave up the hart.
+/// A thread goes on with this file after its call.
+fn go_on(state: &mut HartState, saved: Saved)
+    ensures { state.new ≡ record state.old { file = saved.file; pc = saved.pc; reserved = None } }
+{
+    state.file = saved.file;
+    state.pc = saved.pc;
+    state.reserved = None;
+}
+
+/// The hart after the call of its thread, which left this in its registers: it goes on, waits there in a barrier, or gave up the hart.
 fn end_call(state: &mut HartState, end: CallEnd, saved: Saved)
     ensures { state.new ≡ hart_after_call end saved state.old }
 {
@@ -173,10 +188,10 @@ fn end_call(state: &mut HartState, end: CallEnd, saved: Saved)
         CallEnd::Block | CallEnd::Leave(_) | CallEnd::ThreadEnd => {
             let _kept = state.leave();
         }
-        _ => {
-            state.file = saved.file;
-            state.pc = saved.pc;
-            state.reserved = None;
+        CallEnd::Return(_) | CallEnd::Resume | CallEnd::ProcessEnd(_) => go_on(state, saved),
+        CallEnd::Barrier { targets, .. } => {
+            go_on(state, saved);
+            state.waits = Some(targets);
         }
     }
 }

@@ -3,16 +3,20 @@
 //! Every log is a block run: each entry is the one that the definitions of `block_model` allow at its place.
 #![tactic(auto)]
 
+mod barriers;
 mod beginning;
 mod code;
+mod delivering;
 mod executing;
 mod following;
+mod handlers;
 mod hart_view;
 mod holding;
 mod machine;
 mod moving;
 mod next;
 mod parts;
+mod requests;
 mod reservations;
 mod search;
 mod sequences;

@@ -25,9 +25,10 @@ use frame_pool::FramePool;
 use hart_state::HartState;
 use kernel_threads::Threads;
 use mach_types::address_space::START_SP;
-use mach_types::{Choice, End, Entry, Hart, Limits, Regs, Saved, Why};
+use mach_types::{Choice, End, Entry, Hart, Limits, Registered, Regs, Saved, Why};
 use page_map::PageMap;
 use scheduler::Ready;
+use signals::Signals;
 use std::alloc::{AllocError, Global};
 use std::marker::Model;
 use sys_calls::{Console, Kernel};
@@ -112,8 +113,14 @@ impl Machine {
         let threads = Threads::new(alloc, first_file(image))?;
         let console = Console::new(alloc)?;
         let log = Vec::with_capacity(alloc, limits.steps as usize)?;
+        let signals = Signals::new();
         let ready = Ready::new(limits.harts);
         let areas = ArrayVec::new();
+        let registered = Registered {
+            global: false,
+            private: false,
+            rseq: false,
+        };
         let chooser = Chooser::new(seed);
         Ok(Machine {
             code,
@@ -128,9 +135,11 @@ impl Machine {
                 harts,
                 kernel: Kernel {
                     threads,
+                    signals,
                     ready,
-                    console,
                     areas,
+                    registered,
+                    console,
                 },
                 ended: None,
             },

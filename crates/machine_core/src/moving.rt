@@ -91,6 +91,8 @@ impl Parts {
         let state = &self.harts[hart.0 as usize];
         if state.is_idle() {
             Some(Why::Idle)
+        } else if state.waits.is_some() {
+            Some(Why::InBarrier)
         } else if state.buffer.len() != 0 {
             Some(Why::Waiting)
         } else {

@@ -1,14 +1,12 @@
 //! The parts of a machine, without its log, and which of its events are refused.
 
-ghost use Rattle.std.specs.Prelude.{◌≡◌, Some, IfOk, OnErr};
+ghost use Rattle.std.specs.Prelude.{◌≡◌, IfOk, OnErr};
 ghost use Rattle.mach_types.specs.Kernel.Threads.{is_ready};
 ghost use Rattle.block_model.specs.Setting.{Seen};
-ghost use Rattle.block_model.specs.Here.{runs};
 ghost use Rattle.block_model.specs.Events.{done_of};
-ghost use Rattle.block_model.specs.Events.Unbuilt.{unless_idle};
 ghost use Rattle.block_model.specs.Plain.{here_of};
 ghost use Rattle.machine_core.specs.Deeds.{entry_from};
-ghost use Rattle.machine_core.specs.Tied.{IsPlace, HasPlace, HasCode, IsAfter, answer_to};
+ghost use Rattle.machine_core.specs.Tied.{IsPlace, HasCode, IsAfter, answer_to};
 
 use crate::code::Code;
 use hart_state::HartState;
@@ -23,7 +21,7 @@ pub struct Parts {
     pub pages: PageMap,
     /// The harts, by number.
     pub harts: Vec<HartState>,
-    /// The threads, the ready list, the areas and the console.
+    /// The threads, the signals, the ready list, the areas, the registrations for barriers and the console.
     pub kernel: Kernel,
     /// How the run has ended, if it has.
     pub ended: Option<End>,
@@ -50,18 +48,6 @@ pub fn entry_of(hart: Hart, kind: Kind, state: &HartState) -> Entry
 }
 
 impl Parts {
-    /// What fails of an event of a running thread that isn't built yet.
-    fn unbuilt(&self, hart: Hart, why: Why) -> Why
-        requires { HasPlace self.now hart.0 }
-        ensures { (v : Seen) → IsPlace v self.now hart.0 → Some result ≡ unless_idle why (runs (here_of v hart.0)) }
-    {
-        if self.harts[hart.0 as usize].is_idle() {
-            Why::Idle
-        } else {
-            why
-        }
-    }
-
     /// Whether a thread is ready.
     pub fn is_ready(&self, tid: Tid) -> bool
         ensures { result ≡ is_ready tid.0 self.now.kernel.threads.threads }
@@ -81,11 +67,11 @@ impl Parts {
         match choice {
             Choice::Exec => self.exec(code, hart),
             Choice::Drain => self.drain(hart),
-            Choice::Take => Err(Why::NoRequest),
-            Choice::Done => Err(self.unbuilt(hart, Why::NotInBarrier)),
+            Choice::Take => self.take(hart),
+            Choice::Done => self.done(hart),
             Choice::Preempt => self.preempt(hart),
             Choice::Run(tid) => self.run(hart, tid),
-            Choice::Signal => Err(self.unbuilt(hart, Why::NoSignal)),
+            Choice::Signal => self.signal(hart),
         }
     }
 }

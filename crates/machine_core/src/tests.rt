@@ -1,5 +1,6 @@
 //! Tests: small programs, with values found by hand.
 
+mod barriers;
 mod bench;
 mod calls;
 mod choosing;
@@ -10,4 +11,5 @@ mod player;
 mod readers;
 mod reservations;
 mod sequences;
+mod signalling;
 mod threads;

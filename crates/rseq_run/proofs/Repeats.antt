@@ -22,7 +22,7 @@ use Rattle.step_log.proofs.Laws.{length-decimal_32, length-hex_text, length-kind
 use Rattle.block_model.specs.Replay.{script_of}
 use Rattle.block_model.specs.Run.{IsBlockRun}
 use Rattle.block_model.specs.Setting.{Setting, setting_of}
-use Rattle.block_model.proofs.Laws.{all_addresses, all_harts, all_threads, answers_itself, within_limit}
+use Rattle.block_model.proofs.Laws.{HaveBytes, all_addresses, all_harts, all_threads, answers_itself, image_bytes, within_limit}
 use Rattle.rseq_run.specs.Outputs.{IsPlayOutput, IsRunOutput, IsSoloOutput, log_output}
 use Rattle.rseq_run.specs.Programs.{Files, IsProgram, IsReadAs, ask_in, ask_of, asks_of, most_script_bytes}
 use Rattle.rseq_run.specs.Programs.{start_of}
@@ -61,8 +61,8 @@ printable (e ∷ es) fits =
     (fits zero e (omega arith), printable es (λ k d lt. fits (suc k) d (omega (arith, lt))))
 
 pub run_prints : (s : Setting) (log : List Entry) → InRange s.limits → s.program.entry < 2 ^ 64
-    → IsBlockRun s log → AllByRecursion IsPrintable log
-run_prints s log range entry run =
+    → HaveBytes s.program.pages → IsBlockRun s log → AllByRecursion IsPrintable log
+run_prints s log range entry bytes run =
     let few : s.limits.steps < 2 ^ 31 - 1 = let most = range.most_steps in omega (arith, most) in
     printable log (λ k d lt.
     let small = all_harts s log run k d lt in
@@ -70,8 +70,7 @@ run_prints s log range entry run =
     record {
       hart = omega (arith, small, harts);
       thread = all_threads s log few run k d lt;
-      pc = all_addresses s
-          log entry run k d lt;
+      pc = all_addresses s log entry bytes run k d lt;
     })
 
 -- an entry's line has at most 38 bytes, and so a log's lines fit a script
@@ -139,6 +138,7 @@ taken_again : (files later : Files) (program : List ℕ) (limits : Limits) (imag
 taken_again files later program limits image same taken = record {
   bytes = taken.bytes;
   read = subst (λ o. IfSome o (λ told. taken.bytes ≡ told)) (sym same) taken.read;
+  are_bytes = taken.are_bytes;
   good = taken.good;
   loaded = taken.loaded;
 }
@@ -150,7 +150,7 @@ output_again : (files later : Files) (program script : List ℕ) (limits : Limit
     → IsPlayOutput later program script limits written
 output_again files later program script limits written image log range same taken run text read =
     let fits = run_prints (start_of image limits) log range
-    (entry_fits files program limits image taken) run in
+    (entry_fits files program limits image taken) (image_bytes taken.bytes image taken.are_bytes taken.loaded) run in
     record {
       image = image;
       taken = taken_again files later program limits image same taken;

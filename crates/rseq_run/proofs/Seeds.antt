@@ -1,7 +1,7 @@
 -- The seed decides what harts choose, and nothing else: under another seed a block run is one too, and has the same history, console
 -- and end.
 use Rattle.std.proofs.Common.{◌≡◌, ℕ, ◌+◌, ◌*◌, ◌^◌, ◌==◌, ◌&&◌, zero, suc, List, [], ◌∷◌, length, refl, sym, ap, ap₂, ◌∙◌, subst}
-use Rattle.std.proofs.Common.{Option, Some, None, Ok, Err}
+use Rattle.std.proofs.Common.{Bool, true, false, Option, Some, None, Ok, Err}
 use Rattle.std.specs.Prelude.{fold, if◌then◌else◌, nat_le, nat_lt, not, take, Result, ◌%◌, ◌++◌}
 use Rattle.mach_types.specs.Events.{choice_of}
 use Rattle.mach_types.specs.declared.errors.TheConstants.{EBADF, EFAULT, EINVAL, ENOSPC, ENOSYS}
@@ -12,12 +12,14 @@ use Rattle.mach_types.specs.declared.events.Why.{Why}
 use Rattle.mach_types.specs.declared.events.Why.TheVariants.{NoHart}
 use Rattle.mach_types.specs.declared.kernel_words.TheConstants.{CONSOLE_ROOM}
 use Rattle.mach_types.specs.declared.limits.End.{End}
+use Rattle.mach_types.specs.declared.limits.End.TheVariants.{Killed}
 use Rattle.mach_types.specs.declared.user_memory.Store.{Store}
 use Rattle.mach_types.specs.Bytes.{written}
 use Rattle.block_model.specs.declared.refusals.Refused.TheVariants.{Full, NotEnabled}
 use Rattle.block_model.specs.Setting.{Setting}
 use Rattle.block_model.specs.Here.{Here, Done, memory, runs, waiting_here}
 use Rattle.block_model.specs.Calls.{called}
+use Rattle.block_model.specs.Calls.Barriers.{answers, membarrier}
 use Rattle.block_model.specs.Calls.Affinity.{getcpu, sched_getaffinity, sched_setaffinity, sched_yield}
 use Rattle.block_model.specs.Calls.Answers.{CallDone, argument, are_readable, call_number, int_argument, number_at, refused, said}
 use Rattle.block_model.specs.Calls.Cloning.{clone}
@@ -27,14 +29,22 @@ use Rattle.block_model.specs.Calls.Futexes.{futex}
 use Rattle.block_model.specs.Calls.Memory.{brk, mmap, mprotect, munmap}
 use Rattle.block_model.specs.Calls.Numbers.{getpid, gettid, set_tid_address}
 use Rattle.block_model.specs.Calls.Sequences.{registers_or_refused, rseq, unregisters, unregisters_or_refused}
+use Rattle.block_model.specs.Calls.Signals.{resumed, rt_sigaction, rt_sigprocmask, rt_sigreturn, tgkill, tkill}
 use Rattle.block_model.specs.Events.{done_of, refusal_of}
 use Rattle.block_model.specs.Events.Drain.{done_drain_of}
 use Rattle.block_model.specs.Events.Exec.{by_effect, done_exec_by, next_effect, next_fault, refusal_exec_by}
-use Rattle.block_model.specs.Events.Preempt.{done_preempt_by, refusal_preempt_by}
+use Rattle.block_model.specs.Events.Preempt.{done_preempt_by, refusal_preempt_by, unless_in_barrier}
+use Rattle.block_model.specs.Events.Finish.{done_done_by, refusal_done_by}
 use Rattle.block_model.specs.Events.Run.{done_killed, done_run_by, done_running, lives_on, refusal_run_by}
+use Rattle.block_model.specs.Events.Signal.{done_delivery, done_next, done_signal_by, handled_unless_killed, kills, only_taken, refusal_delivery, refusal_signal_by}
+use Rattle.block_model.specs.Events.Take.{done_take_by, took_and_interrupted}
 use Rattle.block_model.specs.Ids.{next_id}
 use Rattle.block_model.specs.Sequences.{area_here, can_write_words, files_interrupted, interruption_here, words_to}
+use Rattle.mach_types.specs.Kernel.SignalFrames.{frame_read}
+use Rattle.mach_types.specs.Kernel.Signals.{next_for}
 use Rattle.mach_types.specs.Kernel.Areas.{Words, registration, unregistration, words_on, writes_of}
+use Rattle.mach_types.specs.declared.barriers.Answer.{Answer}
+use Rattle.mach_types.specs.declared.barriers.Answer.TheVariants.{Value, Begin}
 use Rattle.mach_types.specs.declared.sequences.Area.{Area}
 use Rattle.mach_types.specs.declared.sequences.Outcome.{Outcome}
 use Rattle.mach_types.specs.declared.sequences.Outcome.TheVariants as comes_to
@@ -115,9 +125,25 @@ module _ (n : ℕ) where
       ap₂ (λ (leaves stays : CallDone). if flags % 2 == 1 then leaves else stays)
       (unregistered_same here t (unregistration old at len flags sig)) (registered_same here t (registration old at len flags sig))
 
-  -- the table, where `write`, `writev` and `rseq` do this
-  abbrev table : Here → ℕ → ℕ → CallDone → CallDone → CallDone → CallDone
-  table here t number one many areas =
+  -- rt_sigreturn
+  resumed_same : (here : Here) (t : ℕ) (words : Option (List ℕ)) → resumed (moved here) t words ≡ resumed here t words
+  resumed_same here t None = refl
+  resumed_same here t (Some words) = refl
+
+  sigreturn_same : (here : Here) (t : ℕ) → rt_sigreturn (moved here) t ≡ rt_sigreturn here t
+  sigreturn_same here t = resumed_same here t (frame_read (memory here) (here.file t))
+
+  -- membarrier
+  answers_same : (here : Here) (t : ℕ) (a : Answer) → answers (moved here) t a ≡ answers here t a
+  answers_same here t (Value n) = refl
+  answers_same here t (Begin targets restart) = refl
+
+  membarrier_same : (here : Here) (t : ℕ) → membarrier (moved here) t ≡ membarrier here t
+  membarrier_same here t = answers_same here t _
+
+  -- the table, where `write`, `writev`, `rt_sigreturn`, `membarrier` and `rseq` do this
+  abbrev table : Here → ℕ → ℕ → CallDone → CallDone → CallDone → CallDone → CallDone → CallDone
+  table here t number one many resumes barriers areas =
       if number == 64 then one
       else if number == 66 then many
       else if number == 93 then exit here t
@@ -127,6 +153,11 @@ module _ (n : ℕ) where
       else if number == 122 then sched_setaffinity here t
       else if number == 123 then sched_getaffinity here t
       else if number == 124 then sched_yield here t
+      else if number == 130 then tkill here t
+      else if number == 131 then tgkill here t
+      else if number == 134 then rt_sigaction here t
+      else if number == 135 then rt_sigprocmask here t
+      else if number == 139 then resumes
       else if number == 168 then getcpu here t
       else if number == 172 then getpid here t
       else if number == 178 then gettid here t
@@ -135,14 +166,20 @@ module _ (n : ℕ) where
       else if number == 220 then clone here t
       else if number == 222 then mmap here t
       else if number == 226 then mprotect here t
+      else if number == 283 then barriers
       else if number == 293 then areas
       else refused here t ENOSYS
 
   called_same : (here : Here) (t : ℕ) → called (moved here) t ≡ called here t
   called_same here t =
       let number = call_number here t in
-      ap₂ (λ (one many : CallDone). table here t number one many (rseq (moved here) t)) (write_same here t) (writev_same here t)
-      ∙ ap (table here t number (write here t) (writev here t)) (rseq_same here t)
+      let barriers = membarrier (moved here) t in
+      ap₂ (λ (one many : CallDone). table here t number one many (rt_sigreturn (moved here) t) barriers (rseq (moved here) t))
+      (write_same here t) (writev_same here t)
+      ∙ ap₂ (λ (resumes areas : CallDone). table here t number (write here t) (writev here t) resumes barriers areas)
+      (sigreturn_same here t) (rseq_same here t)
+      ∙ ap (λ (d : CallDone). table here t number (write here t) (writev here t) (rt_sigreturn here t) d (rseq here t))
+      (membarrier_same here t)
 
   -- what events do
   effect_same : (here : Here) (t : ℕ) (fault : Option ℕ) (e : Option _) → by_effect (moved here) t fault e ≡ by_effect here t fault e
@@ -197,14 +234,54 @@ module _ (n : ℕ) where
       ap (λ b. if b then done_running (moved here) t o else done_killed (moved here) t o) (lives_same here t o)
       ∙ ap₂ (λ (goes ends : Done). if lives_on here t o then goes else ends) (running_same here t o) (killed_same here t o)
 
+  -- a signal is delivered
+  taken_same : (here : Here) (t signal : ℕ) (o : Outcome) → only_taken (moved here) t signal o ≡ only_taken here t signal o
+  taken_same here t signal o = ap (λ (files : List (ℕ × Saved)). record (only_taken here t signal o) { files = files }) (interrupted_same here t o)
+
+  kills_same : (here : Here) (t signal : ℕ) (o : Outcome) → kills (moved here) t signal o ≡ kills here t signal o
+  kills_same here t signal comes_to.Nothing = refl
+  kills_same here t signal comes_to.Cleared = refl
+  kills_same here t signal (comes_to.Aborted at) = refl
+  kills_same here t signal (comes_to.Killed why) = refl
+
+  handled_same : (here : Here) (t signal : ℕ) (o : Outcome) (killer : Option ℕ)
+      → handled_unless_killed (moved here) t signal o killer ≡ handled_unless_killed here t signal o killer
+  handled_same here t signal o None = refl
+  handled_same here t signal o (Some killer) = ap (λ (d : Done). record d { ended = Some (Killed killer) }) (taken_same here t signal o)
+
+  delivery_same : (here : Here) (t signal : ℕ) (o : Outcome) → done_delivery (moved here) t signal o ≡ done_delivery here t signal o
+  delivery_same here t signal o =
+      ap (handled_unless_killed (moved here) t signal o) (kills_same here t signal o) ∙ handled_same here t signal o (kills here t signal o)
+
+  next_same : (here : Here) (t : ℕ) (o : Option ℕ) → done_next (moved here) t o ≡ done_next here t o
+  next_same here t None = refl
+  next_same here t (Some signal) = delivery_same here t signal (interruption_here here t)
+
+  signal_same : (here : Here) (o : Option ℕ) → done_signal_by (moved here) o ≡ done_signal_by here o
+  signal_same here None = refl
+  signal_same here (Some t) = next_same here t (next_for t here.kernel.signals)
+
+  -- a hart takes requests, and a barrier returns
+  took_same : (here : Here) (t : ℕ) (o : Outcome) → took_and_interrupted (moved here) t o ≡ took_and_interrupted here t o
+  took_same here t o = ap (λ (files : List (ℕ × Saved)). record (took_and_interrupted here t o) { files = files }) (interrupted_same here t o)
+
+  take_same : (here : Here) (restart : Bool) (o : Option ℕ) → done_take_by (moved here) restart o ≡ done_take_by here restart o
+  take_same here false o = refl
+  take_same here true None = refl
+  take_same here true (Some t) = took_same here t (interruption_here here t)
+
+  finish_same : (here : Here) (o : Option ℕ) → done_done_by (moved here) o ≡ done_done_by here o
+  finish_same here None = refl
+  finish_same here (Some t) = refl
+
   done_of_same : (c : Choice) (here : Here) → done_of c (moved here) ≡ done_of c here
   done_of_same asked.Exec here = exec_same here (runs here)
   done_of_same asked.Drain here = drain_same here (waiting_here here)
-  done_of_same asked.Take here = refl
-  done_of_same asked.Done here = refl
+  done_of_same asked.Take here = take_same here here.restart (runs here)
+  done_of_same asked.Done here = finish_same here (runs here)
   done_of_same asked.Preempt here = preempt_same here (runs here)
   done_of_same (asked.Run t) here = run_by_same here t.0 (interruption_here here t.0)
-  done_of_same asked.Signal here = refl
+  done_of_same asked.Signal here = signal_same here (runs here)
 
   -- which conditions fail
   exec_refused : (here : Here) (o : Option ℕ) → refusal_exec_by (moved here) o ≡ refusal_exec_by here o
@@ -219,14 +296,26 @@ module _ (n : ℕ) where
   run_refused here t None = refl
   run_refused here t (Some u) = refl
 
+  delivery_refused : (here : Here) (o : Option ℕ) → refusal_delivery (moved here) o ≡ refusal_delivery here o
+  delivery_refused here None = refl
+  delivery_refused here (Some signal) = refl
+
+  signal_refused : (here : Here) (o : Option ℕ) → refusal_signal_by (moved here) o ≡ refusal_signal_by here o
+  signal_refused here None = refl
+  signal_refused here (Some t) = ap (unless_in_barrier here.awaits) (delivery_refused here (next_for t here.kernel.signals))
+
+  finish_refused : (here : Here) (o : Option ℕ) → refusal_done_by (moved here) o ≡ refusal_done_by here o
+  finish_refused here None = refl
+  finish_refused here (Some t) = refl
+
   refusal_same : (c : Choice) (here : Here) → refusal_of c (moved here) ≡ refusal_of c here
   refusal_same asked.Exec here = exec_refused here (runs here)
   refusal_same asked.Drain here = refl
   refusal_same asked.Take here = refl
-  refusal_same asked.Done here = refl
+  refusal_same asked.Done here = finish_refused here (runs here)
   refusal_same asked.Preempt here = preempt_refused here (runs here)
   refusal_same (asked.Run t) here = run_refused here t.0 (runs here)
-  refusal_same asked.Signal here = refl
+  refusal_same asked.Signal here = signal_refused here (runs here)
 
   -- the entry
   pc_same : (here : Here) (o : Option ℕ) → pc_in (moved here) o ≡ pc_in here o

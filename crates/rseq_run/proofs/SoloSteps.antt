@@ -15,7 +15,8 @@ use Rattle.block_model.specs.declared.refusals.Refused.{Refused}
 use Rattle.block_model.specs.Setting.{Setting, Seen}
 use Rattle.block_model.specs.Deciding.{history, decide, end_of}
 use Rattle.block_model.specs.Choosing.{credit_at}
-use Rattle.block_model.specs.Sights.{sight_in}
+use Rattle.block_model.specs.Here.{runs}
+use Rattle.block_model.specs.Sights.{is_deliverable_on, sight_in}
 use Rattle.block_model.specs.Run.{IsBlockRun}
 use Rattle.block_model.specs.History.{here_in_history, ran}
 use Rattle.block_model.specs.Solo.{IsSolo, solo_choice, solo_rule}
@@ -75,28 +76,34 @@ no_error : (r : Result Entry Refused) (why : Refused) → r ≡ Err why → ¬ (
 no_error r why is made = absurd cc
 
 -- where the rule's choice is refused, the run is over
-over_when_refused : (v w : Seen) (choice : Choice) (r : Result Entry Refused) → 0 < v.setting.limits.harts
+over_when_refused : (v w : Seen) (choice : Choice) (r : Result Entry Refused) → v.setting.limits.harts ≡ 1
     → IsSoloSoFar v
     → solo_choice v.setting (history v.setting v.log) ≡ Some choice
     → r ≡ decide v.setting (history v.setting v.log) 0 choice → OnErr r (w ≡ v) → is_ok r ≡ false
     → end_of w.setting (history w.setting w.log) ≢ Unended
-over_when_refused v w choice (Ok e) harts far chosen answer err refused = absurd cc
-over_when_refused v w choice (Err why) harts far chosen answer err refused =
+over_when_refused v w choice (Ok e) one far chosen answer err refused = absurd cc
+over_when_refused v w choice (Err why) one far chosen answer err refused =
     subst (λ (u : Seen). end_of u.setting (history u.setting u.log) ≢ Unended) (sym err)
     (λ unended. no_error (decide v.setting (history v.setting v.log) 0 choice) why (sym answer)
-    (rule_is_made v.setting v.log choice far.block_run harts unended chosen))
+    (rule_is_made v.setting v.log choice one far.block_run unended chosen))
 
 -- what holds of all answers holds of an Ok
 always : {X Y P : Type 0} (r : Result X Y) → P → IfOk r (λ x. P)
 always (Ok x) p = p
 always (Err y) p = tt
 
--- an instruction that is allowed is the rule's choice
-executed_by_rule : (v : Seen) (r : Result Entry Refused)
+-- whether a signal can be delivered to the thread on hart 0
+abbrev has_signal : Seen → Bool
+has_signal m =
+    let here = here_in_history m.setting (history m.setting m.log) 0 in
+    is_deliverable_on here (runs here)
+
+-- an instruction that is allowed is the rule's choice, where no signal can be delivered
+executed_by_rule : (v : Seen) (r : Result Entry Refused) → has_signal v ≡ false
     → r ≡ decide v.setting (history v.setting v.log) 0 asked.Exec
     → IfOk r (λ e. solo_choice v.setting (history v.setting v.log) ≡ Some asked.Exec)
-executed_by_rule v (Ok e) answer = executes_when_allowed v.setting v.log e (sym answer)
-executed_by_rule v (Err why) answer = tt
+executed_by_rule v (Ok e) none answer = executes_when_allowed v.setting v.log e (sym answer) none
+executed_by_rule v (Err why) none answer = tt
 
 -- the rule's choice is what it chooses by what is seen
 abbrev IsSeenBy : Seen → Sight → Type 0
@@ -108,39 +115,39 @@ pub choice_is_seen : (m : Seen) (seen : Sight) (choice : Choice) → IsSeenBy m 
 choice_is_seen m seen choice sight is = rule_is_read m.setting m.log (credit_at m.setting 0 (history m.setting m.log)) seen sight ∙ is
 
 -- a turn by the rule's choice
-turn_by_choice : (v w : Seen) (choice : Choice) (r : Result Entry Refused) → 0 < v.setting.limits.harts
+turn_by_choice : (v w : Seen) (choice : Choice) (r : Result Entry Refused) → v.setting.limits.harts ≡ 1
     → IsSoloSoFar v → solo_choice v.setting (history v.setting v.log) ≡ Some choice
     → r ≡ decide v.setting (history v.setting v.log) 0 choice
     → IfOk r (λ e. (e.hart ≡ record { 0 = 0 }) × (choice_of e ≡ choice))
     → IfOk r (λ e. w ≡ record { setting = v.setting; log = v.log ++ e ∷ [] }) → OnErr r (w ≡ v)
     → IsBlockRun w.setting w.log → IsSoloTurn v w (is_ok r)
-turn_by_choice v w choice r harts far chosen answer of ok err run = record {
+turn_by_choice v w choice r one far chosen answer of ok err run = record {
   setting = same_setting v w r ok err;
   so_far = so_far_kept v w choice r far (always r chosen) of ok err run;
   room = λ made. room_when_made v w r ok run made;
   longer = λ made. one_longer v w r ok made;
-  over = λ refused. over_when_refused v w choice r harts far chosen answer err refused;
+  over = λ refused. over_when_refused v w choice r one far chosen answer err refused;
 }
 
 pub turn_made : (v w : Seen) (choice : Choice) (r : Result Entry Refused) (made : Bool) → made ≡ is_ok r
-    → 0 < v.setting.limits.harts → IsSoloSoFar v
+    → v.setting.limits.harts ≡ 1 → IsSoloSoFar v
     → solo_choice v.setting (history v.setting v.log) ≡ Some choice
     → r ≡ decide v.setting (history v.setting v.log) 0 choice
     → IfOk r (λ e. (e.hart ≡ record { 0 = 0 }) × (choice_of e ≡ choice))
     → IfOk r (λ e. w ≡ record { setting = v.setting; log = v.log ++ e ∷ [] }) → OnErr r (w ≡ v)
     → IsBlockRun w.setting w.log → IsSoloTurn v w made
-turn_made v w choice r made is harts far chosen answer of ok err run =
-    subst (IsSoloTurn v w) (sym is) (turn_by_choice v w choice r harts far chosen answer of ok err run)
+turn_made v w choice r made is one far chosen answer of ok err run =
+    subst (IsSoloTurn v w) (sym is) (turn_by_choice v w choice r one far chosen answer of ok err run)
 
 -- a turn by an instruction that was made, and one by what is seen where it was refused
-pub turn_executed : (v w : Seen) (r : Result Entry Refused) (e : Entry) → r ≡ Ok e → IsSoloSoFar v
+pub turn_executed : (v w : Seen) (r : Result Entry Refused) (e : Entry) → r ≡ Ok e → has_signal v ≡ false → IsSoloSoFar v
     → r ≡ decide v.setting (history v.setting v.log) 0 asked.Exec
     → IfOk r (λ e. (e.hart ≡ record { 0 = 0 }) × (choice_of e ≡ asked.Exec))
     → IfOk r (λ e. w ≡ record { setting = v.setting; log = v.log ++ e ∷ [] }) → OnErr r (w ≡ v)
     → IsBlockRun w.setting w.log → IsSoloTurn v w true
-turn_executed v w r e is far answer of ok err run = record {
+turn_executed v w r e is none far answer of ok err run = record {
   setting = same_setting v w r ok err;
-  so_far = so_far_kept v w asked.Exec r far (executed_by_rule v r answer) of ok err run;
+  so_far = so_far_kept v w asked.Exec r far (executed_by_rule v r none answer) of ok err run;
   room = λ made. room_when_made v w r ok run (ap is_ok is);
   longer = λ made. one_longer v w r ok (ap is_ok is);
   over = λ no. absurd cc;

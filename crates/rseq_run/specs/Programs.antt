@@ -1,5 +1,5 @@
 -- The files that a command names: a program, whose image it runs, and a script.
-use Rattle.std.specs.Prelude.{ℕ, ◌≡◌, ◌<◌, ◌≤◌, List, Option, None, Some, IfSome, length, map}
+use Rattle.std.specs.Prelude.{ℕ, ◌≡◌, ◌<◌, ◌≤◌, All, List, Option, None, Some, IfSome, length, map}
 use Rattle.std.specs.Option.{option_map}
 use Rattle.mach_types.specs.declared.limits.Limits.{Limits}
 use Rattle.elf_load.specs.declared.fault.ElfFault.{ElfFault}
@@ -44,6 +44,7 @@ pub record IsFaulty (limits : Limits) (bytes : List ℕ) (fault : ElfFault) : Ty
 pub record IsProgram (files : Files) (name : List ℕ) (limits : Limits) (image : Image) : Type 0 where
   pub bytes : List ℕ
   pub read : IsReadAs files name bytes
+  pub are_bytes : All (λ b. b < 256) bytes
   pub good : IsGood limits bytes
   pub loaded : IsImage bytes image
 

@@ -1,5 +1,5 @@
-//! A run on one hart by the fixed rule: an idle hart runs the first ready thread; else the thread executes
-//! its next instruction where that is allowed, and else its oldest waiting store enters memory.
+//! A run on one hart by the fixed rule: an idle hart runs the first ready thread; else a signal that can be delivered is, once no
+//! store waits; else the thread executes its next instruction where that is allowed, and else its oldest waiting store enters memory.
 
 ghost use Rattle.std.specs.Prelude.{◌≡◌, ◌<◌, Some, IfOk};
 ghost use Rattle.mach_types.specs.Limits.{InRange};
@@ -34,12 +34,15 @@ pub fn run_solo(alloc: Global, image: &Image, limits: Limits) -> Result<Machine,
 
 /// Makes the event that the rule chooses; false where the run is over.
 ///
-/// An instruction comes first, since it is what comes most: one that is made was the rule's choice.
+/// Where no signal can be delivered an instruction comes first, since it is what comes most: one that is made was the rule's choice.
 fn make_event(machine: &mut Machine) -> bool
     requires one_hart { machine.old.setting.limits.harts ≡ 1 }
     requires so_far { IsSoloSoFar machine.old }
     ensures { IsSoloTurn machine.old machine.new result }
 {
+    if machine.has_signal(HART) {
+        return make_seen(machine);
+    }
     match machine.step(HART, Choice::Exec) {
         Ok(_) => true,
         Err(_) => make_seen(machine),
@@ -78,7 +81,7 @@ fn seen_choice(seen: &Sight) -> Option<Choice>
 
 /// Makes the event of the rule's choice; false where the run is over.
 fn make(machine: &mut Machine, choice: Choice) -> bool
-    requires harts { 0 < machine.old.setting.limits.harts }
+    requires one_hart { machine.old.setting.limits.harts ≡ 1 }
     requires so_far { IsSoloSoFar machine.old }
     requires chosen { solo_choice machine.old.setting (history machine.old.setting machine.old.log)
         ≡ Some choice }

@@ -1,6 +1,6 @@
 //! The top call: from words, files and a sink to a status.
 
-ghost use Rattle.std.specs.Prelude.{◌≡◌, true, Some, None, Err, IfOk, IfErr, IfNone, IfSome};
+ghost use Rattle.std.specs.Prelude.{◌≡◌, ◌<◌, All, true, Some, None, Err, IfOk, IfErr, IfNone, IfSome};
 ghost use Rattle.mach_types.specs.Limits.{InRange};
 ghost use Rattle.elf_load.specs.Images.{IsBootable};
 ghost use Rattle.outside.specs.Counts.{NeverFalls, NoneFalls};
@@ -234,6 +234,11 @@ fn run_text<R: Threads + Wait + Sync, S: Shelf, G: Gate + Sync>(
     Ok(output_text(alloc, &machine)?)
 }
 
+/// What was read are bytes.
+fn shows_bytes(bytes: &[u8])
+    ensures { All (λ b. b < 256) bytes.now }
+{}
+
 /// The image of the program of this name.
 fn taken<S: Shelf>(
     alloc: Global,
@@ -249,6 +254,7 @@ fn taken<S: Shelf>(
     ensures counts { NoneFalls (S.faults shelf.old) (S.faults shelf.new) }
 {
     let bytes = fetch(alloc, shelf, name, MOST_PROGRAM_BYTES)?;
+    shows_bytes(&bytes);
     Ok(load(alloc, &bytes, limits)?)
 }
 

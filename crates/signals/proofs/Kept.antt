@@ -7,18 +7,19 @@ use Rattle.mach_types.specs.declared.signals.TheConstants.{SA_NODEFER}
 use Rattle.mach_types.specs.declared.signal_words.Action.{Action}
 use Rattle.mach_types.specs.declared.signal_words.ThreadSignals.{ThreadSignals}
 use Rattle.signals.proofs.Masks.{maskable-is_mask}
-use Rattle.signals.specs.Holding.{IsMask, IsSignalling}
+use Rattle.signals.specs.Holding.{IsKept, IsMask}
 
 abbrev pub lists : List Action → List ThreadSignals → Signalling
 lists actions threads = record { actions = actions; threads = threads }
 
-pub same_threads : (actions : List Action) (later threads : List ThreadSignals) → later ≡ threads → IsSignalling (lists actions threads) → IsSignalling (lists actions later)
-same_threads actions later threads e whole = subst (λ (ths : List ThreadSignals). IsSignalling (lists actions ths)) (sym e) whole
+pub same_threads : (b : Bool) (actions : List Action) (later threads : List ThreadSignals) → later ≡ threads → IsKept b (lists actions threads)
+    → IsKept b (lists actions later)
+same_threads b actions later threads e kept = subst (λ (ths : List ThreadSignals). IsKept b (lists actions ths)) (sym e) kept
 
-pub same_lists : (actions acts : List Action) (later threads : List ThreadSignals) → actions ≡ acts → later ≡ threads → IsSignalling (lists acts threads)
-    → IsSignalling (lists actions later)
-same_lists actions acts later threads d e whole =
-    same_threads actions later threads e (subst (λ (acts : List Action). IsSignalling (lists acts threads)) (sym d) whole)
+pub same_lists : (b : Bool) (actions acts : List Action) (later threads : List ThreadSignals) → actions ≡ acts → later ≡ threads → IsKept b (lists acts threads)
+    → IsKept b (lists actions later)
+same_lists b actions acts later threads d e kept =
+    same_threads b actions later threads e (subst (λ (acts : List Action). IsKept b (lists acts threads)) (sym d) kept)
 
 -- a list that is mapped keeps its length
 pub mapped_length : (f : ThreadSignals → ThreadSignals) (threads later : List ThreadSignals) → later ≡ map f threads → length later ≡ length threads

@@ -6,6 +6,7 @@ mod Kept
 mod Lists
 mod Lowest
 mod Masks
+mod Quiet
 mod ReadBack
 mod Returning
 mod SignalSets

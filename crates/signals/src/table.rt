@@ -23,17 +23,19 @@ use std::marker::Model;
 pub struct Signals {
     actions: [Action; SIGNALS],
     threads: ArrayVec<ThreadSignals, ROOM>,
+    /// False only where nothing is pending for any thread: then no thread is looked for.
+    may_be_pending: bool,
 }
 
 impl Model for Signals {
     ghost use Rattle.mach_types.specs.Kernel.Signals.{Signalling};
-    ghost use Rattle.signals.specs.Holding.{IsSignalling};
+    ghost use Rattle.signals.specs.Holding.{IsKept};
 
     ghost Value = { Signalling };
 
     ghost view = { λ s. record { actions = s.actions; threads = s.threads.items } };
 
-    ghost invariant = { λ s. IsSignalling (record { actions = s.actions; threads = s.threads.items }) };
+    ghost invariant = { λ s. IsKept s.may_be_pending (record { actions = s.actions; threads = s.threads.items }) };
 }
 
 /// The mask that sigprocmask(2) makes of a mask, by `how`; None exactly where `how` isn't one of three.
@@ -59,6 +61,7 @@ impl Signals {
         Signals {
             actions: [Action::default(); SIGNALS],
             threads,
+            may_be_pending: false,
         }
     }
 
@@ -79,6 +82,7 @@ impl Signals {
         ensures { self.new ≡ spec.forget tid.0 self.old }
     {
         threads::remove(&mut self.threads, tid.0);
+        self.may_be_pending = threads::is_any_pending(&self.threads);
     }
 
     /// Whether a thread is held.
@@ -136,6 +140,7 @@ impl Signals {
         actions::set_action(&mut self.actions, sig, new);
         if is_ignored(sig, new) {
             threads::drop_signal(&mut self.threads, sig);
+            self.may_be_pending = threads::is_any_pending(&self.threads);
         }
     }
 
@@ -169,6 +174,7 @@ impl Signals {
     {
         if !is_ignored(sig, self.action(sig)) {
             threads::post(&mut self.threads, tid.0, sig);
+            self.may_be_pending = true;
         }
     }
 
@@ -177,6 +183,9 @@ impl Signals {
         requires { IsTrue (spec.is_held tid.0 self.now) }
         ensures { result ≡ spec.next_for tid.0 self.now }
     {
+        if !self.may_be_pending {
+            return None;
+        }
         let mask = threads::mask_of(&self.threads, tid.0);
         let pending = threads::pending_of(&self.threads, tid.0);
         lowest_deliverable(pending, mask)
@@ -190,6 +199,7 @@ impl Signals {
         ensures { self.new ≡ spec.without_pending tid.0 sig self.old }
     {
         threads::take_pending(&mut self.threads, tid.0, sig);
+        self.may_be_pending = threads::is_any_pending(&self.threads);
     }
 
     /// Enters the handler of a signal, 1 to 31, in a thread with this file: the frame is written below its stack, the

@@ -1,6 +1,6 @@
 //! The threads that are held, each with its mask and what is pending for it.
 
-ghost use Rattle.std.specs.Prelude.{◌≡◌, ◌≤◌, not, map, filter, find};
+ghost use Rattle.std.specs.Prelude.{◌≡◌, ◌≤◌, ◌==◌, not, map, filter, find};
 ghost use Rattle.std.specs.List.{list_any};
 ghost use Rattle.std.specs.Option.{option_map_or};
 ghost use Rattle.mach_types.specs.Kernel.Signals as spec;
@@ -60,6 +60,13 @@ pub fn pending_of(threads: &[ThreadSignals], tid: u32) -> u64
         Some(entry) => entry.pending,
         None => 0,
     }
+}
+
+/// Whether a signal is pending for any thread.
+pub fn is_any_pending(threads: &[ThreadSignals]) -> bool
+    ensures { result ≡ list_any (λ th. not (th.pending == 0)) threads.now }
+{
+    threads.iter().any(|entry| entry.pending != 0)
 }
 
 /// An entry, with this mask where it is the thread's.

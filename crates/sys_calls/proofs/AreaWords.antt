@@ -1,5 +1,5 @@
 -- The four words of an area: where they can be written they can be read, and they lie below 2^64.
-use Rattle.std.proofs.Common.{◌≡◌, ℕ, ◌+◌, ◌<◌, ◌^◌, Bool, true, false, ◌&&◌, refl, sym, ap, ◌∙◌, inl, inr, arith}
+use Rattle.std.proofs.Common.{◌≡◌, ℕ, suc, ◌+◌, ◌<◌, ◌^◌, Bool, true, false, ◌&&◌, refl, sym, ap, ◌∙◌, inl, inr, arith}
 use Rattle.std.proofs.lemmas.Bool.{cases_lt, false≢true}
 use Rattle.mach_types.proofs.Laws.{each_byte-past, each_byte-split}
 use Rattle.mach_types.specs.Bytes.{after_writes, each_byte}
@@ -39,11 +39,11 @@ pass_each test area all =
       cid = ap (λ a. each_byte test a 4) place ∙ right_of (each_byte test (area.at + 20) 4) (each_byte test (area.at + 20 + 4) 4) high;
     }
 
--- a word that can be written lies below 2^64
-pub writable_below : (m : Map) (at : ℕ) → each_byte (can_write_in m) at 4 ≡ true → at < 2 ^ 64
-writable_below m at all = elim (cases_lt at (2 ^ 64)) [
+-- bytes that can be written lie below 2^64
+pub writable_below : (m : Map) (at n : ℕ) → each_byte (can_write_in m) at (suc n) ≡ true → at < 2 ^ 64
+writable_below m at n all = elim (cases_lt at (2 ^ 64)) [
   | inl lt ↦ lt
-  | inr past ↦ absurd (false≢true (sym (each_byte-past (byte_in m) (can_write_in m) (byte_in-readable m) (byte_in-ends m) at 3 past) ∙ all))
+  | inr past ↦ absurd (false≢true (sym (each_byte-past (byte_in m) (can_write_in m) (byte_in-readable m) (byte_in-ends m) at n past) ∙ all))
 ]
 
 both : (b c : Bool) → b ≡ true → c ≡ true → (b && c) ≡ true

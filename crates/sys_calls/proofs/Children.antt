@@ -56,6 +56,11 @@ pub asked_scheduling : (h : Here) (t : ℕ) (b : Bool)
 asked_scheduling h t true = refl
 asked_scheduling h t false = refl
 
+pub asked_signals : (h : Here) (t : ℕ) (b : Bool)
+    → (cond b (cleared (next_number h.kernel) (argument h t 4) (had_child t h.kernel)) (had_child t h.kernel)).signals ≡ (had_child t h.kernel).signals
+asked_signals h t true = refl
+asked_signals h t false = refl
+
 pub asked_console : (h : Here) (t : ℕ) (b : Bool) → (cond b (cleared (next_number h.kernel) (argument h t 4) (had_child t h.kernel)) (had_child t h.kernel)).console ≡ h.kernel.console
 asked_console h t true = refl
 asked_console h t false = refl
@@ -63,6 +68,10 @@ asked_console h t false = refl
 pub asked_areas : (h : Here) (t : ℕ) (b : Bool) → (cond b (cleared (next_number h.kernel) (argument h t 4) (had_child t h.kernel)) (had_child t h.kernel)).areas ≡ h.kernel.areas
 asked_areas h t true = refl
 asked_areas h t false = refl
+
+pub asked_barriers : (h : Here) (t : ℕ) (b : Bool) → (cond b (cleared (next_number h.kernel) (argument h t 4) (had_child t h.kernel)) (had_child t h.kernel)).barriers ≡ h.kernel.barriers
+asked_barriers h t true = refl
+asked_barriers h t false = refl
 
 pub asked_ids : (h : Here) (t : ℕ) (b : Bool) → (cond b (cleared (next_number h.kernel) (argument h t 4) (had_child t h.kernel)) (had_child t h.kernel)).ids ≡ h.kernel.ids
 asked_ids h t true = refl

@@ -1,16 +1,20 @@
+pub mod ActionWords
 mod AreaWords
+pub mod Barriers
 pub mod Children
 pub mod Dispatched
 pub mod Entering
 pub mod Keeping
 mod Leaving
 mod PagesAnswered
+pub mod Posted
 pub mod Reading
 pub mod Registering
 pub mod Remapping
 mod Running
 pub mod Saying
 mod Sequencing
+pub mod Signalling
 pub mod Spans
 pub mod Tables
 pub mod Waking

@@ -15,14 +15,17 @@ pub answered_remapped : (h : Here) (t : ℕ) (k : Kernel) (m m' : Map) (written 
     → IsAnswered h t k m k m' written answer c
 answered_remapped h t k m m' written answer c told done = record {
   threads = told.threads ∙ ap (λ (r : record_of.Kernel). r.threads) (sym done.kernel);
+  signals = told.signals ∙ ap (λ (r : record_of.Kernel). r.signals) (sym done.kernel);
   scheduling = told.scheduling ∙ ap (λ (r : record_of.Kernel). r.scheduling) (sym done.kernel);
   areas = told.areas ∙ ap (λ (r : record_of.Kernel). r.areas) (sym done.kernel);
+  barriers = told.barriers ∙ ap (λ (r : record_of.Kernel). r.barriers) (sym done.kernel);
   ids = ap (λ (r : record_of.Kernel). r.ids) done.kernel;
   console = told.console ∙ ap (λ (r : record_of.Kernel). r.console) (sym done.kernel);
   pages = λ has. done.pages;
   code = done.code;
   told = done.told;
   hart = ap (λ (r : record_of.Kernel). running_on h.hart r.threads) done.kernel;
+  at_once = done.at_once;
   goes_on = done.goes_on;
   others = [];
   files = done.files;

@@ -13,13 +13,13 @@ use Rattle.mach_types.specs.declared.kernel_words.TheConstants.{MOST_THREADS}
 use Rattle.mach_types.specs.declared.sequences.Area.{Area}
 use Rattle.mach_types.specs.declared.threads.ThreadState.{ThreadState}
 use Rattle.block_model.specs.Tables.{AreOfLive}
-use Rattle.sys_calls.specs.declared.areas.Registered.{Registered}
+use Rattle.sys_calls.specs.declared.areas.RegisteredArea.{RegisteredArea}
 use Rattle.sys_calls.specs.declared.kernel.Kernel.{Kernel}
 use Rattle.sys_calls.specs.Registered.{KeepsAreas, areas_by_number}
 
 -- the same areas
 pub same_areas : (k k' : Kernel) → k'.areas ≡ k.areas → areas_by_number k'.areas.items ≡ areas_by_number k.areas.items
-same_areas k k' same = ap (λ (v : Items Registered). areas_by_number v.items) same
+same_areas k k' same = ap (λ (v : Items RegisteredArea). areas_by_number v.items) same
 
 -- LIVE THREADS
 

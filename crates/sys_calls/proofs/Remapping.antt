@@ -96,13 +96,13 @@ holds_over p lowest byte m m' r free break_at ws has zeroed permissions held fre
 pub remapped : (h : Here) (t : ℕ) (m m' : Map) (n : ℕ) (ws : List Write) (pages : Pages)
     → HoldsPages pages h.setting.program.break_at (λ a. written ws a (h.byte a)) m' → ((a : ℕ) → code_in m' a ≡ code_in m a)
     → IsRemapped h t m m' ws (Ok n) (record (said h t n) { entered = ws; kernel = paged pages h.kernel })
-remapped h t m m' n ws pages holds code = record { pages = holds; code = code; told = refl; kernel = refl; goes_on = refl; files = refl }
+remapped h t m m' n ws pages holds code = record { pages = holds; code = code; told = refl; kernel = refl; at_once = refl; goes_on = refl; files = refl }
 
 -- the call is refused
 pub remapped_refused : (h : Here) (t : ℕ) (m m' : Map) (e : Errno) → HasPages h m → m' ≡ m → IsRemapped h t m m' [] (Err e) (refused h t e)
 remapped_refused h t m m' e has same =
     subst (λ (n : Map). IsRemapped h t m n [] (Err e) (refused h t e)) (sym same)
-    (record { pages = has; code = λ a. refl; told = refl; kernel = refl; goes_on = refl; files = refl })
+    (record { pages = has; code = λ a. refl; told = refl; kernel = refl; at_once = refl; goes_on = refl; files = refl })
 
 -- a call that has no other answer than 0
 pub refusal_is : (o : Option Errno) (e : Errno) → Err e ≡ answer_unless o → o ≡ Some e

@@ -19,7 +19,7 @@ use Rattle.block_model.proofs.Laws.{running_is}
 use Rattle.sys_calls.specs.declared.calling.CallEnd.{CallEnd}
 use Rattle.sys_calls.specs.declared.kernel.Kernel.{Kernel}
 use Rattle.sys_calls.specs.Answered.{AreTables, IsAnswered, IsCaller, IsEntered, IsTold, answer_of}
-use Rattle.sys_calls.specs.Made.{AreSaved, HasPages, IsAnswer, IsMade, StandsSo, gives_up, process_end}
+use Rattle.sys_calls.specs.Made.{AreSaved, HasPages, IsAnswer, IsMade, StandsSo, barrier_of, gives_up, process_end}
 use Rattle.sys_calls.proofs.Entering.{entered_none, pages_entered}
 use Rattle.sys_calls.proofs.Registering.{same_areas}
 
@@ -28,14 +28,17 @@ pub answered_wrote : (h : Here) (t : ℕ) (k : Kernel) (m m' : Map) (answer : Re
     → IsAnswered h t k m k m' ws answer (record (said h t (answer_of answer)) { entered = ws })
 answered_wrote h t k m m' answer ws told entered = record {
   threads = told.threads;
+  signals = told.signals;
   scheduling = told.scheduling;
   areas = told.areas;
+  barriers = told.barriers;
   ids = refl;
   console = told.console;
   pages = pages_entered h m m' ws entered;
   code = entered.code;
   told = refl;
   hart = refl;
+  at_once = refl;
   goes_on = refl;
   others = [];
   files = refl;
@@ -50,19 +53,22 @@ answered_said h t k m answer c told is =
     subst (λ (d : CallDone). IsAnswered h t k m k m [] answer d) (sym is) (answered_wrote h t k m m answer [] told (entered_none m))
 
 -- an answer, and bytes on the console
-pub answered_printed : (h : Here) (t : ℕ) (k k' : Kernel) (m : Map) (answer : Result ℕ Errno) (bytes : List ℕ) (c : CallDone) → IsTold h k → k'.threads ≡ k.threads → k'.ready ≡ k.ready → k'.areas ≡ k.areas
-    → k'.console ≡ k.console ++ bytes → answer_of answer ≡ length bytes → c ≡ wrote h t bytes → IsAnswered h t k m k' m [] answer c
-answered_printed h t k k' m answer bytes c told threads ready areas console count is =
+pub answered_printed : (h : Here) (t : ℕ) (k k' : Kernel) (m : Map) (answer : Result ℕ Errno) (bytes : List ℕ) (c : CallDone) → IsTold h k → k'.threads ≡ k.threads → k'.signals ≡ k.signals → k'.ready ≡ k.ready → k'.areas ≡ k.areas
+    → k'.registered ≡ k.registered → k'.console ≡ k.console ++ bytes → answer_of answer ≡ length bytes → c ≡ wrote h t bytes → IsAnswered h t k m k' m [] answer c
+answered_printed h t k k' m answer bytes c told threads signals ready areas registered console count is =
     subst (λ (d : CallDone). IsAnswered h t k m k' m [] answer d) (sym is) (record {
       threads = ap (λ (table : Table). table.threads) threads ∙ told.threads;
+      signals = signals ∙ told.signals;
       scheduling = ready ∙ told.scheduling;
       areas = same_areas k k' areas ∙ told.areas;
+      barriers = registered ∙ told.barriers;
       ids = refl;
       console = console ∙ ap (λ (c : List ℕ). c ++ bytes) told.console;
       pages = λ has. has;
       code = λ a. refl;
       told = refl;
       hart = refl;
+      at_once = refl;
       goes_on = refl;
       others = [];
       files = ap (λ n. (t, returned n (h.file t)) ∷ []) (sym count);
@@ -98,14 +104,16 @@ answered_runs h t here k k' m m' written answer c hart told caller done tables =
 -- what a call comes to that answers
 pub made_answered : (h : Here) (t here : ℕ) (k k' : Kernel) (m m' : Map) (saved saved' : Saved) (written : List Write) (answer : Result ℕ Errno) (end : CallEnd) (c : CallDone)
     → h.hart ≡ here → IsTold h k → HasPages h m → saved ≡ h.file t → IsCaller k here t → IsAnswered h t k m k' m' written answer c → AreTables k'
-    → saved' ≡ returned (answer_of answer) saved → gives_up end ≡ false → ((u : ℕ) (ts : Threads) → runs ts u → StandsSo end u ts) → process_end end ≡ None → IsAnswer end saved' → IsMade h t k m k' m' saved' end c
-made_answered h t here k k' m m' saved saved' written answer end c hart told has file caller done tables after stays runs_on ends answers =
+    → saved' ≡ returned (answer_of answer) saved → gives_up end ≡ false → ((u : ℕ) (ts : Threads) → runs ts u → StandsSo end u ts) → barrier_of end ≡ None → process_end end ≡ None → IsAnswer end saved' → IsMade h t k m k' m' saved' end c
+made_answered h t here k k' m m' saved saved' written answer end c hart told has file caller done tables after stays runs_on in_none ends answers =
     let own : List (ℕ × Saved) = (t, returned (answer_of answer) (h.file t)) ∷ done.others in
     let files : c.files ≡ own = done.files in
     record {
       threads = done.threads;
+      signals = done.signals;
       scheduling = done.scheduling;
       areas = done.areas;
+      barriers = done.barriers;
       ids = done.ids ∙ ap (λ (b : Bool). cond b (without_id t h.kernel.ids) h.kernel.ids) (sym stays);
       console = done.console;
       kept = λ all. subst (λ (fs : List (ℕ × Saved)). AreSaved (λ u. file_among fs u (h.file u)) k'.threads) (sym files)
@@ -117,6 +125,7 @@ made_answered h t here k k' m m' saved saved' written answer end c hart told has
       hart = done.hart ∙ ap (λ n. running_on n h.kernel.threads) hart ∙ ap (running_on here) (sym told.threads) ∙ caller.runs
           ∙ ap (λ (b : Bool). cond b None (Some t)) (sym stays);
       stands = runs_on t c.kernel.threads (answered_runs h t here k k' m m' written answer c hart told caller done tables);
+      barrier = in_none ∙ sym done.at_once;
       ended = ends ∙ sym done.goes_on;
       answer = answers;
     }
@@ -126,18 +135,21 @@ pub saved_alike : (file : ℕ → Saved) (before after : Table) → after.saved 
 saved_alike file before after same all u x at = all u x (ap (saved_of u) (sym same) ∙ at)
 
 -- an answer, and another scheduling
-pub answered_scheduled : (h : Here) (t : ℕ) (k k' : Kernel) (m : Map) (answer : Result ℕ Errno) (sc : Scheduling) → IsTold h k → k'.threads ≡ k.threads → k'.ready ≡ sc → k'.areas ≡ k.areas → k'.console ≡ k.console
+pub answered_scheduled : (h : Here) (t : ℕ) (k k' : Kernel) (m : Map) (answer : Result ℕ Errno) (sc : Scheduling) → IsTold h k → k'.threads ≡ k.threads → k'.signals ≡ k.signals → k'.ready ≡ sc → k'.areas ≡ k.areas → k'.registered ≡ k.registered → k'.console ≡ k.console
     → IsAnswered h t k m k' m [] answer (record (said h t (answer_of answer)) { kernel = record h.kernel { scheduling = sc } })
-answered_scheduled h t k k' m answer sc told threads ready areas console = record {
+answered_scheduled h t k k' m answer sc told threads signals ready areas registered console = record {
   threads = ap (λ (table : Table). table.threads) threads ∙ told.threads;
+  signals = signals ∙ told.signals;
   scheduling = ready;
   areas = same_areas k k' areas ∙ told.areas;
+  barriers = registered ∙ told.barriers;
   ids = refl;
   console = console ∙ told.console;
   pages = λ has. has;
   code = λ a. refl;
   told = refl;
   hart = refl;
+  at_once = refl;
   goes_on = refl;
   others = [];
   files = refl;

@@ -14,12 +14,12 @@ use Rattle.page_map.specs.Map.{Map, can_write_in}
 use Rattle.block_model.specs.Here.{Here, is_writable}
 use Rattle.block_model.specs.Ids.{id_of}
 use Rattle.block_model.specs.Kernel.{registered, unregistered}
-use Rattle.block_model.specs.Calls.Answers.{CallDone, refused, said}
-use Rattle.block_model.specs.Calls.Sequences.{killed_in_call, registers, unregisters}
+use Rattle.block_model.specs.Calls.Answers.{CallDone, refused, said, killed_in_call}
+use Rattle.block_model.specs.Calls.Sequences.{registers, unregisters}
 use Rattle.sys_calls.specs.Answered.{IsAnswered, IsCaller, IsEntered, IsRead, IsTold}
 use Rattle.sys_calls.specs.Made.{HasPages, IsMade}
 use Rattle.sys_calls.specs.Registered.{areas_by_number}
-use Rattle.sys_calls.specs.declared.areas.Registered.{Registered}
+use Rattle.sys_calls.specs.declared.areas.RegisteredArea.{RegisteredArea}
 use Rattle.sys_calls.specs.declared.calling.CallEnd.TheVariants as over
 use Rattle.sys_calls.specs.declared.kernel.Kernel.{Kernel}
 use Rattle.sys_calls.proofs.Entering.{pages_entered, pages_kept}
@@ -51,20 +51,23 @@ pub unregisters_refused : (h : Here) (t : ℕ) (area : Area) → are_words_writa
 unregisters_refused h t area cannot = if_false (are_words_writable (is_writable h) area) (unregistered_done h t area) (refused h t EFAULT) cannot
 
 -- an answer, writes and other areas
-pub answered_area : (h : Here) (t : ℕ) (k : Kernel) (others : Items Registered) (m m' : Map) (ws written : List Write) (areas : List (ℕ × Area))
+pub answered_area : (h : Here) (t : ℕ) (k : Kernel) (others : Items RegisteredArea) (m m' : Map) (ws written : List Write) (areas : List (ℕ × Area))
     → IsTold h k → areas_by_number others.items ≡ areas → IsEntered m m' ws → written ≡ ws
-    → IsAnswered h t k m (record { threads = k.threads; ready = k.ready; areas = others; console = k.console }) m' written (Ok 0)
+    → IsAnswered h t k m (record { threads = k.threads; signals = k.signals; ready = k.ready; areas = others; registered = k.registered; console = k.console }) m' written (Ok 0)
     (record (said h t 0) { entered = ws; kernel = record h.kernel { areas = areas } })
 answered_area h t k others m m' ws written areas told these entered writes = record {
   threads = told.threads;
+  signals = told.signals;
   scheduling = told.scheduling;
   areas = these;
+  barriers = told.barriers;
   ids = refl;
   console = told.console;
   pages = pages_entered h m m' ws entered;
   code = entered.code;
   told = writes;
   hart = refl;
+  at_once = refl;
   goes_on = refl;
   others = [];
   files = refl;
@@ -77,8 +80,10 @@ pub made_killed : (h : Here) (t here : ℕ) (k : Kernel) (m m' : Map) (saved : S
     → IsEntered m m' ws → ws ≡ [] → IsMade h t k m k m' saved (over.ProcessEnd (Killed SIGSEGV)) (killed_in_call h)
 made_killed h t here k m m' saved ws hart told file caller has entered none = record {
   threads = told.threads;
+  signals = told.signals;
   scheduling = told.scheduling;
   areas = told.areas;
+  barriers = told.barriers;
   ids = refl;
   console = told.console;
   kept = λ all. all;
@@ -87,6 +92,7 @@ made_killed h t here k m m' saved ws hart told file caller has entered none = re
   code = entered.code;
   hart = ap (λ n. running_on n h.kernel.threads) hart ∙ ap (running_on here) (sym told.threads) ∙ caller.runs;
   stands = subst (λ (ts : Threads). runs ts t) told.threads (caller_runs k here t caller);
+  barrier = refl;
   ended = refl;
   answer = tt;
 }

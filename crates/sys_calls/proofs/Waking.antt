@@ -6,7 +6,9 @@ use Rattle.std.specs.List.{find}
 use Rattle.std.specs.Option.{option_map, option_map_or}
 use Rattle.block_model.specs.Record.{Kernel}
 use Rattle.mach_types.specs.Kernel.Scheduling.{Scheduling, with_ready}
-use Rattle.mach_types.specs.Kernel.Threads.{Threads, is_live, is_waiting_at, longest_waiter, running_on, state_of, waits, with_woken}
+use Rattle.mach_types.specs.Kernel.Signals.{Signalling}
+use Rattle.mach_types.specs.Kernel.Threads.{Threads, is_live, is_waiting_at, longest_waiter, numbers, running_on, state_of, waits, with_woken}
+use Rattle.mach_types.proofs.Laws.{same_numbers}
 use Rattle.mach_types.specs.declared.threads.Saved.{Saved}
 use Rattle.mach_types.specs.declared.threads.ThreadState.{ThreadState}
 use Rattle.mach_types.specs.declared.threads.ThreadState.TheVariants.{Ready, Running, Waiting}
@@ -19,6 +21,7 @@ use Rattle.block_model.specs.Calls.Futexes.{Woken, answered_wait, wake, woken_fi
 use Rattle.block_model.specs.Tables.{IsTables, on}
 use Rattle.block_model.proofs.Laws.{running_is, tables_woken, woken_same}
 use Rattle.sys_calls.specs.declared.kernel.Kernel.{Kernel as Tables}
+use Rattle.mach_types.specs.declared.barriers.Registered.{Registered}
 use Rattle.mach_types.specs.declared.sequences.Area.{Area}
 use Rattle.sys_calls.specs.Answered.{IsTold}
 use Rattle.sys_calls.specs.Registered.{areas_by_number}
@@ -106,9 +109,9 @@ after_other h (w ∷ us) u v f ne = go (after_other h us u v f ne) (eqb w v)
     go rest false = rest
 
 -- what is kept, once one more was woken
-answered_some : (x : Saved) (f : Saved) (o : Option Saved) → option_map (answering 0) o ≡ Some x → ((y : Saved) → o ≡ Some y → y ≡ f) → x ≡ answering 0 f
-answered_some x f None e all = cc
-answered_some x f (Some y) e all = let is : answering 0 y ≡ x = cc in sym is ∙ ap (answering 0) (all y refl)
+pub answered_some : (value : ℕ) (x : Saved) (f : Saved) (o : Option Saved) → option_map (answering value) o ≡ Some x → ((y : Saved) → o ≡ Some y → y ≡ f) → x ≡ answering value f
+answered_some value x f None e all = cc
+answered_some value x f (Some y) e all = let is : answering value y ≡ x = cc in sym is ∙ ap (answering value) (all y refl)
 
 pub kept_woken : (h : Here) (us : List ℕ) (u : ℕ) (before after : Table) → after.saved ≡ with_answer u 0 before.saved
     → AreSaved (λ v. file_among (map (answered_wait h) us) v (h.file v)) before → AreSaved (λ v. file_among (map (answered_wait h) (us ++ u ∷ [])) v (h.file v)) after
@@ -121,21 +124,21 @@ kept_woken h us u before after is all v x at = go (eqb u v) refl
     go true same =
         let e = eqb-true u v same in
         subst (λ n. saved_of n (with_answer u 0 before.saved) ≡ Some x → ((y : Saved) → saved_of n before.saved ≡ Some y → y ≡ file_among (map (answered_wait h) us) n (h.file n)) → x ≡ file_among (map (answered_wait h) (us ++ u ∷ [])) n (h.file n)) e
-        (λ p q. answered_some x (file_among (map (answered_wait h) us) u (h.file u)) (saved_of u before.saved) (sym (saved_of-answered u 0 before.saved) ∙ p) q ∙ sym (after_own h us u (h.file u) refl))
+        (λ p q. answered_some 0 x (file_among (map (answered_wait h) us) u (h.file u)) (saved_of u before.saved) (sym (saved_of-answered u 0 before.saved) ∙ p) q ∙ sym (after_own h us u (h.file u) refl))
         there (all v)
     go false other =
         let ne : v ≢ u = λ e. eqb-false u v other (sym e) in
         all v x (sym (saved_of-with_answer_other u v ne 0 before.saved) ∙ there) ∙ sym (after_other h us u v (h.file v) (λ e. ne (sym e)))
 
 -- nothing is saved of who had nothing saved
-pub quiet_woken : (t u : ℕ) (before after : Table) → after.saved ≡ with_answer u 0 before.saved → saved_of t before.saved ≡ None → saved_of t after.saved ≡ None
-quiet_woken t u before after is none = ap (saved_of t) is ∙ go (eqb u t) refl
+pub quiet_woken : (value t u : ℕ) (before after : Table) → after.saved ≡ with_answer u value before.saved → saved_of t before.saved ≡ None → saved_of t after.saved ≡ None
+quiet_woken value t u before after is none = ap (saved_of t) is ∙ go (eqb u t) refl
   where
-    go : (b : Bool) → eqb u t ≡ b → saved_of t (with_answer u 0 before.saved) ≡ None
+    go : (b : Bool) → eqb u t ≡ b → saved_of t (with_answer u value before.saved) ≡ None
     go true same =
-        ap (λ n. saved_of n (with_answer u 0 before.saved)) (sym (eqb-true u t same)) ∙ saved_of-answered u 0 before.saved
-        ∙ ap (option_map (answering 0)) (ap (λ n. saved_of n before.saved) (eqb-true u t same) ∙ none)
-    go false other = saved_of-with_answer_other u t (λ e. eqb-false u t other (sym e)) 0 before.saved ∙ none
+        ap (λ n. saved_of n (with_answer u value before.saved)) (sym (eqb-true u t same)) ∙ saved_of-answered u value before.saved
+        ∙ ap (option_map (answering value)) (ap (λ n. saved_of n before.saved) (eqb-true u t same) ∙ none)
+    go false other = saved_of-with_answer_other u t (λ e. eqb-false u t other (sym e)) value before.saved ∙ none
 
 -- who runs isn't woken
 alone_by : (harts h t at n : ℕ) (here : Here) (f : Saved) (k : Kernel) → IsTables harts k.threads k.scheduling → running_on h k.threads ≡ Some t
@@ -156,13 +159,15 @@ runs_alone harts h t at (suc n) here f k tables runs =
 
 -- the kernel's record, with these tables
 abbrev pub kernel_now : Here → Tables → Kernel
-kernel_now h k = record h.kernel { threads = k.threads.threads; scheduling = k.ready; areas = areas_by_number k.areas.items; console = k.console }
+kernel_now h k = record h.kernel { threads = k.threads.threads; scheduling = k.ready; signals = k.signals; areas = areas_by_number k.areas.items; barriers = k.registered; console = k.console }
 
 pub kernel_told : (h : Here) (k : Tables) → IsTold h k → kernel_now h k ≡ h.kernel
 kernel_told h k told =
-    ap (λ (ts : Threads). record h.kernel { threads = ts; scheduling = k.ready; areas = areas_by_number k.areas.items; console = k.console }) told.threads
-    ∙ ap (λ (sc : Scheduling). record h.kernel { scheduling = sc; areas = areas_by_number k.areas.items; console = k.console }) told.scheduling
-    ∙ ap (λ (xs : List (ℕ × Area)). record h.kernel { areas = xs; console = k.console }) told.areas
+    ap (λ (ts : Threads). record h.kernel { threads = ts; scheduling = k.ready; signals = k.signals; areas = areas_by_number k.areas.items; barriers = k.registered; console = k.console }) told.threads
+    ∙ ap (λ (sc : Scheduling). record h.kernel { scheduling = sc; signals = k.signals; areas = areas_by_number k.areas.items; barriers = k.registered; console = k.console }) told.scheduling
+    ∙ ap (λ (g : Signalling). record h.kernel { signals = g; areas = areas_by_number k.areas.items; barriers = k.registered; console = k.console }) told.signals
+    ∙ ap (λ (xs : List (ℕ × Area)). record h.kernel { areas = xs; barriers = k.registered; console = k.console }) told.areas
+    ∙ ap (λ (r : Registered). record h.kernel { barriers = r; console = k.console }) told.barriers
     ∙ ap (λ (c : List ℕ). record h.kernel { console = c }) told.console
 
 -- so many of the threads were woken, these ones; what is left to wake is woken behind them
@@ -183,15 +188,17 @@ waking_none h k most at told = record {
 
 -- then one more was
 pub waking_more : (h : Here) (k k' k'' : Tables) (most at count u : ℕ) → count < most → IsWaking h k k' most at count → longest_waiter at k'.threads.threads ≡ Some u
-    → k''.threads.threads ≡ with_woken u k'.threads.threads → k''.threads.saved ≡ with_answer u 0 k'.threads.saved → k''.ready ≡ with_ready u k'.ready → k''.areas ≡ k'.areas → k''.console ≡ k'.console
+    → k''.threads.threads ≡ with_woken u k'.threads.threads → k''.threads.saved ≡ with_answer u 0 k'.threads.saved → k''.ready ≡ with_ready u k'.ready → k''.signals ≡ k'.signals → k''.areas ≡ k'.areas → k''.registered ≡ k'.registered → k''.console ≡ k'.console
     → IsWaking h k k'' most at (count + 1)
-waking_more h k k' k'' most at count u lt waking longest threads saved ready areas console =
+waking_more h k k' k'' most at count u lt waking longest threads saved ready signals areas registered console =
     let left : most - count ≡ suc (most - (count + 1)) = omega arith in
     let now : woken u (kernel_now h k') ≡ kernel_now h k'' =
-    ap (λ (ts : Threads). record h.kernel { threads = ts; scheduling = with_ready u k'.ready; areas = areas_by_number k'.areas.items; console = k'.console }) (sym threads)
-    ∙ ap (λ (sc : Scheduling). record h.kernel { threads = k''.threads.threads; scheduling = sc; areas = areas_by_number k'.areas.items; console = k'.console }) (sym ready)
-    ∙ ap (λ (xs : List (ℕ × Area)). record h.kernel { threads = k''.threads.threads; scheduling = k''.ready; areas = xs; console = k'.console }) (sym (same_areas k' k'' areas))
-    ∙ ap (λ (c : List ℕ). record h.kernel { threads = k''.threads.threads; scheduling = k''.ready; areas = areas_by_number k''.areas.items; console = c }) (sym console) in
+    ap (λ (ts : Threads). record h.kernel { threads = ts; scheduling = with_ready u k'.ready; signals = k'.signals; areas = areas_by_number k'.areas.items; barriers = k'.registered; console = k'.console }) (sym threads)
+    ∙ ap (λ (sc : Scheduling). record h.kernel { threads = k''.threads.threads; scheduling = sc; signals = k'.signals; areas = areas_by_number k'.areas.items; barriers = k'.registered; console = k'.console }) (sym ready)
+    ∙ ap (λ (g : Signalling). record h.kernel { threads = k''.threads.threads; scheduling = k''.ready; signals = g; areas = areas_by_number k'.areas.items; barriers = k'.registered; console = k'.console }) (sym signals)
+    ∙ ap (λ (xs : List (ℕ × Area)). record h.kernel { threads = k''.threads.threads; scheduling = k''.ready; signals = k''.signals; areas = xs; barriers = k'.registered; console = k'.console }) (sym (same_areas k' k'' areas))
+    ∙ ap (λ (r : Registered). record h.kernel { threads = k''.threads.threads; scheduling = k''.ready; signals = k''.signals; areas = areas_by_number k''.areas.items; barriers = r; console = k'.console }) (sym registered)
+    ∙ ap (λ (c : List ℕ). record h.kernel { threads = k''.threads.threads; scheduling = k''.ready; signals = k''.signals; areas = areas_by_number k''.areas.items; barriers = k''.registered; console = c }) (sym console) in
     record {
       us = waking.us ++ u ∷ [];
       number = length-append waking.us (u ∷ []) ∙ ap (λ (n : ℕ). n + 1) waking.number;
@@ -209,8 +216,10 @@ woken_all h k k' most at count waking over =
     record {
       number = sym waking.number ∙ ap (λ (w : Woken). length w.threads) (sym is);
       threads = ap (λ (w : Woken). w.kernel.threads) (sym is);
+      signals = ap (λ (w : Woken). w.kernel.signals) (sym is);
       scheduling = ap (λ (w : Woken). w.kernel.scheduling) (sym is);
       areas = ap (λ (w : Woken). w.kernel.areas) (sym is);
+      barriers = ap (λ (w : Woken). w.kernel.barriers) (sym is);
       ids = ap (λ (w : Woken). w.kernel.ids) is;
       console = ap (λ (w : Woken). w.kernel.console) (sym is);
       kept = λ all. subst (λ (us : List ℕ). AreSaved (λ u. file_among (map (answered_wait h) us) u (h.file u)) k'.threads) (ap (λ (w : Woken). w.threads) (sym is)) (waking.kept all);
@@ -218,15 +227,17 @@ woken_all h k k' most at count waking over =
 
 -- the tables go on
 pub onward_still : (k : Tables) → IsOnward k k
-onward_still k = record { tables = λ harts holds. holds; running = λ j. refl; quiet = λ t q. q; live = λ t. refl; areas = refl }
+onward_still k = record { tables = λ harts holds. holds; running = λ j. refl; quiet = λ t q. q; live = λ t. refl; numbers = refl; signals = refl; areas = refl }
 
 pub onward_more : (k k' k'' : Tables) (harts u : ℕ) → IsTables harts k.threads.threads k.ready → IsOnward k k' → waits k'.threads.threads u
-    → k''.threads.threads ≡ with_woken u k'.threads.threads → k''.threads.saved ≡ with_answer u 0 k'.threads.saved → k''.ready ≡ with_ready u k'.ready → k''.areas ≡ k'.areas → IsOnward k k''
-onward_more k k' k'' harts u holds onward waiting threads saved ready areas = record {
+    → k''.threads.threads ≡ with_woken u k'.threads.threads → k''.threads.saved ≡ with_answer u 0 k'.threads.saved → k''.ready ≡ with_ready u k'.ready → k''.signals ≡ k'.signals → k''.areas ≡ k'.areas → IsOnward k k''
+onward_more k k' k'' harts u holds onward waiting threads saved ready signals areas = record {
   tables = λ n all. subst (λ (ts : Threads). IsTables n ts k''.ready) (sym threads) (subst (λ (sc : Scheduling). IsTables n (with_woken u k'.threads.threads) sc) (sym ready)
       (tables_woken n u k'.threads.threads k'.ready (onward.tables n all) waiting));
   running = λ j. ap (running_on j) threads ∙ woken_same harts u k'.threads.threads k'.ready (onward.tables harts holds) waiting j ∙ onward.running j;
-  quiet = λ t q. quiet_woken t u k'.threads k''.threads saved (onward.quiet t q);
+  quiet = λ t q. quiet_woken 0 t u k'.threads k''.threads saved (onward.quiet t q);
   live = λ t. ap (is_live t) threads ∙ live_changed u t Ready k'.threads.threads ∙ onward.live t;
+  numbers = ap (λ (ts : Threads). numbers ts.live) threads ∙ same_numbers u Ready k'.threads.threads.live ∙ onward.numbers;
+  signals = signals ∙ onward.signals;
   areas = areas ∙ onward.areas;
 }

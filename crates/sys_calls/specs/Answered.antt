@@ -15,6 +15,7 @@ use Rattle.block_model.specs.Calls.Answers.{CallDone, negative, returned}
 use Rattle.sys_calls.specs.declared.kernel.Kernel.{Kernel}
 use Rattle.sys_calls.specs.Made.{AreSaved, HasPages, HoldsPages}
 use Rattle.sys_calls.specs.Registered.{areas_by_number}
+use Rattle.sys_calls.specs.Signalled.{HoldSignals}
 
 -- what a0 gets: the number, or the negative of the error number
 abbrev pub answer_of : Result ℕ Errno → ℕ
@@ -30,8 +31,10 @@ pub record IsRead (h : Here) (m : Map) (t : ℕ) (saved : Saved) : Type 0 where
 -- and what the tables hold
 pub record IsTold (h : Here) (k : Kernel) : Type 0 where
   pub threads : k.threads.threads ≡ h.kernel.threads
+  pub signals : k.signals ≡ h.kernel.signals
   pub scheduling : k.ready ≡ h.kernel.scheduling
   pub areas : areas_by_number k.areas.items ≡ h.kernel.areas
+  pub barriers : k.registered ≡ h.kernel.barriers
   pub console : k.console ≡ h.kernel.console
 
 -- these writes entered memory, and nothing else of the page map changed
@@ -45,17 +48,20 @@ pub record IsEntered (m : Map) (m' : Map) (writes : List Write) : Type 0 where
   pub break_start : break_start_in m' ≡ break_start_in m
 
 -- the tables were changed as the call did, and the page map where it had the pages of the process, no code with it; its writes
--- were told; the thread runs on with this answer, no concurrency id changes hands, and the files of other threads that the call set are kept with them
+-- were told; the thread runs on with this answer and waits in no barrier, no concurrency id changes hands, and the files of other threads that the call set are kept with them
 pub record IsAnswered (h : Here) (t : ℕ) (k : Kernel) (m : Map) (k' : Kernel) (m' : Map) (written : List Write) (answer : Result ℕ Errno) (c : CallDone) : Type 0 where
   pub threads : k'.threads.threads ≡ c.kernel.threads
+  pub signals : k'.signals ≡ c.kernel.signals
   pub scheduling : k'.ready ≡ c.kernel.scheduling
   pub areas : areas_by_number k'.areas.items ≡ c.kernel.areas
+  pub barriers : k'.registered ≡ c.kernel.barriers
   pub ids : c.kernel.ids ≡ h.kernel.ids
   pub console : k'.console ≡ c.kernel.console
   pub pages : HasPages h m → HoldsPages c.kernel.pages h.setting.program.break_at (λ a. written_by c.entered a (h.byte a)) m'
   pub code : (a : ℕ) → code_in m' a ≡ code_in m a
   pub told : written ≡ c.entered
   pub hart : running_on h.hart c.kernel.threads ≡ running_on h.hart h.kernel.threads
+  pub at_once : c.barrier ≡ None
   pub goes_on : c.ended ≡ None
   pub others : List (ℕ × Saved)
   pub files : c.files ≡ (t, returned (answer_of answer) (h.file t)) ∷ others
@@ -70,8 +76,9 @@ AreTables k = (harts : ℕ) × IsTables harts k.threads.threads k.ready
 abbrev pub KeepsTables : Kernel → Kernel → Type 0
 KeepsTables k k' = (harts : ℕ) → IsTables harts k.threads.threads k.ready → IsTables harts k'.threads.threads k'.ready
 
--- a thread calls: the tables hold, it runs on the hart, and nothing is saved of it
+-- a thread calls: the tables hold, the signals are those of the live threads, it runs on the hart, and nothing is saved of it
 pub record IsCaller (k : Kernel) (here : ℕ) (t : ℕ) : Type 0 where
   pub tables : AreTables k
+  pub signals : HoldSignals k
   pub runs : running_on here k.threads.threads ≡ Some t
   pub quiet : saved_of t k.threads.saved ≡ None

@@ -28,6 +28,7 @@ cloned here t =
       files = (t, returned child (here.file t)) ∷ (child, child_file here t) ∷ [];
       entered = numbers_written here t child;
       kernel = with_new_child here t;
+      barrier = None;
       ended = None;
     }
 
@@ -47,11 +48,13 @@ abbrev pub clear_asked : Saved → ℕ → process.Threads → process.Threads
 clear_asked saved child ts =
     if has_flag (register saved.file 10) clone_child_cleartid then process.with_clear child (register saved.file 14) ts else ts
 
--- the tables have the child, which has no area
+-- the tables have the child, which has its parent's mask and no area
 pub record HasChild (h : Here) (t : ℕ) (k : Kernel) (k' : Kernel) : Type 0 where
   pub threads : k'.threads.threads ≡ (with_new_child h t).threads
+  pub signals : k'.signals ≡ (with_new_child h t).signals
   pub scheduling : k'.ready ≡ (with_new_child h t).scheduling
   pub areas : areas_by_number k'.areas.items ≡ (with_new_child h t).areas
+  pub barriers : k'.registered ≡ (with_new_child h t).barriers
   pub console : k'.console ≡ (with_new_child h t).console
   pub saved : k'.threads.saved ≡ with_start (next_number h.kernel) (child_file h t) k.threads.saved
   pub running : (j : ℕ) → process.running_on j k'.threads.threads ≡ process.running_on j k.threads.threads

@@ -7,4 +7,5 @@ pub mod Made
 pub mod Numbers
 pub mod Registered
 pub mod Remapped
+pub mod Signalled
 pub mod Woken

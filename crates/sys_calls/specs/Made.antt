@@ -14,10 +14,11 @@ use Rattle.kernel_threads.specs.Table.{Table, saved_of}
 use Rattle.mach_types.specs.declared.address_space.TheConstants.{PAGE_SIZE}
 use Rattle.mach_types.specs.Kernel.Pages.{Pages, permission_of}
 use Rattle.page_map.specs.Map.{Map, break_in, break_start_in, code_in, free_in, held_in, permission_in}
-use Rattle.block_model.specs.Here.{Here}
+use Rattle.block_model.specs.Here.{Barrier, Here}
 use Rattle.block_model.specs.History.{file_among}
 use Rattle.block_model.specs.Ids.{id_of, without_id}
 use Rattle.block_model.specs.Calls.Answers.{CallDone}
+use Rattle.block_model.specs.Calls.Barriers.{running_harts}
 use Rattle.sys_calls.specs.Registered.{areas_by_number}
 use Rattle.sys_calls.specs.declared.kernel.Kernel.{Kernel}
 use Rattle.sys_calls.specs.declared.calling.CallEnd.{CallEnd}
@@ -39,13 +40,17 @@ pub record HoldsPages (pages : Pages) (lowest_break : ℕ) (byte : ℕ → ℕ) 
 abbrev pub HasPages : Here → Map → Type 0
 HasPages h m = HoldsPages h.kernel.pages h.setting.program.break_at h.byte m
 
--- a rule may read here what the tables, the page map and the caller's registers hold, and the caller holds this concurrency id
-pub record IsAt (h : Here) (k : Kernel) (m : Map) (here : Hart) (harts : ℕ) (tid : Tid) (saved : Saved) (cid : ℕ) : Type 0 where
+-- a rule may read here what the tables, the page map and the caller's registers hold; threads run on this set of harts, and the
+-- caller holds this concurrency id
+pub record IsAt (h : Here) (k : Kernel) (m : Map) (here : Hart) (busy : ℕ) (harts : ℕ) (tid : Tid) (saved : Saved) (cid : ℕ) : Type 0 where
   pub hart : h.hart ≡ here.0
   pub count : h.setting.limits.harts ≡ harts
   pub threads : k.threads.threads ≡ h.kernel.threads
+  pub running : running_harts h.kernel.threads h.setting.limits.harts ≡ busy
+  pub signals : k.signals ≡ h.kernel.signals
   pub scheduling : k.ready ≡ h.kernel.scheduling
   pub areas : areas_by_number k.areas.items ≡ h.kernel.areas
+  pub barriers : k.registered ≡ h.kernel.barriers
   pub console : k.console ≡ h.kernel.console
   pub pages : HasPages h m
   pub file : saved ≡ h.file tid.0
@@ -71,14 +76,24 @@ process_end (over.Barrier targets restart) = None
 process_end over.ThreadEnd = None
 process_end (over.ProcessEnd e) = Some e
 
--- how the thread stands once its call ended so: it runs on, it waits, it is ready, or it is gone; one that
--- ends the process still runs. No call of the table goes on from a signal frame or waits in a barrier
+-- the barrier that the thread waits in
+abbrev pub barrier_of : CallEnd → Option Barrier
+barrier_of (over.Return answer) = None
+barrier_of over.Block = None
+barrier_of (over.Leave answer) = None
+barrier_of over.Resume = None
+barrier_of (over.Barrier targets restart) = Some (record { targets = targets; restart = restart })
+barrier_of over.ThreadEnd = None
+barrier_of (over.ProcessEnd e) = None
+
+-- how the thread stands once its call ended so: it runs on, with an answer or from a signal frame, it waits, it is ready, or it is
+-- gone; one that waits in a barrier keeps its hart, and one that ends the process still runs
 abbrev pub StandsSo : CallEnd → ℕ → Threads → Type 0
 StandsSo (over.Return answer) t ts = runs ts t
 StandsSo over.Block t ts = waits ts t
 StandsSo (over.Leave answer) t ts = state_of t ts ≡ Some Ready
-StandsSo over.Resume t ts = ⊥
-StandsSo (over.Barrier targets restart) t ts = ⊥
+StandsSo over.Resume t ts = runs ts t
+StandsSo (over.Barrier targets restart) t ts = runs ts t
 StandsSo over.ThreadEnd t ts = state_of t ts ≡ None
 StandsSo (over.ProcessEnd e) t ts = runs ts t
 
@@ -96,8 +111,10 @@ IsAnswer (over.ProcessEnd e) x = Unit {0}
 -- hart holds no concurrency id any more, and no other id changes hands; and so the call ended
 pub record IsMade (h : Here) (t : ℕ) (k : Kernel) (m : Map) (k' : Kernel) (m' : Map) (saved : Saved) (end : CallEnd) (c : CallDone) : Type 0 where
   pub threads : k'.threads.threads ≡ c.kernel.threads
+  pub signals : k'.signals ≡ c.kernel.signals
   pub scheduling : k'.ready ≡ c.kernel.scheduling
   pub areas : areas_by_number k'.areas.items ≡ c.kernel.areas
+  pub barriers : k'.registered ≡ c.kernel.barriers
   pub ids : c.kernel.ids ≡ (if gives_up end then without_id t h.kernel.ids else h.kernel.ids)
   pub console : k'.console ≡ c.kernel.console
   pub kept : AreSaved h.file k.threads → AreSaved (λ u. file_among c.files u (h.file u)) k'.threads
@@ -106,5 +123,6 @@ pub record IsMade (h : Here) (t : ℕ) (k : Kernel) (m : Map) (k' : Kernel) (m' 
   pub code : (a : ℕ) → code_in m' a ≡ code_in m a
   pub hart : running_on h.hart c.kernel.threads ≡ (if gives_up end then None else Some t)
   pub stands : StandsSo end t c.kernel.threads
+  pub barrier : barrier_of end ≡ c.barrier
   pub ended : process_end end ≡ c.ended
   pub answer : IsAnswer end saved

@@ -8,6 +8,8 @@ pub record IsOther (number : ℕ) : Type 0 where
   pub futex : number ≢ 98
   pub sched_setaffinity : number ≢ 122
   pub sched_yield : number ≢ 124
+  pub rt_sigreturn : number ≢ 139
+  pub membarrier : number ≢ 283
   pub rseq : number ≢ 293
 
 -- a number of a call that changes no pages

@@ -6,11 +6,11 @@ use Rattle.mach_types.specs.declared.errors.Errno.{Errno}
 use Rattle.mach_types.specs.declared.sequences.Area.{Area}
 use Rattle.mach_types.specs.declared.threads.Saved.{Saved}
 use Rattle.block_model.specs.Tables.{AreOfLive}
-use Rattle.sys_calls.specs.declared.areas.Registered.{Registered}
+use Rattle.sys_calls.specs.declared.areas.RegisteredArea.{RegisteredArea}
 use Rattle.sys_calls.specs.declared.kernel.Kernel.{Kernel}
 
 -- each area with the number of its thread
-abbrev pub areas_by_number : List Registered → List (ℕ × Area)
+abbrev pub areas_by_number : List RegisteredArea → List (ℕ × Area)
 areas_by_number registered = map (λ entry. (entry.tid.0, entry.area)) registered
 
 -- each area in the tables is that of a live thread, and a thread has at most one

@@ -18,6 +18,7 @@ pub record IsRemapped (h : Here) (t : ℕ) (m : Map) (m' : Map) (written : List 
   pub code : (a : ℕ) → code_in m' a ≡ code_in m a
   pub told : written ≡ c.entered
   pub kernel : c.kernel ≡ paged c.kernel.pages h.kernel
+  pub at_once : c.barrier ≡ None
   pub goes_on : c.ended ≡ None
   pub files : c.files ≡ (t, returned (answer_of answer) (h.file t)) ∷ []
 

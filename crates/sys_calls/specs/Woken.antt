@@ -1,6 +1,6 @@
 -- futex(2): the tables once threads were woken.
 use Rattle.std.specs.Prelude.{ℕ, ◌≡◌, length, map, None}
-use Rattle.mach_types.specs.Kernel.Threads.{is_live, running_on}
+use Rattle.mach_types.specs.Kernel.Threads.{is_live, numbers, running_on}
 use Rattle.kernel_threads.specs.Table.{saved_of}
 use Rattle.block_model.specs.Here.{Here}
 use Rattle.block_model.specs.History.{file_among}
@@ -22,18 +22,22 @@ futex_of Wake here t = futex_wake here t
 pub record IsWoken (h : Here) (k : Kernel) (k' : Kernel) (most : ℕ) (at : ℕ) (count : ℕ) : Type 0 where
   pub number : count ≡ length (wake most at h.kernel).threads
   pub threads : k'.threads.threads ≡ (wake most at h.kernel).kernel.threads
+  pub signals : k'.signals ≡ (wake most at h.kernel).kernel.signals
   pub scheduling : k'.ready ≡ (wake most at h.kernel).kernel.scheduling
   pub areas : areas_by_number k'.areas.items ≡ (wake most at h.kernel).kernel.areas
+  pub barriers : k'.registered ≡ (wake most at h.kernel).kernel.barriers
   pub ids : (wake most at h.kernel).kernel.ids ≡ h.kernel.ids
   pub console : k'.console ≡ (wake most at h.kernel).kernel.console
   pub kept : AreSaved h.file k.threads
       → AreSaved (λ u. file_among (map (answered_wait h) (wake most at h.kernel).threads) u (h.file u)) k'.threads
 
 -- the tables hold, each hart runs the thread that it ran, nothing is saved of who had nothing saved, the same threads live, and the
--- areas are the same
+-- signals and the areas are the same
 pub record IsOnward (k : Kernel) (k' : Kernel) : Type 0 where
   pub tables : (harts : ℕ) → IsTables harts k.threads.threads k.ready → IsTables harts k'.threads.threads k'.ready
   pub running : (j : ℕ) → running_on j k'.threads.threads ≡ running_on j k.threads.threads
   pub quiet : (t : ℕ) → saved_of t k.threads.saved ≡ None → saved_of t k'.threads.saved ≡ None
   pub live : (t : ℕ) → is_live t k'.threads.threads ≡ is_live t k.threads.threads
+  pub numbers : numbers k'.threads.threads.live ≡ numbers k.threads.threads.live
+  pub signals : k'.signals ≡ k.signals
   pub areas : k'.areas ≡ k.areas

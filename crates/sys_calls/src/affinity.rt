@@ -18,6 +18,7 @@ ghost use Rattle.sys_calls.specs.Answered.{AreTables, IsAnswered, IsCaller, IsEn
 ghost use Rattle.sys_calls.specs.Chosen.{setaffinity_with};
 ghost use Rattle.sys_calls.specs.Made.{HasPages, IsMade};
 ghost use Rattle.sys_calls.specs.Registered.{KeepsAreas};
+ghost use Rattle.sys_calls.specs.Signalled.{KeepsSignals};
 ghost use Rattle.sys_calls.specs.declared.kernel.Kernel.{Kernel as Tables};
 ghost use Rattle.sys_calls.specs.declared.calling.CallEnd.TheVariants as over;
 
@@ -79,11 +80,14 @@ fn leave(kernel: &mut Kernel, here: Hart, tid: Tid, saved: &mut Saved) -> CallEn
     ensures kept { kernel.new.threads.saved ≡ with_saved tid.0 (Some saved.new) kernel.old.threads.saved }
     ensures ready { kernel.new.ready ≡ with_ready tid.0 kernel.old.ready }
     ensures same_areas { kernel.new.areas ≡ kernel.old.areas }
+    ensures same_signals { kernel.new.signals ≡ kernel.old.signals }
+    ensures same_registered { kernel.new.registered ≡ kernel.old.registered }
     ensures console { kernel.new.console ≡ kernel.old.console }
     ensures end { result ≡ over.Leave (pos 0) }
     ensures a0 { register saved.new.file 10 ≡ 0 }
     ensures tables { KeepsTables kernel.old kernel.new }
     ensures areas { KeepsAreas kernel.old kernel.new }
+    ensures signals { KeepsSignals kernel.old kernel.new }
 {
     answer(saved, 0);
     kernel.threads.leave(tid, *saved);
@@ -106,6 +110,7 @@ pub fn sched_setaffinity(
     requires caller { IsCaller kernel.old here.0 tid.0 }
     ensures tables { KeepsTables kernel.old kernel.new }
     ensures areas { KeepsAreas kernel.old kernel.new }
+    ensures signals { KeepsSignals kernel.old kernel.new }
     ensures made { (h : Here) → h.hart ≡ here.0 → h.setting.limits.harts ≡ harts → IsTold h kernel.old → HasPages h pages.now
         → IsRead h pages.now tid.0 saved.old → IsMade h tid.0 kernel.old pages.now kernel.new pages.now saved.new result (sched_setaffinity h tid.0) }
 {
@@ -129,6 +134,7 @@ fn restrict(
     requires caller { IsCaller kernel.old here.0 tid.0 }
     ensures tables { KeepsTables kernel.old kernel.new }
     ensures areas { KeepsAreas kernel.old kernel.new }
+    ensures signals { KeepsSignals kernel.old kernel.new }
     ensures made { (h : Here) (m : Map) → h.hart ≡ here.0 → h.setting.limits.harts ≡ harts → IsTold h kernel.old → HasPages h m
         → saved.old ≡ h.file tid.0 → IsMade h tid.0 kernel.old m kernel.new m saved.new result (setaffinity_with h tid.0 set) }
 {
@@ -146,6 +152,7 @@ pub fn sched_yield(kernel: &mut Kernel, here: Hart, tid: Tid, saved: &mut Saved)
     requires { IsCaller kernel.old here.0 tid.0 }
     ensures tables { KeepsTables kernel.old kernel.new }
     ensures areas { KeepsAreas kernel.old kernel.new }
+    ensures signals { KeepsSignals kernel.old kernel.new }
     ensures made { (h : Here) (m : Map) → h.hart ≡ here.0 → IsTold h kernel.old → HasPages h m → saved.old ≡ h.file tid.0
         → IsMade h tid.0 kernel.old m kernel.new m saved.new result (sched_yield h tid.0) }
 {

@@ -8,6 +8,7 @@ ghost use Rattle.sys_calls.specs.Answered.{AreTables, IsAnswered, IsRead, IsTold
 ghost use Rattle.sys_calls.specs.Made.{HasPages};
 ghost use Rattle.sys_calls.specs.Numbers.{IsOffPages, IsOther};
 ghost use Rattle.sys_calls.specs.Registered.{KeepsAreas};
+ghost use Rattle.sys_calls.specs.Signalled.{HoldSignals, KeepsSignals};
 
 use crate::affinity::{getcpu, sched_getaffinity};
 use crate::arguments::widened;
@@ -16,6 +17,8 @@ use crate::kernel::Kernel;
 use crate::memory::Written;
 use crate::memory_calls::{brk, mmap, mprotect, munmap};
 use crate::numbers::set_tid_address;
+use crate::posting::{tgkill, tkill};
+use crate::signal_calls::{rt_sigaction, rt_sigprocmask};
 use crate::writing::{write, writev};
 use mach_types::errors::ENOSYS;
 use mach_types::{Errno, Hart, Saved, Tid};
@@ -29,6 +32,14 @@ const WRITEV: u64 = 66;
 const SET_TID_ADDRESS: u64 = 96;
 
 const SCHED_GETAFFINITY: u64 = 123;
+
+const TKILL: u64 = 130;
+
+const TGKILL: u64 = 131;
+
+const RT_SIGACTION: u64 = 134;
+
+const RT_SIGPROCMASK: u64 = 135;
 
 const GETCPU: u64 = 168;
 
@@ -57,6 +68,7 @@ pub fn answered(
     saved: &Saved,
 ) -> Result<u64, Errno>
     requires tables { AreTables kernel.old }
+    requires signals { HoldSignals kernel.old }
     requires live { IsTrue (is_live tid.0 kernel.old.threads.threads) }
     requires numbers { kernel.old.threads.threads.given < 2 ^ 31 - 1 }
     requires fresh { written.old.items ≡ [] }
@@ -64,6 +76,7 @@ pub fn answered(
     ensures errno { IfErr result (λ e. 1 ≤ e.0) }
     ensures tables { KeepsTables kernel.old kernel.new }
     ensures areas { KeepsAreas kernel.old kernel.new }
+    ensures signals { KeepsSignals kernel.old kernel.new }
     ensures answered { (h : Here) → h.hart ≡ here.0 → IsTold h kernel.old → HasPages h pages.old → IsRead h pages.old tid.0 saved.now
         → IsAnswered h tid.0 kernel.old pages.old kernel.new pages.new written.new.items result (call_of number h tid.0) }
 {
@@ -87,6 +100,7 @@ fn answered_on_same_pages(
     saved: &Saved,
 ) -> Result<u32, Errno>
     requires tables { AreTables kernel.old }
+    requires signals { HoldSignals kernel.old }
     requires live { IsTrue (is_live tid.0 kernel.old.threads.threads) }
     requires numbers { kernel.old.threads.threads.given < 2 ^ 31 - 1 }
     requires fresh { written.old.items ≡ [] }
@@ -95,6 +109,7 @@ fn answered_on_same_pages(
     ensures errno { IfErr result (λ e. 1 ≤ e.0) }
     ensures tables { KeepsTables kernel.old kernel.new }
     ensures areas { KeepsAreas kernel.old kernel.new }
+    ensures signals { KeepsSignals kernel.old kernel.new }
     ensures answered { (h : Here) → h.hart ≡ here.0 → IsTold h kernel.old → IsRead h pages.old tid.0 saved.now
         → IsAnswered h tid.0 kernel.old pages.old kernel.new pages.new written.new.items result (call_of number h tid.0) }
 {
@@ -103,6 +118,10 @@ fn answered_on_same_pages(
         WRITEV => writev(kernel, pages, saved),
         SET_TID_ADDRESS => Ok(set_tid_address(kernel, tid, saved)),
         SCHED_GETAFFINITY => sched_getaffinity(kernel, pages, written, tid, saved),
+        TKILL => tkill(kernel, saved),
+        TGKILL => tgkill(kernel, saved),
+        RT_SIGACTION => rt_sigaction(kernel, pages, written, saved),
+        RT_SIGPROCMASK => rt_sigprocmask(kernel, pages, written, tid, saved),
         GETCPU => getcpu(pages, written, here, saved),
         GETPID => Ok(1),
         GETTID => Ok(tid.0),

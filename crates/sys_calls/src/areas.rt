@@ -14,25 +14,25 @@ pub const MOST_AREAS: usize = MOST_THREADS as usize;
 
 /// A registered area, with its thread.
 #[derive(Clone, Copy, Debug, PartialEq, Eq, Drop)]
-pub struct Registered {
+pub struct RegisteredArea {
     /// The thread.
     pub tid: Tid,
     /// Its area.
     pub area: Area,
 }
 
-impl Default for Registered {
+impl Default for RegisteredArea {
     /// An area of no thread.
-    fn default() -> Registered {
-        Registered {
+    fn default() -> RegisteredArea {
+        RegisteredArea {
             tid: Tid(0),
             area: Area { at: 0, sig: 0 },
         }
     }
 }
 
-/// Registered areas, each with its thread.
-pub type Areas = ArrayVec<Registered, MOST_AREAS>;
+/// RegisteredArea areas, each with its thread.
+pub type Areas = ArrayVec<RegisteredArea, MOST_AREAS>;
 
 /// The area that is registered for a thread.
 pub fn area_of(kernel: &Kernel, tid: Tid) -> Option<Area>
@@ -42,7 +42,7 @@ pub fn area_of(kernel: &Kernel, tid: Tid) -> Option<Area>
 }
 
 /// The area of a thread among those that are registered.
-fn area_among(registered: &[Registered], tid: Tid) -> Option<Area>
+fn area_among(registered: &[RegisteredArea], tid: Tid) -> Option<Area>
     ensures { result ≡ areas.area_of tid.0 (areas_by_number registered.now) }
 {
     for entry in registered {
@@ -58,7 +58,7 @@ pub fn add_area(registered: &mut Areas, tid: Tid, area: Area)
     requires room { length registered.old.items < MOST_THREADS }
     ensures { areas_by_number registered.new.items ≡ areas.with_area tid.0 area (areas_by_number registered.old.items) }
 {
-    registered.push(Registered { tid, area });
+    registered.push(RegisteredArea { tid, area });
 }
 
 /// A thread has no area any more.

@@ -4,9 +4,11 @@
 ghost use Rattle.std.specs.Prelude.{◌≡◌, ◌≤◌, ◌<◌, ◌+◌, ◌%◌, ◌^◌, ℕ, false, None, IfErr};
 ghost use Rattle.mach_types.specs.Kernel.Threads.{Threads, runs};
 ghost use Rattle.mach_types.specs.Registers.{register};
+ghost use Rattle.mach_types.specs.declared.signals.TheConstants.{LAST_SIGNAL};
+ghost use Rattle.rv_inst.specs.Words.{signed_32, sum_64};
 ghost use Rattle.block_model.specs.Calls.Answers.{negative, returned};
 ghost use Rattle.sys_calls.specs.Answered.{answer_of};
-ghost use Rattle.sys_calls.specs.Made.{IsAnswer, StandsSo, gives_up, process_end};
+ghost use Rattle.sys_calls.specs.Made.{IsAnswer, StandsSo, barrier_of, gives_up, process_end};
 
 use crate::calling::CallEnd;
 use mach_types::{Errno, Saved};
@@ -38,6 +40,29 @@ pub fn int_argument(saved: &Saved, index: u8) -> u32
     ensures { result ≡ register saved.now.file (10 + index) % 2 ^ 32 }
 {
     (argument(saved, index) % 0x1_0000_0000) as u32
+}
+
+/// The same, as a number that may be negative.
+pub fn signed_argument(saved: &Saved, index: u8) -> i32
+    requires { index ≤ 5 }
+    ensures { result ≡ signed_32 (register saved.now.file (10 + index)) }
+{
+    int_argument(saved, index).cast_signed()
+}
+
+/// The number of a signal, at most 31, that was given as an `int`.
+pub fn signal_number(number: u32) -> u8
+    requires { number ≤ LAST_SIGNAL }
+    ensures { result ≡ number }
+{
+    number as u8
+}
+
+/// Goes on past the call.
+pub fn skip(saved: &mut Saved)
+    ensures { saved.new ≡ record saved.old { pc = sum_64 saved.old.pc 4 } }
+{
+    saved.pc = saved.pc.wrapping_add(4);
 }
 
 /// Puts an answer into a0, and goes on past the call.
@@ -82,6 +107,7 @@ pub fn go_on(saved: &mut Saved, outcome: Result<u64, Errno>) -> CallEnd
     ensures answer { IsAnswer result saved.new }
     ensures stays { gives_up result ≡ false }
     ensures runs_on { (t : ℕ) (threads : Threads) → runs threads t → StandsSo result t threads }
+    ensures waits_in_none { barrier_of result ≡ None }
     ensures ends { process_end result ≡ None }
 {
     let value = value_of(outcome);

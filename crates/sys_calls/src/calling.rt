@@ -5,19 +5,23 @@ ghost use Rattle.kernel_threads.specs.Table.{IsTable, saved_of};
 ghost use Rattle.mach_types.specs.Kernel.Threads.{running_on, runs};
 ghost use Rattle.block_model.specs.Here.{Here};
 ghost use Rattle.block_model.specs.Calls.{called as call_done};
-ghost use Rattle.block_model.specs.Tables.{AreOfLive, IsTables};
+ghost use Rattle.block_model.specs.Calls.Barriers.{running_harts};
+ghost use Rattle.block_model.specs.Tables.{AreOfLive, AreSignalsOfLive, IsTables};
 ghost use Rattle.sys_calls.specs.Answered.{IsCaller, KeepsTables};
 ghost use Rattle.sys_calls.specs.Made.{IsAt, IsMade};
 ghost use Rattle.sys_calls.specs.Registered.{HoldAreas, KeepsAreas, areas_by_number};
+ghost use Rattle.sys_calls.specs.Signalled.{KeepsSignals};
 
 use crate::affinity::{sched_setaffinity, sched_yield};
 use crate::answering::answered;
 use crate::arguments::{call_number, go_on};
+use crate::barrier_call::membarrier;
 use crate::ending::{exit, exit_group};
 use crate::futexes::futex;
 use crate::kernel::Kernel;
 use crate::memory::{Written, shows_pages};
 use crate::sequences::rseq;
+use crate::signal_calls::rt_sigreturn;
 use arrayvec::ArrayVec;
 use kernel_threads::Threads;
 use mach_types::{End, Hart, Saved, Tid, Write};
@@ -34,7 +38,26 @@ const SCHED_SETAFFINITY: u64 = 122;
 
 const SCHED_YIELD: u64 = 124;
 
+const RT_SIGRETURN: u64 = 139;
+
+const MEMBARRIER: u64 = 283;
+
 const RSEQ: u64 = 293;
+
+/// A thread that calls, and the machine that it runs on.
+#[derive(Clone, Copy)]
+pub struct Caller {
+    /// The hart of the thread.
+    pub here: Hart,
+    /// The set of harts on which a thread runs.
+    pub running: u8,
+    /// How many harts there are.
+    pub harts: u8,
+    /// The thread.
+    pub tid: Tid,
+    /// The concurrency id that it holds.
+    pub cid: u8,
+}
 
 /// What a call comes to.
 #[derive(Clone, Copy, Debug, PartialEq, Eq, Drop)]
@@ -79,19 +102,29 @@ pub fn make_call(
     requires eight_harts { harts ≤ 8 }
     requires hart { here.0 < harts }
     requires runs { running_on here.0 kernel.old.threads.threads ≡ Some tid.0 }
+    requires running { running_harts kernel.old.threads.threads harts ≡ running }
     requires numbers { kernel.old.threads.threads.given < 2 ^ 31 - 1 }
     requires tables { IsTables harts kernel.old.threads.threads kernel.old.ready }
+    requires signals { AreSignalsOfLive kernel.old.threads.threads kernel.old.signals }
     requires areas { AreOfLive kernel.old.threads.threads (areas_by_number kernel.old.areas.items) }
-    ensures made { (h : Here) → IsAt h kernel.old pages.old here harts tid saved.old cid
+    ensures made { (h : Here) → IsAt h kernel.old pages.old here running harts tid saved.old cid
         → IsMade h tid.0 kernel.old pages.old kernel.new pages.new saved.new result.end (call_done h tid.0) }
     ensures table { IsTable kernel.new.threads }
     ensures tables { IsTables harts kernel.new.threads.threads kernel.new.ready }
+    ensures signals { AreSignalsOfLive kernel.new.threads.threads kernel.new.signals }
     ensures areas { AreOfLive kernel.new.threads.threads (areas_by_number kernel.new.areas.items) }
-    ensures written { (h : Here) → IsAt h kernel.old pages.old here harts tid saved.old cid → result.written.items ≡ (call_done h tid.0).entered }
+    ensures written { (h : Here) → IsAt h kernel.old pages.old here running harts tid saved.old cid → result.written.items ≡ (call_done h tid.0).entered }
 {
     has_nothing_saved(&kernel.threads, tid);
     let mut written = ArrayVec::new();
-    let end = dispatch(kernel, pages, &mut written, here, harts, tid, saved, cid);
+    let caller = Caller {
+        here,
+        running,
+        harts,
+        tid,
+        cid,
+    };
+    let end = dispatch(kernel, pages, &mut written, caller, saved);
     let _ = kernel.threads.live();
     Called { end, written }
 }
@@ -109,34 +142,57 @@ fn dispatch(
     kernel: &mut Kernel,
     pages: &mut PageMap,
     written: &mut Written,
-    here: Hart,
-    harts: u8,
-    tid: Tid,
+    caller: Caller,
     saved: &mut Saved,
-    cid: u8,
 ) -> CallEnd
-    requires some_hart { 1 ≤ harts }
-    requires eight_harts { harts ≤ 8 }
-    requires caller { IsCaller kernel.old here.0 tid.0 }
+    requires some_hart { 1 ≤ caller.harts }
+    requires eight_harts { caller.harts ≤ 8 }
+    requires caller { IsCaller kernel.old caller.here.0 caller.tid.0 }
     requires areas { HoldAreas kernel.old }
     requires numbers { kernel.old.threads.threads.given < 2 ^ 31 - 1 }
     requires fresh { written.old.items ≡ [] }
     ensures tables { KeepsTables kernel.old kernel.new }
     ensures areas { KeepsAreas kernel.old kernel.new }
-    ensures made { (h : Here) → IsAt h kernel.old pages.old here harts tid saved.old cid
-        → IsMade h tid.0 kernel.old pages.old kernel.new pages.new saved.new result (call_done h tid.0) }
-    ensures told { (h : Here) → IsAt h kernel.old pages.old here harts tid saved.old cid → written.new.items ≡ (call_done h tid.0).entered }
+    ensures signals { KeepsSignals kernel.old kernel.new }
+    ensures made { (h : Here) → IsAt h kernel.old pages.old caller.here caller.running caller.harts caller.tid saved.old caller.cid
+        → IsMade h caller.tid.0 kernel.old pages.old kernel.new pages.new saved.new result (call_done h caller.tid.0) }
+    ensures told { (h : Here) → IsAt h kernel.old pages.old caller.here caller.running caller.harts caller.tid saved.old caller.cid → written.new.items ≡ (call_done h caller.tid.0).entered }
 {
     shows_pages(pages);
     match call_number(saved) {
-        EXIT => exit(kernel, pages, written, here, tid, saved),
+        EXIT => exit(kernel, pages, written, caller.here, caller.tid, saved),
         EXIT_GROUP => exit_group(saved),
-        FUTEX => futex(kernel, pages, here, tid, saved),
-        SCHED_SETAFFINITY => sched_setaffinity(kernel, pages, here, harts, tid, saved),
-        SCHED_YIELD => sched_yield(kernel, here, tid, saved),
-        RSEQ => rseq(kernel, pages, written, here, tid, saved, cid),
+        FUTEX => futex(kernel, pages, caller.here, caller.tid, saved),
+        SCHED_SETAFFINITY => sched_setaffinity(
+            kernel,
+            pages,
+            caller.here,
+            caller.harts,
+            caller.tid,
+            saved,
+        ),
+        SCHED_YIELD => sched_yield(kernel, caller.here, caller.tid, saved),
+        RT_SIGRETURN => rt_sigreturn(kernel, pages, caller.here, caller.tid, saved),
+        MEMBARRIER => membarrier(kernel, caller, saved),
+        RSEQ => rseq(
+            kernel,
+            pages,
+            written,
+            caller.here,
+            caller.tid,
+            saved,
+            caller.cid,
+        ),
         number => {
-            let outcome = answered(number, kernel, pages, written, here, tid, saved);
+            let outcome = answered(
+                number,
+                kernel,
+                pages,
+                written,
+                caller.here,
+                caller.tid,
+                saved,
+            );
             go_on(saved, outcome)
         }
     }
@@ -144,8 +200,8 @@ fn dispatch(
 
 /// The call of thread `tid`, which runs on hart `here` with the registers `saved`: its number is in a7, its arguments in a0 to a5.
 ///
-/// `running` is the set of harts on which a thread runs; no call asks for it yet. `cid` is the concurrency id that the calling thread
-/// holds, from 0 on: [`rseq`] writes it into the area that it registers.
+/// `running` is the set of harts on which a thread runs, one bit each: a barrier is about these. `cid` is the concurrency id that the
+/// calling thread holds, from 0 on: [`rseq`] writes it into the area that it registers.
 /// Refusals come in the order of the manual pages, and a refused call changes a0 and the pc alone.
 pub fn call(
     kernel: &mut Kernel,
@@ -161,12 +217,15 @@ pub fn call(
     requires eight_harts { harts ≤ 8 }
     requires hart { here.0 < harts }
     requires runs { running_on here.0 kernel.old.threads.threads ≡ Some tid.0 }
+    requires running { running_harts kernel.old.threads.threads harts ≡ running }
     requires numbers { kernel.old.threads.threads.given < 2 ^ 31 - 1 }
     requires tables { IsTables harts kernel.old.threads.threads kernel.old.ready }
+    requires signals { AreSignalsOfLive kernel.old.threads.threads kernel.old.signals }
     requires areas { AreOfLive kernel.old.threads.threads (areas_by_number kernel.old.areas.items) }
-    ensures made { (h : Here) → IsAt h kernel.old pages.old here harts tid saved.old cid
+    ensures made { (h : Here) → IsAt h kernel.old pages.old here running harts tid saved.old cid
         → IsMade h tid.0 kernel.old pages.old kernel.new pages.new saved.new result (call_done h tid.0) }
     ensures tables { IsTables harts kernel.new.threads.threads kernel.new.ready }
+    ensures signals { AreSignalsOfLive kernel.new.threads.threads kernel.new.signals }
     ensures areas { AreOfLive kernel.new.threads.threads (areas_by_number kernel.new.areas.items) }
 {
     make_call(kernel, pages, here, running, harts, tid, saved, cid).end

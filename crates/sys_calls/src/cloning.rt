@@ -5,6 +5,7 @@ ghost use Rattle.kernel_threads.specs.Table.{IsTable, with_start};
 ghost use Rattle.mach_types.specs.Bytes.{each_byte};
 ghost use Rattle.mach_types.specs.Kernel.Threads.{is_full, is_live, with_child, with_clear};
 ghost use Rattle.mach_types.specs.Kernel.Scheduling.{with_ready, with_thread};
+ghost use Rattle.mach_types.specs.Kernel.Signals as signals;
 ghost use Rattle.page_map.specs.Map.{can_write_in};
 ghost use Rattle.block_model.specs.Here.{Here};
 ghost use Rattle.block_model.specs.Calls.Answers.{refused};
@@ -12,6 +13,7 @@ ghost use Rattle.block_model.specs.Calls.Cloning.{are_flags, child_file, clone, 
 ghost use Rattle.sys_calls.specs.Answered.{AreTables, IsAnswered, IsEntered, IsRead, IsTold, KeepsTables};
 ghost use Rattle.sys_calls.specs.Cloned.{CanWriteNumbers, HasChild, can_write_numbers, clear_asked, cloned, numbers_written};
 ghost use Rattle.sys_calls.specs.Registered.{KeepsAreas};
+ghost use Rattle.sys_calls.specs.Signalled.{HoldSignals, KeepsSignals};
 
 use crate::arguments::{answer, argument};
 use crate::kernel::Kernel;
@@ -131,9 +133,10 @@ fn can_write_numbers(pages: &PageMap, saved: &Saved) -> bool
         && may_write(pages, flags, CHILD_SETTID, argument(saved, 4))
 }
 
-/// Adds a child, which is the last ready thread. It is there, since there is room.
+/// Adds a child, which has its parent's mask and is the last ready thread. It is there, since there is room.
 fn add_child(kernel: &mut Kernel, tid: Tid, start: Saved) -> Result<Tid, Errno>
     requires tables { AreTables kernel.old }
+    requires signals { HoldSignals kernel.old }
     requires live { IsTrue (is_live tid.0 kernel.old.threads.threads) }
     requires numbers { kernel.old.threads.threads.given < 2 ^ 31 - 1 }
     requires room { is_full kernel.old.threads.threads ≡ false }
@@ -142,12 +145,15 @@ fn add_child(kernel: &mut Kernel, tid: Tid, start: Saved) -> Result<Tid, Errno>
     ensures threads { kernel.new.threads.threads ≡ with_child kernel.old.threads.threads }
     ensures saved { kernel.new.threads.saved ≡ with_start (kernel.old.threads.threads.given + 1) start kernel.old.threads.saved }
     ensures ready { kernel.new.ready ≡ with_ready (kernel.old.threads.threads.given + 1) (with_thread tid.0 (kernel.old.threads.threads.given + 1) kernel.old.ready) }
+    ensures signals { kernel.new.signals ≡ signals.with_thread tid.0 (kernel.old.threads.threads.given + 1) kernel.old.signals }
     ensures areas { kernel.new.areas ≡ kernel.old.areas }
+    ensures registered { kernel.new.registered ≡ kernel.old.registered }
     ensures console { kernel.new.console ≡ kernel.old.console }
 {
     let child = kernel.threads.clone_thread(tid, start)?;
     kernel.ready.add(tid, child);
     kernel.ready.push(child);
+    kernel.signals.add(tid, child);
     Ok(child)
 }
 
@@ -165,6 +171,7 @@ fn set_clear_if(threads: &mut Threads, child: Tid, saved: &Saved)
 /// Makes a child of the thread. It is there, since there is room.
 fn make_child(kernel: &mut Kernel, tid: Tid, saved: &Saved) -> Result<Tid, Errno>
     requires tables { AreTables kernel.old }
+    requires signals { HoldSignals kernel.old }
     requires live { IsTrue (is_live tid.0 kernel.old.threads.threads) }
     requires numbers { kernel.old.threads.threads.given < 2 ^ 31 - 1 }
     requires room { is_full kernel.old.threads.threads ≡ false }
@@ -172,6 +179,7 @@ fn make_child(kernel: &mut Kernel, tid: Tid, saved: &Saved) -> Result<Tid, Errno
     ensures number { IfOk result (λ t. t.0 ≡ kernel.old.threads.threads.given + 1) }
     ensures tables { KeepsTables kernel.old kernel.new }
     ensures areas { KeepsAreas kernel.old kernel.new }
+    ensures signals { KeepsSignals kernel.old kernel.new }
     ensures made { (h : Here) → IsTold h kernel.old → saved.now ≡ h.file tid.0 → HasChild h tid.0 kernel.old kernel.new }
 {
     let child = add_child(kernel, tid, child_file(saved))?;
@@ -216,11 +224,13 @@ pub fn clone(
 ) -> Result<u32, Errno>
     requires fresh { written.old.items ≡ [] }
     requires tables { AreTables kernel.old }
+    requires signals { HoldSignals kernel.old }
     requires live { IsTrue (is_live tid.0 kernel.old.threads.threads) }
     requires numbers { kernel.old.threads.threads.given < 2 ^ 31 - 1 }
     ensures errno { IfErr result (λ e. 1 ≤ e.0) }
     ensures tables { KeepsTables kernel.old kernel.new }
     ensures areas { KeepsAreas kernel.old kernel.new }
+    ensures signals { KeepsSignals kernel.old kernel.new }
     ensures answered { (h : Here) → IsTold h kernel.old → IsRead h pages.old tid.0 saved.now
         → IsAnswered h tid.0 kernel.old pages.old kernel.new pages.new written.new.items result (clone h tid.0) }
 {

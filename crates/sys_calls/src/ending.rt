@@ -11,6 +11,7 @@ ghost use Rattle.sys_calls.specs.Answered.{IsCaller, IsEntered, IsRead, IsTold, 
 ghost use Rattle.sys_calls.specs.Ended.{IsGone};
 ghost use Rattle.sys_calls.specs.Made.{HasPages, IsMade};
 ghost use Rattle.sys_calls.specs.Registered.{KeepsAreas};
+ghost use Rattle.sys_calls.specs.Signalled.{KeepsSignals};
 ghost use Rattle.sys_calls.specs.declared.calling.CallEnd.TheVariants as over;
 
 use crate::areas::remove_area;
@@ -43,21 +44,23 @@ fn clear_word(pages: &mut PageMap, written: &mut Written, at: u64) -> bool
     true
 }
 
-/// Wakes at most so many waiters at an address, and then the thread is gone, and with it its area.
+/// Wakes at most so many waiters at an address, and then the thread is gone, and with it its signals and its area.
 fn go(kernel: &mut Kernel, here: Hart, tid: Tid, at: u64, most: u32)
     requires { IsCaller kernel.old here.0 tid.0 }
     ensures tables { KeepsTables kernel.old kernel.new }
     ensures areas { KeepsAreas kernel.old kernel.new }
+    ensures signals { KeepsSignals kernel.old kernel.new }
     ensures gone { (h : Here) → IsTold h kernel.old → IsGone h kernel.old kernel.new tid.0 most at here.0 }
 {
     let _ = wake(kernel, at, most);
     kernel.threads.exit(tid);
     kernel.ready.remove(tid);
+    kernel.signals.remove(tid);
     remove_area(&mut kernel.areas, tid);
 }
 
 /// exit(code): the word at the thread's clear address becomes 0, one waiter there is woken, and the thread is gone, and with it its
-/// area. The last thread ends the process.
+/// signals and its area. The last thread ends the process.
 pub fn exit(
     kernel: &mut Kernel,
     pages: &mut PageMap,
@@ -70,6 +73,7 @@ pub fn exit(
     requires fresh { written.old.items ≡ [] }
     ensures tables { KeepsTables kernel.old kernel.new }
     ensures areas { KeepsAreas kernel.old kernel.new }
+    ensures signals { KeepsSignals kernel.old kernel.new }
     ensures told { (h : Here) → IsTold h kernel.old → IsRead h pages.old tid.0 saved.now → written.new.items ≡ (exit h tid.0).entered }
     ensures made { (h : Here) → h.hart ≡ here.0 → IsTold h kernel.old → HasPages h pages.old → IsRead h pages.old tid.0 saved.now
         → IsMade h tid.0 kernel.old pages.old kernel.new pages.new saved.now result (exit h tid.0) }

@@ -1,9 +1,10 @@
 //! futex(2): a thread waits at the address of a word, and others wake it.
 
-ghost use Rattle.std.specs.Prelude.{◌≡◌, ℕ, ◌<◌, ◌≤◌, ◌+◌, None, Ok, IfErr, IfOk, OnOk, IfSome, IfNone};
+ghost use Rattle.std.specs.Prelude.{◌≡◌, ℕ, ◌<◌, ◌≤◌, ◌+◌, None, Ok, IfErr, IfOk, OnOk, IfSome, IfNone, IsTrue};
 ghost use Rattle.std.specs.Option.{option_map};
 ghost use Rattle.kernel_threads.specs.Table.{with_answer};
 ghost use Rattle.mach_types.specs.Kernel.Scheduling.{with_ready};
+ghost use Rattle.mach_types.specs.Kernel.Signals.{is_held};
 ghost use Rattle.mach_types.specs.Kernel.Threads.{longest_waiter, with_woken};
 ghost use Rattle.block_model.specs.Here.{Here};
 ghost use Rattle.block_model.specs.Calls.Answers.{argument as argument_of, refused, said};
@@ -13,13 +14,14 @@ ghost use Rattle.sys_calls.specs.Answered.{AreTables, IsCaller, IsRead, IsTold, 
 ghost use Rattle.sys_calls.specs.Made.{HasPages, IsMade};
 ghost use Rattle.sys_calls.specs.Woken.{IsOnward, IsWoken, futex_of};
 ghost use Rattle.sys_calls.specs.Registered.{KeepsAreas};
+ghost use Rattle.sys_calls.specs.Signalled.{KeepsSignals};
 
 use crate::arguments::{answer, argument, go_on, int_argument};
 use crate::calling::CallEnd;
 use crate::kernel::Kernel;
 use crate::memory::number_at;
 use mach_types::address_space::USER_END;
-use mach_types::errors::{EAGAIN, EFAULT, EINVAL, ENOSYS};
+use mach_types::errors::{EAGAIN, EFAULT, EINTR, EINVAL, ENOSYS};
 use mach_types::{Errno, Hart, Saved, Tid};
 use page_map::PageMap;
 
@@ -46,7 +48,9 @@ fn wake_one(kernel: &mut Kernel, at: u64) -> Option<Tid>
     ensures threads { IfSome result (λ t. kernel.new.threads.threads ≡ with_woken t.0 kernel.old.threads.threads) }
     ensures saved { IfSome result (λ t. kernel.new.threads.saved ≡ with_answer t.0 0 kernel.old.threads.saved) }
     ensures ready { IfSome result (λ t. kernel.new.ready ≡ with_ready t.0 kernel.old.ready) }
+    ensures signals { kernel.new.signals ≡ kernel.old.signals }
     ensures areas { kernel.new.areas ≡ kernel.old.areas }
+    ensures registered { kernel.new.registered ≡ kernel.old.registered }
     ensures console { kernel.new.console ≡ kernel.old.console }
 {
     let tid = kernel.threads.wake_one(at)?;
@@ -100,13 +104,15 @@ fn asked(saved: &Saved) -> Result<Operation, Errno>
     }
 }
 
-/// Whether the thread can wait: EINVAL for a timeout, EFAULT for a word that can't be read, EAGAIN for one that differs, in
-/// this order.
-fn may_wait(pages: &PageMap, saved: &Saved) -> Result<(), Errno>
+/// Whether the thread can wait: EINVAL for a timeout, EFAULT for a word that can't be read, EAGAIN for one that differs, EINTR
+/// where a signal can come to the thread, in this order.
+fn may_wait(kernel: &Kernel, pages: &PageMap, tid: Tid, saved: &Saved) -> Result<(), Errno>
+    requires held { IsTrue (is_held tid.0 kernel.now.signals) }
     ensures errno { IfErr result (λ e. 1 ≤ e.0) }
-    ensures refused { IfErr result (λ e. (h : Here) (t : ℕ) → IsRead h pages.now t saved.now → futex_wait h t ≡ refused h t e) }
-    ensures waits { OnOk result ((h : Here) (t : ℕ) → IsRead h pages.now t saved.now
-        → futex_wait h t ≡ record (said h t 0) { kernel = waited t (argument_of h t 0) h.kernel }) }
+    ensures refused { IfErr result (λ e. (h : Here) → IsTold h kernel.now → IsRead h pages.now tid.0 saved.now
+        → futex_wait h tid.0 ≡ refused h tid.0 e) }
+    ensures waits { OnOk result ((h : Here) → IsTold h kernel.now → IsRead h pages.now tid.0 saved.now
+        → futex_wait h tid.0 ≡ record (said h tid.0 0) { kernel = waited tid.0 (argument_of h tid.0 0) h.kernel }) }
 {
     let at = argument(saved, 0);
     if argument(saved, 3) != 0 {
@@ -118,6 +124,9 @@ fn may_wait(pages: &PageMap, saved: &Saved) -> Result<(), Errno>
     if number_at(pages, at, 4) != u64::from(int_argument(saved, 2)) {
         return Err(EAGAIN);
     }
+    if kernel.signals.next_for(tid).is_some() {
+        return Err(EINTR);
+    }
     Ok(())
 }
 
@@ -126,10 +135,11 @@ fn wait(kernel: &mut Kernel, pages: &PageMap, here: Hart, tid: Tid, saved: &mut 
     requires { IsCaller kernel.old here.0 tid.0 }
     ensures tables { KeepsTables kernel.old kernel.new }
     ensures areas { KeepsAreas kernel.old kernel.new }
+    ensures signals { KeepsSignals kernel.old kernel.new }
     ensures made { (h : Here) → h.hart ≡ here.0 → IsTold h kernel.old → HasPages h pages.now → IsRead h pages.now tid.0 saved.old
         → IsMade h tid.0 kernel.old pages.now kernel.new pages.now saved.new result (futex_wait h tid.0) }
 {
-    match may_wait(pages, saved) {
+    match may_wait(kernel, pages, tid, saved) {
         Ok(()) => {
             let at = argument(saved, 0);
             answer(saved, 0);
@@ -151,6 +161,7 @@ pub fn futex(
     requires { IsCaller kernel.old here.0 tid.0 }
     ensures tables { KeepsTables kernel.old kernel.new }
     ensures areas { KeepsAreas kernel.old kernel.new }
+    ensures signals { KeepsSignals kernel.old kernel.new }
     ensures made { (h : Here) → h.hart ≡ here.0 → IsTold h kernel.old → HasPages h pages.now → IsRead h pages.now tid.0 saved.old
         → IsMade h tid.0 kernel.old pages.now kernel.new pages.now saved.new result (futex h tid.0) }
 {

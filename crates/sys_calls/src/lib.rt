@@ -7,6 +7,7 @@ mod affinity;
 mod answering;
 mod areas;
 mod arguments;
+mod barrier_call;
 mod calling;
 mod cloning;
 mod console;
@@ -16,12 +17,14 @@ mod kernel;
 mod memory;
 mod memory_calls;
 mod numbers;
+mod posting;
 mod sequences;
+mod signal_calls;
 #[cfg(test)]
 mod tests;
 mod writing;
 
-pub use areas::{Areas, MOST_AREAS, Registered, area_of};
+pub use areas::{Areas, MOST_AREAS, RegisteredArea, area_of};
 pub use calling::{CallEnd, Called, call, make_call};
 pub use console::Console;
 pub use kernel::Kernel;

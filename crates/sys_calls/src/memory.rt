@@ -70,6 +70,7 @@ pub fn write_double(pages: &mut PageMap, written: &mut Written, at: u64, value: 
     requires writable { IsTrue (each_byte (can_write_in pages.old) at 8) }
     requires room { length written.old.items < 4 }
     ensures entered { IsEntered pages.old pages.new (double_written at value ∷ []) }
+    ensures same { (a : ℕ) → can_write_in pages.new a ≡ can_write_in pages.old a }
     ensures told { written.new.items ≡ written.old.items ++ double_written at value ∷ [] }
 {
     let _ = pages.set(at, 8, value);

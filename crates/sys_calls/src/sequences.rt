@@ -10,6 +10,7 @@ ghost use Rattle.block_model.specs.Calls.Sequences.{registers, registers_or_refu
 ghost use Rattle.sys_calls.specs.Answered.{IsAnswered, IsCaller, IsEntered, IsRead, IsTold, KeepsTables};
 ghost use Rattle.sys_calls.specs.Made.{HasPages, IsMade};
 ghost use Rattle.sys_calls.specs.Registered.{HoldAreas, KeepsAreas, areas_by_number, area_asked, unregistration_asked};
+ghost use Rattle.sys_calls.specs.Signalled.{KeepsSignals};
 
 use crate::areas::{add_area, area_of, remove_area};
 use crate::arguments::{argument, go_on, int_argument};
@@ -101,6 +102,7 @@ fn register_area(
     requires fresh { written.old.items ≡ [] }
     ensures tables { KeepsTables kernel.old kernel.new }
     ensures areas { KeepsAreas kernel.old kernel.new }
+    ensures signals { KeepsSignals kernel.old kernel.new }
     ensures told { (h : Here) → h.hart ≡ here.0 → IsRead h pages.old tid.0 saved.old → id_of tid.0 h.kernel.ids ≡ cid
         → written.new.items ≡ (registers h tid.0 area).entered }
     ensures made { (h : Here) → h.hart ≡ here.0 → IsTold h kernel.old → HasPages h pages.old → IsRead h pages.old tid.0 saved.old
@@ -130,6 +132,7 @@ fn register_asked(
     requires fresh { written.old.items ≡ [] }
     ensures tables { KeepsTables kernel.old kernel.new }
     ensures areas { KeepsAreas kernel.old kernel.new }
+    ensures signals { KeepsSignals kernel.old kernel.new }
     ensures told { (h : Here) → h.hart ≡ here.0 → IsTold h kernel.old → IsRead h pages.old tid.0 saved.old → id_of tid.0 h.kernel.ids ≡ cid
         → written.new.items ≡ (registers_or_refused h tid.0 (area_asked saved.old (areas.area_of tid.0 h.kernel.areas))).entered }
     ensures made { (h : Here) → h.hart ≡ here.0 → IsTold h kernel.old → HasPages h pages.old → IsRead h pages.old tid.0 saved.old
@@ -155,6 +158,7 @@ fn unregister_area(
     ensures errno { IfErr result (λ e. 1 ≤ e.0) }
     ensures tables { KeepsTables kernel.old kernel.new }
     ensures areas { KeepsAreas kernel.old kernel.new }
+    ensures signals { KeepsSignals kernel.old kernel.new }
     ensures answered { (h : Here) → IsTold h kernel.old → IsRead h pages.old tid.0 saved.now
         → IsAnswered h tid.0 kernel.old pages.old kernel.new pages.new written.new.items result
         (unregisters_or_refused h tid.0 (unregistration_asked saved.now (areas.area_of tid.0 h.kernel.areas))) }
@@ -195,6 +199,7 @@ pub fn rseq(
     requires fresh { written.old.items ≡ [] }
     ensures tables { KeepsTables kernel.old kernel.new }
     ensures areas { KeepsAreas kernel.old kernel.new }
+    ensures signals { KeepsSignals kernel.old kernel.new }
     ensures told { (h : Here) → h.hart ≡ here.0 → IsTold h kernel.old → IsRead h pages.old tid.0 saved.old → id_of tid.0 h.kernel.ids ≡ cid
         → written.new.items ≡ (rseq_of h tid.0).entered }
     ensures made { (h : Here) → h.hart ≡ here.0 → IsTold h kernel.old → HasPages h pages.old → IsRead h pages.old tid.0 saved.old

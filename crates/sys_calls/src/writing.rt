@@ -9,6 +9,7 @@ ghost use Rattle.block_model.specs.Calls.Console.{all_readable, bytes_from, byte
 ghost use Rattle.sys_calls.specs.Joined.{write_joined};
 ghost use Rattle.sys_calls.specs.Answered.{IsAnswered, IsRead, IsTold, KeepsTables};
 ghost use Rattle.sys_calls.specs.Registered.{KeepsAreas};
+ghost use Rattle.sys_calls.specs.Signalled.{KeepsSignals};
 
 use crate::arguments::{argument, int_argument};
 use crate::console::Console;
@@ -52,6 +53,7 @@ pub fn write(kernel: &mut Kernel, pages: &PageMap, saved: &Saved) -> Result<u32,
     ensures errno { IfErr result (λ e. 1 ≤ e.0) }
     ensures tables { KeepsTables kernel.old kernel.new }
     ensures areas { KeepsAreas kernel.old kernel.new }
+    ensures signals { KeepsSignals kernel.old kernel.new }
     ensures answered { (h : Here) (t : ℕ) → IsTold h kernel.old → IsRead h pages.now t saved.now
         → IsAnswered h t kernel.old pages.now kernel.new pages.now [] result (write h t) }
 {
@@ -158,6 +160,7 @@ pub fn writev(kernel: &mut Kernel, pages: &PageMap, saved: &Saved) -> Result<u32
     ensures errno { IfErr result (λ e. 1 ≤ e.0) }
     ensures tables { KeepsTables kernel.old kernel.new }
     ensures areas { KeepsAreas kernel.old kernel.new }
+    ensures signals { KeepsSignals kernel.old kernel.new }
     ensures answered { (h : Here) (t : ℕ) → IsTold h kernel.old → IsRead h pages.now t saved.now
         → IsAnswered h t kernel.old pages.now kernel.new pages.now [] result (writev h t) }
 {
@@ -183,6 +186,7 @@ fn write_records(kernel: &mut Kernel, pages: &PageMap, records: Records) -> Resu
     ensures errno { IfErr result (λ e. 1 ≤ e.0) }
     ensures tables { KeepsTables kernel.old kernel.new }
     ensures areas { KeepsAreas kernel.old kernel.new }
+    ensures signals { KeepsSignals kernel.old kernel.new }
     ensures answered { (h : Here) (t : ℕ) → IsTold h kernel.old → byte_in pages.now ≡ memory h
         → IsAnswered h t kernel.old pages.now kernel.new pages.now [] result (write_joined h t (spans_at h records.at records.count)) }
 {

@@ -2,14 +2,14 @@
 ECALL is, and how long a thread ran on a hart."""
 from __future__ import annotations
 
-from collections import deque
+from collections import defaultdict, deque
 from collections.abc import Iterator
 from dataclasses import dataclass, field
 
 from .calls import RT_SIGRETURN
 from .faults import LensFault
 from .instructions import A7, Instruction
-from .output import DRAIN, EXEC, PREEMPT, RUN, TAKE, Output, Step
+from .output import DRAIN, EXEC, PREEMPT, RUN, SIGNAL, TAKE, Output, Step
 from .program import Program
 
 
@@ -37,7 +37,8 @@ class History:
     calls: dict[int, int | None] = field(default_factory=dict)
     """The number of a call, where the thread's last write to a7 was an immediate."""
     sent: dict[int, int] = field(default_factory=dict)
-    """Where a `run` or a `take` sent its thread, where that isn't where it stood: a restart."""
+    """Where a `run`, a `take` or a `signal` sent its thread, where that isn't where it stood: a restart, or a
+    handler."""
     stretches: list[Stretch] = field(default_factory=list)
 
     def store_drains(self) -> dict[int, int]:
@@ -91,13 +92,19 @@ def note_instructions(history: History) -> None:
 
 
 def note_calls(history: History) -> None:
+    """The number of each call. A handler may write a7 too, which is what it was when the handler returns."""
     last_written: dict[int, int | None] = {}
+    interrupted: dict[int, list[int | None]] = defaultdict(list)
     for step in history.output.steps:
         instruction = history.instructions.get(step.number)
-        if instruction and instruction.sets(A7):
+        if step.kind == SIGNAL:
+            interrupted[step.thread].append(last_written.get(step.thread))
+        elif instruction and instruction.sets(A7):
             last_written[step.thread] = instruction.immediate
         elif instruction and instruction.is_call:
-            history.calls[step.number] = last_written.get(step.thread)
+            number = history.calls[step.number] = last_written.get(step.thread)
+            if number == RT_SIGRETURN and interrupted[step.thread]:
+                last_written[step.thread] = interrupted[step.thread].pop()
 
 
 def check_pcs(history: History, next_pcs: dict[int, int]) -> None:
@@ -132,7 +139,7 @@ def note_stores(history: History, next_pcs: dict[int, int]) -> None:
 def note_restarts(history: History, next_pcs: dict[int, int]) -> None:
     for step in history.output.steps:
         pc = next_pcs.get(step.number, step.pc)
-        if step.kind in (RUN, TAKE) and step.thread and pc != step.pc:
+        if step.kind in (RUN, TAKE, SIGNAL) and step.thread and pc != step.pc:
             history.sent[step.number] = pc
 
 

@@ -20,6 +20,15 @@ MARK = re.compile(r'\$[adtx].*|\.L.*')
 SYMBOL_AND_OFFSET = re.compile(r'(?P<symbol>[^+]+?)(\+(?P<offset>0x[0-9a-fA-F]+|[0-9]+))?')
 SOURCE_LINE = re.compile(r'(?P<file>[^:]+):(?P<line>[0-9]+)')
 ADDRESS = re.compile(r'0x[0-9a-fA-F]+')
+HANDLER_RETURN = 0x3F_FFFF_0000
+RETURNING = {
+    address: Instruction(address, word, text)
+    for address, word, text in (
+        (HANDLER_RETURN, 0x08B00893, 'li a7,139'),
+        (HANDLER_RETURN + SIZE, 0x00000073, 'ecall'),
+    )
+}
+"""The code that signal handlers return to, which the machine maps beside the file's."""
 
 
 @dataclass(frozen=True)
@@ -87,10 +96,11 @@ class Program:
         return any(code.has(address) for code in self.code)
 
     def find_instruction(self, address: int) -> Instruction | None:
-        """The instruction at an address; None where the file has no code there."""
+        """The instruction at an address; None where there is no code, neither the file's nor that to which
+        handlers return."""
         code = next((code for code in self.code if code.has(address)), None)
         if code is None:
-            return None
+            return RETURNING.get(address)
         word = code.word(address)
         return Instruction(address, word, self.texts.get(address, f'.word {word:#010x}'))
 

@@ -113,7 +113,8 @@ def read_order(path: str, number: int, words: str) -> Order:
             return Order(number, words, int(hart), kind, is_all=True)
     raise LensFault(
         f'{path}, line {number}: {words!r} is no order; orders are "0 run 1", "0 exec", "0 exec x8", '
-        '"0 exec until main+0x10", "0 exec all", "0 drain", "0 drain all", "0 preempt"'
+        '"0 exec until main+0x10", "0 exec all", "0 drain", "0 drain all", "0 preempt", "0 signal", "0 take", '
+        '"0 done"'
     )
 
 

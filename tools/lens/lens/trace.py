@@ -13,7 +13,7 @@ from typing import Any
 from .calls import MEMBARRIER, name_of
 from .history import History, Stretch
 from .listing import deed, source
-from .output import DONE, DRAIN, EXEC, PREEMPT, RUN, TAKE, Step
+from .output import DONE, DRAIN, EXEC, PREEMPT, RUN, SIGNAL, TAKE, Step
 
 Event = dict[str, Any]
 
@@ -128,7 +128,8 @@ def marks(history: History) -> Iterator[Event]:
         if store:
             about['store'] = store.number
         if step.number in history.sent:
-            about['restarted at'] = history.program.where(history.sent[step.number])
+            words = 'handler' if step.kind == SIGNAL else 'restarted at'
+            about[words] = history.program.where(history.sent[step.number])
         yield {'ph': INSTANT, 'name': name, 'cat': step.kind, 's': 't', **on_hart(step), 'args': about}
 
 

@@ -40,6 +40,13 @@ class Listing(unittest.TestCase):
         answer = lens('list', run, elf, '--around', 152, '--context', 20)
         self.assertEqual(answer.stdout.decode(), (GOLDEN / 'preempted.listing').read_text())
 
+    @needs_objdump
+    def test_golden_of_a_handler(self):
+        folder = EXAMPLES / 'signal_in_sequence'
+        run, elf = folder / 'inside.output', folder / 'signal_in_sequence.elf'
+        answer = lens('list', run, elf, '--around', 167, '--context', 28)
+        self.assertEqual(answer.stdout.decode(), (GOLDEN / 'inside.listing').read_text())
+
     def rows(self, **chosen):
         return list(list_run(found(), Selection(**chosen)))[1:-2]
 

@@ -6,6 +6,7 @@ import tempfile
 import unittest
 from pathlib import Path
 
+from lens.program import HANDLER_RETURN
 from lens.trace import make_trace
 
 from .common import EXAMPLES, FOUND, PETERSON, START, assemble, found, history, lens, output_text
@@ -131,6 +132,34 @@ class Traces(unittest.TestCase):
         marks = [event for event in self.check(make_trace(made)) if event['ph'] == 'i']
         self.assertEqual([event['name'] for event in marks], ['run 1', 'preempt 1', 'run 1, to again'])
         self.assertEqual(marks[2]['args']['restarted at'], 'again')
+
+    def test_a_handler(self):
+        """A signal between the instruction that says which call comes and the call: the handler returns to the
+        call, which is the one that was meant."""
+        with tempfile.TemporaryDirectory() as name:
+            folder = Path(name)
+            elf = assemble(folder, 'li a7, 178\necall\nnop\nhandler: li a7, 64\nret')
+            steps = [
+                ('0 run 1', START),
+                ('0 exec 1', START),
+                ('0 signal 1', START + 4),
+                ('0 exec 1', START + 12),
+                ('0 exec 1', START + 16),
+                ('0 exec 1', HANDLER_RETURN),
+                ('0 exec 1', HANDLER_RETURN + 4),
+                ('0 exec 1', START + 4),
+                ('0 exec 1', START + 8),
+            ]
+            run = folder / 'run'
+            run.write_text(output_text([f'{words} {pc:016x}' for words, pc in steps]))
+            made = history(run, elf)
+        self.assertEqual(made.sent, {3: START + 12})
+        marks = [event for event in self.check(make_trace(made)) if event['ph'] == 'i']
+        self.assertEqual(
+            [event['name'] for event in marks],
+            ['run 1', 'signal, to handler', 'call rt_sigreturn', 'call gettid'],
+        )
+        self.assertEqual(marks[1]['args']['handler'], 'handler')
 
 
 if __name__ == '__main__':

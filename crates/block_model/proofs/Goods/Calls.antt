@@ -1,5 +1,6 @@
 -- Calls: what each does that is fit.
 pub mod Affinity
+pub mod Barriers
 pub mod Cloning
 pub mod Console
 pub mod Ending
@@ -9,5 +10,6 @@ pub mod Memory
 pub mod Numbers
 pub mod Said
 pub mod Sequences
+pub mod Signals
 pub mod Steps
 pub mod Table

@@ -3,6 +3,7 @@ use Rattle.std.proofs.Common.{◌≡◌, List, [], ◌∷◌, refl, sym, ◌∙�
 use Rattle.mach_types.specs.declared.user_memory.Store.{Store}
 use Rattle.block_model.specs.Here.{Here, waiting_here}
 use Rattle.block_model.specs.Events.Drain.{refusal_drain, refusal_drain_of, done_drain, done_drain_of}
+use Rattle.block_model.proofs.BarrierSteps.{quiet_still}
 use Rattle.block_model.proofs.Good.{IsGoodHere, IsFit}
 
 pub good_drain : (here : Here) → IsGoodHere here → refusal_drain here ≡ None → IsFit here (done_drain here)
@@ -21,6 +22,7 @@ good_drain here good free = go (waiting_here here) refl free
       paged = λ is. is;
       given = omega arith;
       one = omega arith;
+      barriers = quiet_still here _ refl refl refl (λ left awaits. let bad : [] ≡ w ∷ ws = sym (good.empty left awaits) ∙ is in absurd cc);
       kernel = good.kernel;
       held = λ is. is;
     }

@@ -5,8 +5,10 @@ use Rattle.std.specs.Option.{option_or}
 use Rattle.std.proofs.lemmas.Bool.{leb-false, lt-ltb}
 use Rattle.mach_types.specs.Bytes.{each_byte}
 use Rattle.mach_types.specs.Kernel.Pages.{Pages, permission_at, can_write}
+use Rattle.mach_types.specs.Kernel.Signals.{with_pending}
 use Rattle.mach_types.specs.declared.events.Why.{Why}
 use Rattle.mach_types.specs.declared.events.Why.TheVariants.{Waiting, FullBuffer, Others}
+use Rattle.mach_types.specs.declared.limits.End.TheVariants.{Killed}
 use Rattle.mach_types.specs.declared.registers.Regs.{Regs}
 use Rattle.mach_types.specs.declared.user_memory.Store.{Store}
 use Rattle.mach_types.specs.declared.user_memory.TheConstants.{STORE_BUFFER_CAPACITY}
@@ -17,14 +19,18 @@ use Rattle.rv_inst.specs.Execution.{Outcome, outcome, fault_in, instruction_gate
 use Rattle.block_model.specs.Here.{Here, runs, memory, view, waiting_here}
 use Rattle.block_model.specs.Instruction.{fault_by, fetched}
 use Rattle.block_model.specs.Calls.{called}
-use Rattle.block_model.specs.Calls.Answers.{call_number}
+use Rattle.block_model.specs.Calls.Answers.{call_number, killed_in_call}
 use Rattle.block_model.specs.Calls.Memory.{lies_waiting_on, taken_by}
-use Rattle.block_model.specs.Calls.Sequences.{killed_in_call}
-use Rattle.block_model.specs.Events.Exec.{refusal_exec, refusal_exec_by, done_exec, done_exec_by, by_fault, by_call, called_here, by_effect, by_outcome, outcome_of, next_effect, next_fault, is_held, others_gate}
+use Rattle.block_model.specs.Events.Exec.{refusal_exec, refusal_exec_by, done_exec, done_exec_by, by_fault, by_call, called_here, by_effect, by_outcome, outcome_of, next_effect, next_fault, has_handler, is_held, one_instruction, others_gate}
+use Rattle.block_model.specs.Kernel.{signalled}
 use Rattle.block_model.specs.Sequences.{is_inside_here}
-use Rattle.block_model.proofs.Good.{IsGoodHere, IsFit, MayEnter}
+use Rattle.block_model.proofs.BarrierSteps.{quiet_free}
+use Rattle.block_model.proofs.Good.{IsGoodHere, IsFit, MayEnter, fit_either}
 use Rattle.block_model.proofs.Goods.Calls.Fit.{fit_by_call, own_apart}
+use Rattle.block_model.proofs.Goods.Calls.Steps.{kept_signalled}
 use Rattle.block_model.proofs.Goods.Calls.Table.{fit_called}
+use Rattle.block_model.proofs.Goods.Preempt.{out_of_barrier}
+use Rattle.block_model.proofs.SignalSteps.{pending_keeps}
 
 -- what a plain store executes, where it doesn't fault: one store that may enter; no other instruction executes one
 pub record IsExecuted (p : Pages) (e : Effect) (o : Outcome) : Type 0 where
@@ -66,24 +72,48 @@ room_by false false false n is few e = omega arith
 gate_room : (n : ℕ) (e : Effect) (faults : Bool) → n ≤ STORE_BUFFER_CAPACITY → instruction_gate n (Some e) faults ≡ None → n + cond (is_plain_store e) 1 0 ≤ STORE_BUFFER_CAPACITY
 gate_room n e faults few free = room_by _ (leb STORE_BUFFER_CAPACITY n) (is_plain_store e) n refl few free
 
-still : (here : Here) (t signal : ℕ) → IsGoodHere here → runs here ≡ Some t → IsFit here (by_fault here signal)
-still here t signal good at = record {
-  executed = tt;
-  few = let w = good.few in omega arith;
-  drained = omega arith;
-  idle = λ none. let bad : None ≡ Some t = sym none ∙ at in absurd (cc);
-  others = λ k ne. refl;
-  apart = λ k u f ne runs. refl;
-  within = good.within;
-  paged = λ is. is;
-  given = omega arith;
-  one = omega arith;
-  kernel = good.kernel;
-  held = λ is. is;
-}
+-- a fault: the thread stays where it is, and a signal becomes pending for it or the process ends
+still : (here : Here) (t signal : ℕ) → IsGoodHere here → runs here ≡ Some t → here.awaits ≡ None → IsFit here (by_fault here t signal)
+still here t signal good at out = fit_either here (has_handler here t signal) _ _ handled killed
+  where
+    handled : IsFit here (record (one_instruction here) { kernel = signalled (with_pending t signal here.kernel.signals) here.kernel })
+    handled =
+        let kept = kept_signalled here.setting (with_pending t signal here.kernel.signals) here.kernel good.kernel (pending_keeps t signal here.kernel.signals) in
+        record {
+          executed = tt;
+          few = let w = good.few in omega arith;
+          drained = omega arith;
+          idle = λ none. let bad : None ≡ Some t = sym none ∙ at in absurd (cc);
+          others = λ k ne. refl;
+          apart = λ k u f ne runs. refl;
+          within = good.within;
+          paged = λ is. is;
+          given = omega arith;
+          one = omega arith;
+          barriers = quiet_free here _ refl refl refl out;
+          kernel = kept.sound;
+          held = kept.held;
+        }
 
-plain : (here : Here) (t : ℕ) (e : Effect) → IsGoodHere here → runs here ≡ Some t → IsExecuted here.kernel.pages e (outcome_of here t e) → length (waiting_here here) + cond (is_plain_store e) 1 0 ≤ STORE_BUFFER_CAPACITY → IsFit here (by_outcome here t (outcome_of here t e))
-plain here t e good at is room = record {
+    killed : IsFit here (record (one_instruction here) { ended = Some (Killed signal) })
+    killed = record {
+      executed = tt;
+      few = let w = good.few in omega arith;
+      drained = omega arith;
+      idle = λ none. let bad : None ≡ Some t = sym none ∙ at in absurd (cc);
+      others = λ k ne. refl;
+      apart = λ k u f ne runs. refl;
+      within = good.within;
+      paged = λ is. is;
+      given = omega arith;
+      one = omega arith;
+      barriers = quiet_free here _ refl refl refl out;
+      kernel = good.kernel;
+      held = λ is. is;
+    }
+
+plain : (here : Here) (t : ℕ) (e : Effect) → IsGoodHere here → runs here ≡ Some t → here.awaits ≡ None → IsExecuted here.kernel.pages e (outcome_of here t e) → length (waiting_here here) + cond (is_plain_store e) 1 0 ≤ STORE_BUFFER_CAPACITY → IsFit here (by_outcome here t (outcome_of here t e))
+plain here t e good at out is room = record {
   executed = is.may;
   few = let one = is.one in omega arith;
   drained = omega arith;
@@ -94,6 +124,7 @@ plain here t e good at is room = record {
   paged = λ is. is;
   given = omega arith;
   one = omega arith;
+  barriers = quiet_free here _ refl refl refl out;
   kernel = good.kernel;
   held = λ is. is;
 }
@@ -133,8 +164,8 @@ gates None b free = (refl, free)
 gates (Some why) b free = absurd cc
 
 -- a call inside a sequence kills the process
-killed : (here : Here) (t : ℕ) → IsGoodHere here → runs here ≡ Some t → IsFit here (by_call here (killed_in_call here))
-killed here t good at = record {
+killed : (here : Here) (t : ℕ) → IsGoodHere here → runs here ≡ Some t → here.awaits ≡ None → IsFit here (by_call here (killed_in_call here))
+killed here t good at out = record {
   executed = tt;
   few = let w = good.few in omega arith;
   drained = omega arith;
@@ -145,30 +176,31 @@ killed here t good at = record {
   paged = λ is. is;
   given = omega arith;
   one = omega arith;
+  barriers = quiet_free here _ refl refl refl out;
   kernel = good.kernel;
   held = λ is. is;
 }
 
-call_by : (here : Here) (t : ℕ) (b : Bool) → IsGoodHere here → runs here ≡ Some t → waiting_here here ≡ []
+call_by : (here : Here) (t : ℕ) (b : Bool) → IsGoodHere here → runs here ≡ Some t → here.awaits ≡ None → waiting_here here ≡ []
     → (not b && lies_waiting_on (taken_by (call_number here t) here t) here.waiting here.setting.limits.harts) ≡ false
     → IsFit here (by_call here (cond b (killed_in_call here) (called here t)))
-call_by here t true good at none clear = killed here t good at
-call_by here t false good at none clear =
-    fit_by_call here (taken_by (call_number here t) here t) (called here t) good none clear (fit_called here t good at)
+call_by here t true good at out none clear = killed here t good at out
+call_by here t false good at out none clear =
+    fit_by_call here (taken_by (call_number here t) here t) (called here t) good out none clear (fit_called here t good at)
 
-call_or_plain : (here : Here) (t : ℕ) (e : Effect) (b : Bool) → is_call e ≡ b → IsGoodHere here → runs here ≡ Some t → (is_call e ≡ true → is_held here t ≡ false) → instruction_gate (length (waiting_here here)) (Some e) false ≡ None →
+call_or_plain : (here : Here) (t : ℕ) (e : Effect) (b : Bool) → is_call e ≡ b → IsGoodHere here → runs here ≡ Some t → here.awaits ≡ None → (is_call e ≡ true → is_held here t ≡ false) → instruction_gate (length (waiting_here here)) (Some e) false ≡ None →
     IsExecuted here.kernel.pages e (outcome_of here t e) → IsFit here (cond b (by_call here (called_here here t)) (by_outcome here t (outcome_of here t e)))
-call_or_plain here t e true is good at clear free done =
-    call_by here t (is_inside_here here t) good at (none_waits (waiting_here here) e (call_wants_empty e is) free) (clear is)
-call_or_plain here t e false is good at clear free done = plain here t e good at done (gate_room (length (waiting_here here)) e false good.few free)
+call_or_plain here t e true is good at out clear free done =
+    call_by here t (is_inside_here here t) good at out (none_waits (waiting_here here) e (call_wants_empty e is) free) (clear is)
+call_or_plain here t e false is good at out clear free done = plain here t e good at out done (gate_room (length (waiting_here here)) e false good.few free)
 
-fit_effect : (here : Here) (t : ℕ) (f : Option ℕ) (o : Option Effect) → IsGoodHere here → runs here ≡ Some t →
+fit_effect : (here : Here) (t : ℕ) (f : Option ℕ) (o : Option Effect) → IsGoodHere here → runs here ≡ Some t → here.awaits ≡ None →
     fault_by (memory here) (λ a. can_write (permission_at here.kernel.pages a)) (here.file t).pc (fetched here.setting.program.pages (here.file t).pc) o ≡ f →
     instruction_gate (length (waiting_here here)) o (is_some f) ≡ None → others_gate (is_held here t) o ≡ None → IsFit here (by_effect here t f o)
-fit_effect here t (Some signal) o good at fault e clear = still here t signal good at
-fit_effect here t None None good at fault e clear = cc
-fit_effect here t None (Some x) good at fault e clear =
-    call_or_plain here t x (is_call x) refl good at (call_held (is_call x) (is_held here t) clear) e (executed_by here.kernel.pages (memory here) (view here) (here.file t).file (here.file t).pc here.reserved x fault)
+fit_effect here t (Some signal) o good at out fault e clear = still here t signal good at out
+fit_effect here t None None good at out fault e clear = cc
+fit_effect here t None (Some x) good at out fault e clear =
+    call_or_plain here t x (is_call x) refl good at out (call_held (is_call x) (is_held here t) clear) e (executed_by here.kernel.pages (memory here) (view here) (here.file t).file (here.file t).pc here.reserved x fault)
 
 pub good_exec : (here : Here) → IsGoodHere here → refusal_exec here ≡ None → IsFit here (done_exec here)
 good_exec here good free = go (runs here) refl free
@@ -176,5 +208,8 @@ good_exec here good free = go (runs here) refl free
     go : (o : Option ℕ) → runs here ≡ o → refusal_exec_by here o ≡ None → IsFit here (done_exec_by here o)
     go None at e = cc
     go (Some t) at e =
-        let free = gates (instruction_gate (length (waiting_here here)) (next_effect here t) (is_some (next_fault here t))) (others_gate (is_held here t) (next_effect here t)) e in
-        fit_effect here t (next_fault here t) (next_effect here t) good at refl free.0 free.1
+        let gate = instruction_gate (length (waiting_here here)) (next_effect here t) (is_some (next_fault here t)) in
+        let held = others_gate (is_held here t) (next_effect here t) in
+        let both = out_of_barrier here.awaits (option_or gate held) e in
+        let free = gates gate held both.1 in
+        fit_effect here t (next_fault here t) (next_effect here t) good at both.0 refl free.0 free.1

@@ -1,10 +1,12 @@
 -- A thread leaves its hart.
 use Rattle.std.proofs.Common.{◌≡◌, ℕ, List, [], ◌∷◌, ◌++◌, refl, sym, ap, ◌∙◌, arith, Option, Some, None}
+use Rattle.mach_types.specs.declared.events.Why.{Why}
 use Rattle.mach_types.specs.declared.user_memory.Store.{Store}
 use Rattle.block_model.specs.Here.{Here, runs, waiting_here}
-use Rattle.block_model.specs.Events.Preempt.{refusal_preempt, refusal_preempt_by, done_preempt, done_preempt_by, unless_waiting}
+use Rattle.block_model.specs.Events.Preempt.{refusal_preempt, refusal_preempt_by, done_preempt, done_preempt_by, unless_in_barrier, unless_waiting}
 use Rattle.block_model.specs.Kernel.{left}
 use Rattle.block_model.proofs.Allowances.{same_live}
+use Rattle.block_model.proofs.BarrierSteps.{quiet_free}
 use Rattle.block_model.proofs.KernelTables.{tables_left, left_others}
 use Rattle.block_model.proofs.Good.{IsGoodHere, IsFit}
 use Rattle.block_model.proofs.Held.{held_left}
@@ -13,13 +15,19 @@ pub none_waits : (ws : List Store) → unless_waiting ws ≡ None → ws ≡ []
 none_waits [] e = refl
 none_waits (w ∷ ws) e = cc
 
+-- an event of a thread comes where it waits in no barrier
+pub out_of_barrier : (awaits : Option ℕ) (why : Option Why) → unless_in_barrier awaits why ≡ None → (awaits ≡ None) × (why ≡ None)
+out_of_barrier None why free = (refl, free)
+out_of_barrier (Some left) why free = absurd cc
+
 pub good_preempt : (here : Here) → IsGoodHere here → refusal_preempt here ≡ None → IsFit here (done_preempt here)
 good_preempt here good free = go (runs here) refl free
   where
     go : (o : Option ℕ) → runs here ≡ o → refusal_preempt_by here o ≡ None → IsFit here (done_preempt_by here o)
     go None at e = cc
     go (Some t) at e =
-        let none = none_waits (waiting_here here) e in
+        let both = out_of_barrier here.awaits (unless_waiting (waiting_here here)) e in
+        let none = none_waits (waiting_here here) both.1 in
         let tables = good.kernel.tables in
         let harts = here.setting.limits.harts in
         let ts = here.kernel.threads in
@@ -36,6 +44,7 @@ good_preempt here good free = go (runs here) refl free
           paged = λ is. is;
           given = omega arith;
           one = omega arith;
+          barriers = quiet_free here _ refl refl refl both.0;
           kernel = record {
             tables = after;
             allowed = λ some u live. good.kernel.allowed some u (sym (same_live harts u ts (left t here.kernel).threads sc (left t here.kernel).scheduling tables after refl) ∙ live);

@@ -9,14 +9,15 @@ use Rattle.mach_types.specs.declared.threads.ThreadState.TheVariants.{Ready}
 use Rattle.mach_types.specs.declared.user_memory.Store.{Store}
 use Rattle.mach_types.specs.Kernel.Threads.{Threads, is_ready, running_on, state_of}
 use Rattle.mach_types.specs.Kernel.Scheduling.{Scheduling, has_hart, affinity_of}
-use Rattle.block_model.specs.Here.{Done, Here, runs}
+use Rattle.block_model.specs.Here.{Here, runs}
 use Rattle.block_model.specs.Events.Run.{refusal_run, refusal_run_by, done_killed, done_run, done_running, lives_on}
 use Rattle.block_model.specs.Kernel.{ran}
 use Rattle.block_model.specs.Sequences.{files_interrupted, interruption_here}
 use Rattle.block_model.specs.Tables.{IsTables, on}
 use Rattle.block_model.proofs.Allowances.{same_live}
+use Rattle.block_model.proofs.BarrierSteps.{quiet_free}
 use Rattle.block_model.proofs.KernelTables.{ready_state, running_is, tables_ran, ran_runs, ran_others}
-use Rattle.block_model.proofs.Good.{IsGoodHere, IsFit}
+use Rattle.block_model.proofs.Good.{IsGoodHere, IsFit, fit_either}
 use Rattle.block_model.proofs.Goods.Calls.Said.{IsApart}
 use Rattle.block_model.proofs.Held.{held_ran}
 use Rattle.block_model.proofs.Ids.{fewer_than_harts}
@@ -49,6 +50,14 @@ apart_interrupted here t (comes_to.Aborted at) good ready k u f ne runs =
     rw (ne_eqb t u (ready_apart here.setting.limits.harts t k u here.kernel.threads here.kernel.scheduling good.kernel.tables ready runs)) refl
 apart_interrupted here t (comes_to.Killed why) good ready k u f ne runs = refl
 
+-- no barrier is waited in on an idle hart
+idle_free : (here : Here) → IsGoodHere here → runs here ≡ None → here.awaits ≡ None
+idle_free here good idle = go here.awaits refl
+  where
+    go : (o : Option ℕ) → here.awaits ≡ o → o ≡ None
+    go None is = refl
+    go (Some left) is = absurd (good.busy left is idle)
+
 good_running : (here : Here) (t : ℕ) (o : Outcome) → IsGoodHere here → runs here ≡ None → is_ready t here.kernel.threads ≡ true → IsFit here (done_running here t o)
 good_running here t o good idle ready =
     let tables = good.kernel.tables in
@@ -67,6 +76,7 @@ good_running here t o good idle ready =
       paged = λ is. is;
       given = omega arith;
       one = omega arith;
+      barriers = quiet_free here _ refl refl refl (idle_free here good idle);
       kernel = record {
         tables = after;
         allowed = λ some u live. good.kernel.allowed some u (sym (same_live harts u ts (ran t here.hart here.kernel).threads sc (ran t here.hart here.kernel).scheduling tables after refl) ∙ live);
@@ -89,16 +99,13 @@ good_killed here t o good idle ready = record {
   paged = λ is. is;
   given = omega arith;
   one = omega arith;
+  barriers = quiet_free here _ refl refl refl (idle_free here good idle);
   kernel = good.kernel;
   held = λ is. is;
 }
-
-by_life : (here : Here) (b : Bool) (x y : Done) → IsFit here x → IsFit here y → IsFit here (cond b x y)
-by_life here true x y p q = p
-by_life here false x y p q = q
 
 pub good_run : (here : Here) (t : ℕ) → IsGoodHere here → refusal_run here t ≡ None → IsFit here (done_run here t)
 good_run here t good free =
     let p = run_ready here t free in
     let o = interruption_here here t in
-    by_life here (lives_on here t o) (done_running here t o) (done_killed here t o) (good_running here t o good p.0 p.1) (good_killed here t o good p.0 p.1)
+    fit_either here (lives_on here t o) (done_running here t o) (done_killed here t o) (good_running here t o good p.0 p.1) (good_killed here t o good p.0 p.1)

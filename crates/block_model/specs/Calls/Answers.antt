@@ -1,23 +1,26 @@
 -- System calls of Linux for RISC-V: the number is in a7 (x17), arguments are in a0 to a5 (x10 to x15), the result is in
 -- a0, and an error is its negative number. The pc goes on past the call.
-use Rattle.std.specs.Prelude.{ℕ, ◌+◌, ◌-◌, ◌%◌, ◌^◌, Bool, List, [], ◌∷◌, Option, None, is_some, unwrap_or}
+use Rattle.std.specs.Prelude.{ℕ, ◌+◌, ◌-◌, ◌%◌, ◌^◌, Bool, List, [], ◌∷◌, Option, Some, None, is_some, unwrap_or}
 use Rattle.mach_types.specs.Bytes.{each_byte, word_at}
 use Rattle.mach_types.specs.Registers.{register, with_register}
 use Rattle.mach_types.specs.declared.errors.Errno.{Errno}
 use Rattle.mach_types.specs.declared.limits.End.{End}
+use Rattle.mach_types.specs.declared.limits.End.TheVariants.{Killed}
+use Rattle.mach_types.specs.declared.signals.TheConstants.{SIGSEGV}
 use Rattle.mach_types.specs.declared.threads.Saved.{Saved}
 use Rattle.mach_types.specs.declared.user_memory.Write.{Write}
 use Rattle.mach_types.specs.declared.user_memory.Write.TheVariants.{Stored}
 use Rattle.block_model.specs.Record.{Kernel}
 use Rattle.rv_inst.specs.Words.{sum_64}
-use Rattle.block_model.specs.Here.{Here, memory, is_writable}
+use Rattle.block_model.specs.Here.{Barrier, Here, memory, is_writable}
 
--- what a call did: the files of threads that it set; the kernel's writes, in order; the record after it; and how it ended the
--- process
+-- what a call did: the files of threads that it set; the kernel's writes, in order; the record after it; the barrier that it began;
+-- and how it ended the process
 pub record CallDone : Type 0 where
   pub files : List (ℕ × Saved)
   pub entered : List Write
   pub kernel : Kernel
+  pub barrier : Option Barrier
   pub ended : Option End
 
 -- the number of the call of thread t, and its argument k; the same as an `int`, which is the low 32 bits of its register
@@ -40,7 +43,7 @@ returned n f = record { file = with_register f.file 10 n; pc = sum_64 f.pc 4 }
 
 -- a call that answers, and does nothing else
 abbrev pub said : Here → ℕ → ℕ → CallDone
-said here t n = record { files = (t, returned n (here.file t)) ∷ []; entered = []; kernel = here.kernel; ended = None }
+said here t n = record { files = (t, returned n (here.file t)) ∷ []; entered = []; kernel = here.kernel; barrier = None; ended = None }
 
 -- so many bytes from an address on can be read, or written; no byte is asked about where there are none
 abbrev pub are_readable : Here → ℕ → ℕ → Bool
@@ -63,3 +66,7 @@ number_at here at size = unwrap_or (word_at (memory here) at size) 0
 -- a call that is refused: nothing changes but a0 and the pc
 abbrev pub refused : Here → ℕ → Errno → CallDone
 refused here t errno = said here t (negative errno.0)
+
+-- a call that kills the process, as SIGSEGV does, and changes nothing else
+abbrev pub killed_in_call : Here → CallDone
+killed_in_call here = record { files = []; entered = []; kernel = here.kernel; barrier = None; ended = Some (Killed SIGSEGV) }

@@ -78,5 +78,6 @@ clone here t =
       files = (t, returned child (here.file t)) ∷ (child, child_file here t) ∷ [];
       entered = written_if flags clone_parent_settid ptid child ++ written_if flags clone_child_settid ctid child;
       kernel = with_new_child here t;
+      barrier = None;
       ended = None;
     }

@@ -34,11 +34,11 @@ clearing here t = if clears here t then word_written (clear_of t here.kernel.thr
 abbrev pub one_exits : Here → ℕ → CallDone
 one_exits here t =
     let done = woken_at_exit here t in
-    record { files = map (answered_wait here) done.threads; entered = clearing here t; kernel = gone t done.kernel; ended = None }
+    record { files = map (answered_wait here) done.threads; entered = clearing here t; kernel = gone t done.kernel; barrier = None; ended = None }
 
 -- the last thread ends, and with it the process, which changes nothing else in the record
 abbrev pub last_exits : Here → ℕ → CallDone
-last_exits here t = record { files = []; entered = clearing here t; kernel = here.kernel; ended = Some (ended_with here t) }
+last_exits here t = record { files = []; entered = clearing here t; kernel = here.kernel; barrier = None; ended = Some (ended_with here t) }
 
 -- exit(code), number 93
 abbrev pub exit : Here → ℕ → CallDone
@@ -46,4 +46,4 @@ exit here t = if is_last here then last_exits here t else one_exits here t
 
 -- exit_group(code), number 94
 abbrev pub exit_group : Here → ℕ → CallDone
-exit_group here t = record { files = []; entered = []; kernel = here.kernel; ended = Some (ended_with here t) }
+exit_group here t = record { files = []; entered = []; kernel = here.kernel; barrier = None; ended = Some (ended_with here t) }

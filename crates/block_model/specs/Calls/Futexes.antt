@@ -1,12 +1,13 @@
 -- futex(2): a thread waits at the address of a word, and others wake it. That the longest waiting is woken first, and that waking
 -- none wakes nobody, is own.
-use Rattle.std.specs.Prelude.{ℕ, ◌-◌, ◌*◌, ◌/◌, ◌%◌, ◌==◌, not, nat_le, zero, suc, List, [], ◌∷◌, length, map, if◌then◌else◌, None}
+use Rattle.std.specs.Prelude.{ℕ, ◌-◌, ◌*◌, ◌/◌, ◌%◌, ◌==◌, not, nat_le, zero, suc, List, [], ◌∷◌, length, map, if◌then◌else◌, None, is_some}
 use Rattle.std.specs.Option.{option_map_or}
 use Rattle.mach_types.specs.Registers.{with_register}
 use Rattle.mach_types.specs.declared.address_space.TheConstants.{USER_END}
-use Rattle.mach_types.specs.declared.errors.TheConstants.{EAGAIN, EFAULT, EINVAL, ENOSYS}
+use Rattle.mach_types.specs.declared.errors.TheConstants.{EAGAIN, EFAULT, EINTR, EINVAL, ENOSYS}
 use Rattle.mach_types.specs.declared.threads.Saved.{Saved}
 use Rattle.block_model.specs.Record.{Kernel}
+use Rattle.mach_types.specs.Kernel.Signals.{next_for}
 use Rattle.mach_types.specs.Kernel.Threads.{longest_waiter}
 use Rattle.block_model.specs.Here.{Here}
 use Rattle.block_model.specs.Kernel.{waited, woken}
@@ -34,13 +35,15 @@ wake (suc n) at k = option_map_or (λ u. woken_first u (wake n at (woken u k))) 
 abbrev pub operation : ℕ → ℕ
 operation op = op - 128 * ((op / 128) % 2)
 
--- WAIT: the thread leaves its hart and waits
+-- WAIT: the thread leaves its hart and waits, unless a signal can be delivered to it (a wait is never begun again: own, as if no handler
+-- had SA_RESTART)
 abbrev pub futex_wait : Here → ℕ → CallDone
 futex_wait here t =
     let p = argument here t 0 in
     if not (argument here t 3 == 0) then refused here t EINVAL
     else if not (are_readable here p 4) then refused here t EFAULT
     else if not (number_at here p 4 == int_argument here t 2) then refused here t EAGAIN
+    else if is_some (next_for t here.kernel.signals) then refused here t EINTR
     else record (said here t 0) { kernel = waited t p here.kernel }
 
 -- WAKE: the answer is how many were woken
@@ -51,6 +54,7 @@ futex_wake here t =
       files = (t, returned (length done.threads) (here.file t)) ∷ map (answered_wait here) done.threads;
       entered = [];
       kernel = done.kernel;
+      barrier = None;
       ended = None;
     }
 

@@ -1,20 +1,14 @@
 -- rseq(2): a thread registers its area, or unregisters it. Which refusal comes first is own.
-use Rattle.std.specs.Prelude.{ℕ, ◌%◌, ◌==◌, [], if◌then◌else◌, Option, Some, None, Result, Ok, Err}
+use Rattle.std.specs.Prelude.{ℕ, ◌%◌, ◌==◌, if◌then◌else◌, Option, Some, None, Result, Ok, Err}
 use Rattle.mach_types.specs.declared.errors.Errno.{Errno}
 use Rattle.mach_types.specs.declared.errors.TheConstants.{EFAULT}
-use Rattle.mach_types.specs.declared.limits.End.TheVariants.{Killed}
 use Rattle.mach_types.specs.declared.sequences.Area.{Area}
-use Rattle.mach_types.specs.declared.signals.TheConstants.{SIGSEGV}
 use Rattle.mach_types.specs.Kernel.Areas.{are_words_writable, registration, unregistration, words_on, words_unregistered, words_written}
 use Rattle.block_model.specs.Here.{Here, is_writable}
 use Rattle.block_model.specs.Ids.{id_of}
 use Rattle.block_model.specs.Kernel.{registered, unregistered}
 use Rattle.block_model.specs.Sequences.{area_here}
-use Rattle.block_model.specs.Calls.Answers.{CallDone, argument, int_argument, refused, said}
-
--- the process is killed in a call, and nothing else changes
-abbrev pub killed_in_call : Here → CallDone
-killed_in_call here = record { files = []; entered = []; kernel = here.kernel; ended = Some (Killed SIGSEGV) }
+use Rattle.block_model.specs.Calls.Answers.{CallDone, argument, int_argument, killed_in_call, refused, said}
 
 -- the area gets the words of its thread, which runs; where they can't be written the process is killed
 abbrev pub registers : Here → ℕ → Area → CallDone

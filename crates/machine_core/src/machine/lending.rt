@@ -20,12 +20,12 @@ use hart_state::HartState;
 use mach_types::{Entry, Hart, Kind, Tid};
 use std::alloc::{AllocError, Global};
 
-/// The stretch of a hart in this state, where a thread runs on it and has the credit for its next instruction.
+/// The stretch of a hart in this state, where a thread runs on it, waits in no barrier, and has the credit for its next instruction.
 fn stretch_on(code: &Code, hart: Hart, state: &HartState) -> Option<Stretch>
     ensures { option_map stretch_of result ≡ stretch_on code.now hart.0 state.now }
 {
     let next = effect_of_next(code, state);
-    if state.is_idle() || state.credit == 0 || !is_local(next.as_ref()) {
+    if state.is_idle() || state.waits.is_some() || state.credit == 0 || !is_local(next.as_ref()) {
         return None;
     }
     Some(Stretch {

@@ -5,14 +5,15 @@ ghost use Rattle.mach_types.specs.Bytes.{IsAccessSize, word_at};
 ghost use Rattle.block_model.specs.Acts.{named_at};
 ghost use Rattle.block_model.specs.Choosing.{credit_at};
 ghost use Rattle.block_model.specs.Deciding.{history};
-ghost use Rattle.block_model.specs.Here.{view};
+ghost use Rattle.block_model.specs.Here.{runs, view};
 ghost use Rattle.block_model.specs.History.{events, here_in_history, ran};
-ghost use Rattle.block_model.specs.Sights.{effect_here, sight_in};
+ghost use Rattle.block_model.specs.Sights.{effect_here, is_deliverable_on, sight_in};
 ghost use Rattle.machine_core.specs.Harts.{hart_in};
 ghost use Rattle.machine_core.specs.Sequences.{area_on};
 
 use crate::machine::Machine;
 use crate::next::{effect_of_next, is_local, next_of};
+use crate::requests::is_all_taken;
 use hart_state::HartState;
 use mach_types::{Area, Hart, Named, Sight};
 use rv_inst::Effect;
@@ -69,6 +70,15 @@ impl Machine {
         self.parts.named(hart)
     }
 
+    /// Whether a signal can be delivered to the thread on a hart (signal(7)). No signal can where the hart is idle.
+    pub fn has_signal(&self, hart: Hart) -> bool
+        requires { hart.0 < self.now.setting.limits.harts }
+        ensures { result ≡ is_deliverable_on (here_in_history self.now.setting (history self.now.setting self.now.log) hart.0)
+            (runs (here_in_history self.now.setting (history self.now.setting self.now.log) hart.0)) }
+    {
+        self.parts.deliverable(hart).is_some()
+    }
+
     /// What a scheduler sees of a hart.
     pub fn sight(&self, hart: Hart) -> Sight
         requires { hart.0 < self.now.setting.limits.harts }
@@ -81,11 +91,11 @@ impl Machine {
         Sight {
             idle: state.is_idle(),
             first_ready: self.parts.kernel.ready.first_for(hart),
-            in_barrier: false,
-            all_taken: false,
-            requested: false,
+            in_barrier: state.waits.is_some(),
+            all_taken: is_all_taken(state),
+            requested: state.requests != 0,
             stores: state.buffer.len(),
-            deliverable: false,
+            deliverable: self.parts.deliverable(hart).is_some(),
             exec_enabled: refusal.is_none(),
             local: !state.is_idle() && is_local(next.effect.as_ref()),
             ran: state.ran,

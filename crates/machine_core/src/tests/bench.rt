@@ -1,6 +1,6 @@
 //! A machine of two harts that runs a small program.
 
-ghost use Rattle.std.specs.Prelude.{◌≡◌, ◌<◌, [], IfOk};
+ghost use Rattle.std.specs.Prelude.{◌≡◌, ◌<◌, ◌≤◌, [], IfOk};
 ghost use Rattle.mach_types.specs.Bytes.{IsAccessSize};
 
 use crate::{Machine, Refused};
@@ -49,20 +49,38 @@ fn file(alloc: Global, words: &[u32]) -> Result<Vec<u8>, AllocError> {
     Ok(file)
 }
 
-/// A machine of two harts that has done nothing yet, over these instructions, with a log of so many entries.
+/// A machine of so many harts that has done nothing yet, over these instructions, with a log of so many entries.
+pub fn boot_harts(
+    alloc: Global,
+    words: &[u32],
+    harts: u8,
+    steps: u32,
+    seed: u64,
+) -> Result<Machine, Fail>
+    requires some_hart { 0 < harts }
+    requires few_harts { harts ≤ 8 }
+    requires some { 0 < steps }
+    requires few { steps < 1000 }
+    ensures harts { IfOk result (λ m. m.setting.limits.harts ≡ harts) }
+    ensures log { IfOk result (λ m. m.log ≡ []) }
+{
+    let limits = Limits {
+        harts,
+        frames: 128,
+        steps,
+    };
+    let image = load(alloc, &file(alloc, words)?, &limits)?;
+    Ok(Machine::boot(alloc, &image, limits, seed)?)
+}
+
+/// The same of two harts.
 pub fn boot(alloc: Global, words: &[u32], steps: u32, seed: u64) -> Result<Machine, Fail>
     requires some { 0 < steps }
     requires few { steps < 1000 }
     ensures harts { IfOk result (λ m. m.setting.limits.harts ≡ 2) }
     ensures log { IfOk result (λ m. m.log ≡ []) }
 {
-    let limits = Limits {
-        harts: 2,
-        frames: 128,
-        steps,
-    };
-    let image = load(alloc, &file(alloc, words)?, &limits)?;
-    Ok(Machine::boot(alloc, &image, limits, seed)?)
+    boot_harts(alloc, words, 2, steps, seed)
 }
 
 /// What is read of one hart.

@@ -5,10 +5,14 @@ use super::counters::{
     EXITS_WITH_ID, OTHER_CLEARS, SECOND_ID_SCRIPT, SECOND_ID_TEXT,
 };
 use super::devices::Files;
+use super::handlers::{INSIDE_SCRIPT, INSIDE_TEXT, SENDS_ITSELF, SOLO_TEXT};
 use super::programs::{
     DIVISION, DIVISION_TEXT, DRAINED_STORE_SCRIPT, DRAINED_STORE_TEXT, EMPTY_SCRIPT_TEXT,
     EXIT_TEXT, EXIT_WITH_7, FRAMES_RUN_OUT, FRAMES_RUN_OUT_TEXT, ILLEGAL, ILLEGAL_TEXT,
     MOVED_SCRIPT, MOVED_TEXT, NINE_STORES, ONE_STEP_TEXT, RUN_TEXT,
+};
+use super::requests::{
+    ASKS, ASKS_TEXT, RESTARTED_SCRIPT, RESTARTED_TEXT, RESTARTS, STORES, TAKEN_SCRIPT, TAKEN_TEXT,
 };
 use std::alloc::{AllocError, Global};
 
@@ -93,7 +97,7 @@ pub(super) fn worker_runs() -> [Run; 6] {
 }
 
 /// The runs without workers.
-pub(super) fn runs() -> [Run; 19] {
+pub(super) fn runs() -> [Run; 24] {
     [
         solo("", &EXIT_WITH_7, EXIT_TEXT),
         solo("", &ILLEGAL, ILLEGAL_TEXT),
@@ -114,5 +118,10 @@ pub(super) fn runs() -> [Run; 19] {
         play("--harts 1", &ADDS_ONCE, BEHIND_SCRIPT, BEHIND_TEXT),
         play("", &OTHER_CLEARS, CLEARED_SCRIPT, CLEARED_TEXT),
         play("", &EXITS_WITH_ID, SECOND_ID_SCRIPT, SECOND_ID_TEXT),
+        play("", &SENDS_ITSELF, INSIDE_SCRIPT, INSIDE_TEXT),
+        solo("", &SENDS_ITSELF, SOLO_TEXT),
+        play("--harts 3", &STORES, TAKEN_SCRIPT, TAKEN_TEXT),
+        play("--harts 3", &RESTARTS, RESTARTED_SCRIPT, RESTARTED_TEXT),
+        solo("", &ASKS, ASKS_TEXT),
     ]
 }

@@ -14,10 +14,14 @@ use std::test::Fail;
 use std::thread::Threads;
 
 /// A change of a program: where in its file, and the bytes that stand there then.
-type Change = (usize, &'static [u8]);
+pub(super) type Change = (usize, &'static [u8]);
 
 /// The program with this change.
-fn changed(alloc: Global, program: &[u8], change: Change) -> Result<Vec<u8>, AllocError> {
+pub(super) fn changed(
+    alloc: Global,
+    program: &[u8],
+    change: Change,
+) -> Result<Vec<u8>, AllocError> {
     let mut file = program.to_vec(alloc)?;
     for (byte, other) in file.iter_mut().skip(change.0).zip(change.1) {
         *byte = *other;

@@ -1,18 +1,20 @@
 //! A process on a machine of two harts, whose threads call.
 
-ghost use Rattle.std.specs.Prelude.{◌≡◌, ◌<◌, None, Some};
+ghost use Rattle.std.specs.Prelude.{◌≡◌, ◌<◌, ◌+◌, None, Some, is_some, if◌then◌else◌};
 ghost use Rattle.mach_types.specs.Kernel.Threads.{running_on, state_of};
 ghost use Rattle.mach_types.specs.Kernel.Scheduling.{Scheduling};
 ghost use Rattle.mach_types.specs.declared.threads.ThreadState.TheVariants.{Ready, Running};
-ghost use Rattle.block_model.specs.Tables.{AreOfLive, IsTables};
+ghost use Rattle.block_model.specs.Calls.Barriers.{running_harts};
+ghost use Rattle.block_model.specs.Tables.{AreOfLive, AreSignalsOfLive, IsTables};
 ghost use Rattle.sys_calls.specs.Registered.{areas_by_number};
 
 use crate::{Areas, CallEnd, Called, Console, Kernel, area_of, make_call};
 use elf_load::load;
 use frame_pool::FramePool;
 use kernel_threads::Threads;
-use mach_types::{Area, Hart, Limits, Regs, Saved, ThreadState, Tid, UserMem, Write};
+use mach_types::{Area, Hart, Limits, Registered, Regs, Saved, ThreadState, Tid, UserMem, Write};
 use page_map::PageMap;
+use signals::Signals;
 use std::alloc::Global;
 use std::process::Abort;
 use std::test::Fail;
@@ -92,6 +94,54 @@ fn expect_idle(rt: &impl Abort, threads: &Threads, hart: Hart)
     }
 }
 
+/// A hart on which a thread runs is busy.
+fn busy_with(threads: &Threads, tid: Tid, hart: Hart) -> bool
+    requires tables { (sc : Scheduling) × IsTables 2 threads.now.threads sc }
+    requires at { state_of tid.0 threads.now.threads ≡ Some (Running hart) }
+    ensures { result ≡ is_some (running_on hart.0 threads.now.threads) }
+{
+    let _ = threads.state(tid);
+    true
+}
+
+/// Whether a thread runs on the hart.
+fn is_busy(rt: &impl Abort, threads: &Threads, hart: Hart) -> bool
+    requires { (sc : Scheduling) × IsTables 2 threads.now.threads sc }
+    ensures { result ≡ is_some (running_on hart.0 threads.now.threads) }
+{
+    let given = threads.numbers_given();
+    assert!(rt; given < 1000);
+    for number in 0..given + 1 {
+        let tid = Tid(number);
+        if threads.state(tid) == Some(ThreadState::Running(hart)) {
+            return busy_with(threads, tid, hart);
+        }
+    }
+    false
+}
+
+/// The set of those of two harts that are busy.
+fn busy_set(first: bool, second: bool) -> u8
+    ensures { result ≡ (if first then 1 else 0) + (if second then 2 else 0) }
+{
+    match (first, second) {
+        (false, false) => 0,
+        (true, false) => 1,
+        (false, true) => 2,
+        (true, true) => 3,
+    }
+}
+
+/// The set of the harts on which threads run.
+fn running(rt: &impl Abort, threads: &Threads) -> u8
+    requires { (sc : Scheduling) × IsTables 2 threads.now.threads sc }
+    ensures { running_harts threads.now.threads 2 ≡ result }
+{
+    let first = is_busy(rt, threads, Hart(0));
+    let second = is_busy(rt, threads, Hart(1));
+    busy_set(first, second)
+}
+
 /// The thread must be ready.
 fn expect_ready(rt: &impl Abort, threads: &Threads, tid: Tid)
     ensures { state_of tid.0 threads.now.threads ≡ Some Ready }
@@ -122,6 +172,7 @@ pub struct Bench {
     kernel: Kernel,
     pages: PageMap,
     ghost tables: { IsTables 2 kernel.threads.threads kernel.ready },
+    ghost signals: { AreSignalsOfLive kernel.threads.threads kernel.signals },
     ghost areas: { AreOfLive kernel.threads.threads (areas_by_number kernel.areas.items) },
 }
 
@@ -131,8 +182,14 @@ impl Bench {
         let start = asking(0, [0; 5]);
         let kernel = Kernel {
             threads: Threads::new(alloc, start)?,
+            signals: Signals::new(),
             ready: scheduler::Ready::new(2),
             areas: Areas::new(),
+            registered: Registered {
+                global: false,
+                private: false,
+                rseq: false,
+            },
             console: Console::new(alloc)?,
         };
         let pages = booted(alloc)?;
@@ -145,26 +202,40 @@ impl Bench {
     pub fn run(&mut self, rt: &impl Abort, hart: u8, tid: u32)
         requires { hart < 2 }
     {
+        let _saved = self.begin(rt, hart, tid);
+    }
+
+    /// The same, with the registers that the thread goes on with.
+    pub fn begin(&mut self, rt: &impl Abort, hart: u8, tid: u32) -> Saved
+        requires { hart < 2 }
+    {
         let (tid, hart) = (Tid(tid), Hart(hart));
         expect_idle(rt, &self.kernel.threads, hart);
         expect_ready(rt, &self.kernel.threads, tid);
-        let _saved = self.kernel.threads.run(tid, hart);
+        let saved = self.kernel.threads.run(tid, hart);
         let _was_ready = self.kernel.ready.take(tid);
+        saved
     }
 
     /// A call of a thread, which must run.
     pub fn call(&mut self, rt: &impl Abort, tid: u32, number: u64, arguments: [u64; 5]) -> Called {
-        let hart = hart_of(rt, &self.kernel.threads, Tid(tid));
-        assert!(rt; self.kernel.threads.numbers_given() < 1000);
         let mut saved = asking(number, arguments);
+        self.call_with(rt, tid, &mut saved)
+    }
+
+    /// The call that the registers of a thread ask for, which must run.
+    pub fn call_with(&mut self, rt: &impl Abort, tid: u32, saved: &mut Saved) -> Called {
+        let hart = hart_of(rt, &self.kernel.threads, Tid(tid));
+        let running = running(rt, &self.kernel.threads);
+        assert!(rt; self.kernel.threads.numbers_given() < 1000);
         make_call(
             &mut self.kernel,
             &mut self.pages,
             hart,
-            0,
+            running,
             2,
             Tid(tid),
-            &mut saved,
+            saved,
             CID,
         )
     }
@@ -249,6 +320,17 @@ impl Bench {
     /// A thread must have this area registered.
     pub fn expect_area(&self, rt: &impl Abort, tid: u32, area: Option<Area>) {
         assert_eq!(rt; area_of(&self.kernel, Tid(tid)), area, "thread {tid}");
+    }
+
+    /// The signal that comes next to a thread must be this one; None of one that isn't live.
+    pub fn expect_next(&self, rt: &impl Abort, tid: u32, next: Option<u8>) {
+        let signals = &self.kernel.signals;
+        let comes = if signals.is_held(Tid(tid)) {
+            signals.next_for(Tid(tid))
+        } else {
+            None
+        };
+        assert_eq!(rt; comes, next, "thread {tid}");
     }
 
     /// The first ready threads that may run on the harts must be these.

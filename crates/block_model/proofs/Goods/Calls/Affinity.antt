@@ -1,5 +1,5 @@
 -- sched_setaffinity(2), sched_getaffinity(2), sched_yield(2) and getcpu(2).
-use Rattle.std.proofs.Common.{◌∙◌, ◌≡◌, ◌≢◌, ℕ, ◌%◌, ◌^◌, ◌<◌, Bool, true, false, cond, not, ◌||◌, ◌&&◌, eqb, ltb, min, Some}
+use Rattle.std.proofs.Common.{◌∙◌, ◌≡◌, ◌≢◌, ℕ, ◌%◌, ◌^◌, ◌<◌, Bool, true, false, cond, not, ◌||◌, ◌&&◌, eqb, ltb, min, Some, refl}
 use Rattle.std.proofs.lemmas.Bool.{eqb-false}
 use Rattle.mach_types.specs.declared.errors.TheConstants.{EFAULT, EINVAL, EPERM, ESRCH}
 use Rattle.block_model.specs.Record.{Kernel}
@@ -43,7 +43,7 @@ fit_setaffinity here t good at =
     unless_refused here t ESRCH (names_nobody here tid) _ good at (λ _.
     unless_refused here t EPERM (not (eqb tid 0 || eqb tid t)) _ good at (λ _.
     unless_refused here t EINVAL (eqb set 0) _ good at (λ some.
-    fit_moved here _ (apart_one here t (returned 0 (here.file t)) good at)
+    fit_moved here _ refl (apart_one here t (returned 0 (here.file t)) good at)
     (moved_by here t set good at (harts_in_below (set_at here p len) harts) (eqb-false set 0 some))))))
 
 pub fit_getaffinity : (here : Here) (t : ℕ) → IsGoodHere here → runs here ≡ Some t
@@ -61,7 +61,7 @@ pub fit_yield : (here : Here) (t : ℕ) → IsGoodHere here → runs here ≡ So
     → IsFitCall here (sched_yield here t)
 fit_yield here t good at =
     let own = apart_one here t (returned 0 (here.file t)) good at in
-    fit_moved here (sched_yield here t) own (moved_left here.setting here.hart t here.kernel good.kernel at)
+    fit_moved here (sched_yield here t) refl own (moved_left here.setting here.hart t here.kernel good.kernel at)
 
 pub fit_getcpu : (here : Here) (t : ℕ) → IsGoodHere here → runs here ≡ Some t → IsFitCall here (getcpu here t)
 fit_getcpu here t good at =

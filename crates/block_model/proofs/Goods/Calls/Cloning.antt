@@ -76,6 +76,7 @@ child_made here t entered =
       files = (t, returned child (here.file t)) ∷ (child, child_file here t) ∷ [];
       entered = entered;
       kernel = with_new_child here t;
+      barrier = None;
       ended = None;
     }
 
@@ -92,6 +93,7 @@ fit_child here t entered good at free =
       apart = apart_own here t (returned child (here.file t)) ((child, child_file here t) ∷ []) good at other;
       pages = kept.pages;
       given = let same = kept.given in omega arith;
+      barrier = λ b is. absurd cc;
       kernel = kept.sound;
       held = λ is. kept.held (held_child s.limits.harts t here.kernel good.kernel.tables.threads is);
     }

@@ -1,5 +1,5 @@
 -- write(2) and writev(2).
-use Rattle.std.proofs.Common.{◌≡◌, ℕ, ◌+◌, ◌*◌, ◌^◌, ◌≤◌, List, [], ◌∷◌, arith, not, eqb, leb, ltb, Some, length, length-take, take}
+use Rattle.std.proofs.Common.{◌≡◌, ℕ, ◌+◌, ◌*◌, ◌^◌, ◌≤◌, List, [], ◌∷◌, arith, not, eqb, leb, ltb, Some, length, length-take, take, refl}
 use Rattle.std.proofs.lemmas.Bool.{leb-false}
 use Rattle.mach_types.specs.declared.errors.TheConstants.{EBADF, EFAULT, EINVAL, ENOSPC}
 use Rattle.mach_types.specs.declared.kernel_words.TheConstants.{CONSOLE_ROOM}
@@ -15,7 +15,7 @@ fit_printed : (here : Here) (t : ℕ) (bytes : List ℕ) → IsGoodHere here →
     → length here.kernel.console + length bytes ≤ CONSOLE_ROOM → IsFitCall here (wrote here t bytes)
 fit_printed here t bytes good at fits =
     let own = apart_one here t (returned (length bytes) (here.file t)) good at in
-    fit_kept here (wrote here t bytes) own (kept_printed here.setting bytes here.kernel good.kernel fits)
+    fit_kept here (wrote here t bytes) refl own (kept_printed here.setting bytes here.kernel good.kernel fits)
 
 fit_write_spans : (here : Here) (t : ℕ) (spans : List Span) → IsGoodHere here → runs here ≡ Some t
     → IsFitCall here (write_spans here t spans)

@@ -1,5 +1,5 @@
 -- exit(2) and exit_group(2).
-use Rattle.std.proofs.Common.{◌≡◌, ℕ, ◌∙◌, Some, cond}
+use Rattle.std.proofs.Common.{◌≡◌, ℕ, ◌∙◌, Some, cond, refl}
 use Rattle.mach_types.specs.Kernel.Threads.{clear_of}
 use Rattle.block_model.specs.Here.{Here, runs}
 use Rattle.block_model.specs.Kernel.{gone}
@@ -13,7 +13,7 @@ use Rattle.block_model.proofs.Goods.Calls.Steps.{kept_still, moved_after, moved_
 
 fit_last : (here : Here) (t : ℕ) → IsGoodHere here → IsFitCall here (last_exits here t)
 fit_last here t good =
-    fit_kept here (last_exits here t) (apart_none here) (kept_still here.setting here.kernel good.kernel)
+    fit_kept here (last_exits here t) refl (apart_none here) (kept_still here.setting here.kernel good.kernel)
 
 -- a waiter is woken, and then the thread, which still runs, is gone
 fit_one : (here : Here) (t : ℕ) → IsGoodHere here → runs here ≡ Some t → IsFitCall here (one_exits here t)
@@ -25,7 +25,7 @@ fit_one here t good at =
     let kept = kept_wake s n address here.kernel good.kernel in
     let moved = moved_gone s here.hart t then kept.sound (kept.running here.hart ∙ at) in
     let both = moved_after s here.hart here.kernel then (gone t then) kept moved in
-    fit_moved here (one_exits here t) (apart_woken here n address good) both
+    fit_moved here (one_exits here t) refl (apart_woken here n address good) both
 
 pub fit_exit : (here : Here) (t : ℕ) → IsGoodHere here → runs here ≡ Some t → IsFitCall here (exit here t)
 fit_exit here t good at =
@@ -33,4 +33,4 @@ fit_exit here t good at =
 
 pub fit_exit_group : (here : Here) (t : ℕ) → IsGoodHere here → IsFitCall here (exit_group here t)
 fit_exit_group here t good =
-    fit_kept here (exit_group here t) (apart_none here) (kept_still here.setting here.kernel good.kernel)
+    fit_kept here (exit_group here t) refl (apart_none here) (kept_still here.setting here.kernel good.kernel)

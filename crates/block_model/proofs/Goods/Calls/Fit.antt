@@ -7,7 +7,7 @@ use Rattle.mach_types.specs.Kernel.Pages.{PageRun, Pages, can_write, is_in, perm
 use Rattle.mach_types.specs.declared.threads.Saved.{Saved}
 use Rattle.mach_types.specs.declared.user_memory.Store.{Store}
 use Rattle.mach_types.specs.Kernel.Threads.{Threads, running_on}
-use Rattle.block_model.specs.Here.{Here, runs, waiting_here}
+use Rattle.block_model.specs.Here.{Barrier, Here, runs, waiting_here}
 use Rattle.block_model.specs.History.{file_among}
 use Rattle.block_model.specs.Calls.Answers.{CallDone}
 use Rattle.block_model.specs.Calls.Memory.{lies_on, lies_waiting_on}
@@ -15,6 +15,7 @@ use Rattle.block_model.specs.Events.Exec.{by_call}
 use Rattle.block_model.specs.Tables.{IsTables}
 use Rattle.block_model.proofs.KernelTables.{running_is, runs_once}
 use Rattle.block_model.proofs.Paged.{IsPaged}
+use Rattle.block_model.proofs.BarrierSteps.{IsAtOthers, IsFitBarriers}
 use Rattle.block_model.proofs.Good.{IsGoodHere, IsFit, IsSound, MayEnter}
 use Rattle.block_model.proofs.Held.{IsHeld}
 
@@ -30,12 +31,19 @@ or_parts : (a b : Bool) → (a || b) ≡ false → (a ≡ false) × (b ≡ false
 or_parts true b is = cc
 or_parts false b is = (refl, is)
 
+-- a barrier that a call begins is about other harts of the machine, and the caller's thread keeps its hart
+pub record IsBegunByCall (here : Here) (c : CallDone) (b : Barrier) : Type 0 where
+  pub others : IsAtOthers here b
+  pub running : running_on here.hart c.kernel.threads ≢ None
+  pub stays : running_on here.hart c.kernel.threads ≡ runs here
+
 -- threads of other harts stay where they are and keep their files, and the record stays sound
 pub record IsFitCall (here : Here) (c : CallDone) : Type 0 where
   pub others : (k : ℕ) → k ≢ here.hart → running_on k c.kernel.threads ≡ running_on k here.kernel.threads
   pub apart : (k u : ℕ) (f : Saved) → k ≢ here.hart → running_on k here.kernel.threads ≡ Some u → file_among c.files u f ≡ f
   pub pages : c.kernel.pages ≡ here.kernel.pages
   pub given : c.kernel.threads.given ≤ here.kernel.threads.given + 1
+  pub barrier : (b : Barrier) → c.barrier ≡ Some b → IsBegunByCall here c b
   pub kernel : IsSound here.setting c.kernel
   pub held : IsHeld here.setting.limits.harts here.kernel → IsHeld here.setting.limits.harts c.kernel
 
@@ -61,6 +69,7 @@ pub record IsFitTaking (here : Here) (r : PageRun) (c : CallDone) : Type 0 where
   pub pages : StaysWritable here.kernel.pages r c.kernel.pages
   pub paged : IsPaged here.setting here.kernel.pages → IsPaged here.setting c.kernel.pages
   pub given : c.kernel.threads.given ≤ here.kernel.threads.given + 1
+  pub barrier : (b : Barrier) → c.barrier ≡ Some b → IsBegunByCall here c b
   pub kernel : IsSound here.setting c.kernel
   pub held : IsHeld here.setting.limits.harts here.kernel → IsHeld here.setting.limits.harts c.kernel
 
@@ -72,6 +81,7 @@ takes_none here r c fit = record {
   pages = λ n outside may. subst (λ (p : Pages). can_write (permission_of p.runs n) ≡ true) (sym fit.pages) may;
   paged = λ is. subst (IsPaged here.setting) (sym fit.pages) is;
   given = fit.given;
+  barrier = fit.barrier;
   kernel = fit.kernel;
   held = fit.held;
 }
@@ -115,9 +125,9 @@ nobody_past harts k ts sc tables past = go (running_on k ts) refl
     go (Some t) at = let below = tables.below t (record { 0 = k }) (running_is harts k t ts sc tables at) in absurd (omega arith)
 
 -- a call is made where no store waits, and no store of another hart on a page that it takes
-pub fit_by_call : (here : Here) (r : PageRun) (c : CallDone) → IsGoodHere here → waiting_here here ≡ []
+pub fit_by_call : (here : Here) (r : PageRun) (c : CallDone) → IsGoodHere here → here.awaits ≡ None → waiting_here here ≡ []
     → lies_waiting_on r here.waiting here.setting.limits.harts ≡ false → IsFitTaking here r c → IsFit here (by_call here c)
-fit_by_call here r c good none clear fit = record {
+fit_by_call here r c good free none clear fit = record {
   executed = tt;
   few = let w = good.few in omega arith;
   drained = omega arith;
@@ -128,10 +138,28 @@ fit_by_call here r c good none clear fit = record {
   paged = fit.paged;
   given = fit.given;
   one = omega arith;
+  barriers = barriers;
   kernel = fit.kernel;
   held = fit.held;
 }
   where
+    barriers : IsFitBarriers here (by_call here c)
+    barriers = record {
+      still = λ left is. let bad : None ≡ Some left = sym free ∙ is in absurd cc;
+      begun = λ b is.
+          let its = fit.barrier b is in
+          record {
+            free = free;
+            others = its.others;
+            still = record { running = its.running; empty = ap (λ (ws : List Store). ws ++ []) none };
+            stays = its.stays;
+            not_took = refl;
+            not_returned = refl;
+          };
+      took = λ is. refl;
+      returned = λ is. absurd cc;
+    }
+
     within : (k : ℕ) → AllByRecursion (MayEnter c.kernel.pages) (here.waiting k)
     within k = elim (cases_lt k here.setting.limits.harts) [
       | inl lt ↦

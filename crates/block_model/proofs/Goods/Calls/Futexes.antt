@@ -1,13 +1,14 @@
 -- futex(2).
-use Rattle.std.proofs.Common.{◌≡◌, ◌≢◌, ℕ, ◌%◌, [], map, refl, sym, ap, ◌∙◌, true, not, eqb, leb, Option, Some, None, length, zero, suc}
+use Rattle.std.proofs.Common.{◌≡◌, ◌≢◌, ℕ, ◌%◌, [], map, refl, sym, ap, ◌∙◌, true, not, eqb, leb, Option, Some, None, is_some, length, zero, suc}
 use Rattle.std.specs.Option.{option_map_or}
 use Rattle.std.proofs.lemmas.Bool.{ne_eqb, false≢true}
 use Rattle.mach_types.specs.declared.address_space.TheConstants.{USER_END}
-use Rattle.mach_types.specs.declared.errors.TheConstants.{EAGAIN, EFAULT, EINVAL, ENOSYS}
+use Rattle.mach_types.specs.declared.errors.TheConstants.{EAGAIN, EFAULT, EINTR, EINVAL, ENOSYS}
 use Rattle.mach_types.specs.declared.threads.Saved.{Saved}
 use Rattle.mach_types.specs.declared.threads.ThreadState.{ThreadState}
 use Rattle.mach_types.specs.declared.threads.ThreadState.TheVariants.{Ready, Running, Waiting}
 use Rattle.block_model.specs.Record.{Kernel}
+use Rattle.mach_types.specs.Kernel.Signals.{next_for}
 use Rattle.mach_types.specs.Kernel.Threads.{Threads, is_waiting_at, longest_waiter, running_on, state_of, waits}
 use Rattle.block_model.specs.Setting.{Setting}
 use Rattle.block_model.specs.Here.{Here, runs}
@@ -36,7 +37,7 @@ longest_waits at ts t e =
     waits_there at ts t (state_of t ts) refl there
 
 -- who waits doesn't run
-waits_apart : (s : Setting) (h t u : ℕ) (k : Kernel) → IsSound s k → waits k.threads t
+pub waits_apart : (s : Setting) (h t u : ℕ) (k : Kernel) → IsSound s k → waits k.threads t
     → running_on h k.threads ≡ Some u → t ≢ u
 waits_apart s h t u k sound waiting runs same =
     let run = running_is s.limits.harts h u k.threads k.scheduling sound.tables runs in
@@ -101,8 +102,9 @@ fit_wait here t good at =
     unless_refused here t EINVAL (not (eqb (argument here t 3) 0)) _ good at (λ _.
     unless_refused here t EFAULT (not (are_readable here p 4)) _ good at (λ _.
     unless_refused here t EAGAIN (not (eqb (number_at here p 4) (int_argument here t 2))) _ good at (λ _.
+    unless_refused here t EINTR (is_some (next_for t here.kernel.signals)) _ good at (λ _.
     let own = apart_one here t (returned 0 (here.file t)) good at in
-    fit_moved here _ own (moved_waited here.setting here.hart t p here.kernel good.kernel at))))
+    fit_moved here _ refl own (moved_waited here.setting here.hart t p here.kernel good.kernel at)))))
 
 fit_wake : (here : Here) (t : ℕ) → IsGoodHere here → runs here ≡ Some t → IsFitCall here (futex_wake here t)
 fit_wake here t good at =
@@ -112,7 +114,7 @@ fit_wake here t good at =
     let theirs = map (answered_wait here) done.threads in
     let own = returned (length done.threads) (here.file t) in
     let apart = apart_own here t own theirs good at (apart_woken here n p good) in
-    fit_kept here (futex_wake here t) apart (kept_wake here.setting n p here.kernel good.kernel)
+    fit_kept here (futex_wake here t) refl apart (kept_wake here.setting n p here.kernel good.kernel)
 
 pub fit_futex : (here : Here) (t : ℕ) → IsGoodHere here → runs here ≡ Some t → IsFitCall here (futex here t)
 fit_futex here t good at =

@@ -31,6 +31,7 @@ fit_paged here t n entered r pages good at stays paged_after = record {
   pages = stays;
   paged = paged_after;
   given = omega arith;
+  barrier = λ b is. absurd cc;
   kernel = record { tables = good.kernel.tables; allowed = good.kernel.allowed; console = good.kernel.console };
   held = held_paged here.setting.limits.harts pages here.kernel;
 }

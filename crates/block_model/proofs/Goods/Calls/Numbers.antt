@@ -1,5 +1,5 @@
 -- getpid(2), gettid(2) and set_tid_address(2).
-use Rattle.std.proofs.Common.{◌≡◌, ℕ, Some}
+use Rattle.std.proofs.Common.{◌≡◌, ℕ, Some, refl}
 use Rattle.block_model.specs.Here.{Here, runs}
 use Rattle.block_model.specs.Calls.Answers.{argument, returned}
 use Rattle.block_model.specs.Calls.Numbers.{getpid, gettid, set_tid_address}
@@ -17,5 +17,5 @@ fit_gettid here t good at = fit_said here t t good at
 pub fit_set_tid_address : (here : Here) (t : ℕ) → IsGoodHere here → runs here ≡ Some t
     → IsFitCall here (set_tid_address here t)
 fit_set_tid_address here t good at =
-    fit_kept here (set_tid_address here t) (apart_one here t (returned t (here.file t)) good at)
+    fit_kept here (set_tid_address here t) refl (apart_one here t (returned t (here.file t)) good at)
     (kept_cleared here.setting t (argument here t 0) here.kernel good.kernel)

@@ -1,7 +1,7 @@
 -- What makes a call fit: a step of the record, beside files that are the caller's own or of threads that
 -- don't run; and
 -- calls that answer and do nothing else.
-use Rattle.std.proofs.Common.{◌≡◌, ◌≢◌, ℕ, List, [], ◌∷◌, refl, ◌∙◌, arith, Bool, true, false, cond, Some}
+use Rattle.std.proofs.Common.{◌≡◌, ◌≢◌, ℕ, List, [], ◌∷◌, refl, sym, ◌∙◌, arith, Bool, true, false, cond, None, Some}
 use Rattle.mach_types.specs.declared.errors.Errno.{Errno}
 use Rattle.mach_types.specs.declared.threads.Saved.{Saved}
 use Rattle.mach_types.specs.declared.user_memory.Write.{Write}
@@ -19,21 +19,23 @@ IsApart here files =
     (k u : ℕ) (f : Saved) → k ≢ here.hart → running_on k here.kernel.threads ≡ Some u
     → file_among files u f ≡ f
 
-pub fit_moved : (here : Here) (c : CallDone) → IsApart here c.files
+-- no barrier begins by such a call
+pub fit_moved : (here : Here) (c : CallDone) → c.barrier ≡ None → IsApart here c.files
     → IsMoved here.setting here.hart here.kernel c.kernel → IsFitCall here c
-fit_moved here c apart moved = record {
+fit_moved here c quiet apart moved = record {
   others = moved.others;
   apart = apart;
   pages = moved.pages;
   given = let same = moved.given in omega arith;
+  barrier = λ b is. let bad : None ≡ Some b = sym quiet ∙ is in absurd cc;
   kernel = moved.sound;
   held = moved.held;
 }
 
-pub fit_kept : (here : Here) (c : CallDone) → IsApart here c.files → IsKept here.setting here.kernel c.kernel
-    → IsFitCall here c
-fit_kept here c apart kept =
-    fit_moved here c apart (kept_moved here.setting here.hart here.kernel c.kernel kept)
+pub fit_kept : (here : Here) (c : CallDone) → c.barrier ≡ None → IsApart here c.files
+    → IsKept here.setting here.kernel c.kernel → IsFitCall here c
+fit_kept here c quiet apart kept =
+    fit_moved here c quiet apart (kept_moved here.setting here.hart here.kernel c.kernel kept)
 
 pub apart_own : (here : Here) (t : ℕ) (x : Saved) (rest : List (ℕ × Saved)) → IsGoodHere here
     → runs here ≡ Some t → IsApart here rest → IsApart here ((t, x) ∷ rest)
@@ -53,7 +55,7 @@ pub fit_wrote : (here : Here) (t n : ℕ) (entered : List Write) → IsGoodHere 
 fit_wrote here t n entered good at =
     let own = apart_one here t (returned n (here.file t)) good at in
     let kept = kept_still here.setting here.kernel good.kernel in
-    fit_kept here (record (said here t n) { entered = entered }) own kept
+    fit_kept here (record (said here t n) { entered = entered }) refl own kept
 
 pub fit_said : (here : Here) (t n : ℕ) → IsGoodHere here → runs here ≡ Some t → IsFitCall here (said here t n)
 fit_said here t n good at = fit_wrote here t n [] good at

@@ -10,8 +10,8 @@ use Rattle.mach_types.specs.Kernel.Areas.{are_words_writable, registered_again, 
 use Rattle.block_model.specs.Record.{Kernel}
 use Rattle.block_model.specs.Here.{Here, is_writable, runs}
 use Rattle.block_model.specs.Setting.{Setting}
-use Rattle.block_model.specs.Calls.Answers.{argument, int_argument, returned, said}
-use Rattle.block_model.specs.Calls.Sequences.{killed_in_call, registers_or_refused, rseq, unregisters, unregisters_or_refused}
+use Rattle.block_model.specs.Calls.Answers.{argument, int_argument, returned, said, killed_in_call}
+use Rattle.block_model.specs.Calls.Sequences.{registers_or_refused, rseq, unregisters, unregisters_or_refused}
 use Rattle.block_model.specs.Sequences.{area_here}
 use Rattle.block_model.proofs.Good.{IsGoodHere, IsSound}
 use Rattle.block_model.proofs.Held.{IsHeld, has_state, held_registered, held_unregistered}
@@ -35,7 +35,7 @@ fit_areas : (here : Here) (t : ℕ) (entered : List Write) (areas : List (ℕ ×
     → (IsHeld here.setting.limits.harts here.kernel → IsHeld here.setting.limits.harts (record here.kernel { areas = areas }))
     → IsFitCall here (record (said here t 0) { entered = entered; kernel = record here.kernel { areas = areas } })
 fit_areas here t entered areas good at held =
-    fit_kept here _ (apart_one here t (returned 0 (here.file t)) good at) (kept_areas here.setting areas here.kernel good.kernel held)
+    fit_kept here _ refl (apart_one here t (returned 0 (here.file t)) good at) (kept_areas here.setting areas here.kernel good.kernel held)
 
 -- a thread that runs is live
 running_lives : (here : Here) (t : ℕ) → IsGoodHere here → runs here ≡ Some t → has_state t here.kernel.threads ≡ true
@@ -63,7 +63,7 @@ fit_registers here t (Err e) first good at = fit_refused here t e good at
 fit_registers here t (Ok area) first good at =
     either here (are_words_writable (is_writable here) area) _ _
     (λ _. fit_areas here t _ _ good at (held_registered here.setting.limits.harts t area here.kernel (running_lives here t good at) (first area refl)))
-    (λ _. fit_kept here (killed_in_call here) (apart_none here) (kept_still here.setting here.kernel good.kernel))
+    (λ _. fit_kept here (killed_in_call here) refl (apart_none here) (kept_still here.setting here.kernel good.kernel))
 
 fit_unregisters : (here : Here) (t : ℕ) (old : Option Area) → IsGoodHere here → runs here ≡ Some t
     → IsFitCall here (unregisters here t old)

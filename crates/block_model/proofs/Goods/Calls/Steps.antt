@@ -1,16 +1,19 @@
 -- Steps of the kernel's record that calls are made of: what each keeps.
 use Rattle.std.proofs.Common.{◌≡◌, ◌≢◌, ℕ, ◌+◌, ◌≤◌, ◌<◌, ◌^◌, List, refl, ◌∙◌, arith, Some, length, length-append}
+use Rattle.mach_types.specs.declared.barriers.Registered.{Registered}
 use Rattle.mach_types.specs.declared.kernel_words.TheConstants.{CONSOLE_ROOM}
 use Rattle.block_model.specs.Record.{Kernel}
+use Rattle.mach_types.specs.Kernel.Signals.{Signalling}
 use Rattle.mach_types.specs.Kernel.Threads.{running_on, waits}
 use Rattle.block_model.specs.Setting.{Setting}
-use Rattle.block_model.specs.Kernel.{cleared, gone, left, printed, restricted, waited, woken}
+use Rattle.block_model.specs.Kernel.{cleared, for_barriers, gone, left, printed, restricted, signalled, waited, woken}
 use Rattle.block_model.proofs.Allowances.{AllAllowed, kept_allowed, restricted_allowed, ended_allowed}
 use Rattle.block_model.specs.Tables.{IsTables}
 use Rattle.block_model.proofs.KernelTables.{tables_cleared, cleared_same, tables_left, left_others}
 use Rattle.block_model.proofs.KernelCalls.{tables_allowed, tables_woken, woken_same, tables_waited, waited_others, tables_ended, ended_others}
 use Rattle.block_model.proofs.Good.{IsSound}
-use Rattle.block_model.proofs.Held.{IsHeld, held_cleared, held_gone, held_left, held_printed, held_restricted, held_waited, held_woken}
+use Rattle.block_model.proofs.SignalSteps.{KeepsThreads}
+use Rattle.block_model.proofs.Held.{IsHeld, held_cleared, held_for_barriers, held_gone, held_left, held_printed, held_restricted, held_signalled, held_waited, held_woken}
 
 -- each hart runs the thread that it ran, the pages stay, no number is given, and the record stays sound
 pub record IsKept (s : Setting) (before after : Kernel) : Type 0 where
@@ -126,6 +129,26 @@ kept_restricted s t set k sound below some =
       };
       held = held_restricted s.limits.harts t set k;
     }
+
+-- actions, masks or pending signals that are of the same threads
+pub kept_signalled : (s : Setting) (g : Signalling) (k : Kernel) → IsSound s k → KeepsThreads k.signals g → IsKept s k (signalled g k)
+kept_signalled s g k sound keeps = record {
+  running = λ h. refl;
+  pages = refl;
+  given = refl;
+  sound = record { tables = sound.tables; allowed = sound.allowed; console = sound.console };
+  held = held_signalled s.limits.harts g k keeps;
+}
+
+-- what the process is registered for
+pub kept_for_barriers : (s : Setting) (r : Registered) (k : Kernel) → IsSound s k → IsKept s k (for_barriers r k)
+kept_for_barriers s r k sound = record {
+  running = λ h. refl;
+  pages = refl;
+  given = refl;
+  sound = record { tables = sound.tables; allowed = sound.allowed; console = sound.console };
+  held = held_for_barriers s.limits.harts r k;
+}
 
 -- the thread on hart h leaves it: it is ready, it waits, or it is gone
 pub moved_left : (s : Setting) (h t : ℕ) (k : Kernel) → IsSound s k → running_on h k.threads ≡ Some t

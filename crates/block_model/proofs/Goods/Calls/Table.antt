@@ -9,6 +9,7 @@ use Rattle.block_model.specs.Calls.Memory.{brk, mmap, mprotect, munmap, taken_by
 use Rattle.mach_types.specs.Kernel.Pages.{PageRun}
 use Rattle.block_model.proofs.Good.{IsGoodHere}
 use Rattle.block_model.proofs.Goods.Calls.Affinity.{fit_getaffinity, fit_getcpu, fit_setaffinity, fit_yield}
+use Rattle.block_model.proofs.Goods.Calls.Barriers.{fit_membarrier}
 use Rattle.block_model.proofs.Goods.Calls.Cloning.{fit_clone}
 use Rattle.block_model.proofs.Goods.Calls.Console.{fit_write, fit_writev}
 use Rattle.block_model.proofs.Goods.Calls.Ending.{fit_exit, fit_exit_group}
@@ -18,6 +19,7 @@ use Rattle.block_model.proofs.Goods.Calls.Memory.{fit_brk, fit_mmap, fit_mprotec
 use Rattle.block_model.proofs.Goods.Calls.Numbers.{fit_getpid, fit_gettid, fit_set_tid_address}
 use Rattle.block_model.proofs.Goods.Calls.Said.{fit_refused}
 use Rattle.block_model.proofs.Goods.Calls.Sequences.{fit_rseq}
+use Rattle.block_model.proofs.Goods.Calls.Signals.{fit_sigaction, fit_sigprocmask, fit_sigreturn, fit_tgkill, fit_tkill}
 
 -- one of two calls, by a test
 either : (here : Here) (r : PageRun) (b : Bool) (x y : CallDone) → (b ≡ true → IsFitTaking here r x) → (b ≡ false → IsFitTaking here r y)
@@ -47,6 +49,11 @@ module _ (number : ℕ) (here : Here) (t : ℕ) (good : IsGoodHere here) (at : r
       either here taken (eqb number 122) _ _ (λ _. still _ (fit_setaffinity here t good at)) (λ _.
       either here taken (eqb number 123) _ _ (λ _. still _ (fit_getaffinity here t good at)) (λ _.
       either here taken (eqb number 124) _ _ (λ _. still _ (fit_yield here t good at)) (λ _.
+      either here taken (eqb number 130) _ _ (λ _. still _ (fit_tkill here t good at)) (λ _.
+      either here taken (eqb number 131) _ _ (λ _. still _ (fit_tgkill here t good at)) (λ _.
+      either here taken (eqb number 134) _ _ (λ _. still _ (fit_sigaction here t good at)) (λ _.
+      either here taken (eqb number 135) _ _ (λ _. still _ (fit_sigprocmask here t good at)) (λ _.
+      either here taken (eqb number 139) _ _ (λ _. still _ (fit_sigreturn here t good at)) (λ _.
       either here taken (eqb number 168) _ _ (λ _. still _ (fit_getcpu here t good at)) (λ _.
       either here taken (eqb number 172) _ _ (λ _. still _ (fit_getpid here t good at)) (λ _.
       either here taken (eqb number 178) _ _ (λ _. still _ (fit_gettid here t good at)) (λ _.
@@ -55,8 +62,9 @@ module _ (number : ℕ) (here : Here) (t : ℕ) (good : IsGoodHere here) (at : r
       either here taken (eqb number 220) _ _ (λ _. still _ (fit_clone here t good at)) (λ _.
       either here taken (eqb number 222) _ _ (λ is. takes 222 (mmap here t) is (fit_mmap here t good at)) (λ _.
       either here taken (eqb number 226) _ _ (λ is. takes 226 (mprotect here t) is (fit_mprotect here t good at)) (λ _.
+      either here taken (eqb number 283) _ _ (λ _. still _ (fit_membarrier here t good at)) (λ _.
       either here taken (eqb number 293) _ _ (λ _. still _ (fit_rseq here t good at)) (λ _.
-      still _ (fit_refused here t ENOSYS good at)))))))))))))))))))
+      still _ (fit_refused here t ENOSYS good at)))))))))))))))))))))))))
 
 pub fit_called : (here : Here) (t : ℕ) → IsGoodHere here → runs here ≡ Some t
     → IsFitTaking here (taken_by (call_number here t) here t) (called here t)

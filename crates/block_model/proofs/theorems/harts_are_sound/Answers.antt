@@ -1,7 +1,7 @@
 use Rattle.block_model.proofs.theorems.harts_are_sound.Goals as goal
 use Rattle.block_model.specs.Deciding.{history}
 use Rattle.block_model.proofs.Runs.{settled}
-use Rattle.block_model.proofs.Sound.{idle_harts, one_hart, writable_stores}
+use Rattle.block_model.proofs.Sound.{idle_harts, one_hart, waiter_runs, waiter_stores, writable_stores}
 
 pub returns : goal.returns
 returns c = record {
@@ -9,4 +9,5 @@ returns c = record {
   few = λ s log h run. (settled s (history s log) run.allowed).good.few h;
   alone = λ s log h k t run here there. one_hart s log h k t run.allowed here there;
   writable = λ s log h run. writable_stores s log h run.allowed;
+  in_barrier = λ s log h left run waits. (waiter_runs s (history s log) h left run.allowed waits, waiter_stores s (history s log) h left run.allowed waits);
 }

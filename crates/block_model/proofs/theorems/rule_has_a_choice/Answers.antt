@@ -4,6 +4,6 @@ use Rattle.block_model.proofs.Rules.{rule_chooses, rule_is_made, executes_when_a
 pub returns : goal.returns
 returns c = record {
   chooses = λ s log one run end. rule_chooses s log one run.allowed end;
-  makes = λ s log choice run harts end chosen. rule_is_made s log choice run.allowed harts end chosen;
-  allowed = λ s log entry is. executes_when_allowed s log entry is;
+  makes = λ s log choice one run end chosen. rule_is_made s log choice run.allowed one end chosen;
+  allowed = λ s log entry is none. executes_when_allowed s log entry is none;
 }

@@ -5,5 +5,5 @@ pub returns : goal.returns
 returns c = record {
   harts = λ s log run. all_harts s log run.allowed;
   threads = λ s log short run. all_threads s log short run.allowed;
-  addresses = λ s log start run. all_addresses s log start run.allowed;
+  addresses = λ s log start bytes run. all_addresses s log start bytes run.allowed;
 }

@@ -22,4 +22,4 @@ returns-in-Err-clause-made c = λ h hart count told has read.
     let m = c.args.pages.now in
     let done = answered_said h t k m (Err c.in-Err.errno) (sched_setaffinity h t) told (c.in-Err.ensures.refused h told read) in
     made_answered h t c.args.here.0 k k m m c.args.saved.now c.go_on.new.saved [] (Err c.in-Err.errno) c.go_on.result (sched_setaffinity h t) hart told has read.file c.requires.caller done c.requires.caller.tables
-    c.go_on.ensures.saved c.go_on.ensures.stays c.go_on.ensures.runs_on c.go_on.ensures.ends c.go_on.ensures.answer
+    c.go_on.ensures.saved c.go_on.ensures.stays c.go_on.ensures.runs_on c.go_on.ensures.waits_in_none c.go_on.ensures.ends c.go_on.ensures.answer

@@ -2,11 +2,11 @@
 use Rattle.std.proofs.Common.{ap, [], ◌∷◌, ◌∙◌}
 use Rattle.std.proofs.lemmas.List.{map-append}
 use Rattle.sys_calls.specs.Registered.{areas_by_number}
-use Rattle.sys_calls.specs.declared.areas.Registered.{Registered}
+use Rattle.sys_calls.specs.declared.areas.RegisteredArea.{RegisteredArea}
 use Rattle.sys_calls.proofs.areas.add_area.Goals as goal
 
 pub returns : goal.returns
 returns c =
-    let added : Registered = record { tid = c.args.tid; area = c.args.area } in
+    let added : RegisteredArea = record { tid = c.args.tid; area = c.args.area } in
     ap areas_by_number c.push.ensures.items
-    ∙ map-append (λ (entry : Registered). (entry.tid.0, entry.area)) c.args.registered.now.items (added ∷ [])
+    ∙ map-append (λ (entry : RegisteredArea). (entry.tid.0, entry.area)) c.args.registered.now.items (added ∷ [])

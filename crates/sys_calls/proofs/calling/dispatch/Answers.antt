@@ -12,7 +12,8 @@ use Rattle.sys_calls.specs.declared.calling.CallEnd.TheVariants as over
 use Rattle.sys_calls.specs.declared.kernel.Kernel.{Kernel}
 use Rattle.sys_calls.specs.Answered.{IsCaller, IsTold}
 use Rattle.sys_calls.specs.Made.{HasPages, IsMade}
-use Rattle.sys_calls.proofs.Dispatched.{numbered, silent_futex, silent_setaffinity, told_at}
+use Rattle.sys_calls.proofs.Barriers.{silent_membarrier}
+use Rattle.sys_calls.proofs.Dispatched.{numbered, silent_futex, silent_setaffinity, silent_sigreturn, told_at}
 use Rattle.sys_calls.proofs.Saying.{made_answered}
 use Rattle.sys_calls.proofs.Tables.{caller_lives, caller_runs}
 use Rattle.sys_calls.proofs.calling.dispatch.Goals as goal
@@ -22,8 +23,10 @@ made_group : (h : Here) (t here : ℕ) (k : Kernel) (m : Map) (end : CallEnd) �
 made_group h t here k m end told has hart caller is =
     subst (λ (e : CallEnd). IsMade h t k m k m (h.file t) e (exit_group h t)) (sym is) (record {
       threads = told.threads;
+      signals = told.signals;
       scheduling = told.scheduling;
       areas = told.areas;
+      barriers = told.barriers;
       ids = refl;
       console = told.console;
       kept = λ all. all;
@@ -32,103 +35,128 @@ made_group h t here k m end told has hart caller is =
       code = λ a. refl;
       hart = ap (λ n. running_on n h.kernel.threads) hart ∙ ap (running_on here) (sym told.threads) ∙ caller.runs;
       stands = subst (λ (ts : Threads). runs ts t) told.threads (caller_runs k here t caller);
+      barrier = refl;
       ended = refl;
       answer = tt;
     })
 
 pub answered-outcome-requires-clause-live : goal.answered-outcome-requires-clause-live
-answered-outcome-requires-clause-live c = caller_lives c.args.kernel.now c.args.here.0 c.args.tid.0 c.requires.caller
+answered-outcome-requires-clause-live c = caller_lives c.args.kernel.now c.args.caller.here.0 c.args.caller.tid.0 c.requires.caller
 
 pub returns-in-93-clause-made : goal.returns-in-93-clause-made
 returns-in-93-clause-made c = λ h at.
-    let t = c.args.tid.0 in
-    let told = told_at h c.args.kernel.now c.args.pages.now c.args.here c.args.harts c.args.tid c.args.saved.now c.args.cid at in
-    let read = c.shows_pages.ensures h c.args.tid.0 c.args.saved.now at.pages at.file in
+    let t = c.args.caller.tid.0 in
+    let told = told_at h c.args.kernel.now c.args.pages.now c.args.caller.here c.args.caller.running c.args.caller.harts c.args.caller.tid c.args.saved.now c.args.caller.cid at in
+    let read = c.shows_pages.ensures h c.args.caller.tid.0 c.args.saved.now at.pages at.file in
     subst (λ (d : CallDone). IsMade h t c.args.kernel.now c.args.pages.now c.exit.new.kernel c.exit.new.pages c.args.saved.now c.exit.result d)
     (sym (numbered h t c.call_number.result 93 c.args.saved.now at.file c.call_number.ensures c.in-93.is)) (c.exit.ensures.made h at.hart told at.pages read)
 
 pub returns-in-93-clause-told : goal.returns-in-93-clause-told
 returns-in-93-clause-told c = λ h at.
-    let told = told_at h c.args.kernel.now c.args.pages.now c.args.here c.args.harts c.args.tid c.args.saved.now c.args.cid at in
-    let read = c.shows_pages.ensures h c.args.tid.0 c.args.saved.now at.pages at.file in
-    c.exit.ensures.told h told read ∙ ap (λ (d : CallDone). d.entered) (sym (numbered h c.args.tid.0 c.call_number.result 93 c.args.saved.now at.file c.call_number.ensures c.in-93.is))
+    let told = told_at h c.args.kernel.now c.args.pages.now c.args.caller.here c.args.caller.running c.args.caller.harts c.args.caller.tid c.args.saved.now c.args.caller.cid at in
+    let read = c.shows_pages.ensures h c.args.caller.tid.0 c.args.saved.now at.pages at.file in
+    c.exit.ensures.told h told read ∙ ap (λ (d : CallDone). d.entered) (sym (numbered h c.args.caller.tid.0 c.call_number.result 93 c.args.saved.now at.file c.call_number.ensures c.in-93.is))
 
 pub returns-in-94-clause-made : goal.returns-in-94-clause-made
 returns-in-94-clause-made c = λ h at.
-    let t = c.args.tid.0 in
+    let t = c.args.caller.tid.0 in
     let k = c.args.kernel.now in
     let m = c.args.pages.now in
-    let told = told_at h k m c.args.here c.args.harts c.args.tid c.args.saved.now c.args.cid at in
-    let made = made_group h t c.args.here.0 k m c.exit_group.result told at.pages at.hart c.requires.caller (c.exit_group.ensures h t at.file) in
+    let told = told_at h k m c.args.caller.here c.args.caller.running c.args.caller.harts c.args.caller.tid c.args.saved.now c.args.caller.cid at in
+    let made = made_group h t c.args.caller.here.0 k m c.exit_group.result told at.pages at.hart c.requires.caller (c.exit_group.ensures h t at.file) in
     subst (λ (d : CallDone). IsMade h t k m k m c.args.saved.now c.exit_group.result d) (sym (numbered h t c.call_number.result 94 c.args.saved.now at.file c.call_number.ensures c.in-94.is))
     (subst (λ (x : Saved). IsMade h t k m k m x c.exit_group.result (exit_group h t)) (sym at.file) made)
 
 pub returns-in-98-clause-made : goal.returns-in-98-clause-made
 returns-in-98-clause-made c = λ h at.
-    let t = c.args.tid.0 in
-    let told = told_at h c.args.kernel.now c.args.pages.now c.args.here c.args.harts c.args.tid c.args.saved.now c.args.cid at in
-    let read = c.shows_pages.ensures h c.args.tid.0 c.args.saved.now at.pages at.file in
+    let t = c.args.caller.tid.0 in
+    let told = told_at h c.args.kernel.now c.args.pages.now c.args.caller.here c.args.caller.running c.args.caller.harts c.args.caller.tid c.args.saved.now c.args.caller.cid at in
+    let read = c.shows_pages.ensures h c.args.caller.tid.0 c.args.saved.now at.pages at.file in
     subst (λ (d : CallDone). IsMade h t c.args.kernel.now c.args.pages.now c.futex.new.kernel c.args.pages.now c.futex.new.saved c.futex.result d)
     (sym (numbered h t c.call_number.result 98 c.args.saved.now at.file c.call_number.ensures c.in-98.is)) (c.futex.ensures.made h at.hart told at.pages read)
 
 pub returns-in-98-clause-told : goal.returns-in-98-clause-told
 returns-in-98-clause-told c = λ h at.
-    c.requires.fresh ∙ sym (silent_futex h c.args.tid.0) ∙ ap (λ (d : CallDone). d.entered) (sym (numbered h c.args.tid.0 c.call_number.result 98 c.args.saved.now at.file c.call_number.ensures c.in-98.is))
+    c.requires.fresh ∙ sym (silent_futex h c.args.caller.tid.0) ∙ ap (λ (d : CallDone). d.entered) (sym (numbered h c.args.caller.tid.0 c.call_number.result 98 c.args.saved.now at.file c.call_number.ensures c.in-98.is))
 
 pub returns-in-122-clause-made : goal.returns-in-122-clause-made
 returns-in-122-clause-made c = λ h at.
-    let t = c.args.tid.0 in
-    let told = told_at h c.args.kernel.now c.args.pages.now c.args.here c.args.harts c.args.tid c.args.saved.now c.args.cid at in
-    let read = c.shows_pages.ensures h c.args.tid.0 c.args.saved.now at.pages at.file in
+    let t = c.args.caller.tid.0 in
+    let told = told_at h c.args.kernel.now c.args.pages.now c.args.caller.here c.args.caller.running c.args.caller.harts c.args.caller.tid c.args.saved.now c.args.caller.cid at in
+    let read = c.shows_pages.ensures h c.args.caller.tid.0 c.args.saved.now at.pages at.file in
     subst (λ (d : CallDone). IsMade h t c.args.kernel.now c.args.pages.now c.sched_setaffinity.new.kernel c.args.pages.now c.sched_setaffinity.new.saved c.sched_setaffinity.result d)
     (sym (numbered h t c.call_number.result 122 c.args.saved.now at.file c.call_number.ensures c.in-122.is)) (c.sched_setaffinity.ensures.made h at.hart at.count told at.pages read)
 
 pub returns-in-122-clause-told : goal.returns-in-122-clause-told
 returns-in-122-clause-told c = λ h at.
-    c.requires.fresh ∙ sym (silent_setaffinity h c.args.tid.0) ∙ ap (λ (d : CallDone). d.entered) (sym (numbered h c.args.tid.0 c.call_number.result 122 c.args.saved.now at.file c.call_number.ensures c.in-122.is))
+    c.requires.fresh ∙ sym (silent_setaffinity h c.args.caller.tid.0) ∙ ap (λ (d : CallDone). d.entered) (sym (numbered h c.args.caller.tid.0 c.call_number.result 122 c.args.saved.now at.file c.call_number.ensures c.in-122.is))
 
 pub returns-in-124-clause-made : goal.returns-in-124-clause-made
 returns-in-124-clause-made c = λ h at.
-    let t = c.args.tid.0 in
-    let told = told_at h c.args.kernel.now c.args.pages.now c.args.here c.args.harts c.args.tid c.args.saved.now c.args.cid at in
+    let t = c.args.caller.tid.0 in
+    let told = told_at h c.args.kernel.now c.args.pages.now c.args.caller.here c.args.caller.running c.args.caller.harts c.args.caller.tid c.args.saved.now c.args.caller.cid at in
     subst (λ (d : CallDone). IsMade h t c.args.kernel.now c.args.pages.now c.sched_yield.new.kernel c.args.pages.now c.sched_yield.new.saved c.sched_yield.result d)
     (sym (numbered h t c.call_number.result 124 c.args.saved.now at.file c.call_number.ensures c.in-124.is)) (c.sched_yield.ensures.made h c.args.pages.now at.hart told at.pages at.file)
 
+pub returns-in-139-clause-made : goal.returns-in-139-clause-made
+returns-in-139-clause-made c = λ h at.
+    let t = c.args.caller.tid.0 in
+    let told = told_at h c.args.kernel.now c.args.pages.now c.args.caller.here c.args.caller.running c.args.caller.harts c.args.caller.tid c.args.saved.now c.args.caller.cid at in
+    let read = c.shows_pages.ensures h t c.args.saved.now at.pages at.file in
+    subst (λ (d : CallDone). IsMade h t c.args.kernel.now c.args.pages.now c.rt_sigreturn.new.kernel c.args.pages.now c.rt_sigreturn.new.saved c.rt_sigreturn.result d)
+    (sym (numbered h t c.call_number.result 139 c.args.saved.now at.file c.call_number.ensures c.in-139.is)) (c.rt_sigreturn.ensures.made h at.hart told at.pages read)
+
+pub returns-in-139-clause-told : goal.returns-in-139-clause-told
+returns-in-139-clause-told c = λ h at.
+    c.requires.fresh ∙ sym (silent_sigreturn h c.args.caller.tid.0) ∙ ap (λ (d : CallDone). d.entered) (sym (numbered h c.args.caller.tid.0 c.call_number.result 139 c.args.saved.now at.file c.call_number.ensures c.in-139.is))
+
+pub returns-in-283-clause-made : goal.returns-in-283-clause-made
+returns-in-283-clause-made c = λ h at.
+    let t = c.args.caller.tid.0 in
+    let told = told_at h c.args.kernel.now c.args.pages.now c.args.caller.here c.args.caller.running c.args.caller.harts c.args.caller.tid c.args.saved.now c.args.caller.cid at in
+    subst (λ (d : CallDone). IsMade h t c.args.kernel.now c.args.pages.now c.membarrier.new.kernel c.args.pages.now c.membarrier.new.saved c.membarrier.result d)
+    (sym (numbered h t c.call_number.result 283 c.args.saved.now at.file c.call_number.ensures c.in-283.is)) (c.membarrier.ensures.made h c.args.pages.now at.hart at.count at.running told at.pages at.file)
+
+pub returns-in-283-clause-told : goal.returns-in-283-clause-told
+returns-in-283-clause-told c = λ h at.
+    let t = c.args.caller.tid.0 in
+    c.requires.fresh ∙ sym (silent_membarrier h t) ∙ ap (λ (d : CallDone). d.entered) (sym (numbered h t c.call_number.result 283 c.args.saved.now at.file c.call_number.ensures c.in-283.is))
+
 pub returns-in-293-clause-made : goal.returns-in-293-clause-made
 returns-in-293-clause-made c = λ h at.
-    let t = c.args.tid.0 in
-    let told = told_at h c.args.kernel.now c.args.pages.now c.args.here c.args.harts c.args.tid c.args.saved.now c.args.cid at in
+    let t = c.args.caller.tid.0 in
+    let told = told_at h c.args.kernel.now c.args.pages.now c.args.caller.here c.args.caller.running c.args.caller.harts c.args.caller.tid c.args.saved.now c.args.caller.cid at in
     let read = c.shows_pages.ensures h t c.args.saved.now at.pages at.file in
     subst (λ (d : CallDone). IsMade h t c.args.kernel.now c.args.pages.now c.rseq.new.kernel c.rseq.new.pages c.rseq.new.saved c.rseq.result d)
     (sym (numbered h t c.call_number.result 293 c.args.saved.now at.file c.call_number.ensures c.in-293.is)) (c.rseq.ensures.made h at.hart told at.pages read at.id)
 
 pub returns-in-293-clause-told : goal.returns-in-293-clause-told
 returns-in-293-clause-told c = λ h at.
-    let t = c.args.tid.0 in
-    let told = told_at h c.args.kernel.now c.args.pages.now c.args.here c.args.harts c.args.tid c.args.saved.now c.args.cid at in
+    let t = c.args.caller.tid.0 in
+    let told = told_at h c.args.kernel.now c.args.pages.now c.args.caller.here c.args.caller.running c.args.caller.harts c.args.caller.tid c.args.saved.now c.args.caller.cid at in
     let read = c.shows_pages.ensures h t c.args.saved.now at.pages at.file in
     c.rseq.ensures.told h at.hart told read at.id
     ∙ ap (λ (d : CallDone). d.entered) (sym (numbered h t c.call_number.result 293 c.args.saved.now at.file c.call_number.ensures c.in-293.is))
 
 pub returns-in_default-clause-made : goal.returns-in_default-clause-made
 returns-in_default-clause-made c = λ h at.
-    let t = c.args.tid.0 in
+    let t = c.args.caller.tid.0 in
     let k = c.args.kernel.now in
     let m = c.args.pages.now in
-    let told = told_at h k m c.args.here c.args.harts c.args.tid c.args.saved.now c.args.cid at in
+    let told = told_at h k m c.args.caller.here c.args.caller.running c.args.caller.harts c.args.caller.tid c.args.saved.now c.args.caller.cid at in
     let read = c.shows_pages.ensures h t c.args.saved.now at.pages at.file in
     let done = c.answered-outcome.ensures.answered h at.hart told at.pages read in
-    let made = made_answered h t c.args.here.0 k c.answered-outcome.new.kernel m c.answered-outcome.new.pages c.args.saved.now c.go_on.new.saved c.answered-outcome.new.written.items c.answered-outcome.result c.go_on.result
+    let made = made_answered h t c.args.caller.here.0 k c.answered-outcome.new.kernel m c.answered-outcome.new.pages c.args.saved.now c.go_on.new.saved c.answered-outcome.new.written.items c.answered-outcome.result c.go_on.result
     (call_of c.call_number.result h t) at.hart told at.pages at.file c.requires.caller done
     (c.requires.caller.tables.0, c.answered-outcome.ensures.tables c.requires.caller.tables.0 c.requires.caller.tables.1)
-    c.go_on.ensures.saved c.go_on.ensures.stays c.go_on.ensures.runs_on c.go_on.ensures.ends c.go_on.ensures.answer in
+    c.go_on.ensures.saved c.go_on.ensures.stays c.go_on.ensures.runs_on c.go_on.ensures.waits_in_none c.go_on.ensures.ends c.go_on.ensures.answer in
     subst (λ (d : CallDone). IsMade h t k m c.answered-outcome.new.kernel c.answered-outcome.new.pages c.go_on.new.saved c.go_on.result d)
     (sym (numbered h t c.call_number.result c.call_number.result c.args.saved.now at.file c.call_number.ensures refl)) made
 
 pub returns-in_default-clause-told : goal.returns-in_default-clause-told
 returns-in_default-clause-told c = λ h at.
-    let t = c.args.tid.0 in
-    let told = told_at h c.args.kernel.now c.args.pages.now c.args.here c.args.harts c.args.tid c.args.saved.now c.args.cid at in
-    let read = c.shows_pages.ensures h c.args.tid.0 c.args.saved.now at.pages at.file in
+    let t = c.args.caller.tid.0 in
+    let told = told_at h c.args.kernel.now c.args.pages.now c.args.caller.here c.args.caller.running c.args.caller.harts c.args.caller.tid c.args.saved.now c.args.caller.cid at in
+    let read = c.shows_pages.ensures h c.args.caller.tid.0 c.args.saved.now at.pages at.file in
     let done = c.answered-outcome.ensures.answered h at.hart told at.pages read in
     done.told ∙ ap (λ (d : CallDone). d.entered) (sym (numbered h t c.call_number.result c.call_number.result c.args.saved.now at.file c.call_number.ensures refl))

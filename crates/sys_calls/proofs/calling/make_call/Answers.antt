@@ -5,6 +5,9 @@ use Rattle.sys_calls.proofs.calling.make_call.Goals as goal
 pub returns-clause-tables : goal.returns-clause-tables
 returns-clause-tables c = c.dispatch-end.ensures.tables c.args.harts c.requires.tables
 
+pub returns-clause-signals : goal.returns-clause-signals
+returns-clause-signals c = c.dispatch-end.ensures.signals c.requires.signals
+
 pub returns-clause-areas : goal.returns-clause-areas
 returns-clause-areas c = c.dispatch-end.ensures.areas c.requires.areas
 

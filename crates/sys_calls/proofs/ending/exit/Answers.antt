@@ -41,8 +41,10 @@ made_last : (h : Here) (t here : ℕ) (k : Kernel) (m m' : Map) (saved : Saved) 
     → ws ≡ clearing h t → e ≡ ended_with h t → IsMade h t k m k m' saved (over.ProcessEnd e) (last_exits h t)
 made_last h t here k m m' saved ws e hart told file caller has entered writes end = record {
   threads = told.threads;
+  signals = told.signals;
   scheduling = told.scheduling;
   areas = told.areas;
+  barriers = told.barriers;
   ids = refl;
   console = told.console;
   kept = λ all. all;
@@ -51,6 +53,7 @@ made_last h t here k m m' saved ws e hart told file caller has entered writes en
   code = entered.code;
   hart = ap (λ n. running_on n h.kernel.threads) hart ∙ ap (running_on here) (sym told.threads) ∙ caller.runs;
   stands = subst (λ (ts : Threads). runs ts t) told.threads (caller_runs k here t caller);
+  barrier = refl;
   ended = ap Some end;
   answer = tt;
 }
@@ -60,8 +63,10 @@ made_one : (h : Here) (t here : ℕ) (k k' : Kernel) (m m' : Map) (saved : Saved
     → IsGone h k k' t (cond (clears h t) 1 0) (clear_of t h.kernel.threads) here → IsMade h t k m k' m' saved over.ThreadEnd (one_exits h t)
 made_one h t here k k' m m' saved ws hart file has entered writes gone = record {
   threads = gone.threads;
+  signals = gone.signals;
   scheduling = gone.scheduling;
   areas = gone.areas;
+  barriers = gone.barriers;
   ids = gone.ids;
   console = gone.console;
   kept = gone.kept;
@@ -70,6 +75,7 @@ made_one h t here k k' m m' saved ws hart file has entered writes gone = record 
   code = entered.code;
   hart = ap (running_on h.hart) (sym gone.threads) ∙ ap (λ n. running_on n k'.threads.threads) hart ∙ gone.idle;
   stands = state_of-without_same t (woken_at_exit h t).kernel.threads;
+  barrier = refl;
   ended = refl;
   answer = tt;
 }

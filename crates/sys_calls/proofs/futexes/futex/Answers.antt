@@ -29,14 +29,17 @@ returns-in-Ok-Wake-clause-made c = λ h hart told has read.
     let others : List (ℕ × Saved) = map (answered_wait h) (wake (int_argument h t 2) (argument h t 0) h.kernel).threads in
     let done : IsAnswered h t k m k' m [] (Ok count) (futex_wake h t) = record {
       threads = woken.threads;
+      signals = woken.signals;
       scheduling = woken.scheduling;
       areas = woken.areas;
+      barriers = woken.barriers;
       ids = woken.ids;
       console = woken.console;
       pages = pages_kept h m m (futex_wake h t) (entered_none m) (wake_pages (int_argument h t 2) (argument h t 0) h.kernel);
       code = λ a. refl;
       told = refl;
       hart = ap (running_on h.hart) (sym woken.threads) ∙ c.wake-woken.ensures.onward.running h.hart ∙ ap (running_on h.hart) told.threads;
+      at_once = refl;
       goes_on = refl;
       others = others;
       files = ap (λ (n : ℕ). (t, returned n (h.file t)) ∷ others) (sym woken.number);
@@ -45,7 +48,7 @@ returns-in-Ok-Wake-clause-made c = λ h hart told has read.
     } in
     let tables : AreTables k' = (c.requires.tables.0, c.wake-woken.ensures.onward.tables c.requires.tables.0 c.requires.tables.1) in
     let made = made_answered h t c.args.here.0 k k' m m c.args.saved.now c.go_on.new.saved [] (Ok count) c.go_on.result (futex_wake h t) hart told has read.file c.requires done tables
-    (c.go_on.ensures.saved ∙ ap (λ (n : ℕ). returned n c.args.saved.now) c.from.ensures) c.go_on.ensures.stays c.go_on.ensures.runs_on c.go_on.ensures.ends c.go_on.ensures.answer in
+    (c.go_on.ensures.saved ∙ ap (λ (n : ℕ). returned n c.args.saved.now) c.from.ensures) c.go_on.ensures.stays c.go_on.ensures.runs_on c.go_on.ensures.waits_in_none c.go_on.ensures.ends c.go_on.ensures.answer in
     let is : futex h t ≡ futex_wake h t = c.in-Ok-Wake.ensures.asked h t read.file ∙ ap (λ (op : Operation). futex_of op h t) c.in-Ok-Wake.field-0-is in
     subst (λ (d : CallDone). IsMade h t k m k' m c.go_on.new.saved c.go_on.result d) (sym is) made
 
@@ -56,4 +59,4 @@ returns-in-Err-clause-made c = λ h hart told has read.
     let m = c.args.pages.now in
     let done = answered_said h t k m (Err c.in-Err.errno) (futex h t) told (c.in-Err.ensures.refused h t read.file) in
     made_answered h t c.args.here.0 k k m m c.args.saved.now c.go_on-in-Err.new.saved [] (Err c.in-Err.errno) c.go_on-in-Err.result (futex h t) hart told has read.file c.requires done c.requires.tables
-    c.go_on-in-Err.ensures.saved c.go_on-in-Err.ensures.stays c.go_on-in-Err.ensures.runs_on c.go_on-in-Err.ensures.ends c.go_on-in-Err.ensures.answer
+    c.go_on-in-Err.ensures.saved c.go_on-in-Err.ensures.stays c.go_on-in-Err.ensures.runs_on c.go_on-in-Err.ensures.waits_in_none c.go_on-in-Err.ensures.ends c.go_on-in-Err.ensures.answer

@@ -31,9 +31,9 @@ loop-count-preserved c =
     let some : longest_waiter c.args.at k.threads.threads ≡ Some u = sym c.in-Some.ensures.longest in
     record {
       onward = onward_more c.args.kernel.now k c.wake_one.new.kernel c.requires.tables.0 u c.requires.tables.1 c.loop-count.invariant.onward (longest_waits c.args.at k.threads.threads u some)
-          c.in-Some.ensures.threads c.in-Some.ensures.saved c.in-Some.ensures.ready c.wake_one.ensures.areas;
+          c.in-Some.ensures.threads c.in-Some.ensures.saved c.in-Some.ensures.ready c.wake_one.ensures.signals c.wake_one.ensures.areas;
       waking = λ h told. waking_more h c.args.kernel.now k c.wake_one.new.kernel c.args.most c.args.at c.loop-count.count u c.loop-count-test.true (c.loop-count.invariant.waking h told) some
-          c.in-Some.ensures.threads c.in-Some.ensures.saved c.in-Some.ensures.ready c.wake_one.ensures.areas c.wake_one.ensures.console;
+          c.in-Some.ensures.threads c.in-Some.ensures.saved c.in-Some.ensures.ready c.wake_one.ensures.signals c.wake_one.ensures.areas c.wake_one.ensures.registered c.wake_one.ensures.console;
     }
 
 pub returns-clause-woken : goal.returns-clause-woken

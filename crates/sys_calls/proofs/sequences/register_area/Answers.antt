@@ -14,7 +14,7 @@ use Rattle.block_model.specs.Tables.{AreOfLive}
 use Rattle.sys_calls.specs.Answered.{IsEntered}
 use Rattle.sys_calls.specs.Made.{IsMade}
 use Rattle.sys_calls.specs.Registered.{areas_by_number}
-use Rattle.sys_calls.specs.declared.areas.Registered.{Registered}
+use Rattle.sys_calls.specs.declared.areas.RegisteredArea.{RegisteredArea}
 use Rattle.sys_calls.specs.declared.calling.CallEnd.TheVariants as over
 use Rattle.sys_calls.specs.declared.kernel.Kernel.{Kernel}
 use Rattle.sys_calls.proofs.Registering.{area_added, room_left}
@@ -61,7 +61,7 @@ add_area-requires c =
     let t = c.args.tid.0 in
     let ts = k.threads.threads in
     let few = room_left t ts (areas_by_number k.areas.items) c.requires.areas (caller_lives k c.args.here.0 t c.requires.caller) c.requires.none c.requires.caller.tables.1.threads in
-    let same : length (areas_by_number k.areas.items) ≡ length k.areas.items = length-map k.areas.items (λ (entry : Registered). (entry.tid.0, entry.area)) in
+    let same : length (areas_by_number k.areas.items) ≡ length k.areas.items = length-map k.areas.items (λ (entry : RegisteredArea). (entry.tid.0, entry.area)) in
     record { room = omega (arith, few, same) }
 
 pub returns-clause-areas : goal.returns-clause-areas
@@ -92,7 +92,7 @@ returns-clause-made c = λ h hart told has read id.
     let m' = c.write_words.new.pages in
     let saved = c.args.saved.now in
     let ws = words_written area (words_on h.hart (id_of t h.kernel.ids)) in
-    let k' : Kernel = record { threads = k.threads; ready = k.ready; areas = c.add_area.new.registered; console = k.console } in
+    let k' : Kernel = record { threads = k.threads; signals = k.signals; ready = k.ready; areas = c.add_area.new.registered; registered = k.registered; console = k.console } in
     let can : are_words_writable (is_writable h) area ≡ true =
     sym (words_can h m t saved read area) ∙ sym c.write_words.ensures.answer ∙ c.if-not-write_words.false in
     let writes : c.write_words.new.written.items ≡ ws =
@@ -102,5 +102,5 @@ returns-clause-made c = λ h hart told has read id.
     (c.add_area.ensures ∙ ap (with_area t area) told.areas) (subst (IsEntered m m') writes c.write_words.ensures.entered) writes in
     let made = made_answered h t c.args.here.0 k k' m m' saved c.go_on.new.saved c.write_words.new.written.items (Ok 0) c.go_on.result (registered_done h t area)
     hart told has read.file c.requires.caller done c.requires.caller.tables
-    c.go_on.ensures.saved c.go_on.ensures.stays c.go_on.ensures.runs_on c.go_on.ensures.ends c.go_on.ensures.answer in
+    c.go_on.ensures.saved c.go_on.ensures.stays c.go_on.ensures.runs_on c.go_on.ensures.waits_in_none c.go_on.ensures.ends c.go_on.ensures.answer in
     subst (λ (d : CallDone). IsMade h t k m k' m' c.go_on.new.saved c.go_on.result d) (sym (registers_made h t area can)) made

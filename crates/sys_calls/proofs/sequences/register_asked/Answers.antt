@@ -21,4 +21,4 @@ returns-in-Err-clause-made c = λ h hart told has read id.
     ∙ ap (registers_or_refused h t) (sym c.asked_area.ensures.answer ∙ c.in-Err.is) in
     let done = answered_said h t k m (Err c.in-Err.errno) call told is in
     made_answered h t c.args.here.0 k k m m saved c.go_on.new.saved [] (Err c.in-Err.errno) c.go_on.result call hart told has read.file c.requires.caller done c.requires.caller.tables
-    c.go_on.ensures.saved c.go_on.ensures.stays c.go_on.ensures.runs_on c.go_on.ensures.ends c.go_on.ensures.answer
+    c.go_on.ensures.saved c.go_on.ensures.stays c.go_on.ensures.runs_on c.go_on.ensures.waits_in_none c.go_on.ensures.ends c.go_on.ensures.answer

@@ -27,5 +27,5 @@ returns-then-asks_to_unregister-clause-made c = λ h hart told has read id.
     let made = made_answered h t c.args.here.0 k k' m m' saved c.go_on.new.saved c.unregister_area-outcome.new.written.items c.unregister_area-outcome.result c.go_on.result call
     hart told has read.file c.requires.caller (c.unregister_area-outcome.ensures.answered h told read)
     (c.requires.caller.tables.0, c.unregister_area-outcome.ensures.tables c.requires.caller.tables.0 c.requires.caller.tables.1)
-    c.go_on.ensures.saved c.go_on.ensures.stays c.go_on.ensures.runs_on c.go_on.ensures.ends c.go_on.ensures.answer in
+    c.go_on.ensures.saved c.go_on.ensures.stays c.go_on.ensures.runs_on c.go_on.ensures.waits_in_none c.go_on.ensures.ends c.go_on.ensures.answer in
     subst (λ (d : CallDone). IsMade h t k m k' m' c.go_on.new.saved c.go_on.result d) (sym is) made

@@ -63,7 +63,7 @@ returns-clause-answered c = λ h told read.
     let saved = c.args.saved.now in
     let call = unregisters_or_refused h t (unregistration_asked saved (area_of t h.kernel.areas)) in
     let ws = words_written area words_unregistered in
-    let k' : Kernel = record { threads = k.threads; ready = k.ready; areas = c.remove_area.new.registered; console = k.console } in
+    let k' : Kernel = record { threads = k.threads; signals = k.signals; ready = k.ready; areas = c.remove_area.new.registered; registered = k.registered; console = k.console } in
     let can : are_words_writable (is_writable h) area ≡ true =
     sym (words_can h m t saved read area) ∙ sym c.write_words.ensures.answer ∙ c.if-not-write_words.false in
     let writes : c.write_words.new.written.items ≡ ws =

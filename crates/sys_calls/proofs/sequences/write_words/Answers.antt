@@ -11,17 +11,17 @@ use Rattle.sys_calls.proofs.sequences.write_words.Goals as goal
 pub overflow_add-area : goal.overflow_add-area
 overflow_add-area c =
     let all : are_words_writable (can_write_in c.args.pages.now) c.args.area.now ≡ true = sym c.set_cpu.ensures.answer ∙ c.if-not-set_cpu.false in
-    record { fits = writable_below c.args.pages.now (c.args.area.now.at + 4) (pass_each (can_write_in c.args.pages.now) c.args.area.now all).id }
+    record { fits = writable_below c.args.pages.now (c.args.area.now.at + 4) 3 (pass_each (can_write_in c.args.pages.now) c.args.area.now all).id }
 
 pub overflow_add-area-2 : goal.overflow_add-area-2
 overflow_add-area-2 c =
     let all : are_words_writable (can_write_in c.args.pages.now) c.args.area.now ≡ true = sym c.set_cpu.ensures.answer ∙ c.if-not-set_cpu.false in
-    record { fits = writable_below c.args.pages.now (c.args.area.now.at + 20) (pass_each (can_write_in c.args.pages.now) c.args.area.now all).node }
+    record { fits = writable_below c.args.pages.now (c.args.area.now.at + 20) 3 (pass_each (can_write_in c.args.pages.now) c.args.area.now all).node }
 
 pub overflow_add-area-3 : goal.overflow_add-area-3
 overflow_add-area-3 c =
     let all : are_words_writable (can_write_in c.args.pages.now) c.args.area.now ≡ true = sym c.set_cpu.ensures.answer ∙ c.if-not-set_cpu.false in
-    record { fits = writable_below c.args.pages.now (c.args.area.now.at + 24) (pass_each (can_write_in c.args.pages.now) c.args.area.now all).cid }
+    record { fits = writable_below c.args.pages.now (c.args.area.now.at + 24) 3 (pass_each (can_write_in c.args.pages.now) c.args.area.now all).cid }
 
 pub returns-clause-entered : goal.returns-clause-entered
 returns-clause-entered c =

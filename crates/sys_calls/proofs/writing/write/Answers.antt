@@ -57,7 +57,7 @@ returns-then-room-eq0-clause-answered c = λ h t told read.
 pub returns-clause-answered : goal.returns-clause-answered
 returns-clause-answered c = λ h t told read.
     let k = c.args.kernel.now in
-    let k' : Kernel = record { threads = k.threads; ready = k.ready; areas = k.areas; console = c.append_some.new.console } in
+    let k' : Kernel = record { threads = k.threads; signals = k.signals; ready = k.ready; areas = k.areas; registered = k.registered; console = c.append_some.new.console } in
     let m = c.args.pages.now in
     let at : c.argument.result ≡ argument h t 1 = c.argument.ensures ∙ argument_is h t c.args.saved.now read.file 1 in
     let len : c.argument-2.result ≡ argument h t 2 = c.argument-2.ensures ∙ argument_is h t c.args.saved.now read.file 2 in
@@ -70,6 +70,6 @@ returns-clause-answered c = λ h t told read.
     ap (λ (n : ℕ). take (CONSOLE_ROOM - n) (bytes_from (byte_in m) c.argument.result c.argument-2.result)) held
     ∙ ap (take (room h)) (ap (λ (byte : ℕ → Option ℕ). bytes_from byte c.argument.result c.argument-2.result) read.bytes ∙ ap (λ (a : ℕ). bytes_from (memory h) a c.argument-2.result) at
     ∙ ap (bytes_from (memory h) (argument h t 1)) len ∙ sym (append-nil (bytes_from (memory h) (argument h t 1) (argument h t 2)))) in
-    answered_printed h t k k' m (Ok c.append_some.result) bytes (write h t) told refl refl refl
+    answered_printed h t k k' m (Ok c.append_some.result) bytes (write h t) told refl refl refl refl refl
     (c.append_some.ensures.console ∙ ap (λ (bs : List ℕ). k.console ++ bs) same) (c.append_some.ensures.count ∙ ap (λ (bs : List ℕ). length bs) same)
     (if_false (is_elsewhere h t) _ _ here ∙ spans_wrote h t (one h t) (some_bytes h t c.argument-2.result len c.if-span-eq0.false) can free)

@@ -1,5 +1,5 @@
 -- What a scheduler sees of a hart.
-use Rattle.std.proofs.Common.{◌≡◌, ◌<◌, ◌∙◌, ◌&&◌, ap, arith, sym, subst, refl, length, is_some, is_none, false, Option}
+use Rattle.std.proofs.Common.{◌≡◌, ◌<◌, ◌∙◌, ◌&&◌, ap, arith, sym, subst, refl, length, is_some, is_none, not, eqb, false, Option}
 use Rattle.std.specs.Option.{option_map, option_map_or}
 use Rattle.mach_types.specs.Kernel.Scheduling.{Scheduling, first_for}
 use Rattle.mach_types.specs.declared.events.Why.{Why}
@@ -9,17 +9,18 @@ use Rattle.rv_inst.specs.Class.{sets_register}
 use Rattle.rv_inst.specs.declared.effects.Effect.{Effect}
 use Rattle.block_model.specs.Choosing.{credit_at}
 use Rattle.block_model.specs.Events.Exec.{refusal_exec}
-use Rattle.block_model.specs.Here.{Here}
+use Rattle.block_model.specs.Here.{Here, runs}
 use Rattle.block_model.specs.History.{events, ran}
-use Rattle.block_model.specs.Plain.{plain_seen}
-use Rattle.block_model.specs.Sights.{thread}
+use Rattle.block_model.specs.Plain.{here_of, plain_seen}
+use Rattle.block_model.specs.Sights.{is_all_taken, is_deliverable_on, thread}
 use Rattle.block_model.proofs.Laws.{same_here}
 use Rattle.machine_core.specs.Holding.{IsNextAt}
 use Rattle.machine_core.specs.Tied.{seen, setting_of}
 use Rattle.machine_core.specs.Harts.{hart_in}
 use Rattle.machine_core.proofs.Planning.{next_at}
 use Rattle.machine_core.proofs.Readings.{bytes_read, here_read, history_of, scheduling_read, writable_read}
-use Rattle.machine_core.proofs.Sighted.{idle_read, local_read, none_is, numbered, same_sight, tested, untested}
+use Rattle.machine_core.proofs.Signalled.{has_signals}
+use Rattle.machine_core.proofs.Sighted.{deliverable_read, idle_read, local_read, none_is, numbered, same_sight, tested, untested}
 use Rattle.machine_core.proofs.machine.Machine.sight.Goals.{then-not-is_idle, else-not-is_idle}
 use Rattle.machine_core.proofs.machine.Machine.sight.Goals as goal
 
@@ -28,6 +29,12 @@ exec_gate-refusal-requires c =
     let lt : c.args.hart.0 < c.self.inside.limits.harts = rw (← c.self.view_is) at c.requires in
     let all = c.self.invariant.tied.all_harts in
     omega (arith, lt, all)
+
+pub deliverable-requires-clause-held : goal.deliverable-requires-clause-held
+deliverable-requires-clause-held c =
+    let m = c.self.inside in
+    let lt : c.args.hart.0 < m.limits.harts = rw (← c.self.view_is) at c.requires in
+    has_signals (seen m) m.parts c.args.hart.0 c.self.invariant.run c.self.invariant.tied lt
 
 pub returns : goal.returns
 returns c =
@@ -47,10 +54,17 @@ returns c =
           (w.result-is ∙ w.is_local.ensures ∙ ap (λ (e : Option Effect). option_map_or sets_register e false) w.as_ref.ensures.value)
       | else-not-is_idle w ↦ untested (is_some x.running) c.is_idle-2.result _ _ c.is_idle-2.ensures w.if-not-is_idle.false w.result-is
     ] in
-    rw (← c.self.view_is) (same_sight _ _ _ _ _ _ _ _ _ _ _ _ _ _ (record {
+    let deliverable : c.is_some-2.result ≡ is_deliverable_on at (runs at) =
+    deliverable_read (here_of (seen m) h) c.deliverable.result c.is_some-2.result c.is_some-2.ensures (c.deliverable.ensures (setting_of m) (plain_seen (seen m)) c.self.invariant.tied lt)
+    ∙ ap (λ (z : Here). is_deliverable_on z (runs z)) same in
+    rw (← c.self.view_is) (same_sight _ _ _ _ _ _ _ _ _ _ _ _ _ _ _ _ _ _ _ _ _ _ (record {
       idle = c.is_idle.ensures ∙ idle_read at x _ _ _ here;
       first_ready = numbered c.first_for.result ∙ ap (option_map thread) (c.first_for.ensures ∙ ap (λ (s : Scheduling). first_for h s) (scheduling_read m h c.self.invariant));
+      in_barrier = c.is_some.ensures ∙ ap (λ (y : HartState). is_some y.waits) here;
+      all_taken = c.is_all_taken.ensures ∙ ap (λ (y : HartState). is_all_taken y.waits) here;
+      requested = ap (λ (y : HartState). not (eqb y.requests 0)) here;
       stores = c.len.ensures.count ∙ ap (λ (y : HartState). length y.buffer) here;
+      deliverable = deliverable;
       exec_enabled = none_is c.exec_gate-refusal.result c.is_none.result c.is_none.ensures ∙ ap (λ (o : Option Why). is_none o) refusal;
       local = local ∙ ap (λ (e : Option Effect). is_some x.running && option_map_or sets_register e false) c.next_of-next.ensures.effect ∙ local_read at x _ _ _ here;
       ran = ap (λ (y : HartState). y.ran) here;

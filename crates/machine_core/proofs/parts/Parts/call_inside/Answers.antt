@@ -1,10 +1,10 @@
 use Rattle.std.proofs.Common.{arith, refl, sym, ◌∙◌}
 use Rattle.mach_types.specs.declared.events.Choice.TheVariants as asked
-use Rattle.block_model.specs.Calls.Sequences.{killed_in_call}
+use Rattle.block_model.specs.Calls.Answers.{killed_in_call}
 use Rattle.block_model.specs.Events.Exec.{by_call}
 use Rattle.block_model.specs.Plain.{here_of, plain_seen}
 use Rattle.machine_core.proofs.Entries.{changed_as, entry_exec}
-use Rattle.machine_core.proofs.Events.{none_lost}
+use Rattle.machine_core.proofs.Events.{none_beside}
 use Rattle.machine_core.proofs.Executed.{done_inside}
 use Rattle.machine_core.proofs.HartEvents.{inside_own}
 use Rattle.machine_core.proofs.Places.{events_fit, hart_is, ran_fits}
@@ -27,13 +27,15 @@ returns c = record {
       let t = plan.thread in
       changed_as v h asked.Exec (by_call here (killed_in_call here)) m _ _ place plan.free (done_inside here t plan.at (sym plan.fault) (sym plan.effect) (c.requires.inside v t place plan.at)) (record {
         own = inside_own _ v.setting (plain_seen v) h t x _ (hart_is v m h x place c.index_mut-state.ensures.value) plan.at refl;
-        harts = none_lost h (by_call here (killed_in_call here)) _ refl;
+        harts = none_beside h (by_call here (killed_in_call here)) _ (record { none_begun = refl; none_taken = refl }) refl;
         pages = place.tied.pages;
         readable = place.tied.readable;
         threads = place.tied.threads;
+        signals = place.tied.signals;
         scheduling = place.tied.scheduling;
         areas = place.tied.areas;
         ids = λ k u ne runs. refl;
+        registered = place.tied.registered;
         console = place.tied.console;
         table = place.tied.table;
         saved = place.tied.saved;

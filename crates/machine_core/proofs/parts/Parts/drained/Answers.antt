@@ -1,4 +1,4 @@
-use Rattle.std.proofs.Common.{refl, [], ◌+◌, List, ◌∷◌, arith, sym, ap, ◌∙◌, subst}
+use Rattle.std.proofs.Common.{refl, [], ◌+◌, List, ◌∷◌, arith, set, sym, ap, ◌∙◌, subst}
 use Rattle.mach_types.specs.declared.events.Choice.TheVariants as asked
 use Rattle.mach_types.specs.declared.user_memory.Store.{Store}
 use Rattle.mach_types.specs.declared.user_memory.Write.TheVariants.{Stored}
@@ -9,6 +9,7 @@ use Rattle.block_model.specs.Events.Drain.{done_drain_of}
 use Rattle.block_model.specs.Plain.{here_of, plain_seen}
 use Rattle.machine_core.proofs.Draining.{can_enter, draining, none_drains}
 use Rattle.machine_core.proofs.Entries.{changed_as, entry_drain}
+use Rattle.machine_core.proofs.Events.{quietly}
 use Rattle.machine_core.proofs.HartEvents.{drain_own}
 use Rattle.machine_core.proofs.MemoryTies.{pages_written, readable_written}
 use Rattle.machine_core.proofs.Places.{events_fit, hart_is}
@@ -41,13 +42,15 @@ returns-in-Some c = record {
       let y : HartState = record x { buffer = c.pop-oldest.new.self; events = x.events + 1 } in
       changed_as v h asked.Drain (done_drain_of here (w ∷ is.later)) m c.enter.new.self y place free (ap (done_drain_of here) is.at) (record {
         own = drain_own _ v.setting p h w is.later x y is.own (ap (λ (ws : List Store). let z : HartState = record x { buffer = ws; events = x.events + 1 } in z) c.pop-oldest.ensures.rest);
-        harts = c.enter.ensures.harts;
+        harts = quietly h (done_drain_of here (w ∷ is.later)) (set m.harts.items h y) c.enter.new.self.harts.items (record { none_begun = refl; none_taken = refl }) c.enter.ensures.harts;
         pages = pages_written p.kernel.pages v.setting.program.break_at p.byte (Stored w ∷ []) m.pages c.enter.new.self.pages place.tied.pages c.enter.ensures.pages;
         readable = readable_written (Stored w ∷ []) m.pages c.enter.new.self.pages place.tied.readable c.enter.ensures.pages;
         threads = rw c.enter.ensures.kernel place.tied.threads;
+        signals = rw c.enter.ensures.kernel place.tied.signals;
         scheduling = rw c.enter.ensures.kernel place.tied.scheduling;
         areas = rw c.enter.ensures.kernel place.tied.areas;
         ids = λ k u ne runs. refl;
+        registered = rw c.enter.ensures.kernel place.tied.registered;
         console = rw c.enter.ensures.kernel place.tied.console;
         table = rw c.enter.ensures.kernel place.tied.table;
         saved = rw c.enter.ensures.kernel place.tied.saved;

@@ -8,7 +8,7 @@ use Rattle.block_model.specs.Kernel.{left}
 use Rattle.block_model.specs.Events.Preempt.{done_preempt_by}
 use Rattle.block_model.specs.Plain.{here_of, plain_seen}
 use Rattle.machine_core.proofs.Entries.{changed_as, entry_preempt}
-use Rattle.machine_core.proofs.Events.{none_lost}
+use Rattle.machine_core.proofs.Events.{none_beside}
 use Rattle.machine_core.proofs.HartEvents.{preempt_own}
 use Rattle.machine_core.proofs.Ids.{id_without_other, others_apart}
 use Rattle.machine_core.proofs.KernelTies.{saved_left}
@@ -49,13 +49,15 @@ returns c = record {
       let t = c.entry_of-entry.result.tid.0 in
       changed_as v h asked.Preempt (done_preempt_by (here_of v h) (Some t)) m _ _ place free (ap (done_preempt_by (here_of v h)) is.at) (record {
         own = preempt_own _ v.setting p h t x _ is.own (tables_at v m h place) is.at (ap (λ (z : HartState). record z { events = z.events + 1 }) c.leave-saved.ensures.hart);
-        harts = none_lost h (done_preempt_by (here_of v h) (Some t)) _ refl;
+        harts = none_beside h (done_preempt_by (here_of v h) (Some t)) _ (record { none_begun = refl; none_taken = refl }) refl;
         pages = place.tied.pages;
         readable = place.tied.readable;
         threads = c.leave.ensures.threads ∙ ap (with_state t Ready) place.tied.threads;
+        signals = place.tied.signals;
         scheduling = c.push.ensures ∙ ap (with_ready t) place.tied.scheduling;
         areas = place.tied.areas;
         ids = λ k u ne runs. id_without_other t u p.kernel.ids (others_apart v.setting.limits.harts h k t u p.kernel.threads p.kernel.scheduling (tables_at v m h place) is.at runs ne);
+        registered = place.tied.registered;
         console = place.tied.console;
         table = c.leave.ensures.table;
         saved = saved_left p.file t c.leave-saved.result m.kernel.threads c.leave.new.self c.leave.ensures.saved (c.leave-saved.ensures.file ∙ is.file) place.tied.saved;

@@ -13,7 +13,7 @@ use Rattle.block_model.specs.Plain.{here_of, plain_seen}
 use Rattle.sys_calls.specs.Made.{HoldsPages}
 use Rattle.machine_core.specs.Losing.{lost_unless}
 use Rattle.machine_core.proofs.Entries.{changed_as, entry_exec}
-use Rattle.machine_core.proofs.Events.{none_lost}
+use Rattle.machine_core.proofs.Events.{none_beside, quietly}
 use Rattle.machine_core.proofs.HartEvents.{plain_own}
 use Rattle.machine_core.proofs.KernelTies.{saved_plain}
 use Rattle.machine_core.proofs.MemoryTies.{pages_written, readable_written}
@@ -54,14 +54,17 @@ returns-in-Some c = record {
       let entered : is.outcome.entered ≡ w ∷ [] = ap (λ (o : Outcome). o.entered) (sym is.same) ∙ (c.execute-made.ensures.entered ∙ ap stores c.in-Some.is) in
       changed_as v h asked.Exec (by_outcome here t is.outcome) m c.enter.new.self y place plan.free is.done (record {
         own = plain_own _ v.setting p h t is.outcome x y is.own plan.at (ap (λ (z : HartState). record z { ran = z.ran + 1; events = z.events + 1 }) (c.execute-made.ensures.hart ∙ ap (hart_after x) is.same));
-        harts = λ k. c.enter.ensures.harts k ∙ ap (λ (ws : List Write). option_map (lost_unless (eqb k h) ws) (slice_get (set m.harts.items h y) k)) (sym (ap all_stored entered));
+        harts = quietly h (by_outcome here t is.outcome) (set m.harts.items h y) _ (record { none_begun = refl; none_taken = refl })
+            (λ k. c.enter.ensures.harts k ∙ ap (λ (ws : List Write). option_map (lost_unless (eqb k h) ws) (slice_get (set m.harts.items h y) k)) (sym (ap all_stored entered)));
         pages = subst (λ (ws : List Store). HoldsPages p.kernel.pages v.setting.program.break_at (λ a. written (all_stored ws) a (p.byte a)) c.enter.new.self.pages) (sym entered)
             (pages_written p.kernel.pages v.setting.program.break_at p.byte (Stored w ∷ []) m.pages c.enter.new.self.pages place.tied.pages c.enter.ensures.pages);
         readable = readable_written (Stored w ∷ []) m.pages c.enter.new.self.pages place.tied.readable c.enter.ensures.pages;
         threads = rw c.enter.ensures.kernel place.tied.threads;
+        signals = rw c.enter.ensures.kernel place.tied.signals;
         scheduling = rw c.enter.ensures.kernel place.tied.scheduling;
         areas = rw c.enter.ensures.kernel place.tied.areas;
         ids = λ k u ne runs. refl;
+        registered = rw c.enter.ensures.kernel place.tied.registered;
         console = rw c.enter.ensures.kernel place.tied.console;
         saved = rw c.enter.ensures.kernel (saved_plain p.file t (record { file = is.outcome.regs; pc = is.outcome.pc }) c.args.hart m.kernel.threads place.tied.table (runs_there v m c.args.hart t place plan.at) place.tied.saved);
         table = rw c.enter.ensures.kernel place.tied.table;
@@ -84,13 +87,15 @@ returns-in_default c = record {
       let entered : is.outcome.entered ≡ [] = ap (λ (o : Outcome). o.entered) (sym is.same) ∙ (c.execute-made.ensures.entered ∙ ap stores c.in_default.is) in
       changed_as v h asked.Exec (by_outcome here t is.outcome) m _ y place plan.free is.done (record {
         own = plain_own _ v.setting p h t is.outcome x y is.own plan.at (ap (λ (z : HartState). record z { ran = z.ran + 1; events = z.events + 1 }) (c.execute-made.ensures.hart ∙ ap (hart_after x) is.same));
-        harts = none_lost h (by_outcome here t is.outcome) _ (ap all_stored entered);
+        harts = none_beside h (by_outcome here t is.outcome) _ (record { none_begun = refl; none_taken = refl }) (ap all_stored entered);
         pages = subst (λ (ws : List Store). HoldsPages p.kernel.pages v.setting.program.break_at (λ a. written (all_stored ws) a (p.byte a)) m.pages) (sym entered) place.tied.pages;
         readable = place.tied.readable;
         threads = place.tied.threads;
+        signals = place.tied.signals;
         scheduling = place.tied.scheduling;
         areas = place.tied.areas;
         ids = λ k u ne runs. refl;
+        registered = place.tied.registered;
         console = place.tied.console;
         saved = saved_plain p.file t (record { file = is.outcome.regs; pc = is.outcome.pc }) c.args.hart m.kernel.threads place.tied.table (runs_there v m c.args.hart t place plan.at) place.tied.saved;
         table = place.tied.table;

@@ -1,4 +1,4 @@
-use Rattle.std.proofs.Common.{List, [], ◌∷◌, ◌++◌, ap, ◌∙◌, replicate}
+use Rattle.std.proofs.Common.{List, [], ◌∷◌, ◌++◌, ap, ◌∙◌, false, refl, replicate}
 use Rattle.mach_types.specs.Kernel.Signals.{start_signalling}
 use Rattle.mach_types.specs.declared.signal_words.Action.{Action}
 use Rattle.mach_types.specs.declared.signal_words.ThreadSignals.{ThreadSignals}
@@ -10,4 +10,5 @@ pub invariant_of-result : goal.invariant_of-result
 invariant_of-result c =
     let threads = c.push.ensures.items ∙ ap (λ (ths : List ThreadSignals). ths ++ c.new_entry.result ∷ []) c.new-threads.ensures
     ∙ ap (λ (th : ThreadSignals). th ∷ []) c.new_entry.ensures in
-    same_lists _ start_signalling.actions _ start_signalling.threads (ap (λ (a : Action). replicate 31 a) c.default.ensures) threads start_signalling-holds
+    same_lists false _ start_signalling.actions _ start_signalling.threads (ap (λ (a : Action). replicate 31 a) c.default.ensures) threads
+    (record { signalling = start_signalling-holds; quiet = λ none. (refl, tt) })

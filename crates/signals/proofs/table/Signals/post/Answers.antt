@@ -1,7 +1,8 @@
-use Rattle.std.proofs.Common.{◌≡◌, ◌∙◌, map}
+use Rattle.std.proofs.Common.{◌≡◌, ◌∙◌, map, true}
 use Rattle.arrayvec.proofs.ArrayVecLemmas.{items-with_items}
 use Rattle.mach_types.specs.Kernel.Signals.{post_if}
 use Rattle.signals.proofs.Kept.{lists, mapped_length, same_threads}
+use Rattle.signals.proofs.Quiet.{kept_pending}
 use Rattle.signals.proofs.StaysWhole.{with_pending-holds}
 use Rattle.signals.proofs.table.Signals.post.Goals as goal
 
@@ -11,4 +12,5 @@ invariant_of-self c =
     let later = c.post.new.threads in
     let changed : later ≡ map (post_if c.args.tid.0 c.args.sig) own.threads.items = cc in
     let whole = items-with_items own.threads later (mapped_length _ own.threads.items later changed) in
-    same_threads own.actions _ _ (whole ∙ changed) (with_pending-holds c.args.tid.0 c.args.sig (lists own.actions own.threads.items) c.self.invariant)
+    let posted = with_pending-holds c.args.tid.0 c.args.sig (lists own.actions own.threads.items) c.self.invariant.signalling in
+    same_threads true own.actions _ _ (whole ∙ changed) (kept_pending _ posted)

@@ -1,0 +1,148 @@
+-- A hart whose thread waits in a barrier is in no sequence: the call of the barrier is outside, and no instruction is executed until the
+-- barrier returns.
+use Rattle.std.proofs.Common.{◌≡◌, ℕ, [], ◌∷◌, refl, sym, ap, ◌∙◌, Bool, true, false, not, cond, List, Option, Some, None}
+use Rattle.std.specs.Option.{option_map, option_map_or, option_or}
+use Rattle.std.proofs.lemmas.Bool.{eqb-true, false≢true}
+use Rattle.mach_types.specs.Events.{choice_with}
+use Rattle.mach_types.specs.declared.events.Entry.{Entry}
+use Rattle.mach_types.specs.declared.events.Kind.{Kind}
+use Rattle.mach_types.specs.declared.events.Kind.TheVariants as kind
+use Rattle.mach_types.specs.declared.limits.End.TheVariants.{Killed}
+use Rattle.mach_types.specs.declared.sequences.Outcome.{Outcome}
+use Rattle.mach_types.specs.declared.user_memory.Store.{Store}
+use Rattle.rv_inst.specs.Class.{is_call}
+use Rattle.rv_inst.specs.declared.effects.Effect.{Effect}
+use Rattle.block_model.specs.Acts.{Sequence, begun_with, is_inside_at, is_instruction, is_taken_in, sequence_on, taken_up, with_event}
+use Rattle.block_model.specs.Calls.{called}
+use Rattle.block_model.specs.Calls.Answers.{killed_in_call}
+use Rattle.block_model.specs.Events.{done_of, refusal_of}
+use Rattle.block_model.specs.Events.Drain.{done_drain_of}
+use Rattle.block_model.specs.Events.Exec.{by_call, by_effect, by_outcome, called_here, done_exec_by, has_handler, next_effect, next_fault, one_instruction, outcome_of, refusal_exec_by}
+use Rattle.block_model.specs.Events.Take.{done_take_by}
+use Rattle.block_model.specs.Here.{Barrier, Done, Here, runs, waiting_here}
+use Rattle.block_model.specs.History.{Event, History, awaits, is_of_hart}
+use Rattle.block_model.specs.Requests.{awaits_of_own, without_hart}
+use Rattle.block_model.specs.Run.{IsRunHistory}
+use Rattle.block_model.specs.Sequences.{is_inside_here}
+use Rattle.block_model.specs.Setting.{Setting}
+use Rattle.block_model.proofs.Goods.Preempt.{out_of_barrier}
+use Rattle.block_model.proofs.SequencePlaces.{instruction_taken}
+use Rattle.block_model.proofs.WholeEvents.{did, is_free, place}
+
+-- a thread that waits in a barrier executes no instruction
+exec_free : (here : Here) (r : Option ℕ) → refusal_exec_by here r ≡ None → here.awaits ≡ None
+exec_free here None free = absurd cc
+exec_free here (Some t) free = (out_of_barrier here.awaits _ free).0
+
+instruction_free : (k : Kind) (x : Entry) (here : Here) → is_instruction k ≡ true → refusal_of (choice_with k x) here ≡ None → here.awaits ≡ None
+instruction_free kind.Exec x here is free = exec_free here (runs here) free
+instruction_free kind.Drain x here is free = absurd (false≢true is)
+instruction_free kind.Take x here is free = absurd (false≢true is)
+instruction_free kind.Done x here is free = absurd (false≢true is)
+instruction_free kind.Preempt x here is free = absurd (false≢true is)
+instruction_free kind.Run x here is free = absurd (false≢true is)
+instruction_free kind.Signal x here is free = absurd (false≢true is)
+
+-- WHAT A SEQUENCE TAKES IN BEGINS NO BARRIER
+
+-- a call inside does nothing but end the process
+call_begins : (here : Here) (t : ℕ) (b : Bool) → b ≡ true → (by_call here (cond b (killed_in_call here) (called here t))).barrier ≡ None
+call_begins here t true inside = refl
+call_begins here t false inside = absurd (false≢true inside)
+
+either_begins : (b : Bool) (x y : Done) → x.barrier ≡ None → y.barrier ≡ None → (cond b x y).barrier ≡ None
+either_begins true x y p q = p
+either_begins false x y p q = q
+
+effect_begins : (here : Here) (t : ℕ) (fault : Option ℕ) (o : Option Effect) → is_inside_here here t ≡ true → (by_effect here t fault o).barrier ≡ None
+effect_begins here t (Some signal) o inside =
+    either_begins (has_handler here t signal) _ (record (one_instruction here) { ended = Some (Killed signal) }) refl refl
+effect_begins here t None None inside = refl
+effect_begins here t None (Some e) inside =
+    either_begins (is_call e) (by_call here (called_here here t)) (by_outcome here t (outcome_of here t e))
+    (call_begins here t (is_inside_here here t) inside) refl
+
+exec_begins : (here : Here) (r : Option ℕ) → option_map_or (is_inside_here here) r false ≡ true → (done_exec_by here r).barrier ≡ None
+exec_begins here None inside = refl
+exec_begins here (Some t) inside = effect_begins here t (next_fault here t) (next_effect here t) inside
+
+drain_begins : (here : Here) (ws : List Store) → (done_drain_of here ws).barrier ≡ None
+drain_begins here [] = refl
+drain_begins here (w ∷ ws) = refl
+
+take_begins : (here : Here) (restart : Bool) (r : Option ℕ) → (done_take_by here restart r).barrier ≡ None
+take_begins here false r = refl
+take_begins here true None = refl
+take_begins here true (Some t) = refl
+
+begins_none : (k : Kind) (x : Entry) (o : Option Outcome) (here : Here) → is_taken_in k o ≡ true
+    → option_map_or (is_inside_here here) (runs here) false ≡ true → (done_of (choice_with k x) here).barrier ≡ None
+begins_none kind.Exec x o here taken inside = exec_begins here (runs here) inside
+begins_none kind.Drain x o here taken inside = drain_begins here (waiting_here here)
+begins_none kind.Take x o here taken inside = take_begins here here.restart (runs here)
+begins_none kind.Done x o here taken inside = absurd (false≢true taken)
+begins_none kind.Preempt x o here taken inside = absurd (false≢true taken)
+begins_none kind.Run x o here taken inside = absurd (false≢true taken)
+begins_none kind.Signal x o here taken inside = absurd (false≢true taken)
+
+-- ONE EVENT
+
+-- its own hart: it waits as it did, where no barrier begins
+own_awaits : (d : Done) (b : Bool) (waits : Option ℕ) → d.barrier ≡ None → waits ≡ None
+    → cond b None (option_or (option_map (λ (x : Barrier). x.targets) d.barrier) waits) ≡ None
+own_awaits d true waits none out = refl
+own_awaits d false waits none out =
+    ap (λ (o : Option Barrier). option_or (option_map (λ (x : Barrier). x.targets) o) waits) none ∙ out
+
+-- another one
+other_awaits : (b : Bool) (k : ℕ) (waits : Option ℕ) → waits ≡ None → cond b (option_map (without_hart k) waits) waits ≡ None
+other_awaits true k waits out = ap (option_map (without_hart k)) out
+other_awaits false k waits out = out
+
+module _ (s : Setting) (e : Event) (before : History) (h : ℕ) (q : Sequence) (run : IsRunHistory s (e ∷ before))
+    (rest : (r : Sequence) → sequence_on s h before ≡ Some r → awaits h before ≡ None) where
+  -- what is known of an event of the hart that the sequence takes in
+  abbrev IsOut : Type 0
+  IsOut = (is_taken_in e.entry.kind e.done.interrupted ≡ true) × (awaits h before ≡ None)
+
+  begun_out : (b : Bool) → is_instruction e.entry.kind ≡ b → e.entry.hart.0 ≡ h → cond b (Some (begun_with h e before)) None ≡ Some q → IsOut
+  begun_out false first own is = absurd cc
+  begun_out true first own is = (
+    instruction_taken e.entry.kind e.done.interrupted first,
+    ap (λ k. awaits k before) (sym own) ∙ instruction_free e.entry.kind e.entry (place s e before run) first (is_free s e before run e.entry.kind refl),
+  )
+
+  taken_out : (b : Bool) (r : Sequence) → is_taken_in e.entry.kind e.done.interrupted ≡ b → sequence_on s h before ≡ Some r
+      → cond b (Some (with_event e before r)) None ≡ Some q → IsOut
+  taken_out false r taken was is = absurd cc
+  taken_out true r taken was is = (taken, rest r was)
+
+  by_sequence : (o : Option Sequence) → sequence_on s h before ≡ o → e.entry.hart.0 ≡ h → taken_up h e before o ≡ Some q → IsOut
+  by_sequence None was own is = begun_out (is_instruction e.entry.kind) refl own is
+  by_sequence (Some r) was own is = taken_out (is_taken_in e.entry.kind e.done.interrupted) r refl was is
+
+  no_barrier : IsOut → is_inside_at s h before ≡ true → e.entry.hart.0 ≡ h → e.done.barrier ≡ None
+  no_barrier out inside own =
+      ap (λ (d : Done). d.barrier) (did s e before run e.entry.kind refl)
+      ∙ begins_none e.entry.kind e.entry e.done.interrupted (place s e before run) out.0 (ap (λ k. is_inside_at s k before) own ∙ inside)
+
+  by_inside : (c : Bool) → is_inside_at s h before ≡ c → e.entry.hart.0 ≡ h
+      → cond c (taken_up h e before (sequence_on s h before)) None ≡ Some q → awaits_of_own e.done (awaits h before) ≡ None
+  by_inside false inside own is = absurd cc
+  by_inside true inside own is =
+      let out = by_sequence (sequence_on s h before) refl own is in
+      own_awaits e.done e.done.returned (awaits h before) (no_barrier out inside own) out.1
+
+  by_hart : (b : Bool) → is_of_hart h e ≡ b
+      → cond (not b) (sequence_on s h before) (cond (is_inside_at s h before) (taken_up h e before (sequence_on s h before)) None) ≡ Some q
+      → cond b (awaits_of_own e.done (awaits h before)) (cond e.done.took (option_map (without_hart e.entry.hart.0) (awaits h before)) (awaits h before)) ≡ None
+  by_hart true own is = by_inside (is_inside_at s h before) refl (eqb-true e.entry.hart.0 h own) is
+  by_hart false other is = other_awaits e.done.took e.entry.hart.0 (awaits h before) (rest q is)
+
+-- LOGS
+
+pub in_no_barrier : (s : Setting) (before : History) (h : ℕ) (q : Sequence) → IsRunHistory s before → sequence_on s h before ≡ Some q
+    → awaits h before ≡ None
+in_no_barrier s [] h q run is = refl
+in_no_barrier s (e ∷ before) h q run is =
+    by_hart s e before h q run (λ r was. in_no_barrier s before h r run.0 was) (is_of_hart h e) refl is

@@ -1,0 +1,24 @@
+-- Whether a signal can be delivered to the thread on a hart.
+use Rattle.std.proofs.Common.{◌≡◌, ◌<◌, ap, ◌∙◌}
+use Rattle.block_model.specs.Here.{Here, runs}
+use Rattle.block_model.specs.Plain.{here_of, plain_seen}
+use Rattle.block_model.specs.Sights.{is_deliverable_on}
+use Rattle.block_model.proofs.Laws.{same_here}
+use Rattle.machine_core.specs.Tied.{seen, setting_of}
+use Rattle.machine_core.proofs.Sighted.{deliverable_read}
+use Rattle.machine_core.proofs.Signalled.{has_signals}
+use Rattle.machine_core.proofs.machine.Machine.has_signal.Goals as goal
+
+pub deliverable-requires-clause-held : goal.deliverable-requires-clause-held
+deliverable-requires-clause-held c =
+    let m = c.self.inside in
+    let lt : c.args.hart.0 < m.limits.harts = rw (← c.self.view_is) at c.requires in
+    has_signals (seen m) m.parts c.args.hart.0 c.self.invariant.run c.self.invariant.tied lt
+
+pub returns : goal.returns
+returns c =
+    let m = c.self.inside in
+    let h = c.args.hart.0 in
+    let lt : h < m.limits.harts = rw (← c.self.view_is) at c.requires in
+    let read = deliverable_read (here_of (seen m) h) c.deliverable.result c.is_some.result c.is_some.ensures (c.deliverable.ensures (setting_of m) (plain_seen (seen m)) c.self.invariant.tied lt) in
+    rw (← c.self.view_is) (read ∙ ap (λ (z : Here). is_deliverable_on z (runs z)) (same_here (seen m) h c.self.invariant.run))

@@ -1,0 +1,75 @@
+-- The three words of an action: where they can be written, or read, they lie below 2^64.
+use Rattle.std.proofs.Common.{◌≡◌, ℕ, ◌+◌, ◌<◌, ◌≤◌, ◌^◌, Bool, true, false, ◌&&◌, is_some, refl, sym, ap, ◌∙◌}
+use Rattle.mach_types.proofs.Laws.{each_byte-past, each_byte-same, each_byte-split}
+use Rattle.mach_types.specs.Bytes.{each_byte}
+use Rattle.page_map.specs.Map.{Map, byte_in, can_write_in}
+use Rattle.mach_types.specs.declared.threads.Saved.{Saved}
+use Rattle.block_model.specs.Here.{Here}
+use Rattle.block_model.specs.Calls.Answers.{are_readable, are_writable}
+use Rattle.block_model.specs.Calls.Signals.{action_size}
+use Rattle.sys_calls.specs.Answered.{IsRead}
+use Rattle.sys_calls.specs.Signalled.{pass_action}
+use Rattle.sys_calls.proofs.Reading.{readable_is, writable_is}
+use Rattle.sys_calls.proofs.Spans.{readable_end}
+use Rattle.page_map.specs.MapLaws.{byte_in-ends, byte_in-readable}
+
+left_of : (b c : Bool) → (b && c) ≡ true → b ≡ true
+left_of true c e = refl
+left_of false c e = cc
+
+right_of : (b c : Bool) → (b && c) ≡ true → c ≡ true
+right_of true c e = e
+right_of false c e = cc
+
+-- the words by a test of a byte
+pub three_words : (test : ℕ → Bool) (at : ℕ) → pass_action test at ≡ ((each_byte test at 8 && each_byte test (at + 8) 8) && each_byte test (at + 16) 8)
+unfolding pass_action
+three_words test at = each_byte-split test at 16 8 ∙ ap (λ b. b && each_byte test (at + 16) 8) (each_byte-split test at 8 8)
+
+-- each of them passes it
+pub record PassThree (test : ℕ → Bool) (at : ℕ) : Type 0 where
+  pub first : each_byte test at 8 ≡ true
+  pub second : each_byte test (at + 8) 8 ≡ true
+  pub third : each_byte test (at + 16) 8 ≡ true
+
+pub pass_three : (test : ℕ → Bool) (at : ℕ) → pass_action test at ≡ true → PassThree test at
+pass_three test at all =
+    let words : ((each_byte test at 8 && each_byte test (at + 8) 8) && each_byte test (at + 16) 8) ≡ true = sym (three_words test at) ∙ all in
+    let front = left_of (each_byte test at 8 && each_byte test (at + 8) 8) (each_byte test (at + 16) 8) words in
+    record {
+      first = left_of (each_byte test at 8) (each_byte test (at + 8) 8) front;
+      second = right_of (each_byte test at 8) (each_byte test (at + 8) 8) front;
+      third = right_of (each_byte test at 8 && each_byte test (at + 8) 8) (each_byte test (at + 16) 8) words;
+    }
+
+-- none of them can be written where the last one begins at 2^64 or later
+and_false : (b c : Bool) → c ≡ false → (b && c) ≡ false
+and_false true c e = e
+and_false false c e = refl
+
+pub unwritable_action : (m : Map) (at : ℕ) → 2 ^ 64 ≤ at + 16 → pass_action (can_write_in m) at ≡ false
+unwritable_action m at past =
+    three_words (can_write_in m) at
+    ∙ and_false (each_byte (can_write_in m) at 8 && each_byte (can_write_in m) (at + 8) 8) (each_byte (can_write_in m) (at + 16) 8)
+    (each_byte-past (byte_in m) (can_write_in m) (byte_in-readable m) (byte_in-ends m) (at + 16) 7 past)
+
+-- where they can be read the last one ends at 2^64 or before
+pub readable_words : (m : Map) (at : ℕ) → each_byte (λ a. is_some (byte_in m a)) at 24 ≡ pass_action (λ a. is_some (byte_in m a)) at
+unfolding pass_action
+readable_words m at = refl
+
+pub readable_action : (m : Map) (at : ℕ) → at < 2 ^ 64 → pass_action (λ a. is_some (byte_in m a)) at ≡ true → at + 24 ≤ 2 ^ 64
+readable_action m at lt all = readable_end m at 24 lt (readable_words m at ∙ all)
+
+-- as a rule reads it
+pub readable_here : (h : Here) (m : Map) (t : ℕ) (saved : Saved) → IsRead h m t saved → (at : ℕ) → pass_action (λ a. is_some (byte_in m a)) at ≡ are_readable h at action_size
+unfolding pass_action
+readable_here h m t saved read at = readable_is h m t saved read at 24
+
+pub writable_here : (h : Here) (m : Map) (t : ℕ) (saved : Saved) → IsRead h m t saved → (at : ℕ) → pass_action (can_write_in m) at ≡ are_writable h at action_size
+unfolding pass_action
+writable_here h m t saved read at = writable_is h m t saved read at 24
+
+-- and the same after writes that change no permission
+pub still_writable : (m m' : Map) (at n : ℕ) → ((a : ℕ) → can_write_in m' a ≡ can_write_in m a) → each_byte (can_write_in m) at n ≡ true → each_byte (can_write_in m') at n ≡ true
+still_writable m m' at n same all = each_byte-same (can_write_in m) (can_write_in m') same at n ∙ all

@@ -1,0 +1,117 @@
+-- membarrier(2): a command that begins a barrier registers nothing, and what the call comes to.
+use Rattle.std.proofs.Common.{◌≡◌, ℕ, Bool, false, cond, [], Option, Some, None, refl, sym, ap, subst, ◌∙◌}
+use Rattle.std.specs.Option.{option_map_or}
+use Rattle.mach_types.specs.Kernel.Barriers.{answer_of, command, refusal, registered_after, registered_by}
+use Rattle.mach_types.specs.Kernel.Barriers as barriers
+use Rattle.mach_types.specs.Kernel.Threads.{Threads, running_on, runs}
+use Rattle.mach_types.specs.declared.barriers.Answer.{Answer}
+use Rattle.mach_types.specs.declared.barriers.Answer.TheVariants.{Value, Begin}
+use Rattle.mach_types.specs.declared.barriers.BarrierCommand.{BarrierCommand}
+use Rattle.mach_types.specs.declared.barriers.BarrierCommand.TheVariants.{Query, Global, GlobalExpedited, RegisterGlobalExpedited, PrivateExpedited, RegisterPrivateExpedited, PrivateExpeditedRseq, RegisterPrivateExpeditedRseq, GetRegistrations}
+use Rattle.mach_types.specs.declared.barriers.Registered.{Registered}
+use Rattle.mach_types.specs.declared.errors.TheConstants.{EINVAL}
+use Rattle.mach_types.specs.declared.threads.Saved.{Saved}
+use Rattle.kernel_threads.specs.Table.{Table, saved_of}
+use Rattle.page_map.specs.Map.{Map}
+use Rattle.rv_inst.specs.Words.{signed_32, sum_64, word}
+use Rattle.block_model.specs.Here.{Here}
+use Rattle.block_model.specs.History.{file_among}
+use Rattle.block_model.specs.Ids.{without_id}
+use Rattle.block_model.specs.Kernel.{for_barriers}
+use Rattle.block_model.specs.Record as record_of
+use Rattle.block_model.specs.Calls.Answers.{argument, int_argument, returned}
+use Rattle.block_model.specs.Calls.Barriers.{answers, membarrier, running_harts}
+use Rattle.sys_calls.specs.declared.calling.CallEnd.{CallEnd}
+use Rattle.sys_calls.specs.declared.kernel.Kernel.{Kernel}
+use Rattle.sys_calls.specs.Answered.{IsCaller, IsEntered, IsTold}
+use Rattle.sys_calls.specs.Made.{AreSaved, HasPages, IsAnswer, IsMade, StandsSo, barrier_of, gives_up, process_end}
+use Rattle.sys_calls.proofs.Entering.{entered_none, pages_kept}
+use Rattle.sys_calls.proofs.Saying.{kept_own}
+use Rattle.sys_calls.proofs.Tables.{caller_runs}
+
+-- a command that begins a barrier registers nothing
+begins_only : (r : Registered) (harts targets : ℕ) (restart : Bool) (o : Option BarrierCommand) → option_map_or (answer_of r harts) o (refusal EINVAL) ≡ Begin targets restart
+    → option_map_or (registered_by r) o r ≡ r
+begins_only r harts targets restart None is = refl
+begins_only r harts targets restart (Some Query) is = refl
+begins_only r harts targets restart (Some Global) is = refl
+begins_only r harts targets restart (Some GlobalExpedited) is = refl
+begins_only r harts targets restart (Some RegisterGlobalExpedited) is = cc
+begins_only r harts targets restart (Some PrivateExpedited) is = refl
+begins_only r harts targets restart (Some RegisterPrivateExpedited) is = cc
+begins_only r harts targets restart (Some PrivateExpeditedRseq) is = refl
+begins_only r harts targets restart (Some RegisterPrivateExpeditedRseq) is = cc
+begins_only r harts targets restart (Some GetRegistrations) is = refl
+
+-- the command that a thread asks for
+abbrev asked : Here → ℕ → Option BarrierCommand
+asked h t = barriers.asked (signed_32 (argument h t 0)) (int_argument h t 1)
+
+abbrev harts_asked : Here → ℕ → ℕ
+harts_asked h t =
+    let harts = h.setting.limits.harts in
+    barriers.targets (int_argument h t 1) (signed_32 (argument h t 2)) h.hart (running_harts h.kernel.threads harts) harts
+
+abbrev pub answer_asked : Here → ℕ → Answer
+answer_asked h t =
+    let harts = h.setting.limits.harts in
+    command h.kernel.barriers (signed_32 (argument h t 0)) (int_argument h t 1) (signed_32 (argument h t 2)) h.hart (running_harts h.kernel.threads harts) harts
+
+-- what is registered, whatever was answered
+registered_then : (h : Here) (t : ℕ) (r : Registered) (a : Answer) → a ≡ answer_asked h t → r ≡ option_map_or (registered_by h.kernel.barriers) (asked h t) h.kernel.barriers
+    → (answers h t a).kernel ≡ for_barriers r h.kernel
+registered_then h t r (Value n) is after = ap (λ (x : Registered). for_barriers x h.kernel) (sym after)
+registered_then h t r (Begin targets restart) is after =
+    sym (ap (λ (x : Registered). for_barriers x h.kernel) (after ∙ begins_only h.kernel.barriers (harts_asked h t) targets restart (asked h t) (sym is)))
+
+-- the call writes nothing, ends no process, and sets the file of its thread alone
+answers_silent : (h : Here) (t : ℕ) (a : Answer) → (answers h t a).entered ≡ []
+answers_silent h t (Value n) = refl
+answers_silent h t (Begin targets restart) = refl
+
+pub silent_membarrier : (h : Here) (t : ℕ) → (membarrier h t).entered ≡ []
+silent_membarrier h t = answers_silent h t (answer_asked h t)
+
+ends_nothing : (h : Here) (t : ℕ) (a : Answer) → (answers h t a).ended ≡ None
+ends_nothing h t (Value n) = refl
+ends_nothing h t (Begin targets restart) = refl
+
+own_alone : (h : Here) (t : ℕ) (table : Table) (a : Answer) → saved_of t table.saved ≡ None → AreSaved h.file table → AreSaved (λ u. file_among (answers h t a).files u (h.file u)) table
+own_alone h t table (Value n) quiet all = kept_own t (returned (word n) (h.file t)) h.file [] table quiet all
+own_alone h t table (Begin targets restart) quiet all = kept_own t (record (h.file t) { pc = sum_64 (h.file t).pc 4 }) h.file [] table quiet all
+
+-- the tables with other registrations
+abbrev pub with_registered : Kernel → Registered → Kernel
+with_registered k r = record { threads = k.threads; signals = k.signals; ready = k.ready; areas = k.areas; registered = r; console = k.console }
+
+-- the call, once it is answered so
+made_answers : (h : Here) (t here : ℕ) (k : Kernel) (r : Registered) (m : Map) (saved' : Saved) (end : CallEnd) (a : Answer) → h.hart ≡ here → IsTold h k → HasPages h m → IsCaller k here t
+    → (answers h t a).kernel ≡ for_barriers r h.kernel → saved' ≡ file_among (answers h t a).files t (h.file t) → barrier_of end ≡ (answers h t a).barrier → IsAnswer end saved'
+    → gives_up end ≡ false → ((u : ℕ) (ts : Threads) → runs ts u → StandsSo end u ts) → process_end end ≡ None → IsMade h t k m (with_registered k r) m saved' end (answers h t a)
+made_answers h t here k r m saved' end a hart told has caller after own begun answered stays runs_on ends = record {
+  threads = told.threads ∙ ap (λ (x : record_of.Kernel). x.threads) (sym after);
+  signals = told.signals ∙ ap (λ (x : record_of.Kernel). x.signals) (sym after);
+  scheduling = told.scheduling ∙ ap (λ (x : record_of.Kernel). x.scheduling) (sym after);
+  areas = told.areas ∙ ap (λ (x : record_of.Kernel). x.areas) (sym after);
+  barriers = ap (λ (x : record_of.Kernel). x.barriers) (sym after);
+  ids = ap (λ (x : record_of.Kernel). x.ids) after ∙ ap (λ (b : Bool). cond b (without_id t h.kernel.ids) h.kernel.ids) (sym stays);
+  console = told.console ∙ ap (λ (x : record_of.Kernel). x.console) (sym after);
+  kept = λ all. own_alone h t k.threads a caller.quiet all;
+  own = own;
+  pages = pages_kept h m m (answers h t a) (subst (IsEntered m m) (sym (answers_silent h t a)) (entered_none m)) (ap (λ (x : record_of.Kernel). x.pages) after) has;
+  code = λ _. refl;
+  hart = ap (λ (x : record_of.Kernel). running_on h.hart x.threads) after ∙ ap (λ n. running_on n h.kernel.threads) hart ∙ ap (running_on here) (sym told.threads) ∙ caller.runs
+      ∙ ap (λ (b : Bool). cond b None (Some t)) (sym stays);
+  stands = runs_on t (answers h t a).kernel.threads (subst (λ (ts : Threads). runs ts t) (told.threads ∙ ap (λ (x : record_of.Kernel). x.threads) (sym after)) (caller_runs k here t caller));
+  barrier = begun;
+  ended = ends ∙ sym (ends_nothing h t a);
+  answer = answered;
+}
+
+pub made_membarrier : (h : Here) (t here : ℕ) (k : Kernel) (r : Registered) (m : Map) (saved' : Saved) (end : CallEnd) (a : Answer) → h.hart ≡ here → IsTold h k → HasPages h m → IsCaller k here t
+    → a ≡ answer_asked h t → r ≡ registered_after h.kernel.barriers (signed_32 (argument h t 0)) (int_argument h t 1)
+    → saved' ≡ file_among (answers h t a).files t (h.file t) → barrier_of end ≡ (answers h t a).barrier → IsAnswer end saved'
+    → gives_up end ≡ false → ((u : ℕ) (ts : Threads) → runs ts u → StandsSo end u ts) → process_end end ≡ None → IsMade h t k m (with_registered k r) m saved' end (membarrier h t)
+made_membarrier h t here k r m saved' end a hart told has caller is after own begun answered stays runs_on ends =
+    subst (λ (x : Answer). IsMade h t k m (with_registered k r) m saved' end (answers h t x)) is
+    (made_answers h t here k r m saved' end a hart told has caller (registered_then h t r a is after) own begun answered stays runs_on ends)

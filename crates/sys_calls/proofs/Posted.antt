@@ -1,0 +1,130 @@
+-- tkill(2) and tgkill(2): a signal is posted, and a wait that it breaks is answered.
+use Rattle.std.proofs.Common.{◌≡◌, ◌≢◌, ℕ, Bool, true, false, not, ◌||◌, cond, eqb, List, [], ◌∷◌, Some, None, is_some, ◌&&◌, Ok, Result, refl, sym, ap, subst, ◌∙◌}
+use Rattle.std.proofs.lemmas.Bool.{eqb-true, eqb-false}
+use Rattle.std.specs.Option.{option_map_or}
+use Rattle.mach_types.specs.Kernel.Scheduling.{with_ready}
+use Rattle.mach_types.specs.Kernel.Signals.{Signalling, next_for, posted}
+use Rattle.mach_types.specs.Kernel.Threads.{Threads, is_live, is_waiting_state, running_on, state_of, waits, with_woken}
+use Rattle.mach_types.specs.declared.errors.Errno.{Errno}
+use Rattle.mach_types.specs.declared.errors.TheConstants.{EINVAL, ESRCH}
+use Rattle.mach_types.specs.declared.threads.Saved.{Saved}
+use Rattle.mach_types.specs.declared.user_memory.Write.{Write}
+use Rattle.kernel_threads.specs.Table.{Table, answering, interrupted, saved_of, with_answer}
+use Rattle.kernel_threads.proofs.Laws.{saved_of-answered, saved_of-with_answer_other}
+use Rattle.page_map.specs.Map.{Map}
+use Rattle.block_model.specs.Here.{Here}
+use Rattle.block_model.specs.History.{file_among}
+use Rattle.block_model.specs.Kernel.{signalled, woken}
+use Rattle.block_model.specs.Calls.Answers.{CallDone, int_argument, refused, returned, said}
+use Rattle.block_model.specs.Calls.Signals.{broken_wait, is_below_one, post, send, tgkill, tkill, waits_in_vain, with_posted}
+use Rattle.block_model.proofs.Laws.{woken_same}
+use Rattle.sys_calls.specs.declared.kernel.Kernel.{Kernel}
+use Rattle.sys_calls.specs.Answered.{AreTables, IsAnswered, IsEntered, IsTold, answer_of}
+use Rattle.sys_calls.specs.Made.{AreSaved}
+use Rattle.sys_calls.proofs.Entering.{entered_none, pages_entered}
+use Rattle.sys_calls.proofs.Reading.{if_false, if_true}
+use Rattle.sys_calls.proofs.Registering.{same_areas}
+use Rattle.sys_calls.proofs.Waking.{answered_some, quiet_woken}
+
+-- an answer, writes and other signals
+pub answered_signalled : (h : Here) (t : ℕ) (k k' : Kernel) (m m' : Map) (ws written : List Write) (answer : Result ℕ Errno) (g : Signalling) → IsTold h k → k'.threads ≡ k.threads → k'.signals ≡ g
+    → k'.ready ≡ k.ready → k'.areas ≡ k.areas → k'.registered ≡ k.registered → k'.console ≡ k.console → IsEntered m m' ws → written ≡ ws
+    → IsAnswered h t k m k' m' written answer (record (said h t (answer_of answer)) { entered = ws; kernel = signalled g h.kernel })
+answered_signalled h t k k' m m' ws written answer g told threads signals ready areas registered console entered writes = record {
+  threads = ap (λ (table : Table). table.threads) threads ∙ told.threads;
+  signals = signals;
+  scheduling = ready ∙ told.scheduling;
+  areas = same_areas k k' areas ∙ told.areas;
+  barriers = registered ∙ told.barriers;
+  ids = refl;
+  console = console ∙ told.console;
+  pages = pages_entered h m m' ws entered;
+  code = entered.code;
+  told = writes;
+  hart = refl;
+  at_once = refl;
+  goes_on = refl;
+  others = [];
+  files = refl;
+  kept = λ all. subst (AreSaved h.file) (sym threads) all;
+  quiet = λ q. ap (λ (table : Table). saved_of t table.saved) threads ∙ q;
+}
+
+-- what is kept, once one thread's wait was answered
+kept_answered : (value u : ℕ) (file : ℕ → Saved) (before after : Table) → after.saved ≡ with_answer u value before.saved → AreSaved file before
+    → AreSaved (λ v. file_among ((u, answering value (file u)) ∷ []) v (file v)) after
+kept_answered value u file before after is all v x at = go (eqb u v) refl
+  where
+    there : saved_of v (with_answer u value before.saved) ≡ Some x
+    there = ap (saved_of v) (sym is) ∙ at
+
+    go : (b : Bool) → eqb u v ≡ b → x ≡ cond b (answering value (file u)) (file v)
+    go true same =
+        answered_some value x (file u) (saved_of u before.saved)
+        (sym (saved_of-answered u value before.saved) ∙ ap (λ n. saved_of n (with_answer u value before.saved)) (eqb-true u v same) ∙ there) (all u)
+    go false other =
+        let ne : v ≢ u = λ e. eqb-false u v other (sym e) in
+        all v x (sym (saved_of-with_answer_other u v ne value before.saved) ∙ there)
+
+-- a signal is posted: it breaks no wait, or the one of the thread
+abbrev broken : Here → ℕ → ℕ → ℕ → CallDone
+broken h t u sig = record { files = (t, returned 0 (h.file t)) ∷ broken_wait h u ∷ []; entered = []; kernel = woken u (with_posted h u sig); barrier = None; ended = None }
+
+abbrev unbroken : Here → ℕ → ℕ → ℕ → CallDone
+unbroken h t u sig = record (said h t 0) { kernel = with_posted h u sig }
+
+-- whether it breaks one, as the tables tell it
+pub vain_as : (h : Here) (u sig : ℕ) (k : Kernel) (g : Signalling) (b : Bool) → IsTold h k → g ≡ posted u sig k.signals
+    → b ≡ (option_map_or is_waiting_state (state_of u k.threads.threads) false && is_some (next_for u g)) → waits_in_vain u (with_posted h u sig) ≡ b
+vain_as h u sig k g b told is e =
+    sym (e ∙ ap (λ (ts : Threads). option_map_or is_waiting_state (state_of u ts) false && is_some (next_for u g)) told.threads
+    ∙ ap (λ (s : Signalling). option_map_or is_waiting_state (state_of u h.kernel.threads) false && is_some (next_for u s)) (is ∙ ap (posted u sig) told.signals))
+
+pub answered_posted : (h : Here) (t u sig : ℕ) (k k' : Kernel) (m : Map) → IsTold h k → k'.threads ≡ k.threads → k'.signals ≡ posted u sig k.signals → k'.ready ≡ k.ready → k'.areas ≡ k.areas
+    → k'.registered ≡ k.registered → k'.console ≡ k.console → waits_in_vain u (with_posted h u sig) ≡ false → IsAnswered h t k m k' m [] (Ok 0) (post h t u sig)
+answered_posted h t u sig k k' m told threads signals ready areas registered console not_vain =
+    let done = answered_signalled h t k k' m m [] [] (Ok 0) (posted u sig h.kernel.signals) told threads (signals ∙ ap (posted u sig) told.signals) ready areas registered console (entered_none m) refl in
+    subst (λ (d : CallDone). IsAnswered h t k m k' m [] (Ok 0) d) (sym (if_false (waits_in_vain u (with_posted h u sig)) (broken h t u sig) (unbroken h t u sig) not_vain)) done
+
+pub answered_broken : (h : Here) (t u sig : ℕ) (k k' : Kernel) (m : Map) → IsTold h k → AreTables k → waits k.threads.threads u → k'.threads.threads ≡ with_woken u k.threads.threads
+    → k'.threads.saved ≡ with_answer u interrupted k.threads.saved → k'.signals ≡ posted u sig k.signals → k'.ready ≡ with_ready u k.ready → k'.areas ≡ k.areas → k'.registered ≡ k.registered → k'.console ≡ k.console
+    → waits_in_vain u (with_posted h u sig) ≡ true → IsAnswered h t k m k' m [] (Ok 0) (post h t u sig)
+answered_broken h t u sig k k' m told tables waiting threads saved signals ready areas registered console vain =
+    let done : IsAnswered h t k m k' m [] (Ok 0) (broken h t u sig) = record {
+      threads = threads ∙ ap (with_woken u) told.threads;
+      signals = signals ∙ ap (posted u sig) told.signals;
+      scheduling = ready ∙ ap (with_ready u) told.scheduling;
+      areas = same_areas k k' areas ∙ told.areas;
+      barriers = registered ∙ told.barriers;
+      ids = refl;
+      console = console ∙ told.console;
+      pages = λ has. has;
+      code = λ a. refl;
+      told = refl;
+      hart = ap (λ (ts : Threads). running_on h.hart (with_woken u ts)) (sym told.threads) ∙ woken_same tables.0 u k.threads.threads k.ready tables.1 waiting h.hart
+          ∙ ap (running_on h.hart) told.threads;
+      at_once = refl;
+      goes_on = refl;
+      others = broken_wait h u ∷ [];
+      files = refl;
+      kept = λ all. kept_answered interrupted u h.file k.threads k'.threads saved all;
+      quiet = λ q. quiet_woken interrupted t u k.threads k'.threads saved q;
+    } in
+    subst (λ (d : CallDone). IsAnswered h t k m k' m [] (Ok 0) d) (sym (if_true (waits_in_vain u (with_posted h u sig)) (broken h t u sig) (unbroken h t u sig) vain)) done
+
+-- tkill and tgkill, by their arguments
+abbrev pub tkill_by : ℕ → ℕ → Here → ℕ → CallDone
+tkill_by u sig h t =
+    cond (is_below_one u) (refused h t EINVAL) (cond (not (is_live u h.kernel.threads)) (refused h t ESRCH) (send h t u sig))
+
+abbrev pub tgkill_by : ℕ → ℕ → ℕ → Here → ℕ → CallDone
+tgkill_by pid u sig h t =
+    cond (is_below_one pid || is_below_one u) (refused h t EINVAL)
+    (cond (not (eqb pid 1 && is_live u h.kernel.threads)) (refused h t ESRCH) (send h t u sig))
+
+pub tkill_is : (h : Here) (t u sig : ℕ) → u ≡ int_argument h t 0 → sig ≡ int_argument h t 1 → tkill h t ≡ tkill_by u sig h t
+tkill_is h t u sig p q = sym (ap (λ (n : ℕ). tkill_by n sig h t) p ∙ ap (λ (n : ℕ). tkill_by (int_argument h t 0) n h t) q)
+
+pub tgkill_is : (h : Here) (t pid u sig : ℕ) → pid ≡ int_argument h t 0 → u ≡ int_argument h t 1 → sig ≡ int_argument h t 2 → tgkill h t ≡ tgkill_by pid u sig h t
+tgkill_is h t pid u sig o p q =
+    sym (ap (λ (n : ℕ). tgkill_by n u sig h t) o ∙ ap (λ (n : ℕ). tgkill_by (int_argument h t 0) n sig h t) p ∙ ap (λ (n : ℕ). tgkill_by (int_argument h t 0) (int_argument h t 1) n h t) q)

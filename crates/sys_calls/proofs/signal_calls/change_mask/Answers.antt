@@ -1,0 +1,13 @@
+-- The mask is changed where a set is given.
+use Rattle.std.proofs.Common.{ℕ, eqb, sym, ap, ◌∙◌}
+use Rattle.std.proofs.lemmas.Bool.{ne_eqb}
+use Rattle.mach_types.specs.Kernel.Signals.{changed_mask, mask_of, with_mask}
+use Rattle.sys_calls.proofs.Reading.{if_false}
+use Rattle.sys_calls.proofs.signal_calls.change_mask.Goals as goal
+
+pub returns-in-Ok : goal.returns-in-Ok
+returns-in-Ok c =
+    let g = c.args.signals.now in
+    let t = c.args.tid.0 in
+    c.in-Ok.ensures.ok ∙ ap (λ (n : ℕ). with_mask t (changed_mask c.args.how n (mask_of t g)) g) c.number_at-set.ensures
+    ∙ sym (if_false (eqb c.args.at 0) _ _ (ne_eqb c.args.at 0 c.if-at-ne0.true))

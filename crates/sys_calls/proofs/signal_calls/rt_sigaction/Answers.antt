@@ -1,0 +1,69 @@
+-- The action is set, and the old one is written where it is asked for.
+use Rattle.std.proofs.Common.{◌≡◌, ℕ, ◌≤◌, Bool, true, false, ◌||◌, cond, eqb, List, [], Option, refl, sym, ap, subst, ◌∙◌, inl, inr}
+use Rattle.std.specs.Prelude.{Ok, nat_lt}
+use Rattle.std.proofs.lemmas.Bool.{cases_lt, false≢true, lt-ltb}
+use Rattle.mach_types.specs.Kernel.Signals.{Signalling, acted, action_of, refuses_action}
+use Rattle.mach_types.specs.declared.signal_words.Action.{Action}
+use Rattle.mach_types.specs.declared.user_memory.Write.{Write}
+use Rattle.page_map.specs.Map.{can_write_in}
+use Rattle.block_model.specs.Here.{Here}
+use Rattle.block_model.specs.Calls.Answers.{CallDone, argument, int_argument}
+use Rattle.block_model.specs.Calls.Signals.{action_written}
+use Rattle.sys_calls.specs.declared.kernel.Kernel.{Kernel}
+use Rattle.sys_calls.specs.Answered.{IsAnswered, IsEntered}
+use Rattle.sys_calls.specs.Signalled.{pass_action}
+use Rattle.sys_calls.proofs.Posted.{answered_signalled}
+use Rattle.sys_calls.proofs.Reading.{argument_is, int_argument_is}
+use Rattle.sys_calls.proofs.Signalling.{signals_turn, tids_acted}
+use Rattle.sys_calls.proofs.signal_calls.rt_sigaction.Goals as goal
+
+-- a number that isn't refused is one of a signal
+in_range : (n : ℕ) (new : Option Action) → refuses_action n new ≡ false → n ≤ 31
+in_range n new accepted = elim (cases_lt 31 n) [
+  | inl lt ↦ absurd (false≢true (sym accepted ∙ past (lt-ltb 31 n lt) (eqb n 0) refl))
+  | inr le ↦ le
+]
+  where
+    past : nat_lt 31 n ≡ true → (b : Bool) → eqb n 0 ≡ b → refuses_action n new ≡ true
+    past high true zero = rw zero refl
+    past high false zero = rw (zero, high) refl
+
+-- the writes of the old action
+writes_are : (h : Here) (t at sig : ℕ) (old : Action) (g : Signalling) → at ≡ argument h t 2 → sig ≡ int_argument h t 0 → old ≡ action_of sig g → g ≡ h.kernel.signals
+    → cond (eqb at 0) [] (action_written at old) ≡ cond (eqb (argument h t 2) 0) [] (action_written (argument h t 2) (action_of (int_argument h t 0) h.kernel.signals))
+writes_are h t at sig old g p q r s =
+    ap (λ (a : Action). cond (eqb at 0) [] (action_written at a)) (r ∙ ap (λ (n : ℕ). action_of n g) q ∙ ap (action_of (int_argument h t 0)) s)
+    ∙ ap (λ (a : ℕ). cond (eqb a 0) [] (action_written a (action_of (int_argument h t 0) h.kernel.signals))) p
+
+pub signal_number-sig-requires : goal.signal_number-sig-requires
+signal_number-sig-requires c =
+    in_range c.int_argument.result c.in_ok-new.new (ap (λ (n : ℕ). refuses_action n c.in_ok-new.new) c.int_argument.ensures ∙ c.in_ok-new.ensures.accepted)
+
+pub write_action_unless_zero-requires-clause-usable : goal.write_action_unless_zero-requires-clause-usable
+write_action_unless_zero-requires-clause-usable c =
+    ap (λ (a : ℕ). eqb a 0 || pass_action (can_write_in c.args.pages.now) a) c.argument.ensures ∙ c.in_ok-new.ensures.usable
+
+pub returns-clause-signals : goal.returns-clause-signals
+returns-clause-signals c =
+    let k = c.args.kernel.now in
+    let k' : Kernel = record { threads = k.threads; signals = c.act.new.self; ready = k.ready; areas = k.areas; registered = k.registered; console = k.console } in
+    signals_turn k k' (acted c.signal_number-sig.result c.in_ok-new.new k.signals) refl c.in-Ok.ensures.ok (tids_acted c.signal_number-sig.result c.in_ok-new.new k.signals)
+
+pub returns-clause-answered : goal.returns-clause-answered
+returns-clause-answered c = λ h t told read.
+    let k = c.args.kernel.now in
+    let k' : Kernel = record { threads = k.threads; signals = c.act.new.self; ready = k.ready; areas = k.areas; registered = k.registered; console = k.console } in
+    let m = c.args.pages.now in
+    let m' = c.write_action_unless_zero.new.pages in
+    let new = c.in_ok-new.new in
+    let g = h.kernel.signals in
+    let sig : c.signal_number-sig.result ≡ int_argument h t 0 = c.signal_number-sig.ensures ∙ c.int_argument.ensures ∙ int_argument_is h t c.args.saved.now read.file 0 in
+    let old : c.argument.result ≡ argument h t 2 = c.argument.ensures ∙ argument_is h t c.args.saved.now read.file 2 in
+    let ws : List Write = cond (eqb (argument h t 2) 0) [] (action_written (argument h t 2) (action_of (int_argument h t 0) g)) in
+    let same : cond (eqb c.argument.result 0) [] (action_written c.argument.result c.in-Ok.old) ≡ ws =
+    writes_are h t c.argument.result c.signal_number-sig.result c.in-Ok.old k.signals old sig c.in-Ok.ensures.old told.signals in
+    let signals : k'.signals ≡ acted (int_argument h t 0) new g =
+    c.in-Ok.ensures.ok ∙ ap (λ (n : ℕ). acted n new k.signals) sig ∙ ap (acted (int_argument h t 0) new) told.signals in
+    let done = answered_signalled h t k k' m m' ws c.write_action_unless_zero.new.written.items (Ok 0) (acted (int_argument h t 0) new g) told refl signals refl refl refl refl
+    (subst (IsEntered m m') same c.write_action_unless_zero.ensures.entered) (c.write_action_unless_zero.ensures.told ∙ same) in
+    subst (λ (d : CallDone). IsAnswered h t k m k' m' c.write_action_unless_zero.new.written.items (Ok 0) d) (sym (c.in_ok-new.ensures.given h t read)) done

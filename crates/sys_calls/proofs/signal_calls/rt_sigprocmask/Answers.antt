@@ -1,0 +1,71 @@
+-- The mask is changed, and the old one is written where it is asked for.
+use Rattle.std.proofs.Common.{◌≡◌, ℕ, not, ◌&&◌, ◌||◌, cond, eqb, List, [], ◌∷◌, unwrap_or, refl, sym, ap, subst, ◌∙◌}
+use Rattle.std.specs.Prelude.{Ok}
+use Rattle.mach_types.specs.Bytes.{each_byte, word_at}
+use Rattle.mach_types.specs.Kernel.Signals.{Signalling, mask_of, refuses_how}
+use Rattle.mach_types.specs.declared.user_memory.Write.{Write}
+use Rattle.page_map.specs.Map.{byte_in, can_write_in}
+use Rattle.block_model.specs.Here.{Here}
+use Rattle.block_model.specs.Calls.Answers.{CallDone, argument, double_written, int_argument, number_at}
+use Rattle.block_model.specs.Calls.Signals.{masked}
+use Rattle.sys_calls.specs.declared.kernel.Kernel.{Kernel}
+use Rattle.sys_calls.specs.Answered.{IsAnswered, IsEntered}
+use Rattle.sys_calls.specs.Registered.{int_in}
+use Rattle.sys_calls.specs.Signalled.{mask_changed}
+use Rattle.sys_calls.proofs.Posted.{answered_signalled}
+use Rattle.sys_calls.proofs.Reading.{argument_is, int_argument_is, number_there}
+use Rattle.sys_calls.proofs.Signalling.{signals_turn, tids_changed}
+use Rattle.sys_calls.proofs.signal_calls.rt_sigprocmask.Goals as goal
+
+-- the write of the old mask
+writes_are : (h : Here) (t at old : ℕ) (g : Signalling) → at ≡ argument h t 2 → old ≡ mask_of t g → g ≡ h.kernel.signals
+    → cond (eqb at 0) [] (double_written at old ∷ []) ≡ cond (eqb (argument h t 2) 0) [] (double_written (argument h t 2) (mask_of t h.kernel.signals) ∷ [])
+writes_are h t at old g p q r =
+    ap (λ (n : ℕ). cond (eqb at 0) [] (double_written at n ∷ [])) (q ∙ ap (mask_of t) r)
+    ∙ ap (λ (a : ℕ). cond (eqb a 0) [] (double_written a (mask_of t h.kernel.signals) ∷ [])) p
+
+-- the new mask
+changed_is : (h : Here) (t how at set : ℕ) (g : Signalling) → how ≡ int_argument h t 0 → at ≡ argument h t 1 → set ≡ number_at h (argument h t 1) 8 → g ≡ h.kernel.signals
+    → mask_changed t how at set g ≡ masked h t (int_argument h t 0) (argument h t 1)
+changed_is h t how at set g o p q r =
+    ap (λ (n : ℕ). mask_changed t n at set g) o ∙ ap (λ (a : ℕ). mask_changed t (int_argument h t 0) a set g) p
+    ∙ ap (λ (n : ℕ). mask_changed t (int_argument h t 0) (argument h t 1) n g) q
+    ∙ ap (λ (s : Signalling). mask_changed t (int_argument h t 0) (argument h t 1) (number_at h (argument h t 1) 8) s) r
+
+pub change_mask-requires-clause-how : goal.change_mask-requires-clause-how
+change_mask-requires-clause-how c =
+    ap (λ (n : ℕ). not (eqb c.argument.result 0) && refuses_how n) c.int_argument-how.ensures
+    ∙ ap (λ (n : ℕ). not (eqb n 0) && refuses_how (int_in c.args.saved.now 0)) c.argument.ensures ∙ c.in_ok-may_mask.ensures.how
+
+pub write_set_unless_zero-requires-clause-usable : goal.write_set_unless_zero-requires-clause-usable
+write_set_unless_zero-requires-clause-usable c =
+    ap (λ (a : ℕ). eqb a 0 || each_byte (can_write_in c.args.pages.now) a 8) c.argument-2.ensures ∙ c.in_ok-may_mask.ensures.usable
+
+pub returns-clause-signals : goal.returns-clause-signals
+returns-clause-signals c =
+    let k = c.args.kernel.now in
+    let k' : Kernel = record { threads = k.threads; signals = c.change_mask.new.signals; ready = k.ready; areas = k.areas; registered = k.registered; console = k.console } in
+    let set = unwrap_or (word_at (byte_in c.args.pages.now) c.argument.result 8) 0 in
+    signals_turn k k' (mask_changed c.args.tid.0 c.int_argument-how.result c.argument.result set k.signals) refl c.change_mask.ensures
+    (tids_changed c.args.tid.0 c.int_argument-how.result c.argument.result set k.signals)
+
+pub returns-clause-answered : goal.returns-clause-answered
+returns-clause-answered c = λ h told read.
+    let t = c.args.tid.0 in
+    let k = c.args.kernel.now in
+    let k' : Kernel = record { threads = k.threads; signals = c.change_mask.new.signals; ready = k.ready; areas = k.areas; registered = k.registered; console = k.console } in
+    let m = c.args.pages.now in
+    let m' = c.write_set_unless_zero.new.pages in
+    let how : c.int_argument-how.result ≡ int_argument h t 0 = c.int_argument-how.ensures ∙ int_argument_is h t c.args.saved.now read.file 0 in
+    let at : c.argument.result ≡ argument h t 1 = c.argument.ensures ∙ argument_is h t c.args.saved.now read.file 1 in
+    let old : c.argument-2.result ≡ argument h t 2 = c.argument-2.ensures ∙ argument_is h t c.args.saved.now read.file 2 in
+    let set = unwrap_or (word_at (byte_in m) c.argument.result 8) 0 in
+    let given : set ≡ number_at h (argument h t 1) 8 = number_there h m t c.args.saved.now read c.argument.result (argument h t 1) 8 at in
+    let signals : k'.signals ≡ masked h t (int_argument h t 0) (argument h t 1) =
+    c.change_mask.ensures ∙ changed_is h t c.int_argument-how.result c.argument.result set k.signals how at given told.signals in
+    let ws : List Write = cond (eqb (argument h t 2) 0) [] (double_written (argument h t 2) (mask_of t h.kernel.signals) ∷ []) in
+    let same : cond (eqb c.argument-2.result 0) [] (double_written c.argument-2.result c.mask_of-old.result ∷ []) ≡ ws =
+    writes_are h t c.argument-2.result c.mask_of-old.result k.signals old c.mask_of-old.ensures told.signals in
+    let done = answered_signalled h t k k' m m' ws c.write_set_unless_zero.new.written.items (Ok 0) (masked h t (int_argument h t 0) (argument h t 1)) told refl signals refl refl refl refl
+    (subst (IsEntered m m') same c.write_set_unless_zero.ensures.entered) (c.write_set_unless_zero.ensures.told ∙ same) in
+    subst (λ (d : CallDone). IsAnswered h t k m k' m' c.write_set_unless_zero.new.written.items (Ok 0) d) (sym (c.in_ok-may_mask.ensures.masks h t read)) done
