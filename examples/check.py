@@ -11,6 +11,7 @@ For each example NAME:
 - the same log lines on hart 1 of two give the same text but for the number of the hart;
 - each NAME/*.script, played on two harts, gives the *.output beside it (with status 4 where that is a fault line), and the log
   lines that it prints, played, give the same text again;
+- `blocks` on the script gives the *.summary beside it, where there is one, and the fault line, where that is its output;
 - `run`, with each of SEEDS on 1, 2, 4 and 8 harts, prints the same console and end, or those of NAME/outcomes/*.console with the
   *.end beside it (else the example's), where they hang on the interleaving (a *.pattern there is a regular expression for the
   whole console); and the log lines that it prints, played on as many harts, give the same text.
@@ -99,6 +100,13 @@ def expect_play(program, elf, script, harts, status, text):
     want('its text', got[1], text)
 
 
+def expect_blocks(program, elf, script, status, text):
+    """Wants this status and this summary of a script on two harts."""
+    got = run(program, 'blocks', elf, script, '--harts', '2', '--steps', STEPS)
+    want('the status of its summary', got[0], status)
+    want('its summary', got[1], text)
+
+
 def check_solo(program, folder, elf):
     """The text of `solo`, which has the console and the end that stand beside the example."""
     status, text = run(program, 'solo', elf, '--steps', STEPS)
@@ -123,12 +131,16 @@ def check_other_hart(program, elf, text):
 
 
 def check_script(program, elf, script):
-    """A script on two harts gives the text beside it, and so do the log lines of that text."""
-    text = script.with_suffix('.output').read_bytes()
-    is_refused = text.startswith(b'fault script ')
-    expect_play(program, elf, script.read_bytes(), '2', SCRIPT_REFUSED if is_refused else DONE, text)
-    if not is_refused:
-        check_replay(program, elf, text, '2')
+    """A script on two harts gives the text beside it, and so do the log lines of that text; and `blocks` gives its summary."""
+    text, summary = script.with_suffix('.output').read_bytes(), script.with_suffix('.summary')
+    if text.startswith(b'fault script '):
+        expect_play(program, elf, script.read_bytes(), '2', SCRIPT_REFUSED, text)
+        expect_blocks(program, elf, script, SCRIPT_REFUSED, text)
+        return
+    expect_play(program, elf, script.read_bytes(), '2', DONE, text)
+    check_replay(program, elf, text, '2')
+    if summary.is_file():
+        expect_blocks(program, elf, script, DONE, summary.read_bytes())
 
 
 def outcomes(folder):

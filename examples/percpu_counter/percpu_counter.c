@@ -3,7 +3,11 @@
  * parent joins them and adds up the cells. Built with -DPLAIN, the same without a sequence: then additions may be lost. */
 #include "../common/rseq.h"
 
-enum { THREADS = 4, ROUNDS = 20, PROCESSORS = 8, CACHE_LINE = 64 };
+#ifndef ROUNDS
+#define ROUNDS 20
+#endif
+
+enum { THREADS = 4, PROCESSORS = 8, CACHE_LINE = 64 };
 
 static struct {
     _Alignas(CACHE_LINE) intptr_t count;

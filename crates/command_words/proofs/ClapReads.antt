@@ -12,8 +12,8 @@ use Rattle.clap.specs.Walk.{Row, Text}
 use Rattle.clap.specs.Simple.{matches_of}
 use Rattle.clap.specs.Faults.{fault_of}
 use Rattle.command_words.specs.Grammar.{Arguments, Item, Name, Given, asked_by, begins_with_dash, is_option}
-use Rattle.command_words.specs.Grammar.{limits_on, play_named, play_of, run_named, run_of, solo_named}
-use Rattle.command_words.specs.Grammar.{solo_of}
+use Rattle.command_words.specs.Grammar.{blocks_of, limits_on, play_of, run_named, run_of, scripted_named}
+use Rattle.command_words.specs.Grammar.{solo_named, solo_of}
 use Rattle.command_words.specs.Line.{AsksAlike, arguments_found, line, names_found}
 use Rattle.command_words.specs.Options.{OptionName, Harts, Frames, Steps, Seed, chosen, range_of}
 use Rattle.command_words.specs.Words.{Reading, Options, Value, Names, texts, word_read}
@@ -49,19 +49,19 @@ no_solo Steps (a ∷ []) given is =
     none_either (is_some given.harts || is_some given.seed) _ (rw (no_steps 1 given is) refl)
 no_solo Seed (a ∷ []) given is = rw (is, or_true (is_some given.harts)) refl
 
-no_play : (o : OptionName) (names : List Text) (given : Arguments) → value_of o given ≡ Some dash
-    → play_named names given ≡ None
-no_play o [] given is = refl
-no_play o (a ∷ []) given is = refl
-no_play o (a ∷ b ∷ c ∷ more) given is = refl
-no_play Harts (a ∷ b ∷ []) given is = none_either (is_some given.seed) _ (rw is refl)
-no_play Frames (a ∷ b ∷ []) given is =
+no_scripted : (o : OptionName) (names : List Text) (given : Arguments) → value_of o given ≡ Some dash
+    → scripted_named names given ≡ None
+no_scripted o [] given is = refl
+no_scripted o (a ∷ []) given is = refl
+no_scripted o (a ∷ b ∷ c ∷ more) given is = refl
+no_scripted Harts (a ∷ b ∷ []) given is = none_either (is_some given.seed) _ (rw is refl)
+no_scripted Frames (a ∷ b ∷ []) given is =
     none_either (is_some given.seed) _
     (none_after (chosen (range_of Harts) given.harts) _ (λ harts. rw (no_frames harts given is) refl))
-no_play Steps (a ∷ b ∷ []) given is =
+no_scripted Steps (a ∷ b ∷ []) given is =
     none_either (is_some given.seed) _
     (none_after (chosen (range_of Harts) given.harts) _ (λ harts. rw (no_steps harts given is) refl))
-no_play Seed (a ∷ b ∷ []) given is = rw is refl
+no_scripted Seed (a ∷ b ∷ []) given is = rw is refl
 
 no_run : (o : OptionName) (names : List Text) (given : Arguments) → value_of o given ≡ Some dash
     → run_named names given ≡ None
@@ -79,13 +79,17 @@ no_run Seed (a ∷ []) given is =
 none_asked : (word : Text) (o : OptionName) (given : Arguments) → value_of o given ≡ Some dash
     → asked_by word given ≡ None
 none_asked word o given is =
-    go (bytes_eq word (codes "solo")) (bytes_eq word (codes "play")) (bytes_eq word (codes "run"))
+    go (bytes_eq word (codes "solo")) (bytes_eq word (codes "play")) (bytes_eq word (codes "blocks"))
+    (bytes_eq word (codes "run"))
   where
-    go : (s p r : Bool) → cond s (solo_of given) (cond p (play_of given) (cond r (run_of given) None)) ≡ None
-    go true p r = no_solo o given.names given is
-    go false true r = no_play o given.names given is
-    go false false true = no_run o given.names given is
-    go false false false = refl
+    go : (s p b r : Bool)
+        → cond s (solo_of given) (cond p (play_of given) (cond b (blocks_of given) (cond r (run_of given) None)))
+        ≡ None
+    go true p b r = no_solo o given.names given is
+    go false true b r = rw (no_scripted o given.names given is) refl
+    go false false true r = rw (no_scripted o given.names given is) refl
+    go false false false true = no_run o given.names given is
+    go false false false false = refl
 
 -- ---- such a value stays
 

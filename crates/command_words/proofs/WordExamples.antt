@@ -1,7 +1,7 @@
 -- Worked examples of words, by computation.
 use Rattle.std.proofs.Common.{◌≡◌, ℕ, ◌-◌, ◌^◌, [], ◌∷◌, Option, Some, None, refl, codes}
 use Rattle.mach_types.specs.declared.limits.Limits.{Limits}
-use Rattle.command_words.specs.Grammar.{Command, Solo, Play, Run}
+use Rattle.command_words.specs.Grammar.{Command, Solo, Play, Blocks, Run}
 use Rattle.command_words.specs.Options.{number_of}
 use Rattle.command_words.specs.Words.{arguments_of, command_of}
 
@@ -253,7 +253,31 @@ run_two_names : command_of (codes "run" ∷ codes "F" ∷ codes "S" ∷ []) ≡ 
 unfolding command_of arguments_of
 run_two_names = refl
 
--- `solo` and `play` take no seed
+-- `blocks F S` has the limits that are given, or else the defaults
+blocks_defaults : command_of (codes "blocks" ∷ codes "F" ∷ codes "S" ∷ [])
+    ≡ Some (Blocks (codes "F") (codes "S") (limits 2 4096 200000))
+unfolding command_of arguments_of
+blocks_defaults = refl
+
+blocks_options : command_of
+    (codes "blocks" ∷ codes "--harts" ∷ codes "3" ∷ codes "F" ∷ codes "--frames=128" ∷ codes "S"
+    ∷ codes "--steps=5" ∷ []) ≡ Some (Blocks (codes "F") (codes "S") (limits 3 128 5))
+unfolding command_of arguments_of
+blocks_options = refl
+
+blocks_one_name : command_of (codes "blocks" ∷ codes "F" ∷ []) ≡ None
+unfolding command_of arguments_of
+blocks_one_name = refl
+
+blocks_three_names : command_of (codes "blocks" ∷ codes "F" ∷ codes "S" ∷ codes "T" ∷ []) ≡ None
+unfolding command_of arguments_of
+blocks_three_names = refl
+
+blocks_too_many_harts : command_of (codes "blocks" ∷ codes "F" ∷ codes "S" ∷ codes "--harts=9" ∷ []) ≡ None
+unfolding command_of arguments_of
+blocks_too_many_harts = refl
+
+-- `solo`, `play` and `blocks` take no seed
 solo_seed : command_of (codes "solo" ∷ codes "--seed" ∷ codes "1" ∷ codes "F" ∷ []) ≡ None
 unfolding command_of arguments_of
 solo_seed = refl
@@ -261,3 +285,7 @@ solo_seed = refl
 play_seed : command_of (codes "play" ∷ codes "--seed" ∷ codes "1" ∷ codes "F" ∷ codes "S" ∷ []) ≡ None
 unfolding command_of arguments_of
 play_seed = refl
+
+blocks_seed : command_of (codes "blocks" ∷ codes "F" ∷ codes "S" ∷ codes "--seed=1" ∷ []) ≡ None
+unfolding command_of arguments_of
+blocks_seed = refl

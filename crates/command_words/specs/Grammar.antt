@@ -93,10 +93,12 @@ arguments_in items = do
   Some (record { names = names_in items; harts = harts; frames = frames; steps = steps; seed = seed })
 
 -- what can be asked for: to run a program on one hart by the fixed rule, on the events of a script, or by
--- workers, one for each hart, that choose by a seed; the names are those of the files
+-- workers, one for each hart, that choose by a seed; and to count the acts of a run on the events of a script.
+-- The names are those of the files
 pub data Command : Type 0 where
   Solo : (program : List ℕ) (limits : Limits) → Command
   Play : (program : List ℕ) (script : List ℕ) (limits : Limits) → Command
+  Blocks : (program : List ℕ) (script : List ℕ) (limits : Limits) → Command
   Run : (program : List ℕ) (limits : Limits) (seed : ℕ) → Command
 
 -- the limits of a run on so many harts
@@ -114,14 +116,20 @@ solo_named (program ∷ []) given =
       Some (Solo program limits)
 solo_named _ given = None
 
--- `play FILE SCRIPT` chooses nothing, and takes no seed
-abbrev pub play_named : List (List ℕ) → Arguments → Option Command
-play_named (program ∷ script ∷ []) given =
+-- what a command on the events of a script is given
+pub record Scripted : Type 0 where
+  pub program : List ℕ
+  pub script : List ℕ
+  pub limits : Limits
+
+-- such a command has two names, `FILE SCRIPT`; it chooses nothing, and takes no seed
+abbrev pub scripted_named : List (List ℕ) → Arguments → Option Scripted
+scripted_named (program ∷ script ∷ []) given =
     if is_some given.seed then None else do
       harts ← chosen (range_of Harts) given.harts
       limits ← limits_on harts given
-      Some (Play program script limits)
-play_named _ given = None
+      Some (record { program = program; script = script; limits = limits })
+scripted_named _ given = None
 
 -- `run FILE`
 abbrev pub run_named : List (List ℕ) → Arguments → Option Command
@@ -136,9 +144,21 @@ run_named _ given = None
 abbrev pub solo_of : Arguments → Option Command
 solo_of given = solo_named given.names given
 
+-- what the arguments give a command on the events of a script
+abbrev pub scripted_of : Arguments → Option Scripted
+scripted_of given = scripted_named given.names given
+
 -- what the arguments of `play` ask for
 abbrev pub play_of : Arguments → Option Command
-play_of given = play_named given.names given
+play_of given = do
+  scripted ← scripted_of given
+  Some (Play scripted.program scripted.script scripted.limits)
+
+-- what the arguments of `blocks` ask for
+abbrev pub blocks_of : Arguments → Option Command
+blocks_of given = do
+  scripted ← scripted_of given
+  Some (Blocks scripted.program scripted.script scripted.limits)
 
 -- what the arguments of `run` ask for
 abbrev pub run_of : Arguments → Option Command
@@ -149,6 +169,7 @@ abbrev pub asked_by : List ℕ → Arguments → Option Command
 asked_by word given =
     if bytes_eq word (codes "solo") then solo_of given
     else if bytes_eq word (codes "play") then play_of given
+    else if bytes_eq word (codes "blocks") then blocks_of given
     else if bytes_eq word (codes "run") then run_of given
     else None
 

@@ -6,10 +6,12 @@ use Rattle.command_words.specs.declared.arguments.FileNames.{FileNames}
 use Rattle.command_words.specs.declared.arguments.FileNames.TheVariants.{Zero, One, Two}
 use Rattle.command_words.specs.declared.commands.Command.{Command}
 use Rattle.command_words.specs.declared.commands.Command.TheVariants as code
+use Rattle.command_words.specs.declared.commands.Scripted.{Scripted}
 use Rattle.command_words.specs.declared.options.Numbers.{Numbers}
 use Rattle.command_words.specs.declared.options.OptionName.{OptionName}
 use Rattle.command_words.specs.declared.options.OptionName.TheVariants as option
-use Rattle.command_words.specs.Grammar.{Arguments as Stated, Command as Asked, Solo, Play, Run}
+use Rattle.command_words.specs.Grammar.{Arguments as Stated, Command as Asked, Scripted as OnScript}
+use Rattle.command_words.specs.Grammar.{Solo, Play, Blocks, Run}
 use Rattle.command_words.specs.Options.{OptionName as Named, Harts, Frames, Steps, Seed, Range}
 
 -- an option
@@ -39,8 +41,13 @@ stated kept = record {
   seed = option_copied kept.seed;
 }
 
+-- what a command on the events of a script is given, with the texts of its names
+abbrev pub on_script : Scripted → OnScript
+on_script kept = record { program = kept.program.now; script = kept.script.now; limits = kept.limits }
+
 -- the command, with the texts of its names
 abbrev pub said : Command → Asked
 said (code.Solo program limits) = Solo program.now limits
 said (code.Play program script limits) = Play program.now script.now limits
+said (code.Blocks program script limits) = Blocks program.now script.now limits
 said (code.Run program limits seed) = Run program.now limits seed

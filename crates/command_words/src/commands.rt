@@ -2,8 +2,9 @@
 
 ghost use Rattle.std.specs.Prelude.{◌≡◌, ◌≤◌, IfOk, IfSome, option_map};
 ghost use Rattle.mach_types.specs.Limits.{InRange};
-ghost use Rattle.command_words.specs.Kept.{said, stated};
-ghost use Rattle.command_words.specs.Grammar.{asked_by, limits_on, play_of, run_of, solo_of};
+ghost use Rattle.command_words.specs.Kept.{on_script, said, stated};
+ghost use Rattle.command_words.specs.Grammar.{asked_by, blocks_of, limits_on, play_of, run_of, scripted_of};
+ghost use Rattle.command_words.specs.Grammar.{solo_of};
 ghost use Rattle.command_words.specs.Words.{HasItsHarts, command_of, limits_in, texts};
 
 use crate::arguments::{Arguments, FileNames, arguments_of};
@@ -30,6 +31,15 @@ pub enum Command<'a> {
         /// The limits of the run.
         limits: Limits,
     },
+    /// Counts the acts of a run of the program in the file of this name on the events of a script.
+    Blocks {
+        /// The name of the program's file.
+        program: &'a str,
+        /// The name of the script's file.
+        script: &'a str,
+        /// The limits of the run.
+        limits: Limits,
+    },
     /// Runs the program in the file of this name by workers, one for each hart.
     Run {
         /// The name of the program's file.
@@ -41,10 +51,22 @@ pub enum Command<'a> {
     },
 }
 
+/// What a command on the events of a script is given.
+#[derive(Clone, Copy, Debug, Drop)]
+struct Scripted<'a> {
+    /// The name of the program's file.
+    program: &'a str,
+    /// The name of the script's file.
+    script: &'a str,
+    /// The limits of the run.
+    limits: Limits,
+}
+
 /// What the words ask for; None exactly where they aren't of the grammar. It errs only for want of memory.
 ///
-/// The first word is the command: `solo FILE`, with `--frames` and `--steps`; `play FILE SCRIPT`, with
-/// `--harts` too; or `run FILE`, with `--harts` and `--seed` too. Each limit is in its range.
+/// The first word is the command: `solo FILE`, with `--frames` and `--steps`; `play FILE SCRIPT` or
+/// `blocks FILE SCRIPT`, with `--harts` too; or `run FILE`, with `--harts` and `--seed` too. Each limit is in its
+/// range.
 #[tactic(auto, unfolding(crate::specs::Words::command_of))]
 pub fn command_of<'a>(alloc: Global, words: &'a [String]) -> Result<Option<Command<'a>>, AllocError>
     ensures command { IfOk result (λ found. option_map said found ≡ command_of (texts words.now)) }
@@ -69,6 +91,7 @@ fn asked_by<'a>(command: &str, arguments: Arguments<'a>) -> Option<Command<'a>>
     match command {
         "solo" => solo_of(arguments),
         "play" => play_of(arguments),
+        "blocks" => blocks_of(arguments),
         "run" => run_of(arguments),
         _ => None,
     }
@@ -109,11 +132,10 @@ fn solo_of(arguments: Arguments<'_>) -> Option<Command<'_>>
     })
 }
 
-/// What the arguments of `play` ask for: two names, and no seed.
-fn play_of(arguments: Arguments<'_>) -> Option<Command<'_>>
-    ensures command { option_map said result ≡ play_of (stated arguments.entry) }
-    ensures limits { IfSome result (λ command. InRange (limits_in (said command))) }
-    ensures harts { IfSome result (λ command. HasItsHarts (said command)) }
+/// What the arguments give a command on the events of a script: two names, and no seed.
+fn scripted_of(arguments: Arguments<'_>) -> Option<Scripted<'_>>
+    ensures given { option_map on_script result ≡ scripted_of (stated arguments.entry) }
+    ensures limits { IfSome result (λ scripted. InRange scripted.limits) }
 {
     let FileNames::Two(program, script) = arguments.names else {
         return None;
@@ -122,10 +144,46 @@ fn play_of(arguments: Arguments<'_>) -> Option<Command<'_>>
         return None;
     }
     let harts = chosen(OptionName::Harts.numbers(), arguments.harts)?;
-    Some(Command::Play {
+    Some(Scripted {
         program,
         script,
         limits: limits_on(u8::try_from(harts).ok()?, &arguments)?,
+    })
+}
+
+/// What the arguments of `play` ask for.
+fn play_of(arguments: Arguments<'_>) -> Option<Command<'_>>
+    ensures command { option_map said result ≡ play_of (stated arguments.entry) }
+    ensures limits { IfSome result (λ command. InRange (limits_in (said command))) }
+    ensures harts { IfSome result (λ command. HasItsHarts (said command)) }
+{
+    let Scripted {
+        program,
+        script,
+        limits,
+    } = scripted_of(arguments)?;
+    Some(Command::Play {
+        program,
+        script,
+        limits,
+    })
+}
+
+/// What the arguments of `blocks` ask for.
+fn blocks_of(arguments: Arguments<'_>) -> Option<Command<'_>>
+    ensures command { option_map said result ≡ blocks_of (stated arguments.entry) }
+    ensures limits { IfSome result (λ command. InRange (limits_in (said command))) }
+    ensures harts { IfSome result (λ command. HasItsHarts (said command)) }
+{
+    let Scripted {
+        program,
+        script,
+        limits,
+    } = scripted_of(arguments)?;
+    Some(Command::Blocks {
+        program,
+        script,
+        limits,
     })
 }
 

@@ -1,10 +1,10 @@
 -- The laws of what is saved of threads, for crates above.
-use Rattle.std.proofs.Common.{◌≡◌, ◌≢◌, ℕ, Option, Some, None, sym, ◌∙◌}
+use Rattle.std.proofs.Common.{◌≡◌, ◌≢◌, ℕ, Option, Some, None, refl, sym, ◌∙◌}
 use Rattle.std.specs.List.{find}
-use Rattle.std.specs.Option.{option_and_then}
+use Rattle.std.specs.Option.{option_and_then, IsSome}
 use Rattle.mach_types.specs.declared.events.Hart.{Hart}
 use Rattle.mach_types.specs.declared.threads.Saved.{Saved}
-use Rattle.mach_types.specs.declared.threads.ThreadState.TheVariants.{Running}
+use Rattle.mach_types.specs.declared.threads.ThreadState.TheVariants.{Ready, Running}
 use Rattle.mach_types.specs.Kernel.Threads.{state_of}
 use Rattle.kernel_threads.specs.Table.{Table, IsTable, SavedList, is_of, saved_of, with_saved}
 use Rattle.kernel_threads.proofs.SavedAfter as after
@@ -30,3 +30,7 @@ running_saves_nothing t h table holds runs = there.saved_of-running t h table ho
 -- nor of one that just began to run
 pub emptied : (t : ℕ) (saved : SavedList) → saved_of t (with_saved t None saved) ≡ None
 emptied t saved = after.saved_of-emptied t saved
+
+-- something is saved of a thread that is ready
+pub ready_saves_something : (t : ℕ) (table : Table) → IsTable table → state_of t table.threads ≡ Some Ready → IsSome (saved_of t table.saved)
+ready_saves_something t table holds ready = there.saved_of-not_running t Ready table holds ready refl

@@ -234,4 +234,11 @@ impl Threads {
     {
         rows::state_of(&self.slots.rows, tid.0)
     }
+
+    /// What a thread was saved with, and goes on with; None exactly where it runs or isn't live.
+    pub fn saved(&self, tid: Tid) -> Option<Saved>
+        ensures { result ≡ spec.saved_of tid.0 self.now.saved }
+    {
+        rows::saved_of(&self.slots.rows, tid.0)
+    }
 }

@@ -70,7 +70,10 @@ fn thread_runs_and_leaves(rt: HostRuntime) -> Result<(), Fail> {
     assert_eq!(rt; threads.state(Tid(2)), None);
     runs_with(&rt, &mut threads, Tid(1), 0x1000, 7);
     expect_runs(&rt, &threads, Tid(1));
+    assert_eq!(rt; threads.saved(Tid(1)), None);
     threads.leave(Tid(1), saved(0x1004, 8));
+    assert_eq!(rt; threads.saved(Tid(1)), Some(saved(0x1004, 8)));
+    assert_eq!(rt; threads.saved(Tid(2)), None);
     runs_with(&rt, &mut threads, Tid(1), 0x1004, 8);
     Ok(())
 }

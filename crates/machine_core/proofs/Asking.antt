@@ -1,18 +1,17 @@
 -- Barriers on harts: which harts run threads, and the harts beside one that asks, or that takes its requests.
-use Rattle.std.proofs.Common.{◌≡◌, ◌≢◌, ℕ, zero, suc, ◌+◌, ◌-◌, ◌<◌, ◌≤◌, ◌^◌, List, length, set, refl, sym, ap, ◌∙◌, subst, arith, Bool, true, false, cond, eqb, eq-eqb, ◌||◌, Option, Some, None, is_some, slice_get, inl, inr}
+use Rattle.std.proofs.Common.{◌≡◌, ◌≢◌, ℕ, zero, suc, ◌+◌, ◌-◌, ◌<◌, ◌≤◌, ◌^◌, List, set, refl, sym, ap, ◌∙◌, subst, arith, Bool, true, false, cond, eqb, eq-eqb, ◌||◌, Option, Some, None, is_some, slice_get, inl, inr}
 use Rattle.std.specs.Option.{option_map, option_map_or}
 use Rattle.std.proofs.lemmas.Bool.{cases_eq, ne_eqb}
 use Rattle.std.proofs.lemmas.Option.{slice_get_past}
 use Rattle.mach_types.specs.Kernel.Barriers.{harts_that}
 use Rattle.mach_types.specs.Kernel.Scheduling.{has_hart}
 use Rattle.mach_types.specs.Kernel.Threads.{running_on}
-use Rattle.mach_types.specs.declared.user_memory.Write.{Write}
 use Rattle.hart_state.specs.declared.hart.HartState.{HartState}
 use Rattle.block_model.specs.Calls.Answers.{CallDone}
 use Rattle.block_model.specs.Calls.Barriers.{running_harts}
 use Rattle.block_model.specs.Events.Exec.{by_call}
-use Rattle.block_model.specs.Here.{Barrier, Done, Here}
-use Rattle.block_model.specs.Plain.{here_of, plain_seen}
+use Rattle.block_model.specs.Here.{Here}
+use Rattle.block_model.specs.Plain.{plain_seen}
 use Rattle.block_model.specs.Requests.{with_hart}
 use Rattle.block_model.specs.Setting.{Seen}
 use Rattle.block_model.specs.Sights.{thread}

@@ -1,9 +1,8 @@
 -- A signal that is delivered: what is kept of the signals, the handler that is entered or isn't, and the parts after it.
-use Rattle.std.proofs.Common.{◌≡◌, ◌≢◌, ℕ, zero, suc, ◌+◌, ◌-◌, ◌<◌, ◌≤◌, List, [], ◌∷◌, ◌++◌, append-nil, map, find, set, get_or, length, refl, sym, ap, ◌∙◌, subst, arith, Bool, true, false, not, cond, eqb, eq-eqb, ◌&&◌, ◌||◌, Option, Some, None, is_some, slice_get, ◌⊎◌, inl, inr}
+use Rattle.std.proofs.Common.{◌≡◌, ◌≢◌, ℕ, zero, suc, ◌+◌, ◌-◌, ◌≤◌, List, [], ◌∷◌, ◌++◌, append-nil, map, find, set, get_or, refl, sym, ap, ◌∙◌, subst, arith, Bool, true, false, not, cond, eqb, eq-eqb, ◌&&◌, ◌||◌, Option, Some, None, slice_get, ◌⊎◌, inl, inr}
 use Rattle.std.specs.List.{list_any}
 use Rattle.std.specs.Option.{option_map, option_map_or}
 use Rattle.std.proofs.lemmas.Bool.{cases_eq, le-ltb, ne_eqb}
-use Rattle.mach_types.specs.declared.limits.End.{End}
 use Rattle.mach_types.specs.declared.sequences.Area.{Area}
 use Rattle.mach_types.specs.declared.sequences.BadWhy.{BadWhy}
 use Rattle.mach_types.specs.declared.sequences.Outcome.{Outcome}
@@ -14,16 +13,15 @@ use Rattle.mach_types.specs.declared.signals.TheConstants.{SIGSEGV}
 use Rattle.mach_types.specs.declared.threads.Saved.{Saved}
 use Rattle.mach_types.specs.declared.user_memory.Write.{Write}
 use Rattle.mach_types.specs.Kernel.Areas.{area_of, interruption, pc_after, writes_of}
-use Rattle.mach_types.specs.Kernel.SignalFrames.{can_write_frame, entered, entered_action, frame_writes, handler_file, has_flag}
+use Rattle.mach_types.specs.Kernel.SignalFrames.{can_write_frame, entered, entered_action, frame_writes, has_flag}
 use Rattle.mach_types.specs.Kernel.Signals.{Signalling, acted, action_of, default_action, dropped, is_handler, is_held, is_ignored, is_ignored_by_default, is_of, mask_of, refuses_action, set_action, take_if, without_pending, without_signal}
 use Rattle.page_map.specs.Map.{byte_in, can_write_in}
-use Rattle.hart_state.specs.declared.hart.HartState.{HartState}
 use Rattle.sys_calls.specs.Registered.{areas_by_number}
 use Rattle.block_model.specs.Events.Signal.{done_delivery, dropped_if_ignored, file_interrupted, handled_unless_killed, kills, kills_unhandled, signals_handled, signals_taken}
 use Rattle.block_model.specs.Here.{Done, Here, is_writable}
-use Rattle.block_model.specs.History.{file_among, lost_after}
-use Rattle.block_model.specs.Sequences.{area_here, files_interrupted, interruption_here}
-use Rattle.machine_core.specs.Delivering.{IsDelivered, IsEntered, IsInterrupted, done_here, file_unless, frame_unless, killer_of, signals_unless}
+use Rattle.block_model.specs.History.{file_among}
+use Rattle.block_model.specs.Sequences.{area_here, interruption_here}
+use Rattle.machine_core.specs.Delivering.{IsDelivered, IsEntered, IsInterrupted, done_here, killer_of}
 use Rattle.machine_core.specs.Losing.{lost_unless}
 use Rattle.machine_core.specs.Stored.{IsWritten}
 use Rattle.machine_core.specs.declared.parts.Parts.{Parts}

@@ -1,14 +1,13 @@
 -- The event done: whose barrier returns, and the parts after it.
-use Rattle.std.proofs.Common.{◌≡◌, ◌≢◌, ℕ, ◌+◌, List, [], ◌∷◌, append-nil, refl, sym, ap, ◌∙◌, Bool, true, false, cond, eqb, eq-eqb, Option, Some, None, set}
+use Rattle.std.proofs.Common.{◌≡◌, ◌≢◌, ℕ, append-nil, refl, sym, ap, ◌∙◌, eq-eqb, Option, Some, None}
 use Rattle.std.specs.Option.{option_map}
 use Rattle.std.proofs.lemmas.Bool.{ne_eqb}
-use Rattle.mach_types.specs.Registers.{with_register}
 use Rattle.mach_types.specs.declared.events.Choice.TheVariants as asked
 use Rattle.mach_types.specs.declared.events.Tid.{Tid}
 use Rattle.mach_types.specs.declared.events.Why.{Why}
 use Rattle.mach_types.specs.declared.events.Why.TheVariants.{Idle}
 use Rattle.hart_state.specs.declared.hart.HartState.{HartState}
-use Rattle.block_model.specs.Events.{done_of, refusal_of}
+use Rattle.block_model.specs.Events.{refusal_of}
 use Rattle.block_model.specs.Events.Finish.{done_done_by, refusal_done_by, refusal_return}
 use Rattle.block_model.specs.Here.{Here, runs}
 use Rattle.block_model.specs.History.{file_among}

@@ -1,5 +1,5 @@
 -- The own hart after each kind of event.
-use Rattle.std.proofs.Common.{◌≡◌, ℕ, ◌+◌, ◌<◌, List, ◌∷◌, drop, refl, ◌∙◌, arith, true, false, Option, Some, None, append-nil, eq-eqb}
+use Rattle.std.proofs.Common.{◌≡◌, ℕ, ◌+◌, ◌<◌, List, ◌∷◌, drop, refl, ◌∙◌, arith, true, Option, Some, None, append-nil, eq-eqb}
 use Rattle.std.specs.Option.{option_map}
 use Rattle.mach_types.specs.Registers.{no_registers}
 use Rattle.mach_types.specs.declared.sequences.Outcome.{Outcome as Comes}

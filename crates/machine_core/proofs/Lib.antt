@@ -1,4 +1,5 @@
 mod Advanced
+mod Answering
 mod Appending
 mod Asking
 mod Calling

@@ -5,9 +5,10 @@ use Rattle.mach_types.specs.Bytes.{word_at}
 use Rattle.hart_state.specs.declared.hart.HartState.{HartState}
 use Rattle.page_map.specs.Map.{byte_in, can_write_in}
 use Rattle.rv_inst.specs.Execution.{seen_byte}
+use Rattle.sys_calls.specs.Made.{AreSaved}
 use Rattle.block_model.specs.Choosing.{credit_at}
 use Rattle.block_model.specs.Here.{Here, is_writable, memory, view, waiting_here}
-use Rattle.block_model.specs.History.{History, console, events, here_in_history, ran}
+use Rattle.block_model.specs.History.{History, console, events, file, here_in_history, kernel, ran}
 use Rattle.block_model.specs.Deciding.{history, over_at}
 use Rattle.block_model.specs.Plain.{Plain, plain_over, plain_seen}
 use Rattle.block_model.proofs.Laws.{same_here, same_state}
@@ -35,6 +36,13 @@ hart_read m h x machine lt value =
 -- the bytes that were written to the console
 pub console_read : (m : Inside) → IsMachine m → m.parts.kernel.console ≡ console (setting_of m) (history_of m)
 console_read m machine = machine.tied.console ∙ ap (λ (p : Plain). p.kernel.console) (same_state (seen m) machine.run)
+
+-- the kernel's record, and the file of each thread that doesn't run
+pub kernel_read : (m : Inside) → IsMachine m → (plain_seen (seen m)).kernel ≡ kernel (setting_of m) (history_of m)
+kernel_read m machine = ap (λ (p : Plain). p.kernel) (same_state (seen m) machine.run)
+
+pub saved_read : (m : Inside) → IsMachine m → AreSaved (λ t. file (setting_of m) t (history_of m)) m.parts.kernel.threads
+saved_read m machine u x at = machine.tied.saved u x at ∙ ap (λ (p : Plain). p.file u) (same_state (seen m) machine.run)
 
 -- how the run has ended
 pub over_read : (m : Inside) → IsMachine m → m.parts.ended ≡ over_at (setting_of m) (history_of m)

@@ -1,5 +1,5 @@
 -- The event of a signal: who receives it, and the parts after it.
-use Rattle.std.proofs.Common.{◌≡◌, ◌≢◌, ℕ, ◌+◌, ◌<◌, ◌^◌, List, [], ◌∷◌, append-nil, refl, sym, ap, ◌∙◌, subst, arith, Bool, true, false, cond, eqb, eq-eqb, not, is_some, length, Option, Some, None, slice_get, set, ◌⊎◌, inl, inr}
+use Rattle.std.proofs.Common.{◌≡◌, ◌≢◌, ℕ, List, [], ◌∷◌, append-nil, refl, sym, ap, ◌∙◌, subst, arith, Bool, true, false, cond, eqb, eq-eqb, not, is_some, length, Option, Some, None, slice_get, ◌⊎◌, inl, inr}
 use Rattle.std.specs.Option.{option_and_then, option_map}
 use Rattle.std.proofs.lemmas.Bool.{cases_eq, ne_eqb}
 use Rattle.std.proofs.lemmas.Option.{same_Some}
@@ -23,7 +23,7 @@ use Rattle.sys_calls.specs.Made.{AreSaved}
 use Rattle.sys_calls.specs.declared.kernel.Kernel.{Kernel}
 use Rattle.block_model.specs.Events.{done_of, refusal_of}
 use Rattle.block_model.specs.Events.Preempt.{unless_in_barrier, unless_waiting}
-use Rattle.block_model.specs.Events.Signal.{done_delivery, done_next, done_signal_by, handled_unless_killed, kills, refusal_delivery, refusal_signal_by}
+use Rattle.block_model.specs.Events.Signal.{done_next, done_signal_by, handled_unless_killed, kills, refusal_delivery, refusal_signal_by}
 use Rattle.block_model.specs.Here.{Done, Here, runs}
 use Rattle.block_model.specs.History.{file_among}
 use Rattle.block_model.specs.Plain.{Plain, here_in_plain, here_of, plain_seen}

@@ -1,12 +1,11 @@
 -- Signals at a place: they are kept of the thread on a hart, a fault's signal is one of 31, and which faults have handlers.
 use Rattle.std.proofs.Common.{◌≡◌, ℕ, ◌≤◌, ◌<◌, List, [], ◌∷◌, map, find, refl, sym, ap, ◌∙◌, arith, Bool, true, false, not, cond, eqb, ◌&&◌, ◌||◌, Option, Some, None, is_some, get_or, subst, ◌%◌}
 use Rattle.std.specs.List.{list_any}
-use Rattle.std.specs.Option.{option_map, option_or, option_and_then}
+use Rattle.std.specs.Option.{option_map}
 use Rattle.std.proofs.lemmas.Option.{same_Some}
 use Rattle.mach_types.specs.declared.events.Entry.{Entry}
 use Rattle.mach_types.specs.declared.events.Hart.{Hart}
 use Rattle.mach_types.specs.declared.events.Kind.{Kind}
-use Rattle.mach_types.specs.declared.events.Tid.{Tid}
 use Rattle.mach_types.specs.declared.signal_words.Action.{Action}
 use Rattle.mach_types.specs.declared.signal_words.ThreadSignals.{ThreadSignals}
 use Rattle.mach_types.specs.declared.signals.TheConstants.{SIGBUS, SIGSEGV}
@@ -17,7 +16,7 @@ use Rattle.mach_types.specs.Kernel.Threads.{Thread, Threads, is_live, is_thread}
 use Rattle.elf_load.specs.declared.image.ImagePage.{ImagePage}
 use Rattle.hart_state.specs.declared.hart.HartState.{HartState}
 use Rattle.rv_inst.specs.Class.{atomic_write, conditional_write, plain_read, plain_write, reserving_read}
-use Rattle.rv_inst.specs.Execution.{access_fault, fault_in, is_allowed, unless_allowed, unless_aligned}
+use Rattle.rv_inst.specs.Execution.{access_fault, fault_in, is_allowed, unless_allowed}
 use Rattle.rv_inst.specs.declared.class.Access.{Access}
 use Rattle.rv_inst.specs.declared.effects.Effect.{Effect}
 use Rattle.rv_inst.specs.declared.effects.Effect.TheVariants as effect
@@ -54,9 +53,9 @@ live_numbered t (x ∷ xs) = go (is_thread t x) ∙ ap (λ b. is_thread t x || b
     go true = refl
     go false = refl
 
--- where the signals are those of the live threads, those of a live thread are kept
-pub held_where_live : (t : ℕ) (ts : Threads) (g : Signalling) → AreSignalsOfLive ts g → is_live t ts ≡ true → is_held t g ≡ true
-held_where_live t ts g of live = any_numbered t g.threads ∙ ap (list_any (λ u. eqb u t)) of ∙ sym (live_numbered t ts.live) ∙ live
+-- where the signals are those of the live threads, those of a thread are kept where it is live
+pub held_as_live : (t : ℕ) (ts : Threads) (g : Signalling) → AreSignalsOfLive ts g → is_held t g ≡ is_live t ts
+held_as_live t ts g of = any_numbered t g.threads ∙ ap (list_any (λ u. eqb u t)) of ∙ sym (live_numbered t ts.live)
 
 -- a thread that runs on a hart of the machine is live, and so its signals are kept
 pub held_where_run : (v : Seen) (m : Parts) (h t : ℕ) → IsBlockRun v.setting v.log → IsTied v.setting (plain_seen v) m → h < v.setting.limits.harts
@@ -64,7 +63,7 @@ pub held_where_run : (v : Seen) (m : Parts) (h t : ℕ) → IsBlockRun v.setting
 held_where_run v m h t run tied lt at =
     let k = (plain_seen v).kernel in
     let state = running_is v.setting.limits.harts h t k.threads k.scheduling (place_good v h run lt).kernel.tables at in
-    ap (is_held t) tied.signals ∙ held_where_live t k.threads k.signals (live_signals v run) (live_with t (Running (record { 0 = h })) k.threads state)
+    ap (is_held t) tied.signals ∙ held_as_live t k.threads k.signals (live_signals v run) ∙ live_with t (Running (record { 0 = h })) k.threads state
 
 pub held_at : (v : Seen) (m : Parts) (h t : ℕ) → IsPlace v m h → runs (here_of v h) ≡ Some t → is_held t m.kernel.signals ≡ true
 held_at v m h t place at = held_where_run v m h t place.run place.tied place.lt at

@@ -29,6 +29,11 @@ pub refused : (v : Seen) (m : Parts) (h : ℕ) (c : Choice) (r : Result Entry Wh
 refused v m h c r why place answer is =
     at_kind v h c place.run place.goes place.room place.lt ∙ answer_err (entry_in c (here_of v h)) why (refusal_of c (here_of v h)) (sym answer ∙ is)
 
+-- a choice that is allowed
+pub allowed : (v : Seen) (m : Parts) (h : ℕ) (c : Choice) (r : Result Entry Why) (e : Entry) → IsPlace v m h → r ≡ answer_to v h c → r ≡ Ok e → decide v.setting (history v.setting v.log) h c ≡ Ok e
+allowed v m h c r e place answer is =
+    at_kind v h c place.run place.goes place.room place.lt ∙ answer_ok (entry_in c (here_of v h)) e (refusal_of c (here_of v h)) (sym answer ∙ is)
+
 -- a choice that is made
 pub record IsStep (v : Seen) (h : Hart) (c : Choice) (e : Entry) (m' : Parts) : Type 0 where
   pub decided : decide v.setting (history v.setting v.log) h.0 c ≡ Ok e
@@ -39,7 +44,7 @@ pub record IsStep (v : Seen) (h : Hart) (c : Choice) (e : Entry) (m' : Parts) : 
 
 pub stepped : (v : Seen) (m m' : Parts) (h : Hart) (c : Choice) (r : Result Entry Why) (e : Entry) → IsPlace v m h.0 → r ≡ answer_to v h.0 c → r ≡ Ok e → IsAfter v h.0 (done_of c (here_of v h.0)) m m' → IsStep v h c e m'
 stepped v m m' h c r e place answer is after =
-    let decided = at_kind v h.0 c place.run place.goes place.room place.lt ∙ answer_ok (entry_in c (here_of v h.0)) e (refusal_of c (here_of v h.0)) (sym answer ∙ is) in
+    let decided = allowed v m h.0 c r e place answer is in
     let of = decided_is v.setting (history v.setting v.log) h.0 c e decided in
     let d = done_of c (here_of v h.0) in
     let asked = ap (λ k. decide v.setting (history v.setting v.log) k (choice_of e)) of.0 ∙ (ap (decide v.setting (history v.setting v.log) h.0) of.1 ∙ decided) in

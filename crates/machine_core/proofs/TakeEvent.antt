@@ -1,6 +1,6 @@
 -- The event take: what the interruption of the hart's thread comes to, if it is to restart, and the parts after it.
-use Rattle.std.proofs.Common.{◌≡◌, ◌≢◌, ℕ, ◌+◌, ◌<◌, ◌^◌, List, [], ◌∷◌, append-nil, refl, sym, ap, ◌∙◌, subst, arith, Bool, true, false, cond, eqb, eq-eqb, length, Option, Some, None, slice_get, set, inl, inr}
-use Rattle.std.specs.Option.{option_and_then, option_map, option_map_or, option_or}
+use Rattle.std.proofs.Common.{◌≡◌, ◌≢◌, ℕ, ◌+◌, List, [], append-nil, refl, sym, ap, ◌∙◌, subst, arith, Bool, true, false, cond, eqb, eq-eqb, Option, Some, None, slice_get, set, inl, inr}
+use Rattle.std.specs.Option.{option_and_then, option_map, option_or}
 use Rattle.std.proofs.lemmas.Bool.{cases_eq, ne_eqb}
 use Rattle.mach_types.specs.Kernel.Areas.{interruption, pc_after, writes_of}
 use Rattle.mach_types.specs.declared.events.Choice.TheVariants as asked
@@ -14,8 +14,6 @@ use Rattle.mach_types.specs.declared.user_memory.Write.{Write}
 use Rattle.hart_state.specs.declared.hart.HartState.{HartState}
 use Rattle.page_map.specs.Map.{Map, byte_in, can_write_in}
 use Rattle.sys_calls.specs.Made.{AreSaved}
-use Rattle.sys_calls.specs.declared.kernel.Kernel.{Kernel}
-use Rattle.block_model.specs.Deciding.{final}
 use Rattle.block_model.specs.Events.{done_of, refusal_of}
 use Rattle.block_model.specs.Events.Preempt.{unless_waiting}
 use Rattle.block_model.specs.Events.Take.{done_take, done_take_by, killed_by, only_took, took_and_interrupted}

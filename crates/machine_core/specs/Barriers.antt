@@ -1,6 +1,6 @@
 -- Barriers on harts (membarrier(2)): which harts run threads, what a barrier asks of a hart, and what a hart that takes its requests
 -- makes of itself and of the others.
-use Rattle.std.specs.Prelude.{ℕ, ◌≡◌, ◌+◌, ◌==◌, ◌||◌, Bool, false, List, if◌then◌else◌, Option, Some, None, is_some, slice_get}
+use Rattle.std.specs.Prelude.{ℕ, ◌≡◌, ◌+◌, ◌==◌, ◌||◌, Bool, false, List, if◌then◌else◌, Option, None, is_some, slice_get}
 use Rattle.std.specs.Option.{option_and_then, option_map, option_map_or, option_or}
 use Rattle.mach_types.specs.Kernel.Areas.{pc_after}
 use Rattle.mach_types.specs.Registers.{with_register}

@@ -42,7 +42,7 @@ impl Parts {
     }
 
     /// Why a hart can't take requests.
-    fn refusal_take(&self, hart: Hart) -> Option<Why>
+    pub fn refusal_take(&self, hart: Hart) -> Option<Why>
         requires { HasPlace self.now hart.0 }
         ensures { (v : Seen) → IsPlace v self.now hart.0 → result ≡ refusal_of Choice.Take (here_of v hart.0) }
     {
@@ -118,7 +118,7 @@ impl Parts {
     }
 
     /// Why no barrier of the thread on a hart can return.
-    fn refusal_done(&self, hart: Hart) -> Option<Why>
+    pub fn refusal_done(&self, hart: Hart) -> Option<Why>
         requires { HasPlace self.now hart.0 }
         ensures { (v : Seen) → IsPlace v self.now hart.0 → result ≡ refusal_of Choice.Done (here_of v hart.0) }
     {

@@ -71,7 +71,7 @@ impl Parts {
     }
 
     /// Why no signal is delivered to the thread on a hart.
-    fn refusal_signal(&self, hart: Hart) -> Option<Why>
+    pub fn refusal_signal(&self, hart: Hart) -> Option<Why>
         requires { HasPlace self.now hart.0 }
         ensures { (v : Seen) → IsPlace v self.now hart.0 → result ≡ refusal_of Choice.Signal (here_of v hart.0) }
     {

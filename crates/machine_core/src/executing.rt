@@ -36,6 +36,16 @@ impl Parts {
         }
     }
 
+    /// Why the thread on a hart may not execute its next instruction.
+    pub fn refusal_exec(&self, code: &Code, hart: Hart) -> Option<Why>
+        requires { HasCode code.now self.now hart.0 }
+        ensures { (v : Seen) → IsPlace v self.now hart.0 → code.now ≡ v.setting.program.pages → result ≡ refusal_of Choice.Exec (here_of v hart.0) }
+    {
+        let state = &self.harts[hart.0 as usize];
+        let next = next_of(code, &self.pages, state);
+        self.exec_gate(hart, &next)
+    }
+
     /// A fault: its signal becomes pending for the thread where it has a handler, and else the process is killed by it.
     fn fault(&mut self, hart: Hart, signal: u8) -> Entry
         requires { (effect : Option Effect) × HasPlan self.old hart.0 (record { effect = effect; fault = Some signal }) }

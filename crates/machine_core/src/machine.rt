@@ -1,12 +1,14 @@
 //! The machine: boot, one event, and what is read of it.
 
-ghost use Rattle.std.specs.Prelude.{◌≡◌, ◌<◌, ◌≤◌, ◌++◌, [], ◌∷◌, All, IfOk, OnErr, length, vec_len, vec_capacity};
+ghost use Rattle.std.specs.Prelude.{◌≡◌, ◌<◌, ◌≤◌, ◌++◌, [], ◌∷◌, false, All, Err, IfOk, IfNone, IfSome, OnErr, length, vec_len, vec_capacity};
 ghost use Rattle.mach_types.specs.Events.{choice_of};
 ghost use Rattle.mach_types.specs.Limits.{InRange};
+ghost use Rattle.mach_types.specs.declared.events.Choice.{Choice};
 ghost use Rattle.elf_load.specs.Images.{IsBootable};
 ghost use Rattle.elf_load.specs.Start.{program_of, start_file};
 ghost use Rattle.hart_state.specs.State.{idle_hart};
 ghost use Rattle.block_model.specs.Setting.{setting_of as setting_by};
+ghost use Rattle.block_model.specs.Choosing.{has_ended};
 ghost use Rattle.block_model.specs.History.{console as console_bytes};
 ghost use Rattle.block_model.specs.Deciding.{history, decide, end_of};
 ghost use Rattle.block_model.specs.Run.{IsBlockRun};
@@ -174,6 +176,26 @@ impl Machine {
         }
     }
 
+    /// The refusal of every choice of a hart: the run has ended, or the log is full, or the machine hasn't the hart. None where
+    /// the choice decides.
+    #[inline(always)]
+    fn common_refusal(&self, hart: Hart) -> Option<Refused>
+        ensures barred { IfSome result (λ why. (c : Choice) → decide self.now.setting (history self.now.setting self.now.log) hart.0 c ≡ Err why) }
+        ensures goes { IfNone result (has_ended self.now.setting (history self.now.setting self.now.log) ≡ false) }
+        ensures hart { IfNone result (hart.0 < self.now.setting.limits.harts) }
+    {
+        if let Some(end) = self.parts.ended {
+            return Some(Refused::Ended(end));
+        }
+        if self.log.len() >= self.limits.steps as usize {
+            return Some(Refused::Full);
+        }
+        if hart.0 >= self.limits.harts {
+            return Some(Refused::NotEnabled(Why::NoHart));
+        }
+        None
+    }
+
     /// One event of a hart: exactly the entry that is allowed at this place of the log, or the first
     /// refusal that is due. A refused step changes nothing.
     #[inline(always)]
@@ -184,14 +206,8 @@ impl Machine {
         ensures err { OnErr result (self.new ≡ self.old) }
         ensures block_run { IsBlockRun self.new.setting self.new.log }
     {
-        if let Some(end) = self.parts.ended {
-            return Err(Refused::Ended(end));
-        }
-        if self.log.len() >= self.limits.steps as usize {
-            return Err(Refused::Full);
-        }
-        if hart.0 >= self.limits.harts {
-            return Err(Refused::NotEnabled(Why::NoHart));
+        if let Some(refused) = self.common_refusal(hart) {
+            return Err(refused);
         }
         if self.is_chosen() {
             return self.step_chosen(hart, choice);

@@ -17,7 +17,7 @@ use mach_types::{Choice, Entry, Hart, Kind, Store, Tid, UserMem, Why, Write};
 
 impl Parts {
     /// Why no store of a hart can enter memory.
-    fn refusal_drain(&self, hart: Hart) -> Option<Why>
+    pub fn refusal_drain(&self, hart: Hart) -> Option<Why>
         requires { HasPlace self.now hart.0 }
         ensures { (v : Seen) → IsPlace v self.now hart.0 → result ≡ refusal_of Choice.Drain (here_of v hart.0) }
     {
@@ -84,7 +84,7 @@ impl Parts {
     }
 
     /// Why the thread on a hart can't leave it.
-    fn refusal_preempt(&self, hart: Hart) -> Option<Why>
+    pub fn refusal_preempt(&self, hart: Hart) -> Option<Why>
         requires { HasPlace self.now hart.0 }
         ensures { (v : Seen) → IsPlace v self.now hart.0 → result ≡ refusal_of Choice.Preempt (here_of v hart.0) }
     {
@@ -128,7 +128,7 @@ impl Parts {
     }
 
     /// Why a thread can't begin to run on a hart.
-    fn refusal_run(&self, hart: Hart, tid: Tid) -> Option<Why>
+    pub fn refusal_run(&self, hart: Hart, tid: Tid) -> Option<Why>
         requires { HasPlace self.now hart.0 }
         ensures { (v : Seen) → IsPlace v self.now hart.0 → result ≡ refusal_of (Choice.Run tid) (here_of v hart.0) }
     {

@@ -1,12 +1,13 @@
 //! The parts of a machine, without its log, and which of its events are refused.
 
-ghost use Rattle.std.specs.Prelude.{◌≡◌, IfOk, OnErr};
+ghost use Rattle.std.specs.Prelude.{◌≡◌, None, IfOk, OnErr};
 ghost use Rattle.mach_types.specs.Kernel.Threads.{is_ready};
 ghost use Rattle.block_model.specs.Setting.{Seen};
-ghost use Rattle.block_model.specs.Events.{done_of};
+ghost use Rattle.block_model.specs.Deciding.{entry_in};
+ghost use Rattle.block_model.specs.Events.{done_of, refusal_of};
 ghost use Rattle.block_model.specs.Plain.{here_of};
 ghost use Rattle.machine_core.specs.Deeds.{entry_from};
-ghost use Rattle.machine_core.specs.Tied.{IsPlace, HasCode, IsAfter, answer_to};
+ghost use Rattle.machine_core.specs.Tied.{IsPlace, HasCode, IsAfter, MayMake, answer_to};
 
 use crate::code::Code;
 use hart_state::HartState;
@@ -72,6 +73,60 @@ impl Parts {
             Choice::Preempt => self.preempt(hart),
             Choice::Run(tid) => self.run(hart, tid),
             Choice::Signal => self.signal(hart),
+        }
+    }
+
+    /// The first condition of a choice on a hart that fails; None exactly where the choice is allowed.
+    pub fn refusal(&self, code: &Code, hart: Hart, choice: Choice) -> Option<Why>
+        requires { HasCode code.now self.now hart.0 }
+        ensures { (v : Seen) → IsPlace v self.now hart.0 → code.now ≡ v.setting.program.pages → result ≡ refusal_of choice (here_of v hart.0) }
+    {
+        match choice {
+            Choice::Exec => self.refusal_exec(code, hart),
+            Choice::Drain => self.refusal_drain(hart),
+            Choice::Take => self.refusal_take(hart),
+            Choice::Done => self.refusal_done(hart),
+            Choice::Preempt => self.refusal_preempt(hart),
+            Choice::Run(tid) => self.refusal_run(hart, tid),
+            Choice::Signal => self.refusal_signal(hart),
+        }
+    }
+
+    /// The entry of a ready thread that may begin to run on a hart.
+    fn entry_of_run(&self, hart: Hart, tid: Tid) -> Entry
+        requires { MayMake self.now hart.0 (Choice.Run tid) }
+        ensures { (v : Seen) → IsPlace v self.now hart.0 → result ≡ entry_in (Choice.Run tid) (here_of v hart.0) }
+    {
+        let Some(saved) = self.kernel.threads.saved(tid) else {
+            unreachable!()
+        };
+        Entry {
+            hart,
+            kind: Kind::Run,
+            tid,
+            pc: saved.pc,
+        }
+    }
+
+    /// The entry of a choice on a hart that is allowed.
+    fn entry(&self, hart: Hart, choice: Choice) -> Entry
+        requires { MayMake self.now hart.0 choice }
+        ensures { (v : Seen) → IsPlace v self.now hart.0 → result ≡ entry_in choice (here_of v hart.0) }
+    {
+        match choice {
+            Choice::Run(tid) => self.entry_of_run(hart, tid),
+            _ => entry_of(hart, choice.kind(), &self.harts[hart.0 as usize]),
+        }
+    }
+
+    /// What [`Parts::make`] would answer to a choice on a hart. Nothing changes.
+    pub fn answer(&self, code: &Code, hart: Hart, choice: Choice) -> Result<Entry, Why>
+        requires { HasCode code.now self.now hart.0 }
+        ensures { (v : Seen) → IsPlace v self.now hart.0 → code.now ≡ v.setting.program.pages → result ≡ answer_to v hart.0 choice }
+    {
+        match self.refusal(code, hart, choice) {
+            Some(why) => Err(why),
+            None => Ok(self.entry(hart, choice)),
         }
     }
 }

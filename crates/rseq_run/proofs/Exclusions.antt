@@ -16,14 +16,14 @@ use Rattle.rseq_run.specs.declared.faults.Fault.TheVariants.{Usage, Read, Memory
 use Rattle.rseq_run.specs.Causes.{HasBigFile, IsBigScript, IsCauseOf, IsRefusalOf, IsScriptRefusalOf}
 use Rattle.rseq_run.specs.Causes.{IsScriptRefused, ReadFailed}
 use Rattle.rseq_run.specs.Needs.{Needs, Nothing, Program, Script, needs_of}
-use Rattle.rseq_run.specs.Outputs.{IsOutputOf}
+use Rattle.rseq_run.specs.Outputs.{IsOutputOf, IsPlayed}
 use Rattle.rseq_run.specs.Programs.{Files, IsFaulty, IsGood, IsProgram, IsReadAs, IsRefused, IsScript}
 use Rattle.rseq_run.specs.Programs.{IsTooBig, asks_of, most_program_bytes, most_script_bytes, start_of}
 use Rattle.rseq_run.specs.Runs.{IsFirstBadLine, IsPlayedRun}
 use Rattle.rseq_run.specs.Statuses.{fault_status}
 use Rattle.rseq_run.specs.Told.{TellsBadScript, TellsBig, TellsBigFile, TellsBoth, TellsFaulty}
 use Rattle.rseq_run.specs.Told.{TellsFaultyProgram, TellsGood, TellsGoodFiles}
-use Rattle.command_words.specs.Grammar.{Command, Solo, Play, Run}
+use Rattle.command_words.specs.Grammar.{Command, Solo, Play, Blocks, Run}
 
 -- a file that is told was read as it is
 read_as_told : (files : Files) (name bytes told : List ℕ) → IsReadAs files name bytes → files name ≡ Some told
@@ -99,12 +99,19 @@ AreUsed files (Script program script limits) =
     (image : Image) × (lines : List ℕ) × (log : List Entry) × IsProgram files program limits image
     × IsScript files script lines × IsPlayedRun (start_of image limits) lines log
 
+used_by_script : (files : Files) (program script : List ℕ) (limits : Limits) (image : Image) (log : List Entry)
+    → IsPlayed files program script limits image log → AreUsed files (Script program script limits)
+used_by_script files program script limits image log played =
+    (image, played.lines, log, played.taken, played.read, played.run)
+
 pub used_by_output : (files : Files) (command : Option Command) (written : List ℕ)
     → IsOutputOf files command written → AreUsed files (needs_of command)
 used_by_output files None written output = tt
 used_by_output files (Some (Solo program limits)) written output = (output.image, output.taken)
 used_by_output files (Some (Play program script limits)) written output =
-    (output.image, output.lines, output.log, output.taken, output.read, output.run)
+    used_by_script files program script limits output.image output.log output.played
+used_by_output files (Some (Blocks program script limits)) written output =
+    used_by_script files program script limits output.image output.log output.played
 used_by_output files (Some (Run program limits seed)) written output = (output.image, output.taken)
 
 -- the program is good

@@ -10,5 +10,6 @@ mod Repeats
 mod Seeds
 mod SoloSteps
 mod Stretches
+mod Summaries
 mod Taken
 mod Wholes

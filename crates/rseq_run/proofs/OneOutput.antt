@@ -5,16 +5,16 @@ use Rattle.std.specs.Prelude.{IsSome, IfSome}
 use Rattle.mach_types.specs.declared.limits.Limits.{Limits}
 use Rattle.elf_load.specs.declared.image.Image.{Image}
 use Rattle.elf_load.specs.Images.{IsImage}
-use Rattle.block_model.specs.Plain.{plain_run, plain_solo}
+use Rattle.block_model.specs.Plain.{PlainRun, plain_run, plain_solo}
 use Rattle.block_model.specs.Replay.{Ask}
 use Rattle.block_model.specs.Setting.{Setting}
 use Rattle.block_model.proofs.Laws.{one_setting}
 use Rattle.rseq_run.specs.Needs.{Needs, Nothing, Program, Script, needs_of}
-use Rattle.rseq_run.specs.Outputs.{IsOutputOf, IsPlainOutputOf, IsPlainPlayOutput, IsPlainSoloOutput}
-use Rattle.rseq_run.specs.Outputs.{plain_output}
+use Rattle.rseq_run.specs.Outputs.{IsOutputOf, IsPlainBlocksOutput, IsPlainOutputOf, IsPlainPlayOutput}
+use Rattle.rseq_run.specs.Outputs.{IsPlainPlayed, IsPlainSoloOutput, plain_output, plain_summary}
 use Rattle.rseq_run.specs.Programs.{Files, IsProgram, asks_of, start_of}
 use Rattle.rseq_run.specs.Told.{AreTold, TellsGoodFiles}
-use Rattle.command_words.specs.Grammar.{Command, Solo, Play, Run}
+use Rattle.command_words.specs.Grammar.{Command, Solo, Play, Blocks, Run}
 use Rattle.command_words.specs.Words.{is_run}
 use Rattle.rseq_run.proofs.Exclusions.{AreUsed, used_by_output}
 use Rattle.rseq_run.proofs.PlainOutputs.{plain_output_of}
@@ -50,18 +50,35 @@ same_asks (x ∷ xs) (y ∷ ys) same =
     let rest : map Some xs ≡ map Some ys = cc in
     ap₂ (λ z zs. z ∷ zs) first (same_asks xs ys rest)
 
+-- a script that is told is played in one way
+one_run : (files : Files) (program script : List ℕ) (limits : Limits) (a b : Image) (run other : PlainRun)
+    → IsSome (files program) → IsSome (files script) → IsPlainPlayed files program script limits a run
+    → IsPlainPlayed files program script limits b other → (start_of a limits ≡ start_of b limits) × (run ≡ other)
+one_run files program script limits a b run other told script_told first second =
+    let start = one_start files program limits a b told first.taken second.taken in
+    let text = one_reading (files script) first.lines second.lines script_told first.read.read
+    second.read.read in
+    let asks = same_asks first.asks second.asks (sym first.readable ∙ ap asks_of text ∙ second.readable) in
+    let made : plain_run (start_of b limits) second.asks ≡ Ok run =
+    ap₂ plain_run (sym start) (sym asks) ∙ first.made in
+    let is = second.made in
+    (start, (cc))
+
 one_play : (files : Files) (program script : List ℕ) (limits : Limits) (a b : List ℕ) → IsSome (files program)
     → IsSome (files script) → IsPlainPlayOutput files program script limits a
     → IsPlainPlayOutput files program script limits b → a ≡ b
 one_play files program script limits a b told script_told first second =
-    let start = one_start files program limits first.image second.image told first.taken second.taken in
-    let text = one_reading (files script) first.lines second.lines script_told first.read.read
-    second.read.read in
-    let asks = same_asks first.asks second.asks (sym first.readable ∙ ap asks_of text ∙ second.readable) in
-    let made : plain_run (start_of second.image limits) second.asks ≡ Ok first.run =
-    ap₂ plain_run (sym start) (sym asks) ∙ first.made in
-    let run : first.run ≡ second.run = cc in
-    first.text ∙ ap₂ plain_output start run ∙ sym second.text
+    let one = one_run files program script limits first.image second.image first.run second.run told script_told
+    first.played second.played in
+    first.text ∙ ap₂ plain_output one.0 one.1 ∙ sym second.text
+
+one_blocks : (files : Files) (program script : List ℕ) (limits : Limits) (a b : List ℕ) → IsSome (files program)
+    → IsSome (files script) → IsPlainBlocksOutput files program script limits a
+    → IsPlainBlocksOutput files program script limits b → a ≡ b
+one_blocks files program script limits a b told script_told first second =
+    let one = one_run files program script limits first.image second.image first.run second.run told script_told
+    first.played second.played in
+    first.text ∙ ap₂ plain_summary one.0 one.1 ∙ sym second.text
 
 one_plain : (files : Files) (command : Option Command) (a b : List ℕ) → is_run command ≡ false
     → AreTold files (needs_of command)
@@ -71,6 +88,8 @@ one_plain files (Some (Solo program limits)) a b no_run told first second =
     one_solo files program limits a b told first second
 one_plain files (Some (Play program script limits)) a b no_run told first second =
     one_play files program script limits a b told.0 told.1 first second
+one_plain files (Some (Blocks program script limits)) a b no_run told first second =
+    one_blocks files program script limits a b told.0 told.1 first second
 one_plain files (Some (Run program limits seed)) a b no_run told first second = absurd (cc no_run)
 
 pub one_output : (files : Files) (command : Option Command) (a b : List ℕ) → is_run command ≡ false
@@ -117,6 +136,7 @@ some_need : (files : Files) (command : Option Command) (written : List ℕ) → 
 some_need files None written output none = absurd output
 some_need files (Some (Solo program limits)) written output none = absurd cc
 some_need files (Some (Play program script limits)) written output none = absurd cc
+some_need files (Some (Blocks program script limits)) written output none = absurd cc
 some_need files (Some (Run program limits seed)) written output none = absurd cc
 
 pub good_files : (files : Files) (command : Option Command) (written : List ℕ)

@@ -2,16 +2,19 @@
 use Rattle.std.proofs.Common.{◌≡◌, ℕ, List, refl, ◌∙◌, Option, Some, None}
 use Rattle.mach_types.specs.declared.events.Entry.{Entry}
 use Rattle.mach_types.specs.declared.limits.Limits.{Limits}
+use Rattle.elf_load.specs.declared.image.Image.{Image}
 use Rattle.block_model.specs.Plain.{PlainRun, plain_solo}
 use Rattle.block_model.specs.PlainSays.{SaysOf}
 use Rattle.block_model.specs.Replay.{script_of}
 use Rattle.block_model.specs.Setting.{Setting, setting_of}
 use Rattle.block_model.proofs.Laws.{answers_itself, plain_makes, plain_solo_log, plain_solo_says, run_is_played}
-use Rattle.rseq_run.specs.Outputs.{IsOutputOf, IsPlainOutputOf, IsPlainPlayOutput, IsPlainSoloOutput}
-use Rattle.rseq_run.specs.Outputs.{IsPlainRunOutput, IsPlayOutput, IsRunOutput, IsSoloOutput, log_output, plain_output}
+use Rattle.rseq_run.specs.Outputs.{IsBlocksOutput, IsOutputOf, IsPlainBlocksOutput, IsPlainOutputOf}
+use Rattle.rseq_run.specs.Outputs.{IsPlainPlayOutput, IsPlainPlayed, IsPlainRunOutput, IsPlainSoloOutput}
+use Rattle.rseq_run.specs.Outputs.{IsPlayOutput, IsPlayed, IsRunOutput, IsSoloOutput, log_output, log_summary}
+use Rattle.rseq_run.specs.Outputs.{plain_output, plain_summary}
 use Rattle.rseq_run.specs.Programs.{Files, start_of}
 use Rattle.rseq_run.specs.Runs.{IsSoloRun}
-use Rattle.command_words.specs.Grammar.{Command, Solo, Play, Run}
+use Rattle.command_words.specs.Grammar.{Command, Solo, Play, Blocks, Run}
 
 -- a machine that says of a log what is read from it prints the log's text
 prints_alike : (s : Setting) (log : List Entry) (run : PlainRun) → run.log ≡ log → SaysOf s log run.machine
@@ -35,23 +38,60 @@ plain_solo_output files program limits written output = record {
   text = output.text ∙ solo_text (start_of output.image limits) output.log output.run;
 }
 
+-- and it sums up the log's acts
+sums_up_alike : (s : Setting) (log : List Entry) (run : PlainRun) → run.log ≡ log → SaysOf s log run.machine
+    → log_summary s log ≡ plain_summary s run
+sums_up_alike s log run same says =
+    let end = says.same_end in
+    cc
+
+-- the plain machine's run over a script that was played
+record IsPlayedAlike
+    (files : Files) (program script : List ℕ) (limits : Limits) (image : Image) (log : List Entry) : Type 0 where
+  run : PlainRun
+  same : run.log ≡ log
+  played : IsPlainPlayed files program script limits image run
+  says : SaysOf (start_of image limits) log run.machine
+
+played_alike : (files : Files) (program script : List ℕ) (limits : Limits) (image : Image) (log : List Entry)
+    → IsPlayed files program script limits image log → IsPlayedAlike files program script limits image log
+played_alike files program script limits image log played =
+    let made = plain_makes (start_of image limits) played.run.lines log
+    (run_is_played (start_of image limits) played.run.lines log played.run.block_run played.run.answers) in
+    record {
+      run = record { log = log; machine = made.machine };
+      same = refl;
+      played = record {
+        taken = played.taken;
+        lines = played.lines;
+        read = played.read;
+        asks = played.run.lines;
+        readable = played.run.readable;
+        made = made.made;
+      };
+      says = made.says;
+    }
+
 plain_play_output : (files : Files) (program script : List ℕ) (limits : Limits) (written : List ℕ)
     → IsPlayOutput files program script limits written → IsPlainPlayOutput files program script limits written
 plain_play_output files program script limits written output =
-    let s = start_of output.image limits in
-    let made = plain_makes s output.run.lines output.log
-    (run_is_played s output.run.lines output.log output.run.block_run output.run.answers) in
+    let made = played_alike files program script limits output.image output.log output.played in
     record {
       image = output.image;
-      taken = output.taken;
-      lines = output.lines;
-      read = output.read;
-      asks = output.run.lines;
-      readable = output.run.readable;
-      run = record { log = output.log; machine = made.machine };
-      made = made.made;
-      text = output.text ∙ prints_alike s output.log (record { log = output.log; machine = made.machine })
-          refl made.says;
+      run = made.run;
+      played = made.played;
+      text = output.text ∙ prints_alike (start_of output.image limits) output.log made.run made.same made.says;
+    }
+
+plain_blocks_output : (files : Files) (program script : List ℕ) (limits : Limits) (written : List ℕ)
+    → IsBlocksOutput files program script limits written → IsPlainBlocksOutput files program script limits written
+plain_blocks_output files program script limits written output =
+    let made = played_alike files program script limits output.image output.log output.played in
+    record {
+      image = output.image;
+      run = made.run;
+      played = made.played;
+      text = output.text ∙ sums_up_alike (start_of output.image limits) output.log made.run made.same made.says;
     }
 
 plain_run_output : (files : Files) (program : List ℕ) (limits : Limits) (seed : ℕ) (written : List ℕ)
@@ -78,5 +118,7 @@ plain_output_of files (Some (Solo program limits)) written output =
     plain_solo_output files program limits written output
 plain_output_of files (Some (Play program script limits)) written output =
     plain_play_output files program script limits written output
+plain_output_of files (Some (Blocks program script limits)) written output =
+    plain_blocks_output files program script limits written output
 plain_output_of files (Some (Run program limits seed)) written output =
     plain_run_output files program limits seed written output

@@ -153,11 +153,13 @@ output_again files later program script limits written image log range same take
     (entry_fits files program limits image taken) (image_bytes taken.bytes image taken.are_bytes taken.loaded) run in
     record {
       image = image;
-      taken = taken_again files later program limits image same taken;
-      lines = log_text log;
-      read = record { read = read; fits = log_fits (start_of image limits) log range run fits };
       log = log;
-      run = played_again (start_of image limits) log run fits;
+      played = record {
+        taken = taken_again files later program limits image same taken;
+        lines = log_text log;
+        read = record { read = read; fits = log_fits (start_of image limits) log range run fits };
+        run = played_again (start_of image limits) log run fits;
+      };
       text = text;
     }
 
@@ -173,8 +175,8 @@ pub play_again : (files later : Files) (program first script : List ℕ) (limits
     → (output : IsPlayOutput files program first limits written) → IsReadAs later script (log_text output.log)
     → IsPlayOutput later program script limits written
 play_again files later program first script limits written range same output read =
-    output_again files later program script limits written output.image output.log range same output.taken
-    output.run.block_run output.text read
+    output_again files later program script limits written output.image output.log range same output.played.taken
+    output.played.run.block_run output.text read
 
 -- a run by workers is one without a seed too, with the same text
 pub run_again : (files later : Files) (program script : List ℕ) (limits : Limits) (seed : ℕ) (written : List ℕ)

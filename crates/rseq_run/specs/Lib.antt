@@ -9,5 +9,6 @@ pub mod Programs
 pub mod Runs
 pub mod Sharing
 pub mod Statuses
+pub mod Summary
 pub mod Text
 pub mod Told

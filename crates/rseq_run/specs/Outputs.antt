@@ -8,15 +8,21 @@ use Rattle.block_model.specs.History.{console}
 use Rattle.block_model.specs.Deciding.{history, end_of}
 use Rattle.block_model.specs.Plain.{PlainRun, plain_end, plain_run, plain_solo}
 use Rattle.block_model.specs.Replay.{Ask, script_of}
+use Rattle.block_view.specs.Acts.{acts_of}
 use Rattle.rseq_run.specs.Programs.{Files, IsProgram, IsScript, asks_of, start_of}
 use Rattle.rseq_run.specs.Runs.{IsChosenRun, IsSoloRun, IsPlayedRun}
+use Rattle.rseq_run.specs.Summary.{summary_text}
 use Rattle.rseq_run.specs.Text.{output_text}
-use Rattle.command_words.specs.Grammar.{Command, Solo, Play, Run}
+use Rattle.command_words.specs.Grammar.{Command, Solo, Play, Blocks, Run}
 use Rattle.command_words.specs.Words.{command_of}
 
 -- the output text of a log: its lines, and the console and the end that it comes to
 abbrev pub log_output : Setting → List Entry → List ℕ
 log_output s log = output_text (console s (history s log)) log (end_of s (history s log))
+
+-- the summary of a log: its acts counted for each hart, its barriers, and the end that it comes to
+abbrev pub log_summary : Setting → List Entry → List ℕ
+log_summary s log = summary_text s.limits.harts (acts_of s log) log (end_of s (history s log))
 
 -- the text that `solo` writes: that of a whole run of the program by the fixed rule
 pub record IsSoloOutput (files : Files) (program : List ℕ) (limits : Limits) (written : List ℕ) : Type 0 where
@@ -26,16 +32,29 @@ pub record IsSoloOutput (files : Files) (program : List ℕ) (limits : Limits) (
   pub run : IsSoloRun (start_of image limits) log
   pub text : written ≡ log_output (start_of image limits) log
 
+-- the program was taken and the script read, and a whole run of this image by the script made this log
+pub record IsPlayed
+    (files : Files) (program script : List ℕ) (limits : Limits) (image : Image) (log : List Entry) : Type 0 where
+  pub taken : IsProgram files program limits image
+  pub lines : List ℕ
+  pub read : IsScript files script lines
+  pub run : IsPlayedRun (start_of image limits) lines log
+
 -- the text that `play` writes: that of a whole run of the program by the script
 pub record IsPlayOutput
     (files : Files) (program script : List ℕ) (limits : Limits) (written : List ℕ) : Type 0 where
   pub image : Image
-  pub taken : IsProgram files program limits image
-  pub lines : List ℕ
-  pub read : IsScript files script lines
   pub log : List Entry
-  pub run : IsPlayedRun (start_of image limits) lines log
+  pub played : IsPlayed files program script limits image log
   pub text : written ≡ log_output (start_of image limits) log
+
+-- the text that `blocks` writes: the summary of such a run
+pub record IsBlocksOutput
+    (files : Files) (program script : List ℕ) (limits : Limits) (written : List ℕ) : Type 0 where
+  pub image : Image
+  pub log : List Entry
+  pub played : IsPlayed files program script limits image log
+  pub text : written ≡ log_summary (start_of image limits) log
 
 -- the text that `run` writes: that of a whole run of the program by workers, whose harts choose by the seed
 pub record IsRunOutput
@@ -52,6 +71,8 @@ IsOutputOf files None written = ⊥
 IsOutputOf files (Some (Solo program limits)) written = IsSoloOutput files program limits written
 IsOutputOf files (Some (Play program script limits)) written =
     IsPlayOutput files program script limits written
+IsOutputOf files (Some (Blocks program script limits)) written =
+    IsBlocksOutput files program script limits written
 IsOutputOf files (Some (Run program limits seed)) written = IsRunOutput files program limits seed written
 
 -- the output of the words
@@ -63,6 +84,10 @@ IsOutput files words written = IsOutputOf files (command_of words) written
 abbrev pub plain_output : Setting → PlainRun → List ℕ
 plain_output s run = output_text run.machine.kernel.console run.log (plain_end s run.machine)
 
+-- the summary of the plain machine's run: of the acts of the entries that it made, its barriers, and its end
+abbrev pub plain_summary : Setting → PlainRun → List ℕ
+plain_summary s run = summary_text s.limits.harts (acts_of s run.log) run.log (plain_end s run.machine)
+
 -- the text of the plain machine's own run of the program by the fixed rule, for as many steps as the limits
 -- allow
 pub record IsPlainSoloOutput
@@ -71,18 +96,31 @@ pub record IsPlainSoloOutput
   pub taken : IsProgram files program limits image
   pub text : written ≡ plain_output (start_of image limits) (plain_solo (start_of image limits) limits.steps)
 
--- the text of the plain machine's run of the program over the lines of the script
-pub record IsPlainPlayOutput
-    (files : Files) (program script : List ℕ) (limits : Limits) (written : List ℕ) : Type 0 where
-  pub image : Image
+-- the program was taken and the script read, and this is the plain machine's run of this image over its lines
+pub record IsPlainPlayed
+    (files : Files) (program script : List ℕ) (limits : Limits) (image : Image) (run : PlainRun) : Type 0 where
   pub taken : IsProgram files program limits image
   pub lines : List ℕ
   pub read : IsScript files script lines
   pub asks : List Ask
   pub readable : asks_of lines ≡ map Some asks
-  pub run : PlainRun
   pub made : plain_run (start_of image limits) asks ≡ Ok run
+
+-- the text of the plain machine's run of the program over the lines of the script
+pub record IsPlainPlayOutput
+    (files : Files) (program script : List ℕ) (limits : Limits) (written : List ℕ) : Type 0 where
+  pub image : Image
+  pub run : PlainRun
+  pub played : IsPlainPlayed files program script limits image run
   pub text : written ≡ plain_output (start_of image limits) run
+
+-- the summary of such a run
+pub record IsPlainBlocksOutput
+    (files : Files) (program script : List ℕ) (limits : Limits) (written : List ℕ) : Type 0 where
+  pub image : Image
+  pub run : PlainRun
+  pub played : IsPlainPlayed files program script limits image run
+  pub text : written ≡ plain_summary (start_of image limits) run
 
 -- the text of the plain machine's run of the program over the hart and the choice of each entry of a log, which
 -- are those of a whole run by workers
@@ -102,6 +140,8 @@ IsPlainOutputOf files None written = ⊥
 IsPlainOutputOf files (Some (Solo program limits)) written = IsPlainSoloOutput files program limits written
 IsPlainOutputOf files (Some (Play program script limits)) written =
     IsPlainPlayOutput files program script limits written
+IsPlainOutputOf files (Some (Blocks program script limits)) written =
+    IsPlainBlocksOutput files program script limits written
 IsPlainOutputOf files (Some (Run program limits seed)) written =
     IsPlainRunOutput files program limits seed written
 

@@ -12,9 +12,13 @@ use Rattle.step_log.specs.Grammar.{log_text}
 use Rattle.rseq_run.specs.declared.faults.Fault.{Fault}
 use Rattle.rseq_run.specs.declared.faults.Fault.TheVariants.{Usage, Read, Memory, Big, Elf, Script}
 
+-- some words and a number
+abbrev pub numbered : List ℕ → ℕ → List ℕ
+numbered words number = words ++ space ∷ decimal number
+
 -- a line of some words and a number
 abbrev pub number_line : List ℕ → ℕ → List ℕ
-number_line words number = words ++ space ∷ decimal number ++ newline ∷ []
+number_line words number = numbered words number ++ newline ∷ []
 
 -- the console's length, its bytes, and a newline
 abbrev pub console_text : List ℕ → List ℕ

@@ -1,5 +1,5 @@
 //! `rseq_run`: runs a RISC-V program on a machine of several harts, and prints its console, its log and how
-//! it ended.
+//! it ended, or how many acts of each form each hart made.
 #![tactic(auto)]
 
 mod faults;
@@ -8,6 +8,7 @@ mod play;
 mod run;
 mod shared;
 mod solo;
+mod summary;
 mod sure;
 #[cfg(test)]
 mod tests;

@@ -4,7 +4,7 @@ ghost use Rattle.std.specs.Prelude.{◌≡◌, ◌<◌, ◌∷◌, [], ◌++◌,
 ghost use Rattle.step_log.specs.Text.{newline};
 ghost use Rattle.step_log.specs.Grammar.{log_text};
 ghost use Rattle.rseq_run.specs.Outputs.{log_output};
-ghost use Rattle.rseq_run.specs.Text.{number_line, console_text, entries_text, end_line};
+ghost use Rattle.rseq_run.specs.Text.{numbered, number_line, console_text, entries_text, end_line};
 
 use arrayvec::ArrayVec;
 use mach_types::{End, Entry};
@@ -39,14 +39,30 @@ fn size_of_text(console: &[u8], log: &[Entry]) -> usize {
     lines.saturating_add(console.len()).saturating_add(FRAME)
 }
 
-/// Appends a line of some words and a number.
-fn push_number_line(text: &mut Vec<u8>, words: &[u8], number: usize) -> Result<(), AllocError>
-    ensures { OnOk result (text.new.items ≡ text.old.items ++ number_line words.now number) }
+/// Appends some words and a number.
+pub(crate) fn push_numbered(
+    text: &mut Vec<u8>,
+    words: &[u8],
+    number: usize,
+) -> Result<(), AllocError>
+    ensures { OnOk result (text.new.items ≡ text.old.items ++ numbered words.now number) }
 {
     let mut digits = itoa::Buffer::new();
     text.extend_from_slice(words)?;
     text.push(b' ')?;
     text.extend_from_slice(digits.format(number).as_bytes())?;
+    Ok(())
+}
+
+/// Appends a line of some words and a number.
+pub(crate) fn push_number_line(
+    text: &mut Vec<u8>,
+    words: &[u8],
+    number: usize,
+) -> Result<(), AllocError>
+    ensures { OnOk result (text.new.items ≡ text.old.items ++ number_line words.now number) }
+{
+    push_numbered(text, words, number)?;
     text.push(b'\n')?;
     Ok(())
 }
@@ -84,7 +100,7 @@ fn push_lines(text: &mut Vec<u8>, log: &[Entry]) -> Result<(), AllocError>
 }
 
 /// Appends the line of the end.
-fn push_end(text: &mut Vec<u8>, end: End) -> Result<(), AllocError>
+pub(crate) fn push_end(text: &mut Vec<u8>, end: End) -> Result<(), AllocError>
     ensures { OnOk result (text.new.items ≡ text.old.items ++ end_line end) }
 {
     match end {

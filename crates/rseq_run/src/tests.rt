@@ -13,4 +13,5 @@ mod replays;
 mod requests;
 mod runs;
 mod sequences;
+mod summaries;
 mod workers;

@@ -6,12 +6,13 @@ ghost use Rattle.elf_load.specs.Images.{IsBootable};
 ghost use Rattle.outside.specs.Counts.{NeverFalls, NoneFalls};
 ghost use Rattle.rseq_run.specs.declared.faults.Fault.TheVariants.{Memory};
 ghost use Rattle.rseq_run.specs.Answers.{IsAnswer, IsTold};
-ghost use Rattle.rseq_run.specs.Causes.{IsCauseOf};
+ghost use Rattle.rseq_run.specs.Causes.{IsCauseOf, IsCauseWithNeeds};
 ghost use Rattle.rseq_run.specs.Delivery.{IsDelivered, IsProgramCause, IsScriptCause};
-ghost use Rattle.command_words.specs.Grammar.{Play as PlayOf, Run as RunOf, Solo as SoloOf};
+ghost use Rattle.command_words.specs.Grammar.{Blocks as BlocksOf, Play as PlayOf, Run as RunOf, Solo as SoloOf};
+ghost use Rattle.rseq_run.specs.Needs.{Script as NeedsScript};
 ghost use Rattle.rseq_run.specs.Outcome.{IsOutcome};
-ghost use Rattle.rseq_run.specs.Outputs.{IsPlayOutput, IsRunOutput, IsSoloOutput};
-ghost use Rattle.rseq_run.specs.Programs.{IsProgram, IsScript};
+ghost use Rattle.rseq_run.specs.Outputs.{IsBlocksOutput, IsPlayOutput, IsPlayed, IsRunOutput, IsSoloOutput};
+ghost use Rattle.rseq_run.specs.Programs.{IsProgram, IsScript, start_of};
 ghost use Rattle.command_words.specs.Words.{command_of, is_run, texts};
 
 use crate::faults::Fault;
@@ -19,9 +20,11 @@ use crate::output::output_text;
 use crate::play::play;
 use crate::run::run_workers;
 use crate::solo::run_solo;
+use crate::summary::summary_text;
 use command_words::{Command, command_of};
 use elf_load::{Image, load};
 use mach_types::Limits;
+use machine_core::Machine;
 use outside::{Gate, Shelf, Sink, emit, fetch};
 use std::alloc::Global;
 use std::sync::Wait;
@@ -38,6 +41,15 @@ const DONE: u8 = 0;
 
 /// The exit status of a call whose sink failed.
 const WRITE_FAILED: u8 = 6;
+
+/// A run of a program by a script.
+#[derive(Drop)]
+struct Played {
+    /// The program's image.
+    image: Image,
+    /// The machine at the end of the run.
+    machine: Machine,
+}
 
 /// Does what the words ask for, and gives the exit status.
 ///
@@ -135,6 +147,15 @@ fn quiet_answer<S: Shelf>(
                 },
             ),
         ) => Some(play_text(alloc, program, script, limits, shelf)),
+        Ok(
+            Some(
+                Command::Blocks {
+                    program,
+                    script,
+                    limits,
+                },
+            ),
+        ) => Some(blocks_text(alloc, program, script, limits, shelf)),
         Ok(Some(Command::Run { .. })) => None,
         Ok(None) => Some(Err(Fault::Usage)),
         Err(_) => Some(Err(Fault::Memory)),
@@ -164,7 +185,9 @@ fn run_answer<R: Threads + Wait + Sync, S: Shelf, G: Gate + Sync>(
                 },
             ),
         ) => run_text(alloc, rt, program, limits, seed, shelf, gate),
-        Ok(Some(Command::Solo { .. } | Command::Play { .. }) | None) => unreachable!(),
+        Ok(Some(Command::Solo { .. } | Command::Play { .. } | Command::Blocks { .. }) | None) => {
+            unreachable!()
+        }
         Err(_) => Err(Fault::Memory),
     }
 }
@@ -205,10 +228,52 @@ fn play_text<S: Shelf>(
     ensures files { S.file shelf.new ≡ S.file shelf.old }
     ensures counts { NoneFalls (S.faults shelf.old) (S.faults shelf.new) }
 {
+    let played = play_files(alloc, program, script, limits, shelf)?;
+    Ok(output_text(alloc, &played.machine)?)
+}
+
+/// The text of `blocks` on the program and the script of these names.
+fn blocks_text<S: Shelf>(
+    alloc: Global,
+    program: &str,
+    script: &str,
+    limits: Limits,
+    shelf: &mut S,
+) -> Result<Vec<u8>, Fault>
+    requires { InRange limits }
+    ensures output { IfOk result
+        (λ text. IsBlocksOutput (S.file shelf.old) program.now script.now limits text.items) }
+    ensures cause { let command = Some (BlocksOf program.now script.now limits) in
+        IfErr result (IsCauseOf (S.file shelf.old) command (S.faults shelf.old) (S.faults shelf.new)) }
+    ensures files { S.file shelf.new ≡ S.file shelf.old }
+    ensures counts { NoneFalls (S.faults shelf.old) (S.faults shelf.new) }
+{
+    let played = play_files(alloc, program, script, limits, shelf)?;
+    Ok(summary_text(alloc, &played.image, &limits, &played.machine)?)
+}
+
+/// Takes the program of the first name, and plays the script of the second on it.
+fn play_files<S: Shelf>(
+    alloc: Global,
+    program: &str,
+    script: &str,
+    limits: Limits,
+    shelf: &mut S,
+) -> Result<Played, Fault>
+    requires { InRange limits }
+    ensures played { IfOk result
+        (λ run. IsPlayed (S.file shelf.old) program.now script.now limits run.image run.machine.log) }
+    ensures setting { IfOk result (λ run. run.machine.setting ≡ start_of run.image limits) }
+    ensures bootable { IfOk result (λ run. IsBootable limits.frames run.image) }
+    ensures cause { let needs = NeedsScript program.now script.now limits in
+        IfErr result (IsCauseWithNeeds (S.file shelf.old) needs (S.faults shelf.old) (S.faults shelf.new)) }
+    ensures files { S.file shelf.new ≡ S.file shelf.old }
+    ensures counts { NoneFalls (S.faults shelf.old) (S.faults shelf.new) }
+{
     let image = taken(alloc, program, &limits, shelf)?;
     let lines = script_read(alloc, script, shelf)?;
     let machine = play(alloc, &image, limits, &lines)?;
-    Ok(output_text(alloc, &machine)?)
+    Ok(Played { image, machine })
 }
 
 /// The text of `run` on the program of this name.

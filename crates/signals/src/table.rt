@@ -100,6 +100,14 @@ impl Signals {
         threads::mask_of(&self.threads, tid.0)
     }
 
+    /// The signals that are pending for a thread: bit s - 1 stands for signal s, as in a mask.
+    pub fn pending_of(&self, tid: Tid) -> u64
+        requires { IsTrue (spec.is_held tid.0 self.now) }
+        ensures { result ≡ spec.pending_of tid.0 self.now }
+    {
+        threads::pending_of(&self.threads, tid.0)
+    }
+
     /// What is done when a signal, 1 to 31, comes.
     pub fn action(&self, sig: u8) -> Action
         requires lowest { 1 ≤ sig }

@@ -120,6 +120,7 @@ fn lowest_signal_that_is_not_masked_is_next(rt: HostRuntime) -> Result<(), Fail>
     assert_eq!(rt; signals.next_for(Tid(1)), Some(10));
     assert_eq!(rt; signals.mask(Tid(1), 0, 0x200), Ok(0));
     expect_held(&rt, &signals, Tid(1));
+    assert_eq!(rt; signals.pending_of(Tid(1)), 0x4200);
     assert_eq!(rt; signals.next_for(Tid(1)), Some(15));
     signals.take_pending(Tid(1), 15);
     expect_held(&rt, &signals, Tid(1));

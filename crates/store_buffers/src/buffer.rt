@@ -72,6 +72,13 @@ impl StoreBuffer {
         self.ring.front().copied()
     }
 
+    /// The waiting store at an index, 0 for the oldest; None exactly where no more wait.
+    pub fn get(&self, index: u8) -> Option<Store>
+        ensures { result ≡ slice_get self.now index }
+    {
+        self.ring.get(index as usize).copied()
+    }
+
     /// Takes the oldest waiting store away; None exactly where none waits.
     pub fn pop(&mut self) -> Option<Store>
         ensures oldest { result ≡ slice_get self.old 0 }

@@ -133,6 +133,8 @@ fn youngest_store_wins(rt: HostRuntime) -> Result<(), Fail> {
     buffer.push(store(0x1023, 1, 0x99));
     sees(&rt, &buffer, &WIDE, 0x1023, 1, Some(0x99));
     assert_eq!(rt; buffer.len(), 4);
+    assert_eq!(rt; buffer.get(1), Some(store(0x1022, 2, 0xabcd)));
+    assert_eq!(rt; buffer.get(4), None);
     assert_eq!(rt;
         buffer.oldest(),
         Some(store(0x1020, 8, 0x1122_3344_5566_7788))

@@ -6,7 +6,7 @@ use Rattle.std.proofs.lemmas.List.{length-map, map-append}
 use Rattle.mach_types.proofs.Laws.{map_filters, map_stays, next_is_new, same_clear_numbers}
 use Rattle.mach_types.specs.Kernel.SignalFrames.{restored_mask, returned}
 use Rattle.mach_types.specs.Kernel.Signals.{Signalling, acted, action_of, changed_mask, dropped, forget, is_held, is_ignored, is_of, joined, mask_if, mask_of, only, posted, post_if, set_action, with_mask, with_pending, with_thread, without_signal}
-use Rattle.mach_types.specs.Kernel.Threads.{IsThreads, Thread, Threads, is_full, is_live, is_thread, numbers, thread_of, with_child, with_clear, without}
+use Rattle.mach_types.specs.Kernel.Threads.{IsThreads, Thread, Threads, is_live, is_thread, numbers, with_child, with_clear, without}
 use Rattle.mach_types.specs.Kernel.Threads as process
 use Rattle.mach_types.specs.declared.signal_words.Action.{Action}
 use Rattle.mach_types.specs.declared.signal_words.ThreadSignals.{ThreadSignals}

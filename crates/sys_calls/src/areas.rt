@@ -31,7 +31,7 @@ impl Default for RegisteredArea {
     }
 }
 
-/// RegisteredArea areas, each with its thread.
+/// The registered areas, each with its thread.
 pub type Areas = ArrayVec<RegisteredArea, MOST_AREAS>;
 
 /// The area that is registered for a thread.

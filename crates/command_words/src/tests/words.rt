@@ -39,6 +39,19 @@ fn play(harts: u8, frames: u32, steps: u32) -> Option<Command<'static>> {
     })
 }
 
+/// The command `blocks` on `F` and `S` with these limits.
+fn blocks(harts: u8, frames: u32, steps: u32) -> Option<Command<'static>> {
+    Some(Command::Blocks {
+        program: "F",
+        script: "S",
+        limits: Limits {
+            harts,
+            frames,
+            steps,
+        },
+    })
+}
+
 /// The command `run` on `F` with this number of harts and this seed.
 fn run(harts: u8, seed: u64) -> Option<Command<'static>> {
     Some(Command::Run {
@@ -54,7 +67,7 @@ fn run(harts: u8, seed: u64) -> Option<Command<'static>> {
 
 #[test]
 fn words_of_the_grammar_name_a_command(rt: HostRuntime) -> Result<(), Fail> {
-    let table: [(&[&str], Option<Command>); 18] = [
+    let table: [(&[&str], Option<Command>); 21] = [
         (&["solo", "F"], solo("F", 4_096, 200_000)),
         (&["solo", "--steps=1", "F"], solo("F", 4_096, 1)),
         (&["solo", "F", "--steps", "1"], solo("F", 4_096, 1)),
@@ -69,6 +82,15 @@ fn words_of_the_grammar_name_a_command(rt: HostRuntime) -> Result<(), Fail> {
         (&["solo", "", "--steps=00001"], solo("", 4_096, 1)),
         (&["play", "F", "S"], play(2, 4_096, 200_000)),
         (&["play", "F", "S", "--harts=8"], play(8, 4_096, 200_000)),
+        (&["blocks", "F", "S"], blocks(2, 4_096, 200_000)),
+        (
+            &["blocks", "--steps", "5", "F", "S", "--frames=128"],
+            blocks(2, 128, 5),
+        ),
+        (
+            &["blocks", "--harts=8", "F", "--", "S"],
+            blocks(8, 4_096, 200_000),
+        ),
         (&["run", "F"], run(2, 1)),
         (&["run", "F", "--harts", "8", "--seed", "7"], run(8, 7)),
         (&["run", "--seed=0", "F", "--harts=1"], run(1, 0)),
@@ -92,7 +114,7 @@ fn words_of_the_grammar_name_a_command(rt: HostRuntime) -> Result<(), Fail> {
 
 #[test]
 fn other_words_name_none(rt: HostRuntime) -> Result<(), Fail> {
-    let table: [&[&str]; 38] = [
+    let table: [&[&str]; 44] = [
         &[],
         &["Solo", "F"],
         &["solo"],
@@ -111,6 +133,12 @@ fn other_words_name_none(rt: HostRuntime) -> Result<(), Fail> {
         &["play", "F", "S", "T"],
         &["play", "--seed", "1", "F", "S"],
         &["solo", "--seed", "1", "F"],
+        &["blocks"],
+        &["blocks", "F"],
+        &["blocks", "F", "S", "T"],
+        &["blocks", "--seed", "1", "F", "S"],
+        &["blocks", "F", "S", "--harts", "0"],
+        &["block", "F", "S"],
         &["run"],
         &["run", "F", "S"],
         &["run", "--harts", "9", "F"],

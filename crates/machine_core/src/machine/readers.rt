@@ -1,12 +1,17 @@
-//! What is read of one hart of a machine.
+//! What is read of a machine: each of its harts, the kernel's tables, and what it would answer to a choice.
 
-ghost use Rattle.std.specs.Prelude.{◌≡◌, ◌<◌};
+ghost use Rattle.std.specs.Prelude.{◌≡◌, ◌<◌, ℕ};
 ghost use Rattle.mach_types.specs.Bytes.{IsAccessSize, word_at};
+ghost use Rattle.mach_types.specs.Kernel.Signals as signals;
+ghost use Rattle.mach_types.specs.Kernel.Threads.{is_live};
+ghost use Rattle.scheduler.specs.Holding as scheduling;
+ghost use Rattle.sys_calls.specs.Made.{AreSaved};
+ghost use Rattle.sys_calls.specs.Registered.{areas_by_number};
 ghost use Rattle.block_model.specs.Acts.{named_at};
 ghost use Rattle.block_model.specs.Choosing.{credit_at};
-ghost use Rattle.block_model.specs.Deciding.{history};
+ghost use Rattle.block_model.specs.Deciding.{decide, history};
 ghost use Rattle.block_model.specs.Here.{runs, view};
-ghost use Rattle.block_model.specs.History.{events, here_in_history, ran};
+ghost use Rattle.block_model.specs.History.{events, file, here_in_history, kernel, ran};
 ghost use Rattle.block_model.specs.Sights.{effect_here, is_deliverable_on, sight_in};
 ghost use Rattle.machine_core.specs.Harts.{hart_in};
 ghost use Rattle.machine_core.specs.Sequences.{area_on};
@@ -14,11 +19,20 @@ ghost use Rattle.machine_core.specs.Sequences.{area_on};
 use crate::machine::Machine;
 use crate::next::{effect_of_next, is_local, next_of};
 use crate::requests::is_all_taken;
+use block_model::Refused;
 use hart_state::HartState;
-use mach_types::{Area, Hart, Named, Sight};
+use mach_types::{Area, Choice, Entry, Hart, Named, Sight};
 use rv_inst::Effect;
+use sys_calls::Kernel;
 
 impl Machine {
+    /// How many harts the machine has.
+    pub fn harts(&self) -> u8
+        ensures { result ≡ self.now.setting.limits.harts }
+    {
+        self.limits.harts
+    }
+
     /// The state of a hart. An idle hart's registers and pc are 0. Its credit is that of the choices of `run`, and 0 where an
     /// entry of the log isn't one of these.
     pub fn hart(&self, hart: Hart) -> &HartState
@@ -100,6 +114,36 @@ impl Machine {
             local: !state.is_idle() && is_local(next.effect.as_ref()),
             ran: state.ran,
             credit: state.credit,
+        }
+    }
+    /// The kernel's tables: the threads, each that doesn't run with the file in which it goes on, the signals, the ready list with the
+    /// affinities, the areas, the registrations for barriers and the console. The threads that have signals and affinities are those
+    /// that are live.
+    pub fn kernel(&self) -> &Kernel
+        ensures threads { result.now.threads.threads ≡ (kernel self.now.setting (history self.now.setting self.now.log)).threads }
+        ensures saved { AreSaved (λ t. file self.now.setting t (history self.now.setting self.now.log)) result.now.threads }
+        ensures signals { result.now.signals ≡ (kernel self.now.setting (history self.now.setting self.now.log)).signals }
+        ensures signals_held { (t : ℕ) → signals.is_held t result.now.signals ≡ is_live t result.now.threads.threads }
+        ensures scheduling { result.now.ready ≡ (kernel self.now.setting (history self.now.setting self.now.log)).scheduling }
+        ensures scheduling_held { (t : ℕ) → scheduling.is_held t result.now.ready ≡ is_live t result.now.threads.threads }
+        ensures areas { areas_by_number result.now.areas.items ≡ (kernel self.now.setting (history self.now.setting self.now.log)).areas }
+        ensures registered { result.now.registered ≡ (kernel self.now.setting (history self.now.setting self.now.log)).barriers }
+        ensures console { result.now.console ≡ (kernel self.now.setting (history self.now.setting self.now.log)).console }
+    {
+        &self.parts.kernel
+    }
+
+    /// What [`Machine::step`] would answer to this choice: the entry that is allowed at this place of the log, or the first refusal
+    /// that is due. Nothing changes.
+    pub fn answer(&self, hart: Hart, choice: Choice) -> Result<Entry, Refused>
+        ensures { result ≡ decide self.now.setting (history self.now.setting self.now.log) hart.0 choice }
+    {
+        if let Some(refused) = self.common_refusal(hart) {
+            return Err(refused);
+        }
+        match self.parts.answer(&self.code, hart, choice) {
+            Ok(entry) => Ok(entry),
+            Err(why) => Err(Refused::NotEnabled(why)),
         }
     }
 }

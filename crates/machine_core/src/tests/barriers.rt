@@ -157,7 +157,7 @@ fn with_child(alloc: Global, rt: &impl Abort, words: &[u32], before: u8) -> Resu
 }
 
 /// A bench on which the first thread waits in its barrier, and a store of its child waits.
-fn in_barrier(alloc: Global, rt: &impl Abort) -> Result<Bench, Fail> {
+pub fn in_barrier(alloc: Global, rt: &impl Abort) -> Result<Bench, Fail> {
     let mut bench = with_child(alloc, rt, &PAIR, 5)?;
     bench.make_all(rt, 1, Choice::Exec, 2);
     bench.make_all(rt, 0, Choice::Exec, 4);
@@ -165,7 +165,7 @@ fn in_barrier(alloc: Global, rt: &impl Abort) -> Result<Bench, Fail> {
 }
 
 #[test]
-fn a_barrier_step_by_step(rt: HostRuntime) -> Result<(), Fail> {
+fn a_thread_in_a_barrier_waits(rt: HostRuntime) -> Result<(), Fail> {
     let mut bench = in_barrier(rt.alloc(), &rt)?;
     bench.expect_pc(&rt, 0, ENTRY + 36);
     bench.expect_register(&rt, 0, 10, 1);
@@ -185,6 +185,12 @@ fn a_barrier_step_by_step(rt: HostRuntime) -> Result<(), Fail> {
     for (hart, choice, why) in refused {
         bench.expect_why(&rt, hart, choice, why);
     }
+    Ok(())
+}
+
+#[test]
+fn a_barrier_returns_once_its_target_took(rt: HostRuntime) -> Result<(), Fail> {
+    let mut bench = in_barrier(rt.alloc(), &rt)?;
     bench.make(&rt, 1, Choice::Drain);
     bench.expect_view(&rt, 0, DATA, 8, Some(DATA));
     bench.make(&rt, 1, Choice::Exec);

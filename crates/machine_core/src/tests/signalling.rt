@@ -274,6 +274,36 @@ fn expect_killed(bench: &mut Bench, rt: &impl Abort, signal: u8, pc: u64) {
     bench.expect_refused(rt, 0, Choice::Exec, Refused::Ended(End::Killed(signal)));
 }
 
+/// The registers with which the handler of SIGUSR1 begins that [`POSTS`] sends, and its frame.
+fn expect_handler_begun(bench: &Bench, rt: &impl Abort) {
+    let frame = START_SP - 272;
+    let registers = [
+        (1, HANDLER_RETURN),
+        (2, frame),
+        (8, DATA),
+        (10, 10),
+        (11, 0),
+        (12, frame),
+        (17, 130),
+    ];
+    for (number, value) in registers {
+        bench.expect_register(rt, 0, number, value);
+    }
+    let words = [
+        (0, BEHIND + 16),
+        (2, START_SP),
+        (8, DATA),
+        (10, 0),
+        (11, 10),
+        (17, 130),
+        (32, 0),
+        (33, 0),
+    ];
+    for (place, word) in words {
+        bench.expect_view(rt, 1, frame + 8 * place, 8, Some(word));
+    }
+}
+
 #[test]
 fn a_handler_has_a_frame_and_returns(rt: HostRuntime) -> Result<(), Fail> {
     let mut bench = behind(rt.alloc(), &rt, &[], &POSTS)?;
@@ -294,32 +324,7 @@ fn a_handler_has_a_frame_and_returns(rt: HostRuntime) -> Result<(), Fail> {
     );
     expect_signal(&bench, &rt, 0, false);
     bench.expect_pc(&rt, 0, HANDLER);
-    let frame = START_SP - 272;
-    let registers = [
-        (1, HANDLER_RETURN),
-        (2, frame),
-        (8, DATA),
-        (10, 10),
-        (11, 0),
-        (12, frame),
-        (17, 130),
-    ];
-    for (number, value) in registers {
-        bench.expect_register(&rt, 0, number, value);
-    }
-    let words = [
-        (0, BEHIND + 16),
-        (2, START_SP),
-        (8, DATA),
-        (10, 0),
-        (11, 10),
-        (17, 130),
-        (32, 0),
-        (33, 0),
-    ];
-    for (place, word) in words {
-        bench.expect_view(&rt, 1, frame + 8 * place, 8, Some(word));
-    }
+    expect_handler_begun(&bench, &rt);
     bench.make_all(&rt, 0, Choice::Exec, 5);
     bench.expect_pc(&rt, 0, BEHIND + 16);
     for (number, value) in [(1, 0), (2, START_SP), (10, 0), (11, 10), (12, 0), (17, 130)] {

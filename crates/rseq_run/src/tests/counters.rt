@@ -115,6 +115,13 @@ pub(super) const CUT_TEXT: &[u8] = b"console 0\n\
     0 exec 1 00000000000100f0\n\
     end exit 1\n";
 
+/// The summary of that.
+pub(super) const CUT_SUMMARY: &[u8] = b"\
+    hart 0 step 19 left 1 cut 1 dropped 0 dead 0 open 0 kernel 3\n\
+    hart 1 step 0 left 0 cut 0 dropped 0 dead 0 open 0 kernel 0\n\
+    barriers 0\n\
+    end exit 1\n";
+
 /// A script that preempts the thread behind its sequence.
 pub(super) const BEHIND_SCRIPT: &[u8] = b"\
     0 run 1\n0 exec\n0 exec\n0 exec\n0 exec\n0 exec\n0 exec\n0 exec\n0 exec\n0 exec\n\
@@ -194,6 +201,13 @@ pub(super) const CLEARED_TEXT: &[u8] = b"console 0\n\
     0 exec 1 0000000000010108\n\
     end exit 1\n";
 
+/// The summary of that.
+pub(super) const CLEARED_SUMMARY: &[u8] = b"\
+    hart 0 step 23 left 0 cut 0 dropped 1 dead 0 open 0 kernel 3\n\
+    hart 1 step 3 left 0 cut 0 dropped 0 dead 0 open 0 kernel 1\n\
+    barriers 0\n\
+    end exit 1\n";
+
 /// A script in which the other thread begins to run before the first does so again.
 pub(super) const SECOND_ID_SCRIPT: &[u8] = b"\
     0 run 1\n0 exec\n0 exec\n0 exec\n0 exec\n0 exec\n0 exec\n0 exec\n0 preempt\n1 run 2\n\
@@ -263,6 +277,13 @@ pub(super) const BAD_TEXT: &[u8] = b"console 0\n\
     0 run 1 00000000000100e4\n\
     end killed 11\n";
 
+/// The summary of that: the area names no sequence, so each instruction is a step.
+pub(super) const BAD_SUMMARY: &[u8] = b"\
+    hart 0 step 14 left 0 cut 0 dropped 0 dead 0 open 0 kernel 3\n\
+    hart 1 step 0 left 0 cut 0 dropped 0 dead 0 open 0 kernel 0\n\
+    barriers 0\n\
+    end killed 11\n";
+
 /// A script that goes up to the second instruction of the sequence.
 pub(super) const CALL_SCRIPT: &[u8] = b"\
     0 run 1\n0 exec\n0 exec\n0 exec\n0 exec\n0 exec\n0 exec\n0 exec\n0 exec\n0 exec\n\
@@ -288,6 +309,26 @@ pub(super) const CALL_TEXT: &[u8] = b"console 0\n\
     0 exec 1 00000000000100dc\n\
     0 exec 1 00000000000100e0\n\
     end killed 11\n";
+
+/// The summary of that: the sequence is dead.
+pub(super) const CALL_SUMMARY: &[u8] = b"\
+    hart 0 step 12 left 0 cut 0 dropped 0 dead 1 open 0 kernel 1\n\
+    hart 1 step 0 left 0 cut 0 dropped 0 dead 0 open 0 kernel 0\n\
+    barriers 0\n\
+    end killed 11\n";
+
+/// A script that goes through the sequence once.
+pub(super) const DROPPED_SCRIPT: &[u8] = b"\
+    0 run 1\n0 exec\n0 exec\n0 exec\n0 exec\n0 exec\n0 exec\n0 exec\n0 exec\n0 exec\n\
+    0 exec\n0 exec\n0 drain\n0 exec\n0 exec\n0 exec\n0 exec\n0 exec\n0 drain\n0 drain\n\
+    0 exec\n";
+
+/// The summary where its second instruction clears the pointer: the sequence is dropped.
+pub(super) const DROPPED_SUMMARY: &[u8] = b"\
+    hart 0 step 18 left 0 cut 0 dropped 1 dead 0 open 0 kernel 1\n\
+    hart 1 step 0 left 0 cut 0 dropped 0 dead 0 open 0 kernel 0\n\
+    barriers 0\n\
+    end exit 0\n";
 
 /// A script that goes up to the registration.
 pub(super) const BAD_AT_REGISTRATION_SCRIPT: &[u8] = b"\

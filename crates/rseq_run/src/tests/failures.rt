@@ -17,9 +17,10 @@ const PIECE: usize = 64;
 fn each_call_of_the_shelf_may_fail(rt: HostRuntime) -> Result<(), Fail> {
     // A file takes one start and two reads, of which the second is the file's end; the call after them never
     // comes.
-    let table: [(&str, &[u64], u64); 3] = [
+    let table: [(&str, &[u64], u64); 4] = [
         ("solo F", &[1, 2, 3], 4),
         ("play F S", &[1, 2, 3, 4, 5, 6], 7),
+        ("blocks F S", &[1, 2, 3, 4, 5, 6], 7),
         ("run F --harts 1", &[1, 2, 3], 4),
     ];
     for (line, calls, never) in table {

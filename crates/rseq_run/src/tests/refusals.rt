@@ -70,6 +70,10 @@ fn words_that_are_no_command(rt: HostRuntime) -> Result<(), Fail> {
         "play F S --harts 0",
         "play F S --harts 9",
         "play F S --seed 1",
+        "blocks F",
+        "blocks F S S",
+        "blocks F S --harts 9",
+        "blocks F S --seed 1",
         "solo F --seed 1",
         "run F --harts 9",
         "run --harts 9 F",
@@ -96,7 +100,7 @@ fn programs_that_are_refused(rt: HostRuntime) -> Result<(), Fail> {
     ];
     for (program, text) in table {
         // The script isn't looked for.
-        for line in ["solo F", "play F S", "play F T", "run F"] {
+        for line in ["solo F", "play F S", "play F T", "blocks F T", "run F"] {
             let files = Files {
                 program,
                 script: &[],
@@ -135,7 +139,15 @@ fn programs_that_are_large(rt: HostRuntime) -> Result<(), Fail> {
 
 #[test]
 fn files_that_are_missing(rt: HostRuntime) -> Result<(), Fail> {
-    for line in ["solo f", "solo -", "solo -- --", "play F T", "play T S"] {
+    for line in [
+        "solo f",
+        "solo -",
+        "solo -- --",
+        "play F T",
+        "play T S",
+        "blocks F T",
+        "blocks T S",
+    ] {
         expect(rt.alloc(), &rt, line, EXITS, 5, b"fault read\n")?;
     }
     Ok(())
@@ -156,6 +168,7 @@ fn files_that_are_too_big(rt: HostRuntime) -> Result<(), Fail> {
         script: &script,
     };
     expect(rt.alloc(), &rt, "play F S", files, 8, b"fault big\n")?;
+    expect(rt.alloc(), &rt, "blocks F S", files, 8, b"fault big\n")?;
     Ok(())
 }
 
@@ -174,14 +187,16 @@ fn first_lines_that_are_refused(rt: HostRuntime) -> Result<(), Fail> {
             program: &EXIT_WITH_7,
             script,
         };
-        expect(rt.alloc(), &rt, "play F S", files, 4, b"fault script 1\n")?;
+        for line in ["play F S", "blocks F S"] {
+            expect(rt.alloc(), &rt, line, files, 4, b"fault script 1\n")?;
+        }
     }
     Ok(())
 }
 
 #[test]
 fn later_lines_that_are_refused(rt: HostRuntime) -> Result<(), Fail> {
-    let table: [(&str, &[u8], &[u8]); 10] = [
+    let table: [(&str, &[u8], &[u8]); 12] = [
         ("play F S", b"0 run 1\n1 run 1\n", b"fault script 2\n"),
         ("play F S", b"0 run 1\n1 preempt\n", b"fault script 2\n"),
         ("play F S", b"0 run 1\n0 drain\n", b"fault script 2\n"),
@@ -208,6 +223,12 @@ fn later_lines_that_are_refused(rt: HostRuntime) -> Result<(), Fail> {
             b"fault script 3\n",
         ),
         ("play F S --harts 1", MOVED_SCRIPT, b"fault script 4\n"),
+        ("blocks F S --harts 1", MOVED_SCRIPT, b"fault script 4\n"),
+        (
+            "blocks F S",
+            b"0 run 1\n0 exec 1 000000000001007c\n",
+            b"fault script 2\n",
+        ),
     ];
     for (line, script, text) in table {
         let files = Files {

@@ -206,6 +206,14 @@ pub(super) const RESTARTED_TEXT: &[u8] = b"console 0\n\
     0 exec 1 0000000000010104\n\
     end exit 0\n";
 
+/// The summary of that.
+pub(super) const RESTARTED_SUMMARY: &[u8] = b"\
+    hart 0 step 22 left 0 cut 0 dropped 0 dead 0 open 0 kernel 2\n\
+    hart 1 step 16 left 0 cut 1 dropped 0 dead 0 open 0 kernel 2\n\
+    hart 2 step 15 left 0 cut 0 dropped 0 dead 0 open 1 kernel 1\n\
+    barriers 1\n\
+    end exit 0\n";
+
 /// The same without the flag: the barrier is about hart 2 too.
 pub(super) const BOTH_RESTARTED_SCRIPT: &[u8] = b"\
     0 run 1\n0 exec\n0 exec\n0 exec\n0 exec\n0 exec\n0 exec\n0 exec\n0 exec\n0 exec\n\

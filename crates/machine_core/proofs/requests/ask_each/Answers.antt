@@ -1,5 +1,4 @@
-use Rattle.std.proofs.Common.{rules, ◌≡◌, ℕ, Some, ap, get_or, sym, ◌∙◌}
-use Rattle.hart_state.specs.declared.hart.HartState.{HartState}
+use Rattle.std.proofs.Common.{rules, Some, ap, get_or, sym, ◌∙◌}
 use Rattle.machine_core.specs.Barriers.{asked_by}
 use Rattle.machine_core.proofs.Asking.{asked_one}
 use Rattle.machine_core.proofs.Turns.{all_through, one_through}

@@ -1,4 +1,3 @@
-use Rattle.std.proofs.Common.{arith}
 use Rattle.block_model.proofs.Laws.{with_hart-or}
 use Rattle.machine_core.proofs.requests.with_hart.Goals as goal
 

@@ -1,36 +1,21 @@
-use Rattle.rseq_run.proofs.Causing.{passed_up, play_cause, script_cause}
+use Rattle.command_words.specs.Grammar.{Play}
+use Rattle.std.proofs.Common.{refl}
+use Rattle.rseq_run.proofs.Causing.{passed_up}
 use Rattle.rseq_run.proofs.Wholes.{play_digits, play_output_of}
 use Rattle.rseq_run.proofs.top_call.play_text.Goals as goal
 
-pub returns-in_err-lines-clause-cause : goal.returns-in_err-lines-clause-cause
-returns-in_err-lines-clause-cause g c =
-    passed_up c.from_residual-in_err-lines.result c.in_err-lines.field-0.0 _
-    c.from_residual-in_err-lines.ensures.1
-    (script_cause (g.S.Shelf.file c.args.shelf.now) (g.S.Shelf.file c.taken.new.shelf) c.args.program.now
-    c.args.script.now c.args.limits c.in_ok-image.image (g.S.Shelf.faults c.args.shelf.now)
-    (g.S.Shelf.faults c.taken.new.shelf) (g.S.Shelf.faults c.script_read.new.shelf) c.in_err-lines.field-0.0
-    c.taken.ensures.files c.in_ok-image.ensures.taken c.taken.ensures.counts c.script_read.ensures.counts
-    c.in_err-lines.ensures.cause)
-
-pub returns-in_err-machine-clause-cause : goal.returns-in_err-machine-clause-cause
-returns-in_err-machine-clause-cause g c =
-    passed_up c.from_residual-in_err-machine.result c.in_err-machine.field-0.0 _
-    c.from_residual-in_err-machine.ensures.1
-    (play_cause (g.S.Shelf.file c.args.shelf.now) (g.S.Shelf.file c.taken.new.shelf) c.args.program.now
-    c.args.script.now c.in_ok-lines.lines.items c.deref.result.now c.args.limits c.in_ok-image.image
-    (g.S.Shelf.faults c.args.shelf.now) (g.S.Shelf.faults c.script_read.new.shelf) c.in_err-machine.field-0.0
-    c.taken.ensures.files c.deref.ensures.value c.in_ok-image.ensures.taken c.in_ok-lines.ensures.read
-    c.in_err-machine.ensures.cause)
+pub returns-in_err-played-clause-cause : goal.returns-in_err-played-clause-cause
+returns-in_err-played-clause-cause g c =
+    passed_up c.from_residual.result c.in_err-played.field-0.0 _ c.from_residual.ensures.1
+    (c.in_err-played.ensures.cause (Play c.args.program.now c.args.script.now c.args.limits) refl)
 
 pub output_text-requires : goal.output_text-requires
 output_text-requires g c =
-    play_digits c.in_ok-image.image c.args.limits c.deref.result.now c.in_ok-machine.machine
-    c.requires.eight_harts c.in_ok-machine.ensures.whole
+    play_digits (g.S.Shelf.file c.args.shelf.now) c.args.program.now c.args.script.now c.args.limits
+    c.in_ok-played.played.image c.in_ok-played.played.machine.log c.requires.eight_harts c.in_ok-played.ensures.played
 
 pub returns-clause-output : goal.returns-clause-output
 returns-clause-output g c =
-    play_output_of (g.S.Shelf.file c.args.shelf.now) (g.S.Shelf.file c.taken.new.shelf) c.args.program.now
-    c.args.script.now c.in_ok-lines.lines.items c.deref.result.now c.args.limits c.in_ok-image.image
-    c.in_ok-machine.machine c.in_ok-output_text.field-0.items c.taken.ensures.files c.deref.ensures.value
-    c.in_ok-image.ensures.taken c.in_ok-lines.ensures.read c.in_ok-machine.ensures.whole
-    c.in_ok-output_text.ensures
+    play_output_of (g.S.Shelf.file c.args.shelf.now) c.args.program.now c.args.script.now c.args.limits
+    c.in_ok-played.played.image c.in_ok-played.played.machine c.in_ok-output_text.field-0.items
+    c.in_ok-played.ensures.played c.in_ok-played.ensures.setting c.in_ok-output_text.ensures

@@ -1,5 +1,5 @@
 -- Whether a signal can be delivered to the thread on a hart.
-use Rattle.std.proofs.Common.{◌≡◌, ◌<◌, ap, ◌∙◌}
+use Rattle.std.proofs.Common.{◌<◌, ap, ◌∙◌}
 use Rattle.block_model.specs.Here.{Here, runs}
 use Rattle.block_model.specs.Plain.{here_of, plain_seen}
 use Rattle.block_model.specs.Sights.{is_deliverable_on}

@@ -1,4 +1,4 @@
-use Rattle.std.proofs.Common.{◌≡◌, ◌+◌, set, eqb, arith, sym, ap, ◌∙◌, slice_get}
+use Rattle.std.proofs.Common.{◌≡◌, set, eqb, arith, ap, ◌∙◌, slice_get}
 use Rattle.std.specs.Option.{option_map}
 use Rattle.mach_types.specs.Kernel.Threads.{is_stuck, running_on}
 use Rattle.mach_types.specs.declared.events.Choice.TheVariants as asked

@@ -1,14 +1,12 @@
 -- The event of a signal.
-use Rattle.std.proofs.Common.{◌≡◌, Option, Some, None, refl, sym, ap, ◌∙◌, subst, get_or}
-use Rattle.std.proofs.lemmas.Option.{same_Some}
+use Rattle.std.proofs.Common.{ap, ◌∙◌}
 use Rattle.mach_types.specs.Kernel.Signals.{is_held}
-use Rattle.mach_types.specs.declared.events.Entry.{Entry}
 use Rattle.mach_types.specs.declared.events.Kind.TheVariants as kind
 use Rattle.block_model.specs.Plain.{here_of, plain_seen}
 use Rattle.machine_core.specs.Delivering.{ended_unless}
 use Rattle.machine_core.proofs.Entries.{entry_signal}
 use Rattle.machine_core.proofs.Places.{hart_is}
-use Rattle.machine_core.proofs.SignalEvent.{IsOver, counted, delivered_event, interrupted_there, receiving, same_signal}
+use Rattle.machine_core.proofs.SignalEvent.{counted, delivered_event, interrupted_there, receiving, same_signal}
 use Rattle.machine_core.proofs.Signalled.{entry_runs, has_signals, held_at}
 use Rattle.machine_core.proofs.parts.Parts.delivered.Goals as goal
 

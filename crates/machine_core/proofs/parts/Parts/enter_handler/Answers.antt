@@ -1,13 +1,11 @@
 -- A handler is entered.
-use Rattle.std.proofs.Common.{◌≡◌, length, true, false, refl, sym, ap, ◌∙◌, eqb, List, ◌∷◌, [], Some, None, slice_get}
+use Rattle.std.proofs.Common.{◌≡◌, length, true, false, sym, ap, ◌∙◌, eqb, ◌∷◌, [], slice_get}
 use Rattle.std.specs.Option.{option_map}
 use Rattle.std.proofs.lemmas.Bool.{OnTrue_at}
 use Rattle.mach_types.specs.Kernel.SignalFrames.{after_frame, can_write_frame, frame_writes, stack_pointer}
-use Rattle.mach_types.specs.Kernel.Signals.{Signalling, action_of, mask_of}
-use Rattle.mach_types.specs.Bytes.{after_writes}
-use Rattle.mach_types.specs.declared.threads.Saved.{Saved}
+use Rattle.mach_types.specs.Kernel.Signals.{action_of, mask_of}
 use Rattle.mach_types.specs.declared.user_memory.Write.{Write}
-use Rattle.page_map.specs.Map.{Map, byte_in, can_write_in}
+use Rattle.page_map.specs.Map.{byte_in, can_write_in}
 use Rattle.block_model.specs.Events.Signal.{dropped_if_ignored}
 use Rattle.sys_calls.specs.declared.kernel.Kernel.{Kernel}
 use Rattle.machine_core.specs.Losing.{lost_unless}

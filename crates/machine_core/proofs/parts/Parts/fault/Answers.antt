@@ -1,4 +1,4 @@
-use Rattle.std.proofs.Common.{◌≡◌, true, false, not, Some, arith, refl, sym, ap, ◌∙◌}
+use Rattle.std.proofs.Common.{◌≡◌, true, false, not, arith, refl, sym, ap, ◌∙◌}
 use Rattle.std.proofs.lemmas.Bool.{and_parts}
 use Rattle.mach_types.specs.Kernel.Signals.{action_of, has_signal, is_handler, is_held, mask_of, with_pending}
 use Rattle.mach_types.specs.declared.events.Choice.TheVariants as asked

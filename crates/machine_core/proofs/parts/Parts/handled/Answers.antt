@@ -1,12 +1,10 @@
 -- A signal is delivered to a thread.
-use Rattle.std.proofs.Common.{◌≡◌, true, false, rules, refl, sym, ap, ◌∙◌}
+use Rattle.std.proofs.Common.{◌≡◌, false, rules, sym, ap, ◌∙◌}
 use Rattle.std.proofs.Math.Path.{fun_ext}
-use Rattle.mach_types.specs.Kernel.Signals.{Signalling, is_held}
+use Rattle.mach_types.specs.Kernel.Signals.{is_held}
 use Rattle.mach_types.specs.declared.threads.Saved.{Saved}
-use Rattle.page_map.specs.Map.{can_write_in}
-use Rattle.block_model.specs.Here.{Here}
 use Rattle.sys_calls.specs.declared.kernel.Kernel.{Kernel}
-use Rattle.machine_core.proofs.Delivery.{IsHalfway, delivered_bad, delivered_by, held_taken}
+use Rattle.machine_core.proofs.Delivery.{IsHalfway, delivered_by, held_taken}
 use Rattle.machine_core.proofs.Interrupting.{is_fatal}
 use Rattle.machine_core.proofs.parts.Parts.handled.Goals as goal
 

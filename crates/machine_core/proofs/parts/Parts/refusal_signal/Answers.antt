@@ -1,9 +1,6 @@
 -- Why no signal is delivered to the thread on a hart.
-use Rattle.std.proofs.Common.{◌≡◌, ◌≢◌, length, rules, refl, sym, ap, ◌∙◌, Bool, true, false, cond, Option, Some, None, is_some}
-use Rattle.mach_types.specs.declared.events.Choice.TheVariants as asked
-use Rattle.mach_types.specs.declared.events.Why.{Why}
-use Rattle.mach_types.specs.declared.events.Why.TheVariants.{Idle, InBarrier, NoSignal, Waiting}
-use Rattle.block_model.specs.Events.{refusal_of}
+use Rattle.std.proofs.Common.{◌≡◌, ◌≢◌, length, rules, sym, ap, ◌∙◌, true, false, cond, Some, is_some}
+use Rattle.mach_types.specs.declared.events.Why.TheVariants.{Idle, InBarrier, NoSignal}
 use Rattle.block_model.specs.Events.Preempt.{unless_waiting}
 use Rattle.block_model.specs.Plain.{here_of, plain_seen}
 use Rattle.machine_core.proofs.Places.{hart_is}

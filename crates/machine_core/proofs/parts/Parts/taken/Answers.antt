@@ -1,5 +1,5 @@
 -- A hart takes its requests.
-use Rattle.std.proofs.Common.{◌≡◌, ap, ◌∙◌}
+use Rattle.std.proofs.Common.{ap, ◌∙◌}
 use Rattle.block_model.specs.Plain.{plain_seen}
 use Rattle.machine_core.specs.Barriers.{ended_by}
 use Rattle.machine_core.proofs.Entries.{entry_take}

@@ -1,0 +1,182 @@
+-- A log is gone through entry by entry: what a machine has made so far, and where one is refused.
+use Rattle.std.proofs.Common.{◌≡◌, ℕ, ◌+◌, ◌<◌, ◌^◌, List, [], ◌∷◌, ◌++◌, length, map, take, drop, get_or, replicate, reverse, refl, sym, ap, ◌∙◌, subst, arith, eqb, ltb, ◌&&◌, Bool, true, false, cond, Option, Some, None, Result, Ok, Err}
+use Rattle.std.proofs.lemmas.Bool.{eqb-true, false≢true, ltb-false, ltb-true}
+use Rattle.std.proofs.lemmas.List.{get_or-replicate, get_or_past, length-map, length-replicate, map-append, take-append-drop, drop_more}
+use Rattle.mach_types.specs.Events.{choice_of, choice_with, kind_of}
+use Rattle.mach_types.specs.Limits.{InRange}
+use Rattle.mach_types.specs.declared.events.Entry.{Entry}
+use Rattle.mach_types.specs.declared.events.Kind.{Kind}
+use Rattle.mach_types.specs.declared.events.Kind.TheVariants as kind
+use Rattle.block_model.specs.Deciding.{decide, event, history}
+use Rattle.block_model.specs.History.{Event, History}
+use Rattle.block_model.specs.Replay.{IsFirstRefused, checked, is_as_said, line_of, made_by, script_of}
+use Rattle.block_model.specs.Run.{IsBlockRun}
+use Rattle.block_model.specs.Setting.{Seen, Setting}
+use Rattle.block_model.specs.declared.refusals.Refused.{Refused}
+use Rattle.block_model.proofs.Laws.{decided_is, history-nil, replays, start_run, within_limit}
+use Rattle.block_view.specs.Acts.{acts_after, acts_of}
+use Rattle.block_view.specs.Ledgers.{Kept, noted, nothing_kept}
+use Rattle.block_view.specs.Passing.{IsDecided, IsMadeAgain, passed_of}
+use Rattle.block_view.specs.Standing.{at_the_end, standings}
+use Rattle.block_view.specs.Tied.{IsTied}
+use Rattle.block_view.specs.Viewing.{AreActs}
+use Rattle.block_view.specs.declared.forms.Act.{Act}
+use Rattle.block_view.specs.declared.ledger.Going.{Going as KeptGoing}
+use Rattle.block_view.specs.declared.passing.Passed.{Passed}
+use Rattle.block_view.proofs.Growing.{at-the-end}
+use Rattle.block_view.proofs.Made.{made_at}
+use Rattle.block_view.proofs.Seeing.{history_after, run_after}
+use Rattle.block_view.proofs.Ties.{tied_next}
+
+-- a machine made these entries of a setting, and a ledger is tied to their log
+pub record HasMade (s : Setting) (log : List Entry) (m : Seen) (k : Kept) : Type 0 where
+  pub setting : m.setting ≡ s
+  pub made : m.log ≡ log
+  pub run : IsBlockRun m.setting m.log
+  pub tied : IsTied m.setting (history m.setting m.log) k
+
+-- AT THE START
+
+none_going : (n h : ℕ) (b : Bool) → ltb h n ≡ b → get_or {A = Option KeptGoing} (replicate n None) h None ≡ None
+none_going n h true lt = get_or-replicate n h None None (ltb-true h n lt)
+none_going n h false ge =
+    let past = ltb-false h n ge in get_or_past (replicate n None) h None (omega (arith, length-replicate {A = Option KeptGoing} n None))
+
+tied_start : (s : Setting) → IsTied s [] (nothing_kept s.limits.harts)
+tied_start s = record {
+  acts = refl;
+  harts = length-replicate s.limits.harts None;
+  going = λ i q at. absurd cc;
+  rests = λ h none. none_going s.limits.harts h (ltb h s.limits.harts) refl;
+  hanging = λ i q at. absurd cc;
+  hangs = λ tid x is. absurd cc;
+}
+
+pub made_none : (s : Setting) (m : Seen) (k : Kept) → m ≡ record { setting = s; log = [] } → k ≡ nothing_kept s.limits.harts → HasMade s [] m k
+made_none s m k is kept =
+    let start : Seen = record { setting = s; log = [] } in
+    let tied : IsTied s (history s []) k =
+    subst (IsTied s (history s [])) (sym kept) (subst (λ events. IsTied s events (nothing_kept s.limits.harts)) (sym (history-nil s)) (tied_start s)) in
+    record {
+      setting = ap (λ (x : Seen). x.setting) is;
+      made = ap (λ (x : Seen). x.log) is;
+      run = subst (λ (x : Seen). IsBlockRun x.setting x.log) (sym is) (start_run s);
+      tied = subst (λ (x : Seen). IsTied x.setting (history x.setting x.log) k) (sym is) tied;
+    }
+
+-- ONE ENTRY MORE
+
+pub made_more : (s : Setting) (log : List Entry) (m m' : Seen) (k : Kept) (entry : Entry) (passed : Passed) → HasMade s log m k
+    → IsMadeAgain m m' entry passed → HasMade s (log ++ entry ∷ []) m' (noted passed k)
+made_more s log m m' k entry passed was again =
+    let before = history m.setting m.log in
+    let newest = event m.setting before entry in
+    let same : m'.setting ≡ m.setting = ap (λ (x : Seen). x.setting) again.made.longer in
+    let next : IsTied m.setting (newest ∷ before) (noted passed k) =
+    subst (λ (p : Passed). IsTied m.setting (newest ∷ before) (noted p k)) (sym again.seen)
+    (tied_next m.setting newest before k (run_after m m' entry again.made) was.tied) in
+    record {
+      setting = same ∙ was.setting;
+      made = ap (λ (x : Seen). x.log) again.made.longer ∙ ap (λ xs. xs ++ entry ∷ []) was.made;
+      run = again.made.block_run;
+      tied = subst (λ x. IsTied x (history m'.setting m'.log) (noted passed k)) (sym same)
+          (subst (λ events. IsTied m.setting events (noted passed k)) (sym (history_after m m' entry again.made)) next);
+    }
+
+-- it is of a hart that the ledger keeps
+its_hart : (s : Setting) (e : Event) (before : History) (p : Passed) → p ≡ passed_of s e before → p.entry.hart.0 ≡ e.entry.hart.0
+unfolding passed_of
+its_hart s e before p is = ap (λ (x : Passed). x.entry.hart.0) is
+
+pub hart_is_kept : (s : Setting) (log : List Entry) (m m' : Seen) (k : Kept) (entry : Entry) (passed : Passed) → HasMade s log m k
+    → IsMadeAgain m m' entry passed → passed.entry.hart.0 < length k.going
+hart_is_kept s log m m' k entry passed was again =
+    let before = history m.setting m.log in
+    let newest = event m.setting before entry in
+    let lt = (made_at m.setting newest before (run_after m m' entry again.made)).lt in
+    omega (arith, its_hart m.setting newest before passed again.seen, was.tied.harts)
+
+-- its log is short
+pub made_few : (s : Setting) (log : List Entry) (m : Seen) (k : Kept) → HasMade s log m k → InRange s.limits → length m.log + 1 < 2 ^ 32
+made_few s log m k was limits =
+    let within = within_limit m.setting m.log was.run in
+    let same = ap (λ (x : Setting). x.limits.steps) was.setting in
+    let most = limits.most_steps in
+    omega arith
+
+-- AN ENTRY THAT IS REFUSED
+
+kind_back : (k : Kind) (entry : Entry) → kind_of (choice_with k entry) ≡ k
+kind_back kind.Exec entry = refl
+kind_back kind.Drain entry = refl
+kind_back kind.Take entry = refl
+kind_back kind.Done entry = refl
+kind_back kind.Preempt entry = refl
+kind_back kind.Run entry = refl
+kind_back kind.Signal entry = refl
+
+both : (a b : Bool) → (a && b) ≡ true → (a ≡ true) × (b ≡ true)
+both true b is = (refl, is)
+both false b is = absurd (false≢true is)
+
+-- an entry of the same hart and choice that is as another says is that one
+same_entry : (made entry : Entry) → made.hart.0 ≡ entry.hart.0 → choice_of made ≡ choice_of entry → is_as_said (line_of entry).check made ≡ true → made ≡ entry
+same_entry made entry hart choice said =
+    let parts = both (eqb made.tid.0 entry.tid.0) (eqb made.pc entry.pc) said in
+    let kinds : made.kind ≡ entry.kind = sym (kind_back made.kind made) ∙ ap kind_of choice ∙ kind_back entry.kind entry in
+    let tid = eqb-true made.tid.0 entry.tid.0 parts.0 in
+    let pc = eqb-true made.pc entry.pc parts.1 in
+    λ i. record { hart = record { 0 = hart i }; kind = kinds i; tid = record { 0 = tid i }; pc = pc i }
+
+module _ (s : Setting) (log : List Entry) (entry : Entry) (never : decide s (history s log) entry.hart.0 (choice_of entry) ≡ Ok entry → ⊥) where
+  by_said : (d : Entry) (b : Bool) → decide s (history s log) entry.hart.0 (choice_of entry) ≡ Ok d → is_as_said (line_of entry).check d ≡ b
+      → cond b (Some d) None ≡ None
+  by_said d false is said = refl
+  by_said d true is said =
+      let of = decided_is s (history s log) entry.hart.0 (choice_of entry) d is in
+      absurd (never (is ∙ ap Ok (same_entry d entry of.0 of.1 said)))
+
+  by_answer : (r : Result Entry Refused) → decide s (history s log) entry.hart.0 (choice_of entry) ≡ r → checked (line_of entry).check r ≡ None
+  by_answer (Err why) is = refl
+  by_answer (Ok d) is = by_said d (is_as_said (line_of entry).check d) is refl
+
+  makes_none : made_by s log (line_of entry) ≡ None
+  makes_none = by_answer (decide s (history s log) entry.hart.0 (choice_of entry)) refl
+
+-- the first entry that isn't decided is the first line that is refused
+pub first_refused : (s : Setting) (all : List Entry) (i : ℕ) (m : Seen) (k : Kept) (entry : Entry) (n : ℕ) → HasMade s (take i all) m k
+    → entry ≡ get_or all i entry → i < length all → (IsDecided m entry → ⊥) → n ≡ length m.log + 1 → IsFirstRefused s (script_of all) n
+first_refused s all i m k entry n was at lt never number =
+    let log = take i all in
+    let run : IsBlockRun s log = subst (IsBlockRun s) was.made (subst (λ x. IsBlockRun x m.log) was.setting was.run) in
+    let split : all ≡ log ++ entry ∷ drop (i + 1) all =
+    sym (take-append-drop i all) ∙ ap (λ xs. log ++ xs) (drop_more all i entry lt ∙ ap (λ x. x ∷ drop (i + 1) all) (sym at)) in
+    let so_far = ap length was.made in
+    record {
+      earlier = script_of log;
+      line = line_of entry;
+      later = script_of (drop (i + 1) all);
+      log = log;
+      parts = ap (map line_of) split ∙ map-append line_of log (entry ∷ drop (i + 1) all);
+      number = omega (arith, length-map log line_of);
+      allowed = replays s log run;
+      refused = makes_none s log entry
+          (λ decided. never
+          (subst (λ xs. decide m.setting (history m.setting xs) entry.hart.0 (choice_of entry) ≡ Ok entry) (sym was.made)
+          (subst (λ x. decide x (history x log) entry.hart.0 (choice_of entry) ≡ Ok entry) (sym was.setting) decided)));
+    }
+
+-- AT THE END
+
+pub are_acts : (s : Setting) (log : List Entry) (m : Seen) (k : Kept) (list : List Act) → HasMade s log m k
+    → list ≡ map (at_the_end m.setting (history m.setting m.log) []) (standings m.setting (history m.setting m.log)) → AreActs s log list
+unfolding acts_of
+are_acts s log m k list was is =
+    let run : IsBlockRun s log = subst (IsBlockRun s) was.made (subst (λ x. IsBlockRun x m.log) was.setting was.run) in
+    record {
+      block_run = run;
+      acts = is
+          ∙ at-the-end m.setting (history m.setting m.log)
+          ∙ ap (λ x. acts_after x [] (reverse (history x m.log))) was.setting
+          ∙ ap (λ xs. acts_after s [] (reverse (history s xs))) was.made;
+    }

@@ -1,0 +1,11 @@
+use Rattle.std.proofs.Common.{List, ap}
+use Rattle.block_view.specs.Ledgers.{kept_in, with_end}
+use Rattle.block_view.specs.declared.forms.Act.{Act}
+use Rattle.block_view.proofs.Changes.{set_changes}
+use Rattle.block_view.proofs.ledger.Ledger.end_at.Goals as goal
+
+pub returns : goal.returns
+returns c =
+    let was = kept_in c.args.self.now in
+    ap (λ (acts : List Act). record was { acts = acts })
+    (set_changes (with_end c.args.end) was.acts c.args.place c.index_mut.result.now c.index_mut.ensures.value c.requires)

@@ -1,0 +1,22 @@
+//! The acts of a log: each restartable sequence as one act with the way that it ended, and each other event by itself.
+//!
+//! [`acts`] goes through the log once, on a machine that makes its events again; [`counts`] says how many acts of each form a
+//! hart has.
+#![tactic(auto)]
+
+mod counting;
+mod forms;
+mod ledger;
+mod passing;
+mod tally;
+#[cfg(test)]
+mod tests;
+mod theorems;
+mod viewing;
+
+pub use block_model::SeqEnd;
+pub use counting::counts;
+pub use forms::{Act, Acts, Form};
+pub use tally::Counts;
+pub use theorems::{acts_cover_the_log, counts_add_up};
+pub use viewing::{ViewFault, acts};

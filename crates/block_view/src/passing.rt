@@ -1,0 +1,200 @@
+//! An entry of a log as it is made again, and what is seen of its hart before it and after it.
+
+ghost use Rattle.std.specs.Prelude.{◌≡◌, ◌<◌, ◌↔◌, false, IfSome, IfNone, IsTrue, is_none};
+ghost use Rattle.mach_types.specs.Limits.{InRange};
+ghost use Rattle.block_model.specs.Deciding.{history};
+ghost use Rattle.block_model.specs.History.{restart, running};
+ghost use Rattle.block_model.specs.Acts.{is_instruction};
+ghost use Rattle.block_view.specs.Acts.{form_alone, is_run};
+ghost use Rattle.block_view.specs.Ledgers.{begins, is_fatal, is_more, leaves_inside, moves_out, takes, verdict_by};
+ghost use Rattle.block_view.specs.Passing.{IsDecided, IsMadeAgain, IsMadeBy, inside_at, is_by_signal, would_interrupt};
+
+use crate::forms::Form;
+use block_model::SeqEnd;
+use mach_types::{End, Entry, Hart, Kind, Named, Seq};
+use machine_core::Machine;
+
+/// An entry that was made.
+#[derive(Clone, Copy, Debug, PartialEq, Eq, Drop)]
+pub(crate) struct Passed {
+    /// Its number in the log, counted from 1.
+    pub(crate) number: u32,
+    /// The entry.
+    pub(crate) entry: Entry,
+    /// The sequence that its hart's thread was inside before it, if it was inside one.
+    pub(crate) inside: Option<Seq>,
+    /// Whether it interrupted a thread (rseq(2)).
+    pub(crate) interrupts: bool,
+    /// Whether it ended the process by a signal.
+    pub(crate) killed: bool,
+    /// The pc of its hart's thread after it; 0 where none runs there.
+    pub(crate) pc: u64,
+}
+
+impl Passed {
+    /// Its hart's number.
+    pub(crate) fn hart(&self) -> usize
+        ensures { result ≡ self.now.entry.hart.0 }
+    {
+        usize::from(self.entry.hart.0)
+    }
+
+    /// Whether it is an interruption that ended the process.
+    pub(crate) fn is_fatal(&self) -> bool
+        ensures { result ≡ is_fatal self.now }
+    {
+        self.interrupts && self.killed
+    }
+
+    /// Whether it is an instruction, its fault or its call.
+    pub(crate) fn executes(&self) -> bool
+        ensures { result ≡ is_instruction self.now.entry.kind }
+    {
+        matches!(self.entry.kind, Kind::Exec)
+    }
+
+    /// Whether its thread begins to run by it.
+    pub(crate) fn runs(&self) -> bool
+        ensures { result ≡ is_run self.now.entry.kind }
+    {
+        matches!(self.entry.kind, Kind::Run)
+    }
+
+    /// Whether a sequence begins with it, where its hart was in none.
+    pub(crate) fn begins(&self) -> bool
+        ensures { result ≡ begins self.now }
+    {
+        self.inside.is_some() && self.executes()
+    }
+
+    /// Whether the sequence that its hart was in takes it in.
+    pub(crate) fn is_taken_in(&self) -> bool
+        ensures { result ≡ is_more self.now }
+    {
+        self.inside.is_some()
+            && match self.entry.kind {
+                Kind::Exec | Kind::Drain => true,
+                Kind::Take => !self.interrupts,
+                Kind::Done | Kind::Preempt | Kind::Run | Kind::Signal => false,
+            }
+    }
+
+    /// Whether it preempted its thread inside a sequence.
+    pub(crate) fn leaves_inside(&self) -> bool
+        ensures { result ≡ leaves_inside self.now }
+    {
+        self.inside.is_some() && matches!(self.entry.kind, Kind::Preempt)
+    }
+
+    /// The act that it is by itself.
+    pub(crate) fn form_alone(&self) -> Form
+        ensures { result ≡ form_alone self.now.entry.kind }
+    {
+        match self.entry.kind {
+            Kind::Exec | Kind::Drain => Form::Step,
+            Kind::Take | Kind::Done | Kind::Preempt | Kind::Run | Kind::Signal => Form::Kernel,
+        }
+    }
+
+    /// Whether it moved the pc out of the sequence that its thread was inside before it.
+    pub(crate) fn moved_out(&self) -> bool
+        ensures { result ≡ moves_out self.now }
+    {
+        match self.inside {
+            Some(sequence) => !sequence.is_inside(self.pc),
+            None => true,
+        }
+    }
+
+    /// How a sequence that hangs ends, whose thread begins to run by it. An abort handler lies outside its sequence, so the thread
+    /// was sent there where its pc isn't the one that it waited with.
+    pub(crate) fn verdict(&self) -> SeqEnd
+        ensures { result ≡ verdict_by self.now }
+    {
+        if self.killed {
+            SeqEnd::Dead
+        } else if self.pc == self.entry.pc {
+            SeqEnd::Dropped
+        } else {
+            SeqEnd::Cut(self.pc)
+        }
+    }
+}
+
+/// The sequence that the thread of a hart is inside, if it is inside one.
+pub(crate) fn inside(machine: &Machine, hart: Hart) -> Option<Seq>
+    requires { hart.0 < machine.now.setting.limits.harts }
+    ensures { result ≡ inside_at machine.now.setting hart.0 (history machine.now.setting machine.now.log) }
+{
+    match machine.named(hart) {
+        Named::Good(sequence) if sequence.is_inside(machine.hart(hart).pc) => Some(sequence),
+        Named::Good(_) | Named::Bad(_) | Named::Nothing => None,
+    }
+}
+
+/// Whether an event of this kind would interrupt a thread on a hart.
+fn interrupts(machine: &Machine, hart: Hart, kind: Kind) -> bool
+    requires { hart.0 < machine.now.setting.limits.harts }
+    ensures { result ≡ would_interrupt kind (restart hart.0 (history machine.now.setting machine.now.log))
+        (is_none (running machine.now.setting hart.0 (history machine.now.setting machine.now.log))) }
+{
+    match kind {
+        Kind::Run | Kind::Signal => true,
+        Kind::Take => {
+            let state = machine.hart(hart);
+            state.restart && !state.is_idle()
+        }
+        Kind::Exec | Kind::Drain | Kind::Done | Kind::Preempt => false,
+    }
+}
+
+/// Whether a signal ended the process, where the run ends so.
+fn is_by_signal(end: End) -> bool
+    ensures { result ≡ is_by_signal end }
+{
+    matches!(end, End::Killed(_))
+}
+
+/// Whether two entries are the same.
+fn is_same(one: Entry, other: Entry) -> bool
+    ensures { IsTrue result ↔ (one ≡ other) }
+{
+    one == other
+}
+
+/// Makes an entry; false where it isn't the one that is decided, and then another may have been made.
+fn make(machine: &mut Machine, entry: Entry) -> bool
+    ensures made { IsTrue result → IsMadeBy machine.old machine.new entry }
+    ensures refused { result ≡ false → IsDecided machine.old entry → ⊥ }
+{
+    match machine.step(entry.hart, entry.choice()) {
+        Ok(made) => is_same(made, entry),
+        Err(_) => false,
+    }
+}
+
+/// Makes an entry of one of so many harts again; None where it isn't the one that is decided.
+pub(crate) fn make_again(machine: &mut Machine, harts: u8, entry: Entry) -> Option<Passed>
+    requires limits { InRange machine.old.setting.limits }
+    requires harts { harts ≡ machine.old.setting.limits.harts }
+    ensures made { IfSome result (IsMadeAgain machine.old machine.new entry) }
+    ensures refused { IfNone result (IsDecided machine.old entry → ⊥) }
+{
+    let hart = entry.hart;
+    if hart.0 >= harts {
+        return None;
+    }
+    let inside = inside(machine, hart);
+    let interrupts = interrupts(machine, hart, entry.kind);
+    if !make(machine, entry) {
+        return None;
+    }
+    Some(Passed {
+        number: machine.log().len() as u32,
+        entry,
+        inside,
+        interrupts,
+        killed: is_by_signal(machine.end()),
+        pc: machine.hart(hart).pc,
+    })
+}

@@ -1,0 +1,6 @@
+pub mod Digits
+pub mod HartSets
+pub mod HartStates
+pub mod Lists
+pub mod LiveThreads
+pub mod ToldThreads

@@ -1,0 +1,10 @@
+pub mod Choices
+pub mod Ends
+pub mod Fields
+pub mod Harts
+pub mod Live
+pub mod Place
+pub mod Registers
+pub mod Seen
+pub mod Sequences
+pub mod Threads

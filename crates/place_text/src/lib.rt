@@ -1,0 +1,16 @@
+//! The text of a place: the whole state of a machine after the log that it has, and what each of its harts may do next.
+#![tactic(auto)]
+
+mod choices;
+mod ends;
+mod fields;
+mod harts;
+mod place;
+mod registers;
+mod sequences;
+#[cfg(test)]
+mod tests;
+mod threads;
+
+pub use ends::{push_end, push_number_line};
+pub use place::place_text;

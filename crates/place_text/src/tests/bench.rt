@@ -1,0 +1,89 @@
+//! A machine that runs a small program, and its text.
+
+ghost use Rattle.std.specs.Prelude.{◌<◌};
+
+use crate::place_text;
+use elf_load::load;
+use mach_types::{Choice, Hart, Limits};
+use machine_core::Machine;
+use std::alloc::{AllocError, Global};
+use std::process::Abort;
+use std::test::Fail;
+
+/// The headers of a file whose code stands from 0x100b0 on, in one segment with them, and whose second
+/// segment is a page of zeros at 0x20000, which can be read and written. The code begins at 0x100b0.
+const HEADERS: [u8; 176] = [
+    0x7f, 0x45, 0x4c, 0x46, 0x02, 0x01, 0x01, 0x00, 0x00, 0x00, 0x00, 0x00, 0x00, 0x00, 0x00, 0x00,
+    0x02, 0x00, 0xf3, 0x00, 0x01, 0x00, 0x00, 0x00, 0xb0, 0x00, 0x01, 0x00, 0x00, 0x00, 0x00, 0x00,
+    0x40, 0x00, 0x00, 0x00, 0x00, 0x00, 0x00, 0x00, 0x00, 0x00, 0x00, 0x00, 0x00, 0x00, 0x00, 0x00,
+    0x00, 0x00, 0x00, 0x00, 0x40, 0x00, 0x38, 0x00, 0x02, 0x00, 0x00, 0x00, 0x00, 0x00, 0x00, 0x00,
+    0x01, 0x00, 0x00, 0x00, 0x05, 0x00, 0x00, 0x00, 0x00, 0x00, 0x00, 0x00, 0x00, 0x00, 0x00, 0x00,
+    0x00, 0x00, 0x01, 0x00, 0x00, 0x00, 0x00, 0x00, 0x00, 0x00, 0x01, 0x00, 0x00, 0x00, 0x00, 0x00,
+    0x30, 0x01, 0x00, 0x00, 0x00, 0x00, 0x00, 0x00, 0x30, 0x01, 0x00, 0x00, 0x00, 0x00, 0x00, 0x00,
+    0x00, 0x10, 0x00, 0x00, 0x00, 0x00, 0x00, 0x00, 0x01, 0x00, 0x00, 0x00, 0x06, 0x00, 0x00, 0x00,
+    0x00, 0x00, 0x00, 0x00, 0x00, 0x00, 0x00, 0x00, 0x00, 0x00, 0x02, 0x00, 0x00, 0x00, 0x00, 0x00,
+    0x00, 0x00, 0x02, 0x00, 0x00, 0x00, 0x00, 0x00, 0x00, 0x00, 0x00, 0x00, 0x00, 0x00, 0x00, 0x00,
+    0x00, 0x10, 0x00, 0x00, 0x00, 0x00, 0x00, 0x00, 0x00, 0x10, 0x00, 0x00, 0x00, 0x00, 0x00, 0x00,
+];
+
+/// How long a file is: it has room for 32 instructions.
+const FILE_SIZE: usize = 304;
+
+/// A file with these instructions, and zeros behind them.
+fn file(alloc: Global, words: &[u32]) -> Result<Vec<u8>, AllocError> {
+    let mut file = HEADERS.to_vec(alloc)?;
+    for word in words {
+        file.extend_from_slice(&word.to_le_bytes())?;
+    }
+    file.resize(FILE_SIZE, 0)?;
+    Ok(file)
+}
+
+/// A machine of two harts that has done nothing yet, over these instructions, with a log of so many entries.
+pub fn boot(alloc: Global, words: &[u32], steps: u32) -> Result<Machine, Fail>
+    requires some { 0 < steps }
+    requires few { steps < 1000 }
+{
+    let limits = Limits {
+        harts: 2,
+        frames: 128,
+        steps,
+    };
+    let image = load(alloc, &file(alloc, words)?, &limits)?;
+    Ok(Machine::boot(alloc, &image, limits, 0)?)
+}
+
+/// Makes so many events of one kind that must be allowed.
+pub fn make(rt: &impl Abort, machine: &mut Machine, hart: u8, choice: Choice, count: u8) {
+    for _ in 0..count {
+        let answer = machine.step(Hart(hart), choice);
+        assert!(rt; answer.is_ok(), "{answer:?}");
+    }
+}
+
+/// The text of the machine's place must be this.
+pub fn expect_text(
+    rt: &impl Abort,
+    alloc: Global,
+    machine: &Machine,
+    expected: &str,
+) -> Result<(), Fail> {
+    let text = place_text(alloc, machine)?;
+    assert_eq!(rt; std::str::from_utf8(&text), Ok(expected));
+    Ok(())
+}
+
+/// The text of the machine's place must have each of these lines.
+pub fn expect_lines(
+    rt: &impl Abort,
+    alloc: Global,
+    machine: &Machine,
+    expected: &[&str],
+) -> Result<(), Fail> {
+    let text = place_text(alloc, machine)?;
+    for line in expected {
+        let mut lines = text.split(|byte| *byte == b'\n');
+        assert!(rt; lines.any(|there| there == line.as_bytes()), "{line}");
+    }
+    Ok(())
+}

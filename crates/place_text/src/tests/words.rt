@@ -1,0 +1,45 @@
+//! The words of conditions, and of what is wrong with a sequence.
+
+use crate::choices::why_word;
+use crate::sequences::bad_word;
+use mach_types::{BadWhy, Why};
+
+#[test]
+fn conditions_have_their_names(rt: HostRuntime) {
+    let table = [
+        (Why::NoHart, "NoHart"),
+        (Why::Idle, "Idle"),
+        (Why::InBarrier, "InBarrier"),
+        (Why::Waiting, "Waiting"),
+        (Why::FullBuffer, "FullBuffer"),
+        (Why::Others, "Others"),
+        (Why::NoStore, "NoStore"),
+        (Why::NoRequest, "NoRequest"),
+        (Why::NotInBarrier, "NotInBarrier"),
+        (Why::Targets, "Targets"),
+        (Why::Busy, "Busy"),
+        (Why::NotReady, "NotReady"),
+        (Why::NotAllowed, "NotAllowed"),
+        (Why::NoSignal, "NoSignal"),
+    ];
+    for (why, word) in table {
+        assert_eq!(rt; why_word(why), word.as_bytes());
+    }
+}
+
+#[test]
+fn bad_sequences_have_their_words(rt: HostRuntime) {
+    let table = [
+        (BadWhy::AreaBytes, "area-bytes"),
+        (BadWhy::Pointer, "pointer"),
+        (BadWhy::Descriptor, "descriptor"),
+        (BadWhy::Version, "version"),
+        (BadWhy::Range, "range"),
+        (BadWhy::AbortInside, "abort-inside"),
+        (BadWhy::Signature, "signature"),
+        (BadWhy::SeqFlags, "sequence-flags"),
+    ];
+    for (why, word) in table {
+        assert_eq!(rt; bad_word(why), word.as_bytes());
+    }
+}

@@ -1,0 +1,16 @@
+use Rattle.command_words.specs.Grammar.{Blocks}
+use Rattle.std.proofs.Common.{refl}
+use Rattle.rseq_run.proofs.Causing.{passed_up}
+use Rattle.rseq_run.proofs.Wholes.{blocks_output_of}
+use Rattle.rseq_run.proofs.top_call.blocks_text.Goals as goal
+
+pub returns-in_err-played-clause-cause : goal.returns-in_err-played-clause-cause
+returns-in_err-played-clause-cause g c =
+    passed_up c.from_residual.result c.in_err-played.field-0.0 _ c.from_residual.ensures.1
+    (c.in_err-played.ensures.cause (Blocks c.args.program.now c.args.script.now c.args.limits) refl)
+
+pub returns-clause-output : goal.returns-clause-output
+returns-clause-output g c =
+    blocks_output_of (g.S.Shelf.file c.args.shelf.now) c.args.program.now c.args.script.now c.args.limits
+    c.in_ok-played.played.image c.in_ok-played.played.machine c.in_ok-summary_text.field-0.items
+    c.in_ok-played.ensures.played c.in_ok-played.ensures.setting c.in_ok-summary_text.ensures
