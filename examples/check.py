@@ -1,9 +1,10 @@
 #!/usr/bin/env python3
 """Runs the examples on the built program, and compares what it prints with what stands beside them.
 
-    examples/check.py [PROGRAM]
+    examples/check.py [PROGRAM [NAME..]]
 
-PROGRAM is crates/rseq_run/out/rseq_run where it isn't given: `rt ci` leaves it there.
+PROGRAM is crates/rseq_run/out/rseq_run where it isn't given: `rt ci` leaves it there. Where names are given, those examples alone
+are run.
 
 For each example NAME:
 - `solo` prints the console of console.expected and the end of end.expected;
@@ -12,12 +13,24 @@ For each example NAME:
 - each NAME/*.script, played on two harts, gives the *.output beside it (with status 4 where that is a fault line), and the log
   lines that it prints, played, give the same text again;
 - `blocks` on the script gives the *.summary beside it, where there is one, and the fault line, where that is its output;
+- `inspect` on the script, and on the first half of its lines, tells how many lines there are and the end; lines that it says may
+  come next are played behind them, and lines that it says may not are refused there; where the script is refused, it says so of the
+  refused line, on the lines before that;
+- TAKE_SCRIPT, the README's line of sed, takes exactly the log lines from what `solo` and the scripts print, and from a text whose
+  console looks like a log;
+- each NAME/*.session is what its commands print, one behind the other, in a copy of the example's folder. A line that begins with
+  `$ ` is a command, one with `# ` is a remark, and all others are what the command before them prints: standard output, standard
+  error, and `status N` where that isn't 0;
 - `run`, with each of SEEDS on 1, 2, 4 and 8 harts, prints the same console and end, or those of NAME/outcomes/*.console with the
   *.end beside it (else the example's), where they hang on the interleaving (a *.pattern there is a regular expression for the
   whole console); and the log lines that it prints, played on as many harts, give the same text.
+
+In each call standard error is empty exactly where the status is 0.
 """
+import os
 import pathlib
 import re
+import shutil
 import subprocess
 import sys
 import tempfile
@@ -29,6 +42,8 @@ SEEDS = range(1, 11)
 HARTS = ('1', '2', '4', '8')
 SECONDS = 120
 DONE, SCRIPT_REFUSED = 0, 4
+TAKE_SCRIPT = r"sed -n '/^log /{h;d;};$!H;${g;s/^log [0-9]*\n//p;}'"
+LOOKS_LIKE_A_LOG = b'console 54\nlog 1\n\x00\xfflog 2\nlog 1\n0 run 1 00000000000100b0\nend open\n\nlog 1\n1 run 1 00000000000100b0\nend open\n'
 
 
 class Difference(Exception):
@@ -70,9 +85,11 @@ class Output:
 def run(program, *words):
     """The status and the standard output of the program on these words."""
     try:
-        ran = subprocess.run([program, *words], stdin=subprocess.DEVNULL, stdout=subprocess.PIPE, timeout=SECONDS)
+        ran = subprocess.run([program, *words], stdin=subprocess.DEVNULL, capture_output=True, timeout=SECONDS)
     except subprocess.TimeoutExpired:
         raise Difference(f'{" ".join(map(str, words))}: it had not ended after {SECONDS} seconds') from None
+    if (ran.returncode == DONE) != (not ran.stderr):
+        raise Difference(f'{" ".join(map(str, words))}: its status is {ran.returncode}, and standard error is {ran.stderr[:60]!r}')
     return ran.returncode, ran.stdout
 
 
@@ -90,12 +107,17 @@ def want(what, found, wanted):
         raise Difference(f'{what} differs: {where}')
 
 
-def expect_play(program, elf, script, harts, status, text):
-    """Plays a script, and wants this status and this text."""
+def on_script(program, command, elf, script, harts):
+    """The status and the text of a command on the bytes of a script."""
     with tempfile.NamedTemporaryFile(suffix='.script') as file:
         file.write(script)
         file.flush()
-        got = run(program, 'play', elf, file.name, '--harts', harts, '--steps', STEPS)
+        return run(program, command, elf, file.name, '--harts', harts, '--steps', STEPS)
+
+
+def expect_play(program, elf, script, harts, status, text):
+    """Plays a script, and wants this status and this text."""
+    got = on_script(program, 'play', elf, script, harts)
     want('its status', got[0], status)
     want('its text', got[1], text)
 
@@ -107,6 +129,12 @@ def expect_blocks(program, elf, script, status, text):
     want('its summary', got[1], text)
 
 
+def check_taken(text):
+    """The README's line of sed takes exactly the log lines of a text."""
+    ran = subprocess.run(['sh', '-c', TAKE_SCRIPT], input=text, capture_output=True, timeout=SECONDS)
+    want('what sed takes', ran.stdout + ran.stderr, b''.join(Output(text).log))
+
+
 def check_solo(program, folder, elf):
     """The text of `solo`, which has the console and the end that stand beside the example."""
     status, text = run(program, 'solo', elf, '--steps', STEPS)
@@ -114,6 +142,7 @@ def check_solo(program, folder, elf):
     output = Output(text)
     want('its console', output.console, (folder / 'console.expected').read_bytes())
     want('its end', output.end, (folder / 'end.expected').read_bytes())
+    check_taken(text)
     return text
 
 
@@ -131,16 +160,80 @@ def check_other_hart(program, elf, text):
 
 
 def check_script(program, elf, script):
-    """A script on two harts gives the text beside it, and so do the log lines of that text; and `blocks` gives its summary."""
+    """A script on two harts gives the text beside it, and so do the log lines of that text; `blocks` gives its summary; and
+    `inspect` says what may come behind it."""
     text, summary = script.with_suffix('.output').read_bytes(), script.with_suffix('.summary')
+    lines = script.read_bytes().splitlines(keepends=True)
     if text.startswith(b'fault script '):
         expect_play(program, elf, script.read_bytes(), '2', SCRIPT_REFUSED, text)
         expect_blocks(program, elf, script, SCRIPT_REFUSED, text)
+        refused = int(text.split()[2]) - 1
+        may_not = check_place(program, elf, lines[:refused], b'end open\n')
+        if asked(lines[refused]) not in may_not:
+            raise Difference(f'`inspect` doesn\'t say that line {refused + 1} may not come')
         return
     expect_play(program, elf, script.read_bytes(), '2', DONE, text)
     check_replay(program, elf, text, '2')
+    check_taken(text)
     if summary.is_file():
         expect_blocks(program, elf, script, DONE, summary.read_bytes())
+    check_place(program, elf, lines, Output(text).end)
+    check_place(program, elf, lines[:len(lines) // 2], b'end open\n')
+
+
+def asked(line):
+    """What a line of a script, or of a log, asks for: a hart and a kind of event, and for `run` the thread."""
+    fields = line.split()
+    return fields[:3] if fields[1] == b'run' else fields[:2]
+
+
+def check_place(program, elf, lines, end):
+    """`inspect` after these lines tells this end; the first and the last line that it says may come are played there, and the first
+    and the last that may not are refused. Gives what may not come."""
+    status, text = on_script(program, 'inspect', elf, b''.join(lines), '2')
+    want('the status of its place', status, DONE)
+    rows = text.splitlines(keepends=True)
+    want('the head of its place', b''.join(rows[:2]), b'place %d\n' % len(lines) + end)
+    may = [row[len(b'may '):] for row in rows if row.startswith(b'may ')]
+    may_not = [asked(row[len(b'not '):]) for row in rows if row.startswith(b'not ')]
+    for line in ends(may):
+        status, text = on_script(program, 'play', elf, b''.join([*lines, line]), '2')
+        want(f'the status of {line!r} behind line {len(lines)}', status, DONE)
+        want(f'the last step of {line!r} behind line {len(lines)}', Output(text).log[-1], line)
+    for fields in ends(may_not):
+        expect_play(program, elf, b''.join([*lines, b' '.join(fields)]), '2', SCRIPT_REFUSED, b'fault script %d\n' % (len(lines) + 1))
+    return may_not
+
+
+def ends(rows):
+    """The first and the last of them, as far as there are."""
+    return rows[:1] + rows[1:][-1:]
+
+
+def parts(session):
+    """The commands of a session, each with what it is to print."""
+    commands = []
+    for line in session.splitlines(keepends=True):
+        if line.startswith('$ '):
+            commands.append((line[len('$ '):].rstrip('\n'), []))
+        elif not line.startswith('# '):
+            commands[-1][1].append(line)
+    return [(command, ''.join(printed)) for command, printed in commands]
+
+
+def check_session(program, session):
+    """The commands of a session, one behind the other in a copy of its folder, print what stands below them."""
+    with tempfile.TemporaryDirectory() as name:
+        room = shutil.copytree(session.parent, pathlib.Path(name) / 'room')
+        (pathlib.Path(name) / 'rseq_run').symlink_to(program)
+        path = f'{name}:{os.environ["PATH"]}'
+        for command, printed in parts(session.read_text()):
+            ran = subprocess.run(
+                ['sh', '-c', command], cwd=room, env={**os.environ, 'PATH': path}, stdin=subprocess.DEVNULL, capture_output=True,
+                timeout=SECONDS,
+            )
+            status = b'status %d\n' % ran.returncode if ran.returncode else b''
+            want(f'what `{command}` prints', ran.stdout + ran.stderr + status, printed.encode())
 
 
 def outcomes(folder):
@@ -186,6 +279,8 @@ def checks(program, folder):
         yield 'on hart 1', lambda: check_other_hart(program, elf, text)
     for script in sorted(folder.glob('*.script')):
         yield script.name, lambda: check_script(program, elf, script)
+    for session in sorted(folder.glob('*.session')):
+        yield session.name, lambda: check_session(program, session)
     for harts in HARTS:
         yield f'run on {harts}', lambda: check_runs(program, folder, elf, harts)
 
@@ -206,7 +301,12 @@ def main():
     program = pathlib.Path(sys.argv[1]).resolve() if len(sys.argv) > 1 else BUILT
     if not program.is_file():
         sys.exit(f'{program} is no file: build it with `rt ci` first')
-    folders = sorted(it.parent for it in HERE.glob('*/console.expected'))
+    try:
+        check_taken(LOOKS_LIKE_A_LOG)
+    except Difference as difference:
+        sys.exit(f'a console that looks like a log: {difference}')
+    names = sys.argv[2:]
+    folders = sorted(it.parent for it in HERE.glob('*/console.expected') if not names or it.parent.name in names)
     failed = sum(not passes(program, folder) for folder in folders)
     print(f'{len(folders) - failed} examples passed' + (f', {failed} failed' if failed else ''))
     sys.exit(1 if failed or not folders else 0)

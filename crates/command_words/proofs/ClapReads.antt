@@ -12,7 +12,7 @@ use Rattle.clap.specs.Walk.{Row, Text}
 use Rattle.clap.specs.Simple.{matches_of}
 use Rattle.clap.specs.Faults.{fault_of}
 use Rattle.command_words.specs.Grammar.{Arguments, Item, Name, Given, asked_by, begins_with_dash, is_option}
-use Rattle.command_words.specs.Grammar.{blocks_of, limits_on, play_of, run_named, run_of, scripted_named}
+use Rattle.command_words.specs.Grammar.{blocks_of, inspect_of, limits_on, play_of, run_named, run_of, scripted_named}
 use Rattle.command_words.specs.Grammar.{solo_named, solo_of}
 use Rattle.command_words.specs.Line.{AsksAlike, arguments_found, line, names_found}
 use Rattle.command_words.specs.Options.{OptionName, Harts, Frames, Steps, Seed, chosen, range_of}
@@ -80,20 +80,21 @@ none_asked : (word : Text) (o : OptionName) (given : Arguments) → value_of o g
     → asked_by word given ≡ None
 none_asked word o given is =
     go (bytes_eq word (codes "solo")) (bytes_eq word (codes "play")) (bytes_eq word (codes "blocks"))
-    (bytes_eq word (codes "run"))
+    (bytes_eq word (codes "inspect")) (bytes_eq word (codes "run"))
   where
-    go : (s p b r : Bool)
-        → cond s (solo_of given) (cond p (play_of given) (cond b (blocks_of given) (cond r (run_of given) None)))
-        ≡ None
-    go true p b r = no_solo o given.names given is
-    go false true b r = rw (no_scripted o given.names given is) refl
-    go false false true r = rw (no_scripted o given.names given is) refl
-    go false false false true = no_run o given.names given is
-    go false false false false = refl
+    go : (s p b i r : Bool)
+        → cond s (solo_of given) (cond p (play_of given) (cond b (blocks_of given)
+        (cond i (inspect_of given) (cond r (run_of given) None)))) ≡ None
+    go true p b i r = no_solo o given.names given is
+    go false true b i r = rw (no_scripted o given.names given is) refl
+    go false false true i r = rw (no_scripted o given.names given is) refl
+    go false false false true r = rw (no_scripted o given.names given is) refl
+    go false false false false true = no_run o given.names given is
+    go false false false false false = refl
 
 -- ---- such a value stays
 
-stays_apart : (o other : OptionName) (v : Text) (given : Arguments)
+pub stays_apart : (o other : OptionName) (v : Text) (given : Arguments)
     → (o ≡ other) ⊎ (value_of o (with_option other v given) ≡ value_of o given)
 stays_apart Harts Harts v given = inl refl
 stays_apart Harts Frames v given = inr refl
@@ -112,7 +113,7 @@ stays_apart Seed Frames v given = inr refl
 stays_apart Seed Steps v given = inr refl
 stays_apart Seed Seed v given = inl refl
 
-same_value : (o : OptionName) (names : List Text) (given : Arguments)
+pub same_value : (o : OptionName) (names : List Text) (given : Arguments)
     → value_of o (record given { names = names }) ≡ value_of o given
 same_value Harts names given = refl
 same_value Frames names given = refl
@@ -143,7 +144,7 @@ value_stays o other x text given next None has there is =
         absurd (cc (sym there ∙ lacks))
     go (inr apart) = apart
 
-item_stays : (o : OptionName) (x : Text) (item : Option Item) (given next : Arguments) → value_of o given ≡ Some x
+pub item_stays : (o : OptionName) (x : Text) (item : Option Item) (given next : Arguments) → value_of o given ≡ Some x
     → with_item given item ≡ Some next → value_of o next ≡ Some x
 item_stays o x None given next there is =
     let same : given ≡ next = cc is in

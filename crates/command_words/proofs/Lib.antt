@@ -6,8 +6,12 @@ mod ClapRows
 mod ClapTurns
 mod ClapWalk
 mod ClapWords
+mod FaultLaw
+mod FaultTurns
+mod FaultWords
 mod Gathering
 mod Lines
 mod Numbers
 mod Parts
+mod Suits
 mod WordExamples

@@ -347,13 +347,14 @@ line_read found words (inr ended) =
     ∙ ap (λ o. o >>= (λ more. Some (ended.before ++ more))) behind ∙ ap Some (sym ended.all)
 
 -- no command has more than two names
-nothing_asked : (solo play blocks run : Bool)
-    → cond {A = Option Command} solo None (cond play None (cond blocks None (cond run None None))) ≡ None
-nothing_asked true play blocks run = refl
-nothing_asked false true blocks run = refl
-nothing_asked false false true run = refl
-nothing_asked false false false true = refl
-nothing_asked false false false false = refl
+nothing_asked : (solo play blocks inspect run : Bool)
+    → cond {A = Option Command} solo None (cond play None (cond blocks None (cond inspect None (cond run None None)))) ≡ None
+nothing_asked true play blocks inspect run = refl
+nothing_asked false true blocks inspect run = refl
+nothing_asked false false true inspect run = refl
+nothing_asked false false false true run = refl
+nothing_asked false false false false true = refl
+nothing_asked false false false false false = refl
 
 many_names : (word : List ℕ) (given : Arguments) (names : List (List ℕ)) → given.names ≡ names
     → 2 < length names → asked_by word given ≡ None
@@ -362,7 +363,7 @@ many_names word given (first ∷ []) is many = absurd (omega arith)
 many_names word given (first ∷ second ∷ []) is many = absurd (omega arith)
 many_names word given (first ∷ second ∷ third ∷ more) is many =
     rw is (nothing_asked (bytes_eq word (codes "solo")) (bytes_eq word (codes "play"))
-    (bytes_eq word (codes "blocks")) (bytes_eq word (codes "run")))
+    (bytes_eq word (codes "blocks")) (bytes_eq word (codes "inspect")) (bytes_eq word (codes "run")))
 
 too_many : (word : List ℕ) (names : List (List ℕ)) (h f s d : Option (Option (List ℕ))) → 2 < length names
     → ((h >>= (λ harts. f

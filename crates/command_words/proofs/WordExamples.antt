@@ -1,7 +1,7 @@
 -- Worked examples of words, by computation.
 use Rattle.std.proofs.Common.{◌≡◌, ℕ, ◌-◌, ◌^◌, [], ◌∷◌, Option, Some, None, refl, codes}
 use Rattle.mach_types.specs.declared.limits.Limits.{Limits}
-use Rattle.command_words.specs.Grammar.{Command, Solo, Play, Blocks, Run}
+use Rattle.command_words.specs.Grammar.{Command, Solo, Play, Blocks, Inspect, Run}
 use Rattle.command_words.specs.Options.{number_of}
 use Rattle.command_words.specs.Words.{arguments_of, command_of}
 
@@ -277,7 +277,22 @@ blocks_too_many_harts : command_of (codes "blocks" ∷ codes "F" ∷ codes "S" �
 unfolding command_of arguments_of
 blocks_too_many_harts = refl
 
--- `solo`, `play` and `blocks` take no seed
+-- so has `inspect F S`
+inspect_defaults : command_of (codes "inspect" ∷ codes "F" ∷ codes "S" ∷ [])
+    ≡ Some (Inspect (codes "F") (codes "S") (limits 2 4096 200000))
+unfolding command_of arguments_of
+inspect_defaults = refl
+
+inspect_options : command_of (codes "inspect" ∷ codes "F" ∷ codes "--harts=8" ∷ codes "S" ∷ [])
+    ≡ Some (Inspect (codes "F") (codes "S") (limits 8 4096 200000))
+unfolding command_of arguments_of
+inspect_options = refl
+
+inspect_one_name : command_of (codes "inspect" ∷ codes "F" ∷ []) ≡ None
+unfolding command_of arguments_of
+inspect_one_name = refl
+
+-- `solo`, `play`, `blocks` and `inspect` take no seed
 solo_seed : command_of (codes "solo" ∷ codes "--seed" ∷ codes "1" ∷ codes "F" ∷ []) ≡ None
 unfolding command_of arguments_of
 solo_seed = refl
@@ -289,3 +304,7 @@ play_seed = refl
 blocks_seed : command_of (codes "blocks" ∷ codes "F" ∷ codes "S" ∷ codes "--seed=1" ∷ []) ≡ None
 unfolding command_of arguments_of
 blocks_seed = refl
+
+inspect_seed : command_of (codes "inspect" ∷ codes "F" ∷ codes "S" ∷ codes "--seed=1" ∷ []) ≡ None
+unfolding command_of arguments_of
+inspect_seed = refl

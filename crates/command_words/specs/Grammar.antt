@@ -93,12 +93,13 @@ arguments_in items = do
   Some (record { names = names_in items; harts = harts; frames = frames; steps = steps; seed = seed })
 
 -- what can be asked for: to run a program on one hart by the fixed rule, on the events of a script, or by
--- workers, one for each hart, that choose by a seed; and to count the acts of a run on the events of a script.
--- The names are those of the files
+-- workers, one for each hart, that choose by a seed; and to count the acts of a run on the events of a script, or
+-- to show the place that it comes to. The names are those of the files
 pub data Command : Type 0 where
   Solo : (program : List ℕ) (limits : Limits) → Command
   Play : (program : List ℕ) (script : List ℕ) (limits : Limits) → Command
   Blocks : (program : List ℕ) (script : List ℕ) (limits : Limits) → Command
+  Inspect : (program : List ℕ) (script : List ℕ) (limits : Limits) → Command
   Run : (program : List ℕ) (limits : Limits) (seed : ℕ) → Command
 
 -- the limits of a run on so many harts
@@ -160,6 +161,12 @@ blocks_of given = do
   scripted ← scripted_of given
   Some (Blocks scripted.program scripted.script scripted.limits)
 
+-- what the arguments of `inspect` ask for
+abbrev pub inspect_of : Arguments → Option Command
+inspect_of given = do
+  scripted ← scripted_of given
+  Some (Inspect scripted.program scripted.script scripted.limits)
+
 -- what the arguments of `run` ask for
 abbrev pub run_of : Arguments → Option Command
 run_of given = run_named given.names given
@@ -170,6 +177,7 @@ asked_by word given =
     if bytes_eq word (codes "solo") then solo_of given
     else if bytes_eq word (codes "play") then play_of given
     else if bytes_eq word (codes "blocks") then blocks_of given
+    else if bytes_eq word (codes "inspect") then inspect_of given
     else if bytes_eq word (codes "run") then run_of given
     else None
 

@@ -10,9 +10,17 @@ use Rattle.command_words.specs.declared.commands.Scripted.{Scripted}
 use Rattle.command_words.specs.declared.options.Numbers.{Numbers}
 use Rattle.command_words.specs.declared.options.OptionName.{OptionName}
 use Rattle.command_words.specs.declared.options.OptionName.TheVariants as option
+use Rattle.command_words.specs.declared.reader.Reader.{Reader}
+use Rattle.command_words.specs.declared.reader.Reading.{Reading}
+use Rattle.command_words.specs.declared.reader.Reading.TheVariants as reading
+use Rattle.command_words.specs.declared.takes.OptionSet.{OptionSet}
+use Rattle.command_words.specs.declared.takes.Takes.{Takes}
 use Rattle.command_words.specs.Grammar.{Arguments as Stated, Command as Asked, Scripted as OnScript}
-use Rattle.command_words.specs.Grammar.{Solo, Play, Blocks, Run}
+use Rattle.command_words.specs.Grammar.{Solo, Play, Blocks, Inspect, Run}
 use Rattle.command_words.specs.Options.{OptionName as Named, Harts, Frames, Steps, Seed, Range}
+use Rattle.command_words.specs.Takes.{OptionSet as SomeOptions, Takes as Taken}
+use Rattle.command_words.specs.WordFaults.{SoFar}
+use Rattle.command_words.specs.Words.{Reading as Read, Options, Value, Names}
 
 -- an option
 abbrev pub named : OptionName → Named
@@ -50,4 +58,30 @@ abbrev pub said : Command → Asked
 said (code.Solo program limits) = Solo program.now limits
 said (code.Play program script limits) = Play program.now script.now limits
 said (code.Blocks program script limits) = Blocks program.now script.now limits
+said (code.Inspect program script limits) = Inspect program.now script.now limits
 said (code.Run program limits seed) = Run program.now limits seed
+
+-- some of the options
+abbrev pub options_kept : OptionSet → SomeOptions
+options_kept options =
+    record { harts = options.harts; frames = options.frames; steps = options.steps; seed = options.seed }
+
+-- what a command takes
+abbrev pub takes_kept : Takes → Taken
+takes_kept takes = record { names = takes.names; options = options_kept takes.options }
+
+-- how the next word is read
+abbrev pub reading_kept : Reading → Read
+reading_kept reading.Options = Options
+reading_kept (reading.Value option) = Value (named option)
+reading_kept reading.Names = Names
+
+-- how far the words are read
+abbrev pub so_far : Reader → SoFar
+so_far reader = record {
+  takes = takes_kept reader.takes;
+  next = reader.next;
+  reading = reading_kept reader.reading;
+  names = reader.names;
+  options = options_kept reader.options;
+}

@@ -8,7 +8,7 @@ use Rattle.std.specs.declared.alloc.Global.{Global}
 use Rattle.std.specs.declared.string.String.{String}
 use Rattle.mach_types.specs.declared.limits.Limits.{Limits}
 use Rattle.step_log.specs.Script.{◌>>=◌}
-use Rattle.command_words.specs.Grammar.{Arguments, Command, Item, Name, Given, Solo, Play, Blocks, Run}
+use Rattle.command_words.specs.Grammar.{Arguments, Command, Item, Name, Given, Solo, Play, Blocks, Inspect, Run}
 use Rattle.command_words.specs.Grammar.{arguments_in, begins_with_dash, asked_by, is_option, names_in}
 use Rattle.command_words.specs.Options.{OptionName, option_named}
 
@@ -88,6 +88,7 @@ is_run None = false
 is_run (Some (Solo program limits)) = false
 is_run (Some (Play program script limits)) = false
 is_run (Some (Blocks program script limits)) = false
+is_run (Some (Inspect program script limits)) = false
 is_run (Some (Run program limits seed)) = true
 
 -- the limits that a command has
@@ -95,6 +96,7 @@ abbrev pub limits_in : Command → Limits
 limits_in (Solo program limits) = limits
 limits_in (Play program script limits) = limits
 limits_in (Blocks program script limits) = limits
+limits_in (Inspect program script limits) = limits
 limits_in (Run program limits seed) = limits
 
 -- `solo` runs on one hart
@@ -102,4 +104,5 @@ abbrev pub HasItsHarts : Command → Type 0
 HasItsHarts (Solo program limits) = limits.harts ≡ 1
 HasItsHarts (Play program script limits) = Unit {0}
 HasItsHarts (Blocks program script limits) = Unit {0}
+HasItsHarts (Inspect program script limits) = Unit {0}
 HasItsHarts (Run program limits seed) = Unit {0}

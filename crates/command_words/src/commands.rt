@@ -3,8 +3,8 @@
 ghost use Rattle.std.specs.Prelude.{◌≡◌, ◌≤◌, IfOk, IfSome, option_map};
 ghost use Rattle.mach_types.specs.Limits.{InRange};
 ghost use Rattle.command_words.specs.Kept.{on_script, said, stated};
-ghost use Rattle.command_words.specs.Grammar.{asked_by, blocks_of, limits_on, play_of, run_of, scripted_of};
-ghost use Rattle.command_words.specs.Grammar.{solo_of};
+ghost use Rattle.command_words.specs.Grammar.{asked_by, blocks_of, inspect_of, limits_on, play_of, run_of};
+ghost use Rattle.command_words.specs.Grammar.{scripted_of, solo_of};
 ghost use Rattle.command_words.specs.Words.{HasItsHarts, command_of, limits_in, texts};
 
 use crate::arguments::{Arguments, FileNames, arguments_of};
@@ -40,6 +40,15 @@ pub enum Command<'a> {
         /// The limits of the run.
         limits: Limits,
     },
+    /// Shows the place that a run of the program in the file of this name comes to on the events of a script.
+    Inspect {
+        /// The name of the program's file.
+        program: &'a str,
+        /// The name of the script's file.
+        script: &'a str,
+        /// The limits of the run.
+        limits: Limits,
+    },
     /// Runs the program in the file of this name by workers, one for each hart.
     Run {
         /// The name of the program's file.
@@ -64,9 +73,9 @@ struct Scripted<'a> {
 
 /// What the words ask for; None exactly where they aren't of the grammar. It errs only for want of memory.
 ///
-/// The first word is the command: `solo FILE`, with `--frames` and `--steps`; `play FILE SCRIPT` or
-/// `blocks FILE SCRIPT`, with `--harts` too; or `run FILE`, with `--harts` and `--seed` too. Each limit is in its
-/// range.
+/// The first word is the command: `solo FILE`, with `--frames` and `--steps`; `play FILE SCRIPT`,
+/// `blocks FILE SCRIPT` or `inspect FILE SCRIPT`, with `--harts` too; or `run FILE`, with `--harts` and `--seed`
+/// too. Each limit is in its range.
 #[tactic(auto, unfolding(crate::specs::Words::command_of))]
 pub fn command_of<'a>(alloc: Global, words: &'a [String]) -> Result<Option<Command<'a>>, AllocError>
     ensures command { IfOk result (λ found. option_map said found ≡ command_of (texts words.now)) }
@@ -92,6 +101,7 @@ fn asked_by<'a>(command: &str, arguments: Arguments<'a>) -> Option<Command<'a>>
         "solo" => solo_of(arguments),
         "play" => play_of(arguments),
         "blocks" => blocks_of(arguments),
+        "inspect" => inspect_of(arguments),
         "run" => run_of(arguments),
         _ => None,
     }
@@ -181,6 +191,24 @@ fn blocks_of(arguments: Arguments<'_>) -> Option<Command<'_>>
         limits,
     } = scripted_of(arguments)?;
     Some(Command::Blocks {
+        program,
+        script,
+        limits,
+    })
+}
+
+/// What the arguments of `inspect` ask for.
+fn inspect_of(arguments: Arguments<'_>) -> Option<Command<'_>>
+    ensures command { option_map said result ≡ inspect_of (stated arguments.entry) }
+    ensures limits { IfSome result (λ command. InRange (limits_in (said command))) }
+    ensures harts { IfSome result (λ command. HasItsHarts (said command)) }
+{
+    let Scripted {
+        program,
+        script,
+        limits,
+    } = scripted_of(arguments)?;
+    Some(Command::Inspect {
         program,
         script,
         limits,

@@ -1,10 +1,10 @@
 //! The options of a command line: the numbers that they take.
 
-ghost use Rattle.std.specs.Prelude.{◌≡◌, option_copied};
+ghost use Rattle.std.specs.Prelude.{◌≡◌, option_copied, option_map};
 ghost use Rattle.std.specs.Char.{is_ascii_digit};
 ghost use Rattle.std.specs.List.{list_all};
 ghost use Rattle.command_words.specs.Kept.{named, range};
-ghost use Rattle.command_words.specs.Options.{chosen, number_of, range_of};
+ghost use Rattle.command_words.specs.Options.{chosen, number_of, option_named, range_of};
 
 /// The options that commands have.
 #[derive(Clone, Copy, Debug, PartialEq, Eq, Drop)]
@@ -31,6 +31,19 @@ pub(crate) struct Numbers {
 }
 
 impl OptionName {
+    /// The option that a word names; None where it names none.
+    pub(crate) fn of_word(word: &str) -> Option<OptionName>
+        ensures { option_map named result ≡ option_named word.now }
+    {
+        match word {
+            "--harts" => Some(OptionName::Harts),
+            "--frames" => Some(OptionName::Frames),
+            "--steps" => Some(OptionName::Steps),
+            "--seed" => Some(OptionName::Seed),
+            _ => None,
+        }
+    }
+
     /// The numbers that the option takes.
     pub(crate) fn numbers(self) -> Numbers
         ensures { range result ≡ range_of (named self) }

@@ -1,3 +1,4 @@
 //! Tests: worked examples, made by hand.
 
+mod faults;
 mod words;

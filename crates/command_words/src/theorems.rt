@@ -1,7 +1,8 @@
-//! A law of the words, as the contract of a function that does nothing.
+//! Laws of the words, as the contracts of functions that do nothing.
 
-ghost use Rattle.std.specs.Prelude.{◌≡◌, ◌↔◌, ℕ, List, None, Some};
+ghost use Rattle.std.specs.Prelude.{◌≡◌, ◌↔◌, ℕ, List, None, Some, IsSome};
 ghost use Rattle.command_words.specs.Grammar.{Command, IsCommandLine};
+ghost use Rattle.command_words.specs.WordFaults.{words_fault};
 ghost use Rattle.command_words.specs.Words.{command_of};
 
 /// The words are read by the grammar: they are a line of one command at most, which is the one that is read,
@@ -15,4 +16,9 @@ pub fn words_are_of_one_command()
         → IsCommandLine words a → IsCommandLine words b → a ≡ b }
     ensures none { (words : List (List ℕ))
         → (command_of words ≡ None) ↔ ((command : Command) → ¬ (IsCommandLine words command)) }
+{}
+
+/// Nothing is wrong with the words exactly where they name a command.
+pub fn words_are_wrong_or_name_a_command()
+    ensures { (words : List (List ℕ)) → (words_fault words ≡ None) ↔ IsSome (command_of words) }
 {}

@@ -5,6 +5,7 @@ pub mod FileShelf
 pub mod Files
 pub mod MemShelf
 pub mod MemSink
+pub mod OutSink
 pub mod Refusals
 pub mod SureShelf
 pub mod SureSink

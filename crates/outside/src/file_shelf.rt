@@ -1,6 +1,6 @@
 //! The files of the system as a shelf.
 
-ghost use Rattle.std.specs.Prelude.{◌≡◌, ◌<◌, ◌≤◌, None, true, false, length, IsTrue, IsErrOf, IfOk, OnOk, OnErr};
+ghost use Rattle.std.specs.Prelude.{◌≡◌, ◌<◌, ◌≤◌, None, true, false, length, IsSome, IsTrue, IsErrOf, IfOk, OnOk, OnErr};
 ghost use Rattle.outside.specs.Counts.{NoneFalls, counted};
 
 use crate::faults::{Failed, StartFault};
@@ -19,6 +19,7 @@ pub struct FileShelf<R: Files> {
     files: R,
     started: Option<R::File>,
     faults: u64,
+    trouble: Option<ErrorKind>,
 }
 
 impl<R: Files> Model for FileShelf<R> {
@@ -27,7 +28,7 @@ impl<R: Files> Model for FileShelf<R> {
 
     ghost Value = { SystemFiles };
 
-    ghost view = { λ s. record { is_started = is_some s.started; faults = s.faults } };
+    ghost view = { λ s. record { is_started = is_some s.started; faults = s.faults; trouble = s.trouble } };
 }
 
 impl<R: Files> FileShelf<R> {
@@ -35,12 +36,13 @@ impl<R: Files> FileShelf<R> {
 
     /// The files that this runtime reaches.
     pub fn new(files: R) -> FileShelf<R>
-        ensures { result ≡ record { is_started = false; faults = 0 } }
+        ensures { result ≡ record { is_started = false; faults = 0; trouble = None } }
     {
         FileShelf {
             files,
             started: None,
             faults: 0,
+            trouble: None,
         }
     }
 }
@@ -58,10 +60,13 @@ impl<R: Files> Shelf for FileShelf<R> {
 
     ghost faults = { λ s _. s.faults };
 
+    ghost last_trouble = { λ s. s.trouble };
+
     fn start(&mut self, name: &str) -> Result<(), StartFault>
         ensures ok { OnOk result (self.new ≡ record self.old { is_started = true }) }
         ensures failed { IsErrOf result StartFault.Failed
-            → self.new ≡ record { is_started = false; faults = counted self.old.faults } }
+            → self.new ≡ record self.new { is_started = false; faults = counted self.old.faults } }
+        ensures told { IsErrOf result StartFault.Failed → IsSome self.new.trouble }
         ensures no_memory { IsErrOf result StartFault.NoMemory
             → self.new ≡ record self.old { is_started = false } }
         ensures counts { NoneFalls (λ _. self.old.faults) (λ _. self.new.faults) }
@@ -77,6 +82,7 @@ impl<R: Files> Shelf for FileShelf<R> {
                     return Err(StartFault::NoMemory);
                 }
                 self.faults = self.faults.saturating_add(1);
+                self.trouble = Some(error.kind());
                 Err(StartFault::Failed)
             }
         }
@@ -87,7 +93,9 @@ impl<R: Files> Shelf for FileShelf<R> {
         requires room { 0 < length buf.old }
         ensures within { IfOk result (λ n. n ≤ length buf.new) }
         ensures ok { OnOk result (self.new ≡ self.old) }
-        ensures err { OnErr result (self.new ≡ record self.old { faults = counted self.old.faults }) }
+        ensures err { OnErr result (self.new ≡ record self.new
+            { is_started = self.old.is_started; faults = counted self.old.faults }) }
+        ensures told { OnErr result (IsSome self.new.trouble) }
         ensures counts { NoneFalls (λ _. self.old.faults) (λ _. self.new.faults) }
     {
         let Some(file) = &mut self.started else {
@@ -95,10 +103,15 @@ impl<R: Files> Shelf for FileShelf<R> {
         };
         match file.read(buf) {
             Ok(moved) => Ok(moved),
-            Err(_) => {
+            Err(error) => {
                 self.faults = self.faults.saturating_add(1);
+                self.trouble = Some(error.kind());
                 Err(Failed)
             }
         }
+    }
+
+    fn trouble(&self) -> Option<ErrorKind> {
+        self.trouble
     }
 }

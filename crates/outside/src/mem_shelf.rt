@@ -1,6 +1,6 @@
 //! A shelf in memory that fails where it is told to.
 
-ghost use Rattle.std.specs.Prelude.{◌≡◌, ◌<◌, ◌≤◌, ◌+◌, ◌-◌, ◌↔◌, [], take, length, min, replicate, is_err, IsTrue, IsErrOf, IfSome, IfOk, OnOk, OnErr};
+ghost use Rattle.std.specs.Prelude.{◌≡◌, ◌<◌, ◌≤◌, ◌+◌, ◌-◌, ◌↔◌, [], take, length, min, replicate, is_err, IsTrue, IsErrOf, IfSome, IfOk, OnOk, OnErr, None};
 ghost use Rattle.outside.specs.Calls.{is_failing};
 ghost use Rattle.outside.specs.Counts.{Rose, NoneFalls, StartedRose, counted};
 ghost use Rattle.outside.specs.Files.{place_of, bytes_at};
@@ -10,11 +10,13 @@ use crate::faults::{Failed, StartFault};
 use crate::files::{bytes_at, copy_from, place_of};
 use crate::traits::Shelf;
 use std::alloc::{AllocError, Global};
+use std::io::ErrorKind;
 use std::marker::Model;
 
 /// A shelf in memory. The calls of `start` and `read` whose numbers, counted together from 1, are in
 /// a list fail, and so does each `start` of a name that it doesn't hold. Each file has a count of
-/// faults, and all other names together have one. Where two files have one name, the first counts.
+/// faults, and all other names together have one. Where two files have one name, the first counts. Of
+/// a fault it tells no trouble.
 #[derive(Drop)]
 pub struct MemShelf {
     files: Vec<(String, Vec<u8>)>,
@@ -88,6 +90,8 @@ impl Shelf for MemShelf {
 
     ghost faults = { count_of };
 
+    ghost last_trouble = { λ _. None };
+
     fn start(&mut self, name: &str) -> Result<(), StartFault>
         ensures started { OnOk result (IsTrue (is_started self.new)) }
         ensures named { OnOk result (IfSome (name_started self.new) (λ started. started ≡ name.now)) }
@@ -154,5 +158,9 @@ impl Shelf for MemShelf {
         let count = copy_from(bytes_at(&self.files, self.started), self.given, buf);
         self.given += count;
         Ok(count)
+    }
+
+    fn trouble(&self) -> Option<ErrorKind> {
+        None
     }
 }

@@ -1,11 +1,12 @@
 //! A sink in memory that fails where it is told to.
 
-ghost use Rattle.std.specs.Prelude.{◌≡◌, ◌++◌, [], Some, take, is_err, IfOk, OnErr};
+ghost use Rattle.std.specs.Prelude.{◌≡◌, ◌++◌, [], Some, take, is_err, IfOk, OnErr, None};
 ghost use Rattle.outside.specs.Counts.{NeverFalls, counted};
 
 use crate::faults::Failed;
 use crate::traits::Sink;
 use std::alloc::{AllocError, Global};
+use std::io::ErrorKind;
 use std::marker::Model;
 
 /// The most bytes that one `put` takes.
@@ -13,7 +14,7 @@ const LONGEST_PUT: usize = 64;
 
 /// A sink in memory with a limited room. The calls of `put` whose numbers, counted from 1, are in a
 /// list fail, and so does each call once the room is full. A call with an empty piece is counted, and
-/// never fails. A call takes at most 64 bytes.
+/// never fails. A call takes at most 64 bytes. Of a fault it tells no trouble.
 #[derive(Drop)]
 pub struct MemSink {
     bytes: Vec<u8>,
@@ -77,6 +78,8 @@ impl Sink for MemSink {
 
     ghost faults = { λ s. s.faults };
 
+    ghost last_trouble = { λ _. None };
+
     fn put(&mut self, piece: &[u8]) -> Result<usize, Failed>
         ensures refused { is_err result ≡ is_refused self.old piece.now }
         ensures taken { IfOk result (λ n. n ≡ taken_of self.old piece.now) }
@@ -102,5 +105,9 @@ impl Sink for MemSink {
         let taken = piece.len().min(free.min(LONGEST_PUT));
         self.bytes.extend_from_slice(&piece[..taken]).unwrap();
         Ok(taken)
+    }
+
+    fn trouble(&self) -> Option<ErrorKind> {
+        None
     }
 }

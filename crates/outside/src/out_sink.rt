@@ -5,6 +5,7 @@ ghost use Rattle.outside.specs.Counts.{NeverFalls, counted};
 
 use crate::faults::Failed;
 use crate::traits::Sink;
+use std::io::ErrorKind;
 use std::marker::Model;
 
 /// Standard output. It doesn't tell what it holds; its count of faults is raised at each error of
@@ -15,47 +16,58 @@ use std::marker::Model;
 pub struct OutSink<R: Print> {
     out: R,
     faults: u64,
+    trouble: Option<ErrorKind>,
 }
 
 impl<R: Print> Model for OutSink<R> {
-    ghost use Rattle.std.specs.Prelude.{ℕ};
+    ghost use Rattle.outside.specs.OutSink.{SystemOutput};
 
-    ghost Value = { ℕ };
+    ghost Value = { SystemOutput };
 
-    ghost view = { λ s. s.faults };
+    ghost view = { λ s. record { faults = s.faults; trouble = s.trouble } };
 }
 
 impl<R: Print> OutSink<R> {
     /// What this runtime prints to.
     pub fn new(out: R) -> OutSink<R>
-        ensures { result ≡ 0 }
+        ensures { result ≡ record { faults = 0; trouble = None } }
     {
-        OutSink { out, faults: 0 }
+        OutSink {
+            out,
+            faults: 0,
+            trouble: None,
+        }
     }
 }
 
 impl<R: Print> Sink for OutSink<R> {
     ghost held = { λ _. None };
 
-    ghost faults = { λ s. s };
+    ghost faults = { λ s. s.faults };
+
+    ghost last_trouble = { λ s. s.trouble };
 
     fn put(&mut self, piece: &[u8]) -> Result<usize, Failed>
         ensures empty { length piece.now ≡ 0 → result ≡ Ok 0 }
         ensures some { IfOk result (λ n. 0 < length piece.now → 0 < n) }
         ensures within { IfOk result (λ n. n ≤ length piece.now) }
         ensures ok { OnOk result (self.new ≡ self.old) }
-        ensures err { OnErr result (self.new ≡ counted self.old) }
-        ensures counts { NeverFalls self.old self.new }
+        ensures err { OnErr result (self.new.faults ≡ counted self.old.faults) }
+        ensures counts { NeverFalls self.old.faults self.new.faults }
     {
         if piece.is_empty() {
             return Ok(0);
         }
         match self.out.write_some(piece) {
-            Ok(taken) if taken > 0 => Ok(taken),
-            _ => {
-                self.faults = self.faults.saturating_add(1);
-                Err(Failed)
-            }
+            Ok(taken) if taken > 0 => return Ok(taken),
+            Ok(_) => self.trouble = None,
+            Err(error) => self.trouble = Some(error.kind()),
         }
+        self.faults = self.faults.saturating_add(1);
+        Err(Failed)
+    }
+
+    fn trouble(&self) -> Option<ErrorKind> {
+        self.trouble
     }
 }

@@ -7,6 +7,7 @@ use crate::faults::{Failed, StartFault};
 use crate::files::{bytes_of, copy_from};
 use crate::traits::Shelf;
 use std::alloc::Global;
+use std::io::ErrorKind;
 use std::marker::Model;
 
 /// A shelf in memory that never fails. A name that it doesn't hold is an empty file. Where two files
@@ -64,6 +65,8 @@ impl Shelf for SureShelf {
 
     ghost faults = { λ _ _. 0 };
 
+    ghost last_trouble = { λ _. None };
+
     fn start(&mut self, name: &str) -> Result<(), StartFault>
         ensures sure { IsOkUnless result StartFault.NoMemory }
         ensures ok { OnOk result (self.new ≡ record self.old { started = Some name.now; given = 0 }) }
@@ -93,5 +96,9 @@ impl Shelf for SureShelf {
         let count = copy_from(bytes, self.given, buf);
         self.given += count;
         Ok(count)
+    }
+
+    fn trouble(&self) -> Option<ErrorKind> {
+        None
     }
 }

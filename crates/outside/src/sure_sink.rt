@@ -1,10 +1,11 @@
 //! A sink in memory that never fails.
 
-ghost use Rattle.std.specs.Prelude.{◌≡◌, [], Some, Ok, length, IfOk, IfSome};
+ghost use Rattle.std.specs.Prelude.{◌≡◌, [], Some, Ok, length, IfOk, IfSome, None};
 
 use crate::faults::Failed;
 use crate::traits::Sink;
 use std::alloc::{AllocError, Global};
+use std::io::ErrorKind;
 use std::marker::Model;
 
 /// A sink in memory that takes every piece whole. It tells what it holds as long as that is at most
@@ -59,6 +60,8 @@ impl Sink for SureSink {
 
     ghost faults = { λ _. 0 };
 
+    ghost last_trouble = { λ _. None };
+
     fn put(&mut self, piece: &[u8]) -> Result<usize, Failed>
         ensures sure { result ≡ Ok (length piece.now) }
         ensures told { self.new.told ≡ told_after self.old.room self.old.told piece.now }
@@ -71,5 +74,9 @@ impl Sink for SureSink {
             self.bytes.extend_from_slice(piece).unwrap();
         }
         Ok(piece.len())
+    }
+
+    fn trouble(&self) -> Option<ErrorKind> {
+        None
     }
 }

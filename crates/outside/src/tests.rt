@@ -1,8 +1,10 @@
 use super::*;
 use mach_types::Hart;
 use std::alloc::{AllocError, Global};
-use std::fs;
+use std::fmt::Display;
+use std::io::ErrorKind;
 use std::test::Fail;
+use std::{fs, io};
 
 /// A file of this name and these bytes.
 fn file(alloc: Global, name: &str, bytes: &[u8]) -> Result<(String, Vec<u8>), AllocError> {
@@ -145,8 +147,81 @@ fn a_file_of_the_system_is_fetched(rt: HostRuntime) -> Result<(), Fail> {
 }
 
 #[test]
+fn a_shelf_of_the_system_tells_its_last_trouble(rt: HostRuntime) -> Result<(), Fail> {
+    let alloc = rt.alloc();
+    fs::write(&rt, "outside_test_trouble", "some bytes")?;
+    let mut shelf = FileShelf::new(&rt);
+    assert_eq!(rt; shelf.trouble(), None);
+    for (name, trouble) in [
+        ("outside_test_trouble", None),
+        ("outside_test_none", Some(ErrorKind::NotFound)),
+        ("outside_test_trouble", Some(ErrorKind::NotFound)),
+        (".", Some(ErrorKind::IsADirectory)),
+        ("outside_test_trouble/under", Some(ErrorKind::NotADirectory)),
+    ] {
+        let _ = fetch(alloc, &mut shelf, name, 10);
+        assert_eq!(rt; shelf.trouble(), trouble, "{name}");
+    }
+    fs::remove_file(&rt, "outside_test_trouble")?;
+    Ok(())
+}
+
+#[test]
 fn standard_output_takes_bytes(rt: HostRuntime) -> Result<(), Fail> {
     let mut sink = OutSink::new(&rt);
     emit(&mut sink, b"a line of the test\n")?;
+    Ok(())
+}
+
+/// A printer that fails with this trouble, or takes no byte where it is none.
+#[derive(Drop)]
+struct NoPrinter(Option<ErrorKind>);
+
+impl Print for NoPrinter {
+    fn print<D: Display + Drop>(&self, _value: D) -> io::Result<()> {
+        self.write_all(b"")
+    }
+
+    fn println<D: Display + Drop>(&self, _value: D) -> io::Result<()> {
+        self.write_all(b"")
+    }
+
+    fn write_all(&self, _bytes: &[u8]) -> io::Result<()> {
+        Err(self.0.unwrap_or(ErrorKind::WriteZero).into())
+    }
+
+    fn write_some(&self, _bytes: &[u8]) -> io::Result<usize> {
+        match self.0 {
+            Some(kind) => Err(kind.into()),
+            None => Ok(0),
+        }
+    }
+}
+
+#[test]
+fn a_sink_to_a_printer_tells_its_last_trouble(rt: HostRuntime) -> Result<(), Fail> {
+    let mut good = OutSink::new(&rt);
+    emit(&mut good, b"")?;
+    assert_eq!(rt; good.trouble(), None);
+    for trouble in [Some(ErrorKind::StorageFull), None] {
+        let mut sink = OutSink::new(NoPrinter(trouble));
+        assert!(rt; sink.put(b"x") == Err(Failed));
+        assert_eq!(rt; sink.trouble(), trouble);
+    }
+    Ok(())
+}
+
+#[test]
+fn what_is_in_memory_tells_no_trouble(rt: HostRuntime) -> Result<(), Fail> {
+    let alloc = rt.alloc();
+    let mut shelf = MemShelf::new(alloc, three_files(alloc)?, vec![in alloc; 2u64]?)?;
+    assert!(rt; fetch(alloc, &mut shelf, "none", 9) == Err(FetchError::Failed));
+    assert!(rt; fetch(alloc, &mut shelf, "a", 9) == Err(FetchError::Failed));
+    assert_eq!(rt; shelf.trouble(), None);
+    let mut sink = MemSink::new(alloc, 9, vec![in alloc; 1u64]?)?;
+    assert!(rt; sink.put(b"x") == Err(Failed));
+    assert_eq!(rt; sink.trouble(), None);
+    assert_eq!(rt; SureShelf::new(alloc, Vec::new(alloc)).trouble(), None);
+    assert_eq!(rt; SureSink::new(alloc, 1)?.trouble(), None);
     Ok(())
 }

@@ -3,9 +3,11 @@
 ghost use Rattle.std.specs.Prelude.{◌≡◌, ◌<◌, ◌≤◌, ◌↔◌, ℕ, Bool, false, List, [], Option, None, take, length, IsTrue, IsErrOf, IfSome, IfOk, OnOk, OnErr};
 ghost use Rattle.outside.specs.Counts.{Rose, NeverFalls, NoneFalls, StartedRose};
 ghost use Rattle.outside.specs.Told.{Gained, Moved};
+ghost use Rattle.std.specs.declared.io.ErrorKind.{ErrorKind};
 
 use crate::faults::{Failed, StartFault};
 use mach_types::Hart;
+use std::io::ErrorKind;
 
 /// A place that files are read from, by name, one at a time from its first byte to its last.
 ///
@@ -26,6 +28,9 @@ pub trait Shelf {
 
     // How many faults there were at this name.
     ghost faults: { Self → List ℕ → ℕ };
+
+    // What the system said of the last fault, where it is known.
+    ghost last_trouble: { Self → Option ErrorKind };
 
     /// Makes the named file the started one, at its first byte. After a refusal no file is started.
     fn start(&mut self, name: &str) -> Result<(), StartFault>
@@ -52,6 +57,11 @@ pub trait Shelf {
         ensures name { started_name self.new ≡ started_name self.old }
         ensures files { file self.new ≡ file self.old }
         ensures counts { NoneFalls (faults self.old) (faults self.new) };
+
+    /// What the system said of the last fault, as far as std tells it; None where there was none, or
+    /// where nobody told.
+    fn trouble(&self) -> Option<ErrorKind>
+        ensures { result ≡ last_trouble self.now };
 }
 
 /// A place that bytes are written to, which only grows.
@@ -64,6 +74,9 @@ pub trait Sink {
     // How many faults there were.
     ghost faults: { Self → ℕ };
 
+    // What the system said of the last fault, where it is known.
+    ghost last_trouble: { Self → Option ErrorKind };
+
     /// Appends the first bytes of `piece`, at least one if there is one, and says how many. After
     /// `Failed` nothing was appended.
     fn put(&mut self, piece: &[u8]) -> Result<usize, Failed>
@@ -74,6 +87,11 @@ pub trait Sink {
         ensures failed { OnErr result (Rose (faults self.old) (faults self.new)) }
         ensures unchanged { OnErr result (held self.new ≡ held self.old) }
         ensures counts { NeverFalls (faults self.old) (faults self.new) };
+
+    /// What the system said of the last fault, as far as std tells it; None where there was none, or
+    /// where nobody told.
+    fn trouble(&self) -> Option<ErrorKind>
+        ensures { result ≡ last_trouble self.now };
 }
 
 /// What a worker passes once before each turn that it asks for, outside the turn.

@@ -58,8 +58,9 @@ unfolding hart_text
 running_hart here t on = rw on refl
 
 pub idle_hart : (here : Here) (x : HartState) (ran events credit : ℕ) → x ≡ hart_in here ran events credit → x.running ≡ None
-    → idle_line here.hart ++ kept_lines here.hart x.reserved x.requests x.restart ≡ hart_text here
+    → idle_line here.hart ++ store_lines here.hart x.buffer ++ kept_lines here.hart x.reserved x.requests x.restart ≡ hart_text here
 unfolding hart_text idle_text
 idle_hart here x ran events credit is off =
     let none = none_of (runs here) (sym (ap (λ (y : HartState). y.running) is) ∙ off) in
-    ap (λ (y : HartState). idle_line here.hart ++ kept_lines here.hart y.reserved y.requests y.restart) is ∙ rw none refl
+    ap (λ (y : HartState). idle_line here.hart ++ store_lines here.hart y.buffer ++ kept_lines here.hart y.reserved y.requests y.restart) is
+    ∙ rw none refl

@@ -1,5 +1,5 @@
--- The lines of a hart: the thread that runs there with its registers, the stores that wait, the reservation, the requests of barriers, the
--- barrier of its thread, and the restartable sequence that its thread names.
+-- The lines of a hart: the thread that runs there with its registers, or that none does; the stores that wait, the reservation and the
+-- requests of barriers, of each hart; and where a thread runs there, its barrier and the restartable sequence that it names.
 use Rattle.std.specs.Prelude.{ℕ, ◌==◌, Bool, List, [], ◌∷◌, ◌++◌, if◌then◌else◌, Option, Some, None, codes}
 use Rattle.std.specs.Fmt.{decimal}
 use Rattle.std.specs.List.{flat_map}
@@ -16,7 +16,7 @@ abbrev pub thread_line : ℕ → ℕ → ℕ → ℕ → List ℕ
 thread_line h t pc id =
     hart_line h (codes "thread" ∷ decimal t ∷ codes "pc" ∷ value_text pc ∷ codes "id" ∷ decimal id ∷ [])
 
--- `hart H store AT SIZE VALUE` for each store that waits, the oldest first
+-- `hart H store AT SIZE VALUE` for each store that waits, the oldest first, whether or not a thread runs there
 abbrev pub store_line : ℕ → Store → List ℕ
 store_line h s = hart_line h (codes "store" ∷ value_text s.at ∷ decimal s.size ∷ value_text s.value ∷ [])
 
@@ -35,7 +35,7 @@ requests_line h set = hart_line h (codes "requests" ∷ harts_fields set)
 abbrev pub restart_line : ℕ → Bool → List ℕ
 restart_line h restart = hart_line h (codes "restart" ∷ yes_or_no restart ∷ [])
 
--- what is kept whether or not a thread runs there
+-- what else is kept whether or not a thread runs there
 unfoldable pub kept_lines : ℕ → Option ℕ → ℕ → Bool → List ℕ
 kept_lines h reserved requests restart = reservation_line h reserved ++ requests_line h requests ++ restart_line h restart
 
@@ -55,7 +55,7 @@ idle_line h = hart_line h (codes "idle" ∷ [])
 abbrev pub kept_here : Here → List ℕ
 kept_here here = kept_lines here.hart here.reserved here.requests here.restart
 
--- the lines of a hart on which thread t runs, and of one on which none runs
+-- the lines of a hart on which thread t runs, and of one on which none runs: whatever stores wait there are shown in both
 unfoldable pub running_text : Here → ℕ → List ℕ
 running_text here t =
     thread_line here.hart t (here.file t).pc (id_of t here.kernel.ids)
@@ -67,7 +67,7 @@ running_text here t =
     ++ names_line here.hart (named_here here t) (here.file t).pc
 
 unfoldable pub idle_text : Here → List ℕ
-idle_text here = idle_line here.hart ++ kept_here here
+idle_text here = idle_line here.hart ++ store_lines here.hart (waiting_here here) ++ kept_here here
 
 abbrev pub hart_text_of : Here → Option ℕ → List ℕ
 hart_text_of here None = idle_text here

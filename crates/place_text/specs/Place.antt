@@ -1,4 +1,5 @@
--- The text of a place (own): the whole state of a machine at the end of a history, and what each hart may do there.
+-- The text of a place (own): what is seen of each hart and of each live thread at the end of a history, and what each hart may do there.
+-- It isn't the whole state: memory, the console and the registers of threads that run on no hart, for example, aren't shown.
 use Rattle.std.specs.Prelude.{ℕ, List, ◌++◌, length, codes}
 use Rattle.std.specs.List.{flat_map, range_with_len}
 use Rattle.mach_types.specs.declared.events.Choice.{Choice}

@@ -190,12 +190,14 @@ fn push_running(
     push_sequence(text, machine, hart, state.pc)
 }
 
-/// Appends the lines of a hart on which no thread runs.
+/// Appends the lines of a hart on which no thread runs: its stores and what else it keeps are shown all the same.
 fn push_idle(text: &mut Vec<u8>, hart: Hart, state: &HartState) -> Result<(), AllocError>
     ensures { OnOk result (text.new.items ≡ text.old.items ++ (spec.idle_line hart.0
+        ++ spec.store_lines hart.0 state.now.buffer
         ++ spec.kept_lines hart.0 state.now.reserved state.now.requests state.now.restart)) }
 {
     push_idle_line(text, hart)?;
+    push_stores(text, hart, &state.buffer)?;
     push_kept(text, hart, state)
 }
 

@@ -1,4 +1,5 @@
-//! The text of a place: the whole state of a machine after the log that it has, and what each of its harts may do next.
+//! The text of a place: what is seen of each hart and of each live thread of a machine after the log that it has, and what each hart may
+//! do next.
 #![tactic(auto)]
 
 mod choices;

@@ -23,7 +23,7 @@ use Rattle.rseq_run.specs.Runs.{IsFirstBadLine, IsPlayedRun}
 use Rattle.rseq_run.specs.Statuses.{fault_status}
 use Rattle.rseq_run.specs.Told.{TellsBadScript, TellsBig, TellsBigFile, TellsBoth, TellsFaulty}
 use Rattle.rseq_run.specs.Told.{TellsFaultyProgram, TellsGood, TellsGoodFiles}
-use Rattle.command_words.specs.Grammar.{Command, Solo, Play, Blocks, Run}
+use Rattle.command_words.specs.Grammar.{Command, Solo, Play, Blocks, Inspect, Run}
 
 -- a file that is told was read as it is
 read_as_told : (files : Files) (name bytes told : List ℕ) → IsReadAs files name bytes → files name ≡ Some told
@@ -111,6 +111,8 @@ used_by_output files (Some (Solo program limits)) written output = (output.image
 used_by_output files (Some (Play program script limits)) written output =
     used_by_script files program script limits output.image output.log output.played
 used_by_output files (Some (Blocks program script limits)) written output =
+    used_by_script files program script limits output.image output.log output.played
+used_by_output files (Some (Inspect program script limits)) written output =
     used_by_script files program script limits output.image output.log output.played
 used_by_output files (Some (Run program limits seed)) written output = (output.image, output.taken)
 

@@ -1,7 +1,10 @@
-mod Causing
+mod Causes
 mod Chosen
+mod ElfPlaces
 mod Examples
 mod Exclusions
+mod Explaining
+mod NeverFailing
 mod OneOutput
 mod Outcomes
 mod PlainOutputs

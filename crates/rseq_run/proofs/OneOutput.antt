@@ -10,11 +10,12 @@ use Rattle.block_model.specs.Replay.{Ask}
 use Rattle.block_model.specs.Setting.{Setting}
 use Rattle.block_model.proofs.Laws.{one_setting}
 use Rattle.rseq_run.specs.Needs.{Needs, Nothing, Program, Script, needs_of}
-use Rattle.rseq_run.specs.Outputs.{IsOutputOf, IsPlainBlocksOutput, IsPlainOutputOf, IsPlainPlayOutput}
-use Rattle.rseq_run.specs.Outputs.{IsPlainPlayed, IsPlainSoloOutput, plain_output, plain_summary}
+use Rattle.rseq_run.specs.Outputs.{IsOutputOf, IsPlainBlocksOutput, IsPlainInspectOutput, IsPlainOutputOf}
+use Rattle.rseq_run.specs.Outputs.{IsPlainPlayOutput, IsPlainPlayed, IsPlainSoloOutput, plain_output, plain_place}
+use Rattle.rseq_run.specs.Outputs.{plain_summary}
 use Rattle.rseq_run.specs.Programs.{Files, IsProgram, asks_of, start_of}
 use Rattle.rseq_run.specs.Told.{AreTold, TellsGoodFiles}
-use Rattle.command_words.specs.Grammar.{Command, Solo, Play, Blocks, Run}
+use Rattle.command_words.specs.Grammar.{Command, Solo, Play, Blocks, Inspect, Run}
 use Rattle.command_words.specs.Words.{is_run}
 use Rattle.rseq_run.proofs.Exclusions.{AreUsed, used_by_output}
 use Rattle.rseq_run.proofs.PlainOutputs.{plain_output_of}
@@ -80,6 +81,14 @@ one_blocks files program script limits a b told script_told first second =
     first.played second.played in
     first.text ∙ ap₂ plain_summary one.0 one.1 ∙ sym second.text
 
+one_place : (files : Files) (program script : List ℕ) (limits : Limits) (a b : List ℕ) → IsSome (files program)
+    → IsSome (files script) → IsPlainInspectOutput files program script limits a
+    → IsPlainInspectOutput files program script limits b → a ≡ b
+one_place files program script limits a b told script_told first second =
+    let one = one_run files program script limits first.image second.image first.run second.run told script_told
+    first.played second.played in
+    first.text ∙ ap₂ plain_place one.0 one.1 ∙ sym second.text
+
 one_plain : (files : Files) (command : Option Command) (a b : List ℕ) → is_run command ≡ false
     → AreTold files (needs_of command)
     → IsPlainOutputOf files command a → IsPlainOutputOf files command b → a ≡ b
@@ -90,6 +99,8 @@ one_plain files (Some (Play program script limits)) a b no_run told first second
     one_play files program script limits a b told.0 told.1 first second
 one_plain files (Some (Blocks program script limits)) a b no_run told first second =
     one_blocks files program script limits a b told.0 told.1 first second
+one_plain files (Some (Inspect program script limits)) a b no_run told first second =
+    one_place files program script limits a b told.0 told.1 first second
 one_plain files (Some (Run program limits seed)) a b no_run told first second = absurd (cc no_run)
 
 pub one_output : (files : Files) (command : Option Command) (a b : List ℕ) → is_run command ≡ false
@@ -137,6 +148,7 @@ some_need files None written output none = absurd output
 some_need files (Some (Solo program limits)) written output none = absurd cc
 some_need files (Some (Play program script limits)) written output none = absurd cc
 some_need files (Some (Blocks program script limits)) written output none = absurd cc
+some_need files (Some (Inspect program script limits)) written output none = absurd cc
 some_need files (Some (Run program limits seed)) written output none = absurd cc
 
 pub good_files : (files : Files) (command : Option Command) (written : List ℕ)

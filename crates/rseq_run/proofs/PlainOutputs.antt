@@ -1,5 +1,5 @@
 -- The output of a command is what the plain machine prints.
-use Rattle.std.proofs.Common.{◌≡◌, ℕ, List, refl, ◌∙◌, Option, Some, None}
+use Rattle.std.proofs.Common.{◌≡◌, ℕ, List, refl, sym, ap, ◌∙◌, Option, Some, None}
 use Rattle.mach_types.specs.declared.events.Entry.{Entry}
 use Rattle.mach_types.specs.declared.limits.Limits.{Limits}
 use Rattle.elf_load.specs.declared.image.Image.{Image}
@@ -8,13 +8,13 @@ use Rattle.block_model.specs.PlainSays.{SaysOf}
 use Rattle.block_model.specs.Replay.{script_of}
 use Rattle.block_model.specs.Setting.{Setting, setting_of}
 use Rattle.block_model.proofs.Laws.{answers_itself, plain_makes, plain_solo_log, plain_solo_says, run_is_played}
-use Rattle.rseq_run.specs.Outputs.{IsBlocksOutput, IsOutputOf, IsPlainBlocksOutput, IsPlainOutputOf}
-use Rattle.rseq_run.specs.Outputs.{IsPlainPlayOutput, IsPlainPlayed, IsPlainRunOutput, IsPlainSoloOutput}
-use Rattle.rseq_run.specs.Outputs.{IsPlayOutput, IsPlayed, IsRunOutput, IsSoloOutput, log_output, log_summary}
-use Rattle.rseq_run.specs.Outputs.{plain_output, plain_summary}
+use Rattle.rseq_run.specs.Outputs.{IsBlocksOutput, IsInspectOutput, IsOutputOf, IsPlainBlocksOutput}
+use Rattle.rseq_run.specs.Outputs.{IsPlainInspectOutput, IsPlainOutputOf, IsPlainPlayOutput, IsPlainPlayed}
+use Rattle.rseq_run.specs.Outputs.{IsPlainRunOutput, IsPlainSoloOutput, IsPlayOutput, IsPlayed, IsRunOutput}
+use Rattle.rseq_run.specs.Outputs.{IsSoloOutput, log_output, log_place, log_summary, plain_output, plain_summary}
 use Rattle.rseq_run.specs.Programs.{Files, start_of}
 use Rattle.rseq_run.specs.Runs.{IsSoloRun}
-use Rattle.command_words.specs.Grammar.{Command, Solo, Play, Blocks, Run}
+use Rattle.command_words.specs.Grammar.{Command, Solo, Play, Blocks, Inspect, Run}
 
 -- a machine that says of a log what is read from it prints the log's text
 prints_alike : (s : Setting) (log : List Entry) (run : PlainRun) → run.log ≡ log → SaysOf s log run.machine
@@ -94,6 +94,18 @@ plain_blocks_output files program script limits written output =
       text = output.text ∙ sums_up_alike (start_of output.image limits) output.log made.run made.same made.says;
     }
 
+plain_inspect_output : (files : Files) (program script : List ℕ) (limits : Limits) (written : List ℕ)
+    → IsInspectOutput files program script limits written
+    → IsPlainInspectOutput files program script limits written
+plain_inspect_output files program script limits written output =
+    let made = played_alike files program script limits output.image output.log output.played in
+    record {
+      image = output.image;
+      run = made.run;
+      played = made.played;
+      text = output.text ∙ ap (log_place (start_of output.image limits)) (sym made.same);
+    }
+
 plain_run_output : (files : Files) (program : List ℕ) (limits : Limits) (seed : ℕ) (written : List ℕ)
     → IsRunOutput files program limits seed written → IsPlainRunOutput files program limits seed written
 plain_run_output files program limits seed written output =
@@ -120,5 +132,7 @@ plain_output_of files (Some (Play program script limits)) written output =
     plain_play_output files program script limits written output
 plain_output_of files (Some (Blocks program script limits)) written output =
     plain_blocks_output files program script limits written output
+plain_output_of files (Some (Inspect program script limits)) written output =
+    plain_inspect_output files program script limits written output
 plain_output_of files (Some (Run program limits seed)) written output =
     plain_run_output files program limits seed written output

@@ -1,6 +1,7 @@
 -- What a line of a script makes of a machine and its reader.
 use Rattle.std.proofs.Common.{◌≡◌, ℕ, ◌+◌, List, [], ◌∷◌, ◌++◌, length, map, refl, sym, ap, ◌∙◌, subst}
-use Rattle.std.proofs.Common.{Option, Some, None, Ok, Err, append-nil, append_assoc, ap₂}
+use Rattle.std.proofs.Common.{Bool, true, false, Option, Some, None, Result, Ok, Err, append-nil, append_assoc, ap₂}
+use Rattle.std.proofs.Common.{if◌then◌else◌}
 use Rattle.std.proofs.lemmas.List.{map-append}
 use Rattle.std.specs.Option.{option_map}
 use Rattle.step_log.specs.Reading.{Unread, unread, next_answer, after_next, answer_at, answer_to}
@@ -8,12 +9,18 @@ use Rattle.step_log.specs.Script.{line_meaning, lines_of}
 use Rattle.step_log.specs.declared.fields.Line.{Line}
 use Rattle.step_log.specs.declared.reading.BadLine.{BadLine}
 use Rattle.mach_types.specs.declared.events.Entry.{Entry}
-use Rattle.block_model.specs.Replay.{Ask, extended, made_by, made_by_read, play_line, played}
+use Rattle.mach_types.specs.declared.events.Tid.{Tid}
+use Rattle.block_model.specs.Deciding.{decide, history}
+use Rattle.block_model.specs.Replay.{Ask, checked, extended, is_as_said, made_by, made_by_read, play_line, played}
 use Rattle.block_model.specs.Setting.{Setting, Seen}
 use Rattle.block_model.proofs.Laws.{length-answers, played-append, played-nil, played_is_run}
+use Rattle.block_model.specs.declared.refusals.Refused.{Refused}
+use Rattle.rseq_run.specs.declared.reasons.LineFault.{LineFault}
+use Rattle.rseq_run.specs.declared.reasons.LineFault.TheVariants.{Differs, Malformed}
 use Rattle.rseq_run.specs.Playing.{IsPlaying}
 use Rattle.rseq_run.specs.Programs.{ask_in, ask_of}
-use Rattle.rseq_run.specs.Runs.{IsFirstBadLine, IsPlayedRun, IsWholePlay}
+use Rattle.rseq_run.specs.Reasons.{IsBadLine, decided_fault, line_fault}
+use Rattle.rseq_run.specs.Runs.{IsPlayedRun, IsWholePlay}
 
 -- before the first line
 pub playing-start : (text : List ℕ) (m : Seen) (s : Setting) (r : Unread)
@@ -58,20 +65,40 @@ playing-next text m n line more ask r p left said same made q rest =
       allowed = subst (λ (s : Setting). played s (p.asks ++ ask ∷ []) ≡ Ok n.log) (sym same) step;
     }
 
--- the next line is the first bad one: it is malformed, or makes no entry
-pub first_bad : (text : List ℕ) (m : Seen) (line : List ℕ) (more : List (List ℕ)) (r : Unread)
-    → IsPlaying text m r → r.left ≡ line ∷ more
-    → made_by_read m.setting m.log (ask_in line) ≡ None → IsFirstBadLine m.setting text (length m.log + 1)
-first_bad text m line more r p left refused = record {
-  earlier = p.asks;
-  line = ask_in line;
-  later = map ask_in more;
-  log = m.log;
-  parts = ap (map ask_in) (p.parts ∙ ap (λ ls. p.earlier ++ ls) left)
-      ∙ map-append ask_in p.earlier (line ∷ more) ∙ ap (λ xs. xs ++ ask_in line ∷ map ask_in more) p.readable;
-  number = ap (λ n. n + 1) (length-answers p.asks m.log (played_is_run m.setting p.asks m.log p.allowed).1);
-  allowed = p.allowed;
-  refused = refused;
+-- a line that something is wrong with makes no entry
+faulty_unmade : (check : Option (Tid × ℕ)) (r : Result Entry Refused) (fault : LineFault)
+    → decided_fault check r ≡ Some fault → checked check r ≡ None
+faulty_unmade check (Err refused) fault is = refl
+faulty_unmade check (Ok e) fault is = by_said (is_as_said check e) is
+  where
+    by_said : (b : Bool) → (if b then None else Some (Differs e)) ≡ Some fault → (if b then Some e else None) ≡ None
+    by_said true none = absurd cc
+    by_said false some = refl
+
+line_unmade : (s : Setting) (log : List Entry) (line : Option Ask) (fault : LineFault)
+    → line_fault s log line ≡ Some fault → made_by_read s log line ≡ None
+line_unmade s log None fault is = refl
+line_unmade s log (Some ask) fault is =
+    faulty_unmade ask.check (decide s (history s log) ask.hart.0 ask.choice) fault is
+
+-- the next line is the first bad one: something is wrong with it
+first_bad : (text : List ℕ) (m : Seen) (line : List ℕ) (more : List (List ℕ)) (r : Unread) (fault : LineFault)
+    → IsPlaying text m r → r.left ≡ line ∷ more → line_fault m.setting m.log (ask_in line) ≡ Some fault
+    → IsBadLine m.setting text (length m.log + 1) fault
+first_bad text m line more r fault p left faulty = record {
+  first = record {
+    earlier = p.asks;
+    line = ask_in line;
+    later = map ask_in more;
+    log = m.log;
+    parts = ap (map ask_in) (p.parts ∙ ap (λ ls. p.earlier ++ ls) left)
+        ∙ map-append ask_in p.earlier (line ∷ more) ∙ ap (λ xs. xs ++ ask_in line ∷ map ask_in more) p.readable;
+    number =
+        ap (λ n. n + 1) (length-answers p.asks m.log (played_is_run m.setting p.asks m.log p.allowed).1);
+    allowed = p.allowed;
+    refused = line_unmade m.setting m.log (ask_in line) fault faulty;
+  };
+  why = faulty;
 }
 
 -- the reader's answer at the end, at a line that says something, and at a malformed one
@@ -135,24 +162,25 @@ goes_on text m n line r q p is after same made =
     playing-next text m n x.text x.more (ask_of line) r p x.left (ap (option_map ask_of) x.says) same made q
     (ap (λ (u : Unread). u.left) after ∙ x.after)
 
--- it gives a line that makes no entry
-pub refused_here : (text : List ℕ) (m : Seen) (line : Line) (r : Unread) → IsPlaying text m r
-    → next_answer r ≡ Ok (Some line) → made_by m.setting m.log (ask_of line) ≡ None
-    → IsFirstBadLine m.setting text (length m.log + 1)
-refused_here text m line r p is refused =
+-- it gives a line that something is wrong with
+pub refused_here : (text : List ℕ) (m : Seen) (line : Line) (r : Unread) (fault : LineFault) → IsPlaying text m r
+    → next_answer r ≡ Ok (Some line) → line_fault m.setting m.log (Some (ask_of line)) ≡ Some fault
+    → IsBadLine m.setting text (length m.log + 1) fault
+refused_here text m line r fault p is faulty =
     let x = at_line r.left r.read line is in
-    first_bad text m x.text x.more r p x.left
-    (ap (λ o. made_by_read m.setting m.log (option_map ask_of o)) x.says ∙ refused)
+    first_bad text m x.text x.more r fault p x.left
+    (ap (λ o. line_fault m.setting m.log (option_map ask_of o)) x.says ∙ faulty)
 
 -- it says that the next line is malformed
 pub malformed_here : (text : List ℕ) (m : Seen) (bad : BadLine) (r : Unread) → IsPlaying text m r
-    → next_answer r ≡ Err bad → IsFirstBadLine m.setting text (length m.log + 1)
+    → next_answer r ≡ Err bad → IsBadLine m.setting text (length m.log + 1) Malformed
 malformed_here text m bad r p is =
     let x = at_bad r.left r.read bad is in
-    first_bad text m x.text x.more r p x.left
-    (ap (λ o. made_by_read m.setting m.log (option_map ask_of o)) x.says)
+    first_bad text m x.text x.more r Malformed p x.left
+    (ap (λ o. line_fault m.setting m.log (option_map ask_of o)) x.says)
 
 -- the number, by the log that was read
-pub first_bad_at : (text : List ℕ) (m : Seen) (log : List Entry) → log ≡ m.log
-    → IsFirstBadLine m.setting text (length m.log + 1) → IsFirstBadLine m.setting text (length log + 1)
-first_bad_at text m log same bad = subst (λ es. IsFirstBadLine m.setting text (length es + 1)) (sym same) bad
+pub first_bad_at : (text : List ℕ) (m : Seen) (log : List Entry) (fault : LineFault) → log ≡ m.log
+    → IsBadLine m.setting text (length m.log + 1) fault → IsBadLine m.setting text (length log + 1) fault
+first_bad_at text m log fault same bad =
+    subst (λ es. IsBadLine m.setting text (length es + 1) fault) (sym same) bad

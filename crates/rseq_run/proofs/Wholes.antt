@@ -6,8 +6,8 @@ use Rattle.elf_load.specs.declared.image.Image.{Image}
 use Rattle.block_model.specs.Run.{IsBlockRun}
 use Rattle.block_model.specs.Setting.{Setting, Seen, setting_of}
 use Rattle.block_model.proofs.Laws.{all_harts}
-use Rattle.rseq_run.specs.Outputs.{IsBlocksOutput, IsPlayOutput, IsPlayed, IsRunOutput, IsSoloOutput}
-use Rattle.rseq_run.specs.Outputs.{log_output, log_summary}
+use Rattle.rseq_run.specs.Outputs.{IsBlocksOutput, IsInspectOutput, IsPlayOutput, IsPlayed, IsRunOutput, IsSoloOutput}
+use Rattle.rseq_run.specs.Outputs.{log_output, log_place, log_summary}
 use Rattle.rseq_run.specs.Programs.{Files, IsProgram, IsScript, start_of}
 use Rattle.rseq_run.specs.Runs.{IsPlayedRun, IsWholePlay, IsWholeRun, IsWholeSolo}
 
@@ -71,6 +71,16 @@ blocks_output_of files program script limits image m text played start written =
   log = m.log;
   played = played;
   text = subst (λ (s : Setting). text ≡ log_summary s m.log) start written;
+}
+
+pub inspect_output_of : (files : Files) (program script : List ℕ) (limits : Limits) (image : Image) (m : Seen)
+    (text : List ℕ) → IsPlayed files program script limits image m.log → m.setting ≡ start_of image limits
+    → text ≡ log_place m.setting m.log → IsInspectOutput files program script limits text
+inspect_output_of files program script limits image m text played start written = record {
+  image = image;
+  log = m.log;
+  played = played;
+  text = subst (λ (s : Setting). text ≡ log_place s m.log) start written;
 }
 
 pub run_output_of : (files : Files) (program : List ℕ) (limits : Limits) (seed : ℕ) (image : Image) (m : Seen)

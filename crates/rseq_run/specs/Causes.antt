@@ -1,5 +1,5 @@
 -- Why a call gives no output.
-use Rattle.std.specs.Prelude.{ℕ, ◌≡◌, ◌⊎◌, List, Option, None, Some}
+use Rattle.std.specs.Prelude.{ℕ, ◌≡◌, ◌⊎◌, List, Option, None}
 use Rattle.mach_types.specs.declared.limits.Limits.{Limits}
 use Rattle.elf_load.specs.declared.fault.ElfFault.{ElfFault}
 use Rattle.elf_load.specs.declared.image.Image.{Image}
@@ -75,8 +75,3 @@ IsCauseOf files command old new (Script number) = IsScriptRefusalOf files (need.
 -- the same, by the words
 abbrev pub IsCause : Files → List (List ℕ) → (List ℕ → ℕ) → (List ℕ → ℕ) → Fault → Type 0
 IsCause files words old new fault = IsCauseOf files (command_of words) old new fault
-
--- it is the cause of a fault of each command that needs this
-abbrev pub IsCauseWithNeeds : Files → need.Needs → (List ℕ → ℕ) → (List ℕ → ℕ) → Fault → Type 0
-IsCauseWithNeeds files needs old new fault =
-    (command : Command) → need.needs_of (Some command) ≡ needs → IsCauseOf files (Some command) old new fault

@@ -1,11 +1,13 @@
 pub mod Answers
 pub mod Causes
 pub mod Delivery
+pub mod ElfPlaces
 pub mod Needs
 pub mod Outcome
 pub mod Outputs
 pub mod Playing
 pub mod Programs
+pub mod Reasons
 pub mod Runs
 pub mod Sharing
 pub mod Statuses

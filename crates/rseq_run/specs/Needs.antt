@@ -2,7 +2,7 @@
 -- commands.
 use Rattle.std.specs.Prelude.{ℕ, List, Option, Some, None}
 use Rattle.mach_types.specs.declared.limits.Limits.{Limits}
-use Rattle.command_words.specs.Grammar.{Command, Solo, Play, Blocks, Run}
+use Rattle.command_words.specs.Grammar.{Command, Solo, Play, Blocks, Inspect, Run}
 use Rattle.command_words.specs.Words.{command_of}
 
 -- nothing; the program in the file of this name, taken under these limits; or such a program, and the script
@@ -18,6 +18,7 @@ needs_of None = Nothing
 needs_of (Some (Solo program limits)) = Program program limits
 needs_of (Some (Play program script limits)) = Script program script limits
 needs_of (Some (Blocks program script limits)) = Script program script limits
+needs_of (Some (Inspect program script limits)) = Script program script limits
 needs_of (Some (Run program limits seed)) = Program program limits
 
 -- what the command of the words needs

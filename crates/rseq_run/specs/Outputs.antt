@@ -9,11 +9,12 @@ use Rattle.block_model.specs.Deciding.{history, end_of}
 use Rattle.block_model.specs.Plain.{PlainRun, plain_end, plain_run, plain_solo}
 use Rattle.block_model.specs.Replay.{Ask, script_of}
 use Rattle.block_view.specs.Acts.{acts_of}
+use Rattle.place_text.specs.Place.{place_text}
 use Rattle.rseq_run.specs.Programs.{Files, IsProgram, IsScript, asks_of, start_of}
 use Rattle.rseq_run.specs.Runs.{IsChosenRun, IsSoloRun, IsPlayedRun}
 use Rattle.rseq_run.specs.Summary.{summary_text}
 use Rattle.rseq_run.specs.Text.{output_text}
-use Rattle.command_words.specs.Grammar.{Command, Solo, Play, Blocks, Run}
+use Rattle.command_words.specs.Grammar.{Command, Solo, Play, Blocks, Inspect, Run}
 use Rattle.command_words.specs.Words.{command_of}
 
 -- the output text of a log: its lines, and the console and the end that it comes to
@@ -23,6 +24,10 @@ log_output s log = output_text (console s (history s log)) log (end_of s (histor
 -- the summary of a log: its acts counted for each hart, its barriers, and the end that it comes to
 abbrev pub log_summary : Setting → List Entry → List ℕ
 log_summary s log = summary_text s.limits.harts (acts_of s log) log (end_of s (history s log))
+
+-- the text of the place that a log comes to: what is seen there of each hart and of each live thread, and what each hart may do next
+abbrev pub log_place : Setting → List Entry → List ℕ
+log_place s log = place_text s (history s log)
 
 -- the text that `solo` writes: that of a whole run of the program by the fixed rule
 pub record IsSoloOutput (files : Files) (program : List ℕ) (limits : Limits) (written : List ℕ) : Type 0 where
@@ -56,6 +61,14 @@ pub record IsBlocksOutput
   pub played : IsPlayed files program script limits image log
   pub text : written ≡ log_summary (start_of image limits) log
 
+-- the text that `inspect` writes: that of the place which such a run comes to
+pub record IsInspectOutput
+    (files : Files) (program script : List ℕ) (limits : Limits) (written : List ℕ) : Type 0 where
+  pub image : Image
+  pub log : List Entry
+  pub played : IsPlayed files program script limits image log
+  pub text : written ≡ log_place (start_of image limits) log
+
 -- the text that `run` writes: that of a whole run of the program by workers, whose harts choose by the seed
 pub record IsRunOutput
     (files : Files) (program : List ℕ) (limits : Limits) (seed : ℕ) (written : List ℕ) : Type 0 where
@@ -73,6 +86,8 @@ IsOutputOf files (Some (Play program script limits)) written =
     IsPlayOutput files program script limits written
 IsOutputOf files (Some (Blocks program script limits)) written =
     IsBlocksOutput files program script limits written
+IsOutputOf files (Some (Inspect program script limits)) written =
+    IsInspectOutput files program script limits written
 IsOutputOf files (Some (Run program limits seed)) written = IsRunOutput files program limits seed written
 
 -- the output of the words
@@ -87,6 +102,10 @@ plain_output s run = output_text run.machine.kernel.console run.log (plain_end s
 -- the summary of the plain machine's run: of the acts of the entries that it made, its barriers, and its end
 abbrev pub plain_summary : Setting → PlainRun → List ℕ
 plain_summary s run = summary_text s.limits.harts (acts_of s run.log) run.log (plain_end s run.machine)
+
+-- the place that the entries which the plain machine made come to
+abbrev pub plain_place : Setting → PlainRun → List ℕ
+plain_place s run = log_place s run.log
 
 -- the text of the plain machine's own run of the program by the fixed rule, for as many steps as the limits
 -- allow
@@ -122,6 +141,14 @@ pub record IsPlainBlocksOutput
   pub played : IsPlainPlayed files program script limits image run
   pub text : written ≡ plain_summary (start_of image limits) run
 
+-- the text of the place that such a run comes to
+pub record IsPlainInspectOutput
+    (files : Files) (program script : List ℕ) (limits : Limits) (written : List ℕ) : Type 0 where
+  pub image : Image
+  pub run : PlainRun
+  pub played : IsPlainPlayed files program script limits image run
+  pub text : written ≡ plain_place (start_of image limits) run
+
 -- the text of the plain machine's run of the program over the hart and the choice of each entry of a log, which
 -- are those of a whole run by workers
 pub record IsPlainRunOutput
@@ -142,6 +169,8 @@ IsPlainOutputOf files (Some (Play program script limits)) written =
     IsPlainPlayOutput files program script limits written
 IsPlainOutputOf files (Some (Blocks program script limits)) written =
     IsPlainBlocksOutput files program script limits written
+IsPlainOutputOf files (Some (Inspect program script limits)) written =
+    IsPlainInspectOutput files program script limits written
 IsPlainOutputOf files (Some (Run program limits seed)) written =
     IsPlainRunOutput files program limits seed written
 

@@ -1,6 +1,7 @@
 -- The text of a summary (own): how many acts of each form each hart has, how many barriers returned, and how the run ended. Numbers
 -- are decimal.
-use Rattle.std.specs.Prelude.{ℕ, ◌++◌, Bool, true, false, List, [], zero, suc, codes, count_by}
+use Rattle.std.specs.Prelude.{ℕ, ◌++◌, ◌∷◌, Bool, true, false, List, [], zero, suc, codes, count_by}
+use Rattle.std.specs.Fmt.{decimal}
 use Rattle.mach_types.specs.declared.events.Entry.{Entry}
 use Rattle.mach_types.specs.declared.events.Kind.{Kind}
 use Rattle.mach_types.specs.declared.events.Kind.TheVariants as kind
@@ -8,7 +9,12 @@ use Rattle.mach_types.specs.declared.limits.End.{End}
 use Rattle.block_view.specs.Counting.{counts_of}
 use Rattle.block_view.specs.declared.forms.Act.{Act}
 use Rattle.block_view.specs.declared.tally.Counts.{Counts}
-use Rattle.rseq_run.specs.Text.{end_line, number_line, numbered}
+use Rattle.step_log.specs.Text.{space}
+use Rattle.place_text.specs.Ends.{end_line, number_line}
+
+-- some words and a number
+abbrev pub numbered : List ℕ → ℕ → List ℕ
+numbered words number = words ++ space ∷ decimal number
 
 -- the line of a hart: its number, and how many of its acts have each form
 abbrev pub hart_line : ℕ → Counts → List ℕ

@@ -4,21 +4,13 @@ use Rattle.std.specs.Prelude.{ℕ, List, [], ◌∷◌, ◌++◌, Option, Some, 
 use Rattle.std.specs.Fmt.{decimal}
 use Rattle.mach_types.specs.declared.events.Entry.{Entry}
 use Rattle.mach_types.specs.declared.limits.End.{End}
-use Rattle.mach_types.specs.declared.limits.End.TheVariants.{Exit, Killed, Stuck, Limit, Unended}
 use Rattle.elf_load.specs.declared.fault.ElfFault.{ElfFault}
 use Rattle.elf_load.specs.Numbers.{fault_number, fault_detail}
 use Rattle.step_log.specs.Text.{newline, space}
 use Rattle.step_log.specs.Grammar.{log_text}
+use Rattle.place_text.specs.Ends.{end_line, number_line}
 use Rattle.rseq_run.specs.declared.faults.Fault.{Fault}
 use Rattle.rseq_run.specs.declared.faults.Fault.TheVariants.{Usage, Read, Memory, Big, Elf, Script}
-
--- some words and a number
-abbrev pub numbered : List ℕ → ℕ → List ℕ
-numbered words number = words ++ space ∷ decimal number
-
--- a line of some words and a number
-abbrev pub number_line : List ℕ → ℕ → List ℕ
-number_line words number = numbered words number ++ newline ∷ []
 
 -- the console's length, its bytes, and a newline
 abbrev pub console_text : List ℕ → List ℕ
@@ -27,14 +19,6 @@ console_text console = number_line (codes "console") (length console) ++ console
 -- how many entries the log has, and its lines
 abbrev pub entries_text : List Entry → List ℕ
 entries_text log = number_line (codes "log") (length log) ++ log_text log
-
--- how the run ended
-abbrev pub end_line : End → List ℕ
-end_line (Exit status) = number_line (codes "end exit") status
-end_line (Killed signal) = number_line (codes "end killed") signal
-end_line Stuck = codes "end stuck\n"
-end_line Limit = codes "end limit\n"
-end_line Unended = codes "end open\n"
 
 -- the output text of a run: its console, its log and its end
 unfoldable pub output_text : List ℕ → List Entry → End → List ℕ

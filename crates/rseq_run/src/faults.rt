@@ -4,12 +4,11 @@ ghost use Rattle.std.specs.Prelude.{◌≡◌, ◌+◌, ◌≤◌, ◌∷◌, []
 ghost use Rattle.std.specs.Fmt.{decimal};
 ghost use Rattle.arrayvec.specs.ArrayString.{array_string_len};
 ghost use Rattle.step_log.specs.Text.{newline};
-ghost use Rattle.rseq_run.specs.Statuses.{fault_status, fault_of_fetch, fault_of_load};
+ghost use Rattle.rseq_run.specs.Statuses.{fault_status};
 ghost use Rattle.rseq_run.specs.Text.{fault_line, elf_words, detail_words};
 
 use arrayvec::ArrayString;
 use elf_load::ElfFault;
-use outside::FetchError;
 use std::alloc::AllocError;
 
 /// Why a call gives no output.
@@ -69,29 +68,6 @@ impl From<AllocError> for Fault {
 
     fn from(_error: AllocError) -> Fault {
         Fault::Memory
-    }
-}
-
-impl From<FetchError> for Fault {
-    ghost from_gives = { λ error fault. fault ≡ fault_of_fetch error };
-
-    fn from(error: FetchError) -> Fault {
-        match error {
-            FetchError::Failed => Fault::Read,
-            FetchError::TooBig => Fault::Big,
-            FetchError::NoMemory => Fault::Memory,
-        }
-    }
-}
-
-impl From<ElfFault> for Fault {
-    ghost from_gives = { λ error fault. fault ≡ fault_of_load error };
-
-    fn from(error: ElfFault) -> Fault {
-        match error {
-            ElfFault::NoMemory => Fault::Memory,
-            refused => Fault::Elf(refused),
-        }
     }
 }
 

@@ -1,14 +1,14 @@
 //! The text of a run.
 
-ghost use Rattle.std.specs.Prelude.{◌≡◌, ◌<◌, ◌∷◌, [], ◌++◌, All, IfOk, OnOk, codes};
-ghost use Rattle.step_log.specs.Text.{newline};
+ghost use Rattle.std.specs.Prelude.{◌≡◌, ◌<◌, ◌++◌, All, IfOk, OnOk};
 ghost use Rattle.step_log.specs.Grammar.{log_text};
 ghost use Rattle.rseq_run.specs.Outputs.{log_output};
-ghost use Rattle.rseq_run.specs.Text.{numbered, number_line, console_text, entries_text, end_line};
+ghost use Rattle.rseq_run.specs.Text.{console_text, entries_text};
 
 use arrayvec::ArrayVec;
-use mach_types::{End, Entry};
+use mach_types::Entry;
 use machine_core::Machine;
+use place_text::{push_end, push_number_line};
 use std::alloc::{AllocError, Global};
 use step_log::print_entry;
 
@@ -37,34 +37,6 @@ pub fn output_text(alloc: Global, machine: &Machine) -> Result<Vec<u8>, AllocErr
 fn size_of_text(console: &[u8], log: &[Entry]) -> usize {
     let lines = log.len().saturating_mul(LONGEST_LINE);
     lines.saturating_add(console.len()).saturating_add(FRAME)
-}
-
-/// Appends some words and a number.
-pub(crate) fn push_numbered(
-    text: &mut Vec<u8>,
-    words: &[u8],
-    number: usize,
-) -> Result<(), AllocError>
-    ensures { OnOk result (text.new.items ≡ text.old.items ++ numbered words.now number) }
-{
-    let mut digits = itoa::Buffer::new();
-    text.extend_from_slice(words)?;
-    text.push(b' ')?;
-    text.extend_from_slice(digits.format(number).as_bytes())?;
-    Ok(())
-}
-
-/// Appends a line of some words and a number.
-pub(crate) fn push_number_line(
-    text: &mut Vec<u8>,
-    words: &[u8],
-    number: usize,
-) -> Result<(), AllocError>
-    ensures { OnOk result (text.new.items ≡ text.old.items ++ number_line words.now number) }
-{
-    push_numbered(text, words, number)?;
-    text.push(b'\n')?;
-    Ok(())
 }
 
 /// Appends the console's length, its bytes and a newline.
@@ -97,17 +69,4 @@ fn push_lines(text: &mut Vec<u8>, log: &[Entry]) -> Result<(), AllocError>
         text.extend_from_slice(line.as_slice())?;
     }
     Ok(())
-}
-
-/// Appends the line of the end.
-pub(crate) fn push_end(text: &mut Vec<u8>, end: End) -> Result<(), AllocError>
-    ensures { OnOk result (text.new.items ≡ text.old.items ++ end_line end) }
-{
-    match end {
-        End::Exit(status) => push_number_line(text, b"end exit", usize::from(status)),
-        End::Killed(signal) => push_number_line(text, b"end killed", usize::from(signal)),
-        End::Stuck => text.extend_from_slice(b"end stuck\n"),
-        End::Limit => text.extend_from_slice(b"end limit\n"),
-        End::Unended => text.extend_from_slice(b"end open\n"),
-    }
 }

@@ -7,13 +7,13 @@ ghost use Rattle.block_model.specs.Run.{IsBlockRun};
 ghost use Rattle.block_view.specs.Acts.{acts_of};
 ghost use Rattle.rseq_run.specs.Outputs.{log_summary};
 ghost use Rattle.rseq_run.specs.Programs.{start_of};
-ghost use Rattle.rseq_run.specs.Summary.{barriers_line, hart_line, hart_lines};
+ghost use Rattle.rseq_run.specs.Summary.{barriers_line, hart_line, hart_lines, numbered};
 
-use crate::output::{push_end, push_number_line, push_numbered};
 use block_view::{Acts, Counts, ViewFault, acts, counts};
 use elf_load::Image;
 use mach_types::{Entry, Hart, Kind, Limits};
 use machine_core::Machine;
+use place_text::{push_end, push_number_line};
 use std::alloc::{AllocError, Global};
 
 /// The summary of a run of an image under limits: its acts, counted for each hart, its barriers, and its end.
@@ -66,6 +66,17 @@ fn push_hart_lines(text: &mut Vec<u8>, acts: &Acts, harts: u8) -> Result<(), All
     for hart in 0..harts {
         push_hart_line(text, hart, &counts(acts, Hart(hart)))?;
     }
+    Ok(())
+}
+
+/// Appends some words and a number.
+fn push_numbered(text: &mut Vec<u8>, words: &[u8], number: usize) -> Result<(), AllocError>
+    ensures { OnOk result (text.new.items ≡ text.old.items ++ numbered words.now number) }
+{
+    let mut digits = itoa::Buffer::new();
+    text.extend_from_slice(words)?;
+    text.push(b' ')?;
+    text.extend_from_slice(digits.format(number).as_bytes())?;
     Ok(())
 }
 

@@ -31,7 +31,7 @@ pub fn printed_log_replays()
         → IsPlayOutput later program script limits written }
 {}
 
-/// Where a shelf tells the files that `solo`, `play` or `blocks` needs, there is one output: which it is depends on
+/// Where a shelf tells the files that `solo`, `play`, `blocks` or `inspect` needs, there is one output: which it is depends on
 /// their bytes and the limits alone. Which one comes of `run` hangs also on the order in which the harts take turns.
 /// And where there is an output, the files are good.
 pub fn told_files_have_one_output()

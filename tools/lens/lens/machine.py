@@ -30,18 +30,21 @@ class Machine:
         with tempfile.NamedTemporaryFile('w', suffix='.script') as script:
             script.writelines(f'{line}\n' for line in lines)
             script.flush()
-            status, text = self.answer(['play', self.elf, script.name, *self.options])
+            status, text, reason = self.answer(['play', self.elf, script.name, *self.options])
         if status == DONE:
             return parse_output(self.elf, text)
         words = text.decode('ascii', 'replace').split()
         if status == SCRIPT_REFUSED and len(words) == 3:
             return int(words[2])
-        raise LensFault(f'{self.program} can\'t play {self.elf}: status {status}, "{" ".join(words)}"')
+        raise LensFault(
+            f'{self.program} can\'t play {self.elf}: status {status}, "{" ".join(words)}"{said(reason)}'
+        )
 
-    def answer(self, words: list[str]) -> tuple[int, bytes]:
+    def answer(self, words: list[str]) -> tuple[int, bytes, bytes]:
+        """The status of a call, its text, and what it says on standard error."""
         try:
             ran = subprocess.run(
-                [self.program, *words], stdin=subprocess.DEVNULL, stdout=subprocess.PIPE, timeout=SECONDS
+                [self.program, *words], stdin=subprocess.DEVNULL, capture_output=True, timeout=SECONDS
             )
         except OSError as error:
             raise LensFault(
@@ -49,4 +52,10 @@ class Machine:
             ) from None
         except subprocess.TimeoutExpired:
             raise LensFault(f'{self.program} had not ended after {SECONDS} seconds') from None
-        return ran.returncode, ran.stdout
+        return ran.returncode, ran.stdout, ran.stderr
+
+
+def said(reason: bytes) -> str:
+    """The first line of what a program says on standard error, behind a colon; nothing where it says nothing."""
+    lines = reason.decode('utf-8', 'replace').splitlines()
+    return f': {lines[0].removeprefix("rseq_run: ")}' if lines else ''

@@ -11,6 +11,7 @@ from pathlib import Path
 sys.path += [str(Path(__file__).resolve().parents[2] / name) for name in ('lens', 'sweep')]
 
 from lens.faults import LensFault  # noqa: E402 (found by the line above)
+from lens.machine import said  # noqa: E402
 from sweep.records import Record, Tally, note, read_run  # noqa: E402
 
 FAULT_STATUS = 2
@@ -20,14 +21,14 @@ def run_seed(program: str, elf: str, seed: int, options: list[str], seconds: flo
     """The output text of a run."""
     words = [program, 'run', elf, f'--seed={seed}', *options]
     try:
-        ran = subprocess.run(words, stdin=subprocess.DEVNULL, stdout=subprocess.PIPE, timeout=seconds)
+        ran = subprocess.run(words, stdin=subprocess.DEVNULL, capture_output=True, timeout=seconds)
     except OSError as error:
         raise LensFault(f'{program}: {error.strerror}') from None
     except subprocess.TimeoutExpired:
         raise LensFault(f'the run of seed {seed} had not ended after {seconds:g} seconds') from None
     if ran.returncode:
         answer = ran.stdout[:60].decode('ascii', 'replace').strip()
-        raise LensFault(f'the run of seed {seed} gave status {ran.returncode}, "{answer}"')
+        raise LensFault(f'the run of seed {seed} gave status {ran.returncode}, "{answer}"{said(ran.stderr)}')
     return ran.stdout
 
 

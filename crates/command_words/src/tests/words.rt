@@ -3,10 +3,11 @@
 use crate::commands::{Command, command_of};
 use mach_types::Limits;
 use std::alloc::{AllocError, Global};
+use std::process::Abort;
 use std::test::Fail;
 
 /// Words as they come from a command line.
-fn strings(alloc: Global, words: &[&str]) -> Result<Vec<String>, AllocError> {
+pub(crate) fn strings(alloc: Global, words: &[&str]) -> Result<Vec<String>, AllocError> {
     let mut all = Vec::new(alloc);
     for word in words {
         all.push(String::from_str(alloc, word)?)?;
@@ -52,6 +53,19 @@ fn blocks(harts: u8, frames: u32, steps: u32) -> Option<Command<'static>> {
     })
 }
 
+/// The command `inspect` on `F` and `S` with these limits.
+fn inspect(harts: u8, frames: u32, steps: u32) -> Option<Command<'static>> {
+    Some(Command::Inspect {
+        program: "F",
+        script: "S",
+        limits: Limits {
+            harts,
+            frames,
+            steps,
+        },
+    })
+}
+
 /// The command `run` on `F` with this number of harts and this seed.
 fn run(harts: u8, seed: u64) -> Option<Command<'static>> {
     Some(Command::Run {
@@ -67,7 +81,7 @@ fn run(harts: u8, seed: u64) -> Option<Command<'static>> {
 
 #[test]
 fn words_of_the_grammar_name_a_command(rt: HostRuntime) -> Result<(), Fail> {
-    let table: [(&[&str], Option<Command>); 21] = [
+    let table: [(&[&str], Option<Command>); 23] = [
         (&["solo", "F"], solo("F", 4_096, 200_000)),
         (&["solo", "--steps=1", "F"], solo("F", 4_096, 1)),
         (&["solo", "F", "--steps", "1"], solo("F", 4_096, 1)),
@@ -91,6 +105,11 @@ fn words_of_the_grammar_name_a_command(rt: HostRuntime) -> Result<(), Fail> {
             &["blocks", "--harts=8", "F", "--", "S"],
             blocks(8, 4_096, 200_000),
         ),
+        (&["inspect", "F", "S"], inspect(2, 4_096, 200_000)),
+        (
+            &["inspect", "F", "--steps=3", "S", "--harts", "1"],
+            inspect(1, 4_096, 3),
+        ),
         (&["run", "F"], run(2, 1)),
         (&["run", "F", "--harts", "8", "--seed", "7"], run(8, 7)),
         (&["run", "--seed=0", "F", "--harts=1"], run(1, 0)),
@@ -112,11 +131,18 @@ fn words_of_the_grammar_name_a_command(rt: HostRuntime) -> Result<(), Fail> {
     Ok(())
 }
 
+/// None of these lines of words may name a command.
+fn expect_none<R: Abort>(alloc: Global, rt: &R, table: &[&[&str]]) -> Result<(), AllocError> {
+    for words in table {
+        let all = strings(alloc, words)?;
+        assert_eq!(rt; command_of(alloc, &all)?, None, "{words:?}");
+    }
+    Ok(())
+}
+
 #[test]
-fn other_words_name_none(rt: HostRuntime) -> Result<(), Fail> {
-    let table: [&[&str]; 44] = [
-        &[],
-        &["Solo", "F"],
+fn other_words_of_solo_name_none(rt: HostRuntime) -> Result<(), Fail> {
+    let table: [&[&str]; 19] = [
         &["solo"],
         &["solo", "F", "G"],
         &["solo", "--harts", "2", "F"],
@@ -129,16 +155,42 @@ fn other_words_name_none(rt: HostRuntime) -> Result<(), Fail> {
         &["solo", "--steps", "0", "F"],
         &["solo", "--steps", "1000001", "F"],
         &["solo", "--steps=000000000000000000001", "F"],
+        &["solo", "--seed", "1", "F"],
+        &["solo", "F", "--", "--steps=1"],
+        &["solo", "--"],
+        &["solo", "--help"],
+        &["solo", "-h", "F"],
+        &["solo", "--version"],
+        &["solo", "--=1", "F"],
+    ];
+    expect_none(rt.alloc(), &rt, &table)?;
+    Ok(())
+}
+
+#[test]
+fn other_words_of_commands_on_a_script_name_none(rt: HostRuntime) -> Result<(), Fail> {
+    let table: [&[&str]; 13] = [
         &["play", "F"],
         &["play", "F", "S", "T"],
         &["play", "--seed", "1", "F", "S"],
-        &["solo", "--seed", "1", "F"],
         &["blocks"],
         &["blocks", "F"],
         &["blocks", "F", "S", "T"],
         &["blocks", "--seed", "1", "F", "S"],
         &["blocks", "F", "S", "--harts", "0"],
-        &["block", "F", "S"],
+        &["inspect"],
+        &["inspect", "F"],
+        &["inspect", "F", "S", "T"],
+        &["inspect", "F", "S", "--seed=1"],
+        &["inspect", "F", "S", "--harts=9"],
+    ];
+    expect_none(rt.alloc(), &rt, &table)?;
+    Ok(())
+}
+
+#[test]
+fn other_words_of_run_name_none(rt: HostRuntime) -> Result<(), Fail> {
+    let table: [&[&str]; 13] = [
         &["run"],
         &["run", "F", "S"],
         &["run", "--harts", "9", "F"],
@@ -152,17 +204,20 @@ fn other_words_name_none(rt: HostRuntime) -> Result<(), Fail> {
         &["run", "--seed", "-", "F"],
         &["run", "--seed=+1", "F"],
         &["run", "--seed", "--", "1", "F"],
-        &["solo", "F", "--", "--steps=1"],
-        &["solo", "--"],
-        &["solo", "--help"],
-        &["solo", "-h", "F"],
-        &["solo", "--version"],
-        &["solo", "--=1", "F"],
-        &["help"],
     ];
-    for words in table {
-        let all = strings(rt.alloc(), words)?;
-        assert_eq!(rt; command_of(rt.alloc(), &all)?, None, "{words:?}");
-    }
+    expect_none(rt.alloc(), &rt, &table)?;
+    Ok(())
+}
+
+#[test]
+fn other_first_words_name_none(rt: HostRuntime) -> Result<(), Fail> {
+    let table: [&[&str]; 5] = [
+        &[],
+        &["Solo", "F"],
+        &["block", "F", "S"],
+        &["help"],
+        &["inspects", "F", "S"],
+    ];
+    expect_none(rt.alloc(), &rt, &table)?;
     Ok(())
 }

@@ -1,6 +1,6 @@
 //! Barriers: stores of other harts that enter memory before they return, sequences that they begin anew, and what is refused meanwhile.
 
-use super::devices::{Files, SURE, made};
+use super::devices::{Files, SURE, first_lines, made};
 use super::requests::{
     BOTH_RESTARTED_SCRIPT, BOTH_RESTARTED_TEXT, KILLED_AT_TAKE_SCRIPT, KILLED_AT_TAKE_TEXT,
     RESTARTS, STORES, TAKEN_SCRIPT, UNREGISTERED_SCRIPT, UNREGISTERED_TEXT,
@@ -46,18 +46,6 @@ fn expect<R: Threads + Wait + Sync + Abort>(
     assert_eq!(rt; outcome.status, 0);
     assert_eq!(rt; outcome.held.as_slice(), text);
     Ok(())
-}
-
-/// The first lines of a script.
-fn first_lines(alloc: Global, script: &[u8], count: usize) -> Result<Vec<u8>, AllocError> {
-    let mut lines = Vec::new(alloc);
-    for line in script
-        .split_inclusive(|byte: &u8| *byte == b'\n')
-        .take(count)
-    {
-        lines.extend_from_slice(line)?;
-    }
-    Ok(lines)
 }
 
 #[test]

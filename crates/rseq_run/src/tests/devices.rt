@@ -1,6 +1,7 @@
 //! Calls over devices in memory.
 
-use crate::top_call::rseq_main;
+use crate::reasons::Reason;
+use crate::top_call::rseq_explained;
 use outside::{MemShelf, MemSink, OpenGate};
 use std::alloc::{AllocError, Global};
 use std::sync::Wait;
@@ -29,10 +30,11 @@ pub(super) const SURE: Failing<'static> = Failing {
     writes: &[],
 };
 
-/// What a call came to: its status, and what the sink holds.
+/// What a call came to: its status, the reason that goes with it, and what the sink holds.
 #[derive(Debug, Drop)]
 pub(super) struct Outcome {
     pub(super) status: u8,
+    pub(super) reason: Option<Reason>,
     pub(super) held: Vec<u8>,
 }
 
@@ -45,6 +47,22 @@ pub(super) fn shelf_files(
     shelf.push((String::from_str(alloc, "F")?, files.program.to_vec(alloc)?))?;
     shelf.push((String::from_str(alloc, "S")?, files.script.to_vec(alloc)?))?;
     Ok(shelf)
+}
+
+/// The first lines of a script.
+pub(super) fn first_lines(
+    alloc: Global,
+    script: &[u8],
+    count: usize,
+) -> Result<Vec<u8>, AllocError> {
+    let mut lines = Vec::new(alloc);
+    for line in script
+        .split_inclusive(|byte: &u8| *byte == b'\n')
+        .take(count)
+    {
+        lines.extend_from_slice(line)?;
+    }
+    Ok(lines)
 }
 
 /// The words of a command line, which spaces separate.
@@ -69,9 +87,10 @@ pub(super) fn made<R: Threads + Wait + Sync>(
     let words = words_of(alloc, line)?;
     let mut shelf = MemShelf::new(alloc, shelf_files(alloc, files)?, reads)?;
     let mut sink = MemSink::new(alloc, ROOM, writes)?;
-    let status = rseq_main(alloc, rt, &words, &mut shelf, &mut sink, &OpenGate);
+    let explained = rseq_explained(alloc, rt, &words, &mut shelf, &mut sink, &OpenGate);
     Ok(Outcome {
-        status,
+        status: explained.status,
+        reason: explained.reason,
         held: sink.held().to_vec(alloc)?,
     })
 }

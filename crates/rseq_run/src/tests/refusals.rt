@@ -2,6 +2,7 @@
 
 use super::devices::{Files, SURE, made};
 use super::programs::{EXIT_TEXT, EXIT_WITH_7, MOVED_SCRIPT, NINE_STORES, NINTH_STORE_SCRIPT};
+use crate::reasons::{FileRole, Reason};
 use std::alloc::{AllocError, Global};
 use std::process::Abort;
 use std::sync::Wait;
@@ -153,6 +154,25 @@ fn files_that_are_missing(rt: HostRuntime) -> Result<(), Fail> {
     Ok(())
 }
 
+/// A call on these files must find the one of this role too big.
+fn expect_too_big<R: Threads + Wait + Sync + Abort>(
+    alloc: Global,
+    rt: &R,
+    line: &str,
+    files: Files,
+    role: FileRole,
+) -> Result<(), AllocError> {
+    let outcome = made(alloc, rt, line, files, SURE)?;
+    assert_eq!(rt; outcome.status, 8, "{line}");
+    assert_eq!(rt; outcome.reason, Some(Reason::TooBig(role)), "{line}");
+    assert_eq!(rt;
+        outcome.held.as_slice(),
+        b"fault big\n".as_slice(),
+        "{line}"
+    );
+    Ok(())
+}
+
 #[test]
 fn files_that_are_too_big(rt: HostRuntime) -> Result<(), Fail> {
     let program = vec![in rt.alloc(); 0u8; MOST_PROGRAM_BYTES + 1]?;
@@ -160,15 +180,15 @@ fn files_that_are_too_big(rt: HostRuntime) -> Result<(), Fail> {
         program: &program,
         script: &[],
     };
-    expect(rt.alloc(), &rt, "solo F", files, 8, b"fault big\n")?;
-    expect(rt.alloc(), &rt, "play F S", files, 8, b"fault big\n")?;
+    expect_too_big(rt.alloc(), &rt, "solo F", files, FileRole::Program)?;
+    expect_too_big(rt.alloc(), &rt, "play F S", files, FileRole::Program)?;
     let script = vec![in rt.alloc(); b'\n'; MOST_SCRIPT_BYTES + 1]?;
     let files = Files {
         program: &EXIT_WITH_7,
         script: &script,
     };
-    expect(rt.alloc(), &rt, "play F S", files, 8, b"fault big\n")?;
-    expect(rt.alloc(), &rt, "blocks F S", files, 8, b"fault big\n")?;
+    expect_too_big(rt.alloc(), &rt, "play F S", files, FileRole::Script)?;
+    expect_too_big(rt.alloc(), &rt, "blocks F S", files, FileRole::Script)?;
     Ok(())
 }
 

@@ -1,5 +1,5 @@
 -- What the parse found is what the words give, and where it is refused they give nothing.
-use Rattle.std.proofs.Common.{◌≡◌, ◌∙◌, inl, inr, ap, sym, subst, refl, true, false, []}
+use Rattle.std.proofs.Common.{◌≡◌, ◌∙◌, inl, inr, ap, sym, subst, refl, true, []}
 use Rattle.clap.specs.Kinds.{HasKind, Kinds}
 use Rattle.clap.specs.Words.{App, fault_of, found_of, is_simple, is_simple_and_free, kind_of}
 use Rattle.clap.specs.Words.{matches_of, rows_of}

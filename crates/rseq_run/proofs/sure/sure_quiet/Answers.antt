@@ -3,6 +3,7 @@ use Rattle.std.proofs.Common.{◌≡◌, inl, inr, ℕ, List, Option, Err, arith
 use Rattle.std.proofs.lemmas.Option.{IfSome_then}
 use Rattle.rseq_run.specs.declared.faults.Fault.TheVariants.{Memory}
 use Rattle.rseq_run.specs.Answers.{IsTold}
+use Rattle.rseq_run.proofs.NeverFailing.{sure_of}
 use Rattle.rseq_run.proofs.sure.sure_quiet.Goals as goal
 
 seven : (old new : Option (List ℕ)) (status : ℕ) → IsTold old new 0 0 (Err Memory) status → status ≡ 7
@@ -12,3 +13,8 @@ seven old new status (inr cut) = absurd (omega (arith, cut.rose (omega arith)))
 pub returns-clause-run : goal.returns-clause-run
 returns-clause-run c = λ is.
     IfSome_then c.rseq_quiet.result (c.rseq_quiet.ensures.run is) (λ status told. seven _ _ status told)
+
+pub returns-clause-outcome : goal.returns-clause-outcome
+returns-clause-outcome c =
+    IfSome_then c.rseq_quiet.result c.rseq_quiet.ensures.outcome
+    (λ status outcome. sure_of _ _ _ _ _ status outcome)

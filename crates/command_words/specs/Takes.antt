@@ -1,0 +1,58 @@
+-- What each command takes behind its word (own): how many names, and which options.
+use Rattle.std.specs.Prelude.{ℕ, Bool, true, false, List, Option, Some, None, if◌then◌else◌, codes}
+use Rattle.std.specs.Str.{bytes_eq}
+use Rattle.command_words.specs.Options.{OptionName, Harts, Frames, Steps, Seed}
+
+-- some of the options
+pub record OptionSet : Type 0 where
+  pub harts : Bool
+  pub frames : Bool
+  pub steps : Bool
+  pub seed : Bool
+
+-- none of them
+abbrev pub no_options : OptionSet
+no_options = record { harts = false; frames = false; steps = false; seed = false }
+
+-- whether an option is among them
+abbrev pub has : OptionSet → OptionName → Bool
+has options Harts = options.harts
+has options Frames = options.frames
+has options Steps = options.steps
+has options Seed = options.seed
+
+-- these and one more
+abbrev pub with_option : OptionSet → OptionName → OptionSet
+with_option options Harts = record options { harts = true }
+with_option options Frames = record options { frames = true }
+with_option options Steps = record options { steps = true }
+with_option options Seed = record options { seed = true }
+
+-- what a command takes: so many names, and these options
+pub record Takes : Type 0 where
+  pub names : ℕ
+  pub options : OptionSet
+
+-- what a run on one hart takes: it chooses nothing
+abbrev pub taken_alone : Takes
+taken_alone = record { names = 1; options = record { harts = false; frames = true; steps = true; seed = false } }
+
+-- what a run on the events of a script takes: it chooses nothing
+abbrev pub taken_on_script : Takes
+taken_on_script =
+    record { names = 2; options = record { harts = true; frames = true; steps = true; seed = false } }
+
+-- what a run by workers takes
+abbrev pub taken_by_workers : Takes
+taken_by_workers =
+    record { names = 1; options = record { harts = true; frames = true; steps = true; seed = true } }
+
+-- what the command of a word takes, if a command has the word
+abbrev pub takes_of : List ℕ → Option Takes
+takes_of word =
+    if bytes_eq word (codes "solo") then Some taken_alone
+    else if bytes_eq word (codes "play") then Some taken_on_script
+    else if bytes_eq word (codes "blocks") then Some taken_on_script
+    else if bytes_eq word (codes "inspect") then Some taken_on_script
+    else if bytes_eq word (codes "run") then Some taken_by_workers
+    else None

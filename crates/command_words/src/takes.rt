@@ -1,0 +1,102 @@
+//! What each command takes behind its word: how many names, and which options.
+
+ghost use Rattle.std.specs.Prelude.{◌≡◌, option_map};
+ghost use Rattle.command_words.specs.Kept.{named, options_kept, takes_kept};
+ghost use Rattle.command_words.specs.Takes.{has, no_options, takes_of, with_option};
+
+use crate::options::OptionName;
+
+/// Some of the options.
+#[derive(Clone, Copy, Debug, Drop)]
+pub(crate) struct OptionSet {
+    harts: bool,
+    frames: bool,
+    steps: bool,
+    seed: bool,
+}
+
+impl OptionSet {
+    /// None of the options.
+    pub(crate) fn none() -> OptionSet
+        ensures { options_kept result ≡ no_options }
+    {
+        OptionSet {
+            harts: false,
+            frames: false,
+            steps: false,
+            seed: false,
+        }
+    }
+
+    /// Whether an option is among these.
+    pub(crate) fn has(self, option: OptionName) -> bool
+        ensures { result ≡ has (options_kept self) (named option) }
+    {
+        match option {
+            OptionName::Harts => self.harts,
+            OptionName::Frames => self.frames,
+            OptionName::Steps => self.steps,
+            OptionName::Seed => self.seed,
+        }
+    }
+
+    /// These and one more.
+    pub(crate) fn with(self, option: OptionName) -> OptionSet
+        ensures { options_kept result ≡ with_option (options_kept self) (named option) }
+    {
+        let mut all = self;
+        match option {
+            OptionName::Harts => all.harts = true,
+            OptionName::Frames => all.frames = true,
+            OptionName::Steps => all.steps = true,
+            OptionName::Seed => all.seed = true,
+        }
+        all
+    }
+}
+
+/// The options of a command that runs on one hart: it chooses nothing.
+const ON_ONE_HART: OptionSet = OptionSet {
+    harts: false,
+    frames: true,
+    steps: true,
+    seed: false,
+};
+
+/// The options of a command that runs on the events of a script: it chooses nothing.
+const ON_A_SCRIPT: OptionSet = OptionSet {
+    harts: true,
+    frames: true,
+    steps: true,
+    seed: false,
+};
+
+/// The options of a command that runs by workers.
+const BY_WORKERS: OptionSet = OptionSet {
+    harts: true,
+    frames: true,
+    steps: true,
+    seed: true,
+};
+
+/// What a command takes behind its word.
+#[derive(Clone, Copy, Debug, Drop)]
+pub(crate) struct Takes {
+    /// How many names it has.
+    pub(crate) names: usize,
+    /// The options that it has.
+    pub(crate) options: OptionSet,
+}
+
+/// What the command of a word takes; None where no command has the word.
+pub(crate) fn takes_of(command: &str) -> Option<Takes>
+    ensures { option_map takes_kept result ≡ takes_of command.now }
+{
+    let (names, options) = match command {
+        "solo" => (1, ON_ONE_HART),
+        "play" | "blocks" | "inspect" => (2, ON_A_SCRIPT),
+        "run" => (1, BY_WORKERS),
+        _ => return None,
+    };
+    Some(Takes { names, options })
+}
