@@ -5,6 +5,7 @@
 #include <stdio.h>
 #include <stdlib.h>
 #include <string.h>
+#include <sys/syscall.h>
 #include <unistd.h>
 
 static unsigned long calls;
@@ -34,9 +35,18 @@ void *realloc(void *old, size_t size) {
     return is_refused() ? NULL : next(old, size);
 }
 
+/* Tells how many calls there were, once. */
 __attribute__((destructor)) static void tell(void) {
+    static int told;
     const char *to = getenv("COUNT_TO");
     char text[32];
-    if (to && write(atoi(to), text, snprintf(text, sizeof text, "%lu", calls)) < 0)
-        _exit(99);
+    if (to && !told++ && write(atoi(to), text, snprintf(text, sizeof text, "%lu", calls)) < 0)
+        syscall(SYS_exit_group, 99);
+}
+
+/* A program may end so, without its destructors. */
+void _exit(int status) {
+    tell();
+    syscall(SYS_exit_group, status);
+    __builtin_unreachable();
 }

@@ -6,7 +6,8 @@
 PROGRAM is crates/rseq_run/out/rseq_run where it isn't given. Wants a C compiler, `cc`, for bench/refuse_allocation.c, which stands
 between the program and the C library. Each command line is run once with no refusal, once for each of its allocations with that one
 refused, and once for each with that one and all later ones refused. The program must end with status 7 and `fault memory` (with
-nothing printed while it takes the words of its command line), or give its own status and text. Ends with 1 at any other answer.
+nothing printed while it takes the words of its command line), or give its own status and text. Standard error has a reason exactly
+where the status isn't 0. Ends with 1 at any other answer.
 """
 import collections
 import os
@@ -29,6 +30,7 @@ LINES = [
     ['play', EXAMPLES / 'hello' / 'hello.elf', EXAMPLES / 'hello' / 'moved.script', '--harts', '2'],
     ['play', EXAMPLES / 'moves' / 'moves.elf', EXAMPLES / 'moves' / 'moved.script'],
     ['play', EXAMPLES / 'moves' / 'moves.elf', EXAMPLES / 'moves' / 'store_waits.script'],
+    ['inspect', EXAMPLES / 'hello' / 'hello.elf', EXAMPLES / 'hello' / 'moved.script', '--harts', '2'],
     ['solo', EXAMPLES / 'check.py'],
     ['solo'],
 ]
@@ -38,8 +40,10 @@ def run(program, shim, line, refuse):
     """The status and the text of the program, and how often it asked for memory."""
     end, start = os.pipe()
     env = {**os.environ, 'LD_PRELOAD': str(shim), 'REFUSE': refuse, 'COUNT_TO': str(start)}
-    ran = subprocess.run([program, *line], stdin=subprocess.DEVNULL, stdout=subprocess.PIPE, pass_fds=[start], env=env)
+    ran = subprocess.run([program, *line], stdin=subprocess.DEVNULL, capture_output=True, pass_fds=[start], env=env)
     os.close(start)
+    if ran.stderr[:10] != (b'rseq_run: ' if ran.returncode else b''):
+        sys.exit(f'{line}, {refuse}: its status is {ran.returncode}, and standard error is {ran.stderr[:60]!r}')
     with os.fdopen(end) as count:
         return (ran.returncode, ran.stdout), int(count.read())
 
