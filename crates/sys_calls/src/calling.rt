@@ -202,7 +202,7 @@ fn dispatch(
 ///
 /// `running` is the set of harts on which a thread runs, one bit each: a barrier is about these. `cid` is the concurrency id that the
 /// calling thread holds, from 0 on: [`rseq`] writes it into the area that it registers.
-/// Refusals come in the order of the manual pages, and a refused call changes a0 and the pc alone.
+/// Which refusal comes first is own (the manual pages leave it open), and a refused call changes a0 and the pc alone.
 pub fn call(
     kernel: &mut Kernel,
     pages: &mut PageMap,

@@ -1,0 +1,109 @@
+#!/usr/bin/env python3
+"""Times the gate: runs `rt ci` at the top of this repository, and prints what each crate took of the processors.
+
+    bench/gate.py [WORD..]
+
+The words are those of `rt ci`; with none they are `--anew`, so that nothing is taken from earlier runs. What `rt ci` prints goes to
+standard error. On standard output comes a table for docs/PERFORMANCE.md: for each crate, in the order of crates.txt, how many processor
+seconds its proof took, how many wrong bodies it has and what their tries took (with the check that they all begin with), and how many
+tests it has and what proving them took; below it all together, the clock, and what the system counted of all processes of the run.
+
+The seconds by crate are those of the provers, which are looked at ten times a second: what one does after its last look isn't seen, so
+their sum is a little below what the system counted. `taskset -c 0,1 bench/gate.py` times the gate on two processors.
+"""
+import os
+import pathlib
+import re
+import resource
+import subprocess
+import sys
+import threading
+import time
+
+TOP = pathlib.Path(__file__).resolve().parent.parent
+TICK = os.sysconf('SC_CLK_TCK')
+PROOF, EDITS, TESTS = 'proofs', 'wrong bodies', 'tests'
+
+
+def kind_of(words, folder):
+    """What a prover is at work on: a crate's proof, its tests, or a wrong body (in a copy of the crate's folder)."""
+    if '/rt-edit-' in folder:
+        return EDITS
+    return TESTS if '--test' in words else PROOF
+
+
+def look(process, session):
+    """Of a prover of this session: when it started, its crate, what it does there, and its processor seconds so far; else None."""
+    counts = (process / 'stat').read_text().rpartition(')')[2].split()
+    words = (process / 'cmdline').read_bytes().decode(errors='replace').split('\0')
+    if int(counts[3]) != session or os.path.basename(words[0]) != 'rattle' or '--crate-name' not in words:
+        return None
+    crate = words[words.index('--crate-name') + 1]
+    return counts[19], crate, kind_of(words, os.readlink(process / 'cwd')), (int(counts[11]) + int(counts[12])) / TICK
+
+
+def watch(session, ended, seen):
+    """Notes of each prover of a session what it was seen to have taken last, until the run has ended."""
+    while not ended.wait(0.1):
+        for process in pathlib.Path('/proc').glob('[0-9]*'):
+            try:
+                found = look(process, session)
+                if found:
+                    seen[process.name, found[0]] = found[1:]
+            except (OSError, ValueError, IndexError):
+                pass  # it ended meanwhile
+
+
+def crates():
+    """The crates of crates.txt, in order."""
+    lines = (TOP / 'crates.txt').read_text().splitlines()
+    return [line.split(':')[0].split()[0] for line in lines if line.split('#')[0].strip()]
+
+
+def count_of_tests(crate):
+    files = (TOP / 'crates' / crate / 'src').rglob('*.rt')
+    return sum(len(re.findall(r'^\s*#\[test\]', file.read_text(), re.M)) for file in files)
+
+
+def table(seen):
+    """The lines of the table, the last one for all crates together."""
+    taken = {}
+    for crate, kind, seconds in seen.values():
+        taken[crate, kind] = taken.get((crate, kind), 0) + seconds
+    yield f'| crate | {PROOF}, s | {EDITS} | s | {TESTS} | s |'
+    yield '|---|---|---|---|---|---|'
+    rows = []
+    for crate in crates():
+        edits = len(list((TOP / 'crates' / crate / 'must-fail').glob('*.edit')))
+        rows.append((taken.get((crate, PROOF), 0), edits, taken.get((crate, EDITS), 0), count_of_tests(crate), taken.get((crate, TESTS), 0)))
+        yield line_of(f'`{crate}`', rows[-1])
+    yield line_of('together', [sum(column) for column in zip(*rows)])
+
+
+def line_of(name, row):
+    return f'| {name} | ' + ' | '.join(f'{value:.0f}' for value in row) + ' |'
+
+
+def main():
+    words, seen, ended = sys.argv[1:] or ['--anew'], {}, threading.Event()
+    start = time.time()
+    gate = subprocess.Popen(['rt', 'ci', *words], cwd=TOP, stdout=sys.stderr, start_new_session=True)
+    watcher = threading.Thread(target=watch, args=(gate.pid, ended, seen))
+    watcher.start()
+    try:
+        status = gate.wait()
+    finally:
+        gate.terminate()
+        ended.set()
+        watcher.join()
+    clock = time.time() - start
+    print('\n'.join(table(seen)))
+    used = resource.getrusage(resource.RUSAGE_CHILDREN)
+    kit = subprocess.run(['rt', 'version'], capture_output=True, text=True).stdout.strip()
+    print(f'\n`rt ci {" ".join(words)}` on {len(os.sched_getaffinity(0))} processors, {kit}, {time.strftime("%d %B %Y")}: '
+          f'{clock / 60:.0f} minutes on the clock, {used.ru_utime + used.ru_stime:.0f} processor seconds, status {status}')
+    return status
+
+
+if __name__ == '__main__':
+    sys.exit(main())
