@@ -15,7 +15,7 @@ use Rattle.block_model.specs.History.{Event, History, ended, here_in_history, re
 use Rattle.block_model.specs.Run.{IsRunHistory}
 use Rattle.block_model.specs.Setting.{Seen, Setting}
 use Rattle.block_model.proofs.Laws.{history-append, length-history, within_limit}
-use Rattle.machine_core.specs.Harts.{file_on}
+use Rattle.process.specs.Harts.{file_on}
 use Rattle.block_view.specs.Passing.{IsDecided, IsMadeAgain, IsMadeBy, inside_at, is_by_signal, is_killed, passed_of, pc_at, would_interrupt}
 use Rattle.block_view.proofs.Interruptions.{interrupts_as}
 use Rattle.block_view.proofs.Made.{made_at, open_at}

@@ -22,7 +22,8 @@ use Rattle.block_model.proofs.Laws.{choice_decides, choice_is_allowed, is_choice
 use Rattle.block_model.specs.declared.refusals.Refused.{Refused}
 use Rattle.mach_types.specs.declared.events.Choice.{Choice}
 use Rattle.machine_core.specs.Credits.{is_picked}
-use Rattle.machine_core.specs.Tied.{IsMachine, answered, past_of, seen, setting_of}
+use Rattle.process.specs.Tied.{answered}
+use Rattle.machine_core.specs.Machines.{IsMachine, past_of, seen, setting_of}
 use Rattle.machine_core.specs.declared.machine.Machine.TheInside.{Inside}
 use Rattle.machine_core.proofs.Chosen.{choice_where, pick_read}
 use Rattle.machine_core.proofs.Readings.{over_read}

@@ -1,38 +1,12 @@
 -- What would be answered to a choice.
-use Rattle.std.proofs.Common.{◌≡◌, ℕ, ◌<◌, false, sym, ap, ◌∙◌, subst, Option, Some, None}
-use Rattle.std.specs.Option.{IsSome}
-use Rattle.mach_types.specs.Kernel.Threads.{state_of}
-use Rattle.mach_types.specs.declared.events.Choice.TheVariants as asked
-use Rattle.mach_types.specs.declared.events.Hart.{Hart}
-use Rattle.mach_types.specs.declared.events.Tid.{Tid}
-use Rattle.mach_types.specs.declared.threads.Saved.{Saved}
-use Rattle.mach_types.specs.declared.threads.ThreadState.TheVariants.{Ready}
-use Rattle.kernel_threads.specs.Table.{saved_of}
-use Rattle.kernel_threads.proofs.Laws.{ready_saves_something}
+use Rattle.std.proofs.Common.{◌≡◌, ℕ, ◌<◌, false}
 use Rattle.block_model.specs.Choosing.{has_ended}
-use Rattle.block_model.specs.Events.{refusal_of}
-use Rattle.block_model.specs.Plain.{here_of, plain_seen}
-use Rattle.block_model.specs.Setting.{Seen}
-use Rattle.block_model.proofs.Laws.{run_ready}
-use Rattle.machine_core.specs.Tied.{IsMachine, IsPlace, past_of, seen, setting_of}
+use Rattle.process.specs.Tied.{IsPlace}
+use Rattle.machine_core.specs.Machines.{IsMachine, past_of, seen, setting_of}
 use Rattle.machine_core.specs.declared.machine.Machine.TheInside.{Inside}
-use Rattle.machine_core.specs.declared.parts.Parts.{Parts}
 use Rattle.machine_core.proofs.Ready.{goes_on, has_room}
-use Rattle.machine_core.proofs.RunBegun.{state_ready}
 use Rattle.machine_core.proofs.Stepping.{place_of}
 
 -- the place of a machine whose run hasn't ended
 pub place_open : (m : Inside) (h : ℕ) → IsMachine m → has_ended (setting_of m) (past_of m) ≡ false → h < m.limits.harts → IsPlace (seen m) m.parts h
 place_open m h machine goes lt = place_of m h machine (goes_on m machine goes) (has_room m goes) lt
-
--- something is saved of a thread that may begin to run
-pub starter_is_saved : (v : Seen) (m : Parts) (h : Hart) (t : Tid) → IsPlace v m h.0 → refusal_of (asked.Run t) (here_of v h.0) ≡ None
-    → (o : Option Saved) → o ≡ saved_of t.0 m.kernel.threads.saved → o ≡ None → ⊥
-starter_is_saved v m h t place free o read none =
-    let ready : state_of t.0 m.kernel.threads.threads ≡ Some Ready =
-    ap (state_of t.0) place.tied.threads ∙ state_ready t.0 (plain_seen v).kernel.threads (run_ready (here_of v h.0) t.0 free).1 in
-    missing o none (subst IsSome (sym read) (ready_saves_something t.0 m.kernel.threads place.tied.table ready))
-  where
-    missing : (o : Option Saved) → o ≡ None → IsSome o → ⊥
-    missing None none some = cc
-    missing (Some x) none some = cc

@@ -46,21 +46,15 @@ use Rattle.block_model.specs.Setting.{Seen, Setting}
 use Rattle.block_model.specs.Sights.{is_local_on, sight_in, thread}
 use Rattle.block_model.specs.Stretches.{Stretch, advanced, file_after, goes_on, longest, stepped}
 use Rattle.block_model.proofs.Laws.{Steps, none_of_both, length-history, same_here, same_state}
-use Rattle.machine_core.specs.Harts.{credit_of, file_of, file_on, hart_at}
+use Rattle.process.specs.Harts.{credit_of, file_of, file_on, hart_at}
 use Rattle.machine_core.specs.Stretches.{executed}
-use Rattle.machine_core.specs.Tied.{IsAfter, IsPlace, answer_to, answered}
-use Rattle.machine_core.specs.declared.parts.Parts.{Parts}
+use Rattle.process.specs.Tied.{IsAfter, IsPlace, answer_to, answered}
+use Rattle.process.specs.declared.parts.Parts.{Parts}
 use Rattle.machine_core.specs.Credits.{credited, followed, generators_after, is_followed, is_picked}
-use Rattle.machine_core.specs.Deeds.{entry_from}
-use Rattle.machine_core.specs.Planned.{IsPlanned}
+use Rattle.process.specs.Deeds.{entry_from}
+use Rattle.process.specs.Planned.{IsPlanned}
 use Rattle.machine_core.proofs.Chosen.{choice_where, pick_read}
-use Rattle.machine_core.proofs.Entries.{changed_as, entry_exec}
-use Rattle.machine_core.proofs.Events.{none_beside}
-use Rattle.machine_core.proofs.HartEvents.{plain_own}
-use Rattle.machine_core.proofs.HartTies.{get_set_other, get_set_same}
-use Rattle.machine_core.proofs.KernelTies.{saved_plain}
-use Rattle.machine_core.proofs.Performing.{performing, plain_next}
-use Rattle.machine_core.proofs.Places.{in_list, runs_there}
+use Rattle.process.proofs.Laws.{changed_as, entry_exec, get_set_other, get_set_same, in_list, none_beside, performing, plain_next, plain_own, runs_there, saved_plain, thread_is}
 use Rattle.machine_core.proofs.Settled.{IsSettled, mapped_itself, not_ended, settled_next, tied_with}
 use Rattle.machine_core.proofs.Sighted.{next_local}
 use Rattle.machine_core.proofs.Stepping.{stepped as stepped_by}
@@ -133,10 +127,6 @@ own_is s log m words h t x way =
     same_Some x (hart_at s (plain_after s log) h.0 (credit_of m.harts.items h.0)) (sym way.there ∙ way.settled.tied.harts h.0 way.lt)
 
 -- so its thread runs there, with its file
-pub thread_is : (o : Option ℕ) (t : Tid) → Some t ≡ option_map thread o → o ≡ Some t.0
-thread_is None t is = cc
-thread_is (Some u) t is = let same : t ≡ thread u = cc in ap Some (sym (ap (λ (z : Tid). z.0) same))
-
 runs_is : (s : Setting) (log : List Entry) (m : Parts) (words : List Generator) (h : Hart) (t : Tid) (x : HartState) → IsOnWay s log m words h t x
     → runs (here_of (at_log s log) h.0) ≡ Some t.0
 runs_is s log m words h t x way =

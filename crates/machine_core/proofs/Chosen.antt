@@ -19,7 +19,7 @@ use Rattle.block_model.specs.Setting.{Setting}
 use Rattle.block_model.specs.Sights.{sight_in}
 use Rattle.block_model.proofs.Laws.{all_chosen_next, luck_of_other, luck_of_own}
 use Rattle.machine_core.specs.Credits.{followed, generators_after, is_followed, is_picked, seen_if, with_credit}
-use Rattle.machine_core.specs.Tied.{generator_at}
+use Rattle.machine_core.specs.Machines.{generator_at}
 
 -- the choice at a place that hasn't ended is the pick's
 pub choice_where : (s : Setting) (h : ℕ) (before : History) → has_ended s before ≡ false → h < s.limits.harts

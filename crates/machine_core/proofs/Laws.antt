@@ -1,2 +1,2 @@
 -- The laws that crates above cite.
-pub use Rattle.machine_core.proofs.Codes.{code_enough}
+pub use Rattle.process.proofs.Laws.{code_enough}

@@ -18,7 +18,7 @@ use Rattle.block_model.specs.Sights.{is_local_on, thread}
 use Rattle.block_model.specs.Stretches.{Stretch, advanced, is_on_credit, lent, lent_to}
 use Rattle.block_model.proofs.Laws.{next_is_none}
 use Rattle.machine_core.specs.Advancing.{made_in}
-use Rattle.machine_core.specs.Harts.{file_on, hart_in, id_on}
+use Rattle.process.specs.Harts.{file_on, hart_in, id_on}
 use Rattle.machine_core.specs.Stretches.{stretch_on}
 use Rattle.machine_core.proofs.Sighted.{next_local}
 

@@ -12,10 +12,10 @@ use Rattle.block_model.specs.History.{History, console, events, file, here_in_hi
 use Rattle.block_model.specs.Deciding.{history, over_at}
 use Rattle.block_model.specs.Plain.{Plain, plain_over, plain_seen}
 use Rattle.block_model.proofs.Laws.{same_here, same_state}
-use Rattle.machine_core.specs.Harts.{credit_of, hart_at, hart_in}
-use Rattle.machine_core.specs.Tied.{IsMachine, seen, setting_of}
+use Rattle.process.specs.Harts.{credit_of, hart_at, hart_in}
+use Rattle.machine_core.specs.Machines.{IsMachine, seen, setting_of}
 use Rattle.machine_core.specs.declared.machine.Machine.TheInside.{Inside}
-use Rattle.machine_core.proofs.MemoryTies.{bytes_held, writable_held}
+use Rattle.process.proofs.Laws.{bytes_held, writable_held}
 
 -- the history of a machine's log, and what a rule may read there
 abbrev pub history_of : Inside → History

@@ -21,10 +21,10 @@ use Rattle.block_model.specs.Setting.{Setting}
 use Rattle.block_model.specs.Stretches.{IsStretchOf, Stretch, advanced, appended, stepped}
 use Rattle.block_model.proofs.Laws.{HasStayed, Steps, events_few, is_lent, length-history, ran_few, stays, steps_of, worked_keeps}
 use Rattle.elf_load.specs.declared.image.ImagePage.{ImagePage}
-use Rattle.machine_core.specs.Harts.{credit_of, file_of, file_on, hart_at}
+use Rattle.process.specs.Harts.{credit_of, file_of, file_on, hart_at}
 use Rattle.machine_core.specs.Stretches.{executed, taken_in}
-use Rattle.machine_core.specs.Tied.{IsMachine, past_of, seen, setting_of}
-use Rattle.machine_core.specs.declared.parts.Parts.{Parts}
+use Rattle.machine_core.specs.Machines.{IsMachine, past_of, seen, setting_of}
+use Rattle.process.specs.declared.parts.Parts.{Parts}
 use Rattle.machine_core.specs.declared.machine.Machine.TheInside.{Inside}
 use Rattle.machine_core.proofs.Advanced.{all_of}
 use Rattle.machine_core.proofs.Appending.{AreAllOn, IsOnWay, all_on, own_is, settled_alike}

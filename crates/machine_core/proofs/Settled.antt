@@ -18,13 +18,14 @@ use Rattle.block_model.specs.Plain.{Plain, plain_after}
 use Rattle.block_model.specs.Setting.{Setting}
 use Rattle.block_model.proofs.Laws.{length-history}
 use Rattle.machine_core.specs.Credits.{followed, generators_after, is_followed}
-use Rattle.machine_core.specs.Harts.{credit_of, hart_at}
-use Rattle.machine_core.specs.Tied.{IsMachine, IsTied, generator_at, past_of, seen, setting_of}
+use Rattle.process.specs.Harts.{credit_of, hart_at}
+use Rattle.process.specs.Tied.{IsTied}
+use Rattle.machine_core.specs.Machines.{IsMachine, generator_at, past_of, seen, setting_of}
 use Rattle.machine_core.specs.declared.machine.Machine.TheInside.{Inside}
-use Rattle.machine_core.specs.declared.parts.Parts.{Parts}
+use Rattle.process.specs.declared.parts.Parts.{Parts}
 use Rattle.machine_core.specs.Credits.{seen_if}
 use Rattle.machine_core.proofs.Chosen.{IsFollowing, chosen_after, credit_after, generator_after}
-use Rattle.machine_core.proofs.Events.{same_length}
+use Rattle.process.proofs.Laws.{same_length}
 use Rattle.machine_core.proofs.Readings.{over_read}
 use Rattle.machine_core.proofs.Stepping.{IsStep}
 

@@ -15,8 +15,8 @@ use Rattle.rv_inst.specs.declared.instruction.Inst.{Inst}
 use Rattle.block_model.specs.Here.{Here, is_writable, memory, runs}
 use Rattle.block_model.specs.Instruction.{fault_by, fetched, instruction_of, next_effect, next_fault, next_instruction}
 use Rattle.block_model.specs.Sights.{effect_here, effect_on, is_deliverable_on, is_local_on, thread}
-use Rattle.machine_core.specs.Delivering.{next_on}
-use Rattle.machine_core.specs.Harts.{file_of, file_on, hart_in}
+use Rattle.process.specs.Delivering.{next_on}
+use Rattle.process.specs.Harts.{file_of, file_on, hart_in}
 
 -- the effect that is read from the file of a hart with a thread
 effect_by : (here : Here) (o : Option ℕ) → is_some (option_map thread o) ≡ true → next_effect here.setting.program.pages (file_on here o) ≡ effect_on here o

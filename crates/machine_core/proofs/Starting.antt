@@ -25,9 +25,10 @@ use Rattle.block_model.specs.Setting.{Setting, setting_of as setting_by}
 use Rattle.chooser.specs.Generators.{first_generators, generator_in}
 use Rattle.block_model.specs.Choosing.{all_chosen, credit_at}
 use Rattle.block_model.specs.Deciding.{history}
-use Rattle.machine_core.specs.Harts.{credit_of, hart_at}
-use Rattle.machine_core.specs.Tied.{IsTied, generator_at}
-use Rattle.machine_core.specs.declared.parts.Parts.{Parts}
+use Rattle.process.specs.Harts.{credit_of, hart_at}
+use Rattle.process.specs.Tied.{IsTied}
+use Rattle.machine_core.specs.Machines.{generator_at}
+use Rattle.process.specs.declared.parts.Parts.{Parts}
 
 -- where all elements are one, each place has that one
 each : {X : Type 0} (x : X) (xs : List X) (i : ℕ) → All (λ y. y ≡ x) xs → i < length xs → slice_get xs i ≡ Some x

@@ -12,9 +12,10 @@ use Rattle.block_model.specs.Plain.{apply, here_of, plain_after, plain_seen}
 use Rattle.block_model.specs.Run.{IsBlockRun}
 use Rattle.block_model.specs.Setting.{Seen}
 use Rattle.block_model.proofs.Laws.{at_kind, decided_is, next_event, run_on}
-use Rattle.machine_core.specs.Tied.{IsAfter, IsMachine, IsPlace, IsTied, answer_to, answered, seen}
+use Rattle.process.specs.Tied.{IsAfter, IsPlace, IsTied, answer_to, answered}
+use Rattle.machine_core.specs.Machines.{IsMachine, seen}
 use Rattle.machine_core.specs.declared.machine.Machine.TheInside.{Inside}
-use Rattle.machine_core.specs.declared.parts.Parts.{Parts}
+use Rattle.process.specs.declared.parts.Parts.{Parts}
 
 answer_ok : (made e : Entry) (o : Option Why) → answered made o ≡ Ok e → unless made o ≡ Ok e
 answer_ok made e None is = cc

@@ -1,7 +1,6 @@
--- Stretches as they are handed out, as plain values; and the code by which they are worked.
-use Rattle.std.specs.Prelude.{ℕ, ◌+◌, ◌==◌, ◌||◌, Bool, false, not, List, [], filter, if◌then◌else◌, length, Option, None, Some, is_some}
+-- Stretches as they are handed out, as plain values.
+use Rattle.std.specs.Prelude.{ℕ, ◌+◌, ◌==◌, ◌||◌, false, not, List, [], if◌then◌else◌, length, Option, None, Some, is_some}
 use Rattle.std.specs.Option.{option_map_or}
-use Rattle.mach_types.specs.Kernel.Pages.{can_execute}
 use Rattle.mach_types.specs.declared.events.Entry.{Entry}
 use Rattle.mach_types.specs.declared.events.Hart.{Hart}
 use Rattle.mach_types.specs.declared.events.Kind.TheVariants as kind
@@ -11,7 +10,7 @@ use Rattle.rv_inst.specs.Class.{sets_register}
 use Rattle.hart_state.specs.declared.hart.HartState.{HartState}
 use Rattle.block_model.specs.Instruction.{next_effect}
 use Rattle.block_model.specs.Stretches as plain
-use Rattle.machine_core.specs.Harts.{file_of}
+use Rattle.process.specs.Harts.{file_of}
 use Rattle.machine_core.specs.declared.stretches.Stretch.{Stretch}
 
 -- a stretch as a plain value
@@ -23,13 +22,6 @@ stretch_of l = record {
   credit = l.credit;
   pcs = l.pcs.items;
 }
-
--- the pages of a program that may be executed, in their order
-abbrev pub is_executable : ImagePage → Bool
-is_executable p = can_execute (Some p.perm)
-
-abbrev pub code_of : List ImagePage → List ImagePage
-code_of pages = filter is_executable pages
 
 -- the entry of an instruction of a thread at a pc
 abbrev pub executed : Hart → Tid → ℕ → Entry

@@ -17,8 +17,6 @@ mod choosing;
 mod lending;
 mod readers;
 
-use crate::code::Code;
-use crate::parts::Parts;
 use arrayvec::ArrayVec;
 use block_model::Refused;
 use chooser::Chooser;
@@ -29,6 +27,7 @@ use kernel_threads::Threads;
 use mach_types::address_space::START_SP;
 use mach_types::{Choice, End, Entry, Hart, Limits, Registered, Regs, Saved, Why};
 use page_map::PageMap;
+use process::{Code, Parts};
 use scheduler::Ready;
 use signals::Signals;
 use std::alloc::{AllocError, Global};
@@ -56,7 +55,7 @@ impl Model for Machine {
 
     ghost Value = { Seen };
 
-    ghost use Rattle.machine_core.specs.Tied.{seen, IsMachine};
+    ghost use Rattle.machine_core.specs.Machines.{seen, IsMachine};
 
     ghost view = { seen };
 

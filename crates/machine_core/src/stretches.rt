@@ -4,10 +4,9 @@ ghost use Rattle.std.specs.Prelude.{◌≡◌};
 ghost use Rattle.block_model.specs.Stretches.{goes_on, gone_on, longest, worked};
 ghost use Rattle.machine_core.specs.Stretches.{stretch_of};
 
-use crate::code::Code;
-use crate::next::effect_at;
 use arrayvec::ArrayVec;
 use mach_types::{Hart, Regs};
+use process::{Code, effect_at};
 use rv_inst::Effect;
 
 /// How many instructions a stretch has at most: the highest credit of a hart.

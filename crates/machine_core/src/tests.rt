@@ -1,15 +1,5 @@
-//! Tests: small programs, with values found by hand.
+//! Tests: small programs whose harts make their own choices, with values found by hand.
 
-mod barriers;
 mod bench;
-mod calls;
 mod choosing;
-mod events;
-mod faults;
-mod pages;
 mod player;
-mod readers;
-mod reservations;
-mod sequences;
-mod signalling;
-mod threads;

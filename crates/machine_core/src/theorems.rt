@@ -4,7 +4,7 @@ ghost use Rattle.std.specs.Prelude.{◌≡◌, ℕ, List, map};
 ghost use Rattle.std.specs.List.Sorted.{IsStrictlyIncreasing};
 ghost use Rattle.elf_load.specs.declared.image.ImagePage.{ImagePage};
 ghost use Rattle.block_model.specs.Stretches.{Stretch, worked};
-ghost use Rattle.machine_core.specs.Stretches.{code_of};
+ghost use Rattle.process.specs.Pages.{code_of};
 
 /// A stretch that is worked over the pages of a program that may be executed is as one that is worked over all its pages.
 pub fn code_is_enough()

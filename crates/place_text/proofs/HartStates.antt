@@ -8,8 +8,8 @@ use Rattle.block_model.specs.Here.{Here, runs, waiting_here}
 use Rattle.block_model.specs.Ids.{id_of}
 use Rattle.block_model.specs.Sequences.{area_here, named_here}
 use Rattle.block_model.specs.Sights.{thread}
-use Rattle.machine_core.specs.Harts.{file_on, hart_in, id_on}
-use Rattle.machine_core.specs.Sequences.{area_on, named_on}
+use Rattle.process.specs.Harts.{file_on, hart_in, id_on}
+use Rattle.process.specs.Sequences.{area_on, named_on}
 use Rattle.place_text.specs.Harts.{barrier_line, hart_text, idle_line, idle_text, kept_here, kept_lines, running_text, store_lines, thread_line}
 use Rattle.place_text.specs.Registers.{register_lines}
 use Rattle.place_text.specs.Sequences.{area_line, names_line}

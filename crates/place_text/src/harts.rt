@@ -3,7 +3,7 @@
 ghost use Rattle.std.specs.Prelude.{◌≡◌, ◌<◌, ◌++◌, Some, OnOk};
 ghost use Rattle.block_model.specs.Acts.{named_at};
 ghost use Rattle.block_model.specs.Here.{runs};
-ghost use Rattle.machine_core.specs.Sequences.{area_on};
+ghost use Rattle.process.specs.Sequences.{area_on};
 ghost use Rattle.place_text.specs.Fields.{behind};
 ghost use Rattle.place_text.specs.Harts as spec;
 ghost use Rattle.place_text.specs.Registers.{register_lines};

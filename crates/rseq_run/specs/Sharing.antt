@@ -8,7 +8,7 @@ use Rattle.elf_load.specs.declared.image.ImagePage.{ImagePage}
 use Rattle.block_model.specs.Choosing.{has_ended, next_entry}
 use Rattle.block_model.specs.Deciding.{history}
 use Rattle.block_model.specs.Setting.{Setting}
-use Rattle.machine_core.specs.Stretches.{code_of}
+use Rattle.process.specs.Pages.{code_of}
 use Rattle.rseq_run.specs.declared.shared.Shared.{Shared}
 
 abbrev pub setting_in : Shared → Setting

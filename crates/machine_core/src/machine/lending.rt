@@ -9,15 +9,15 @@ ghost use Rattle.block_model.specs.Deciding.{history};
 ghost use Rattle.block_model.specs.History.{events};
 ghost use Rattle.block_model.specs.Run.{IsBlockRun};
 ghost use Rattle.block_model.specs.Stretches.{IsStretchOf, advanced, appended, lent};
-ghost use Rattle.machine_core.specs.Stretches.{code_of, executed, stretch_of, stretch_on, taken_in};
+ghost use Rattle.process.specs.Pages.{code_of};
+ghost use Rattle.machine_core.specs.Stretches.{executed, stretch_of, stretch_on, taken_in};
 
-use crate::code::Code;
 use crate::machine::{Machine, append};
-use crate::next::{effect_of_next, is_local};
 use crate::stretches::Stretch;
 use arrayvec::ArrayVec;
 use hart_state::HartState;
 use mach_types::{Entry, Hart, Kind, Tid};
+use process::{Code, effect_of_next, is_local};
 use std::alloc::{AllocError, Global};
 
 /// The stretch of a hart in this state, where a thread runs on it, waits in no barrier, and has the credit for its next instruction.

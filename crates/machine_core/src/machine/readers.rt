@@ -13,15 +13,14 @@ ghost use Rattle.block_model.specs.Deciding.{decide, history};
 ghost use Rattle.block_model.specs.Here.{runs, view};
 ghost use Rattle.block_model.specs.History.{events, file, here_in_history, kernel, ran};
 ghost use Rattle.block_model.specs.Sights.{effect_here, is_deliverable_on, sight_in};
-ghost use Rattle.machine_core.specs.Harts.{hart_in};
-ghost use Rattle.machine_core.specs.Sequences.{area_on};
+ghost use Rattle.process.specs.Harts.{hart_in};
+ghost use Rattle.process.specs.Sequences.{area_on};
 
 use crate::machine::Machine;
-use crate::next::{effect_of_next, is_local, next_of};
-use crate::requests::is_all_taken;
 use block_model::Refused;
 use hart_state::HartState;
 use mach_types::{Area, Choice, Entry, Hart, Named, Sight};
+use process::{effect_of_next, is_all_taken, is_local, next_of};
 use rv_inst::Effect;
 use sys_calls::Kernel;
 

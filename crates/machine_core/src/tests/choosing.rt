@@ -115,16 +115,28 @@ fn expect_solo_events(rt: &impl Abort, alloc: Global, every: usize) -> Result<()
     Ok(())
 }
 
-#[test]
-fn a_hart_makes_its_choices(rt: HostRuntime) -> Result<(), Fail> {
-    expect_solo_events(&rt, rt.alloc(), 16)
+/// A hart that the machine hasn't makes no event, and no hart makes one where the log is full.
+fn expect_no_events(rt: &impl Abort, alloc: Global) -> Result<(), Fail> {
+    let mut player = Player::new(alloc, &SOLO, 2, 0)?;
+    player.expect_idle(rt, 2);
+    player.expect_idle(rt, 255);
+    player.advance_all(rt, 0, 1);
+    player.expect_idle(rt, 1);
+    assert_eq!(rt; player.machine().log().len(), 1);
+    player.advance_all(rt, 0, 1);
+    player.expect_ended(rt, End::Limit);
+    assert_eq!(rt; player.machine().log().len(), 2);
+    Ok(())
 }
 
+/// Also after steps of its own choice, and where it has none.
 #[test]
-fn a_hart_goes_on_after_steps_of_its_own_choice(rt: HostRuntime) -> Result<(), Fail> {
-    expect_solo_events(&rt, rt.alloc(), 1)?;
-    expect_solo_events(&rt, rt.alloc(), 2)?;
-    expect_solo_events(&rt, rt.alloc(), 3)
+fn a_hart_makes_its_choices(rt: HostRuntime) -> Result<(), Fail> {
+    for every in [16, 1, 2, 3] {
+        assert!(rt; 0 < every);
+        expect_solo_events(&rt, rt.alloc(), every)?;
+    }
+    expect_no_events(&rt, rt.alloc())
 }
 
 /// Only what `step` allows goes on from there: no `advance`.
@@ -143,23 +155,8 @@ fn another_choice_leaves_no_credit(rt: HostRuntime) -> Result<(), Fail> {
         (0, Choice::Exec),
     ] {
         bench.make(&rt, hart, choice);
-        assert_eq!(rt; bench.machine().hart(Hart(0)).credit, 0);
-        assert_eq!(rt; bench.machine().hart(Hart(1)).credit, 0);
+        bench.expect_no_credit(&rt);
     }
-    Ok(())
-}
-
-#[test]
-fn a_hart_makes_no_event(rt: HostRuntime) -> Result<(), Fail> {
-    let mut player = Player::new(rt.alloc(), &SOLO, 2, 0)?;
-    player.expect_idle(&rt, 2);
-    player.expect_idle(&rt, 255);
-    player.advance_all(&rt, 0, 1);
-    player.expect_idle(&rt, 1);
-    assert_eq!(rt; player.machine().log().len(), 1);
-    player.advance_all(&rt, 0, 1);
-    player.expect_ended(&rt, End::Limit);
-    assert_eq!(rt; player.machine().log().len(), 2);
     Ok(())
 }
 
@@ -213,29 +210,43 @@ fn stretches_make_the_log_of_single_events(rt: HostRuntime) -> Result<(), Fail> 
     Ok(())
 }
 
-/// After two events hart 0 has the credit for the next three instructions.
-#[test]
-fn a_stretch_fills_the_log_at_most(rt: HostRuntime) -> Result<(), Fail> {
-    for (steps, count) in [(100, 3), (5, 3), (4, 2), (3, 1)] {
-        assert!(rt; 0 < steps && steps < 1000);
-        let mut player = Player::new(rt.alloc(), &PAIR, steps, 0)?;
-        player.advance_all(&rt, 0, 2);
-        assert_eq!(rt; player.append_unworked(&rt, 0), 0);
-        assert_eq!(rt; player.append_worked(0), count, "steps {steps}");
-        assert_eq!(rt; player.machine().log().len(), 2 + count as usize);
+/// How long the log may be, how many events hart 0 makes before a stretch of it is lent, whose event follows if any does, and how
+/// many entries come of the stretch. After two events hart 0 has the credit for the next three instructions, and after seven for
+/// the next four.
+const STRETCHES: [(u32, u8, Option<u8>, u32); 8] = [
+    (100, 2, None, 3),
+    (5, 2, None, 3),
+    (4, 2, None, 2),
+    (3, 2, None, 1),
+    (100, 7, Some(0), 0),
+    (100, 7, Some(1), 4),
+    (9, 7, Some(1), 1),
+    (8, 7, Some(1), 0),
+];
+
+/// Appends a worked stretch of hart 0 after one more event of some hart, or at once, where one without work comes to nothing.
+/// Answers how many entries that was, with those of the other event.
+fn append_with(rt: &impl Abort, player: &mut Player, since: Option<u8>) -> (u32, usize) {
+    match since {
+        Some(hart) => (player.append_after(rt, 0, hart), 1),
+        None => {
+            assert_eq!(rt; player.append_unworked(rt, 0), 0);
+            (player.append_worked(0), 0)
+        }
     }
-    Ok(())
 }
 
-/// After seven events hart 0 has the credit for the next four instructions.
+/// As many as the log has room for, and none where its hart has made an event since.
 #[test]
-fn a_stretch_is_appended_where_its_hart_made_no_event_since(rt: HostRuntime) -> Result<(), Fail> {
-    for (steps, other, count) in [(100, 0, 0), (100, 1, 4), (9, 1, 1), (8, 1, 0)] {
+fn a_stretch_is_appended(rt: HostRuntime) -> Result<(), Fail> {
+    for (steps, before, since, count) in STRETCHES {
         assert!(rt; 0 < steps && steps < 1000);
         let mut player = Player::new(rt.alloc(), &PAIR, steps, 0)?;
-        player.advance_all(&rt, 0, 7);
-        assert_eq!(rt; player.append_after(&rt, 0, other), count, "steps {steps}");
-        assert_eq!(rt; player.machine().log().len(), 8 + count as usize);
+        player.advance_all(&rt, 0, before);
+        let (appended, others) = append_with(&rt, &mut player, since);
+        assert_eq!(rt; appended, count, "steps {steps}");
+        let length = usize::from(before) + others + count as usize;
+        assert_eq!(rt; player.machine().log().len(), length, "steps {steps}");
     }
     Ok(())
 }

@@ -7,7 +7,8 @@ ghost use Rattle.block_model.specs.Choosing.{all_chosen};
 ghost use Rattle.block_model.specs.Deciding.{history};
 ghost use Rattle.block_model.specs.Stretches.{IsStretchOf};
 ghost use Rattle.machine_core.specs.Advancing.{made_in};
-ghost use Rattle.machine_core.specs.Stretches.{code_of, stretch_of};
+ghost use Rattle.process.specs.Pages.{code_of};
+ghost use Rattle.machine_core.specs.Stretches.{stretch_of};
 
 use crate::tests::bench::{Bench, boot};
 use crate::{Code, Machine, Stretch, work};

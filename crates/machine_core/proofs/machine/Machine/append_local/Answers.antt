@@ -3,7 +3,7 @@ use Rattle.hart_state.specs.declared.hart.HartState.{HartState}
 use Rattle.block_model.specs.Deciding.{history}
 use Rattle.block_model.proofs.Laws.{is_lent, length-history}
 use Rattle.machine_core.specs.Stretches.{stretch_of}
-use Rattle.machine_core.specs.Tied.{past_of, setting_of}
+use Rattle.machine_core.specs.Machines.{past_of, setting_of}
 use Rattle.machine_core.proofs.Ready.{appended_is, has_room, makes}
 use Rattle.machine_core.proofs.machine.Machine.append_local.Goals as goal
 

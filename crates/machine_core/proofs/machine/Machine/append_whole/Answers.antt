@@ -1,6 +1,6 @@
 use Rattle.std.proofs.Common.{◌++◌, map, ◌≡◌, refl, sym, ap, ◌∙◌, subst, arith, Some, true}
 use Rattle.machine_core.specs.Stretches.{executed, stretch_of}
-use Rattle.machine_core.specs.Tied.{setting_of}
+use Rattle.machine_core.specs.Machines.{setting_of}
 use Rattle.machine_core.proofs.Advanced.{all_of, chosen_of}
 use Rattle.machine_core.proofs.Ready.{counts_fit, of_machine, ready, taken, with_hart}
 use Rattle.machine_core.proofs.Settled.{IsSettled}

@@ -6,7 +6,7 @@ use Rattle.sys_calls.specs.Registered.{areas_by_number}
 use Rattle.block_model.proofs.Laws.{start_run, start_plain}
 use Rattle.block_model.specs.Setting.{setting_of as setting_by}
 use Rattle.mach_types.specs.Kernel.Barriers.{none_registered}
-use Rattle.machine_core.specs.declared.parts.Parts.{Parts}
+use Rattle.process.specs.declared.parts.Parts.{Parts}
 use Rattle.machine_core.proofs.Starting.{credits_start, generators_start, none_made, tied-start}
 use Rattle.machine_core.proofs.machine.Machine.boot.Goals as goal
 

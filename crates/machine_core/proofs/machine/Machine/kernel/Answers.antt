@@ -7,9 +7,9 @@ use Rattle.scheduler.specs.Holding.{is_held as is_scheduled}
 use Rattle.block_model.specs.Plain.{plain_seen}
 use Rattle.block_model.specs.Record.{Kernel}
 use Rattle.block_model.proofs.Laws.{good_at, live_signals}
-use Rattle.machine_core.specs.Tied.{seen}
+use Rattle.machine_core.specs.Machines.{seen}
 use Rattle.machine_core.proofs.Readings.{console_read, kernel_read, saved_read}
-use Rattle.machine_core.proofs.Signalled.{held_as_live}
+use Rattle.process.proofs.Laws.{held_as_live}
 use Rattle.machine_core.proofs.machine.Machine.kernel.Goals as goal
 
 pub returns-clause-threads : goal.returns-clause-threads

@@ -1,8 +1,8 @@
 use Rattle.std.proofs.Common.{ap, sym, ◌∙◌}
 use Rattle.block_model.specs.Choosing.{IsChosen}
 use Rattle.block_model.specs.History.{events, here_in_history, ran}
-use Rattle.machine_core.specs.Harts.{hart_in}
-use Rattle.machine_core.specs.Tied.{past_of, setting_of}
+use Rattle.process.specs.Harts.{hart_in}
+use Rattle.machine_core.specs.Machines.{past_of, setting_of}
 use Rattle.machine_core.proofs.Advanced.{all_of}
 use Rattle.machine_core.proofs.Chosen.{credit_read}
 use Rattle.machine_core.proofs.Lending.{ended_lends_none, lent_is, past_lends_none}

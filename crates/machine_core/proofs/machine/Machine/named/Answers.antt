@@ -2,8 +2,8 @@
 use Rattle.std.proofs.Common.{◌<◌, ap, ◌∙◌}
 use Rattle.block_model.specs.Plain.{plain_seen}
 use Rattle.block_model.proofs.Laws.{same_here}
-use Rattle.machine_core.specs.Sequences.{named_on}
-use Rattle.machine_core.specs.Tied.{seen, setting_of}
+use Rattle.process.specs.Sequences.{named_on}
+use Rattle.machine_core.specs.Machines.{seen, setting_of}
 use Rattle.machine_core.proofs.machine.Machine.named.Goals as goal
 
 pub returns : goal.returns

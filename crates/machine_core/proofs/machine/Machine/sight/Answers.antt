@@ -14,12 +14,11 @@ use Rattle.block_model.specs.History.{events, ran}
 use Rattle.block_model.specs.Plain.{here_of, plain_seen}
 use Rattle.block_model.specs.Sights.{is_all_taken, is_deliverable_on, thread}
 use Rattle.block_model.proofs.Laws.{same_here}
-use Rattle.machine_core.specs.Holding.{IsNextAt}
-use Rattle.machine_core.specs.Tied.{seen, setting_of}
-use Rattle.machine_core.specs.Harts.{hart_in}
-use Rattle.machine_core.proofs.Planning.{next_at}
+use Rattle.process.specs.Holding.{IsNextAt}
+use Rattle.machine_core.specs.Machines.{seen, setting_of}
+use Rattle.process.specs.Harts.{hart_in}
+use Rattle.process.proofs.Laws.{has_signals, next_at}
 use Rattle.machine_core.proofs.Readings.{bytes_read, here_read, history_of, scheduling_read, writable_read}
-use Rattle.machine_core.proofs.Signalled.{has_signals}
 use Rattle.machine_core.proofs.Sighted.{deliverable_read, idle_read, local_read, none_is, numbered, same_sight, tested, untested}
 use Rattle.machine_core.proofs.machine.Machine.sight.Goals.{then-not-is_idle, else-not-is_idle}
 use Rattle.machine_core.proofs.machine.Machine.sight.Goals as goal

@@ -4,8 +4,9 @@ use Rattle.std.proofs.lemmas.Result.{IfOk-at_ok}
 use Rattle.block_model.specs.Choosing.{has_ended}
 use Rattle.block_model.specs.Events.{done_of}
 use Rattle.block_model.specs.Plain.{here_of}
-use Rattle.machine_core.specs.Tied.{IsAfter, past_of, seen, setting_of}
-use Rattle.machine_core.specs.declared.parts.Parts.{Parts}
+use Rattle.process.specs.Tied.{IsAfter}
+use Rattle.machine_core.specs.Machines.{past_of, seen, setting_of}
+use Rattle.process.specs.declared.parts.Parts.{Parts}
 use Rattle.machine_core.proofs.Advanced.{chosen_of}
 use Rattle.machine_core.proofs.Answering.{place_open}
 use Rattle.machine_core.specs.Credits.{seen_if}

@@ -2,8 +2,9 @@ use Rattle.std.proofs.Common.{◌≡◌, ◌<◌, Some, true, ap, length, refl, 
 use Rattle.std.proofs.lemmas.Result.{IfOk-at_ok}
 use Rattle.block_model.specs.Events.{done_of}
 use Rattle.block_model.specs.Plain.{here_of}
-use Rattle.machine_core.specs.Tied.{IsAfter, past_of, seen, setting_of}
-use Rattle.machine_core.specs.declared.parts.Parts.{Parts}
+use Rattle.process.specs.Tied.{IsAfter}
+use Rattle.machine_core.specs.Machines.{past_of, seen, setting_of}
+use Rattle.process.specs.declared.parts.Parts.{Parts}
 use Rattle.machine_core.proofs.Advanced.{all_of}
 use Rattle.machine_core.specs.Credits.{seen_if}
 use Rattle.machine_core.proofs.Ready.{goes_on, has_room}

@@ -4,7 +4,7 @@ use Rattle.elf_load.specs.declared.image.ImagePage.{ImagePage}
 use Rattle.block_model.specs.Setting.{Setting}
 use Rattle.block_model.specs.Stretches.{IsStretchOf, Stretch, gone_on, longest, worked}
 use Rattle.machine_core.specs.Stretches.{stretch_of}
-use Rattle.machine_core.proofs.Codes.{code_enough}
+use Rattle.process.proofs.Laws.{code_enough}
 use Rattle.machine_core.proofs.tests.player.Player.lend_and_work.Goals as goal
 
 -- more attempts to go on

@@ -1,7 +1,0 @@
-use Rattle.std.proofs.Common.{◌≡◌, take}
-use Rattle.machine_core.specs.Stretches.{code_of}
-use Rattle.machine_core.proofs.code.executable_pages.Given as goal
-
--- those of the pages before are copied
-abbrev pub invariant-loop-page : goal.invariant-loop-page
-invariant-loop-page l = l.copies.items ≡ code_of (take l.page-index l.pages)

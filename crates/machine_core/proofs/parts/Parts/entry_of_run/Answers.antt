@@ -1,6 +1,0 @@
--- The entry of a thread that may begin to run.
-use Rattle.machine_core.proofs.Answering.{starter_is_saved}
-use Rattle.machine_core.proofs.parts.Parts.entry_of_run.Goals as goal
-
-pub unreachable-requires : goal.unreachable-requires
-unreachable-requires c = starter_is_saved c.requires.seen c.args.self.now c.args.hart c.args.tid c.requires.place c.requires.free c.saved.result c.saved.ensures c.in_default.is

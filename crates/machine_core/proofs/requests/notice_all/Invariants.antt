@@ -1,9 +1,0 @@
--- So far the harts before this one have noticed.
-use Rattle.std.proofs.Common.{◌≡◌, ℕ, eqb, slice_get}
-use Rattle.std.specs.Option.{option_map}
-use Rattle.machine_core.specs.Barriers.{noticed_unless}
-use Rattle.machine_core.proofs.Turns.{changed_before}
-use Rattle.machine_core.proofs.requests.notice_all.Given as goal
-
-abbrev pub invariant-loop-k : goal.invariant-loop-k
-invariant-loop-k l = (j : ℕ) → slice_get l.harts j ≡ option_map (changed_before (λ i. noticed_unless (eqb i l.hart.0) l.hart.0) l.k j) (slice_get l.fn.harts j)

@@ -1,6 +1,0 @@
-use Rattle.machine_core.specs.Barriers.{is_busy}
-use Rattle.machine_core.proofs.Ids.{one_more_fits}
-use Rattle.machine_core.proofs.requests.running_harts.Goals as goal
-
-pub overflow_add-running : goal.overflow_add-running
-overflow_add-running c = one_more_fits (is_busy c.args.harts.now) c.loop-hart.hart c.loop-hart.running c.loop-hart-test.true c.loop-hart.invariant

@@ -1,8 +1,0 @@
--- So far the set has those before this one on which threads run.
-use Rattle.std.proofs.Common.{◌≡◌}
-use Rattle.mach_types.specs.Kernel.Barriers.{harts_that}
-use Rattle.machine_core.specs.Barriers.{is_busy}
-use Rattle.machine_core.proofs.requests.running_harts.Given as goal
-
-abbrev pub invariant-loop-hart : goal.invariant-loop-hart
-invariant-loop-hart l = l.running ≡ harts_that (is_busy l.harts) l.hart

@@ -1,5 +1,0 @@
-use Rattle.block_model.proofs.Laws.{with_hart-or}
-use Rattle.machine_core.proofs.requests.with_hart.Goals as goal
-
-pub returns : goal.returns
-returns c = with_hart-or c.args.set c.args.hart.0 c.requires

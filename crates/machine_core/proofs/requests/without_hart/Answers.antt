@@ -1,6 +1,0 @@
-use Rattle.std.proofs.Common.{arith}
-use Rattle.block_model.proofs.Laws.{without_hart-and}
-use Rattle.machine_core.proofs.requests.without_hart.Goals as goal
-
-pub returns : goal.returns
-returns c = without_hart-and c.args.set c.args.hart.0 c.requires (omega arith)

@@ -1,0 +1,70 @@
+-- The entry of an event, and an event that is known to have done this.
+use Rattle.std.proofs.Common.{◌≡◌, ℕ, List, [], ◌∷◌, refl, sym, ap, subst, Option, Some, None}
+use Rattle.std.specs.Option.{option_map}
+use Rattle.mach_types.specs.declared.events.Choice.{Choice}
+use Rattle.mach_types.specs.declared.events.Choice.TheVariants as asked
+use Rattle.mach_types.specs.declared.events.Hart.{Hart}
+use Rattle.mach_types.specs.declared.events.Kind.{Kind}
+use Rattle.mach_types.specs.declared.events.Kind.TheVariants as kind
+use Rattle.mach_types.specs.declared.user_memory.Store.{Store}
+use Rattle.hart_state.specs.declared.hart.HartState.{HartState}
+use Rattle.block_model.specs.Setting.{Seen, Setting}
+use Rattle.block_model.specs.Here.{Done, Here, runs, waiting_here}
+use Rattle.block_model.specs.Events.{refusal_of, done_of}
+use Rattle.block_model.specs.Events.Drain.{refusal_drain_of}
+use Rattle.block_model.specs.Events.Preempt.{refusal_preempt_by}
+use Rattle.block_model.specs.Deciding.{entry_in, number_of, pc_in}
+use Rattle.block_model.specs.Plain.{Plain, here_in_plain, here_of}
+use Rattle.block_model.specs.Sights.{thread}
+use Rattle.block_model.proofs.Laws.{IsFit}
+use Rattle.process.specs.Deeds.{entry_from}
+use Rattle.process.specs.Harts.{file_on, hart_at}
+use Rattle.process.specs.Tied.{IsPlace, IsAfter}
+use Rattle.process.specs.declared.parts.Parts.{Parts}
+use Rattle.process.proofs.Events.{IsChange, changed}
+use Rattle.process.proofs.Places.{fit_at}
+
+-- the entry of a hart's thread
+entry_own : (here : Here) (h : Hart) (k : Kind) (o : Option ℕ) (x : HartState) → h.0 ≡ here.hart → x.running ≡ option_map thread o → x.pc ≡ (file_on here o).pc →
+    entry_from h k x.running x.pc ≡ record { hart = record { 0 = here.hart }; kind = k; tid = record { 0 = number_of o }; pc = pc_in here o }
+entry_own here h k None x hart running pc = rw (running, hart) refl
+entry_own here h k (Some t) x hart running pc = rw (running, hart, pc) refl
+
+pub entry_exec : (credit : ℕ) (s : Setting) (p : Plain) (h : Hart) (x : HartState) → x ≡ hart_at s p h.0 credit → entry_from h kind.Exec x.running x.pc ≡ entry_in asked.Exec (here_in_plain s p h.0)
+entry_exec credit s p h x is = entry_own (here_in_plain s p h.0) h kind.Exec (runs (here_in_plain s p h.0)) x refl (ap (λ (y : HartState). y.running) is) (ap (λ (y : HartState). y.pc) is)
+
+pub entry_drain : (credit : ℕ) (s : Setting) (p : Plain) (h : Hart) (x : HartState) → x ≡ hart_at s p h.0 credit → entry_from h kind.Drain x.running x.pc ≡ entry_in asked.Drain (here_in_plain s p h.0)
+entry_drain credit s p h x is = entry_own (here_in_plain s p h.0) h kind.Drain (runs (here_in_plain s p h.0)) x refl (ap (λ (y : HartState). y.running) is) (ap (λ (y : HartState). y.pc) is)
+
+pub entry_preempt : (credit : ℕ) (s : Setting) (p : Plain) (h : Hart) (x : HartState) → x ≡ hart_at s p h.0 credit → entry_from h kind.Preempt x.running x.pc ≡ entry_in asked.Preempt (here_in_plain s p h.0)
+entry_preempt credit s p h x is = entry_own (here_in_plain s p h.0) h kind.Preempt (runs (here_in_plain s p h.0)) x refl (ap (λ (y : HartState). y.running) is) (ap (λ (y : HartState). y.pc) is)
+
+pub entry_signal : (credit : ℕ) (s : Setting) (p : Plain) (h : Hart) (x : HartState) → x ≡ hart_at s p h.0 credit → entry_from h kind.Signal x.running x.pc ≡ entry_in asked.Signal (here_in_plain s p h.0)
+entry_signal credit s p h x is = entry_own (here_in_plain s p h.0) h kind.Signal (runs (here_in_plain s p h.0)) x refl (ap (λ (y : HartState). y.running) is) (ap (λ (y : HartState). y.pc) is)
+
+pub entry_take : (credit : ℕ) (s : Setting) (p : Plain) (h : Hart) (x : HartState) → x ≡ hart_at s p h.0 credit → entry_from h kind.Take x.running x.pc ≡ entry_in asked.Take (here_in_plain s p h.0)
+entry_take credit s p h x is = entry_own (here_in_plain s p h.0) h kind.Take (runs (here_in_plain s p h.0)) x refl (ap (λ (y : HartState). y.running) is) (ap (λ (y : HartState). y.pc) is)
+
+pub entry_done : (credit : ℕ) (s : Setting) (p : Plain) (h : Hart) (x : HartState) → x ≡ hart_at s p h.0 credit → entry_from h kind.Done x.running x.pc ≡ entry_in asked.Done (here_in_plain s p h.0)
+entry_done credit s p h x is = entry_own (here_in_plain s p h.0) h kind.Done (runs (here_in_plain s p h.0)) x refl (ap (λ (y : HartState). y.running) is) (ap (λ (y : HartState). y.pc) is)
+
+-- where a thread can leave a hart, one runs there
+pub leaver : (here : Here) → refusal_of asked.Preempt here ≡ None → (t : ℕ) × (runs here ≡ Some t)
+leaver here free = go (runs here) refl free
+  where
+    go : (o : Option ℕ) → runs here ≡ o → refusal_preempt_by here o ≡ None → (t : ℕ) × (runs here ≡ Some t)
+    go None at e = cc
+    go (Some t) at e = (t, at)
+
+-- where a store can enter memory, one waits
+pub oldest : (here : Here) → refusal_of asked.Drain here ≡ None → (w : Store) × ((ws : List Store) × (waiting_here here ≡ w ∷ ws))
+oldest here free = go (waiting_here here) refl free
+  where
+    go : (ws : List Store) → waiting_here here ≡ ws → refusal_drain_of ws ≡ None → (w : Store) × ((ws : List Store) × (waiting_here here ≡ w ∷ ws))
+    go [] at e = cc
+    go (w ∷ ws) at e = (w, (ws, at))
+
+-- the parts after an event that is known to have done this
+pub changed_as : (v : Seen) (h : ℕ) (c : Choice) (d : Done) (m m' : Parts) (y : HartState) → IsPlace v m h → refusal_of c (here_of v h) ≡ None → done_of c (here_of v h) ≡ d → IsChange v h d m m' y → IsAfter v h (done_of c (here_of v h)) m m'
+changed_as v h c d m m' y place free same is =
+    subst (λ e. IsAfter v h e m m') (sym same) (changed v h d m m' y place (subst (IsFit (here_of v h)) same (fit_at v m h c place free)) is)

@@ -1,0 +1,129 @@
+-- What ties the parts after an event, for every kind: what is to be shown of each part.
+use Rattle.std.proofs.Common.{◌≡◌, ℕ, List, [], ◌∷◌, length, refl, sym, ap, ◌∙◌, Bool, true, false, cond, eqb, Option, Some, None, slice_get, set, suc, is_some, ◌≢◌, eq-eqb, inl, inr}
+use Rattle.std.specs.Option.{option_map, option_or}
+use Rattle.std.proofs.lemmas.Bool.{cases_eq, ne_eqb}
+use Rattle.std.proofs.lemmas.List.{length-set}
+use Rattle.mach_types.specs.Bytes.{written}
+use Rattle.mach_types.specs.Kernel.Threads.{is_stuck}
+use Rattle.mach_types.specs.declared.limits.End.{End}
+use Rattle.mach_types.specs.declared.limits.End.TheVariants as over
+use Rattle.hart_state.specs.declared.hart.HartState.{HartState}
+use Rattle.kernel_threads.specs.Table.{IsTable}
+use Rattle.sys_calls.specs.Made.{AreSaved, HoldsPages}
+use Rattle.sys_calls.specs.Registered.{areas_by_number}
+use Rattle.block_model.specs.Setting.{Seen}
+use Rattle.block_model.specs.Here.{Done}
+use Rattle.block_model.specs.History.{file_among}
+use Rattle.block_model.specs.Deciding.{final}
+use Rattle.block_model.specs.Plain.{Plain, apply, here_of, plain_seen}
+use Rattle.block_model.proofs.Laws.{IsFit}
+use Rattle.process.specs.Losing.{lost_by_all, lost_unless}
+use Rattle.process.specs.Harts.{credit_of}
+use Rattle.process.specs.Tied.{IsPlace, IsAfter, IsReadable, IsTied}
+use Rattle.process.specs.declared.parts.Parts.{Parts}
+use Rattle.process.proofs.HartTies.{KeepsIds, beside, beside_unless, credits_kept, own_after, harts_tied}
+
+-- lists with the same places filled are equally long
+pub same_length : (xs ys : List HartState) → ((k : ℕ) → is_some (slice_get ys k) ≡ is_some (slice_get xs k)) → length ys ≡ length xs
+same_length [] [] same = refl
+same_length [] (y ∷ ys) same = let bad : true ≡ false = same 0 in absurd (cc)
+same_length (x ∷ xs) [] same = let bad : false ≡ true = same 0 in absurd (cc)
+same_length (x ∷ xs) (y ∷ ys) same = ap suc (same_length xs ys (λ k. same (suc k)))
+
+-- each hart but one lost what was written
+abbrev pub HaveLost : ℕ → Done → List HartState → List HartState → Type 0
+HaveLost h d xs ys = (k : ℕ) → slice_get ys k ≡ option_map (lost_unless (eqb k h) d.entered) (slice_get xs k)
+
+mapped_is : (f : HartState → HartState) (o : Option HartState) → is_some (option_map f o) ≡ is_some o
+mapped_is f None = refl
+mapped_is f (Some x) = refl
+
+-- where nothing was written they are as they were
+pub none_lost : (h : ℕ) (d : Done) (xs : List HartState) → d.entered ≡ [] → HaveLost h d xs xs
+none_lost h d xs none k = rw none (keep (eqb k h) (slice_get xs k))
+  where
+    keep : (b : Bool) (o : Option HartState) → o ≡ option_map (lost_unless b []) o
+    keep true None = refl
+    keep false None = refl
+    keep true (Some x) = refl
+    keep false (Some x) = refl
+
+-- each hart but one is as an event of that one leaves it
+abbrev pub AreBeside : ℕ → Done → List HartState → List HartState → Type 0
+AreBeside h d xs ys = (k : ℕ) → slice_get ys k ≡ option_map (beside_unless (eqb k h) k h d) (slice_get xs k)
+
+-- an event that begins no barrier and takes no requests
+pub record IsQuiet (d : Done) : Type 0 where
+  pub none_begun : d.barrier ≡ None
+  pub none_taken : d.took ≡ false
+
+-- leaves of them what was not written
+beside_quiet : (k h : ℕ) (d : Done) (x : HartState) → k ≢ h → IsQuiet d → lost_by_all d.entered x ≡ beside k h d x
+beside_quiet k h d x ne quiet = rw (ne_eqb h k (λ e. ne (sym e)), quiet.none_begun, quiet.none_taken) refl
+
+quiet_one : (k h : ℕ) (d : Done) (o : Option HartState) → IsQuiet d → option_map (lost_unless (eqb k h) d.entered) o ≡ option_map (beside_unless (eqb k h) k h d) o
+quiet_one k h d None quiet = refl
+quiet_one k h d (Some x) quiet = elim (cases_eq k h) [
+  | inl same ↦ ap (λ b. Some (lost_unless b d.entered x)) (eq-eqb k h same) ∙ sym (ap (λ b. Some (beside_unless b k h d x)) (eq-eqb k h same))
+  | inr ne ↦
+      ap (λ b. Some (lost_unless b d.entered x)) (ne_eqb k h ne) ∙ ap Some (beside_quiet k h d x ne quiet)
+      ∙ sym (ap (λ b. Some (beside_unless b k h d x)) (ne_eqb k h ne))
+]
+
+pub quietly : (h : ℕ) (d : Done) (xs ys : List HartState) → IsQuiet d → HaveLost h d xs ys → AreBeside h d xs ys
+quietly h d xs ys quiet lost k = lost k ∙ quiet_one k h d (slice_get xs k) quiet
+
+pub none_beside : (h : ℕ) (d : Done) (xs : List HartState) → IsQuiet d → d.entered ≡ [] → AreBeside h d xs xs
+none_beside h d xs quiet none = quietly h d xs xs quiet (none_lost h d xs none)
+
+-- the parts changed as an event does: its hart is y
+pub record IsChange (v : Seen) (h : ℕ) (d : Done) (m m' : Parts) (y : HartState) : Type 0 where
+  pub own : y ≡ own_after v.setting (plain_seen v) h d (credit_of m.harts.items h)
+  pub harts : AreBeside h d (set m.harts.items h y) m'.harts.items
+  pub pages : HoldsPages d.kernel.pages v.setting.program.break_at (λ a. written d.entered a ((plain_seen v).byte a)) m'.pages
+  pub readable : IsReadable m'.pages
+  pub threads : m'.kernel.threads.threads ≡ d.kernel.threads
+  pub signals : m'.kernel.signals ≡ d.kernel.signals
+  pub scheduling : m'.kernel.ready ≡ d.kernel.scheduling
+  pub areas : areas_by_number m'.kernel.areas.items ≡ d.kernel.areas
+  pub ids : KeepsIds (plain_seen v) h d
+  pub registered : m'.kernel.registered ≡ d.kernel.barriers
+  pub console : m'.kernel.console ≡ d.kernel.console
+  pub table : IsTable m'.kernel.threads
+  pub saved : AreSaved (λ t. file_among d.files t ((plain_seen v).file t)) m'.kernel.threads
+  pub ended : m'.ended ≡ final d.ended d.kernel
+
+-- no event has ended the process where the run goes on
+pub open_process : (process : Option End) (rest : Option End) → option_or process rest ≡ None → process ≡ None
+open_process None rest goes = refl
+open_process (Some e) rest goes = cc
+
+or_none : (o p : Option End) → p ≡ None → option_or o p ≡ o
+or_none None p none = none
+or_none (Some e) p none = refl
+
+pub changed : (v : Seen) (h : ℕ) (d : Done) (m m' : Parts) (y : HartState) → IsPlace v m h → IsFit (here_of v h) d → IsChange v h d m m' y → IsAfter v h d m m'
+changed v h d m m' y place fit is = record { tied = tied; credits = credits_kept h d m.harts.items m'.harts.items y (ap (λ (x : HartState). x.credit) is.own) is.harts }
+  where
+    p : Plain
+    p = plain_seen v
+
+    if_stuck : Bool → Option End
+    if_stuck b = cond b (Some over.Stuck) None
+
+    tied : IsTied v.setting (apply h d p) m'
+    tied = record {
+      all_harts = same_length (set m.harts.items h y) m'.harts.items (λ k. ap is_some (is.harts k) ∙ mapped_is (beside_unless (eqb k h) k h d) (slice_get (set m.harts.items h y) k)) ∙ (length-set m.harts.items h y ∙ place.tied.all_harts);
+      harts = harts_tied v.setting p h d m.harts.items m'.harts.items y place.tied.harts place.lt fit is.ids is.own is.harts;
+      pages = is.pages;
+      readable = is.readable;
+      threads = is.threads;
+      signals = is.signals;
+      scheduling = is.scheduling;
+      areas = is.areas;
+      registered = is.registered;
+      console = is.console;
+      table = is.table;
+      saved = is.saved;
+      ended = is.ended ∙ ap (λ o. final o d.kernel) (sym (or_none d.ended p.ended (open_process p.ended (if_stuck (is_stuck p.kernel.threads)) place.goes)));
+    }

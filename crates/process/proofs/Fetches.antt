@@ -1,0 +1,94 @@
+-- The instruction word at an address that is a multiple of 4: its four bytes lie in one page.
+use Rattle.std.proofs.Common.{◌≡◌, ◌≢◌, ℕ, ◌+◌, ◌*◌, ◌/◌, ◌%◌, ◌<◌, ◌≤◌, ◌&&◌, inl, inr, List, [], ◌∷◌, map, Option, Some, None, Bool, true, false, cond, nat_le, nat_lt, nat_eq, nat_cmp, is_le, is_lt, Less, Equal, refl, ap, sym, ◌∙◌, arith, eq-eqb, slice_index}
+use Rattle.std.specs.Cmp.{nat_cmp_is}
+use Rattle.std.specs.Option.{option_map}
+use Rattle.std.proofs.lemmas.Bool.{ne_eqb, cases_eq, cases_lt, le-leb, lt-leb, le-ltb, lt-ltb}
+use Rattle.mach_types.specs.Bytes.{joined}
+use Rattle.mach_types.specs.Kernel.Pages.{can_execute, is_in, permission_of}
+use Rattle.elf_load.specs.declared.image.ImagePage.{ImagePage}
+use Rattle.elf_load.specs.Start.{code_byte, code_word, image_byte, image_run, page_byte, page_of, return_run, stack_run, start_runs}
+use Rattle.process.specs.Pages.{word_in, word_of_page}
+
+-- a byte of page n at an offset, where it may be executed
+abbrev pub code_in : List ImagePage → ℕ → ℕ → Option ℕ
+code_in pages n offset = cond (can_execute (permission_of (start_runs pages) n)) (Some (page_byte pages n offset)) None
+
+in_page : (pages : List ImagePage) (a n o : ℕ) → a / 4096 ≡ n → a % 4096 ≡ o → code_byte pages a ≡ code_in pages n o
+in_page pages a n o num off = ap (λ m. code_in pages m (a % 4096)) num ∙ ap (code_in pages n) off
+
+-- the four bytes of an aligned word
+pub four_bytes : (pages : List ImagePage) (a : ℕ) → a % 4 ≡ 0 →
+    code_word pages a ≡ joined (code_in pages (a / 4096) (a % 4096)) (joined (code_in pages (a / 4096) (a % 4096 + 1)) (joined (code_in pages (a / 4096) (a % 4096 + 2)) (joined (code_in pages (a / 4096) (a % 4096 + 3)) (Some 0))))
+four_bytes pages a aligned =
+    let e0 : code_byte pages a ≡ code_in pages (a / 4096) (a % 4096) = in_page pages a (a / 4096) (a % 4096) refl refl in
+    let e1 : code_byte pages (a + 1) ≡ code_in pages (a / 4096) (a % 4096 + 1) = in_page pages (a + 1) (a / 4096) (a % 4096 + 1) (omega arith) (omega arith) in
+    let e2 : code_byte pages (a + 1 + 1) ≡ code_in pages (a / 4096) (a % 4096 + 2) = in_page pages (a + 1 + 1) (a / 4096) (a % 4096 + 2) (omega arith) (omega arith) in
+    let e3 : code_byte pages (a + 1 + 1 + 1) ≡ code_in pages (a / 4096) (a % 4096 + 3) = in_page pages (a + 1 + 1 + 1) (a / 4096) (a % 4096 + 3) (omega arith) (omega arith) in
+    ap (λ x. joined x (joined (code_byte pages (a + 1)) (joined (code_byte pages (a + 1 + 1)) (joined (code_byte pages (a + 1 + 1 + 1)) (Some 0))))) e0
+    ∙ ap (λ x. joined (code_in pages (a / 4096) (a % 4096)) (joined x (joined (code_byte pages (a + 1 + 1)) (joined (code_byte pages (a + 1 + 1 + 1)) (Some 0))))) e1
+    ∙ ap (λ x. joined (code_in pages (a / 4096) (a % 4096)) (joined (code_in pages (a / 4096) (a % 4096 + 1)) (joined x (joined (code_byte pages (a + 1 + 1 + 1)) (Some 0))))) e2
+    ∙ ap (λ x. joined (code_in pages (a / 4096) (a % 4096)) (joined (code_in pages (a / 4096) (a % 4096 + 1)) (joined (code_in pages (a / 4096) (a % 4096 + 2)) (joined x (Some 0))))) e3
+
+one_page : (m n : ℕ) → (nat_le m n && nat_lt n (m + 1)) ≡ nat_eq m n
+one_page m n = elim (cases_lt m n) [
+  | inl less ↦ rw (le-leb m n (omega arith), le-ltb n (m + 1) (omega arith), ne_eqb m n (λ e. omega arith)) refl
+  | inr not_less ↦ elim (cases_eq m n) [
+    | inl same ↦ rw (le-leb m n (omega arith), lt-ltb n (m + 1) (omega arith), eq-eqb m n same) refl
+    | inr two ↦ rw (lt-leb m n (omega arith), ne_eqb m n two) refl
+  ]
+]
+
+abbrev image_permission : Option ImagePage → Option ℕ
+image_permission o = option_map (λ (p : ImagePage). p.perm) o
+
+chosen : (b : Bool) (p : ImagePage) (o : Option ℕ) (rest : Option ImagePage) → o ≡ image_permission rest → cond b (Some p.perm) o ≡ image_permission (cond b (Some p) rest)
+chosen true p o rest same = refl
+chosen false p o rest same = same
+
+-- the permission of a page of an image
+permission-image : (pages : List ImagePage) (n : ℕ) → permission_of (map image_run pages) n ≡ image_permission (page_of pages n)
+permission-image [] n = refl
+permission-image (p ∷ pages) n =
+    ap (λ b. let r : Option ℕ = cond b (Some p.perm) (permission_of (map image_run pages) n) in r) (one_page p.number n)
+    ∙ chosen (nat_eq p.number n) p (permission_of (map image_run pages) n) (page_of pages n) (permission-image pages n)
+
+last : (x b0 b1 b2 b3 : ℕ) → b0 + 256 * (b1 + 256 * (b2 + 256 * (b3 + 256 * 0))) ≡ b0 + 256 * (b1 + 256 * (b2 + 256 * b3))
+last x b0 b1 b2 b3 = omega arith
+
+-- a byte of a page of an image, where it may be executed
+abbrev image_code : Option ImagePage → Option ℕ → ℕ → Option ℕ
+image_code o permission k = cond (can_execute permission) (Some (image_byte o k)) None
+
+by_page : (o : Option ImagePage) (permission : Option ℕ) (k : ℕ) → permission ≡ image_permission o →
+    joined (image_code o permission k) (joined (image_code o permission (k + 1)) (joined (image_code o permission (k + 2)) (joined (image_code o permission (k + 3)) (Some 0)))) ≡ word_of_page o k
+by_page None permission k is = rw is refl
+by_page (Some p) permission k is = rw is (go (can_execute (Some p.perm)))
+  where
+    go : (b : Bool) → joined (cond b (Some (slice_index p.bytes k)) None) (joined (cond b (Some (slice_index p.bytes (k + 1))) None) (joined (cond b (Some (slice_index p.bytes (k + 2))) None) (joined (cond b (Some (slice_index p.bytes (k + 3))) None) (Some 0)))) ≡ cond b (Some (word_in p.bytes k)) None
+    go true = ap Some (last 0 _ _ _ _)
+    go false = refl
+
+is_le-true : (m n : ℕ) → m ≤ n → is_le (nat_cmp m n) ≡ true
+is_le-true m n le = elim (cases_eq m n) [
+  | inl same ↦ sym (ap is_le (nat_cmp_is m n Equal same))
+  | inr two ↦ sym (ap is_le (nat_cmp_is m n Less (omega arith)))
+]
+
+is_lt-true : (m n : ℕ) → m < n → is_lt (nat_cmp m n) ≡ true
+is_lt-true m n lt = sym (ap is_lt (nat_cmp_is m n Less lt))
+
+-- a page that a comparison of its number finds outside the stack
+pub not_stack : (n : ℕ) (b : Bool) → b ≡ (is_le (nat_cmp 0x3FFFF00 n) && is_lt (nat_cmp n 0x3FFFF40)) → b ≡ false → is_in stack_run n ≡ false
+not_stack n b is outside = elim (cases_lt n 0x3FFFF00) [
+  | inl low ↦ rw (lt-leb 0x3FFFF00 n low) refl
+  | inr from ↦ elim (cases_lt n 0x3FFFF40) [
+    | inl to ↦ let inside : b ≡ true = is ∙ (rw (is_le-true 0x3FFFF00 n from, is_lt-true n 0x3FFFF40 to) refl) in absurd (cc)
+    | inr past ↦ rw (le-leb 0x3FFFF00 n from, le-ltb n 0x3FFFF40 past) refl
+  ]
+]
+
+-- a page of the image
+pub word_of_image : (pages : List ImagePage) (a : ℕ) → a % 4 ≡ 0 → is_in stack_run (a / 4096) ≡ false → a / 4096 ≢ 0x3FFFFF0 → code_word pages a ≡ word_of_page (page_of pages (a / 4096)) (a % 4096)
+word_of_image pages a aligned stack other =
+    let not_return : is_in return_run (a / 4096) ≡ false = one_page 0x3FFFFF0 (a / 4096) ∙ ne_eqb 0x3FFFFF0 (a / 4096) (λ e. other (sym e)) in
+    four_bytes pages a aligned ∙ (rw (stack, not_return) (by_page (page_of pages (a / 4096)) (permission_of (map image_run pages) (a / 4096)) (a % 4096) (permission-image pages (a / 4096))))

@@ -1,0 +1,105 @@
+-- The own hart after each kind of event.
+use Rattle.std.proofs.Common.{◌≡◌, ℕ, ◌+◌, ◌<◌, List, ◌∷◌, drop, refl, ◌∙◌, arith, true, Option, Some, None, append-nil, eq-eqb}
+use Rattle.std.specs.Option.{option_map}
+use Rattle.mach_types.specs.Registers.{no_registers}
+use Rattle.mach_types.specs.declared.sequences.Outcome.{Outcome as Comes}
+use Rattle.mach_types.specs.declared.threads.Saved.{Saved}
+use Rattle.mach_types.specs.declared.user_memory.Store.{Store}
+use Rattle.mach_types.specs.Kernel.Threads.{is_ready}
+use Rattle.hart_state.specs.declared.hart.HartState.{HartState}
+use Rattle.hart_state.specs.State.{hart_after}
+use Rattle.rv_inst.specs.Execution.{Outcome}
+use Rattle.block_model.specs.Setting.{Setting}
+use Rattle.block_model.specs.Here.{runs}
+use Rattle.block_model.specs.Tables.{IsTables}
+use Rattle.block_model.specs.Plain.{Plain, here_in_plain}
+use Rattle.block_model.specs.Sights.{thread}
+use Rattle.block_model.specs.Calls.Answers.{killed_in_call}
+use Rattle.block_model.specs.Events.Exec.{by_call, by_outcome}
+use Rattle.block_model.specs.Events.Drain.{done_drain_of}
+use Rattle.block_model.specs.Events.Preempt.{done_preempt_by}
+use Rattle.block_model.specs.Events.Run.{done_killed, done_running}
+use Rattle.block_model.specs.History.{file_among}
+use Rattle.block_model.specs.Ids.{id_of, with_id}
+use Rattle.block_model.specs.Sequences.{files_interrupted}
+use Rattle.block_model.proofs.Laws.{left_idle, ran_runs}
+use Rattle.process.specs.Beginning.{begun_with, begun_without}
+use Rattle.process.specs.Harts.{file_on, hart_at, id_on}
+use Rattle.process.proofs.Executed.{fault_killing, fault_pending}
+use Rattle.process.proofs.HartTies.{own_after}
+
+pub zero_more : (n : ℕ) → n + 0 ≡ n
+zero_more n = omega arith
+
+-- a hart of these parts, whose barriers are those of hart h of the plain machine
+abbrev made_of : Plain → ℕ → Saved → Option ℕ → List Store → Option ℕ → ℕ → ℕ → ℕ → ℕ → HartState
+made_of p h f o buffer reserved ran events credit cid = record {
+  file = f.file;
+  pc = f.pc;
+  buffer = buffer;
+  running = option_map thread o;
+  requests = p.requests h;
+  restart = p.restart h;
+  waits = p.awaits h;
+  reserved = reserved;
+  ran = ran;
+  credit = credit;
+  events = events;
+  cid = cid;
+}
+
+-- drain
+pub drain_own : (credit : ℕ) (s : Setting) (p : Plain) (h : ℕ) (w : Store) (ws : List Store) (x y : HartState) → x ≡ hart_at s p h credit →
+    y ≡ record x { buffer = drop 1 x.buffer; events = x.events + 1 } → y ≡ own_after s p h (done_drain_of (here_in_plain s p h) (w ∷ ws)) credit
+drain_own credit s p h w ws x y at is = is ∙ rw (at, append-nil, zero_more (p.ran h)) (go (runs (here_in_plain s p h)))
+  where
+    go : (o : Option ℕ) → made_of p h (file_on (here_in_plain s p h) o) o (drop 1 (p.waiting h)) (p.reserved h) (p.ran h) (p.events h + 1) credit (id_on (here_in_plain s p h) o)
+        ≡ made_of p h (file_on (here_in_plain s p h) o) o (drop 1 (p.waiting h)) (p.reserved h) (p.ran h) (p.events h + 1) credit (id_on (here_in_plain s p h) o)
+    go None = refl
+    go (Some t) = refl
+
+-- preempt
+pub preempt_own : (credit : ℕ) (s : Setting) (p : Plain) (h t : ℕ) (x y : HartState) → x ≡ hart_at s p h credit → IsTables s.limits.harts p.kernel.threads p.kernel.scheduling → runs (here_in_plain s p h) ≡ Some t →
+    y ≡ record x { file = no_registers; pc = 0; running = None; reserved = None; cid = 0; events = x.events + 1 } → y ≡ own_after s p h (done_preempt_by (here_in_plain s p h) (Some t)) credit
+preempt_own credit s p h t x y at tables runs is =
+    is ∙ rw (at, append-nil, zero_more (p.ran h), left_idle s.limits.harts h t p.kernel.threads p.kernel.scheduling tables runs) refl
+
+-- run, where the thread begins to run, and where the process is killed
+pub run_own : (credit : ℕ) (s : Setting) (p : Plain) (h t : ℕ) (o : Comes) (saved : Saved) (id : ℕ) (x y : HartState) → x ≡ hart_at s p h credit → IsTables s.limits.harts p.kernel.threads p.kernel.scheduling →
+    is_ready t p.kernel.threads ≡ true → runs (here_in_plain s p h) ≡ None → h < s.limits.harts → saved ≡ file_among (files_interrupted (here_in_plain s p h) t o) t (p.file t) → id ≡ id_of t (with_id t p.kernel.ids) →
+    y ≡ begun_with (thread t) saved id x → y ≡ own_after s p h (done_running (here_in_plain s p h) t o) credit
+run_own credit s p h t o saved id x y at tables ready idle lt kept its is =
+    is ∙ rw (at, append-nil, ran_runs s.limits.harts h t p.kernel.threads p.kernel.scheduling tables ready idle lt, kept, its) refl
+
+pub killed_own : (credit : ℕ) (s : Setting) (p : Plain) (h t : ℕ) (o : Comes) (x y : HartState) → x ≡ hart_at s p h credit → runs (here_in_plain s p h) ≡ None →
+    y ≡ begun_without x → y ≡ own_after s p h (done_killed (here_in_plain s p h) t o) credit
+killed_own credit s p h t o x y at idle is = is ∙ rw (at, append-nil, idle) refl
+
+-- a fault, whether its thread has a handler or not
+pub pending_own : (credit : ℕ) (s : Setting) (p : Plain) (h t signal : ℕ) (x y : HartState) → x ≡ hart_at s p h credit →
+    y ≡ record x { ran = x.ran + 1; events = x.events + 1 } → y ≡ own_after s p h (fault_pending (here_in_plain s p h) t signal) credit
+pending_own credit s p h t signal x y at is = is ∙ rw (at, append-nil) (go (runs (here_in_plain s p h)))
+  where
+    go : (o : Option ℕ) → made_of p h (file_on (here_in_plain s p h) o) o (p.waiting h) (p.reserved h) (p.ran h + 1) (p.events h + 1) credit (id_on (here_in_plain s p h) o)
+        ≡ made_of p h (file_on (here_in_plain s p h) o) o (p.waiting h) (p.reserved h) (p.ran h + 1) (p.events h + 1) credit (id_on (here_in_plain s p h) o)
+    go None = refl
+    go (Some t) = refl
+
+pub killing_own : (credit : ℕ) (s : Setting) (p : Plain) (h signal : ℕ) (x y : HartState) → x ≡ hart_at s p h credit →
+    y ≡ record x { ran = x.ran + 1; events = x.events + 1 } → y ≡ own_after s p h (fault_killing (here_in_plain s p h) signal) credit
+killing_own credit s p h signal x y at is = is ∙ rw (at, append-nil) (go (runs (here_in_plain s p h)))
+  where
+    go : (o : Option ℕ) → made_of p h (file_on (here_in_plain s p h) o) o (p.waiting h) (p.reserved h) (p.ran h + 1) (p.events h + 1) credit (id_on (here_in_plain s p h) o)
+        ≡ made_of p h (file_on (here_in_plain s p h) o) o (p.waiting h) (p.reserved h) (p.ran h + 1) (p.events h + 1) credit (id_on (here_in_plain s p h) o)
+    go None = refl
+    go (Some t) = refl
+
+-- an instruction other than a call
+pub plain_own : (credit : ℕ) (s : Setting) (p : Plain) (h t : ℕ) (o : Outcome) (x y : HartState) → x ≡ hart_at s p h credit → runs (here_in_plain s p h) ≡ Some t →
+    y ≡ record (hart_after x o) { ran = x.ran + 1; events = x.events + 1 } → y ≡ own_after s p h (by_outcome (here_in_plain s p h) t o) credit
+plain_own credit s p h t o x y at runs is = is ∙ rw (at, runs, eq-eqb t t refl) refl
+
+-- a call inside a sequence
+pub inside_own : (credit : ℕ) (s : Setting) (p : Plain) (h t : ℕ) (x y : HartState) → x ≡ hart_at s p h credit → runs (here_in_plain s p h) ≡ Some t →
+    y ≡ record x { reserved = None; ran = x.ran + 1; events = x.events + 1 } → y ≡ own_after s p h (by_call (here_in_plain s p h) (killed_in_call (here_in_plain s p h))) credit
+inside_own credit s p h t x y at runs is = is ∙ rw (at, append-nil, runs) refl

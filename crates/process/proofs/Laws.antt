@@ -1,0 +1,12 @@
+-- The laws that crates above cite: of a place, of what an event leaves of the parts and of the harts, and of the code of a program.
+pub use Rattle.process.proofs.Codes.{code_enough}
+pub use Rattle.process.proofs.Entries.{changed_as, entry_exec}
+pub use Rattle.process.proofs.Events.{none_beside, same_length}
+pub use Rattle.process.proofs.HartEvents.{plain_own}
+pub use Rattle.process.proofs.HartTies.{get_set_other, get_set_same}
+pub use Rattle.process.proofs.KernelTies.{saved_plain}
+pub use Rattle.process.proofs.MemoryTies.{bytes_held, writable_held}
+pub use Rattle.process.proofs.Performing.{performing, plain_next}
+pub use Rattle.process.proofs.Places.{in_list, runs_there, thread_is}
+pub use Rattle.process.proofs.Planning.{next_at}
+pub use Rattle.process.proofs.Signalled.{has_signals, held_as_live}

@@ -1,0 +1,69 @@
+-- Memory as the page map shows it where it holds the pages of the process, and the pages after writes.
+use Rattle.std.proofs.Common.{◌≡◌, ℕ, ◌/◌, ◌%◌, List, [], ◌∷◌, refl, sym, ap, ◌∙◌, Bool, true, false, ◌&&◌, cond, Option, Some, None}
+use Rattle.std.proofs.Math.Path.{fun_ext}
+use Rattle.std.specs.Option.{option_map}
+use Rattle.mach_types.specs.Bytes.{overlay, byte_over, written, all_stored}
+use Rattle.mach_types.specs.declared.user_memory.Store.{Store}
+use Rattle.mach_types.specs.declared.user_memory.Write.{Write}
+use Rattle.mach_types.specs.Kernel.Pages.{Pages, can_read, can_write, lets, permission_at, permission_of}
+use Rattle.block_model.specs.Record.{Kernel}
+use Rattle.page_map.specs.Map.{Map, Page, byte_at, byte_in, bytes_if, can_write_in, held_in, page_in, permission_in}
+use Rattle.sys_calls.specs.Made.{HoldsPages}
+use Rattle.block_model.specs.Here.{memory_in, writable_in}
+use Rattle.process.specs.Stored.{IsWritten}
+use Rattle.process.specs.Tied.{IsReadable}
+
+-- stores as writes
+pub written_stored : (ss : List Store) (a below : ℕ) → written (all_stored ss) a below ≡ overlay ss a below
+written_stored [] a below = refl
+written_stored (s ∷ ss) a below = written_stored ss a (byte_over s a below)
+
+-- a byte that can be read is the one that its page holds
+shown : (o : Option Page) (offset : ℕ)
+    → option_map (byte_at offset) (bytes_if 4 o) ≡ cond (can_read (option_map (λ (p : Page). p.permission) o)) (option_map (λ (p : Page). byte_at offset p.bytes) o) None
+shown None offset = refl
+shown (Some p) offset = go (lets 4 (Some p.permission))
+  where
+    go : (b : Bool) → option_map (byte_at offset) (cond b (Some p.bytes) None) ≡ cond b (Some (byte_at offset p.bytes)) None
+    go true = refl
+    go false = refl
+
+if_readable : (b : ℕ) (o : Option ℕ) → cond (can_read o) (option_map (λ _. b) o) None ≡ cond (can_read o) (Some b) None
+if_readable b None = refl
+if_readable b (Some permission) = refl
+
+both : (b c : Bool) → (c ≡ true → b ≡ true) → (b && c) ≡ c
+both true c only = refl
+both false true only = only refl
+both false false only = refl
+
+-- what can be read, and which bytes can be written, is the record's
+pub bytes_held : (k : Kernel) (lowest : ℕ) (byte : ℕ → ℕ) (m : Map) → HoldsPages k.pages lowest byte m → byte_in m ≡ memory_in k byte
+bytes_held k lowest byte m holds = fun_ext (λ a.
+    shown (page_in m (a / 4096)) (a % 4096)
+    ∙ ap (λ (o : Option ℕ). cond (can_read o) (held_in m a) None) (holds.permissions (a / 4096))
+    ∙ ap (λ (o : Option ℕ). cond (can_read (permission_at k.pages a)) o None) (holds.held a)
+    ∙ if_readable (byte a) (permission_at k.pages a))
+
+pub writable_held : (k : Kernel) (lowest : ℕ) (byte : ℕ → ℕ) (m : Map) → HoldsPages k.pages lowest byte m → IsReadable m → can_write_in m ≡ writable_in k
+writable_held k lowest byte m holds readable = fun_ext (λ a.
+    both (can_read (permission_in m (a / 4096))) (can_write (permission_in m (a / 4096))) (readable (a / 4096))
+    ∙ ap can_write (holds.permissions (a / 4096)))
+
+-- the pages after writes
+written_over : (ws : List Write) (a b : ℕ) (o : Option ℕ) → option_map (written ws a) (option_map (λ _. b) o) ≡ option_map (λ _. written ws a b) o
+written_over ws a b None = refl
+written_over ws a b (Some permission) = refl
+
+pub pages_written : (ps : Pages) (lowest : ℕ) (byte : ℕ → ℕ) (ws : List Write) (m m' : Map) → HoldsPages ps lowest byte m → IsWritten ws m m'
+    → HoldsPages ps lowest (λ a. written ws a (byte a)) m'
+pages_written ps lowest byte ws m m' holds is = record {
+  permissions = λ n. is.permissions n ∙ holds.permissions n;
+  held = λ a. is.held a ∙ ap (option_map (written ws a)) (holds.held a) ∙ written_over ws a (byte a) (permission_of ps.runs (a / 4096));
+  free = is.free ∙ holds.free;
+  break_at = is.break_at ∙ holds.break_at;
+  break_start = is.break_start ∙ holds.break_start;
+}
+
+pub readable_written : (ws : List Write) (m m' : Map) → IsReadable m → IsWritten ws m m' → IsReadable m'
+readable_written ws m m' readable is n may = ap can_read (is.permissions n) ∙ readable n (sym (ap can_write (is.permissions n)) ∙ may)

@@ -1,0 +1,10 @@
+use Rattle.std.proofs.Common.{◌≡◌, ap, ◌∙◌}
+use Rattle.process.specs.Pages.{code_of}
+use Rattle.process.proofs.Codes.{code_rises}
+use Rattle.process.proofs.code.Code.executable.Goals as goal
+
+pub numbered-requires : goal.numbered-requires
+numbered-requires c =
+    let pages = c.self.inside.pages.items in
+    let is : c.in_ok-executable_pages.field-0.items ≡ code_of pages = c.in_ok-executable_pages.ensures ∙ ap code_of c.deref.ensures.value in
+    rw is (code_rises pages c.self.invariant.1)

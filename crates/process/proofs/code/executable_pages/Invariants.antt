@@ -1,0 +1,7 @@
+use Rattle.std.proofs.Common.{◌≡◌, take}
+use Rattle.process.specs.Pages.{code_of}
+use Rattle.process.proofs.code.executable_pages.Given as goal
+
+-- those of the pages before are copied
+abbrev pub invariant-loop-page : goal.invariant-loop-page
+invariant-loop-page l = l.copies.items ≡ code_of (take l.page-index l.pages)

@@ -1,0 +1,20 @@
+use Rattle.std.proofs.Common.{sym, ap, ◌∙◌}
+use Rattle.std.specs.Option.{option_and_then}
+use Rattle.mach_types.specs.Kernel.Areas.{area_of}
+use Rattle.hart_state.specs.declared.hart.HartState.{HartState}
+use Rattle.block_model.specs.Here.{runs}
+use Rattle.block_model.specs.Plain.{here_in_plain}
+use Rattle.block_model.specs.Sequences.{area_here}
+use Rattle.process.proofs.Places.{thread_is}
+use Rattle.process.proofs.HeldPages.{hart_tied}
+use Rattle.process.proofs.parts.Parts.area.Goals as goal
+
+pub returns-in-Some : goal.returns-in-Some
+returns-in-Some c s p tied lt =
+    let h = c.args.hart.0 in
+    let here = here_in_plain s p h in
+    let x = c.index.result.now in
+    let t = c.in-Some.tid in
+    let own = hart_tied s p c.args.self.now h x tied lt c.index.ensures in
+    let at = thread_is (runs here) t (sym c.in-Some.is ∙ ap (λ (y : HartState). y.running) own) in
+    c.area_of.ensures ∙ ap (area_of t.0) tied.areas ∙ sym (ap (option_and_then (area_here here)) at)

@@ -1,0 +1,38 @@
+-- A handler is entered.
+use Rattle.std.proofs.Common.{◌≡◌, length, true, false, sym, ap, ◌∙◌, eqb, ◌∷◌, [], slice_get}
+use Rattle.std.specs.Option.{option_map}
+use Rattle.std.proofs.lemmas.Bool.{OnTrue_at}
+use Rattle.mach_types.specs.Kernel.SignalFrames.{after_frame, can_write_frame, frame_writes, stack_pointer}
+use Rattle.mach_types.specs.Kernel.Signals.{action_of, mask_of}
+use Rattle.mach_types.specs.declared.user_memory.Write.{Write}
+use Rattle.page_map.specs.Map.{byte_in, can_write_in}
+use Rattle.block_model.specs.Events.Signal.{dropped_if_ignored}
+use Rattle.sys_calls.specs.declared.kernel.Kernel.{Kernel}
+use Rattle.process.specs.Losing.{lost_unless}
+use Rattle.process.specs.Stored.{IsWritten}
+use Rattle.process.proofs.Frames.{frame_is_lost, frame_written}
+use Rattle.process.proofs.parts.Parts.enter_handler.Goals as goal
+
+pub returns-clause-entered : goal.returns-clause-entered
+returns-clause-entered c =
+    let m = c.args.self.now in
+    let x = c.args.saved.now in
+    let s = c.args.signal in
+    let t = c.args.tid.0 in
+    let g = m.kernel.signals in
+    let mask = mask_of t g in
+    let made : c.push_frame.result ≡ true = c.if-not-push_frame.false in
+    let file = OnTrue_at made c.push_frame.ensures.file in
+    let long : length x.file.x ≡ 32 = c.has_all_registers.ensures in
+    let may : can_write_frame (can_write_in m.pages) x ≡ true = sym c.push_frame.ensures.answer ∙ made in
+    let wrote : IsWritten (frame_writes x mask) m.pages c.push_frame.new.mem =
+    frame_written m.pages c.push_frame.new.mem x mask long may c.push_frame.ensures.alike
+    (λ a. c.push_frame.ensures.bytes a ∙ ap (λ b. after_frame b (frame_writes x mask) (byte_in m.pages) a) made) in
+    record {
+      file = file;
+      pages = rw c.lose.ensures.pages wrote;
+      harts = λ k. c.lose.ensures.harts k
+          ∙ ap (λ (w : Write). option_map (lost_unless (eqb k c.args.hart.0) (w ∷ [])) (slice_get m.harts.items k)) c.frame_of.ensures
+          ∙ frame_is_lost (eqb k c.args.hart.0) s (action_of s g) x mask (stack_pointer c.push_frame.new.saved) (slice_get m.harts.items k) long (ap stack_pointer file);
+      signals = c.drop_if_ignored.ensures ∙ ap (dropped_if_ignored s) (ap (λ (k : Kernel). k.signals) c.lose.ensures.kernel ∙ OnTrue_at made c.push_frame.ensures.signals);
+    }

@@ -1,0 +1,21 @@
+use Rattle.std.proofs.Common.{◌≡◌, sym, ap, ◌∙◌}
+use Rattle.std.specs.Option.{option_map_or}
+use Rattle.mach_types.specs.Kernel.Areas.{is_inside, is_inside_named}
+use Rattle.mach_types.specs.declared.sequences.Named.TheVariants as names
+use Rattle.hart_state.specs.declared.hart.HartState.{HartState}
+use Rattle.block_model.specs.Plain.{here_in_plain}
+use Rattle.block_model.specs.Sequences.{named_here}
+use Rattle.process.specs.Harts.{file_on}
+use Rattle.process.proofs.HeldPages.{hart_tied}
+use Rattle.process.proofs.parts.Parts.is_inside.Goals as goal
+
+pub returns-in-Good : goal.returns-in-Good
+returns-in-Good c s p t tied lt at =
+    let h = c.args.hart.0 in
+    let here = here_in_plain s p h in
+    let x = c.index.result.now in
+    let sequence = c.in-Good.sequence in
+    let own = hart_tied s p c.args.self.now h x tied lt c.index.ensures in
+    let pc : x.pc ≡ (here.file t).pc = ap (λ (y : HartState). y.pc) own ∙ ap (λ o. (file_on here o).pc) at in
+    let is : names.Good sequence ≡ named_here here t = sym c.in-Good.is ∙ c.named.ensures s p tied lt ∙ ap (λ o. option_map_or (named_here here) o names.Nothing) at in
+    c.is_inside.ensures ∙ ap (is_inside sequence) pc ∙ ap (λ n. is_inside_named n (here.file t).pc) is

@@ -1,0 +1,12 @@
+use Rattle.std.proofs.Common.{◌≡◌, length, eqb, sym, ap, ◌∙◌, slice_get}
+use Rattle.std.specs.Option.{option_map}
+use Rattle.std.proofs.lemmas.List.{with_items_is}
+use Rattle.process.specs.Losing.{lost_unless}
+use Rattle.process.proofs.parts.Parts.lose.Goals as goal
+
+pub returns-clause-harts : goal.returns-clause-harts
+returns-clause-harts c = λ k.
+    let harts = c.args.self.now.harts in
+    let long : length c.lose_others.new.harts ≡ harts.len = c.lose_others.auto.harts ∙ (ap length c.deref_mut.ensures.value ∙ sym harts.ok.0) in
+    ap (λ xs. slice_get xs k) (with_items_is harts c.lose_others.new.harts long)
+    ∙ (c.lose_others.ensures k ∙ ap (λ xs. option_map (lost_unless (eqb k c.args.hart.0) c.args.writes.now) (slice_get xs k)) c.deref_mut.ensures.value)

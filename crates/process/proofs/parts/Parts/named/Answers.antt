@@ -1,0 +1,16 @@
+use Rattle.std.proofs.Common.{sym, ap, ◌∙◌}
+use Rattle.block_model.specs.Here.{runs}
+use Rattle.block_model.specs.Plain.{here_in_plain}
+use Rattle.process.specs.Harts.{file_of}
+use Rattle.process.proofs.HeldPages.{hart_tied}
+use Rattle.process.proofs.Inside.{named_by, view_is}
+use Rattle.process.proofs.parts.Parts.named.Goals as goal
+
+pub returns : goal.returns
+returns c s p tied lt =
+    let h = c.args.hart.0 in
+    let here = here_in_plain s p h in
+    let x = c.index-state.result.now in
+    let own = hart_tied s p c.args.self.now h x tied lt c.index-state.ensures in
+    let has = sym (c.area.ensures s p tied lt) ∙ c.in-Some.is in
+    c.named.ensures ∙ named_by here _ (file_of x) c.in-Some.area (runs here) (view_is s p c.args.self.now h _ x tied own) (ap file_of own) has

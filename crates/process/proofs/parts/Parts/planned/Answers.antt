@@ -1,0 +1,27 @@
+use Rattle.std.proofs.Common.{rules, sym, ◌∙◌}
+use Rattle.page_map.specs.Map.{byte_in, can_write_in}
+use Rattle.block_model.specs.Plain.{here_of, plain_seen}
+use Rattle.process.specs.Harts.{credit_of}
+use Rattle.process.specs.Holding.{IsNextAt}
+use Rattle.process.proofs.Places.{bytes_at, hart_is, in_list, writable_at}
+use Rattle.process.proofs.Planning.{next_at, planned}
+use Rattle.process.proofs.parts.Parts.planned.Goals as goal
+
+pub exec_gate-requires : goal.exec_gate-requires
+exec_gate-requires c = in_list c.requires.seen c.args.self.now c.args.hart.0 c.requires.place
+
+pub returns-in-Some-clause-err : goal.returns-in-Some-clause-err
+returns-in-Some-clause-err c v place same =
+    let x = c.index-state.result.now in
+    let m = c.args.self.now in
+    let h = c.args.hart.0 in
+    let next : IsNextAt (here_of v h) c.next_of-next.result = next_at (here_of v h) x ((plain_seen v).ran h) ((plain_seen v).events h) (credit_of m.harts.items h) c.args.code.now (byte_in m.pages) (can_write_in m.pages) c.next_of-next.result (hart_is v m h x place c.index-state.ensures) same (bytes_at v m h place) (writable_at v m h place) c.next_of-next.ensures.effect c.next_of-next.ensures.fault in
+    sym (c.exec_gate.ensures v.setting (plain_seen v) place.tied place.lt next) ∙ (search rules)
+
+pub returns-in-None-clause-ok : goal.returns-in-None-clause-ok
+returns-in-None-clause-ok c v place same =
+    let x = c.index-state.result.now in
+    let m = c.args.self.now in
+    let h = c.args.hart.0 in
+    let next : IsNextAt (here_of v h) c.next_of-next.result = next_at (here_of v h) x ((plain_seen v).ran h) ((plain_seen v).events h) (credit_of m.harts.items h) c.args.code.now (byte_in m.pages) (can_write_in m.pages) c.next_of-next.result (hart_is v m h x place c.index-state.ensures) same (bytes_at v m h place) (writable_at v m h place) c.next_of-next.ensures.effect c.next_of-next.ensures.fault in
+    planned v h c.next_of-next.result next c.next_of-next.ensures.sizes (sym (c.exec_gate.ensures v.setting (plain_seen v) place.tied place.lt next) ∙ (search rules))

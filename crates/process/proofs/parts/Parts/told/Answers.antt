@@ -1,0 +1,56 @@
+use Rattle.std.proofs.Common.{◌≡◌, sym, ap, ◌∙◌, eqb, List, slice_get, refl}
+use Rattle.std.specs.Option.{option_map}
+use Rattle.mach_types.specs.Bytes.{after_writes}
+use Rattle.mach_types.specs.Kernel.Areas.{Words, words_entered, words_on}
+use Rattle.mach_types.specs.declared.user_memory.Write.{Write}
+use Rattle.page_map.specs.Map.{byte_in}
+use Rattle.process.specs.Losing.{lost_unless}
+use Rattle.process.proofs.Interrupting.{lost_nothing, told_all, told_answer, told_none, told_pages, words_visible}
+use Rattle.process.proofs.parts.Parts.told.Goals as goal
+
+pub returns-then-not-set_cpu-clause-answer : goal.returns-then-not-set_cpu-clause-answer
+returns-then-not-set_cpu-clause-answer c h same =
+    sym c.if-not-set_cpu.true ∙ told_answer h c.args.self.now.pages c.args.area c.in-Some.area c.set_cpu.result c.in-Some.is same c.set_cpu.ensures.answer
+
+pub returns-then-not-set_cpu-clause-pages : goal.returns-then-not-set_cpu-clause-pages
+returns-then-not-set_cpu-clause-pages c h same =
+    let m = c.args.self.now.pages in
+    let area = c.in-Some.area in
+    let words : Words = words_on c.args.hart.0 c.args.id in
+    let its : Words = record { cpu_id_start = c.from-cpu.result; cpu_id = c.from-cpu.result; node_id = 0; mm_cid = c.from.result } in
+    let is : its ≡ words = rw (c.from-cpu.ensures, c.from.ensures) refl in
+    told_pages h m c.set_cpu.new.mem c.args.area area words c.set_cpu.result c.in-Some.is same c.set_cpu.ensures.answer c.set_cpu.ensures.alike
+    (λ a. c.set_cpu.ensures.bytes a ∙ ap (λ (w : Words). after_writes (words_entered c.set_cpu.result area w) (byte_in m) a) is)
+
+pub returns-then-not-set_cpu-clause-harts : goal.returns-then-not-set_cpu-clause-harts
+returns-then-not-set_cpu-clause-harts c h k same =
+    let m = c.args.self.now.pages in
+    lost_nothing (eqb k c.args.hart.0) (slice_get c.args.self.now.harts.items k)
+    ∙ ap (λ (ws : List Write). option_map (lost_unless (eqb k c.args.hart.0) ws) (slice_get c.args.self.now.harts.items k))
+    (told_none h m c.args.area c.in-Some.area (words_on c.args.hart.0 c.args.id) c.in-Some.is same (sym c.set_cpu.ensures.answer ∙ c.if-not-set_cpu.true))
+
+pub words_written-requires : goal.words_written-requires
+words_written-requires c =
+    (words_visible c.args.self.now.pages c.in-Some.area (words_on c.args.hart.0 c.args.id) (sym c.set_cpu.ensures.answer ∙ c.if-not-set_cpu.false)).fits
+
+pub returns-clause-answer : goal.returns-clause-answer
+returns-clause-answer c h same =
+    sym c.if-not-set_cpu.false ∙ told_answer h c.args.self.now.pages c.args.area c.in-Some.area c.set_cpu.result c.in-Some.is same c.set_cpu.ensures.answer
+
+pub returns-clause-pages : goal.returns-clause-pages
+returns-clause-pages c h same =
+    let m = c.args.self.now.pages in
+    let area = c.in-Some.area in
+    let words : Words = words_on c.args.hart.0 c.args.id in
+    let its : Words = record { cpu_id_start = c.from-cpu.result; cpu_id = c.from-cpu.result; node_id = 0; mm_cid = c.from.result } in
+    let is : its ≡ words = rw (c.from-cpu.ensures, c.from.ensures) refl in
+    rw c.lose.ensures.pages (told_pages h m c.set_cpu.new.mem c.args.area area words c.set_cpu.result c.in-Some.is same c.set_cpu.ensures.answer c.set_cpu.ensures.alike
+    (λ a. c.set_cpu.ensures.bytes a ∙ ap (λ (w : Words). after_writes (words_entered c.set_cpu.result area w) (byte_in m) a) is))
+
+pub returns-clause-harts : goal.returns-clause-harts
+returns-clause-harts c h k same =
+    let m = c.args.self.now.pages in
+    let xs = c.args.self.now.harts.items in
+    c.lose.ensures.harts k
+    ∙ ap (λ (ws : List Write). option_map (lost_unless (eqb k c.args.hart.0) ws) (slice_get xs k))
+    (c.words_written.ensures ∙ told_all h m c.args.area c.in-Some.area (words_on c.args.hart.0 c.args.id) c.in-Some.is same (sym c.set_cpu.ensures.answer ∙ c.if-not-set_cpu.false))

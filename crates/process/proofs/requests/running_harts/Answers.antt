@@ -1,0 +1,6 @@
+use Rattle.process.specs.Barriers.{is_busy}
+use Rattle.process.proofs.Ids.{one_more_fits}
+use Rattle.process.proofs.requests.running_harts.Goals as goal
+
+pub overflow_add-running : goal.overflow_add-running
+overflow_add-running c = one_more_fits (is_busy c.args.harts.now) c.loop-hart.hart c.loop-hart.running c.loop-hart-test.true c.loop-hart.invariant

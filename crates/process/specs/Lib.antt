@@ -1,0 +1,13 @@
+pub mod Barriers
+pub mod Beginning
+pub mod Deeds
+pub mod Delivering
+pub mod Harts
+pub mod Holding
+pub mod Losing
+pub mod Pages
+pub mod Planned
+pub mod Sequences
+pub mod Stored
+pub mod Tied
+pub mod Views

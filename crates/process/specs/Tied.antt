@@ -1,0 +1,84 @@
+-- How the parts of a machine are tied to the plain machine, at a place of a log.
+use Rattle.std.specs.Prelude.{ℕ, ◌≡◌, ◌<◌, true, List, length, Option, Some, None, Result, Ok, Err, slice_get}
+use Rattle.mach_types.specs.Limits.{InRange}
+use Rattle.mach_types.specs.declared.events.Choice.{Choice}
+use Rattle.mach_types.specs.declared.events.Entry.{Entry}
+use Rattle.mach_types.specs.declared.events.Why.{Why}
+use Rattle.elf_load.specs.declared.image.ImagePage.{ImagePage}
+use Rattle.kernel_threads.specs.Table.{IsTable}
+use Rattle.mach_types.specs.Kernel.Pages.{can_read, can_write}
+use Rattle.page_map.specs.Map.{Map, permission_in}
+use Rattle.sys_calls.specs.Made.{AreSaved, HoldsPages}
+use Rattle.sys_calls.specs.Registered.{areas_by_number}
+use Rattle.block_model.specs.Setting.{Setting, Seen}
+use Rattle.block_model.specs.Here.{Done}
+use Rattle.block_model.specs.Events.{refusal_of, done_of}
+use Rattle.block_model.specs.Plain.{Plain, apply, here_of, plain_over, plain_seen}
+use Rattle.block_model.specs.Deciding.{entry_in}
+use Rattle.block_model.specs.Run.{IsBlockRun}
+use Rattle.process.specs.Harts.{credit_of, hart_at}
+use Rattle.process.specs.declared.parts.Parts.{Parts}
+
+-- what can be written can be read
+abbrev pub IsReadable : Map → Type 0
+IsReadable m = (n : ℕ) → can_write (permission_in m n) ≡ true → can_read (permission_in m n) ≡ true
+
+-- each part is that of the plain machine: the harts, but for their credits; the pages and their bytes; the threads with their
+-- files, the signals, the ready list, the areas, the registrations for barriers and the console; and how the run has ended
+pub record IsTied (s : Setting) (p : Plain) (m : Parts) : Type 0 where
+  pub all_harts : length m.harts.items ≡ s.limits.harts
+  pub harts : (h : ℕ) → h < s.limits.harts → slice_get m.harts.items h ≡ Some (hart_at s p h (credit_of m.harts.items h))
+  pub pages : HoldsPages p.kernel.pages s.program.break_at p.byte m.pages
+  pub readable : IsReadable m.pages
+  pub threads : m.kernel.threads.threads ≡ p.kernel.threads
+  pub signals : m.kernel.signals ≡ p.kernel.signals
+  pub scheduling : m.kernel.ready ≡ p.kernel.scheduling
+  pub areas : areas_by_number m.kernel.areas.items ≡ p.kernel.areas
+  pub registered : m.kernel.registered ≡ p.kernel.barriers
+  pub console : m.kernel.console ≡ p.kernel.console
+  pub table : IsTable m.kernel.threads
+  pub saved : AreSaved p.file m.kernel.threads
+  pub ended : m.ended ≡ plain_over p
+
+-- a place at which the parts stand: a block run that goes on, with room for one more event, and a hart of the machine
+pub record IsPlace (v : Seen) (m : Parts) (h : ℕ) : Type 0 where
+  pub run : IsBlockRun v.setting v.log
+  pub tied : IsTied v.setting (plain_seen v) m
+  pub limits : InRange v.setting.limits
+  pub goes : plain_over (plain_seen v) ≡ None
+  pub room : length v.log < v.setting.limits.steps
+  pub lt : h < v.setting.limits.harts
+
+-- there is such a place; and there is one on a machine with these pages of code
+pub record HasPlace (m : Parts) (h : ℕ) : Type 0 where
+  pub seen : Seen
+  pub place : IsPlace seen m h
+
+pub record HasCode (code : List ImagePage) (m : Parts) (h : ℕ) : Type 0 where
+  pub seen : Seen
+  pub place : IsPlace seen m h
+  pub pages : code ≡ seen.setting.program.pages
+
+-- there is such a place, and a choice is allowed there
+pub record MayMake (m : Parts) (h : ℕ) (c : Choice) : Type 0 where
+  pub seen : Seen
+  pub place : IsPlace seen m h
+  pub free : refusal_of c (here_of seen h) ≡ None
+
+-- what is answered to a choice: its entry, unless a condition fails
+abbrev pub answered : Entry → Option Why → Result Entry Why
+answered entry None = Ok entry
+answered entry (Some why) = Err why
+
+abbrev pub answer_to : Seen → ℕ → Choice → Result Entry Why
+answer_to v h c = answered (entry_in c (here_of v h)) (refusal_of c (here_of v h))
+
+-- the parts after an event of hart h that did this; no event changes a credit
+pub record IsAfter (v : Seen) (h : ℕ) (d : Done) (m m' : Parts) : Type 0 where
+  pub tied : IsTied v.setting (apply h d (plain_seen v)) m'
+  pub credits : (k : ℕ) → credit_of m'.harts.items k ≡ credit_of m.harts.items k
+
+-- at each place where the choice is allowed this is its entry, and the parts are those after its event
+pub record IsEvent (m : Parts) (h : ℕ) (c : Choice) (made : Entry) (m' : Parts) : Type 0 where
+  pub entry : (v : Seen) → IsPlace v m h → refusal_of c (here_of v h) ≡ None → made ≡ entry_in c (here_of v h)
+  pub after : (v : Seen) → IsPlace v m h → refusal_of c (here_of v h) ≡ None → IsAfter v h (done_of c (here_of v h)) m m'

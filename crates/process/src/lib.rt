@@ -1,0 +1,24 @@
+//! A process on its harts: its pages, the harts with their waiting stores, the kernel's tables, and the events that change
+//! them. It keeps no log: each contract is said at a place of one, for every log at which the parts may stand.
+#![tactic(auto)]
+
+mod barriers;
+mod beginning;
+mod code;
+mod delivering;
+mod executing;
+mod handlers;
+mod hart_view;
+mod holding;
+mod moving;
+mod next;
+mod parts;
+mod requests;
+mod reservations;
+mod search;
+mod sequences;
+
+pub use code::Code;
+pub use next::{Next, effect_at, effect_of_next, is_local, next_of};
+pub use parts::Parts;
+pub use requests::is_all_taken;

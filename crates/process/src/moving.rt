@@ -1,0 +1,158 @@
+//! Events by which stores enter memory, and threads begin to run and leave.
+
+ghost use Rattle.std.specs.Prelude.{◌≡◌, ℕ, [], ◌∷◌, None, true, IfOk, OnErr, nat_eq, slice_get};
+ghost use Rattle.std.specs.Option.{option_map};
+ghost use Rattle.mach_types.specs.Bytes.{IsAccessSize, each_byte};
+ghost use Rattle.page_map.specs.Map.{can_write_in};
+ghost use Rattle.block_model.specs.Setting.{Seen};
+ghost use Rattle.block_model.specs.Events.{done_of, refusal_of};
+ghost use Rattle.block_model.specs.Plain.{here_of};
+ghost use Rattle.process.specs.Losing.{lost_unless};
+ghost use Rattle.process.specs.Stored.{IsWritten};
+ghost use Rattle.process.specs.Tied.{IsPlace, HasPlace, MayMake, IsAfter, IsEvent, answer_to};
+
+use crate::parts::{Parts, entry_of};
+use crate::reservations::lose_others;
+use mach_types::{Choice, Entry, Hart, Kind, Store, Tid, UserMem, Why, Write};
+
+impl Parts {
+    /// Why no store of a hart can enter memory.
+    pub(crate) fn refusal_drain(&self, hart: Hart) -> Option<Why>
+        requires { HasPlace self.now hart.0 }
+        ensures { (v : Seen) → IsPlace v self.now hart.0 → result ≡ refusal_of Choice.Drain (here_of v hart.0) }
+    {
+        if self.harts[hart.0 as usize].buffer.len() == 0 {
+            Some(Why::NoStore)
+        } else {
+            None
+        }
+    }
+
+    /// The harts other than one lose their reservations of bytes that were written.
+    #[inline]
+    pub(crate) fn lose(&mut self, hart: Hart, writes: &[Write])
+        ensures harts { (k : ℕ) → slice_get self.new.harts.items k
+            ≡ option_map (lost_unless (nat_eq k hart.0) writes.now) (slice_get self.old.harts.items k) }
+        ensures pages { self.new.pages ≡ self.old.pages }
+        ensures kernel { self.new.kernel ≡ self.old.kernel }
+        ensures ended { self.new.ended ≡ self.old.ended }
+    {
+        lose_others(&mut self.harts, hart, writes);
+    }
+
+    /// A store of a hart, whose bytes can be written, enters memory: the other harts lose their reservations of its bytes.
+    #[inline]
+    pub(crate) fn enter(&mut self, hart: Hart, store: Store)
+        requires size { IsAccessSize store.size }
+        requires writable { each_byte (can_write_in self.old.pages) store.at store.size ≡ true }
+        ensures pages { IsWritten (Write.Stored store ∷ []) self.old.pages self.new.pages }
+        ensures harts { (k : ℕ) → slice_get self.new.harts.items k
+            ≡ option_map (lost_unless (nat_eq k hart.0) (Write.Stored store ∷ [])) (slice_get self.old.harts.items k) }
+        ensures kernel { self.new.kernel ≡ self.old.kernel }
+        ensures ended { self.new.ended ≡ self.old.ended }
+    {
+        let _ = self.pages.set(store.at, store.size, store.value);
+        self.lose(hart, &[Write::Stored(store)]);
+    }
+
+    /// The oldest waiting store of a hart enters memory.
+    fn drained(&mut self, hart: Hart) -> Entry
+        requires { MayMake self.old hart.0 Choice.Drain }
+        ensures { IsEvent self.old hart.0 Choice.Drain result self.new }
+    {
+        let state = &mut self.harts[hart.0 as usize];
+        let entry = entry_of(hart, Kind::Drain, state);
+        let oldest = state.buffer.pop();
+        state.events += 1;
+        if let Some(store) = oldest {
+            self.enter(hart, store);
+        }
+        entry
+    }
+
+    /// `drain`.
+    pub(crate) fn drain(&mut self, hart: Hart) -> Result<Entry, Why>
+        requires { HasPlace self.old hart.0 }
+        ensures answer { (v : Seen) → IsPlace v self.old hart.0 → result ≡ answer_to v hart.0 Choice.Drain }
+        ensures after { (v : Seen) → IsPlace v self.old hart.0 → IfOk result (λ e. IsAfter v hart.0 (done_of Choice.Drain (here_of v hart.0)) self.old self.new) }
+        ensures err { OnErr result (self.new ≡ self.old) }
+    {
+        match self.refusal_drain(hart) {
+            Some(why) => Err(why),
+            None => Ok(self.drained(hart)),
+        }
+    }
+
+    /// Why the thread on a hart can't leave it.
+    pub(crate) fn refusal_preempt(&self, hart: Hart) -> Option<Why>
+        requires { HasPlace self.now hart.0 }
+        ensures { (v : Seen) → IsPlace v self.now hart.0 → result ≡ refusal_of Choice.Preempt (here_of v hart.0) }
+    {
+        let state = &self.harts[hart.0 as usize];
+        if state.is_idle() {
+            Some(Why::Idle)
+        } else if state.waits.is_some() {
+            Some(Why::InBarrier)
+        } else if state.buffer.len() != 0 {
+            Some(Why::Waiting)
+        } else {
+            None
+        }
+    }
+
+    /// The thread on a hart leaves it, and is the last ready one.
+    fn left(&mut self, hart: Hart) -> Entry
+        requires { MayMake self.old hart.0 Choice.Preempt }
+        ensures { IsEvent self.old hart.0 Choice.Preempt result self.new }
+    {
+        let state = &mut self.harts[hart.0 as usize];
+        let entry = entry_of(hart, Kind::Preempt, state);
+        let saved = state.leave();
+        state.events += 1;
+        self.kernel.threads.leave(entry.tid, saved);
+        self.kernel.ready.push(entry.tid);
+        entry
+    }
+
+    /// `preempt`.
+    pub(crate) fn preempt(&mut self, hart: Hart) -> Result<Entry, Why>
+        requires { HasPlace self.old hart.0 }
+        ensures answer { (v : Seen) → IsPlace v self.old hart.0 → result ≡ answer_to v hart.0 Choice.Preempt }
+        ensures after { (v : Seen) → IsPlace v self.old hart.0 → IfOk result (λ e. IsAfter v hart.0 (done_of Choice.Preempt (here_of v hart.0)) self.old self.new) }
+        ensures err { OnErr result (self.new ≡ self.old) }
+    {
+        match self.refusal_preempt(hart) {
+            Some(why) => Err(why),
+            None => Ok(self.left(hart)),
+        }
+    }
+
+    /// Why a thread can't begin to run on a hart.
+    pub(crate) fn refusal_run(&self, hart: Hart, tid: Tid) -> Option<Why>
+        requires { HasPlace self.now hart.0 }
+        ensures { (v : Seen) → IsPlace v self.now hart.0 → result ≡ refusal_of (Choice.Run tid) (here_of v hart.0) }
+    {
+        if !self.harts[hart.0 as usize].is_idle() {
+            Some(Why::Busy)
+        } else if !self.is_ready(tid) {
+            Some(Why::NotReady)
+        } else if !self.kernel.ready.allows(tid, hart) {
+            Some(Why::NotAllowed)
+        } else {
+            None
+        }
+    }
+
+    /// `run`.
+    pub(crate) fn run(&mut self, hart: Hart, tid: Tid) -> Result<Entry, Why>
+        requires { HasPlace self.old hart.0 }
+        ensures answer { (v : Seen) → IsPlace v self.old hart.0 → result ≡ answer_to v hart.0 (Choice.Run tid) }
+        ensures after { (v : Seen) → IsPlace v self.old hart.0 → IfOk result (λ e. IsAfter v hart.0 (done_of (Choice.Run tid) (here_of v hart.0)) self.old self.new) }
+        ensures err { OnErr result (self.new ≡ self.old) }
+    {
+        match self.refusal_run(hart, tid) {
+            Some(why) => Err(why),
+            None => Ok(self.begun(hart, tid)),
+        }
+    }
+}

@@ -1,0 +1,137 @@
+//! The parts of a machine, without its log: one event of a hart, and which events are refused.
+
+ghost use Rattle.std.specs.Prelude.{◌≡◌, None, IfOk, OnErr};
+ghost use Rattle.mach_types.specs.Kernel.Threads.{is_ready};
+ghost use Rattle.block_model.specs.Setting.{Seen};
+ghost use Rattle.block_model.specs.Deciding.{entry_in};
+ghost use Rattle.block_model.specs.Events.{done_of, refusal_of};
+ghost use Rattle.block_model.specs.Plain.{here_of};
+ghost use Rattle.process.specs.Deeds.{entry_from};
+ghost use Rattle.process.specs.Tied.{IsPlace, HasCode, IsAfter, MayMake, answer_to};
+
+use crate::code::Code;
+use hart_state::HartState;
+use mach_types::{Choice, End, Entry, Hart, Kind, ThreadState, Tid, Why};
+use page_map::PageMap;
+use sys_calls::Kernel;
+
+/// Memory, the harts, the kernel's tables, and how the run has ended: all that an event changes but the log.
+#[derive(Drop)]
+pub struct Parts {
+    /// The pages of the process.
+    pub pages: PageMap,
+    /// The harts, by number.
+    pub harts: Vec<HartState>,
+    /// The threads, the signals, the ready list, the areas, the registrations for barriers and the console.
+    pub kernel: Kernel,
+    /// How the run has ended, if it has.
+    pub ended: Option<End>,
+}
+
+/// The entry of an event of a hart in this state, before the event.
+pub fn entry_of(hart: Hart, kind: Kind, state: &HartState) -> Entry
+    ensures { result ≡ entry_from hart kind state.now.running state.now.pc }
+{
+    match state.running {
+        Some(tid) => Entry {
+            hart,
+            kind,
+            tid,
+            pc: state.pc,
+        },
+        None => Entry {
+            hart,
+            kind,
+            tid: Tid(0),
+            pc: 0,
+        },
+    }
+}
+
+impl Parts {
+    /// Whether a thread is ready.
+    pub(crate) fn is_ready(&self, tid: Tid) -> bool
+        ensures { result ≡ is_ready tid.0 self.now.kernel.threads.threads }
+    {
+        matches!(self.kernel.threads.state(tid), Some(ThreadState::Ready))
+    }
+
+    /// Makes the event of a choice on a hart, and answers its entry, or the first condition that fails; then nothing changes.
+    ///
+    /// The parts must stand at a place of some log that goes on and has room for one more entry, of a program with these pages
+    /// of code, and the hart must be one of the machine's (`HasCode`). At whichever such place that is, the answer is the one
+    /// that is due there, and the parts are then those after its event.
+    #[inline]
+    pub fn make(&mut self, code: &Code, hart: Hart, choice: Choice) -> Result<Entry, Why>
+        requires { HasCode code.now self.old hart.0 }
+        ensures answer { (v : Seen) → IsPlace v self.old hart.0 → code.now ≡ v.setting.program.pages → result ≡ answer_to v hart.0 choice }
+        ensures after { (v : Seen) → IsPlace v self.old hart.0 → code.now ≡ v.setting.program.pages
+            → IfOk result (λ e. IsAfter v hart.0 (done_of choice (here_of v hart.0)) self.old self.new) }
+        ensures err { OnErr result (self.new ≡ self.old) }
+    {
+        match choice {
+            Choice::Exec => self.exec(code, hart),
+            Choice::Drain => self.drain(hart),
+            Choice::Take => self.take(hart),
+            Choice::Done => self.done(hart),
+            Choice::Preempt => self.preempt(hart),
+            Choice::Run(tid) => self.run(hart, tid),
+            Choice::Signal => self.signal(hart),
+        }
+    }
+
+    /// The first condition of a choice on a hart that fails; None exactly where the choice is allowed.
+    pub(crate) fn refusal(&self, code: &Code, hart: Hart, choice: Choice) -> Option<Why>
+        requires { HasCode code.now self.now hart.0 }
+        ensures { (v : Seen) → IsPlace v self.now hart.0 → code.now ≡ v.setting.program.pages → result ≡ refusal_of choice (here_of v hart.0) }
+    {
+        match choice {
+            Choice::Exec => self.refusal_exec(code, hart),
+            Choice::Drain => self.refusal_drain(hart),
+            Choice::Take => self.refusal_take(hart),
+            Choice::Done => self.refusal_done(hart),
+            Choice::Preempt => self.refusal_preempt(hart),
+            Choice::Run(tid) => self.refusal_run(hart, tid),
+            Choice::Signal => self.refusal_signal(hart),
+        }
+    }
+
+    /// The entry of a ready thread that may begin to run on a hart.
+    fn entry_of_run(&self, hart: Hart, tid: Tid) -> Entry
+        requires { MayMake self.now hart.0 (Choice.Run tid) }
+        ensures { (v : Seen) → IsPlace v self.now hart.0 → result ≡ entry_in (Choice.Run tid) (here_of v hart.0) }
+    {
+        let Some(saved) = self.kernel.threads.saved(tid) else {
+            unreachable!()
+        };
+        Entry {
+            hart,
+            kind: Kind::Run,
+            tid,
+            pc: saved.pc,
+        }
+    }
+
+    /// The entry of a choice on a hart that is allowed.
+    fn entry(&self, hart: Hart, choice: Choice) -> Entry
+        requires { MayMake self.now hart.0 choice }
+        ensures { (v : Seen) → IsPlace v self.now hart.0 → result ≡ entry_in choice (here_of v hart.0) }
+    {
+        match choice {
+            Choice::Run(tid) => self.entry_of_run(hart, tid),
+            _ => entry_of(hart, choice.kind(), &self.harts[hart.0 as usize]),
+        }
+    }
+
+    /// What [`Parts::make`] would answer to a choice on a hart, under the same condition: the entry of its event, or the first
+    /// condition that fails. Nothing changes.
+    pub fn answer(&self, code: &Code, hart: Hart, choice: Choice) -> Result<Entry, Why>
+        requires { HasCode code.now self.now hart.0 }
+        ensures { (v : Seen) → IsPlace v self.now hart.0 → code.now ≡ v.setting.program.pages → result ≡ answer_to v hart.0 choice }
+    {
+        match self.refusal(code, hart, choice) {
+            Some(why) => Err(why),
+            None => Ok(self.entry(hart, choice)),
+        }
+    }
+}
