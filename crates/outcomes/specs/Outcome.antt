@@ -42,16 +42,16 @@ Wrote call P = GainedOf call.held call.held_after P
 abbrev pub WrotePrefix : Call → (List ℕ → Type 0) → Type 0
 WrotePrefix call P = (written : List ℕ) × P written × GainedPrefix call.held call.held_after written
 
--- the line of a program that is refused
-pub record IsElfLine (call : Call) (written : List ℕ) : Type 0 where
+-- the line of the program of the words, which is refused
+pub record IsElfLine (files : Files) (words : List (List ℕ)) (written : List ℕ) : Type 0 where
   pub fault : ElfFault
-  pub refused : IsRefusalOf call.files (needs_in call.words) fault
+  pub refused : IsRefusalOf files (needs_in words) fault
   pub line : written ≡ fault_line (Elf fault)
 
--- the line of a script that is refused
-pub record IsScriptLine (call : Call) (written : List ℕ) : Type 0 where
+-- the line of the script of the words, which is refused
+pub record IsScriptLine (files : Files) (words : List (List ℕ)) (written : List ℕ) : Type 0 where
   pub number : ℕ
-  pub refused : IsScriptRefusalOf call.files (needs_in call.words) number
+  pub refused : IsScriptRefusalOf files (needs_in words) number
   pub line : written ≡ fault_line (Script number)
 
 -- the line of a fault that has its cause
@@ -92,11 +92,11 @@ pub record IsOutcome (call : Call) (status : ℕ) : Type 0 where
   pub usage : status ≡ 2 → (command_of call.words ≡ None) × WroteText call (fault_line Usage)
   pub usage_always : command_of call.words ≡ None → (status ≡ 2) ⊎ (status ≡ 6) ⊎ (status ≡ 7)
   -- 3: the program is refused
-  pub elf : status ≡ 3 → Wrote call (IsElfLine call)
+  pub elf : status ≡ 3 → Wrote call (IsElfLine call.files call.words)
   pub elf_always : TellsFaultyProgram call.files (needs_in call.words)
       → NoneFailed call → (status ≡ 3) ⊎ (status ≡ 7)
   -- 4: the script is refused
-  pub script : status ≡ 4 → Wrote call (IsScriptLine call)
+  pub script : status ≡ 4 → Wrote call (IsScriptLine call.files call.words)
   pub script_always : TellsBadScript call.files (needs_in call.words)
       → NoneFailed call → (status ≡ 4) ⊎ (status ≡ 7)
   -- 5: a file that is needed couldn't be read
@@ -117,12 +117,33 @@ pub record IsOutcome (call : Call) (status : ℕ) : Type 0 where
   pub shelf_counts : NoneFalls call.read_faults call.read_faults_after
   pub sink_counts : NeverFalls call.write_faults call.write_faults_after
 
+-- the files of a shelf that tells the bytes of each
+abbrev pub all_told : (List ℕ → List ℕ) → Files
+all_told files = λ name. Some (files name)
+
 -- the same over files and a sink that never fail: the bytes of each file are told, and neither 5 nor 6 comes
 pub record IsSureOutcome
     (words : List (List ℕ)) (files : List ℕ → List ℕ) (held held_after : Option (List ℕ)) (status : ℕ)
     : Type 0 where
+  pub statuses : IsStatus status
   pub no_read_fault : status ≢ 5
   pub no_write_fault : status ≢ 6
-  pub done : status ≡ 0 → GainedOf held held_after (IsOutput (λ name. Some (files name)) words)
-  pub plain : status ≡ 0 → GainedOf held held_after (IsPlainOutput (λ name. Some (files name)) words)
-  pub complete : TellsGoodFiles (λ name. Some (files name)) (needs_in words) → (status ≡ 0) ⊎ (status ≡ 7)
+  -- 0: the sink gained the output of the words, which is the plain machine's too
+  pub done : status ≡ 0 → GainedOf held held_after (IsOutput (all_told files) words)
+  pub plain : status ≡ 0 → GainedOf held held_after (IsPlainOutput (all_told files) words)
+  -- 2: the words are of no command; it yields to want of memory
+  pub usage : status ≡ 2 → (command_of words ≡ None) × Gained held held_after (fault_line Usage)
+  pub usage_always : command_of words ≡ None → (status ≡ 2) ⊎ (status ≡ 7)
+  -- 3: the program is refused
+  pub elf : status ≡ 3 → GainedOf held held_after (IsElfLine (all_told files) words)
+  pub elf_always : TellsFaultyProgram (all_told files) (needs_in words) → (status ≡ 3) ⊎ (status ≡ 7)
+  -- 4: the script is refused
+  pub script : status ≡ 4 → GainedOf held held_after (IsScriptLine (all_told files) words)
+  pub script_always : TellsBadScript (all_told files) (needs_in words) → (status ≡ 4) ⊎ (status ≡ 7)
+  -- 7: memory ran out
+  pub memory : status ≡ 7 → Gained held held_after (fault_line Memory)
+  -- 8: a file that is needed has too many bytes
+  pub big : status ≡ 8 → HasBigFile (all_told files) (needs_in words) × Gained held held_after (fault_line Big)
+  pub big_always : TellsBigFile (all_told files) (needs_in words) → (status ≡ 8) ⊎ (status ≡ 7)
+  -- where the files are good, there is an output
+  pub complete : TellsGoodFiles (all_told files) (needs_in words) → (status ≡ 0) ⊎ (status ≡ 7)

@@ -126,13 +126,13 @@ module _ (call : Call) where
   usage_said fault cause gained is = absurd cc
 
   elf_said : (fault : Fault) → HasCause fault → WroteText call (fault_line fault) → fault_status fault ≡ 3
-      → Wrote call (IsElfLine call)
+      → Wrote call (IsElfLine call.files call.words)
   elf_said (Elf fault) cause gained is =
       (fault_line (Elf fault), record { fault = fault; refused = cause; line = refl }, gained)
   elf_said fault cause gained is = absurd cc
 
   script_said : (fault : Fault) → HasCause fault → WroteText call (fault_line fault) → fault_status fault ≡ 4
-      → Wrote call (IsScriptLine call)
+      → Wrote call (IsScriptLine call.files call.words)
   script_said (Script number) cause gained is =
       (fault_line (Script number), record { number = number; refused = cause; line = refl }, gained)
   script_said fault cause gained is = absurd cc
