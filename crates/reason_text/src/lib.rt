@@ -4,6 +4,8 @@
 mod conditions;
 mod keeping;
 mod messages;
+#[cfg(test)]
+mod tests;
 mod usage;
 
 pub use keeping::KeepingShelf;

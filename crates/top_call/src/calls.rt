@@ -28,6 +28,10 @@ use std::thread::Threads;
 /// sink fails, the status is 6, and it holds a prefix of the text.
 ///
 /// `run` alone starts worker threads and waits for them. The gate is passed once before each turn of a worker.
+///
+/// The call of [`rseq_quiet`] is made first, and what it answers is the answer unless it is None. No clause says
+/// so: where the words are no `run` both have the same clause `outcome`, and memory may run out in the one call
+/// and not in the other.
 pub fn rseq_main<R: Threads + Wait + Sync, S: Shelf, K: Sink, G: Gate + Sync>(
     alloc: Global,
     rt: &R,
@@ -84,7 +88,7 @@ pub fn rseq_explained<R: Threads + Wait + Sync, S: Shelf, K: Sink, G: Gate + Syn
 /// the sink was called. Where they are a `run` and memory runs out before that is known, the line of that fault
 /// is written at status 7.
 ///
-/// It takes no runtime, so it waits for nobody and returns.
+/// It takes no runtime, so it waits for nobody and returns. [`rseq_main`] makes this call first.
 pub fn rseq_quiet<S: Shelf, K: Sink>(
     alloc: Global,
     words: &[String],
