@@ -2,32 +2,9 @@
 //! it ended; or how many acts of each form each hart made; or the place that a script comes to.
 #![tactic(auto)]
 
-mod conditions;
-mod delivery;
-mod elf_places;
-mod faults;
-mod fetching;
-mod keeping;
-mod messages;
-mod output;
-mod play;
-mod reasons;
-mod run;
-mod shared;
-mod solo;
-mod summary;
-mod sure;
-#[cfg(test)]
-mod tests;
-mod texts;
-mod theorems;
-mod top_call;
-mod usage;
-
-use faults::Fault;
-use keeping::KeepingShelf;
-use messages::{AtHand, OUT_OF_MEMORY, brief, explain};
+use outcomes::Fault;
 use outside::{FileShelf, OpenGate, OutSink};
+use reason_text::{AtHand, KeepingShelf, OUT_OF_MEMORY, USAGE, brief, explain};
 use std::alloc::Global;
 use std::env;
 use std::io::ErrorKind;
@@ -36,7 +13,6 @@ use std::rt::Files;
 use std::sync::Wait;
 use std::thread::Threads;
 use top_call::rseq_explained;
-use usage::USAGE;
 
 /// Where the words can't be taken, nothing is printed on standard output.
 fn main(rt: HostRuntime) -> ExitCode {

@@ -1,0 +1,5 @@
+mod Chosen
+mod Playing
+mod SoloSteps
+mod Stretches
+mod Summaries

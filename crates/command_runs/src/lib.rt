@@ -1,0 +1,15 @@
+//! How the run of each command comes about, on a machine of one hart or of several, and its text.
+#![tactic(auto)]
+
+mod output;
+mod run;
+mod scripts;
+mod shared;
+mod solo;
+mod summary;
+
+pub use output::output_text;
+pub use run::run_workers;
+pub use scripts::play;
+pub use solo::run_solo;
+pub use summary::summary_text;

@@ -1,0 +1,72 @@
+//! The text of a run.
+
+ghost use Rattle.std.specs.Prelude.{◌≡◌, ◌<◌, ◌++◌, All, IfOk, OnOk};
+ghost use Rattle.step_log.specs.Grammar.{log_text};
+ghost use Rattle.outcomes.specs.Outputs.{log_output};
+ghost use Rattle.outcomes.specs.Text.{console_text, entries_text};
+
+use arrayvec::ArrayVec;
+use mach_types::Entry;
+use machine_core::Machine;
+use place_text::{push_end, push_number_line};
+use std::alloc::{AllocError, Global};
+use step_log::print_entry;
+
+/// The most bytes of a log's line.
+const LONGEST_LINE: usize = 38;
+
+/// More bytes than there are around the console's bytes and the log's lines.
+const FRAME: usize = 128;
+
+/// The text of a run: its console, its log and its end.
+#[tactic(auto, unfolding(outcomes::specs::Text::output_text))]
+pub fn output_text(alloc: Global, machine: &Machine) -> Result<Vec<u8>, AllocError>
+    requires { All (λ e. e.hart.0 < 8) machine.now.log }
+    ensures { IfOk result (λ text. text.items ≡ log_output machine.now.setting machine.now.log) }
+{
+    let console = machine.console();
+    let log = machine.log();
+    let mut text = Vec::with_capacity(alloc, size_of_text(console, log))?;
+    push_console(&mut text, console)?;
+    push_entries(&mut text, log)?;
+    push_end(&mut text, machine.end())?;
+    Ok(text)
+}
+
+/// Room for a whole text, so that it grows at no line.
+fn size_of_text(console: &[u8], log: &[Entry]) -> usize {
+    let lines = log.len().saturating_mul(LONGEST_LINE);
+    lines.saturating_add(console.len()).saturating_add(FRAME)
+}
+
+/// Appends the console's length, its bytes and a newline.
+fn push_console(text: &mut Vec<u8>, console: &[u8]) -> Result<(), AllocError>
+    ensures { OnOk result (text.new.items ≡ text.old.items ++ console_text console.now) }
+{
+    push_number_line(text, b"console", console.len())?;
+    text.extend_from_slice(console)?;
+    text.push(b'\n')?;
+    Ok(())
+}
+
+/// Appends how many entries the log has, and its lines.
+fn push_entries(text: &mut Vec<u8>, log: &[Entry]) -> Result<(), AllocError>
+    requires { All (λ e. e.hart.0 < 8) log.now }
+    ensures { OnOk result (text.new.items ≡ text.old.items ++ entries_text log.now) }
+{
+    push_number_line(text, b"log", log.len())?;
+    push_lines(text, log)
+}
+
+/// Appends the lines of a log.
+fn push_lines(text: &mut Vec<u8>, log: &[Entry]) -> Result<(), AllocError>
+    requires { All (λ e. e.hart.0 < 8) log.now }
+    ensures { OnOk result (text.new.items ≡ text.old.items ++ log_text log.now) }
+{
+    for entry in log {
+        let mut line = ArrayVec::new();
+        print_entry(entry, &mut line);
+        text.extend_from_slice(line.as_slice())?;
+    }
+    Ok(())
+}

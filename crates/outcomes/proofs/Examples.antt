@@ -1,0 +1,56 @@
+-- Worked examples of texts and lines, by computation.
+use Rattle.std.proofs.Common.{◌≡◌, ℕ, [], ◌∷◌, ◌++◌, refl, codes}
+use Rattle.std.specs.Fmt.{digits}
+use Rattle.mach_types.specs.declared.events.Kind.TheVariants.{Exec, Done}
+use Rattle.mach_types.specs.declared.limits.End.TheVariants.{Exit}
+use Rattle.elf_load.specs.declared.fault.ElfFault.TheVariants.{Short, Flags}
+use Rattle.step_log.specs.Text.{hex_text}
+use Rattle.block_model.specs.declared.acts.SeqEnd.TheVariants.{Cut}
+use Rattle.block_view.specs.declared.forms.Act.{Act}
+use Rattle.block_view.specs.declared.forms.Form.{Form}
+use Rattle.block_view.specs.declared.forms.Form.TheVariants.{Step, Kernel, Sequence}
+use Rattle.outcomes.specs.declared.faults.Fault.TheVariants.{Usage, Elf, Script}
+use Rattle.outcomes.specs.Summary.{summary_text}
+use Rattle.outcomes.specs.Text.{output_text, fault_line}
+
+usage_line : fault_line Usage ≡ codes "fault usage\n"
+unfolding fault_line
+usage_line = refl
+
+elf_line_with_number : fault_line (Elf (Flags 1)) ≡ codes "fault elf 8 1\n"
+unfolding fault_line digits
+elf_line_with_number = refl
+
+script_line : fault_line (Script 15) ≡ codes "fault script 15\n"
+unfolding fault_line digits
+script_line = refl
+
+elf_line_alone : fault_line (Elf Short) ≡ codes "fault elf 1\n"
+unfolding fault_line digits
+elf_line_alone = refl
+
+-- a run that makes one event and exits with 7
+one_event : output_text []
+    (record { hart = record { 0 = 0 }; kind = Exec; tid = record { 0 = 1 }; pc = 0x10078 } ∷ []) (Exit 7)
+    ≡ codes "console 0\n\nlog 1\n0 exec 1 0000000000010078\nend exit 7\n"
+unfolding output_text digits hex_text
+one_event = refl
+
+-- an act of a hart, from one entry to another
+abbrev an_act : ℕ → ℕ → ℕ → Form → Act
+an_act hart first last form = record {
+  hart = record { 0 = hart };
+  first = first;
+  last = last;
+  tid = record { 0 = 1 };
+  form = form;
+}
+
+-- the summary of two harts: the first has a step and a sequence that was cut, the other the return of a barrier
+two_harts : summary_text 2
+    (an_act 0 1 1 Step ∷ an_act 0 2 3 (Sequence (Cut 0x10110)) ∷ an_act 1 4 4 Kernel ∷ [])
+    (record { hart = record { 0 = 1 }; kind = Done; tid = record { 0 = 2 }; pc = 0x10108 } ∷ []) (Exit 1)
+    ≡ codes "hart 0 step 1 left 0 cut 1 dropped 0 dead 0 open 0 kernel 0\n"
+    ++ codes "hart 1 step 0 left 0 cut 0 dropped 0 dead 0 open 0 kernel 1\n" ++ codes "barriers 1\nend exit 1\n"
+unfolding summary_text digits
+two_harts = refl

@@ -1,0 +1,77 @@
+-- Why a call gives no output.
+use Rattle.std.specs.Prelude.{ℕ, ◌≡◌, ◌⊎◌, List, Option, None}
+use Rattle.mach_types.specs.declared.limits.Limits.{Limits}
+use Rattle.elf_load.specs.declared.fault.ElfFault.{ElfFault}
+use Rattle.elf_load.specs.declared.image.Image.{Image}
+use Rattle.outside.specs.Counts.{Rose}
+use Rattle.outcomes.specs.declared.faults.Fault.{Fault}
+use Rattle.outcomes.specs.declared.faults.Fault.TheVariants.{Usage, Read, Memory, Big, Elf, Script}
+use Rattle.command_words.specs.Grammar.{Command}
+use Rattle.outcomes.specs.Needs as need
+use Rattle.outcomes.specs.Programs.{Files, IsProgram, IsRefused, IsScript, IsTooBig, most_program_bytes}
+use Rattle.outcomes.specs.Programs.{most_script_bytes, start_of}
+use Rattle.outcomes.specs.Runs.{IsFirstBadLine}
+use Rattle.command_words.specs.Words.{command_of}
+
+-- the program that is needed is refused for this fault
+abbrev pub IsRefusalOf : Files → need.Needs → ElfFault → Type 0
+IsRefusalOf files need.Nothing fault = ⊥
+IsRefusalOf files (need.Program program limits) fault = IsRefused files program limits fault
+IsRefusalOf files (need.Script program script limits) fault = IsRefused files program limits fault
+
+-- a script is refused at the line of this number, after its program was taken
+pub record IsScriptRefused
+    (files : Files) (program script : List ℕ) (limits : Limits) (number : ℕ) : Type 0 where
+  pub image : Image
+  pub taken : IsProgram files program limits image
+  pub lines : List ℕ
+  pub read : IsScript files script lines
+  pub first : IsFirstBadLine (start_of image limits) lines number
+
+-- the script that is needed is refused at the line of this number
+abbrev pub IsScriptRefusalOf : Files → need.Needs → ℕ → Type 0
+IsScriptRefusalOf files need.Nothing number = ⊥
+IsScriptRefusalOf files (need.Program program limits) number = ⊥
+IsScriptRefusalOf files (need.Script program script limits) number =
+    IsScriptRefused files program script limits number
+
+-- a script has too many bytes, after its program was taken
+pub record IsBigScript (files : Files) (program script : List ℕ) (limits : Limits) : Type 0 where
+  pub image : Image
+  pub taken : IsProgram files program limits image
+  pub big : IsTooBig files script most_script_bytes
+
+-- a file that is needed has too many bytes: the program, or the script after the program was taken
+abbrev pub HasBigFile : Files → need.Needs → Type 0
+HasBigFile files need.Nothing = ⊥
+HasBigFile files (need.Program program limits) = IsTooBig files program most_program_bytes
+HasBigFile files (need.Script program script limits) =
+    IsTooBig files program most_program_bytes ⊎ IsBigScript files program script limits
+
+-- a script couldn't be read, after its program was taken: the count of faults of its name rose
+pub record IsUnreadScript
+    (files : Files) (program script : List ℕ) (limits : Limits) (old new : List ℕ → ℕ) : Type 0 where
+  pub image : Image
+  pub taken : IsProgram files program limits image
+  pub rose : Rose (old script) (new script)
+
+-- a file that is needed couldn't be read: the count of faults of the program's name rose, or that of the
+-- script's after the program was taken
+abbrev pub ReadFailed : Files → need.Needs → (List ℕ → ℕ) → (List ℕ → ℕ) → Type 0
+ReadFailed files need.Nothing old new = ⊥
+ReadFailed files (need.Program program limits) old new = Rose (old program) (new program)
+ReadFailed files (need.Script program script limits) old new =
+    Rose (old program) (new program) ⊎ IsUnreadScript files program script limits old new
+
+-- why a fault comes where a command is asked for, or none; want of memory is free
+abbrev pub IsCauseOf : Files → Option Command → (List ℕ → ℕ) → (List ℕ → ℕ) → Fault → Type 0
+IsCauseOf files command old new Usage = command ≡ None
+IsCauseOf files command old new Read = ReadFailed files (need.needs_of command) old new
+IsCauseOf files command old new Memory = Unit {0}
+IsCauseOf files command old new Big = HasBigFile files (need.needs_of command)
+IsCauseOf files command old new (Elf fault) = IsRefusalOf files (need.needs_of command) fault
+IsCauseOf files command old new (Script number) = IsScriptRefusalOf files (need.needs_of command) number
+
+-- the same, by the words
+abbrev pub IsCause : Files → List (List ℕ) → (List ℕ → ℕ) → (List ℕ → ℕ) → Fault → Type 0
+IsCause files words old new fault = IsCauseOf files (command_of words) old new fault

@@ -1,0 +1,90 @@
+-- Writing a text and giving its status.
+use Rattle.std.specs.Prelude.{ℕ, ◌≡◌, ◌⊎◌, List, Option, Some, None, Result, Ok, Err}
+use Rattle.std.specs.declared.alloc.Global.{Global}
+use Rattle.std.specs.declared.io.ErrorKind.{ErrorKind}
+use Rattle.std.specs.declared.vec.Vec.{Vec}
+use Rattle.mach_types.specs.declared.limits.Limits.{Limits}
+use Rattle.elf_load.specs.Faults.{first_fault}
+use Rattle.block_model.specs.Setting.{Setting}
+use Rattle.outside.specs.Counts.{Rose}
+use Rattle.outside.specs.Told.{Gained, GainedPrefix}
+use Rattle.outcomes.specs.declared.reasons.Explained.{Explained}
+use Rattle.outcomes.specs.declared.reasons.FileRole.{FileRole}
+use Rattle.outcomes.specs.declared.reasons.Reason.{Reason}
+use Rattle.outcomes.specs.declared.reasons.Reason.TheVariants.{Words, Unread, NoMemory, TooBig, Elf, Script, Unwritten}
+use Rattle.outcomes.specs.ElfPlaces.{place_of}
+use Rattle.outcomes.specs.Programs.{Files, IsTooBig}
+use Rattle.outcomes.specs.Reasons.{IsBadLine, most_bytes, reason_status}
+
+-- the status was due and the sink gained the whole text
+pub record IsWritten (old new : Option (List ℕ)) (text : List ℕ) (due answered : ℕ) : Type 0 where
+  pub status : answered ≡ due
+  pub gained : Gained old new text
+
+-- the status is that of a failed sink, whose count of faults rose, and it gained a prefix of the text
+pub record IsCutShort
+    (old new : Option (List ℕ)) (before after : ℕ) (text : List ℕ) (answered : ℕ) : Type 0 where
+  pub status : answered ≡ 6
+  pub rose : Rose before after
+  pub gained : GainedPrefix old new text
+
+-- one of the two
+abbrev pub IsDelivered : Option (List ℕ) → Option (List ℕ) → ℕ → ℕ → List ℕ → ℕ → ℕ → Type 0
+IsDelivered old new before after text due status =
+    IsWritten old new text due status ⊎ IsCutShort old new before after text status
+
+-- how a call that has this answer is explained where it is written
+abbrev pub due_for : Result (Vec ℕ Global) Reason → Explained
+due_for (Ok text) = record { status = 0; reason = None }
+due_for (Err reason) = record { status = reason_status reason; reason = Some reason }
+
+-- the sink failed, whose count of faults rose and which says this of it
+pub record IsUnwritten (before after : ℕ) (said : Option ErrorKind) (explained : Explained) : Type 0 where
+  pub failed : explained ≡ record { status = 6; reason = Some (Unwritten said) }
+  pub rose : Rose before after
+
+-- a call is explained as it was due, or the sink failed
+abbrev pub IsAsDue : ℕ → ℕ → Option ErrorKind → Explained → Explained → Type 0
+IsAsDue before after said due explained = (explained ≡ due) ⊎ IsUnwritten before after said explained
+
+-- the file of this name couldn't be read, which has this role; the shelf's count rose, and it says this of it
+pub record IsUnreadFile
+    (name : List ℕ) (file : FileRole) (old new : List ℕ → ℕ) (said : Option ErrorKind) (other : FileRole)
+    (trouble : Option ErrorKind) : Type 0 where
+  pub role : other ≡ file
+  pub rose : Rose (old name) (new name)
+  pub trouble_told : trouble ≡ said
+
+-- why the file of this name isn't read, which has this role
+abbrev pub IsFileReason :
+    Files → List ℕ → FileRole → (List ℕ → ℕ) → (List ℕ → ℕ) → Option ErrorKind → Reason → Type 0
+IsFileReason files name file old new said (Words fault) = ⊥
+IsFileReason files name file old new said (Unread other trouble) =
+    IsUnreadFile name file old new said other trouble
+IsFileReason files name file old new said NoMemory = Unit {0}
+IsFileReason files name file old new said (TooBig other) =
+    (other ≡ file) × IsTooBig files name (most_bytes file)
+IsFileReason files name file old new said (Elf fault about) = ⊥
+IsFileReason files name file old new said (Script number fault) = ⊥
+IsFileReason files name file old new said (Unwritten trouble) = ⊥
+
+-- why no image is taken from these bytes
+abbrev pub IsLoadReason : List ℕ → Limits → Reason → Type 0
+IsLoadReason bytes limits (Words fault) = ⊥
+IsLoadReason bytes limits (Unread file trouble) = ⊥
+IsLoadReason bytes limits NoMemory = Unit {0}
+IsLoadReason bytes limits (TooBig file) = ⊥
+IsLoadReason bytes limits (Elf fault about) =
+    (first_fault bytes limits.frames ≡ Some fault) × (about ≡ place_of bytes limits fault)
+IsLoadReason bytes limits (Script number fault) = ⊥
+IsLoadReason bytes limits (Unwritten trouble) = ⊥
+
+-- why a script isn't played to its end: memory is short, or one of its lines is the first bad one
+abbrev pub IsPlayReason : Setting → List ℕ → Reason → Type 0
+IsPlayReason s text (Words fault) = ⊥
+IsPlayReason s text (Unread file trouble) = ⊥
+IsPlayReason s text NoMemory = Unit {0}
+IsPlayReason s text (TooBig file) = ⊥
+IsPlayReason s text (Elf fault about) = ⊥
+IsPlayReason s text (Script number fault) = IsBadLine s text number fault
+IsPlayReason s text (Unwritten trouble) = ⊥

@@ -1,0 +1,14 @@
+pub mod Answers
+pub mod Causes
+pub mod Delivery
+pub mod ElfPlaces
+pub mod Needs
+pub mod Outcome
+pub mod Outputs
+pub mod Programs
+pub mod Reasons
+pub mod Runs
+pub mod Statuses
+pub mod Summary
+pub mod Text
+pub mod Told

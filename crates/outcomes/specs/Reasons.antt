@@ -1,0 +1,182 @@
+-- Why a call gives no output, exactly: the reason that goes with its status (own).
+use Rattle.std.specs.Prelude.{ℕ, ◌≡◌, ◌↔◌, List, Option, Some, None, Result, Ok, Err, IfSome, if◌then◌else◌}
+use Rattle.std.specs.declared.io.ErrorKind.{ErrorKind}
+use Rattle.mach_types.specs.declared.events.Entry.{Entry}
+use Rattle.mach_types.specs.declared.events.Tid.{Tid}
+use Rattle.mach_types.specs.declared.limits.Limits.{Limits}
+use Rattle.elf_load.specs.declared.fault.ElfFault.{ElfFault}
+use Rattle.block_model.specs.Deciding.{decide, history}
+use Rattle.block_model.specs.Replay.{Ask, is_as_said}
+use Rattle.block_model.specs.Setting.{Setting}
+use Rattle.block_model.specs.declared.refusals.Refused.{Refused}
+use Rattle.outside.specs.Counts.{Rose}
+use Rattle.command_words.specs.declared.faults.WordsFault.{WordsFault}
+use Rattle.command_words.specs.WordFaults.{words_fault}
+use Rattle.command_words.specs.Words.{command_of}
+use Rattle.outcomes.specs.declared.faults.Fault.{Fault}
+use Rattle.outcomes.specs.declared.faults.Fault.TheVariants as told
+use Rattle.outcomes.specs.declared.reasons.ElfPlace.{ElfPlace}
+use Rattle.outcomes.specs.declared.reasons.Explained.{Explained}
+use Rattle.outcomes.specs.declared.reasons.FileRole.{FileRole}
+use Rattle.outcomes.specs.declared.reasons.FileRole.TheVariants as role
+use Rattle.outcomes.specs.declared.reasons.LineFault.{LineFault}
+use Rattle.outcomes.specs.declared.reasons.LineFault.TheVariants as line
+use Rattle.outcomes.specs.declared.reasons.Reason.{Reason}
+use Rattle.outcomes.specs.declared.reasons.Reason.TheVariants.{Words, Unread, NoMemory, TooBig, Elf, Script, Unwritten}
+use Rattle.outcomes.specs.Causes.{IsBigScript, IsScriptRefused, IsUnreadScript}
+use Rattle.outcomes.specs.ElfPlaces.{place_of}
+use Rattle.outcomes.specs.Needs as need
+use Rattle.outcomes.specs.Outcome.{Call, CouldNotWrite, IsOutcome, WroteText}
+use Rattle.outcomes.specs.Programs.{Files, IsRefused, IsTooBig, most_program_bytes, most_script_bytes, start_of}
+use Rattle.outcomes.specs.Runs.{IsFirstBadLine}
+use Rattle.outcomes.specs.Text.{fault_line}
+
+-- how many bytes a file of this role may have
+abbrev pub most_bytes : FileRole → ℕ
+most_bytes role.Program = most_program_bytes
+most_bytes role.Script = most_script_bytes
+
+-- the exit status that goes with a reason
+abbrev pub reason_status : Reason → ℕ
+reason_status (Words fault) = 2
+reason_status (Elf fault about) = 3
+reason_status (Script number fault) = 4
+reason_status (Unread file trouble) = 5
+reason_status (Unwritten trouble) = 6
+reason_status NoMemory = 7
+reason_status (TooBig file) = 8
+
+-- the fault whose line is written; none where no line could be written
+abbrev pub fault_told : Reason → Option Fault
+fault_told (Words fault) = Some told.Usage
+fault_told (Unread file trouble) = Some told.Read
+fault_told NoMemory = Some told.Memory
+fault_told (TooBig file) = Some told.Big
+fault_told (Elf fault about) = Some (told.Elf fault)
+fault_told (Script number fault) = Some (told.Script number)
+fault_told (Unwritten trouble) = None
+
+-- what is wrong with a line by what is decided of its event: the event isn't allowed, or its entry isn't as the
+-- line says; none where nothing is
+abbrev pub decided_fault : Option (Tid × ℕ) → Result Entry Refused → Option LineFault
+decided_fault check (Err refused) = Some (line.Refused refused)
+decided_fault check (Ok e) = if is_as_said check e then None else Some (line.Differs e)
+
+-- what is wrong with a line of a script after a log: it can't be read, or what is decided of it; none where
+-- nothing is
+abbrev pub line_fault : Setting → List Entry → Option Ask → Option LineFault
+line_fault s log None = Some line.Malformed
+line_fault s log (Some ask) = decided_fault ask.check (decide s (history s log) ask.hart.0 ask.choice)
+
+-- the line of this number is the first bad one of a script, and this is what is wrong with it
+pub record IsBadLine (s : Setting) (text : List ℕ) (number : ℕ) (fault : LineFault) : Type 0 where
+  pub first : IsFirstBadLine s text number
+  pub why : line_fault s first.log first.line ≡ Some fault
+
+-- the file of this role couldn't be read: the count of faults of the program's name rose, or that of the
+-- script's after the program was taken
+abbrev pub IsUnread : Files → need.Needs → (List ℕ → ℕ) → (List ℕ → ℕ) → FileRole → Type 0
+IsUnread files need.Nothing old new file = ⊥
+IsUnread files (need.Program program limits) old new role.Program = Rose (old program) (new program)
+IsUnread files (need.Program program limits) old new role.Script = ⊥
+IsUnread files (need.Script program script limits) old new role.Program = Rose (old program) (new program)
+IsUnread files (need.Script program script limits) old new role.Script =
+    IsUnreadScript files program script limits old new
+
+-- the file of this role has too many bytes: the program, or the script after the program was taken
+abbrev pub IsBig : Files → need.Needs → FileRole → Type 0
+IsBig files need.Nothing file = ⊥
+IsBig files (need.Program program limits) role.Program = IsTooBig files program most_program_bytes
+IsBig files (need.Program program limits) role.Script = ⊥
+IsBig files (need.Script program script limits) role.Program = IsTooBig files program most_program_bytes
+IsBig files (need.Script program script limits) role.Script = IsBigScript files program script limits
+
+-- the program of this name was read, and is refused for this fault, which is about this
+pub record IsRefusedAbout
+    (files : Files) (name : List ℕ) (limits : Limits) (fault : ElfFault) (about : Option ElfPlace) : Type 0 where
+  pub refused : IsRefused files name limits fault
+  pub place : about ≡ place_of refused.bytes limits fault
+
+-- the program that is needed is
+abbrev pub IsRefusalAbout : Files → need.Needs → ElfFault → Option ElfPlace → Type 0
+IsRefusalAbout files need.Nothing fault about = ⊥
+IsRefusalAbout files (need.Program program limits) fault about = IsRefusedAbout files program limits fault about
+IsRefusalAbout files (need.Script program script limits) fault about =
+    IsRefusedAbout files program limits fault about
+
+-- a script is refused at the line of this number, after its program was taken, and this is what is wrong with
+-- the line
+pub record IsScriptRefusedFor
+    (files : Files) (program script : List ℕ) (limits : Limits) (number : ℕ) (fault : LineFault) : Type 0 where
+  pub refused : IsScriptRefused files program script limits number
+  pub why : line_fault (start_of refused.image limits) refused.first.log refused.first.line ≡ Some fault
+
+-- the script that is needed is
+abbrev pub IsScriptRefusalFor : Files → need.Needs → ℕ → LineFault → Type 0
+IsScriptRefusalFor files need.Nothing number fault = ⊥
+IsScriptRefusalFor files (need.Program program limits) number fault = ⊥
+IsScriptRefusalFor files (need.Script program script limits) number fault =
+    IsScriptRefusedFor files program script limits number fault
+
+-- a file of this role couldn't be read, and this is what the shelf says of its last fault
+pub record IsUnreadFor
+    (files : Files) (needs : need.Needs) (old new : List ℕ → ℕ) (said : Option ErrorKind) (file : FileRole)
+    (trouble : Option ErrorKind) : Type 0 where
+  pub unread : IsUnread files needs old new file
+  pub trouble_told : trouble ≡ said
+
+-- why a reason comes of the files that are needed, where the shelf says this of its last fault; want of memory is
+-- free
+abbrev pub IsReasonFor : Files → need.Needs → (List ℕ → ℕ) → (List ℕ → ℕ) → Option ErrorKind → Reason → Type 0
+IsReasonFor files needs old new said (Words fault) = ⊥
+IsReasonFor files needs old new said (Unread file trouble) = IsUnreadFor files needs old new said file trouble
+IsReasonFor files needs old new said NoMemory = Unit {0}
+IsReasonFor files needs old new said (TooBig file) = IsBig files needs file
+IsReasonFor files needs old new said (Elf fault about) = IsRefusalAbout files needs fault about
+IsReasonFor files needs old new said (Script number fault) = IsScriptRefusalFor files needs number fault
+IsReasonFor files needs old new said (Unwritten trouble) = ⊥
+
+-- the words are no command, and this is what is wrong with them
+pub record AreWrongWords (words : List (List ℕ)) (fault : WordsFault) : Type 0 where
+  pub none : command_of words ≡ None
+  pub why : words_fault words ≡ Some fault
+
+-- why a reason comes of the words and of the files that they need
+abbrev pub IsReasonOf : Files → List (List ℕ) → (List ℕ → ℕ) → (List ℕ → ℕ) → Option ErrorKind → Reason → Type 0
+IsReasonOf files words old new said (Words fault) = AreWrongWords words fault
+IsReasonOf files words old new said reason = IsReasonFor files (need.needs_in words) old new said reason
+
+-- what the shelf and the sink say of their last faults, after a call
+pub record Troubles : Type 0 where
+  pub shelf : Option ErrorKind
+  pub sink : Option ErrorKind
+
+-- the sink failed, and this is what it says of it
+pub record IsUnwrittenFor (call : Call) (said trouble : Option ErrorKind) : Type 0 where
+  pub failed : CouldNotWrite call
+  pub trouble_told : trouble ≡ said
+
+-- why a reason is told of a call: the sink failed, or it is the reason of the words and the files
+abbrev pub IsReason : Call → Troubles → Reason → Type 0
+IsReason call troubles (Unwritten trouble) = IsUnwrittenFor call troubles.sink trouble
+IsReason call troubles reason =
+    IsReasonOf call.files call.words call.read_faults call.read_faults_after troubles.shelf reason
+
+-- the line of the fault that a reason stands for was written, if it stands for one
+abbrev pub WroteLine : Call → Reason → Type 0
+WroteLine call reason = IfSome (fault_told reason) (λ fault. WroteText call (fault_line fault))
+
+-- the status of a call, and the reason that goes with it
+pub record IsExplained (call : Call) (troubles : Troubles) (explained : Explained) : Type 0 where
+  -- the status is what the call answers
+  pub outcome : IsOutcome call explained.status
+  -- there is no reason exactly at status 0
+  pub none : (explained.reason ≡ None) ↔ (explained.status ≡ 0)
+  -- the reason is that the text couldn't be written exactly at status 6
+  pub unwritten : (explained.reason ≡ Some (Unwritten troubles.sink)) ↔ (explained.status ≡ 6)
+  -- the reason has this status
+  pub status : IfSome explained.reason (λ reason. explained.status ≡ reason_status reason)
+  -- and its line is the one that was written
+  pub line : IfSome explained.reason (WroteLine call)
+  -- and it is why the output isn't there
+  pub why : IfSome explained.reason (IsReason call troubles)

@@ -1,0 +1,85 @@
+-- What a shelf that tells its files tells of those that are needed: which answer is due where no device fails
+-- and memory suffices.
+use Rattle.std.specs.Prelude.{ℕ, ◌≡◌, ◌<◌, ◌≤◌, ◌⊎◌, List, Some, IsSome, length}
+use Rattle.mach_types.specs.declared.events.Entry.{Entry}
+use Rattle.mach_types.specs.declared.limits.Limits.{Limits}
+use Rattle.elf_load.specs.declared.fault.ElfFault.{ElfFault}
+use Rattle.elf_load.specs.declared.image.Image.{Image}
+use Rattle.elf_load.specs.Images.{IsImage}
+use Rattle.outcomes.specs.Needs.{Needs, Nothing, Program, Script}
+use Rattle.outcomes.specs.Programs.{Files, IsFaulty, IsGood, most_program_bytes, most_script_bytes, start_of}
+use Rattle.outcomes.specs.Runs.{IsFirstBadLine, IsPlayedRun}
+
+-- the file of this name is told, and its bytes are a program that the loader takes
+pub record TellsGood (files : Files) (name : List ℕ) (limits : Limits) : Type 0 where
+  pub bytes : List ℕ
+  pub told : files name ≡ Some bytes
+  pub good : IsGood limits bytes
+
+-- it is told, and its bytes are a program that is refused
+pub record TellsFaulty (files : Files) (name : List ℕ) (limits : Limits) : Type 0 where
+  pub bytes : List ℕ
+  pub told : files name ≡ Some bytes
+  pub fault : ElfFault
+  pub faulty : IsFaulty limits bytes fault
+
+-- it is told, and has more bytes than it may
+pub record TellsBig (files : Files) (name : List ℕ) (most : ℕ) : Type 0 where
+  pub bytes : List ℕ
+  pub told : files name ≡ Some bytes
+  pub big : most < length bytes
+
+-- a good program and the script beside it are told, and the script isn't too big; this is the program's image
+pub record TellsBoth (files : Files) (program script : List ℕ) (limits : Limits) : Type 0 where
+  pub bytes : List ℕ
+  pub told : files program ≡ Some bytes
+  pub good : IsGood limits bytes
+  pub image : Image
+  pub loaded : IsImage bytes image
+  pub lines : List ℕ
+  pub script_told : files script ≡ Some lines
+  pub fits : length lines ≤ most_script_bytes
+
+-- each line of the script can be read, and its event is allowed
+pub record TellsAllowed (files : Files) (program script : List ℕ) (limits : Limits) : Type 0 where
+  pub both : TellsBoth files program script limits
+  pub log : List Entry
+  pub run : IsPlayedRun (start_of both.image limits) both.lines log
+
+-- a line of the script is the first that can't be read, isn't allowed, or differs
+pub record TellsBadLine (files : Files) (program script : List ℕ) (limits : Limits) : Type 0 where
+  pub both : TellsBoth files program script limits
+  pub number : ℕ
+  pub first : IsFirstBadLine (start_of both.image limits) both.lines number
+
+-- the files that are needed are told
+abbrev pub AreTold : Files → Needs → Type 0
+AreTold files Nothing = Unit {0}
+AreTold files (Program program limits) = IsSome (files program)
+AreTold files (Script program script limits) = IsSome (files program) × IsSome (files script)
+
+-- the files that are needed are told and give a whole output
+abbrev pub TellsGoodFiles : Files → Needs → Type 0
+TellsGoodFiles files Nothing = ⊥
+TellsGoodFiles files (Program program limits) = TellsGood files program limits
+TellsGoodFiles files (Script program script limits) = TellsAllowed files program script limits
+
+-- the program that is needed is told and is refused
+abbrev pub TellsFaultyProgram : Files → Needs → Type 0
+TellsFaultyProgram files Nothing = ⊥
+TellsFaultyProgram files (Program program limits) = TellsFaulty files program limits
+TellsFaultyProgram files (Script program script limits) = TellsFaulty files program limits
+
+-- the script that is needed is told and is refused
+abbrev pub TellsBadScript : Files → Needs → Type 0
+TellsBadScript files Nothing = ⊥
+TellsBadScript files (Program program limits) = ⊥
+TellsBadScript files (Script program script limits) = TellsBadLine files program script limits
+
+-- a file that is needed is told and is too big: the program, or the script beside a good program
+abbrev pub TellsBigFile : Files → Needs → Type 0
+TellsBigFile files Nothing = ⊥
+TellsBigFile files (Program program limits) = TellsBig files program most_program_bytes
+TellsBigFile files (Script program script limits) =
+    TellsBig files program most_program_bytes
+    ⊎ (TellsGood files program limits × TellsBig files script most_script_bytes)

@@ -1,0 +1,346 @@
+-- What a shelf tells of the files of a command leaves one answer, beside want of memory and failed reads.
+use Rattle.std.proofs.Common.{◌≡◌, ◌≢◌, ℕ, ◌<◌, ◌≤◌, ◌⊎◌, inl, inr, List, length, refl, sym, ap, ◌∙◌, subst}
+use Rattle.std.proofs.Common.{arith, Option, Some, None, Ok, Err}
+use Rattle.std.specs.Prelude.{IfSome}
+use Rattle.mach_types.specs.declared.events.Entry.{Entry}
+use Rattle.mach_types.specs.declared.limits.Limits.{Limits}
+use Rattle.elf_load.specs.declared.fault.ElfFault.{ElfFault}
+use Rattle.elf_load.specs.declared.image.Image.{Image}
+use Rattle.elf_load.specs.Images.{IsImage}
+use Rattle.block_model.specs.Replay.{played_read}
+use Rattle.block_model.specs.Setting.{Setting}
+use Rattle.block_model.proofs.Laws.{is_bad, one_setting, played_read-all, run_is_played}
+use Rattle.outcomes.specs.declared.faults.Fault.{Fault}
+use Rattle.outcomes.specs.declared.faults.Fault.TheVariants as fault
+use Rattle.outcomes.specs.declared.faults.Fault.TheVariants.{Usage, Read, Memory, Big, Elf}
+use Rattle.outcomes.specs.Causes.{HasBigFile, IsBigScript, IsCauseOf, IsRefusalOf, IsScriptRefusalOf}
+use Rattle.outcomes.specs.Causes.{IsScriptRefused, ReadFailed}
+use Rattle.outcomes.specs.Needs.{Needs, Nothing, Program, Script, needs_of}
+use Rattle.outcomes.specs.Outputs.{IsOutputOf, IsPlayed}
+use Rattle.outcomes.specs.Programs.{Files, IsFaulty, IsGood, IsProgram, IsReadAs, IsRefused, IsScript}
+use Rattle.outcomes.specs.Programs.{IsTooBig, asks_of, most_program_bytes, most_script_bytes, start_of}
+use Rattle.outcomes.specs.Runs.{IsFirstBadLine, IsPlayedRun}
+use Rattle.outcomes.specs.Statuses.{fault_status}
+use Rattle.outcomes.specs.Told.{TellsBadScript, TellsBig, TellsBigFile, TellsBoth, TellsFaulty}
+use Rattle.outcomes.specs.Told.{TellsFaultyProgram, TellsGood, TellsGoodFiles}
+use Rattle.command_words.specs.Grammar.{Command, Solo, Play, Blocks, Inspect, Run}
+
+-- a file that is told was read as it is
+read_as_told : (files : Files) (name bytes told : List ℕ) → IsReadAs files name bytes → files name ≡ Some told
+    → bytes ≡ told
+read_as_told files name bytes told read is = subst (λ o. IfSome o (λ t. bytes ≡ t)) is read
+
+big_as_told : (files : Files) (name told : List ℕ) (most : ℕ) → IsTooBig files name most
+    → files name ≡ Some told → most < length told
+big_as_told files name told most big is = subst (λ o. IfSome o (λ t. most < length t)) is big
+
+-- a file that fits isn't too big
+not_big : (files : Files) (name told : List ℕ) (most : ℕ) → files name ≡ Some told → length told ≤ most
+    → ¬ (IsTooBig files name most)
+not_big files name told most is fits big = omega (arith, big_as_told files name told most big is)
+
+-- one program is good or faulty, not both, and neither where it is too big
+good_not_faulty : (limits : Limits) (bytes other : List ℕ) (fault : ElfFault) → IsGood limits bytes
+    → IsFaulty limits other fault → other ≢ bytes
+good_not_faulty limits bytes other fault good faulty same =
+    let none = subst (λ b. IsGood limits b) (sym same) good in
+    absurd (cc (sym none.no_fault ∙ faulty.due))
+
+good_not_refused : (files : Files) (name bytes : List ℕ) (limits : Limits) (fault : ElfFault)
+    → files name ≡ Some bytes → IsGood limits bytes → ¬ (IsRefused files name limits fault)
+good_not_refused files name bytes limits fault told good refused =
+    good_not_faulty limits bytes refused.bytes fault good refused.faulty
+    (read_as_told files name refused.bytes bytes refused.read told)
+
+faulty_not_taken : (files : Files) (name bytes : List ℕ) (limits : Limits) (fault : ElfFault) (image : Image)
+    → files name ≡ Some bytes → IsFaulty limits bytes fault → ¬ (IsProgram files name limits image)
+faulty_not_taken files name bytes limits fault image told faulty taken =
+    good_not_faulty limits taken.bytes bytes fault taken.good faulty
+    (sym (read_as_told files name taken.bytes bytes taken.read told))
+
+big_not_taken : (files : Files) (name bytes : List ℕ) (limits : Limits) (image : Image)
+    → files name ≡ Some bytes → most_program_bytes < length bytes → ¬ (IsProgram files name limits image)
+big_not_taken files name bytes limits image told big taken =
+    let same = read_as_told files name taken.bytes bytes taken.read told in
+    let long = subst (λ b. most_program_bytes < length b) (sym same) big in
+    omega (arith, long, taken.good.fits)
+
+big_not_refused : (files : Files) (name bytes : List ℕ) (limits : Limits) (fault : ElfFault)
+    → files name ≡ Some bytes → most_program_bytes < length bytes → ¬ (IsRefused files name limits fault)
+big_not_refused files name bytes limits fault told big refused =
+    let same = read_as_told files name refused.bytes bytes refused.read told in
+    let long = subst (λ b. most_program_bytes < length b) (sym same) big in
+    omega (arith, long, refused.faulty.fits)
+
+-- a script whose lines are all allowed has no bad line
+allowed_not_bad : (s : Setting) (text : List ℕ) (log : List Entry) (n : ℕ) → IsPlayedRun s text log
+    → ¬ (IsFirstBadLine s text n)
+allowed_not_bad s text log n run first =
+    let bad : played_read s (asks_of text) ≡ Err n = is_bad s (asks_of text) n first in
+    let good : played_read s (asks_of text) ≡ Ok log =
+    ap (played_read s) run.readable ∙ played_read-all s run.lines
+    ∙ run_is_played s run.lines log run.block_run run.answers in
+    absurd (cc (sym good ∙ bad))
+
+-- the same program and script were taken as are told
+same_start : (files : Files) (program script : List ℕ) (limits : Limits) (image : Image)
+    → (both : TellsBoth files program script limits) → IsProgram files program limits image
+    → start_of image limits ≡ start_of both.image limits
+same_start files program script limits image both taken =
+    let same = read_as_told files program taken.bytes both.bytes taken.read both.told in
+    one_setting both.bytes image both.image limits 0 (subst (λ b. IsImage b image) same taken.loaded)
+    both.loaded
+
+-- what an output used of the files that are needed
+abbrev pub AreUsed : Files → Needs → Type 0
+AreUsed files Nothing = Unit {0}
+AreUsed files (Program program limits) = (image : Image) × IsProgram files program limits image
+AreUsed files (Script program script limits) =
+    (image : Image) × (lines : List ℕ) × (log : List Entry) × IsProgram files program limits image
+    × IsScript files script lines × IsPlayedRun (start_of image limits) lines log
+
+used_by_script : (files : Files) (program script : List ℕ) (limits : Limits) (image : Image) (log : List Entry)
+    → IsPlayed files program script limits image log → AreUsed files (Script program script limits)
+used_by_script files program script limits image log played =
+    (image, played.lines, log, played.taken, played.read, played.run)
+
+pub used_by_output : (files : Files) (command : Option Command) (written : List ℕ)
+    → IsOutputOf files command written → AreUsed files (needs_of command)
+used_by_output files None written output = tt
+used_by_output files (Some (Solo program limits)) written output = (output.image, output.taken)
+used_by_output files (Some (Play program script limits)) written output =
+    used_by_script files program script limits output.image output.log output.played
+used_by_output files (Some (Blocks program script limits)) written output =
+    used_by_script files program script limits output.image output.log output.played
+used_by_output files (Some (Inspect program script limits)) written output =
+    used_by_script files program script limits output.image output.log output.played
+used_by_output files (Some (Run program limits seed)) written output = (output.image, output.taken)
+
+-- the program is good
+program_fits : (files : Files) (name bytes : List ℕ) (limits : Limits) → files name ≡ Some bytes
+    → IsGood limits bytes → ¬ (IsTooBig files name most_program_bytes)
+program_fits files name bytes limits told good = not_big files name bytes most_program_bytes told good.fits
+
+script_fits : (files : Files) (program script : List ℕ) (limits : Limits)
+    → (both : TellsBoth files program script limits) → ¬ (IsTooBig files script most_script_bytes)
+script_fits files program script limits both =
+    not_big files script both.lines most_script_bytes both.script_told both.fits
+
+no_big_file : (files : Files) (program script : List ℕ) (limits : Limits)
+    → (both : TellsBoth files program script limits)
+    → ¬ (IsTooBig files program most_program_bytes ⊎ IsBigScript files program script limits)
+no_big_file files program script limits both (inl big) =
+    program_fits files program both.bytes limits both.told both.good big
+no_big_file files program script limits both (inr big) = script_fits files program script limits both big.big
+
+-- the lines are those that are told
+same_first : (files : Files) (program script : List ℕ) (limits : Limits) (n : ℕ)
+    → (both : TellsBoth files program script limits)
+    → (refused : IsScriptRefused files program script limits n)
+    → IsFirstBadLine (start_of both.image limits) both.lines n
+same_first files program script limits n both refused =
+    let lines : refused.lines ≡ both.lines =
+    read_as_told files script refused.lines both.lines refused.read.read both.script_told in
+    let first = subst (λ (s : Setting). IsFirstBadLine s refused.lines n)
+    (same_start files program script limits refused.image both refused.taken) refused.first in
+    subst (λ text. IsFirstBadLine (start_of both.image limits) text n) lines first
+
+-- what can't be where good files are told
+no_big_when_good : (files : Files) (needs : Needs) → TellsGoodFiles files needs → ¬ (HasBigFile files needs)
+no_big_when_good files Nothing told big = absurd told
+no_big_when_good files (Program program limits) told big =
+    program_fits files program told.bytes limits told.told told.good big
+no_big_when_good files (Script program script limits) told big =
+    no_big_file files program script limits told.both big
+
+no_refusal_when_good : (files : Files) (needs : Needs) (fault : ElfFault) → TellsGoodFiles files needs
+    → ¬ (IsRefusalOf files needs fault)
+no_refusal_when_good files Nothing fault told refused = absurd told
+no_refusal_when_good files (Program program limits) fault told refused =
+    good_not_refused files program told.bytes limits fault told.told told.good refused
+no_refusal_when_good files (Script program script limits) fault told refused =
+    good_not_refused files program told.both.bytes limits fault told.both.told told.both.good refused
+
+no_bad_line_when_good : (files : Files) (needs : Needs) (n : ℕ) → TellsGoodFiles files needs
+    → ¬ (IsScriptRefusalOf files needs n)
+no_bad_line_when_good files Nothing n told refused = absurd told
+no_bad_line_when_good files (Program program limits) n told refused = refused
+no_bad_line_when_good files (Script program script limits) n told refused =
+    allowed_not_bad (start_of told.both.image limits) told.both.lines told.log n told.run
+    (same_first files program script limits n told.both refused)
+
+-- a fault comes for a command's needs, for want of memory, or where there is no command
+no_usage : (files : Files) (command : Option Command) (Tells : Files → Needs → Type 0)
+    → ¬ (Tells files Nothing) → Tells files (needs_of command) → ¬ (command ≡ None)
+no_usage files command Tells never told none = never (subst (λ c. Tells files (needs_of c)) none told)
+
+-- where good files are told, no fault comes but want of memory
+pub fault_when_good : (files : Files) (command : Option Command) (old new : List ℕ → ℕ) (fault : Fault)
+    → TellsGoodFiles files (needs_of command) → ¬ (ReadFailed files (needs_of command) old new)
+    → IsCauseOf files command old new fault → fault ≡ Memory
+fault_when_good files command old new Usage told unread cause =
+    absurd (no_usage files command TellsGoodFiles (λ never. never) told cause)
+fault_when_good files command old new Read told unread cause = absurd (unread cause)
+fault_when_good files command old new Memory told unread cause = refl
+fault_when_good files command old new Big told unread cause =
+    absurd (no_big_when_good files (needs_of command) told cause)
+fault_when_good files command old new (Elf fault) told unread cause =
+    absurd (no_refusal_when_good files (needs_of command) fault told cause)
+fault_when_good files command old new (fault.Script number) told unread cause =
+    absurd (no_bad_line_when_good files (needs_of command) number told cause)
+
+-- what can't be where a faulty program is told
+faulty_fits : (files : Files) (name : List ℕ) (limits : Limits) → (told : TellsFaulty files name limits)
+    → ¬ (IsTooBig files name most_program_bytes)
+faulty_fits files name limits told =
+    not_big files name told.bytes most_program_bytes told.told told.faulty.fits
+
+faulty_program : (files : Files) (name : List ℕ) (limits : Limits) (image : Image)
+    → (told : TellsFaulty files name limits) → ¬ (IsProgram files name limits image)
+faulty_program files name limits image told =
+    faulty_not_taken files name told.bytes limits told.fault image told.told told.faulty
+
+faulty_big : (files : Files) (program script : List ℕ) (limits : Limits) → TellsFaulty files program limits
+    → ¬ (IsTooBig files program most_program_bytes ⊎ IsBigScript files program script limits)
+faulty_big files program script limits told (inl big) = faulty_fits files program limits told big
+faulty_big files program script limits told (inr big) =
+    faulty_program files program limits big.image told big.taken
+
+no_big_when_faulty : (files : Files) (needs : Needs) → TellsFaultyProgram files needs
+    → ¬ (HasBigFile files needs)
+no_big_when_faulty files Nothing told big = absurd told
+no_big_when_faulty files (Program program limits) told big = faulty_fits files program limits told big
+no_big_when_faulty files (Script program script limits) told big =
+    faulty_big files program script limits told big
+
+no_bad_line_when_faulty : (files : Files) (needs : Needs) (n : ℕ) → TellsFaultyProgram files needs
+    → ¬ (IsScriptRefusalOf files needs n)
+no_bad_line_when_faulty files Nothing n told refused = absurd told
+no_bad_line_when_faulty files (Program program limits) n told refused = refused
+no_bad_line_when_faulty files (Script program script limits) n told refused =
+    faulty_program files program limits refused.image told refused.taken
+
+pub unused_when_faulty : (files : Files) (needs : Needs) → TellsFaultyProgram files needs
+    → ¬ (AreUsed files needs)
+unused_when_faulty files Nothing told used = absurd told
+unused_when_faulty files (Program program limits) told used =
+    faulty_program files program limits used.0 told used.1
+unused_when_faulty files (Script program script limits) told used =
+    faulty_program files program limits used.0 told used.3
+
+-- where a faulty program is told, it is refused
+pub fault_when_faulty : (files : Files) (command : Option Command) (old new : List ℕ → ℕ) (fault : Fault)
+    → TellsFaultyProgram files (needs_of command) → ¬ (ReadFailed files (needs_of command) old new)
+    → IsCauseOf files command old new fault → (fault_status fault ≡ 3) ⊎ (fault_status fault ≡ 7)
+fault_when_faulty files command old new Usage told unread cause =
+    absurd (no_usage files command TellsFaultyProgram (λ never. never) told cause)
+fault_when_faulty files command old new Read told unread cause = absurd (unread cause)
+fault_when_faulty files command old new Memory told unread cause = inr refl
+fault_when_faulty files command old new Big told unread cause =
+    absurd (no_big_when_faulty files (needs_of command) told cause)
+fault_when_faulty files command old new (Elf fault) told unread cause = inl refl
+fault_when_faulty files command old new (fault.Script number) told unread cause =
+    absurd (no_bad_line_when_faulty files (needs_of command) number told cause)
+
+-- what can't be where a bad line is told
+no_big_when_bad_line : (files : Files) (needs : Needs) → TellsBadScript files needs
+    → ¬ (HasBigFile files needs)
+no_big_when_bad_line files Nothing told big = absurd told
+no_big_when_bad_line files (Program program limits) told big = absurd told
+no_big_when_bad_line files (Script program script limits) told big =
+    no_big_file files program script limits told.both big
+
+no_refusal_when_bad_line : (files : Files) (needs : Needs) (fault : ElfFault) → TellsBadScript files needs
+    → ¬ (IsRefusalOf files needs fault)
+no_refusal_when_bad_line files Nothing fault told refused = absurd told
+no_refusal_when_bad_line files (Program program limits) fault told refused = absurd told
+no_refusal_when_bad_line files (Script program script limits) fault told refused =
+    good_not_refused files program told.both.bytes limits fault told.both.told told.both.good refused
+
+pub unused_when_bad_line : (files : Files) (needs : Needs) → TellsBadScript files needs
+    → ¬ (AreUsed files needs)
+unused_when_bad_line files Nothing told used = absurd told
+unused_when_bad_line files (Program program limits) told used = absurd told
+unused_when_bad_line files (Script program script limits) told used =
+    let lines = read_as_told files script used.1 told.both.lines used.4.read told.both.script_told in
+    let run = subst (λ (s : Setting). IsPlayedRun s used.1 used.2)
+    (same_start files program script limits used.0 told.both used.3) used.5 in
+    allowed_not_bad (start_of told.both.image limits) told.both.lines used.2 told.number
+    (subst (λ text. IsPlayedRun (start_of told.both.image limits) text used.2) lines run) told.first
+
+-- where a bad line is told, the script is refused
+pub fault_when_bad_line : (files : Files) (command : Option Command) (old new : List ℕ → ℕ) (fault : Fault)
+    → TellsBadScript files (needs_of command) → ¬ (ReadFailed files (needs_of command) old new)
+    → IsCauseOf files command old new fault → (fault_status fault ≡ 4) ⊎ (fault_status fault ≡ 7)
+fault_when_bad_line files command old new Usage told unread cause =
+    absurd (no_usage files command TellsBadScript (λ never. never) told cause)
+fault_when_bad_line files command old new Read told unread cause = absurd (unread cause)
+fault_when_bad_line files command old new Memory told unread cause = inr refl
+fault_when_bad_line files command old new Big told unread cause =
+    absurd (no_big_when_bad_line files (needs_of command) told cause)
+fault_when_bad_line files command old new (Elf fault) told unread cause =
+    absurd (no_refusal_when_bad_line files (needs_of command) fault told cause)
+fault_when_bad_line files command old new (fault.Script number) told unread cause = inl refl
+
+-- what can't be where a file that is too big is told
+big_program : (files : Files) (name : List ℕ) (limits : Limits) (image : Image)
+    → (told : TellsBig files name most_program_bytes) → ¬ (IsProgram files name limits image)
+big_program files name limits image told = big_not_taken files name told.bytes limits image told.told told.big
+
+big_refused : (files : Files) (name : List ℕ) (limits : Limits) (fault : ElfFault)
+    → (told : TellsBig files name most_program_bytes) → ¬ (IsRefused files name limits fault)
+big_refused files name limits fault told =
+    big_not_refused files name told.bytes limits fault told.told told.big
+
+big_script_read : (files : Files) (script text : List ℕ) → TellsBig files script most_script_bytes
+    → IsReadAs files script text → most_script_bytes < length text
+big_script_read files script text told read =
+    subst (λ t. most_script_bytes < length t) (sym (read_as_told files script text told.bytes read told.told))
+    told.big
+
+no_run_when_big : (files : Files) (program script text : List ℕ) (limits : Limits) (image : Image)
+    → (TellsBig files program most_program_bytes)
+    ⊎ (TellsGood files program limits × TellsBig files script most_script_bytes)
+    → IsProgram files program limits image → IsReadAs files script text → ¬ (length text ≤ most_script_bytes)
+no_run_when_big files program script text limits image (inl told) taken read fits =
+    big_program files program limits image told taken
+no_run_when_big files program script text limits image (inr told) taken read fits =
+    omega (arith, big_script_read files script text told.1 read, fits)
+
+no_refusal_when_big : (files : Files) (needs : Needs) (fault : ElfFault) → TellsBigFile files needs
+    → ¬ (IsRefusalOf files needs fault)
+no_refusal_when_big files Nothing fault told refused = absurd told
+no_refusal_when_big files (Program program limits) fault told refused =
+    big_refused files program limits fault told refused
+no_refusal_when_big files (Script program script limits) fault (inl told) refused =
+    big_refused files program limits fault told refused
+no_refusal_when_big files (Script program script limits) fault (inr told) refused =
+    good_not_refused files program told.0.bytes limits fault told.0.told told.0.good refused
+
+no_bad_line_when_big : (files : Files) (needs : Needs) (n : ℕ) → TellsBigFile files needs
+    → ¬ (IsScriptRefusalOf files needs n)
+no_bad_line_when_big files Nothing n told refused = absurd told
+no_bad_line_when_big files (Program program limits) n told refused = refused
+no_bad_line_when_big files (Script program script limits) n told refused =
+    no_run_when_big files program script refused.lines limits refused.image told refused.taken
+    refused.read.read refused.read.fits
+
+pub unused_when_big : (files : Files) (needs : Needs) → TellsBigFile files needs → ¬ (AreUsed files needs)
+unused_when_big files Nothing told used = absurd told
+unused_when_big files (Program program limits) told used = big_program files program limits used.0 told used.1
+unused_when_big files (Script program script limits) told used =
+    no_run_when_big files program script used.1 limits used.0 told used.3 used.4.read used.4.fits
+
+-- where a file that is too big is told, that is said
+pub fault_when_big : (files : Files) (command : Option Command) (old new : List ℕ → ℕ) (fault : Fault)
+    → TellsBigFile files (needs_of command) → ¬ (ReadFailed files (needs_of command) old new)
+    → IsCauseOf files command old new fault → (fault_status fault ≡ 8) ⊎ (fault_status fault ≡ 7)
+fault_when_big files command old new Usage told unread cause =
+    absurd (no_usage files command TellsBigFile (λ never. never) told cause)
+fault_when_big files command old new Read told unread cause = absurd (unread cause)
+fault_when_big files command old new Memory told unread cause = inr refl
+fault_when_big files command old new Big told unread cause = inl refl
+fault_when_big files command old new (Elf fault) told unread cause =
+    absurd (no_refusal_when_big files (needs_of command) fault told cause)
+fault_when_big files command old new (fault.Script number) told unread cause =
+    absurd (no_bad_line_when_big files (needs_of command) number told cause)

@@ -1,0 +1,6 @@
+mod Exclusions
+pub mod Laws
+mod OneOutput
+mod PlainOutputs
+mod Repeats
+mod Seeds

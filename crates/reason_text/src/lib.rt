@@ -1,0 +1,13 @@
+//! The text on standard error: why a call gives no output, for a person.
+#![tactic(auto)]
+
+mod conditions;
+mod keeping;
+mod messages;
+#[cfg(test)]
+mod tests;
+mod usage;
+
+pub use keeping::KeepingShelf;
+pub use messages::{AtHand, OUT_OF_MEMORY, brief, explain};
+pub use usage::USAGE;

@@ -1,0 +1,131 @@
+//! The text of a reason, for a person: one line or two, and the usage behind them where the words are wrong.
+
+mod lines;
+mod programs;
+mod shown;
+mod words;
+
+use command_words::{Command, command_of};
+use lines::push_line_fault;
+use outcomes::{FileRole, Reason};
+use programs::push_elf_fault;
+use shown::Shown;
+use std::alloc::{AllocError, Global};
+use std::fmt::Write;
+use std::io::ErrorKind;
+use words::push_words_fault;
+
+/// What each text begins with.
+const BEGIN: &str = "rseq_run: ";
+
+/// The text where memory ran out. It is fixed, since there is no memory for another.
+pub const OUT_OF_MEMORY: &str = "rseq_run: out of memory\n";
+
+/// What is at hand where a reason is explained.
+#[derive(Clone, Copy, Drop)]
+pub struct AtHand<'a> {
+    /// The words of the command line.
+    pub words: &'a [String],
+    /// The script as it was read.
+    pub script: &'a [u8],
+}
+
+/// A text of a reason that needs no memory, where there is none for a longer one.
+pub fn brief(reason: &Reason) -> &'static str {
+    match reason {
+        Reason::Words(_) => "rseq_run: these words are no command\n",
+        Reason::Unread { .. } => "rseq_run: a file can't be read\n",
+        Reason::NoMemory => OUT_OF_MEMORY,
+        Reason::TooBig(_) => "rseq_run: a file has too many bytes\n",
+        Reason::Elf { .. } => "rseq_run: the program is refused\n",
+        Reason::Script { .. } => "rseq_run: a line of the script is refused\n",
+        Reason::Unwritten { .. } => "rseq_run: standard output can't be written\n",
+    }
+}
+
+/// The text of a reason.
+pub fn explain(alloc: Global, reason: &Reason, at_hand: AtHand) -> Result<String, AllocError> {
+    let mut text = String::from_str(alloc, BEGIN)?;
+    match reason {
+        Reason::Words(fault) => push_words_fault(&mut text, *fault, at_hand.words)?,
+        Reason::Unread { file, trouble } => {
+            let name = file_name(alloc, at_hand.words, *file)?;
+            push_unread(&mut text, name, *trouble)?;
+        }
+        Reason::NoMemory => return String::from_str(alloc, OUT_OF_MEMORY),
+        Reason::TooBig(file) => {
+            let name = file_name(alloc, at_hand.words, *file)?;
+            push_too_big(&mut text, name, *file)?;
+        }
+        Reason::Elf { fault, about } => {
+            let name = file_name(alloc, at_hand.words, FileRole::Program)?;
+            push_elf_fault(&mut text, name, *fault, *about)?;
+        }
+        Reason::Script { line, fault } => {
+            let name = file_name(alloc, at_hand.words, FileRole::Script)?;
+            push_line_fault(&mut text, name, at_hand.script, *line, *fault)?;
+        }
+        Reason::Unwritten { trouble } => push_unwritten(&mut text, *trouble)?,
+    }
+    Ok(text)
+}
+
+/// The name of the file that has this role, by the words.
+fn file_name(alloc: Global, words: &[String], role: FileRole) -> Result<&str, AllocError> {
+    let name = match (role, command_of(alloc, words)?) {
+        (
+            FileRole::Program,
+            Some(
+                Command::Solo { program, .. }
+                | Command::Play { program, .. }
+                | Command::Blocks { program, .. }
+                | Command::Inspect { program, .. }
+                | Command::Run { program, .. },
+            ),
+        ) => program,
+        (
+            FileRole::Script,
+            Some(
+                Command::Play { script, .. }
+                | Command::Blocks { script, .. }
+                | Command::Inspect { script, .. },
+            ),
+        ) => script,
+        _ => "the file",
+    };
+    Ok(name)
+}
+
+/// Appends that a file couldn't be read.
+fn push_unread(
+    text: &mut String,
+    name: &str,
+    trouble: Option<ErrorKind>,
+) -> Result<(), AllocError> {
+    let name = Shown(name);
+    write!(text, "{name} can't be read")?;
+    push_trouble(text, trouble)
+}
+
+/// Appends that a file has too many bytes.
+fn push_too_big(text: &mut String, name: &str, role: FileRole) -> Result<(), AllocError> {
+    let name = Shown(name);
+    let most = role.most_bytes();
+    writeln!(text, "{name} has more than {most} bytes")
+}
+
+/// Appends that the text couldn't be written.
+fn push_unwritten(text: &mut String, trouble: Option<ErrorKind>) -> Result<(), AllocError> {
+    text.push_str("standard output can't be written")?;
+    push_trouble(text, trouble)
+}
+
+/// Appends what the system said, and ends the line.
+fn push_trouble(text: &mut String, trouble: Option<ErrorKind>) -> Result<(), AllocError> {
+    match trouble {
+        Some(ErrorKind::NotFound) => text.push_str(": there is no such file\n"),
+        Some(ErrorKind::IsADirectory) => text.push_str(": it is a directory\n"),
+        Some(ErrorKind::Uncategorized) | None => text.push_str("\n"),
+        Some(kind) => writeln!(text, ": {kind}"),
+    }
+}

@@ -1,0 +1,200 @@
+-- The reason why there is no output, by where it comes, and the fault that it stands for.
+use Rattle.std.proofs.Common.{◌≡◌, ℕ, ◌-◌, ◌^◌, ◌<◌, ◌≤◌, inl, inr, List, length, refl, sym, arith, Some, Result, Ok, Err}
+use Rattle.std.proofs.Common.{Option, subst, leb, Bool, true, false}
+use Rattle.std.proofs.lemmas.Bool.{leb-true, leb-false}
+use Rattle.std.specs.Prelude.{IfErr, IfSome, IsErrAnd, IsSome}
+use Rattle.std.specs.declared.io.ErrorKind.{ErrorKind}
+use Rattle.mach_types.specs.declared.limits.Limits.{Limits}
+use Rattle.elf_load.specs.declared.image.Image.{Image}
+use Rattle.elf_load.specs.Faults.{first_fault}
+use Rattle.outside.specs.Counts.{NeverFalls, NoneFalls, Rose}
+use Rattle.outcomes.specs.declared.reasons.FileRole.{FileRole}
+use Rattle.outcomes.specs.declared.reasons.FileRole.TheVariants as role
+use Rattle.outcomes.specs.declared.reasons.Reason.{Reason}
+use Rattle.outcomes.specs.declared.reasons.Reason.TheVariants.{Words, Unread, NoMemory, TooBig, Elf, Script, Unwritten}
+use Rattle.outcomes.specs.Causes.{HasBigFile, IsCause, IsRefusalOf, IsScriptRefusalOf, ReadFailed}
+use Rattle.outcomes.specs.Delivery.{IsFileReason, IsLoadReason, IsPlayReason}
+use Rattle.outcomes.specs.ElfPlaces.{place_of}
+use Rattle.outcomes.specs.Needs as need
+use Rattle.outcomes.specs.Programs.{Files, IsProgram, IsReadAs, IsScript, IsTooBig, most_program_bytes}
+use Rattle.outcomes.specs.Programs.{most_script_bytes, start_of}
+use Rattle.outcomes.specs.Reasons.{IsBadLine, IsBig, IsReasonFor, IsReasonOf, IsRefusalAbout}
+use Rattle.outcomes.specs.Reasons.{IsScriptRefusalFor, IsUnread, fault_told}
+
+-- a count that rose after it didn't fall rose
+rose_later : (old mid new : ℕ) → NeverFalls old mid → NeverFalls mid new → Rose mid new → Rose old new
+rose_later old mid new first second rose = λ below. by_room (leb (2 ^ 64 - 1) mid) refl below
+  where
+    by_room : (b : Bool) → leb (2 ^ 64 - 1) mid ≡ b → old < 2 ^ 64 - 1 → old < new
+    by_room true full below = let at = leb-true _ _ full in let kept = second.1 at in
+        omega (arith, at, kept, below)
+    by_room false room below = let under = leb-false _ _ room in let more = rose under in
+        omega (arith, more, first.0)
+
+-- the program isn't read
+pub unread_program : (files : Files) (program : List ℕ) (limits : Limits) (old new : List ℕ → ℕ) (said : Option ErrorKind) (reason : Reason)
+    → IsFileReason files program role.Program old new said reason
+    → IsReasonFor files (need.Program program limits) old new said reason
+unread_program files program limits old new said (Words fault) why = absurd why
+unread_program files program limits old new said (Unread role.Program trouble) why =
+    record { unread = why.rose; trouble_told = why.trouble_told }
+unread_program files program limits old new said (Unread role.Script trouble) why = absurd (cc why.role)
+unread_program files program limits old new said NoMemory why = tt
+unread_program files program limits old new said (TooBig role.Program) why = why.1
+unread_program files program limits old new said (TooBig role.Script) why = absurd cc
+unread_program files program limits old new said (Elf fault about) why = absurd why
+unread_program files program limits old new said (Script number fault) why = absurd why
+unread_program files program limits old new said (Unwritten trouble) why = absurd why
+
+-- the program is read, and no image is taken from its bytes
+pub refused_program : (files : Files) (program bytes given : List ℕ) (limits : Limits) (old new : List ℕ → ℕ) (said : Option ErrorKind)
+    (reason : Reason) → given ≡ bytes → IsReadAs files program bytes → length bytes ≤ most_program_bytes
+    → IsLoadReason given limits reason → IsReasonFor files (need.Program program limits) old new said reason
+refused_program files program bytes given limits old new said (Words fault) same read fits why = absurd why
+refused_program files program bytes given limits old new said (Unread file trouble) same read fits why = absurd why
+refused_program files program bytes given limits old new said NoMemory same read fits why = tt
+refused_program files program bytes given limits old new said (TooBig file) same read fits why = absurd why
+refused_program files program bytes given limits old new said (Elf fault about) same read fits why = record {
+  refused = record {
+    bytes = bytes;
+    read = read;
+    faulty = record {
+      fits = fits;
+      due = subst (λ (b : List ℕ). first_fault b limits.frames ≡ Some fault) same why.0;
+    };
+  };
+  place = subst (λ (b : List ℕ). about ≡ place_of b limits fault) same why.1;
+}
+refused_program files program bytes given limits old new said (Script number fault) same read fits why = absurd why
+refused_program files program bytes given limits old new said (Unwritten trouble) same read fits why = absurd why
+
+-- what is said of a program is said of it beside a script too
+pub program_beside : (files : Files) (program script : List ℕ) (limits : Limits) (old new : List ℕ → ℕ) (said : Option ErrorKind)
+    (reason : Reason) → IsReasonFor files (need.Program program limits) old new said reason
+    → IsReasonFor files (need.Script program script limits) old new said reason
+program_beside files program script limits old new said (Words fault) why = absurd why
+program_beside files program script limits old new said (Unread role.Program trouble) why =
+    record { unread = why.unread; trouble_told = why.trouble_told }
+program_beside files program script limits old new said (Unread role.Script trouble) why = absurd why.unread
+program_beside files program script limits old new said NoMemory why = tt
+program_beside files program script limits old new said (TooBig role.Program) why = why
+program_beside files program script limits old new said (TooBig role.Script) why = absurd why
+program_beside files program script limits old new said (Elf fault about) why = why
+program_beside files program script limits old new said (Script number fault) why = absurd why
+program_beside files program script limits old new said (Unwritten trouble) why = absurd why
+
+-- the script isn't read, after the program was taken
+pub unread_script : (files same : Files) (program script : List ℕ) (limits : Limits) (image : Image)
+    (old mid new : List ℕ → ℕ) (said : Option ErrorKind) (reason : Reason) → same ≡ files → IsProgram files program limits image
+    → NoneFalls old mid → NoneFalls mid new → IsFileReason same script role.Script mid new said reason
+    → IsReasonFor files (need.Script program script limits) old new said reason
+unread_script files same program script limits image old mid new said (Words fault) is taken first second why =
+    absurd why
+unread_script files same program script limits image old mid new said (Unread role.Program trouble) is taken first second why =
+    absurd (cc why.role)
+unread_script files same program script limits image old mid new said (Unread role.Script trouble) is taken first second why =
+    record {
+      unread = record {
+        image = image;
+        taken = taken;
+        rose = rose_later (old script) (mid script) (new script) (first script) (second script) why.rose;
+      };
+      trouble_told = why.trouble_told;
+    }
+unread_script files same program script limits image old mid new said NoMemory is taken first second why = tt
+unread_script files same program script limits image old mid new said (TooBig role.Program) is taken first second why =
+    absurd cc
+unread_script files same program script limits image old mid new said (TooBig role.Script) is taken first second why =
+    record {
+      image = image;
+      taken = taken;
+      big = subst (λ f. IsTooBig f script most_script_bytes) is why.1;
+    }
+unread_script files same program script limits image old mid new said (Elf fault about) is taken first second why =
+    absurd why
+unread_script files same program script limits image old mid new said (Script number fault) is taken first second why =
+    absurd why
+unread_script files same program script limits image old mid new said (Unwritten trouble) is taken first second why = absurd why
+
+-- the script isn't played to its end
+pub unplayed : (files same : Files) (program script lines text : List ℕ) (limits : Limits) (image : Image)
+    (old new : List ℕ → ℕ) (said : Option ErrorKind) (reason : Reason) → same ≡ files → text ≡ lines
+    → IsProgram files program limits image
+    → IsScript same script lines → IsPlayReason (start_of image limits) text reason
+    → IsReasonFor files (need.Script program script limits) old new said reason
+unplayed files same program script lines text limits image old new said (Words fault) is equal taken read why =
+    absurd why
+unplayed files same program script lines text limits image old new said (Unread file trouble) is equal taken read why =
+    absurd why
+unplayed files same program script lines text limits image old new said NoMemory is equal taken read why = tt
+unplayed files same program script lines text limits image old new said (TooBig file) is equal taken read why =
+    absurd why
+unplayed files same program script lines text limits image old new said (Elf fault about) is equal taken read why =
+    absurd why
+unplayed files same program script lines text limits image old new said (Script number fault) is equal taken read why =
+    let bad = subst (λ t. IsBadLine (start_of image limits) t number fault) equal why in
+    record {
+      refused = record {
+        image = image;
+        taken = taken;
+        lines = lines;
+        read = subst (λ f. IsScript f script lines) is read;
+        first = bad.first;
+      };
+      why = bad.why;
+    }
+unplayed files same program script lines text limits image old new said (Unwritten trouble) is equal taken read why = absurd why
+
+-- an error that is passed on
+pub passed_up : {X E : Type 0} (r : Result X E) (e : E) (P : E → Type 0) → IsErrAnd r (λ y. y ≡ e) → P e
+    → IfErr r P
+passed_up (Ok x) e P is p = tt
+passed_up (Err y) e P is p = subst P (sym is) p
+
+-- a reason of the words and the files is one of the fault whose line is written
+pub cause_of : (files : Files) (words : List (List ℕ)) (old new : List ℕ → ℕ) (said : Option ErrorKind) (reason : Reason)
+    → IsReasonOf files words old new said reason → IfSome (fault_told reason) (IsCause files words old new)
+cause_of files words old new said (Words fault) why = why.none
+cause_of files words old new said (Unread file trouble) why = by_needs (need.needs_in words) file why.unread
+  where
+    by_needs : (needs : need.Needs) (file : FileRole) → IsUnread files needs old new file
+        → ReadFailed files needs old new
+    by_needs need.Nothing file why = absurd why
+    by_needs (need.Program program limits) role.Program why = why
+    by_needs (need.Program program limits) role.Script why = absurd why
+    by_needs (need.Script program script limits) role.Program why = inl why
+    by_needs (need.Script program script limits) role.Script why = inr why
+cause_of files words old new said NoMemory why = tt
+cause_of files words old new said (TooBig file) why = by_needs (need.needs_in words) file why
+  where
+    by_needs : (needs : need.Needs) (file : FileRole) → IsBig files needs file → HasBigFile files needs
+    by_needs need.Nothing file why = absurd why
+    by_needs (need.Program program limits) role.Program why = why
+    by_needs (need.Program program limits) role.Script why = absurd why
+    by_needs (need.Script program script limits) role.Program why = inl why
+    by_needs (need.Script program script limits) role.Script why = inr why
+cause_of files words old new said (Elf fault about) why = by_needs (need.needs_in words) why
+  where
+    by_needs : (needs : need.Needs) → IsRefusalAbout files needs fault about → IsRefusalOf files needs fault
+    by_needs need.Nothing why = absurd why
+    by_needs (need.Program program limits) why = why.refused
+    by_needs (need.Script program script limits) why = why.refused
+cause_of files words old new said (Script number fault) why = by_needs (need.needs_in words) why
+  where
+    by_needs : (needs : need.Needs) → IsScriptRefusalFor files needs number fault
+        → IsScriptRefusalOf files needs number
+    by_needs need.Nothing why = absurd why
+    by_needs (need.Program program limits) why = absurd why
+    by_needs (need.Script program script limits) why = why.refused
+cause_of files words old new said (Unwritten trouble) why = absurd why
+
+-- it stands for a fault
+pub is_told : (files : Files) (words : List (List ℕ)) (old new : List ℕ → ℕ) (said : Option ErrorKind) (reason : Reason)
+    → IsReasonOf files words old new said reason → IsSome (fault_told reason)
+is_told files words old new said (Words fault) why = refl
+is_told files words old new said (Unread file trouble) why = refl
+is_told files words old new said NoMemory why = refl
+is_told files words old new said (TooBig file) why = refl
+is_told files words old new said (Elf fault about) why = refl
+is_told files words old new said (Script number fault) why = refl
+is_told files words old new said (Unwritten trouble) why = absurd why

@@ -1,0 +1,160 @@
+-- The outcome of a call and the reason that goes with it, from what was answered and how it was delivered.
+use Rattle.std.proofs.Common.{◌≡◌, ◌∙◌, ℕ, inl, inr, List, Option, refl, sym, ap, subst, Some, Result, Ok, Err}
+use Rattle.std.specs.declared.alloc.Global.{Global}
+use Rattle.std.specs.declared.vec.Vec.{Vec}
+use Rattle.std.specs.declared.io.ErrorKind.{ErrorKind}
+use Rattle.outcomes.specs.declared.faults.Fault.{Fault}
+use Rattle.outcomes.specs.declared.faults.Fault.TheVariants as told
+use Rattle.outcomes.specs.declared.reasons.Explained.{Explained}
+use Rattle.outcomes.specs.declared.reasons.Reason.{Reason}
+use Rattle.outcomes.specs.declared.reasons.Reason.TheVariants.{Words, Unread, NoMemory, TooBig, Elf, Script, Unwritten}
+use Rattle.std.specs.Prelude.{IfErr, IfSome, IsSome}
+use Rattle.outcomes.specs.Answers.{IsAnswerFor, IsToldFor}
+use Rattle.outcomes.specs.Causes.{IsCause}
+use Rattle.outcomes.specs.Delivery.{IsAsDue, IsDelivered, due_for}
+use Rattle.outcomes.specs.Outcome.{Call, IsOutcome, WroteText}
+use Rattle.outcomes.specs.Programs.{Files}
+use Rattle.outcomes.specs.Text.{fault_line}
+use Rattle.outcomes.specs.Reasons.{IsExplained, IsReason, IsReasonOf, Troubles, WroteLine, fault_told, reason_status}
+use Rattle.top_call.proofs.Causes.{cause_of, is_told}
+use Rattle.top_call.proofs.Outcomes.{IsKept, told_outcome}
+
+-- the fault that a reason stands for has its cause
+cause : (call : Call) (said : Option ErrorKind) (reason : Reason)
+    → IsReasonOf call.files call.words call.read_faults call.read_faults_after said reason
+    → IfSome (fault_told reason) (IsCause call.files call.words call.read_faults call.read_faults_after)
+cause call said reason why =
+    cause_of call.files call.words call.read_faults call.read_faults_after said reason why
+
+-- the outcome of an answer that was told
+outcome_of : (call : Call) (said : Option ErrorKind) (answer : Result (Vec ℕ Global) Reason) (status : ℕ) → IsKept call
+    → IsAnswerFor call.files call.words call.read_faults call.read_faults_after said answer
+    → IsToldFor call.held call.held_after call.write_faults call.write_faults_after answer status
+    → IsOutcome call status
+outcome_of call said (Ok text) status keeps output told_so = told_outcome call (Ok text) status keeps output told_so
+outcome_of call said (Err (Words fault)) status keeps why told_so =
+    told_outcome call (Err told.Usage) status keeps (cause call said (Words fault) why) told_so
+outcome_of call said (Err (Unread file trouble)) status keeps why told_so =
+    told_outcome call (Err told.Read) status keeps (cause call said (Unread file trouble) why) told_so
+outcome_of call said (Err NoMemory) status keeps why told_so =
+    told_outcome call (Err told.Memory) status keeps (cause call said NoMemory why) told_so
+outcome_of call said (Err (TooBig file)) status keeps why told_so =
+    told_outcome call (Err told.Big) status keeps (cause call said (TooBig file) why) told_so
+outcome_of call said (Err (Elf fault about)) status keeps why told_so =
+    told_outcome call (Err (told.Elf fault)) status keeps (cause call said (Elf fault about) why) told_so
+outcome_of call said (Err (Script number fault)) status keeps why told_so =
+    told_outcome call (Err (told.Script number)) status keeps (cause call said (Script number fault) why) told_so
+outcome_of call said (Err (Unwritten trouble)) status keeps why told_so = absurd why
+
+-- a reason of the words and the files
+module _ (call : Call) (troubles : Troubles) where
+  abbrev IsOfFiles : Reason → Type 0
+  IsOfFiles reason =
+      IsReasonOf call.files call.words call.read_faults call.read_faults_after troubles.shelf reason
+
+  is_reason : (reason : Reason) → IsOfFiles reason → IsReason call troubles reason
+  is_reason (Words fault) why = why
+  is_reason (Unread file trouble) why = why
+  is_reason NoMemory why = why
+  is_reason (TooBig file) why = why
+  is_reason (Elf fault about) why = why
+  is_reason (Script number fault) why = why
+  is_reason (Unwritten trouble) why = absurd why
+
+  -- has neither the status of an output nor that of a failed sink
+  not_zero : (reason : Reason) → ¬ (reason_status reason ≡ 0)
+  not_zero (Words fault) is = absurd cc
+  not_zero reason is = absurd cc
+
+  not_six : (reason : Reason) → IsOfFiles reason → ¬ (reason_status reason ≡ 6)
+  not_six (Words fault) why is = absurd cc
+  not_six (Unread file trouble) why is = absurd cc
+  not_six NoMemory why is = absurd cc
+  not_six (TooBig file) why is = absurd cc
+  not_six (Elf fault about) why is = absurd cc
+  not_six (Script number fault) why is = absurd cc
+  not_six (Unwritten trouble) why is = absurd why
+
+  not_unwritten : (reason : Reason) → IsOfFiles reason → ¬ (reason ≡ Unwritten troubles.sink)
+  not_unwritten reason why is = subst IsOfFiles is why
+
+  -- and its line was written, where its answer was told and the sink didn't fail
+  line_of : (fault : Fault) (due status : ℕ) → status ≡ due → ¬ (due ≡ 6)
+      → IsDelivered call.held call.held_after call.write_faults call.write_faults_after (fault_line fault) due status
+      → WroteText call (fault_line fault)
+  line_of fault due status is well (inl written) = written.gained
+  line_of fault due status is well (inr cut) = absurd (well (sym is ∙ cut.status))
+
+  wrote_line : (reason : Reason) (status : ℕ) → status ≡ reason_status reason → ¬ (reason_status reason ≡ 6)
+      → IsToldFor call.held call.held_after call.write_faults call.write_faults_after (Err reason) status
+      → WroteLine call reason
+  wrote_line (Words fault) status is well told_so = line_of told.Usage 2 status is well told_so
+  wrote_line (Unread file trouble) status is well told_so = line_of told.Read 5 status is well told_so
+  wrote_line NoMemory status is well told_so = line_of told.Memory 7 status is well told_so
+  wrote_line (TooBig file) status is well told_so = line_of told.Big 8 status is well told_so
+  wrote_line (Elf fault about) status is well told_so = line_of (told.Elf fault) 3 status is well told_so
+  wrote_line (Script number fault) status is well told_so = line_of (told.Script number) 4 status is well told_so
+  wrote_line (Unwritten trouble) status is well told_so = tt
+
+  by_reason : (reason : Reason) → IsOfFiles reason → IsOutcome call (reason_status reason) → WroteLine call reason
+      → IsExplained call troubles (record { status = reason_status reason; reason = Some reason })
+  by_reason reason why outcome line = record {
+    outcome = outcome;
+    none = (λ e. absurd cc, λ e. absurd (not_zero reason e));
+    unwritten = (
+      λ e. let is : reason ≡ Unwritten troubles.sink = cc in absurd (not_unwritten reason why is),
+      λ e. absurd (not_six reason why e),
+    );
+    status = refl;
+    line = line;
+    why = is_reason reason why;
+  }
+
+-- how a call is explained whose answer was told, with this outcome
+explained_so : (call : Call) (troubles : Troubles) (answer : Result (Vec ℕ Global) Reason) (explained : Explained)
+    → IsAnswerFor call.files call.words call.read_faults call.read_faults_after troubles.shelf answer
+    → IsToldFor call.held call.held_after call.write_faults call.write_faults_after answer explained.status
+    → IsAsDue call.write_faults call.write_faults_after troubles.sink (due_for answer) explained
+    → IsOutcome call explained.status → IsExplained call troubles explained
+explained_so call troubles (Ok text) explained output told_so (inl due) outcome =
+    subst (IsExplained call troubles) (sym due)
+    (record {
+      outcome = subst (λ (e : Explained). IsOutcome call e.status) due outcome;
+      none = (λ e. refl, λ e. refl);
+      unwritten = (λ e. absurd cc, λ e. absurd cc);
+      status = tt;
+      line = tt;
+      why = tt;
+    })
+explained_so call troubles (Err reason) explained why told_so (inl due) outcome =
+    let is : explained.status ≡ reason_status reason = ap (λ (e : Explained). e.status) due in
+    subst (IsExplained call troubles) (sym due)
+    (by_reason call troubles reason why (subst (λ (e : Explained). IsOutcome call e.status) due outcome)
+    (wrote_line call troubles reason explained.status is (not_six call troubles reason why) told_so))
+explained_so call troubles answer explained answered told_so (inr unwritten) outcome =
+    subst (IsExplained call troubles) (sym unwritten.failed)
+    (record {
+      outcome = subst (λ (e : Explained). IsOutcome call e.status) unwritten.failed outcome;
+      none = (λ e. absurd cc, λ e. absurd cc);
+      unwritten = (λ e. refl, λ e. refl);
+      status = refl;
+      line = tt;
+      why = record { failed = unwritten.rose; trouble_told = refl };
+    })
+
+pub explained_of : (call : Call) (troubles : Troubles) (answer : Result (Vec ℕ Global) Reason) (explained : Explained)
+    → IsKept call
+    → IsAnswerFor call.files call.words call.read_faults call.read_faults_after troubles.shelf answer
+    → IsToldFor call.held call.held_after call.write_faults call.write_faults_after answer explained.status
+    → IsAsDue call.write_faults call.write_faults_after troubles.sink (due_for answer) explained
+    → IsExplained call troubles explained
+explained_of call troubles answer explained keeps answered told_so due =
+    explained_so call troubles answer explained answered told_so due
+    (outcome_of call troubles.shelf answer explained.status keeps answered told_so)
+
+-- the reason of an answer stands for a fault, whose line can be told
+pub due_is_told : (files : Files) (words : List (List ℕ)) (old new : List ℕ → ℕ) (said : Option ErrorKind)
+    (answer : Result (Vec ℕ Global) Reason) → IsAnswerFor files words old new said answer
+    → IfErr answer (λ reason. IsSome (fault_told reason))
+due_is_told files words old new said (Ok text) output = tt
+due_is_told files words old new said (Err reason) why = is_told files words old new said reason why

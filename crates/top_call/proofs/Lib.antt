@@ -1,0 +1,7 @@
+mod Causes
+mod ElfPlaces
+mod Explaining
+mod NeverFailing
+mod Outcomes
+mod Taken
+mod Wholes

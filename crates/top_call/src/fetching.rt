@@ -1,0 +1,85 @@
+//! The files of a command: the program's image is taken, and the script is read.
+
+ghost use Rattle.std.specs.Prelude.{◌≡◌, ◌<◌, ◌≤◌, ◌⊎◌, All, Some, IfOk, IfErr, length};
+ghost use Rattle.elf_load.specs.Images.{IsBootable};
+ghost use Rattle.elf_load.specs.Faults.{first_fault};
+ghost use Rattle.outside.specs.Counts.{NoneFalls};
+ghost use Rattle.outcomes.specs.Delivery.{IsFileReason, IsLoadReason};
+ghost use Rattle.outcomes.specs.Needs.{Program as NeedsProgram};
+ghost use Rattle.outcomes.specs.Programs.{IsProgram, IsReadAs};
+ghost use Rattle.outcomes.specs.Reasons.{IsReasonFor, most_bytes};
+
+use crate::elf_places::place_of;
+use elf_load::{ElfFault, Image, load};
+use mach_types::Limits;
+use outcomes::{FileRole, Reason};
+use outside::{FetchError, Shelf, fetch};
+use std::alloc::Global;
+
+/// What was read are bytes.
+fn shows_bytes(bytes: &[u8])
+    ensures { All (λ b. b < 256) bytes.now }
+{}
+
+/// The image of the program of this name.
+pub(crate) fn taken<S: Shelf>(
+    alloc: Global,
+    name: &str,
+    limits: &Limits,
+    shelf: &mut S,
+) -> Result<Image, Reason>
+    ensures taken { IfOk result (IsProgram (S.file shelf.old) name.now limits.now) }
+    ensures bootable { IfOk result (IsBootable limits.now.frames) }
+    ensures cause { let needs = NeedsProgram name.now limits.now in
+        IfErr result (IsReasonFor (S.file shelf.old) needs (S.faults shelf.old) (S.faults shelf.new)
+        (S.last_trouble shelf.new)) }
+    ensures files { S.file shelf.new ≡ S.file shelf.old }
+    ensures counts { NoneFalls (S.faults shelf.old) (S.faults shelf.new) }
+{
+    let bytes = read_file(alloc, name, FileRole::Program, shelf)?;
+    shows_bytes(&bytes);
+    match load(alloc, &bytes, limits) {
+        Ok(image) => Ok(image),
+        Err(fault) => Err(refusal(&bytes, limits, fault)),
+    }
+}
+
+/// Why the loader takes no image from these bytes, by its fault.
+fn refusal(bytes: &[u8], limits: &Limits, fault: ElfFault) -> Reason
+    requires { (fault ≡ ElfFault.NoMemory) ⊎ (first_fault bytes.now limits.now.frames ≡ Some fault) }
+    ensures { IsLoadReason bytes.now limits.now result }
+{
+    match fault {
+        ElfFault::NoMemory => Reason::NoMemory,
+        _ => Reason::Elf {
+            fault,
+            about: place_of(bytes, limits, fault),
+        },
+    }
+}
+
+/// The bytes of the file of this name, which has this role.
+pub(crate) fn read_file<S: Shelf>(
+    alloc: Global,
+    name: &str,
+    role: FileRole,
+    shelf: &mut S,
+) -> Result<Vec<u8>, Reason>
+    ensures read { IfOk result (λ bytes. IsReadAs (S.file shelf.old) name.now bytes.items) }
+    ensures fits { IfOk result (λ bytes. length bytes.items ≤ most_bytes role) }
+    ensures cause { IfErr result
+        (IsFileReason (S.file shelf.old) name.now role (S.faults shelf.old) (S.faults shelf.new)
+        (S.last_trouble shelf.new)) }
+    ensures files { S.file shelf.new ≡ S.file shelf.old }
+    ensures counts { NoneFalls (S.faults shelf.old) (S.faults shelf.new) }
+{
+    match fetch(alloc, shelf, name, role.most_bytes()) {
+        Ok(bytes) => Ok(bytes),
+        Err(FetchError::Failed) => Err(Reason::Unread {
+            file: role,
+            trouble: shelf.trouble(),
+        }),
+        Err(FetchError::TooBig) => Err(Reason::TooBig(role)),
+        Err(FetchError::NoMemory) => Err(Reason::NoMemory),
+    }
+}

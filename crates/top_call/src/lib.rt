@@ -1,0 +1,14 @@
+//! The top call: from words, files and a sink to a status, and to the reason that goes with it.
+#![tactic(auto)]
+
+mod calls;
+mod delivery;
+mod elf_places;
+mod fetching;
+mod sure;
+#[cfg(test)]
+mod tests;
+mod texts;
+
+pub use calls::{rseq_explained, rseq_main, rseq_quiet};
+pub use sure::{sure_main, sure_quiet};

@@ -1,0 +1,45 @@
+//! The call over devices that never fail: no read fault and no write fault comes.
+
+ghost use Rattle.std.specs.Prelude.{◌≡◌, true, IfNone, IfSome};
+ghost use Rattle.outside.specs.SureShelf.{sure_file};
+ghost use Rattle.outcomes.specs.Outcome.{IsSureOutcome};
+ghost use Rattle.command_words.specs.Words.{command_of, is_run, texts};
+
+use crate::calls::{rseq_main, rseq_quiet};
+use outside::{Gate, SureShelf, SureSink};
+use std::alloc::Global;
+use std::sync::Wait;
+use std::thread::Threads;
+
+/// `rseq_main` over files and a sink that never fail. Its status is neither 5 nor 6, and on good
+/// files it is 0, or 7 for want of memory.
+pub fn sure_main<R: Threads + Wait + Sync, G: Gate + Sync>(
+    alloc: Global,
+    rt: &R,
+    words: &[String],
+    shelf: &mut SureShelf,
+    sink: &mut SureSink,
+    gate: &G,
+) -> u8
+    ensures outcome { IsSureOutcome (texts words.now) (sure_file shelf.old.files) sink.old.told sink.new.told
+        result }
+{
+    rseq_main(alloc, rt, words, shelf, sink, gate)
+}
+
+/// `rseq_quiet` over files and a sink that never fail, with the same promises: None only where the words are a
+/// `run`, and there nothing else but 7, for want of memory.
+pub fn sure_quiet(
+    alloc: Global,
+    words: &[String],
+    shelf: &mut SureShelf,
+    sink: &mut SureSink,
+) -> Option<u8>
+    ensures none { IfNone result (is_run (command_of (texts words.now)) ≡ true) }
+    ensures run { is_run (command_of (texts words.now)) ≡ true → IfSome result (λ status. status ≡ 7) }
+    ensures unused { IfNone result ((shelf.new ≡ shelf.old) × (sink.new ≡ sink.old)) }
+    ensures outcome { IfSome result
+        (IsSureOutcome (texts words.now) (sure_file shelf.old.files) sink.old.told sink.new.told) }
+{
+    rseq_quiet(alloc, words, shelf, sink)
+}
