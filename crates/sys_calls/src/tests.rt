@@ -1,13 +1,10 @@
-//! Tests: each refusal of each call beside a call that succeeds, with answers from the manual pages; and
-//! calls of many threads.
+//! Tests: each refusal of each call beside a call that succeeds, with answers from the manual pages; what
+//! threads do to one another by calls; and what the kernel writes.
 
-mod barriers;
 mod bench;
-mod memory_calls;
-mod numbers;
-mod posting;
+mod histories;
 mod refusals;
-mod sequences;
-mod signal_calls;
-mod threads;
-mod waiters;
+mod registers;
+mod scenes;
+mod steps;
+mod words;

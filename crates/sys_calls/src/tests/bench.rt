@@ -8,6 +8,7 @@ ghost use Rattle.block_model.specs.Calls.Barriers.{running_harts};
 ghost use Rattle.block_model.specs.Tables.{AreOfLive, AreSignalsOfLive, IsTables};
 ghost use Rattle.sys_calls.specs.Registered.{areas_by_number};
 
+use crate::tests::words::EXIT;
 use crate::{Areas, CallEnd, Called, Console, Kernel, area_of, make_call};
 use elf_load::load;
 use frame_pool::FramePool;
@@ -33,9 +34,6 @@ pub const USER_END: u64 = 0x40_0000_0000;
 
 /// The concurrency id that each thread holds that calls.
 pub const CID: u8 = 5;
-
-/// The number of the call by which a thread ends.
-const EXIT: u64 = 93;
 
 /// A program of two segments: the first has the headers and `ecall`, and the second is [`DATA`].
 const FILE: [u8; 180] = [
@@ -194,21 +192,13 @@ impl Bench {
         };
         let pages = booted(alloc)?;
         let mut bench = Bench { kernel, pages };
-        bench.run(rt, 0, 1);
+        let _start = bench.begin(rt, 0, 1);
         Ok(bench)
     }
 
-    /// A ready thread begins to run on a hart, which must be idle.
-    pub fn run(&mut self, rt: &impl Abort, hart: u8, tid: u32)
-        requires { hart < 2 }
-    {
-        let _saved = self.begin(rt, hart, tid);
-    }
-
-    /// The same, with the registers that the thread goes on with.
-    pub fn begin(&mut self, rt: &impl Abort, hart: u8, tid: u32) -> Saved
-        requires { hart < 2 }
-    {
+    /// A ready thread begins to run on a hart, 0 or 1, which must be idle; answers the registers that it goes on with.
+    pub fn begin(&mut self, rt: &impl Abort, hart: u8, tid: u32) -> Saved {
+        assert!(rt; hart < 2);
         let (tid, hart) = (Tid(tid), Hart(hart));
         expect_idle(rt, &self.kernel.threads, hart);
         expect_ready(rt, &self.kernel.threads, tid);
@@ -260,16 +250,11 @@ impl Bench {
         }
     }
 
-    /// A thread that runs exits, and isn't the last one.
-    pub fn leave_by_exit(&mut self, rt: &impl Abort, tid: u32) {
+    /// A ready thread begins to run on hart 1, and exits at once; it isn't the last one.
+    pub fn exit(&mut self, rt: &impl Abort, tid: u32) {
+        let _saved = self.begin(rt, 1, tid);
         self.expect_end(rt, tid, EXIT, [0; 5], CallEnd::ThreadEnd);
         self.expect_state(rt, tid, None);
-    }
-
-    /// A ready thread begins to run on hart 1, and exits at once.
-    pub fn exit(&mut self, rt: &impl Abort, tid: u32) {
-        self.run(rt, 1, tid);
-        self.leave_by_exit(rt, tid);
     }
 
     /// A call of thread 1 must be answered so, with these writes of the kernel.
@@ -291,10 +276,11 @@ impl Bench {
         assert!(rt; self.pages.set(at, 8, value));
     }
 
-    /// Writes a record of writev to memory: an address and a length.
-    pub fn put_record(&mut self, rt: &impl Abort, place: u64, at: u64, length: u64) {
-        self.put(rt, place, at);
-        self.put(rt, place.wrapping_add(8), length);
+    /// Writes 8 bytes to memory, at each of these addresses.
+    pub fn put_all(&mut self, rt: &impl Abort, rows: &[(u64, u64)]) {
+        for (at, value) in rows {
+            self.put(rt, *at, *value);
+        }
     }
 
     /// The 8 bytes in memory must be these.
