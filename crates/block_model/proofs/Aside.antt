@@ -20,7 +20,7 @@ use Rattle.block_model.specs.History.{file_among}
 use Rattle.block_model.specs.Kernel.{cleared, gone, had_child, left, registered, signalled, unregistered, waited, woken}
 use Rattle.block_model.specs.Record.{Kernel}
 use Rattle.block_model.proofs.Good.{IsGoodHere}
-use Rattle.block_model.proofs.Goods.Calls.Futexes.{longest_waits}
+use Rattle.block_model.proofs.Goods.Calls.Futexes.{longest_waits, wake_keeps}
 use Rattle.block_model.proofs.Goods.Run.{ready_apart}
 use Rattle.block_model.proofs.KernelTables.{its_ready}
 
@@ -52,7 +52,7 @@ ready_not_next u ts threads is same =
     let none = ap (λ (o : Option Thread). option_map (λ (th : Thread). th.state) o) (next_is_new ts threads) in
     false≢true (sym (ap its_ready none) ∙ ap (λ n. is_ready n ts) same ∙ is)
 
-ready_not_waiting : (u v : ℕ) (ts : Threads) → is_ready u ts ≡ true → waits ts v → v ≢ u
+pub ready_not_waiting : (u v : ℕ) (ts : Threads) → is_ready u ts ≡ true → waits ts v → v ≢ u
 ready_not_waiting u v ts is waiting same =
     false≢true (sym (ap its_ready waiting.1) ∙ ap (λ n. is_ready n ts) same ∙ is)
 
@@ -123,14 +123,8 @@ abbrev woken_next : ℕ → ℕ → Kernel → Option ℕ → Woken
 woken_next n at k o =
     option_map_or (λ u. woken_first u (wake n at (woken u k))) o (record { threads = []; kernel = k })
 
-beside_next : (t n at : ℕ) (k : Kernel) (o : Option ℕ) → ((u : ℕ) → IsBeside t (woken u k) (wake n at (woken u k)).kernel)
-    → IsBeside t k (woken_next n at k o).kernel
-beside_next t n at k None rest = beside_same t k
-beside_next t n at k (Some u) rest = beside_after t k (woken u k) (wake n at (woken u k)).kernel (beside_woken t u k) (rest u)
-
 pub beside_wake : (t n at : ℕ) (k : Kernel) → IsBeside t k (wake n at k).kernel
-beside_wake t zero at k = beside_same t k
-beside_wake t (suc n) at k = beside_next t n at k (longest_waiter at k.threads) (λ u. beside_wake t n at (woken u k))
+beside_wake t = wake_keeps (IsBeside t) (beside_same t) (λ u k after waiting rest. beside_after t k (woken u k) after (beside_woken t u k) rest)
 
 -- the files that a wake sets aren't those of ready threads
 abbrev answered : Here → Woken → ℕ → Saved → Saved

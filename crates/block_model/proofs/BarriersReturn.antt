@@ -7,33 +7,24 @@ use Rattle.std.proofs.lemmas.Bool.{cases_eq, eqb-true, eqb-false, false≢true, 
 use Rattle.mach_types.proofs.Laws.{eqb_same}
 use Rattle.mach_types.specs.Events.{choice_with}
 use Rattle.mach_types.specs.Kernel.Scheduling.{has_hart}
-use Rattle.mach_types.specs.Kernel.Signals.{next_for}
 use Rattle.mach_types.specs.declared.events.Entry.{Entry}
 use Rattle.mach_types.specs.declared.events.Kind.{Kind}
 use Rattle.mach_types.specs.declared.events.Kind.TheVariants as kind
-use Rattle.mach_types.specs.declared.limits.End.TheVariants.{Killed}
-use Rattle.mach_types.specs.declared.sequences.Outcome.{Outcome}
 use Rattle.mach_types.specs.declared.user_memory.Store.{Store}
-use Rattle.rv_inst.specs.Class.{is_call}
-use Rattle.rv_inst.specs.declared.effects.Effect.{Effect}
 use Rattle.block_model.specs.Acts.{Sequence, begun_with, is_inside_at, is_instruction, is_taken_in, sequence_on, taken_up, with_event}
 use Rattle.block_model.specs.Barriers.{Begun, HaveReturned, IsPassed, IsProperReturn, begun_on, begun_or}
 use Rattle.block_model.specs.Deciding.{event, history}
 use Rattle.block_model.specs.Events.{done_of}
-use Rattle.block_model.specs.Events.Drain.{done_drain_of}
-use Rattle.block_model.specs.Events.Exec.{by_call, by_effect, by_outcome, called_here, done_exec_by, has_handler, next_effect, next_fault, one_instruction, outcome_of}
 use Rattle.block_model.specs.Events.Finish.{done_done_by, refusal_done_by}
-use Rattle.block_model.specs.Events.Preempt.{done_preempt_by}
-use Rattle.block_model.specs.Events.Run.{done_killed, done_run_by, done_running, lives_on}
-use Rattle.block_model.specs.Events.Signal.{done_next, done_signal_by, handled_unless_killed, kills}
 use Rattle.block_model.specs.Events.Take.{done_take_by}
-use Rattle.block_model.specs.Here.{Barrier, Done, Here, runs, waiting_here}
+use Rattle.block_model.specs.Here.{Barrier, Done, Here, runs}
 use Rattle.block_model.specs.History.{Event, History, awaits, drains, here_in_history, is_of_hart, restart, running, stores, waiting}
 use Rattle.block_model.specs.Requests.{awaits_of_own, has_taken, restarts_at, without_hart}
 use Rattle.block_model.specs.Run.{IsAllowedLog, IsRunHistory}
-use Rattle.block_model.specs.Sequences.{interruption_here, is_inside_here}
+use Rattle.block_model.specs.Sequences.{is_inside_here}
 use Rattle.block_model.specs.Setting.{Setting}
 use Rattle.block_model.proofs.ErrorEvents.{run_to}
+use Rattle.block_model.proofs.EventDeeds.{EventDeed, Restarts, Takes, deed_of}
 use Rattle.block_model.proofs.Goods.Take.{takes_where}
 use Rattle.block_model.proofs.HartSets.{none_in, without_hart-has, without_hart-other}
 use Rattle.block_model.proofs.Replay.{history-more}
@@ -42,60 +33,14 @@ use Rattle.block_model.proofs.WholeEvents.{did, is_free, place}
 
 -- WHICH EVENTS TAKE REQUESTS
 
-either_none : (b : Bool) (x y : Done) → x.took ≡ false → y.took ≡ false → (cond b x y).took ≡ false
-either_none true x y p q = p
-either_none false x y p q = q
+-- only a take does
+take_deed : (here : Here) (tid : ℕ) {k : Kind} {d : Done} → EventDeed here tid k d → d.took ≡ true → k ≡ kind.Take
+take_deed here tid Takes took = refl
+take_deed here tid (Restarts t at) took = refl
+take_deed here tid deed took = absurd (false≢true took)
 
-module _ (here : Here) where
-  effect_takes_none : (t : ℕ) (fault : Option ℕ) (o : Option Effect) → (by_effect here t fault o).took ≡ false
-  effect_takes_none t (Some signal) o =
-      either_none (has_handler here t signal) _ (record (one_instruction here) { ended = Some (Killed signal) }) refl refl
-  effect_takes_none t None None = refl
-  effect_takes_none t None (Some e) =
-      either_none (is_call e) (by_call here (called_here here t)) (by_outcome here t (outcome_of here t e)) refl refl
-
-  exec_takes_none : (r : Option ℕ) → (done_exec_by here r).took ≡ false
-  exec_takes_none None = refl
-  exec_takes_none (Some t) = effect_takes_none t (next_fault here t) (next_effect here t)
-
-  drain_takes_none : (ws : List Store) → (done_drain_of here ws).took ≡ false
-  drain_takes_none [] = refl
-  drain_takes_none (w ∷ ws) = refl
-
-  done_takes_none : (r : Option ℕ) → (done_done_by here r).took ≡ false
-  done_takes_none None = refl
-  done_takes_none (Some t) = refl
-
-  preempt_takes_none : (r : Option ℕ) → (done_preempt_by here r).took ≡ false
-  preempt_takes_none None = refl
-  preempt_takes_none (Some t) = refl
-
-  run_takes_none : (t : ℕ) (o : Outcome) → (done_run_by here t o).took ≡ false
-  run_takes_none t o = either_none (lives_on here t o) (done_running here t o) (done_killed here t o) refl refl
-
-  delivery_takes_none : (t signal : ℕ) (o : Outcome) (killer : Option ℕ) → (handled_unless_killed here t signal o killer).took ≡ false
-  delivery_takes_none t signal o None = refl
-  delivery_takes_none t signal o (Some killer) = refl
-
-  next_takes_none : (t : ℕ) (signal : Option ℕ) → (done_next here t signal).took ≡ false
-  next_takes_none t None = refl
-  next_takes_none t (Some signal) =
-      let o = interruption_here here t in
-      delivery_takes_none t signal o (kills here t signal o)
-
-  signal_takes_none : (r : Option ℕ) → (done_signal_by here r).took ≡ false
-  signal_takes_none None = refl
-  signal_takes_none (Some t) = next_takes_none t (next_for t here.kernel.signals)
-
-  -- only a take does
-  is_take : (k : Kind) (x : Entry) → (done_of (choice_with k x) here).took ≡ true → k ≡ kind.Take
-  is_take kind.Exec x took = absurd (false≢true (sym (exec_takes_none (runs here)) ∙ took))
-  is_take kind.Drain x took = absurd (false≢true (sym (drain_takes_none (waiting_here here)) ∙ took))
-  is_take kind.Take x took = refl
-  is_take kind.Done x took = absurd (false≢true (sym (done_takes_none (runs here)) ∙ took))
-  is_take kind.Preempt x took = absurd (false≢true (sym (preempt_takes_none (runs here)) ∙ took))
-  is_take kind.Run x took = absurd (false≢true (sym (run_takes_none x.tid.0 (interruption_here here x.tid.0)) ∙ took))
-  is_take kind.Signal x took = absurd (false≢true (sym (signal_takes_none (runs here)) ∙ took))
+is_take : (here : Here) (k : Kind) (x : Entry) → (done_of (choice_with k x) here).took ≡ true → k ≡ kind.Take
+is_take here k x took = take_deed here x.tid.0 (deed_of here k x) took
 
 -- THE CALL OF A BARRIER
 

@@ -25,7 +25,7 @@ within_limit s log run = subst (λ n. n ≤ s.limits.steps) (length-history s lo
 -- what each event of a run left
 pub proper_done : (s : Setting) (before : History) (e : Entry) → IsProper (here_in_history s before e.hart.0) (done s before e)
 unfolding done
-proper_done s before e = proper_of (choice_of e) (here_in_history s before e.hart.0)
+proper_done s before e = proper_of (here_in_history s before e.hart.0) e.kind e
 
 pub proper_at : (s : Setting) (e : Event) (before : History) → IsRunHistory s (e ∷ before) → IsProper (here_in_history s before e.entry.hart.0) e.done
 proper_at s e before run =

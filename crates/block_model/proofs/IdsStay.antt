@@ -1,40 +1,27 @@
 -- While a thread runs it holds the same id.
-use Rattle.std.proofs.Common.{◌≡◌, ◌≢◌, ℕ, ◌≤◌, ◌∷◌, ◌++◌, ◌⊎◌, ◌∙◌, ◌||◌, Bool, true, false, not, cond, eqb, List, [], find, Option, Some, None, refl, sym, ap, subst, inl, inr}
+use Rattle.std.proofs.Common.{◌≡◌, ◌≢◌, ℕ, ◌≤◌, ◌∷◌, ◌++◌, ◌⊎◌, ◌∙◌, ◌||◌, Bool, true, false, not, cond, eqb, List, [], find, Option, Some, refl, sym, ap, subst, inl, inr}
 use Rattle.std.specs.List.{list_any}
 use Rattle.std.specs.Option.{option_map_or}
 use Rattle.std.proofs.lemmas.Bool.{eqb-true, false≢true, ne_eqb}
 use Rattle.std.proofs.lemmas.Bool.Decides.{eqb_tells}
-use Rattle.mach_types.specs.declared.events.Choice.{Choice}
-use Rattle.mach_types.specs.declared.events.Choice.TheVariants as asked
+use Rattle.mach_types.specs.declared.events.Kind.{Kind}
 use Rattle.mach_types.specs.declared.events.Entry.{Entry}
-use Rattle.mach_types.specs.declared.user_memory.Store.{Store}
 use Rattle.mach_types.specs.Events.{choice_of}
-use Rattle.rv_inst.specs.Class.{is_call}
-use Rattle.rv_inst.specs.declared.effects.Effect.{Effect}
 use Rattle.block_model.specs.Calls.{called}
-use Rattle.block_model.specs.Calls.Answers.{killed_in_call}
 use Rattle.block_model.specs.Deciding.{done, event, history}
 use Rattle.block_model.specs.Events.{done_of}
-use Rattle.block_model.specs.Events.Drain.{done_drain_of}
-use Rattle.block_model.specs.Events.Exec.{by_call, by_effect, by_fault, by_outcome, called_here, done_exec_by, next_effect, next_fault, outcome_of}
-use Rattle.block_model.specs.Events.Preempt.{done_preempt_by}
-use Rattle.block_model.specs.Events.Run.{done_killed, done_running, lives_on}
-use Rattle.block_model.specs.Events.Signal.{done_signal}
-use Rattle.block_model.specs.Here.{Done, Here, runs, waiting_here}
+use Rattle.block_model.specs.Here.{Done, Here}
 use Rattle.block_model.specs.History.{History, here_in_history, kernel, running}
 use Rattle.block_model.specs.Ids.{id_of, is_id_of, next_id, without_id}
-use Rattle.block_model.specs.Record.{Kernel}
 use Rattle.block_model.specs.Run.{IsAllowedLog, IsRunHistory}
-use Rattle.block_model.specs.Sequences.{interruption_here, is_inside_here}
 use Rattle.block_model.specs.Setting.{Setting}
-use Rattle.block_model.proofs.BarrierEvents.{return_keeps, take_keeps}
+use Rattle.block_model.proofs.EventDeeds.{Calls, EventDeed, Preempts, Runs, deed_of}
 use Rattle.block_model.proofs.Held.{none_left}
 use Rattle.block_model.proofs.Ids.{first_id, holder_there, its_run}
 use Rattle.block_model.proofs.IdsOfCalls.{HasLostOne, ids_called}
 use Rattle.block_model.proofs.IdsOfRuns.{held_in}
 use Rattle.block_model.proofs.KernelTables.{running_is}
 use Rattle.block_model.proofs.Runs.{history-append, settled}
-use Rattle.block_model.proofs.SignalEvents.{OnlySignals, fault_keeps, signal_keeps}
 
 -- a thread holds the id that it held, or none
 abbrev Keeps : ℕ → List (ℕ × ℕ) → List (ℕ × ℕ) → Type 0
@@ -72,53 +59,12 @@ found_before u (x ∷ ids) y there = go (eqb x.0 u) (found_before u ids y) there
     go true rest there = refl
     go false rest there = rest there
 
--- the events by their kinds
-module _ (here : Here) (u : ℕ) where
-  abbrev After : Done → Type 0
-  After d = Keeps u here.kernel.ids d.kernel.ids
-
-  -- where of the record only the signals change
-  keeps_only : (d : Done) → OnlySignals here.kernel d.kernel → After d
-  keeps_only d only = inl (ap (λ (k : Kernel). id_of u k.ids) only)
-
-  keeps_called : (t : ℕ) (b : Bool) → After (by_call here (cond b (killed_in_call here) (called here t)))
-  keeps_called t true = inl refl
-  keeps_called t false = keeps_lost t u here.kernel.ids (called here t).kernel.ids (ids_called here t)
-
-  keeps_instruction : (t : ℕ) (e : Effect) (b : Bool) → After (cond b (by_call here (called_here here t)) (by_outcome here t (outcome_of here t e)))
-  keeps_instruction t e true = keeps_called t (is_inside_here here t)
-  keeps_instruction t e false = inl refl
-
-  keeps_effect : (t : ℕ) (fault : Option ℕ) (e : Option Effect) → After (by_effect here t fault e)
-  keeps_effect t (Some signal) e = keeps_only (by_fault here t signal) (fault_keeps here t signal)
-  keeps_effect t None None = inl refl
-  keeps_effect t None (Some e) = keeps_instruction t e (is_call e)
-
-  keeps_exec : (o : Option ℕ) → After (done_exec_by here o)
-  keeps_exec None = inl refl
-  keeps_exec (Some t) = keeps_effect t (next_fault here t) (next_effect here t)
-
-  keeps_drain : (stores : List Store) → After (done_drain_of here stores)
-  keeps_drain [] = inl refl
-  keeps_drain (w ∷ ws) = inl refl
-
-  keeps_preempt : (o : Option ℕ) → After (done_preempt_by here o)
-  keeps_preempt None = inl refl
-  keeps_preempt (Some t) = keeps_without t u here.kernel.ids
-
-  keeps_run : (t : ℕ) (b : Bool) → list_any (is_id_of u) here.kernel.ids ≡ true
-      → After (cond b (done_running here t (interruption_here here t)) (done_killed here t (interruption_here here t)))
-  keeps_run t true there = inl (found_before u here.kernel.ids (t, next_id here.kernel.ids) there)
-  keeps_run t false there = inl refl
-
-  keeps_of : (c : Choice) → list_any (is_id_of u) here.kernel.ids ≡ true → After (done_of c here)
-  keeps_of asked.Exec there = keeps_exec (runs here)
-  keeps_of asked.Drain there = keeps_drain (waiting_here here)
-  keeps_of asked.Take there = inl (ap (λ (k : Kernel). id_of u k.ids) (take_keeps here))
-  keeps_of asked.Done there = inl (ap (λ (k : Kernel). id_of u k.ids) (return_keeps here))
-  keeps_of asked.Preempt there = keeps_preempt (runs here)
-  keeps_of (asked.Run t) there = keeps_run t.0 (lives_on here t.0 (interruption_here here t.0)) there
-  keeps_of asked.Signal there = keeps_only (done_signal here) (signal_keeps here)
+module _ (here : Here) (tid u : ℕ) (there : list_any (is_id_of u) here.kernel.ids ≡ true) where
+  keeps_deed : {k : Kind} {d : Done} → EventDeed here tid k d → Keeps u here.kernel.ids d.kernel.ids
+  keeps_deed (Calls t e next calls outside) = keeps_lost t u here.kernel.ids (called here t).kernel.ids (ids_called here t)
+  keeps_deed (Preempts t at) = keeps_without t u here.kernel.ids
+  keeps_deed Runs = inl (found_before u here.kernel.ids (tid, next_id here.kernel.ids) there)
+  keeps_deed deed = inl refl
 
 -- a thread that runs holds one
 holds : (s : Setting) (before : History) (h t : ℕ) → s.limits.harts ≤ 8 → IsRunHistory s before → running s h before ≡ Some t
@@ -139,7 +85,8 @@ stays_at : (s : Setting) (before : History) (entry : Entry) (h k t : ℕ) → s.
 unfolding done
 stays_at s before entry h k t few run was is =
     let there = holds s before h t few run.0 was in
-    let kept = keeps_of (here_in_history s before entry.hart.0) t (choice_of entry) there in
+    let here = here_in_history s before entry.hart.0 in
+    let kept = keeps_deed here entry.tid.0 t there (deed_of here entry.kind entry) in
     stays t (kernel s before).ids (done_of (choice_of entry) (here_in_history s before entry.hart.0)).kernel.ids kept
     (holds s (event s before entry ∷ before) k t few run is)
 

@@ -4,6 +4,7 @@ mod Allowances
 mod Allowed
 mod Applied
 mod Aside
+mod CallDeeds
 mod AsideCalls
 mod BarrierEvents
 mod Awaited
@@ -16,6 +17,7 @@ mod BytesOfMemory
 mod Choosing
 mod Counts
 mod Ends
+mod EventDeeds
 mod Entries
 mod ErrorCalls
 mod ErrorEvents

@@ -1,5 +1,5 @@
 -- Where the thread of a sequence is: it runs on the sequence's hart from the place before the first event on.
-use Rattle.std.proofs.Common.{◌≡◌, ◌≢◌, ℕ, List, [], ◌∷◌, refl, sym, ap, ◌∙◌, subst, Bool, true, false, not, cond, Option, Some, None}
+use Rattle.std.proofs.Common.{◌≡◌, ◌≢◌, ℕ, [], ◌∷◌, refl, sym, ap, ◌∙◌, subst, Bool, true, false, not, cond, Option, Some, None}
 use Rattle.std.specs.Option.{option_map_or}
 use Rattle.std.proofs.lemmas.Bool.{eqb-true, eqb-false, false≢true}
 use Rattle.mach_types.specs.Events.{choice_of, choice_with}
@@ -8,17 +8,10 @@ use Rattle.mach_types.specs.declared.events.Entry.{Entry}
 use Rattle.mach_types.specs.declared.events.Kind.{Kind}
 use Rattle.mach_types.specs.declared.events.Kind.TheVariants as kind
 use Rattle.mach_types.specs.declared.sequences.Outcome.{Outcome}
-use Rattle.mach_types.specs.declared.user_memory.Store.{Store}
-use Rattle.rv_inst.specs.Class.{is_call}
-use Rattle.rv_inst.specs.declared.effects.Effect.{Effect}
 use Rattle.block_model.specs.Acts.{Sequence, begun_with, is_inside_at, is_instruction, is_taken_in, sequence_on, taken_up, with_event}
-use Rattle.block_model.specs.Calls.{called}
-use Rattle.block_model.specs.Calls.Answers.{killed_in_call}
 use Rattle.block_model.specs.Deciding.{done, number_of, thread_in}
 use Rattle.block_model.specs.Events.{done_of}
-use Rattle.block_model.specs.Events.Drain.{done_drain_of}
-use Rattle.block_model.specs.Events.Exec.{by_call, called_here, by_effect, by_outcome, done_exec_by, next_effect, next_fault, outcome_of}
-use Rattle.block_model.specs.Here.{Done, Here, runs, waiting_here}
+use Rattle.block_model.specs.Here.{Done, Here, runs}
 use Rattle.block_model.specs.History.{Event, History, here_in_history, is_of_hart, running}
 use Rattle.block_model.specs.Record.{Kernel}
 use Rattle.block_model.specs.Run.{IsRunHistory}
@@ -26,47 +19,24 @@ use Rattle.block_model.specs.Sequences.{is_inside_here}
 use Rattle.block_model.specs.Setting.{Setting}
 use Rattle.block_model.specs.Whole.{RunsThroughout}
 use Rattle.block_model.proofs.Allowed.{allowed_at}
-use Rattle.block_model.proofs.BarrierEvents.{take_keeps}
+use Rattle.block_model.proofs.EventDeeds.{Calls, EventDeed, Preempts, Runs, deed_of}
 use Rattle.block_model.proofs.Runs.{fit_at}
-use Rattle.block_model.proofs.SignalEvents.{OnlySignals, fault_keeps}
+use Rattle.block_model.proofs.SignalEvents.{OnlySignals}
 
 -- WHAT A SEQUENCE TAKES IN KEEPS THE RECORD, BUT FOR ITS SIGNALS
 
--- a call inside does nothing but end the process
-call_keeps : (here : Here) (t : ℕ) (b : Bool) → b ≡ true → OnlySignals here.kernel (cond b (killed_in_call here) (called here t)).kernel
-call_keeps here t true inside = refl
-call_keeps here t false inside = absurd (false≢true inside)
+-- of the record only the signals change
+taken_deed : (here : Here) (tid : ℕ) (o : Option Outcome) {k : Kind} {d : Done} → EventDeed here tid k d → is_taken_in k o ≡ true
+    → option_map_or (is_inside_here here) (runs here) false ≡ true → OnlySignals here.kernel d.kernel
+taken_deed here tid o (Calls t e next calls outside) taken inside =
+    absurd (false≢true (sym outside ∙ sym (ap (λ r. option_map_or (is_inside_here here) r false) next.at) ∙ inside))
+taken_deed here tid o (Preempts t at) taken inside = absurd (false≢true taken)
+taken_deed here tid o Runs taken inside = absurd (false≢true taken)
+taken_deed here tid o deed taken inside = refl
 
-either_keeps : (b : Bool) (x y : Done) (k : Kernel) → OnlySignals k x.kernel → OnlySignals k y.kernel → OnlySignals k (cond b x y).kernel
-either_keeps true x y k p q = p
-either_keeps false x y k p q = q
-
-effect_keeps : (here : Here) (t : ℕ) (fault : Option ℕ) (o : Option Effect) → is_inside_here here t ≡ true
-    → OnlySignals here.kernel (by_effect here t fault o).kernel
-effect_keeps here t (Some signal) o inside = fault_keeps here t signal
-effect_keeps here t None None inside = refl
-effect_keeps here t None (Some e) inside =
-    either_keeps (is_call e) (by_call here (called_here here t)) (by_outcome here t (outcome_of here t e)) here.kernel
-    (call_keeps here t (is_inside_here here t) inside) refl
-
-exec_keeps : (here : Here) (r : Option ℕ) → option_map_or (is_inside_here here) r false ≡ true → OnlySignals here.kernel (done_exec_by here r).kernel
-exec_keeps here None inside = refl
-exec_keeps here (Some t) inside = effect_keeps here t (next_fault here t) (next_effect here t) inside
-
-drain_keeps : (here : Here) (ws : List Store) → OnlySignals here.kernel (done_drain_of here ws).kernel
-drain_keeps here [] = refl
-drain_keeps here (w ∷ ws) = refl
-
--- what a sequence takes in, by its kind: of the record only the signals change
 pub taken_keeps : (k : Kind) (x : Entry) (o : Option Outcome) (here : Here) → is_taken_in k o ≡ true
     → option_map_or (is_inside_here here) (runs here) false ≡ true → OnlySignals here.kernel (done_of (choice_with k x) here).kernel
-taken_keeps kind.Exec x o here taken inside = exec_keeps here (runs here) inside
-taken_keeps kind.Drain x o here taken inside = drain_keeps here (waiting_here here)
-taken_keeps kind.Take x o here taken inside = rw (take_keeps here) refl
-taken_keeps kind.Done x o here taken inside = absurd (false≢true taken)
-taken_keeps kind.Preempt x o here taken inside = absurd (false≢true taken)
-taken_keeps kind.Run x o here taken inside = absurd (false≢true taken)
-taken_keeps kind.Signal x o here taken inside = absurd (false≢true taken)
+taken_keeps k x o here taken inside = taken_deed here x.tid.0 o (deed_of here k x) taken inside
 
 -- and is an event of the thread that runs
 taken_thread : (k : Kind) (x : Entry) (o : Option Outcome) (here : Here) → is_taken_in k o ≡ true → thread_in (choice_with k x) here ≡ runs here

@@ -5,35 +5,20 @@ use Rattle.std.specs.Option.{option_map}
 use Rattle.std.proofs.lemmas.Bool.{and_parts, cases_eq, eqb-true, false≢true, leb-true, lt-ltb, ltb-true}
 use Rattle.std.proofs.lemmas.List.{append-nil}
 use Rattle.mach_types.specs.Bytes.{byte_after, byte_over, overlay, written}
-use Rattle.mach_types.specs.Events.{choice_with}
 use Rattle.mach_types.specs.Kernel.Pages.{can_read, permission_at, permission_of}
 use Rattle.mach_types.specs.declared.address_space.TheConstants.{PAGE_SIZE}
-use Rattle.mach_types.specs.declared.events.Entry.{Entry}
 use Rattle.mach_types.specs.declared.events.Kind.{Kind}
-use Rattle.mach_types.specs.declared.events.Kind.TheVariants as kind
-use Rattle.mach_types.specs.Kernel.Signals.{next_for}
-use Rattle.mach_types.specs.declared.sequences.Outcome.{Outcome}
 use Rattle.mach_types.specs.declared.user_memory.Store.{Store}
 use Rattle.mach_types.specs.declared.user_memory.Write.{Write}
 use Rattle.mach_types.specs.declared.user_memory.Write.TheVariants.{Stored, Zeroed}
-use Rattle.rv_inst.specs.Class.{is_call}
-use Rattle.rv_inst.specs.declared.effects.Effect.{Effect}
 use Rattle.block_model.specs.Deciding.{done}
-use Rattle.block_model.specs.Events.{done_of}
-use Rattle.block_model.specs.Events.Drain.{done_drain_of}
-use Rattle.block_model.specs.Events.Exec.{by_call, by_effect, by_outcome, called_here, done_exec, done_exec_by, has_handler, next_effect, next_fault, outcome_of}
-use Rattle.block_model.specs.Events.Finish.{done_done, done_done_by}
-use Rattle.block_model.specs.Events.Preempt.{done_preempt, done_preempt_by}
-use Rattle.block_model.specs.Events.Run.{done_killed, done_run, done_running, lives_on}
-use Rattle.block_model.specs.Events.Signal.{done_next, done_signal, done_signal_by, handled_unless_killed, kills}
-use Rattle.block_model.specs.Events.Take.{done_take, done_take_by}
-use Rattle.block_model.specs.Here.{Done, Here, memory, runs, view, waiting_here}
+use Rattle.block_model.specs.Here.{Done, Here, memory, view, waiting_here}
 use Rattle.block_model.specs.History.{Event, History, byte, drains, here_in_history, kernel, stores, waiting}
 use Rattle.block_model.specs.Run.{IsRunHistory}
-use Rattle.block_model.specs.Sequences.{interruption_here}
 use Rattle.block_model.specs.Setting.{Setting}
 use Rattle.block_model.specs.Whole.{Bytes, changed_page, is_same, meets, permission_changed, store_meets, touches, write_meets}
 use Rattle.block_model.proofs.Applied.{drop_more}
+use Rattle.block_model.proofs.EventDeeds.{Drains, EventDeed, deed_of}
 use Rattle.block_model.proofs.NamedStays.{Agree}
 use Rattle.block_model.proofs.Runs.{settled}
 
@@ -58,53 +43,6 @@ overlay_append a (v ∷ vs) us below = overlay_append a vs us (byte_over v a bel
 mapped_same : (f g : ℕ → ℕ) → ((n : ℕ) → f n ≡ g n) → (o p : Option ℕ) → o ≡ p → option_map f o ≡ option_map g p
 mapped_same f g same o None is = ap (option_map f) is
 mapped_same f g same o (Some n) is = ap (option_map f) is ∙ ap Some (same n)
-
--- HOW MANY STORES AN EVENT DRAINS
-
--- none, but where it is a drain
-none_if : (b : Bool) (x y : Done) → x.drained ≡ 0 → y.drained ≡ 0 → (cond b x y).drained ≡ 0
-none_if true x y p q = p
-none_if false x y p q = q
-
-none_by : (here : Here) (t : ℕ) (e : Effect) (b : Bool) → (cond b (by_call here (called_here here t)) (by_outcome here t (outcome_of here t e))).drained ≡ 0
-none_by here t e true = refl
-none_by here t e false = refl
-
-none_effect : (here : Here) (t : ℕ) (fault : Option ℕ) (o : Option Effect) → (by_effect here t fault o).drained ≡ 0
-none_effect here t (Some signal) o = none_if (has_handler here t signal) _ _ refl refl
-none_effect here t None None = refl
-none_effect here t None (Some e) = none_by here t e (is_call e)
-
-none_exec : (here : Here) (r : Option ℕ) → (done_exec_by here r).drained ≡ 0
-none_exec here None = refl
-none_exec here (Some t) = none_effect here t (next_fault here t) (next_effect here t)
-
-none_preempt : (here : Here) (r : Option ℕ) → (done_preempt_by here r).drained ≡ 0
-none_preempt here None = refl
-none_preempt here (Some t) = refl
-
-none_take : (here : Here) (restart : Bool) (r : Option ℕ) → (done_take_by here restart r).drained ≡ 0
-none_take here false r = refl
-none_take here true None = refl
-none_take here true (Some t) = refl
-
-none_done : (here : Here) (r : Option ℕ) → (done_done_by here r).drained ≡ 0
-none_done here None = refl
-none_done here (Some t) = refl
-
-none_delivery : (here : Here) (t signal : ℕ) (o : Outcome) (killer : Option ℕ) → (handled_unless_killed here t signal o killer).drained ≡ 0
-none_delivery here t signal o None = refl
-none_delivery here t signal o (Some killer) = refl
-
-none_next : (here : Here) (t : ℕ) (next : Option ℕ) → (done_next here t next).drained ≡ 0
-none_next here t None = refl
-none_next here t (Some signal) =
-    let o = interruption_here here t in
-    none_delivery here t signal o (kills here t signal o)
-
-none_signal : (here : Here) (r : Option ℕ) → (done_signal_by here r).drained ≡ 0
-none_signal here None = refl
-none_signal here (Some t) = none_next here t (next_for t here.kernel.signals)
 
 -- A PERMISSION THAT STAYS
 
@@ -159,36 +97,27 @@ module _ (w : Bytes) (a : ℕ) (low : w.at ≤ a) (high : a < w.at + w.count) wh
   -- WAITING STORES
 
   -- what a hart sees past its waiting stores, after what an event did
-  abbrev IsSeen : Here → Done → Type 0
-  IsSeen here d =
-      list_any (store_meets w) d.executed ≡ false → list_any (write_meets w) d.entered ≡ false
-      → (below : ℕ) → overlay (drop d.drained (waiting_here here ++ d.executed)) a below ≡ overlay (waiting_here here) a below
+  record IsSeen (here : Here) (d : Done) : Type 0 where
+    seen : list_any (store_meets w) d.executed ≡ false → list_any (write_meets w) d.entered ≡ false
+        → (below : ℕ) → overlay (drop d.drained (waiting_here here ++ d.executed)) a below ≡ overlay (waiting_here here) a below
 
   seen_still : (here : Here) (d : Done) → d.drained ≡ 0 → IsSeen here d
-  seen_still here d none executed entered below =
-      ap (λ n. overlay (drop n (waiting_here here ++ d.executed)) a below) none
-      ∙ overlay_append a (waiting_here here) d.executed below
-      ∙ clear_stores d.executed (overlay (waiting_here here) a below) executed
+  seen_still here d none = record {
+    seen = λ executed entered below.
+        ap (λ n. overlay (drop n (waiting_here here ++ d.executed)) a below) none
+        ∙ overlay_append a (waiting_here here) d.executed below
+        ∙ clear_stores d.executed (overlay (waiting_here here) a below) executed;
+  }
 
-  -- the store that enters memory
-  seen_drain : (here : Here) (vs : List Store) → waiting_here here ≡ vs → list_any (write_meets w) (done_drain_of here vs).entered ≡ false
-      → (below : ℕ) → overlay (drop (done_drain_of here vs).drained (vs ++ (done_drain_of here vs).executed)) a below ≡ overlay vs a below
-  seen_drain here [] is entered below = refl
-  seen_drain here (v ∷ vs) is entered below =
-      let parts = neither (store_meets w v) false entered in
-      ap (λ (us : List Store). overlay us a below) (append-nil vs) ∙ ap (overlay vs a) (sym (clear_store v below parts.0))
-
-  seen_of : (k : Kind) (x : Entry) (here : Here) → IsSeen here (done_of (choice_with k x) here)
-  seen_of kind.Exec x here = seen_still here (done_exec here) (none_exec here (runs here))
-  seen_of kind.Drain x here = λ executed entered below. seen_drain here (waiting_here here) refl entered below
-  seen_of kind.Take x here = seen_still here (done_take here) (none_take here here.restart (runs here))
-  seen_of kind.Done x here = seen_still here (done_done here) (none_done here (runs here))
-  seen_of kind.Preempt x here = seen_still here (done_preempt here) (none_preempt here (runs here))
-  seen_of kind.Run x here =
-      let t = x.tid.0 in
-      let o = interruption_here here t in
-      seen_still here (done_run here t) (none_if (lives_on here t o) (done_running here t o) (done_killed here t o) refl refl)
-  seen_of kind.Signal x here = seen_still here (done_signal here) (none_signal here (runs here))
+  -- only a drain takes a store from those that wait
+  seen_deed : (here : Here) (tid : ℕ) {k : Kind} {d : Done} → EventDeed here tid k d → IsSeen here d
+  seen_deed here tid (Drains v vs is) = record {
+    seen = λ executed entered below.
+        let parts = neither (store_meets w v) false entered in
+        ap (λ (us : List Store). overlay (drop 1 (us ++ [])) a below) is ∙ ap (λ (us : List Store). overlay us a below) (append-nil vs)
+        ∙ ap (overlay vs a) (sym (clear_store v below parts.0)) ∙ sym (ap (λ (us : List Store). overlay us a below) is);
+  }
+  seen_deed here tid deed = seen_still here _ refl
 
   -- PERMISSIONS
 
@@ -238,7 +167,9 @@ module _ (s : Setting) (e : Event) (before : History) (w : Bytes) (few : w.count
   module _ (run : IsRunHistory s (e ∷ before)) where
     seen_done : (a : ℕ) (low : w.at ≤ a) (high : a < w.at + w.count) → IsSeen w a low high (here_in_history s before e.entry.hart.0) (done s before e.entry)
     unfolding done
-    seen_done a low high = seen_of w a low high e.entry.kind e.entry (here_in_history s before e.entry.hart.0)
+    seen_done a low high =
+        let here = here_in_history s before e.entry.hart.0 in
+        seen_deed w a low high here e.entry.tid.0 (deed_of here e.entry.kind e.entry)
 
     seen_event : (a : ℕ) (low : w.at ≤ a) (high : a < w.at + w.count) → IsSeen w a low high (here_in_history s before e.entry.hart.0) e.done
     seen_event a low high =
@@ -250,7 +181,7 @@ module _ (s : Setting) (e : Event) (before : History) (w : Bytes) (few : w.count
         let h = e.entry.hart.0 in
         let is = clear_of_touch s e before w none in
         ap (λ (vs : List Store). overlay vs a below) (drop_more (drains h before) e.done.drained (stores h before) e.done.executed ((settled s before run.0).counted h))
-        ∙ seen_event a low high is.executed is.entered below
+        ∙ (seen_event a low high).seen is.executed is.entered below
 
     waits_by : (h a : ℕ) → w.at ≤ a → a < w.at + w.count → (b : Bool) → eqb e.entry.hart.0 h ≡ b → (below : ℕ)
         → overlay (drop (cond b (drains h before + e.done.drained) (drains h before)) (cond b (stores h before ++ e.done.executed) (stores h before))) a below

@@ -1,36 +1,28 @@
 -- Every log whose entries are allowed is whole.
-use Rattle.std.proofs.Common.{◌≡◌, ◌≢◌, ℕ, List, [], ◌∷◌, refl, sym, ap, ◌∙◌, subst, Bool, true, false, not, cond, ◌||◌, Option, Some, None, is_some}
+use Rattle.std.proofs.Common.{◌≡◌, ◌≢◌, ℕ, [], ◌∷◌, refl, sym, ap, ◌∙◌, subst, Bool, true, false, not, cond, Option, Some, None, is_some}
 use Rattle.std.specs.Option.{option_map_or}
 use Rattle.std.proofs.lemmas.Bool.{false≢true}
 use Rattle.mach_types.proofs.Laws.{eqb_same}
-use Rattle.mach_types.specs.Events.{choice_with}
-use Rattle.mach_types.specs.declared.events.Entry.{Entry}
 use Rattle.mach_types.specs.declared.events.Kind.{Kind}
 use Rattle.mach_types.specs.declared.events.Kind.TheVariants as kind
 use Rattle.mach_types.specs.declared.limits.End.{End}
 use Rattle.mach_types.specs.declared.limits.End.TheVariants.{Killed}
 use Rattle.mach_types.specs.declared.sequences.Outcome.{Outcome}
 use Rattle.mach_types.specs.declared.signals.TheConstants.{SIGSEGV}
-use Rattle.mach_types.specs.declared.user_memory.Store.{Store}
-use Rattle.rv_inst.specs.Class.{is_call}
-use Rattle.rv_inst.specs.declared.effects.Effect.{Effect}
 use Rattle.block_model.specs.Acts.{Sequence, begun_with, is_inside_at, is_instruction, is_taken_in, sequence_on, taken_up, with_event}
-use Rattle.block_model.specs.Calls.{called}
 use Rattle.block_model.specs.Calls.Answers.{killed_in_call}
 use Rattle.block_model.specs.Deciding.{number_of}
-use Rattle.block_model.specs.Events.{done_of}
-use Rattle.block_model.specs.Events.Drain.{done_drain_of}
-use Rattle.block_model.specs.Events.Exec.{by_call, by_effect, by_outcome, called_here, done_exec_by, has_handler, next_effect, next_fault, one_instruction, outcome_of}
+use Rattle.block_model.specs.Events.Exec.{by_call, next_fault, one_instruction}
 use Rattle.block_model.specs.Events.Preempt.{done_preempt_by}
-use Rattle.block_model.specs.Events.Take.{done_take}
-use Rattle.block_model.specs.Here.{Done, Here, runs, waiting_here}
+use Rattle.block_model.specs.Here.{Done, Here, runs}
 use Rattle.block_model.specs.History.{Event, History}
 use Rattle.block_model.specs.Run.{IsRunHistory}
 use Rattle.block_model.specs.Sequences.{is_inside_here}
 use Rattle.block_model.specs.Setting.{Setting}
 use Rattle.block_model.specs.Whole.{EndsWhole, IsFatalInstruction, IsWholeEvent, IsWholeHistory, IsWholePlace, TouchesNothing, faults_or_calls, signal_inside}
+use Rattle.block_model.proofs.EventDeeds.{CallKills, Calls, EventDeed, FaultKills, Restarts, RunKills, SignalKills, deed_of}
 use Rattle.block_model.proofs.SequencePlaces.{goes_on, instruction_taken, runs_throughout}
-use Rattle.block_model.proofs.TouchedPlaces.{IsTakenIn, take_taken}
+use Rattle.block_model.proofs.TouchedPlaces.{IsTakenIn}
 use Rattle.block_model.proofs.WholeEnds.{dropped_at, ends_whole_uninterrupted, quiet}
 use Rattle.block_model.proofs.WholeEvents.{did, place}
 use Rattle.block_model.proofs.WholeHangs.{hangs}
@@ -90,49 +82,26 @@ taken_here s e before run taken = subst (λ (d : Done). is_taken_in e.entry.kind
 abbrev DiesBy : Done → ℕ → Type 0
 DiesBy d signal = (over : End) → d.ended ≡ Some over → over ≡ Killed signal
 
-lives : (signal : ℕ) (d : Done) → d.ended ≡ None → DiesBy d signal
-lives signal d none over is = let other : None ≡ Some over = sym none ∙ is in absurd cc
+-- the thread of the instruction is that which runs
+same_thread : (here : Here) (t u : ℕ) → runs here ≡ Some u → runs here ≡ Some t → u ≡ t
+same_thread here t u is on = let both : Some u ≡ Some t = sym is ∙ on in cc
 
-call_kills : (here : Here) (t : ℕ) (b : Bool) → b ≡ true → DiesBy (by_call here (cond b (killed_in_call here) (called here t))) SIGSEGV
-call_kills here t true inside over is = cc
-call_kills here t false inside over is = absurd (false≢true inside)
-
-either_dies : (b : Bool) (x y : Done) (signal : ℕ) → DiesBy x signal → DiesBy y signal → DiesBy (cond b x y) signal
-either_dies true x y signal p q = p
-either_dies false x y signal p q = q
-
-effect_kills : (here : Here) (t : ℕ) (fault : Option ℕ) (o : Option Effect) → is_inside_here here t ≡ true
-    → DiesBy (by_effect here t fault o) (option_map_or (λ n. n) fault SIGSEGV)
-effect_kills here t (Some signal) o inside over is =
-    either_dies (has_handler here t signal) _ (record (one_instruction here) { ended = Some (Killed signal) }) signal
-    (λ e none. absurd cc) (λ e is. cc) over is
-effect_kills here t None None inside over is = absurd cc
-effect_kills here t None (Some e) inside over is =
-    either_dies (is_call e) (by_call here (called_here here t)) (by_outcome here t (outcome_of here t e)) SIGSEGV
-    (call_kills here t (is_inside_here here t) inside) (lives SIGSEGV (by_outcome here t (outcome_of here t e)) refl) over is
-
-exec_kills : (here : Here) (t : ℕ) (r : Option ℕ) → r ≡ Some t → is_inside_here here t ≡ true
-    → DiesBy (done_exec_by here r) (option_map_or (λ n. n) (next_fault here t) SIGSEGV)
-exec_kills here t None runs inside = absurd cc
-exec_kills here t (Some u) runs inside =
-    let same : t ≡ u = cc in
-    subst (λ n. DiesBy (done_exec_by here (Some n)) (option_map_or (λ n. n) (next_fault here t) SIGSEGV)) same
-    (effect_kills here t (next_fault here t) (next_effect here t) inside)
-
-drain_kills : (here : Here) (signal : ℕ) (ws : List Store) → DiesBy (done_drain_of here ws) signal
-drain_kills here signal [] = lives signal (done_drain_of here []) refl
-drain_kills here signal (w ∷ ws) = lives signal (done_drain_of here (w ∷ ws)) refl
-
-kills_by : (k : Kind) (x : Entry) (here : Here) (t : ℕ) → IsTakenIn k x here → runs here ≡ Some t → is_inside_here here t ≡ true
-    → DiesBy (done_of (choice_with k x) here) (option_map_or (λ n. n) (next_fault here t) SIGSEGV)
-kills_by kind.Exec x here t taken runs_it inside = exec_kills here t (runs here) runs_it inside
-kills_by kind.Drain x here t taken runs_it inside = drain_kills here _ (waiting_here here)
-kills_by kind.Take x here t taken runs_it inside =
-    lives (option_map_or (λ n. n) (next_fault here t) SIGSEGV) (done_take here) (ap (λ (d : Done). d.ended) (take_taken here taken))
-kills_by kind.Done x here t taken runs_it inside = absurd (false≢true taken)
-kills_by kind.Preempt x here t taken runs_it inside = absurd (false≢true taken)
-kills_by kind.Run x here t taken runs_it inside = absurd (false≢true taken)
-kills_by kind.Signal x here t taken runs_it inside = absurd (false≢true taken)
+kills_deed : (here : Here) (t tid : ℕ) {k : Kind} {d : Done} → EventDeed here tid k d → is_taken_in k d.interrupted ≡ true → runs here ≡ Some t
+    → is_inside_here here t ≡ true → DiesBy d (option_map_or (λ n. n) (next_fault here t) SIGSEGV)
+kills_deed here t tid (FaultKills u signal its) taken on inside =
+    let same = same_thread here t u its.at on in
+    subst (λ n. DiesBy (record (one_instruction here) { ended = Some (Killed signal) }) n)
+    (ap (λ (o : Option ℕ). option_map_or (λ n. n) o SIGSEGV) (sym its.fault ∙ ap (next_fault here) same)) (λ over is. cc)
+kills_deed here t tid (CallKills u e next calls) taken on inside =
+    let same = same_thread here t u next.at on in
+    subst (λ n. DiesBy (by_call here (killed_in_call here)) n)
+    (ap (λ (o : Option ℕ). option_map_or (λ n. n) o SIGSEGV) (sym next.none ∙ ap (next_fault here) same)) (λ over is. cc)
+kills_deed here t tid (Calls u e next calls outside) taken on inside =
+    absurd (false≢true (sym outside ∙ ap (is_inside_here here) (same_thread here t u next.at on) ∙ inside))
+kills_deed here t tid (Restarts u at) taken on inside = absurd (false≢true taken)
+kills_deed here t tid RunKills taken on inside = absurd (false≢true taken)
+kills_deed here t tid (SignalKills u signal killer at) taken on inside = absurd (false≢true taken)
+kills_deed here t tid deed taken on inside = λ over is. absurd cc
 
 dies_by : (s : Setting) (e : Event) (before : History) (q : Sequence) → IsRunHistory s (e ∷ before) → sequence_on s e.entry.hart.0 (e ∷ before) ≡ Some q
     → DiesBy e.done (signal_inside s e.entry.hart.0 e.entry.tid.0 before)
@@ -143,44 +112,21 @@ dies_by s e before q run is =
     let inside : is_inside_here here e.entry.tid.0 ≡ true =
     sym (ap (λ r. option_map_or (is_inside_here here) r false) goes.thread) ∙ t.inside in
     subst (λ (d : Done). DiesBy d (signal_inside s e.entry.hart.0 e.entry.tid.0 before)) (sym (did s e before run e.entry.kind refl))
-    (kills_by e.entry.kind e.entry here e.entry.tid.0 (taken_here s e before run t.taken) goes.thread inside)
+    (kills_deed here e.entry.tid.0 e.entry.tid.0 (deed_of here e.entry.kind e.entry) (taken_here s e before run t.taken) goes.thread inside)
 
 -- and it is an instruction that faults, or is a call
-call_of : (b : Bool) (x y : Done) (over : End) → y.ended ≡ None → (cond b x y).ended ≡ Some over → b ≡ true
-call_of true x y over none is = refl
-call_of false x y over none is = let other : None ≡ Some over = sym none ∙ is in absurd cc
-
-effect_fatal : (here : Here) (t : ℕ) (fault : Option ℕ) (o : Option Effect) (over : End) → (by_effect here t fault o).ended ≡ Some over
-    → is_some fault || option_map_or is_call o false ≡ true
-effect_fatal here t (Some signal) o over is = refl
-effect_fatal here t None None over is = absurd cc
-effect_fatal here t None (Some e) over is =
-    call_of (is_call e) (by_call here (called_here here t)) (by_outcome here t (outcome_of here t e)) over refl is
-
-exec_fatal : (here : Here) (t : ℕ) (r : Option ℕ) (over : End) → r ≡ Some t → (done_exec_by here r).ended ≡ Some over → faults_or_calls here t ≡ true
-exec_fatal here t None over runs is = absurd cc
-exec_fatal here t (Some u) over runs is =
-    let same : u ≡ t = cc in
-    subst (λ n. faults_or_calls here n ≡ true) same (effect_fatal here u (next_fault here u) (next_effect here u) over is)
-
-drain_lives : (here : Here) (ws : List Store) → (done_drain_of here ws).ended ≡ None
-drain_lives here [] = refl
-drain_lives here (w ∷ ws) = refl
-
--- by its kind
-abbrev IsFatal : Kind → Here → ℕ → Type 0
-IsFatal k here t = (is_instruction k ≡ true) × (faults_or_calls here t ≡ true)
-
-fatal_by : (k : Kind) (x : Entry) (here : Here) (t : ℕ) (over : End) → IsTakenIn k x here → runs here ≡ Some t
-    → (done_of (choice_with k x) here).ended ≡ Some over → IsFatal k here t
-fatal_by kind.Exec x here t over taken runs_it is = (refl, exec_fatal here t (runs here) over runs_it is)
-fatal_by kind.Drain x here t over taken runs_it is = let other : None ≡ Some over = sym (drain_lives here (waiting_here here)) ∙ is in absurd cc
-fatal_by kind.Take x here t over taken runs_it is =
-    let other : None ≡ Some over = sym (ap (λ (d : Done). d.ended) (take_taken here taken)) ∙ is in absurd cc
-fatal_by kind.Done x here t over taken runs_it is = absurd (false≢true taken)
-fatal_by kind.Preempt x here t over taken runs_it is = absurd (false≢true taken)
-fatal_by kind.Run x here t over taken runs_it is = absurd (false≢true taken)
-fatal_by kind.Signal x here t over taken runs_it is = absurd (false≢true taken)
+fatal_deed : (here : Here) (t tid : ℕ) (over : End) {k : Kind} {d : Done} → EventDeed here tid k d → is_taken_in k d.interrupted ≡ true → runs here ≡ Some t
+    → d.ended ≡ Some over → (is_instruction k ≡ true) × (faults_or_calls here t ≡ true)
+fatal_deed here t tid over (FaultKills u signal its) taken on is =
+    (refl, subst (λ n. faults_or_calls here n ≡ true) (same_thread here t u its.at on) (rw its.fault refl))
+fatal_deed here t tid over (CallKills u e next calls) taken on is =
+    (refl, subst (λ n. faults_or_calls here n ≡ true) (same_thread here t u next.at on) (rw (next.none, next.is, calls) refl))
+fatal_deed here t tid over (Calls u e next calls outside) taken on is =
+    (refl, subst (λ n. faults_or_calls here n ≡ true) (same_thread here t u next.at on) (rw (next.none, next.is, calls) refl))
+fatal_deed here t tid over (Restarts u at) taken on is = absurd (false≢true taken)
+fatal_deed here t tid over RunKills taken on is = absurd (false≢true taken)
+fatal_deed here t tid over (SignalKills u signal killer at) taken on is = absurd (false≢true taken)
+fatal_deed here t tid over deed taken on is = absurd cc
 
 fatal_instruction : (s : Setting) (e : Event) (before : History) (q : Sequence) (over : End) → IsRunHistory s (e ∷ before)
     → sequence_on s e.entry.hart.0 (e ∷ before) ≡ Some q → e.done.ended ≡ Some over → IsFatalInstruction s e before
@@ -188,7 +134,8 @@ fatal_instruction s e before q over run is dies =
     let t = is_taken s e before q is in
     let goes = goes_on s e before run t.taken t.inside in
     let ended = sym (ap (λ (d : Done). d.ended) (did s e before run e.entry.kind refl)) ∙ dies in
-    let both = fatal_by e.entry.kind e.entry (place s e before run) e.entry.tid.0 over (taken_here s e before run t.taken) goes.thread ended in
+    let both =
+    fatal_deed (place s e before run) e.entry.tid.0 e.entry.tid.0 over (deed_of (place s e before run) e.entry.kind e.entry) (taken_here s e before run t.taken) goes.thread ended in
     record { instruction = both.0; fails = both.1 }
 
 -- PREEMPTED INSIDE

@@ -1,25 +1,17 @@
 -- A hart whose thread waits in a barrier is in no sequence: the call of the barrier is outside, and no instruction is executed until the
 -- barrier returns.
-use Rattle.std.proofs.Common.{◌≡◌, ℕ, [], ◌∷◌, refl, sym, ap, ◌∙◌, Bool, true, false, not, cond, List, Option, Some, None}
+use Rattle.std.proofs.Common.{◌≡◌, ℕ, [], ◌∷◌, refl, sym, ap, ◌∙◌, Bool, true, false, not, cond, Option, Some, None}
 use Rattle.std.specs.Option.{option_map, option_map_or, option_or}
 use Rattle.std.proofs.lemmas.Bool.{eqb-true, false≢true}
 use Rattle.mach_types.specs.Events.{choice_with}
 use Rattle.mach_types.specs.declared.events.Entry.{Entry}
 use Rattle.mach_types.specs.declared.events.Kind.{Kind}
 use Rattle.mach_types.specs.declared.events.Kind.TheVariants as kind
-use Rattle.mach_types.specs.declared.limits.End.TheVariants.{Killed}
 use Rattle.mach_types.specs.declared.sequences.Outcome.{Outcome}
-use Rattle.mach_types.specs.declared.user_memory.Store.{Store}
-use Rattle.rv_inst.specs.Class.{is_call}
-use Rattle.rv_inst.specs.declared.effects.Effect.{Effect}
 use Rattle.block_model.specs.Acts.{Sequence, begun_with, is_inside_at, is_instruction, is_taken_in, sequence_on, taken_up, with_event}
-use Rattle.block_model.specs.Calls.{called}
-use Rattle.block_model.specs.Calls.Answers.{killed_in_call}
 use Rattle.block_model.specs.Events.{done_of, refusal_of}
-use Rattle.block_model.specs.Events.Drain.{done_drain_of}
-use Rattle.block_model.specs.Events.Exec.{by_call, by_effect, by_outcome, called_here, done_exec_by, has_handler, next_effect, next_fault, one_instruction, outcome_of, refusal_exec_by}
-use Rattle.block_model.specs.Events.Take.{done_take_by}
-use Rattle.block_model.specs.Here.{Barrier, Done, Here, runs, waiting_here}
+use Rattle.block_model.specs.Events.Exec.{refusal_exec_by}
+use Rattle.block_model.specs.Here.{Barrier, Done, Here, runs}
 use Rattle.block_model.specs.History.{Event, History, awaits, is_of_hart}
 use Rattle.block_model.specs.Requests.{awaits_of_own, without_hart}
 use Rattle.block_model.specs.Run.{IsRunHistory}
@@ -28,6 +20,7 @@ use Rattle.block_model.specs.Setting.{Setting}
 use Rattle.block_model.proofs.Goods.Preempt.{out_of_barrier}
 use Rattle.block_model.proofs.SequencePlaces.{instruction_taken}
 use Rattle.block_model.proofs.WholeEvents.{did, is_free, place}
+use Rattle.block_model.proofs.EventDeeds.{Calls, EventDeed, deed_of}
 
 -- a thread that waits in a barrier executes no instruction
 exec_free : (here : Here) (r : Option ℕ) → refusal_exec_by here r ≡ None → here.awaits ≡ None
@@ -45,45 +38,15 @@ instruction_free kind.Signal x here is free = absurd (false≢true is)
 
 -- WHAT A SEQUENCE TAKES IN BEGINS NO BARRIER
 
--- a call inside does nothing but end the process
-call_begins : (here : Here) (t : ℕ) (b : Bool) → b ≡ true → (by_call here (cond b (killed_in_call here) (called here t))).barrier ≡ None
-call_begins here t true inside = refl
-call_begins here t false inside = absurd (false≢true inside)
-
-either_begins : (b : Bool) (x y : Done) → x.barrier ≡ None → y.barrier ≡ None → (cond b x y).barrier ≡ None
-either_begins true x y p q = p
-either_begins false x y p q = q
-
-effect_begins : (here : Here) (t : ℕ) (fault : Option ℕ) (o : Option Effect) → is_inside_here here t ≡ true → (by_effect here t fault o).barrier ≡ None
-effect_begins here t (Some signal) o inside =
-    either_begins (has_handler here t signal) _ (record (one_instruction here) { ended = Some (Killed signal) }) refl refl
-effect_begins here t None None inside = refl
-effect_begins here t None (Some e) inside =
-    either_begins (is_call e) (by_call here (called_here here t)) (by_outcome here t (outcome_of here t e))
-    (call_begins here t (is_inside_here here t) inside) refl
-
-exec_begins : (here : Here) (r : Option ℕ) → option_map_or (is_inside_here here) r false ≡ true → (done_exec_by here r).barrier ≡ None
-exec_begins here None inside = refl
-exec_begins here (Some t) inside = effect_begins here t (next_fault here t) (next_effect here t) inside
-
-drain_begins : (here : Here) (ws : List Store) → (done_drain_of here ws).barrier ≡ None
-drain_begins here [] = refl
-drain_begins here (w ∷ ws) = refl
-
-take_begins : (here : Here) (restart : Bool) (r : Option ℕ) → (done_take_by here restart r).barrier ≡ None
-take_begins here false r = refl
-take_begins here true None = refl
-take_begins here true (Some t) = refl
+begins_deed : (here : Here) (tid : ℕ) (o : Option Outcome) {k : Kind} {d : Done} → EventDeed here tid k d → option_map_or (is_inside_here here) (runs here) false ≡ true
+    → d.barrier ≡ None
+begins_deed here tid o (Calls t e next calls outside) inside =
+    absurd (false≢true (sym outside ∙ sym (ap (λ r. option_map_or (is_inside_here here) r false) next.at) ∙ inside))
+begins_deed here tid o deed inside = refl
 
 begins_none : (k : Kind) (x : Entry) (o : Option Outcome) (here : Here) → is_taken_in k o ≡ true
     → option_map_or (is_inside_here here) (runs here) false ≡ true → (done_of (choice_with k x) here).barrier ≡ None
-begins_none kind.Exec x o here taken inside = exec_begins here (runs here) inside
-begins_none kind.Drain x o here taken inside = drain_begins here (waiting_here here)
-begins_none kind.Take x o here taken inside = take_begins here here.restart (runs here)
-begins_none kind.Done x o here taken inside = absurd (false≢true taken)
-begins_none kind.Preempt x o here taken inside = absurd (false≢true taken)
-begins_none kind.Run x o here taken inside = absurd (false≢true taken)
-begins_none kind.Signal x o here taken inside = absurd (false≢true taken)
+begins_none k x o here taken inside = begins_deed here x.tid.0 o (deed_of here k x) inside
 
 -- ONE EVENT
 

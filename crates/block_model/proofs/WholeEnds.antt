@@ -1,6 +1,6 @@
 -- What the next event of its hart makes of a sequence that it isn't of, where it doesn't interrupt the thread: beside a `signal` and a
 -- `take` only a `run` could, and its hart isn't idle; and no event had ended the process.
-use Rattle.std.proofs.Common.{◌≡◌, ◌≢◌, ℕ, [], ◌∷◌, ◌&&◌, ◌||◌, refl, sym, ap, ◌∙◌, Bool, true, false, not, cond, eqb, List, Option, Some, None, is_some}
+use Rattle.std.proofs.Common.{◌≡◌, ◌≢◌, ℕ, [], ◌∷◌, ◌&&◌, ◌||◌, refl, sym, ap, ◌∙◌, subst, Bool, true, false, not, cond, eqb, Option, Some, None, is_some}
 use Rattle.std.specs.Option.{option_or}
 use Rattle.std.proofs.lemmas.Bool.{false≢true}
 use Rattle.mach_types.proofs.Laws.{eqb_same}
@@ -10,28 +10,22 @@ use Rattle.mach_types.specs.declared.events.Kind.{Kind}
 use Rattle.mach_types.specs.declared.events.Kind.TheVariants as kind
 use Rattle.mach_types.specs.declared.events.Why.TheVariants.{NotInBarrier}
 use Rattle.mach_types.specs.declared.limits.End.{End}
-use Rattle.mach_types.specs.declared.limits.End.TheVariants.{Killed}
 use Rattle.mach_types.specs.declared.sequences.Outcome.{Outcome}
 use Rattle.mach_types.specs.declared.sequences.Outcome.TheVariants as comes_to
-use Rattle.mach_types.specs.declared.user_memory.Store.{Store}
-use Rattle.rv_inst.specs.Class.{is_call}
-use Rattle.rv_inst.specs.declared.effects.Effect.{Effect}
 use Rattle.block_model.specs.declared.acts.SeqEnd.{SeqEnd}
 use Rattle.block_model.specs.declared.acts.SeqEnd.TheVariants as ends
 use Rattle.block_model.specs.Acts.{Sequence, abort_of, cut_or, end_before, end_so_far, hanging, hanging_after, has_died, has_killed, is_inside_at, is_taken_in, left_or_dropped, moved_out, sequence_on, taken_up, with_event}
 use Rattle.block_model.specs.Deciding.{number_of}
-use Rattle.block_model.specs.Events.{done_of, refusal_of}
-use Rattle.block_model.specs.Events.Drain.{done_drain_of}
-use Rattle.block_model.specs.Events.Exec.{by_call, by_effect, by_outcome, called_here, done_exec_by, has_handler, next_effect, next_fault, one_instruction, outcome_of}
-use Rattle.block_model.specs.Events.Finish.{done_done_by, refusal_done_by, refusal_return}
-use Rattle.block_model.specs.Events.Preempt.{done_preempt_by}
+use Rattle.block_model.specs.Events.{refusal_of}
+use Rattle.block_model.specs.Events.Finish.{refusal_done_by, refusal_return}
 use Rattle.block_model.specs.Events.Run.{refusal_run_by}
-use Rattle.block_model.specs.Here.{Done, Here, runs, waiting_here}
+use Rattle.block_model.specs.Here.{Done, Here, runs}
 use Rattle.block_model.specs.History.{Event, History, ended, is_of_hart}
 use Rattle.block_model.specs.Run.{IsRunHistory}
 use Rattle.block_model.specs.Setting.{Setting}
 use Rattle.block_model.specs.Whole.{EndsWhole, WasTouched}
 use Rattle.block_model.proofs.Ends.{neither}
+use Rattle.block_model.proofs.EventDeeds.{EventDeed, Handles, Restarts, RunKills, Runs, SignalKills, deed_of}
 use Rattle.block_model.proofs.SequencePlaces.{runs_throughout}
 use Rattle.block_model.proofs.Touched.{dropped_is_touched}
 use Rattle.block_model.proofs.WholeBarriers.{in_no_barrier}
@@ -57,54 +51,31 @@ alive s (e ∷ before) h q none is = alive_by s e before h q (is_of_hart h e) re
 
 -- NOTHING INTERRUPTS
 
-either_quiet : (b : Bool) (x y : Done) → x.interrupted ≡ None → y.interrupted ≡ None → (cond b x y).interrupted ≡ None
-either_quiet true x y p q = p
-either_quiet false x y p q = q
-
-effect_quiet : (here : Here) (t : ℕ) (fault : Option ℕ) (o : Option Effect) → (by_effect here t fault o).interrupted ≡ None
-effect_quiet here t (Some signal) o =
-    either_quiet (has_handler here t signal) _ (record (one_instruction here) { ended = Some (Killed signal) }) refl refl
-effect_quiet here t None None = refl
-effect_quiet here t None (Some e) =
-    either_quiet (is_call e) (by_call here (called_here here t)) (by_outcome here t (outcome_of here t e)) refl refl
-
-exec_quiet : (here : Here) (r : Option ℕ) → (done_exec_by here r).interrupted ≡ None
-exec_quiet here None = refl
-exec_quiet here (Some t) = effect_quiet here t (next_fault here t) (next_effect here t)
-
-drain_quiet : (here : Here) (ws : List Store) → (done_drain_of here ws).interrupted ≡ None
-drain_quiet here [] = refl
-drain_quiet here (w ∷ ws) = refl
-
-preempt_quiet : (here : Here) (r : Option ℕ) → (done_preempt_by here r).interrupted ≡ None
-preempt_quiet here None = refl
-preempt_quiet here (Some t) = refl
-
 busy : (here : Here) (t u : ℕ) (r : Option ℕ) → r ≡ Some u → refusal_run_by here t r ≡ None → ⊥
 busy here t u None on free = cc
 busy here t u (Some v) on free = cc
 
-done_quiet : (here : Here) (r : Option ℕ) → (done_done_by here r).interrupted ≡ None
-done_quiet here None = refl
-done_quiet here (Some t) = refl
+-- only signals, requests that are taken and beginnings interrupt
+quiet_deed : (here : Here) (tid : ℕ) {k : Kind} {d : Done} → EventDeed here tid k d → k ≢ kind.Signal → k ≢ kind.Take → k ≢ kind.Run → d.interrupted ≡ None
+quiet_deed here tid (Restarts t at) no_signal no_take no_run = absurd (no_take refl)
+quiet_deed here tid Runs no_signal no_take no_run = absurd (no_run refl)
+quiet_deed here tid RunKills no_signal no_take no_run = absurd (no_run refl)
+quiet_deed here tid (Handles t signal at) no_signal no_take no_run = absurd (no_signal refl)
+quiet_deed here tid (SignalKills t signal killer at) no_signal no_take no_run = absurd (no_signal refl)
+quiet_deed here tid deed no_signal no_take no_run = refl
 
--- no event of a hart that runs a thread interrupts it, but the delivery of a signal and the taking of requests
-quiet_by : (k : Kind) (x : Entry) (here : Here) (u : ℕ) → k ≢ kind.Signal → k ≢ kind.Take → runs here ≡ Some u → refusal_of (choice_with k x) here ≡ None
-    → (done_of (choice_with k x) here).interrupted ≡ None
-quiet_by kind.Exec x here u no_signal no_take on free = exec_quiet here (runs here)
-quiet_by kind.Drain x here u no_signal no_take on free = drain_quiet here (waiting_here here)
-quiet_by kind.Take x here u no_signal no_take on free = absurd (no_take refl)
-quiet_by kind.Done x here u no_signal no_take on free = done_quiet here (runs here)
-quiet_by kind.Preempt x here u no_signal no_take on free = preempt_quiet here (runs here)
-quiet_by kind.Run x here u no_signal no_take on free = absurd (busy here x.tid.0 u (runs here) on free)
-quiet_by kind.Signal x here u no_signal no_take on free = absurd (no_signal refl)
+-- and none of a hart that runs a thread begins to run one
+no_run : (k : Kind) (x : Entry) (here : Here) (u : ℕ) → runs here ≡ Some u → refusal_of (choice_with k x) here ≡ None → k ≢ kind.Run
+no_run k x here u on free same =
+    busy here x.tid.0 u (runs here) on (subst (λ (k : Kind). refusal_of (choice_with k x) here ≡ None) same free)
 
 pub quiet : (s : Setting) (e : Event) (before : History) (q : Sequence) → IsRunHistory s (e ∷ before) → e.entry.kind ≢ kind.Signal
     → e.entry.kind ≢ kind.Take → sequence_on s e.entry.hart.0 before ≡ Some q → e.done.interrupted ≡ None
 quiet s e before q run no_signal no_take is =
     ap (λ (d : Done). d.interrupted) (did s e before run e.entry.kind refl)
-    ∙ quiet_by e.entry.kind e.entry (place s e before run) q.thread no_signal no_take (runs_throughout s before e.entry.hart.0 q run.0 is).now
-    (is_free s e before run e.entry.kind refl)
+    ∙ quiet_deed (place s e before run) e.entry.tid.0 (deed_of (place s e before run) e.entry.kind e.entry) no_signal no_take
+    (no_run e.entry.kind e.entry (place s e before run) q.thread (runs_throughout s before e.entry.hart.0 q run.0 is).now
+    (is_free s e before run e.entry.kind refl))
 
 -- ENDS
 

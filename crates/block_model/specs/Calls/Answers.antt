@@ -1,6 +1,6 @@
 -- System calls of Linux for RISC-V: the number is in a7 (x17), arguments are in a0 to a5 (x10 to x15), the result is in
 -- a0, and an error is its negative number. The pc goes on past the call.
-use Rattle.std.specs.Prelude.{ℕ, ◌+◌, ◌-◌, ◌%◌, ◌^◌, Bool, List, [], ◌∷◌, Option, Some, None, is_some, unwrap_or}
+use Rattle.std.specs.Prelude.{ℕ, ◌+◌, ◌-◌, ◌%◌, ◌^◌, Bool, if◌then◌else◌, List, [], ◌∷◌, Option, Some, None, is_some, unwrap_or}
 use Rattle.mach_types.specs.Bytes.{each_byte, word_at}
 use Rattle.mach_types.specs.Registers.{register, with_register}
 use Rattle.mach_types.specs.declared.errors.Errno.{Errno}
@@ -66,6 +66,15 @@ number_at here at size = unwrap_or (word_at (memory here) at size) 0
 -- a call that is refused: nothing changes but a0 and the pc
 abbrev pub refused : Here → ℕ → Errno → CallDone
 refused here t errno = said here t (negative errno.0)
+
+-- the errors of a call, each where its test holds, in the order in which they are tested: the call is refused by the first, and where
+-- none holds it does what follows
+abbrev pub Errors : Type 0
+Errors = List (Bool × Errno)
+
+abbrev pub unless : Here → ℕ → Errors → CallDone → CallDone
+unless here t [] done = done
+unless here t (e ∷ es) done = if e.0 then refused here t e.1 else unless here t es done
 
 -- a call that kills the process, as SIGSEGV does, and changes nothing else
 abbrev pub killed_in_call : Here → CallDone

@@ -10,7 +10,7 @@ use Rattle.mach_types.specs.Kernel.Threads.{is_full}
 use Rattle.rv_inst.specs.Words.{sum_64}
 use Rattle.block_model.specs.Here.{Here}
 use Rattle.block_model.specs.Kernel.{cleared, had_child, next_number}
-use Rattle.block_model.specs.Calls.Answers.{CallDone, argument, are_writable, refused, returned, word_written}
+use Rattle.block_model.specs.Calls.Answers.{CallDone, Errors, argument, are_writable, returned, unless, word_written}
 
 -- the flags that must be given: CLONE_VM, CLONE_FS, CLONE_FILES, CLONE_SIGHAND, CLONE_THREAD; and those that may be given
 abbrev pub required_flags : ℕ
@@ -65,19 +65,27 @@ with_new_child here t =
     if has_flag (argument here t 0) clone_child_cleartid then cleared (next_number here.kernel) (argument here t 4) after else after
 
 -- clone(flags, stack, ptid, tls, ctid), number 220
-abbrev pub clone : Here → ℕ → CallDone
-clone here t =
+abbrev pub clone_errors : Here → ℕ → Errors
+clone_errors here t =
     let flags = argument here t 0 in
-    let ptid = argument here t 2 in
-    let ctid = argument here t 4 in
+    let may_tell_parent = may_write here flags clone_parent_settid (argument here t 2) in
+    let may_tell_child = may_write here flags clone_child_settid (argument here t 4) in
+    (not (are_flags flags), EINVAL)
+    ∷ (is_full here.kernel.threads, EAGAIN)
+    ∷ (not (may_tell_parent && may_tell_child), EFAULT)
+    ∷ []
+
+abbrev pub cloned : Here → ℕ → CallDone
+cloned here t =
+    let flags = argument here t 0 in
     let child = next_number here.kernel in
-    if not (are_flags flags) then refused here t EINVAL
-    else if is_full here.kernel.threads then refused here t EAGAIN
-    else if not (may_write here flags clone_parent_settid ptid && may_write here flags clone_child_settid ctid) then refused here t EFAULT
-    else record {
+    record {
       files = (t, returned child (here.file t)) ∷ (child, child_file here t) ∷ [];
-      entered = written_if flags clone_parent_settid ptid child ++ written_if flags clone_child_settid ctid child;
+      entered = written_if flags clone_parent_settid (argument here t 2) child ++ written_if flags clone_child_settid (argument here t 4) child;
       kernel = with_new_child here t;
       barrier = None;
       ended = None;
     }
+
+abbrev pub clone : Here → ℕ → CallDone
+clone here t = unless here t (clone_errors here t) (cloned here t)

@@ -5,7 +5,7 @@ use Rattle.mach_types.specs.declared.errors.TheConstants.{EBADF, EFAULT, EINVAL,
 use Rattle.mach_types.specs.declared.kernel_words.TheConstants.{CONSOLE_ROOM}
 use Rattle.block_model.specs.Here.{Here, memory}
 use Rattle.block_model.specs.Kernel.{printed}
-use Rattle.block_model.specs.Calls.Answers.{CallDone, argument, int_argument, are_readable, number_at, refused, said}
+use Rattle.block_model.specs.Calls.Answers.{CallDone, Errors, argument, int_argument, are_readable, number_at, said, unless}
 
 -- bytes of memory: so many from an address on
 pub record Span : Type 0 where
@@ -40,22 +40,24 @@ abbrev pub wrote : Here → ℕ → List ℕ → CallDone
 wrote here t bytes = record (said here t (length bytes)) { kernel = printed bytes here.kernel }
 
 -- bytes of memory, joined
+abbrev pub span_errors : Here → List Span → Errors
+span_errors here spans = (not (all_readable here spans), EFAULT) ∷ (nat_le CONSOLE_ROOM (length here.kernel.console), ENOSPC) ∷ []
+
 abbrev pub write_spans : Here → ℕ → List Span → CallDone
 write_spans here t spans =
     if total spans == 0 then said here t 0
-    else if not (all_readable here spans) then refused here t EFAULT
-    else if nat_le CONSOLE_ROOM (length here.kernel.console) then refused here t ENOSPC
-    else wrote here t (take (room here) (bytes_of (memory here) spans))
+    else unless here t (span_errors here spans) (wrote here t (take (room here) (bytes_of (memory here) spans)))
 
 -- whether the call's descriptor isn't of the console
 abbrev pub is_elsewhere : Here → ℕ → Bool
 is_elsewhere here t = let fd = int_argument here t 0 in not ((fd == 1) || (fd == 2))
 
 -- write(fd, buf, len), number 64
+abbrev pub write_errors : Here → ℕ → Errors
+write_errors here t = (is_elsewhere here t, EBADF) ∷ []
+
 abbrev pub write : Here → ℕ → CallDone
-write here t =
-    if is_elsewhere here t then refused here t EBADF
-    else write_spans here t (record { at = argument here t 1; len = argument here t 2 } ∷ [])
+write here t = unless here t (write_errors here t) (write_spans here t (record { at = argument here t 1; len = argument here t 2 } ∷ []))
 
 -- the records of an iovec, so many: each has an address and a length, of 8 bytes each
 abbrev pub spans_at : Here → ℕ → ℕ → List Span
@@ -63,12 +65,15 @@ spans_at here at zero = []
 spans_at here at (suc n) = record { at = number_at here at 8; len = number_at here (at + 8) 8 } ∷ spans_at here (at + 16) n
 
 -- writev(fd, iov, n), number 66; how long the joined bytes may be is own
-abbrev pub writev : Here → ℕ → CallDone
-writev here t =
+abbrev pub writev_errors : Here → ℕ → Errors
+writev_errors here t =
     let iov = argument here t 1 in
     let n = argument here t 2 in
-    if is_elsewhere here t then refused here t EBADF
-    else if nat_lt 1024 n then refused here t EINVAL
-    else if not (are_readable here iov (16 * n)) then refused here t EFAULT
-    else if nat_le (2 ^ 31) (total (spans_at here iov n)) then refused here t EINVAL
-    else write_spans here t (spans_at here iov n)
+    (is_elsewhere here t, EBADF)
+    ∷ (nat_lt 1024 n, EINVAL)
+    ∷ (not (are_readable here iov (16 * n)), EFAULT)
+    ∷ (nat_le (2 ^ 31) (total (spans_at here iov n)), EINVAL)
+    ∷ []
+
+abbrev pub writev : Here → ℕ → CallDone
+writev here t = unless here t (writev_errors here t) (write_spans here t (spans_at here (argument here t 1) (argument here t 2)))

@@ -11,7 +11,7 @@ use Rattle.mach_types.specs.Kernel.Signals.{next_for}
 use Rattle.mach_types.specs.Kernel.Threads.{longest_waiter}
 use Rattle.block_model.specs.Here.{Here}
 use Rattle.block_model.specs.Kernel.{waited, woken}
-use Rattle.block_model.specs.Calls.Answers.{CallDone, argument, int_argument, are_readable, number_at, refused, returned, said}
+use Rattle.block_model.specs.Calls.Answers.{CallDone, Errors, argument, int_argument, are_readable, number_at, returned, said, unless}
 
 -- a woken thread finds 0 in a0
 abbrev pub answered_wait : Here → ℕ → ℕ × Saved
@@ -37,14 +37,17 @@ operation op = op - 128 * ((op / 128) % 2)
 
 -- WAIT: the thread leaves its hart and waits, unless a signal can be delivered to it (a wait is never begun again: own, as if no handler
 -- had SA_RESTART)
-abbrev pub futex_wait : Here → ℕ → CallDone
-futex_wait here t =
+abbrev pub wait_errors : Here → ℕ → Errors
+wait_errors here t =
     let p = argument here t 0 in
-    if not (argument here t 3 == 0) then refused here t EINVAL
-    else if not (are_readable here p 4) then refused here t EFAULT
-    else if not (number_at here p 4 == int_argument here t 2) then refused here t EAGAIN
-    else if is_some (next_for t here.kernel.signals) then refused here t EINTR
-    else record (said here t 0) { kernel = waited t p here.kernel }
+    (not (argument here t 3 == 0), EINVAL)
+    ∷ (not (are_readable here p 4), EFAULT)
+    ∷ (not (number_at here p 4 == int_argument here t 2), EAGAIN)
+    ∷ (is_some (next_for t here.kernel.signals), EINTR)
+    ∷ []
+
+abbrev pub futex_wait : Here → ℕ → CallDone
+futex_wait here t = unless here t (wait_errors here t) (record (said here t 0) { kernel = waited t (argument here t 0) here.kernel })
 
 -- WAKE: the answer is how many were woken
 abbrev pub futex_wake : Here → ℕ → CallDone
@@ -59,12 +62,15 @@ futex_wake here t =
     }
 
 -- futex(p, op, val, timeout), number 98
+abbrev pub futex_errors : Here → ℕ → Errors
+futex_errors here t =
+    let p = argument here t 0 in
+    (not (nat_le (operation (int_argument here t 1)) 1), ENOSYS)
+    ∷ (not (p % 4 == 0), EINVAL)
+    ∷ (nat_le USER_END p, EFAULT)
+    ∷ []
+
 abbrev pub futex : Here → ℕ → CallDone
 futex here t =
-    let p = argument here t 0 in
-    let op = operation (int_argument here t 1) in
-    if not (nat_le op 1) then refused here t ENOSYS
-    else if not (p % 4 == 0) then refused here t EINVAL
-    else if nat_le USER_END p then refused here t EFAULT
-    else if op == 0 then futex_wait here t
-    else futex_wake here t
+    unless here t (futex_errors here t)
+    (if operation (int_argument here t 1) == 0 then futex_wait here t else futex_wake here t)

@@ -13,7 +13,7 @@ use Rattle.mach_types.specs.Kernel.Pages.{PageRun, Pages, is_in, pages_of, permi
 use Rattle.mach_types.specs.Kernel.PageCalls.{break_moved, break_run, mapped_at, may_move_break, mmap_answer, mprotect_refusal, munmap_refusal, permission_for, protected, unmapped}
 use Rattle.block_model.specs.Here.{Here}
 use Rattle.block_model.specs.Kernel.{paged}
-use Rattle.block_model.specs.Calls.Answers.{CallDone, argument, refused, said}
+use Rattle.block_model.specs.Calls.Answers.{CallDone, Errors, argument, refused, said, unless}
 
 -- the permission of page n, where it is mapped
 abbrev pub permission_here : Here → ℕ → Option ℕ
@@ -70,12 +70,14 @@ mapped_or_refused here t len prot (Ok at) = record (said here t at) {
 
 -- mmap(p, len, prot, flags, fd, off), number 222: p, fd and off are ignored, since no file is mapped and the place is the lowest
 -- that fits (own)
+abbrev pub mmap_errors : Here → ℕ → Errors
+mmap_errors here t = (not (are_mapping_flags (argument here t 3)), EINVAL) ∷ []
+
 abbrev pub mmap : Here → ℕ → CallDone
 mmap here t =
     let len = argument here t 1 in
     let prot = argument here t 2 in
-    if not (are_mapping_flags (argument here t 3)) then refused here t EINVAL
-    else mapped_or_refused here t len prot (mmap_answer (permission_here here) here.kernel.pages.free len prot)
+    unless here t (mmap_errors here t) (mapped_or_refused here t len prot (mmap_answer (permission_here here) here.kernel.pages.free len prot))
 
 -- mprotect(p, len, prot), number 226
 abbrev pub mprotect : Here → ℕ → CallDone

@@ -15,7 +15,7 @@ use Rattle.mach_types.specs.declared.user_memory.Write.{Write}
 use Rattle.block_model.specs.Record.{Kernel}
 use Rattle.block_model.specs.Here.{Here, memory}
 use Rattle.block_model.specs.Kernel.{signalled, woken}
-use Rattle.block_model.specs.Calls.Answers.{CallDone, argument, int_argument, are_readable, are_writable, double_written, killed_in_call, negative, number_at, refused, returned, said}
+use Rattle.block_model.specs.Calls.Answers.{CallDone, Errors, argument, int_argument, are_readable, are_writable, double_written, killed_in_call, negative, number_at, returned, said, unless}
 
 -- A SIGNAL IS POSTED
 
@@ -53,27 +53,30 @@ post here t u sig =
 
 -- what is left to do once there is the thread u
 abbrev pub send : Here → ℕ → ℕ → ℕ → CallDone
-send here t u sig =
-    if refuses_signal sig then refused here t EINVAL
-    else if sig == 0 then said here t 0
-    else post here t u sig
+send here t u sig = unless here t ((refuses_signal sig, EINVAL) ∷ []) (if sig == 0 then said here t 0 else post here t u sig)
 
 -- tkill(tid, sig), number 130
-abbrev pub tkill : Here → ℕ → CallDone
-tkill here t =
+abbrev pub tkill_errors : Here → ℕ → Errors
+tkill_errors here t =
     let u = int_argument here t 0 in
-    if is_below_one u then refused here t EINVAL
-    else if not (is_live u here.kernel.threads) then refused here t ESRCH
-    else send here t u (int_argument here t 1)
+    (is_below_one u, EINVAL)
+    ∷ (not (is_live u here.kernel.threads), ESRCH)
+    ∷ []
+
+abbrev pub tkill : Here → ℕ → CallDone
+tkill here t = unless here t (tkill_errors here t) (send here t (int_argument here t 0) (int_argument here t 1))
 
 -- tgkill(pid, tid, sig), number 131: the process has number 1
-abbrev pub tgkill : Here → ℕ → CallDone
-tgkill here t =
+abbrev pub tgkill_errors : Here → ℕ → Errors
+tgkill_errors here t =
     let pid = int_argument here t 0 in
     let u = int_argument here t 1 in
-    if is_below_one pid || is_below_one u then refused here t EINVAL
-    else if not ((pid == 1) && is_live u here.kernel.threads) then refused here t ESRCH
-    else send here t u (int_argument here t 2)
+    (is_below_one pid || is_below_one u, EINVAL)
+    ∷ (not ((pid == 1) && is_live u here.kernel.threads), ESRCH)
+    ∷ []
+
+abbrev pub tgkill : Here → ℕ → CallDone
+tgkill here t = unless here t (tgkill_errors here t) (send here t (int_argument here t 1) (int_argument here t 2))
 
 -- ACTIONS AND MASKS
 
@@ -99,20 +102,25 @@ abbrev pub action_given : Here → ℕ → Option Action
 action_given here p = if p == 0 then None else Some (action_at here p)
 
 -- rt_sigaction(sig, act, old, size), number 134: the new action is read before the old one is written
+abbrev pub sigaction_errors : Here → ℕ → Errors
+sigaction_errors here t =
+    let act = argument here t 1 in
+    (not (argument here t 3 == 8), EINVAL)
+    ∷ (not (may_read here act action_size), EFAULT)
+    ∷ (refuses_action (int_argument here t 0) (action_given here act), EINVAL)
+    ∷ (not (may_write here (argument here t 2) action_size), EFAULT)
+    ∷ []
+
 abbrev pub rt_sigaction : Here → ℕ → CallDone
 rt_sigaction here t =
     let sig = int_argument here t 0 in
-    let act = argument here t 1 in
     let old = argument here t 2 in
     let g = here.kernel.signals in
-    if not (argument here t 3 == 8) then refused here t EINVAL
-    else if not (may_read here act action_size) then refused here t EFAULT
-    else if refuses_action sig (action_given here act) then refused here t EINVAL
-    else if not (may_write here old action_size) then refused here t EFAULT
-    else record (said here t 0) {
+    unless here t (sigaction_errors here t)
+    (record (said here t 0) {
       entered = if old == 0 then [] else action_written old (action_of sig g);
-      kernel = signalled (acted sig (action_given here act) g) here.kernel;
-    }
+      kernel = signalled (acted sig (action_given here (argument here t 1)) g) here.kernel;
+    })
 
 -- the mask that thread t has after a set was given; where none is given it stays
 abbrev pub masked : Here → ℕ → ℕ → ℕ → Signalling
@@ -121,19 +129,23 @@ masked here t how set =
     if set == 0 then g else with_mask t (changed_mask how (number_at here set 8) (mask_of t g)) g
 
 -- rt_sigprocmask(how, set, old, size), number 135
+abbrev pub sigprocmask_errors : Here → ℕ → Errors
+sigprocmask_errors here t =
+    let set = argument here t 1 in
+    (not (argument here t 3 == 8), EINVAL)
+    ∷ (not (may_read here set 8), EFAULT)
+    ∷ (not (set == 0) && refuses_how (int_argument here t 0), EINVAL)
+    ∷ (not (may_write here (argument here t 2) 8), EFAULT)
+    ∷ []
+
 abbrev pub rt_sigprocmask : Here → ℕ → CallDone
 rt_sigprocmask here t =
-    let how = int_argument here t 0 in
-    let set = argument here t 1 in
     let old = argument here t 2 in
-    if not (argument here t 3 == 8) then refused here t EINVAL
-    else if not (may_read here set 8) then refused here t EFAULT
-    else if not (set == 0) && refuses_how how then refused here t EINVAL
-    else if not (may_write here old 8) then refused here t EFAULT
-    else record (said here t 0) {
+    unless here t (sigprocmask_errors here t)
+    (record (said here t 0) {
       entered = if old == 0 then [] else double_written old (mask_of t here.kernel.signals) ∷ [];
-      kernel = signalled (masked here t how set) here.kernel;
-    }
+      kernel = signalled (masked here t (int_argument here t 0) (argument here t 1)) here.kernel;
+    })
 
 -- A HANDLER RETURNS
 

@@ -1,8 +1,7 @@
 -- clone(2).
-use Rattle.std.proofs.Common.{List, ◌≡◌, ◌≢◌, ℕ, [], ◌∷◌, refl, sym, ap, ◌∙◌, arith, Bool, true, false, cond, not, ◌&&◌, Option, Some, None}
+use Rattle.std.proofs.Common.{List, ◌≡◌, ◌≢◌, ℕ, [], ◌∷◌, refl, sym, ap, ◌∙◌, arith, Bool, true, false, cond, Option, Some, None}
 use Rattle.std.specs.Option.{option_map}
 use Rattle.std.proofs.lemmas.Bool.{ne_eqb}
-use Rattle.mach_types.specs.declared.errors.TheConstants.{EAGAIN, EFAULT, EINVAL}
 use Rattle.mach_types.specs.declared.threads.Saved.{Saved}
 use Rattle.mach_types.specs.declared.user_memory.Write.{Write}
 use Rattle.block_model.specs.Record.{Kernel}
@@ -11,7 +10,7 @@ use Rattle.block_model.specs.Setting.{Setting}
 use Rattle.block_model.specs.Here.{Here, runs}
 use Rattle.block_model.specs.Kernel.{cleared, had_child, next_number}
 use Rattle.block_model.specs.Calls.Answers.{CallDone, argument, returned}
-use Rattle.block_model.specs.Calls.Cloning.{are_flags, child_file, clone, clone_child_cleartid, clone_child_settid, clone_parent_settid, has_flag, may_write, with_new_child}
+use Rattle.block_model.specs.Calls.Cloning.{child_file, clone_child_cleartid, has_flag, with_new_child}
 use Rattle.block_model.proofs.Allowances.{child_allowed, running_live}
 use Rattle.block_model.specs.Tables.{on}
 use Rattle.block_model.proofs.KernelTables.{running_is}
@@ -20,7 +19,7 @@ use Rattle.mach_types.proofs.Laws.{next_is_new}
 use Rattle.block_model.proofs.Good.{IsGoodHere, IsSound}
 use Rattle.block_model.proofs.Held.{held_child}
 use Rattle.block_model.proofs.Goods.Calls.Fit.{IsFitCall}
-use Rattle.block_model.proofs.Goods.Calls.Said.{IsApart, apart_own, unless_refused}
+use Rattle.block_model.proofs.Goods.Calls.Said.{IsApart, apart_own}
 use Rattle.block_model.proofs.Goods.Calls.Steps.{IsKept, kept_cleared, kept_still}
 
 -- a thread that runs has another number than the next
@@ -80,7 +79,7 @@ child_made here t entered =
       ended = None;
     }
 
-fit_child : (here : Here) (t : ℕ) (entered : List Write) → IsGoodHere here → runs here ≡ Some t
+pub fit_child : (here : Here) (t : ℕ) (entered : List Write) → IsGoodHere here → runs here ≡ Some t
     → is_full here.kernel.threads ≡ false
     → IsFitCall here (child_made here t entered)
 fit_child here t entered good at free =
@@ -97,13 +96,3 @@ fit_child here t entered good at free =
       kernel = kept.sound;
       held = λ is. kept.held (held_child s.limits.harts t here.kernel good.kernel.tables.threads is);
     }
-
-pub fit_clone : (here : Here) (t : ℕ) → IsGoodHere here → runs here ≡ Some t → IsFitCall here (clone here t)
-fit_clone here t good at =
-    let flags = argument here t 0 in
-    let own = may_write here flags clone_parent_settid (argument here t 2) in
-    let theirs = may_write here flags clone_child_settid (argument here t 4) in
-    unless_refused here t EINVAL (not (are_flags flags)) _ good at (λ _.
-    unless_refused here t EAGAIN (is_full here.kernel.threads) _ good at (λ free.
-    unless_refused here t EFAULT (not (own && theirs)) _ good at (λ _.
-    fit_child here t _ good at free)))

@@ -1,27 +1,22 @@
 -- futex(2).
-use Rattle.std.proofs.Common.{◌≡◌, ◌≢◌, ℕ, ◌%◌, [], map, refl, sym, ap, ◌∙◌, true, not, eqb, leb, Option, Some, None, is_some, length, zero, suc}
+use Rattle.std.proofs.Common.{◌≡◌, ◌≢◌, ℕ, [], map, refl, sym, ap, ◌∙◌, true, Option, Some, None, zero, suc}
 use Rattle.std.specs.Option.{option_map_or}
 use Rattle.std.proofs.lemmas.Bool.{ne_eqb, false≢true}
-use Rattle.mach_types.specs.declared.address_space.TheConstants.{USER_END}
-use Rattle.mach_types.specs.declared.errors.TheConstants.{EAGAIN, EFAULT, EINTR, EINVAL, ENOSYS}
 use Rattle.mach_types.specs.declared.threads.Saved.{Saved}
 use Rattle.mach_types.specs.declared.threads.ThreadState.{ThreadState}
 use Rattle.mach_types.specs.declared.threads.ThreadState.TheVariants.{Ready, Running, Waiting}
 use Rattle.block_model.specs.Record.{Kernel}
-use Rattle.mach_types.specs.Kernel.Signals.{next_for}
 use Rattle.mach_types.specs.Kernel.Threads.{Threads, is_waiting_at, longest_waiter, running_on, state_of, waits}
 use Rattle.block_model.specs.Setting.{Setting}
 use Rattle.block_model.specs.Here.{Here, runs}
 use Rattle.block_model.specs.History.{file_among}
 use Rattle.block_model.specs.Kernel.{woken}
-use Rattle.block_model.specs.Calls.Answers.{argument, are_readable, int_argument, number_at, returned}
-use Rattle.block_model.specs.Calls.Futexes.{Woken, answered_wait, futex, futex_wait, futex_wake, operation, wake, woken_first}
+use Rattle.block_model.specs.Calls.Futexes.{Woken, answered_wait, wake, woken_first}
 use Rattle.block_model.specs.Tables.{on}
 use Rattle.block_model.proofs.KernelTables.{running_is, found_passes}
 use Rattle.block_model.proofs.Good.{IsGoodHere, IsSound}
-use Rattle.block_model.proofs.Goods.Calls.Fit.{IsFitCall}
-use Rattle.block_model.proofs.Goods.Calls.Said.{IsApart, apart_one, apart_own, either, fit_kept, fit_moved, unless_refused}
-use Rattle.block_model.proofs.Goods.Calls.Steps.{IsKept, kept_still, kept_twice, kept_woken, moved_waited}
+use Rattle.block_model.proofs.Goods.Calls.Said.{IsApart}
+use Rattle.block_model.proofs.Goods.Calls.Steps.{IsKept, kept_still, kept_twice, kept_woken}
 
 -- the longest waiter at an address waits
 waits_there : (at : ℕ) (ts : Threads) (t : ℕ) (o : Option ThreadState) → state_of t ts ≡ o
@@ -50,22 +45,25 @@ abbrev woken_next : ℕ → ℕ → Kernel → Option ℕ → Woken
 woken_next n at k o =
     option_map_or (λ u. woken_first u (wake n at (woken u k))) o (record { threads = []; kernel = k })
 
--- what is woken keeps the record sound
-wake_one : (s : Setting) (n at : ℕ) (k : Kernel) → IsSound s k
-    → ((u : ℕ) → waits k.threads u → IsKept s (woken u k) (wake n at (woken u k)).kernel)
-    → (o : Option ℕ) → longest_waiter at k.threads ≡ o → IsKept s k (woken_next n at k o).kernel
-wake_one s n at k sound rest None is = kept_still s k sound
-wake_one s n at k sound rest (Some u) is =
-    let waiting = longest_waits at k.threads u is in
-    let first = kept_woken s u k sound waiting in
-    kept_twice s k (woken u k) (wake n at (woken u k)).kernel first (rest u waiting)
+-- what each that is woken keeps, all keep
+wake_next : (P : Kernel → Kernel → Type 0) → (n at : ℕ) (k : Kernel) → P k k
+    → ((u : ℕ) → waits k.threads u → P k (wake n at (woken u k)).kernel) → (o : Option ℕ) → longest_waiter at k.threads ≡ o → P k (woken_next n at k o).kernel
+wake_next P n at k still rest None is = still
+wake_next P n at k still rest (Some u) is = rest u (longest_waits at k.threads u is)
 
+pub wake_keeps : (P : Kernel → Kernel → Type 0) → ((k : Kernel) → P k k) → ((u : ℕ) (k after : Kernel) → waits k.threads u → P (woken u k) after → P k after)
+    → (n at : ℕ) (k : Kernel) → P k (wake n at k).kernel
+wake_keeps P still step zero at k = still k
+wake_keeps P still step (suc n) at k =
+    wake_next P n at k (still k) (λ u waiting. step u k (wake n at (woken u k)).kernel waiting (wake_keeps P still step n at (woken u k)))
+    (longest_waiter at k.threads) refl
+
+-- so the record stays sound
 pub kept_wake : (s : Setting) (n at : ℕ) (k : Kernel) → IsSound s k → IsKept s k (wake n at k).kernel
-kept_wake s zero at k sound = kept_still s k sound
-kept_wake s (suc n) at k sound =
-    let sound_then = λ (u : ℕ) (waiting : waits k.threads u). (kept_woken s u k sound waiting).sound in
-    let rest = λ (u : ℕ) (waiting : waits k.threads u). kept_wake s n at (woken u k) (sound_then u waiting) in
-    wake_one s n at k sound rest (longest_waiter at k.threads) refl
+kept_wake s n at k sound =
+    wake_keeps (λ a b. IsSound s a → IsKept s a b) (kept_still s) (λ u k after waiting rest sound.
+    let first = kept_woken s u k sound waiting in
+    kept_twice s k (woken u k) after first (rest first.sound)) n at k sound
 
 -- and sets no file of a thread that runs
 abbrev answered : Here → Woken → ℕ → Saved → Saved
@@ -95,32 +93,3 @@ pub apart_woken : (here : Here) (n at : ℕ) → IsGoodHere here
     → IsApart here (map (answered_wait here) (wake n at here.kernel).threads)
 apart_woken here n at good k u f ne run =
     answered_apart here.setting here n at k u f here.kernel good.kernel run
-
-fit_wait : (here : Here) (t : ℕ) → IsGoodHere here → runs here ≡ Some t → IsFitCall here (futex_wait here t)
-fit_wait here t good at =
-    let p = argument here t 0 in
-    unless_refused here t EINVAL (not (eqb (argument here t 3) 0)) _ good at (λ _.
-    unless_refused here t EFAULT (not (are_readable here p 4)) _ good at (λ _.
-    unless_refused here t EAGAIN (not (eqb (number_at here p 4) (int_argument here t 2))) _ good at (λ _.
-    unless_refused here t EINTR (is_some (next_for t here.kernel.signals)) _ good at (λ _.
-    let own = apart_one here t (returned 0 (here.file t)) good at in
-    fit_moved here _ refl own (moved_waited here.setting here.hart t p here.kernel good.kernel at)))))
-
-fit_wake : (here : Here) (t : ℕ) → IsGoodHere here → runs here ≡ Some t → IsFitCall here (futex_wake here t)
-fit_wake here t good at =
-    let n = int_argument here t 2 in
-    let p = argument here t 0 in
-    let done = wake n p here.kernel in
-    let theirs = map (answered_wait here) done.threads in
-    let own = returned (length done.threads) (here.file t) in
-    let apart = apart_own here t own theirs good at (apart_woken here n p good) in
-    fit_kept here (futex_wake here t) refl apart (kept_wake here.setting n p here.kernel good.kernel)
-
-pub fit_futex : (here : Here) (t : ℕ) → IsGoodHere here → runs here ≡ Some t → IsFitCall here (futex here t)
-fit_futex here t good at =
-    let p = argument here t 0 in
-    let op = operation (int_argument here t 1) in
-    unless_refused here t ENOSYS (not (leb op 1)) _ good at (λ _.
-    unless_refused here t EINVAL (not (eqb (p % 4) 0)) _ good at (λ _.
-    unless_refused here t EFAULT (leb USER_END p) _ good at (λ _.
-    either here (eqb op 0) _ _ (λ _. fit_wait here t good at) (λ _. fit_wake here t good at))))

@@ -1,17 +1,15 @@
 -- What makes a call fit: a step of the record, beside files that are the caller's own or of threads that
 -- don't run; and
 -- calls that answer and do nothing else.
-use Rattle.std.proofs.Common.{◌≡◌, ◌≢◌, ℕ, List, [], ◌∷◌, refl, sym, ◌∙◌, arith, Bool, true, false, cond, None, Some}
-use Rattle.mach_types.specs.declared.errors.Errno.{Errno}
+use Rattle.std.proofs.Common.{◌≡◌, ◌≢◌, ℕ, List, [], ◌∷◌, refl, sym, ◌∙◌, arith, None, Some}
 use Rattle.mach_types.specs.declared.threads.Saved.{Saved}
-use Rattle.mach_types.specs.declared.user_memory.Write.{Write}
 use Rattle.mach_types.specs.Kernel.Threads.{running_on}
 use Rattle.block_model.specs.Here.{Here, runs}
 use Rattle.block_model.specs.History.{file_among}
-use Rattle.block_model.specs.Calls.Answers.{CallDone, said, refused, returned}
+use Rattle.block_model.specs.Calls.Answers.{CallDone}
 use Rattle.block_model.proofs.Good.{IsGoodHere}
 use Rattle.block_model.proofs.Goods.Calls.Fit.{IsFitCall, own_apart}
-use Rattle.block_model.proofs.Goods.Calls.Steps.{IsKept, IsMoved, kept_still, kept_moved}
+use Rattle.block_model.proofs.Goods.Calls.Steps.{IsKept, IsMoved, kept_moved}
 
 -- a thread that runs on another hart keeps its file
 abbrev pub IsApart : Here → List (ℕ × Saved) → Type 0
@@ -48,30 +46,3 @@ apart_none here k u f ne run = refl
 pub apart_one : (here : Here) (t : ℕ) (x : Saved) → IsGoodHere here → runs here ≡ Some t
     → IsApart here ((t, x) ∷ [])
 apart_one here t x good at = apart_own here t x [] good at (apart_none here)
-
--- a call that answers, perhaps writes, and leaves the record as it is
-pub fit_wrote : (here : Here) (t n : ℕ) (entered : List Write) → IsGoodHere here → runs here ≡ Some t
-    → IsFitCall here (record (said here t n) { entered = entered })
-fit_wrote here t n entered good at =
-    let own = apart_one here t (returned n (here.file t)) good at in
-    let kept = kept_still here.setting here.kernel good.kernel in
-    fit_kept here (record (said here t n) { entered = entered }) refl own kept
-
-pub fit_said : (here : Here) (t n : ℕ) → IsGoodHere here → runs here ≡ Some t → IsFitCall here (said here t n)
-fit_said here t n good at = fit_wrote here t n [] good at
-
-pub fit_refused : (here : Here) (t : ℕ) (errno : Errno) → IsGoodHere here → runs here ≡ Some t
-    → IsFitCall here (refused here t errno)
-fit_refused here t errno good at = fit_said here t _ good at
-
--- one of two calls, by a test
-pub either : (here : Here) (b : Bool) (x y : CallDone) → (b ≡ true → IsFitCall here x)
-    → (b ≡ false → IsFitCall here y) → IsFitCall here (cond b x y)
-either here true x y p q = p refl
-either here false x y p q = q refl
-
--- a call that is refused where the test holds
-pub unless_refused : (here : Here) (t : ℕ) (errno : Errno) (b : Bool) (y : CallDone) → IsGoodHere here
-    → runs here ≡ Some t → (b ≡ false → IsFitCall here y) → IsFitCall here (cond b (refused here t errno) y)
-unless_refused here t errno b y good at q =
-    either here b (refused here t errno) y (λ _. fit_refused here t errno good at) q

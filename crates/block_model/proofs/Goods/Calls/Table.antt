@@ -1,71 +1,147 @@
 -- Each call of the table is fit.
-use Rattle.std.proofs.Common.{◌≡◌, ℕ, sym, subst, Bool, true, false, cond, eqb, refl, Some}
-use Rattle.std.proofs.lemmas.Bool.{eqb-true}
-use Rattle.mach_types.specs.declared.errors.TheConstants.{ENOSYS}
-use Rattle.block_model.specs.Here.{Here, runs}
-use Rattle.block_model.specs.Calls.{call_of, called}
-use Rattle.block_model.specs.Calls.Answers.{CallDone, call_number}
-use Rattle.block_model.specs.Calls.Memory.{brk, mmap, mprotect, munmap, taken_by}
+use Rattle.std.proofs.Common.{◌≡◌, ℕ, List, [], ◌∷◌, length, map, cond, refl, sym, ap, ◌∙◌, subst, arith, is_some, true, Option, Some, None}
+use Rattle.std.proofs.lemmas.Bool.{ne_eqb}
 use Rattle.mach_types.specs.Kernel.Pages.{PageRun}
-use Rattle.block_model.proofs.Good.{IsGoodHere}
-use Rattle.block_model.proofs.Goods.Calls.Affinity.{fit_getaffinity, fit_getcpu, fit_setaffinity, fit_yield}
-use Rattle.block_model.proofs.Goods.Calls.Barriers.{fit_membarrier}
-use Rattle.block_model.proofs.Goods.Calls.Cloning.{fit_clone}
-use Rattle.block_model.proofs.Goods.Calls.Console.{fit_write, fit_writev}
-use Rattle.block_model.proofs.Goods.Calls.Ending.{fit_exit, fit_exit_group}
-use Rattle.block_model.proofs.Goods.Calls.Fit.{IsFitCall, IsFitTaking, takes_none}
-use Rattle.block_model.proofs.Goods.Calls.Futexes.{fit_futex}
-use Rattle.block_model.proofs.Goods.Calls.Memory.{fit_brk, fit_mmap, fit_mprotect, fit_munmap}
-use Rattle.block_model.proofs.Goods.Calls.Numbers.{fit_getpid, fit_gettid, fit_set_tid_address}
-use Rattle.block_model.proofs.Goods.Calls.Said.{fit_refused}
-use Rattle.block_model.proofs.Goods.Calls.Sequences.{fit_rseq}
-use Rattle.block_model.proofs.Goods.Calls.Signals.{fit_sigaction, fit_sigprocmask, fit_sigreturn, fit_tgkill, fit_tkill}
+use Rattle.mach_types.specs.Kernel.SignalFrames as frame
+use Rattle.mach_types.specs.Kernel.Threads.{clear_of, waits}
+use Rattle.mach_types.specs.declared.sequences.Area.{Area}
+use Rattle.mach_types.specs.declared.threads.ThreadState.{ThreadState}
+use Rattle.mach_types.specs.declared.user_memory.Write.{Write}
+use Rattle.mach_types.specs.Kernel.Areas.{with_area, without_area}
+use Rattle.rv_inst.specs.Words.{sum_64}
+use Rattle.block_model.specs.Calls.{called}
+use Rattle.block_model.specs.Calls.Answers.{CallDone, call_number, returned, said}
+use Rattle.block_model.specs.Calls.Ending.{clears}
+use Rattle.block_model.specs.Calls.Futexes.{answered_wait, wake}
+use Rattle.block_model.specs.Calls.Memory.{taken_by}
+use Rattle.block_model.specs.Calls.Signals.{broken_wait}
+use Rattle.block_model.specs.Here.{Here, runs}
+use Rattle.block_model.specs.Kernel.{gone, left, restricted, signalled, woken}
+use Rattle.block_model.specs.Record.{Kernel}
+use Rattle.block_model.specs.Setting.{Setting}
+use Rattle.block_model.proofs.BarrierSteps.{IsAtOthers}
+use Rattle.block_model.proofs.CallDeeds.{Answers, Bears, Begins, Breaks, CallDeed, Clears, Ends, EnrolsFor, Exits, Leaves, MovesOff, Prints, Registers, Remaps, Resumes, Same, Says, Signalled, Stays, TableStep, Unregisters, Waits, Wakes}
+use Rattle.block_model.proofs.CallDeeds.Table.{deed_called}
+use Rattle.block_model.proofs.Good.{IsGoodHere, IsSound}
+use Rattle.block_model.proofs.Goods.Calls.Cloning.{fit_child}
+use Rattle.block_model.proofs.Goods.Calls.Fit.{IsFitTaking, takes_none}
+use Rattle.block_model.proofs.Goods.Calls.Futexes.{apart_woken, kept_wake, waits_apart}
+use Rattle.block_model.proofs.Goods.Calls.Said.{IsApart, apart_none, apart_one, apart_own, fit_kept, fit_moved}
+use Rattle.block_model.proofs.Goods.Calls.Steps.{IsKept, IsMoved, kept_cleared, kept_for_barriers, kept_moved, kept_printed, kept_restricted, kept_signalled, kept_still, kept_twice, kept_woken, moved_after, moved_gone, moved_left, moved_waited}
+use Rattle.block_model.proofs.Held.{IsHeld, has_state, held_paged, held_registered, held_unregistered}
+use Rattle.block_model.proofs.KernelTables.{running_is}
+use Rattle.block_model.proofs.SignalSteps.{returned_keeps}
 
--- one of two calls, by a test
-either : (here : Here) (r : PageRun) (b : Bool) (x y : CallDone) → (b ≡ true → IsFitTaking here r x) → (b ≡ false → IsFitTaking here r y)
-    → IsFitTaking here r (cond b x y)
-either here r true x y p q = p refl
-either here r false x y p q = q refl
+-- other areas change nothing else
+kept_areas : (s : Setting) (areas : List (ℕ × Area)) (k : Kernel) → IsSound s k → (IsHeld s.limits.harts k → IsHeld s.limits.harts (record k { areas = areas }))
+    → IsKept s k (record k { areas = areas })
+kept_areas s areas k sound held = record {
+  running = λ h. refl;
+  pages = refl;
+  given = refl;
+  sound = record { tables = sound.tables; allowed = sound.allowed; console = sound.console };
+  held = held;
+}
 
-module _ (number : ℕ) (here : Here) (t : ℕ) (good : IsGoodHere here) (at : runs here ≡ Some t) where
+-- a thread that runs is live
+running_lives : (here : Here) (t : ℕ) → IsGoodHere here → runs here ≡ Some t → has_state t here.kernel.threads ≡ true
+running_lives here t good at =
+    ap (λ (o : Option ThreadState). is_some o)
+    (running_is here.setting.limits.harts here.hart t here.kernel.threads here.kernel.scheduling good.kernel.tables at)
+
+apart_broken : (here : Here) (u : ℕ) → IsGoodHere here → waits here.kernel.threads u → IsApart here (broken_wait here u ∷ [])
+apart_broken here u good waiting k v f ne run = rw (ne_eqb u v (waits_apart here.setting k u v here.kernel good.kernel waiting run)) refl
+
+module _ (here : Here) (t number : ℕ) (good : IsGoodHere here) (at : runs here ≡ Some t) where
+  abbrev s : Setting
+  s = here.setting
+
+  abbrev h : ℕ
+  h = here.hart
+
+  abbrev now : Kernel
+  now = here.kernel
+
   abbrev taken : PageRun
   taken = taken_by number here t
 
-  still : (c : CallDone) → IsFitCall here c → IsFitTaking here taken c
-  still c fit = takes_none here taken c fit
+  -- an answer, with a step of the record that moves no other thread
+  moving : (n : ℕ) (entered : List Write) (k : Kernel) → IsMoved s h now k → IsFitTaking here taken (record (said here t n) { entered = entered; kernel = k })
+  moving n entered k moved = takes_none here taken _ (fit_moved here _ refl (apart_one here t (returned n (here.file t)) good at) moved)
 
-  -- a call that takes pages, by its number
-  takes : (k : ℕ) (c : CallDone) → eqb number k ≡ true → IsFitTaking here (taken_by k here t) c → IsFitTaking here taken c
-  takes k c is fit = subst (λ n. IsFitTaking here (taken_by n here t) c) (sym (eqb-true number k is)) fit
+  keeping : (n : ℕ) (entered : List Write) (k : Kernel) → IsKept s now k → IsFitTaking here taken (record (said here t n) { entered = entered; kernel = k })
+  keeping n entered k kept = moving n entered k (kept_moved s h now k kept)
 
-  fit_call_of : IsFitTaking here taken (call_of number here t)
-  fit_call_of =
-      either here taken (eqb number 64) _ _ (λ _. still _ (fit_write here t good at)) (λ _.
-      either here taken (eqb number 66) _ _ (λ _. still _ (fit_writev here t good at)) (λ _.
-      either here taken (eqb number 93) _ _ (λ _. still _ (fit_exit here t good at)) (λ _.
-      either here taken (eqb number 94) _ _ (λ _. still _ (fit_exit_group here t good)) (λ _.
-      either here taken (eqb number 96) _ _ (λ _. still _ (fit_set_tid_address here t good at)) (λ _.
-      either here taken (eqb number 98) _ _ (λ _. still _ (fit_futex here t good at)) (λ _.
-      either here taken (eqb number 122) _ _ (λ _. still _ (fit_setaffinity here t good at)) (λ _.
-      either here taken (eqb number 123) _ _ (λ _. still _ (fit_getaffinity here t good at)) (λ _.
-      either here taken (eqb number 124) _ _ (λ _. still _ (fit_yield here t good at)) (λ _.
-      either here taken (eqb number 130) _ _ (λ _. still _ (fit_tkill here t good at)) (λ _.
-      either here taken (eqb number 131) _ _ (λ _. still _ (fit_tgkill here t good at)) (λ _.
-      either here taken (eqb number 134) _ _ (λ _. still _ (fit_sigaction here t good at)) (λ _.
-      either here taken (eqb number 135) _ _ (λ _. still _ (fit_sigprocmask here t good at)) (λ _.
-      either here taken (eqb number 139) _ _ (λ _. still _ (fit_sigreturn here t good at)) (λ _.
-      either here taken (eqb number 168) _ _ (λ _. still _ (fit_getcpu here t good at)) (λ _.
-      either here taken (eqb number 172) _ _ (λ _. still _ (fit_getpid here t good at)) (λ _.
-      either here taken (eqb number 178) _ _ (λ _. still _ (fit_gettid here t good at)) (λ _.
-      either here taken (eqb number 214) _ _ (λ is. takes 214 (brk here t) is (fit_brk here t good at)) (λ _.
-      either here taken (eqb number 215) _ _ (λ is. takes 215 (munmap here t) is (fit_munmap here t good at)) (λ _.
-      either here taken (eqb number 220) _ _ (λ _. still _ (fit_clone here t good at)) (λ _.
-      either here taken (eqb number 222) _ _ (λ is. takes 222 (mmap here t) is (fit_mmap here t good at)) (λ _.
-      either here taken (eqb number 226) _ _ (λ is. takes 226 (mprotect here t) is (fit_mprotect here t good at)) (λ _.
-      either here taken (eqb number 283) _ _ (λ _. still _ (fit_membarrier here t good at)) (λ _.
-      either here taken (eqb number 293) _ _ (λ _. still _ (fit_rseq here t good at)) (λ _.
-      still _ (fit_refused here t ENOSYS good at)))))))))))))))))))))))))
+  fit_step : (n : ℕ) (entered : List Write) {k : Kernel} → TableStep here t number k → IsFitTaking here taken (record (said here t n) { entered = entered; kernel = k })
+  fit_step n entered Same = keeping n entered now (kept_still s now good.kernel)
+  fit_step n entered (Prints bytes room) = keeping n entered _ (kept_printed s bytes now good.kernel room)
+  fit_step n entered (Clears p) = keeping n entered _ (kept_cleared s t p now good.kernel)
+  fit_step n entered Leaves = moving n entered _ (moved_left s h t now good.kernel at)
+  fit_step n entered (Waits p) = moving n entered _ (moved_waited s h t p now good.kernel at)
+  fit_step n entered (Stays set below some) = keeping n entered _ (kept_restricted s t set now good.kernel below some)
+  fit_step n entered (MovesOff set below some) =
+      let k = restricted t set now in
+      let kept = kept_restricted s t set now good.kernel below some in
+      moving n entered _ (moved_after s h now k (left t k) kept (moved_left s h t k kept.sound (kept.running h ∙ at)))
+  fit_step n entered (Registers area none) =
+      keeping n entered _ (kept_areas s (with_area t area now.areas) now good.kernel (held_registered s.limits.harts t area now (running_lives here t good at) none))
+  fit_step n entered Unregisters = keeping n entered _ (kept_areas s (without_area t now.areas) now good.kernel (held_unregistered s.limits.harts t now))
+  fit_step n entered (Signalled g keeps stand) = keeping n entered _ (kept_signalled s g now good.kernel keeps)
+  fit_step n entered (EnrolsFor r) = keeping n entered _ (kept_for_barriers s r now good.kernel)
+  fit_step n entered (Remaps pages stays paged) = record {
+    others = λ k ne. refl;
+    apart = apart_one here t (returned n (here.file t)) good at;
+    pages = stays;
+    paged = paged;
+    given = omega arith;
+    barrier = λ b is. absurd cc;
+    kernel = record { tables = good.kernel.tables; allowed = good.kernel.allowed; console = good.kernel.console };
+    held = held_paged s.limits.harts pages now;
+  }
+
+  -- the deeds that take no page
+  fit_kept_by : (c : CallDone) → c.barrier ≡ None → IsApart here c.files → IsKept s now c.kernel → IsFitTaking here taken c
+  fit_kept_by c quiet apart kept = takes_none here taken c (fit_kept here c quiet apart kept)
+
+  fit_deed : {c : CallDone} → CallDeed here t number c → IsFitTaking here taken c
+  fit_deed (Says n) = keeping n [] now (kept_still s now good.kernel)
+  fit_deed (Answers n entered k no_error step) = fit_step n entered step
+  fit_deed (Wakes n p small) =
+      let done = wake n p now in
+      fit_kept_by _ refl
+      (apart_own here t (returned (length done.threads) (here.file t)) (map (answered_wait here) done.threads) good at (apart_woken here n p good))
+      (kept_wake s n p now good.kernel)
+  fit_deed (Breaks u g waiting keeps stand) =
+      let k = signalled g now in
+      let kept = kept_signalled s g now good.kernel keeps in
+      fit_kept_by _ refl (apart_own here t (returned 0 (here.file t)) (broken_wait here u ∷ []) good at (apart_broken here u good waiting))
+      (kept_twice s now k (woken u k) kept (kept_woken s u k kept.sound waiting))
+  fit_deed (Exits more) =
+      let n : ℕ = cond (clears here t) 1 0 in
+      let address = clear_of t now.threads in
+      let then = (wake n address now).kernel in
+      let kept = kept_wake s n address now good.kernel in
+      let moved = moved_gone s h t then kept.sound (kept.running h ∙ at) in
+      takes_none here taken _ (fit_moved here _ refl (apart_woken here n address good) (moved_after s h now then (gone t then) kept moved))
+  fit_deed (Bears entered free) = takes_none here taken _ (fit_child here t entered good at free)
+  fit_deed (Begins set restart others no_error) = takes_none here taken _ (record {
+    others = λ k ne. refl;
+    apart = apart_one here t (record (here.file t) { pc = sum_64 (here.file t).pc 4 }) good at;
+    pages = refl;
+    given = omega arith;
+    barrier = λ b is. record {
+      others = let same : record { targets = set; restart = restart } ≡ b = cc in subst (IsAtOthers here) same (others good);
+      running = λ none. let bad : None ≡ Some t = sym none ∙ at in absurd cc;
+      stays = refl;
+    };
+    kernel = good.kernel;
+    held = λ is. is;
+  })
+  fit_deed (Resumes words is its) =
+      fit_kept_by _ refl (apart_one here t (frame.restored words) good at)
+      (kept_signalled s (frame.returned t (Some words) now.signals) now good.kernel (returned_keeps t (Some words) now.signals))
+  fit_deed (Ends entered e over) = fit_kept_by _ refl (apart_none here) (kept_still s now good.kernel)
 
 pub fit_called : (here : Here) (t : ℕ) → IsGoodHere here → runs here ≡ Some t
     → IsFitTaking here (taken_by (call_number here t) here t) (called here t)
-fit_called here t good at = fit_call_of (call_number here t) here t good at
+fit_called here t good at = fit_deed here t (call_number here t) good at (deed_called here t)
