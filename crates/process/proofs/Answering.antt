@@ -1,5 +1,5 @@
 -- What would be answered to the choice of a thread that begins to run.
-use Rattle.std.proofs.Common.{◌≡◌, ℕ, sym, ap, ◌∙◌, subst, Option, Some, None}
+use Rattle.std.proofs.Common.{◌≡◌, sym, ap, ◌∙◌, subst, Option, Some, None}
 use Rattle.std.specs.Option.{IsSome}
 use Rattle.mach_types.specs.Kernel.Threads.{state_of}
 use Rattle.mach_types.specs.declared.events.Choice.TheVariants as asked

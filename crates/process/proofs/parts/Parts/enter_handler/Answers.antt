@@ -1,5 +1,5 @@
 -- A handler is entered.
-use Rattle.std.proofs.Common.{◌≡◌, length, true, false, sym, ap, ◌∙◌, eqb, ◌∷◌, [], slice_get}
+use Rattle.std.proofs.Common.{◌≡◌, length, true, sym, ap, ◌∙◌, eqb, ◌∷◌, [], slice_get}
 use Rattle.std.specs.Option.{option_map}
 use Rattle.std.proofs.lemmas.Bool.{OnTrue_at}
 use Rattle.mach_types.specs.Kernel.SignalFrames.{after_frame, can_write_frame, frame_writes, stack_pointer}
