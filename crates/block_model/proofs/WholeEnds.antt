@@ -20,7 +20,7 @@ use Rattle.block_model.specs.Events.{refusal_of}
 use Rattle.block_model.specs.Events.Finish.{refusal_done_by, refusal_return}
 use Rattle.block_model.specs.Events.Run.{refusal_run_by}
 use Rattle.block_model.specs.Here.{Done, Here, runs}
-use Rattle.block_model.specs.History.{Event, History, ended, is_of_hart}
+use Rattle.block_model.specs.History.{Event, History, ended}
 use Rattle.block_model.specs.Run.{IsRunHistory}
 use Rattle.block_model.specs.Setting.{Setting}
 use Rattle.block_model.specs.Whole.{EndsWhole, WasTouched}
@@ -30,24 +30,22 @@ use Rattle.block_model.proofs.SequencePlaces.{runs_throughout}
 use Rattle.block_model.proofs.Touched.{dropped_is_touched}
 use Rattle.block_model.proofs.WholeBarriers.{in_no_barrier}
 use Rattle.block_model.proofs.WholeEvents.{did, is_free, its_thread, not_over, place}
-use Rattle.block_model.proofs.WholeHangs.{own_now}
+use Rattle.block_model.proofs.SequenceSteps.{Elsewhere, Own, SequenceStep, is_reached, sequence_step}
 
 -- NOTHING HAD ENDED
 
 -- a sequence of which an event ended the process is the end of the run
 module _ (s : Setting) (e : Event) (before : History) (h : ℕ) (q : Sequence) where
-  alive_by : (b : Bool) → is_of_hart h e ≡ b → option_or e.done.ended (ended before) ≡ None
-      → (ended before ≡ None → sequence_on s h before ≡ Some q → has_died q ≡ false)
-      → cond (not b) (sequence_on s h before) (cond (is_inside_at s h before) (taken_up h e before (sequence_on s h before)) None) ≡ Some q
-      → has_died q ≡ false
-  alive_by true own none rest is =
-      ap (λ (r : History). elim r [ [] ↦ false | x ∷ xs ↦ has_killed x ]) (own_now s e before h q (is_inside_at s h before) is)
+  alive_by : SequenceStep s e before h q → option_or e.done.ended (ended before) ≡ None
+      → (ended before ≡ None → sequence_on s h before ≡ Some q → has_died q ≡ false) → has_died q ≡ false
+  alive_by (Own own inside its) none rest =
+      ap (λ (r : History). elim r [ [] ↦ false | x ∷ xs ↦ has_killed x ]) (is_reached s e before h its)
       ∙ ap (λ (o : Option End). is_some o) (neither e.done.ended (ended before) none).0
-  alive_by false other none rest is = rest (neither e.done.ended (ended before) none).1 is
+  alive_by (Elsewhere other is) none rest = rest (neither e.done.ended (ended before) none).1 is
 
 pub alive : (s : Setting) (before : History) (h : ℕ) (q : Sequence) → ended before ≡ None → sequence_on s h before ≡ Some q → has_died q ≡ false
 alive s [] h q none is = absurd cc
-alive s (e ∷ before) h q none is = alive_by s e before h q (is_of_hart h e) refl none (λ n was. alive s before h q n was) is
+alive s (e ∷ before) h q none is = alive_by s e before h q (sequence_step s e before h q is) none (λ n was. alive s before h q n was)
 
 -- NOTHING INTERRUPTS
 
