@@ -41,13 +41,8 @@ taken_keeps k x o here taken inside = taken_deed here x.tid.0 o (deed_of here k 
 
 -- and is an event of the thread that runs
 taken_thread : (k : Kind) (x : Entry) (o : Option Outcome) (here : Here) → is_taken_in k o ≡ true → thread_in (choice_with k x) here ≡ runs here
-taken_thread kind.Exec x o here taken = refl
-taken_thread kind.Drain x o here taken = refl
-taken_thread kind.Take x o here taken = refl
-taken_thread kind.Done x o here taken = absurd (false≢true taken)
-taken_thread kind.Preempt x o here taken = absurd (false≢true taken)
 taken_thread kind.Run x o here taken = absurd (false≢true taken)
-taken_thread kind.Signal x o here taken = absurd (false≢true taken)
+taken_thread k x o here taken = refl
 
 -- ONE EVENT
 

@@ -11,12 +11,7 @@ use Rattle.block_model.specs.Setting.{Setting}
 -- a sequence begins with an instruction, which it takes in
 pub instruction_taken : (k : Kind) (o : Option Outcome) → is_instruction k ≡ true → is_taken_in k o ≡ true
 instruction_taken kind.Exec o is = refl
-instruction_taken kind.Drain o is = refl
-instruction_taken kind.Take o is = absurd (false≢true is)
-instruction_taken kind.Done o is = absurd (false≢true is)
-instruction_taken kind.Preempt o is = absurd (false≢true is)
-instruction_taken kind.Run o is = absurd (false≢true is)
-instruction_taken kind.Signal o is = absurd (false≢true is)
+instruction_taken k o is = absurd (false≢true is)
 
 -- THE NEWEST SEQUENCE OF A HART
 
@@ -86,13 +81,9 @@ module _ (s : Setting) (e : Event) (before : History) (t : ℕ) (q : Sequence) w
   hangs_on k its other is = HangsOn is (λ runs. absurd (other (sym its ∙ runs)))
 
   by_kind : (k : Kind) → e.entry.kind ≡ k → e.entry.tid.0 ≡ t → hanging_after s t e before k (hanging s t before) ≡ Some q → HangingStep s e before t q
-  by_kind kind.Exec its own is = hangs_on kind.Exec its (λ same. absurd cc) is
-  by_kind kind.Drain its own is = hangs_on kind.Drain its (λ same. absurd cc) is
-  by_kind kind.Take its own is = hangs_on kind.Take its (λ same. absurd cc) is
-  by_kind kind.Done its own is = hangs_on kind.Done its (λ same. absurd cc) is
   by_kind kind.Preempt its own is = preempted_by (is_inside_at s e.entry.hart.0 before) refl its own is
   by_kind kind.Run its own is = absurd cc
-  by_kind kind.Signal its own is = hangs_on kind.Signal its (λ same. absurd cc) is
+  by_kind k its own is = hangs_on k its (λ same. absurd cc) is
 
   by_thread : (b : Bool) → eqb e.entry.tid.0 t ≡ b → cond b (hanging_after s t e before e.entry.kind (hanging s t before)) (hanging s t before) ≡ Some q
       → HangingStep s e before t q

@@ -56,10 +56,7 @@ none_set : (k : Kind) (x : Entry) (here : Here) → IsTakenIn k x here → is_in
 none_set kind.Exec x here taken no_instruction = absurd (false≢true (sym no_instruction))
 none_set kind.Drain x here taken no_instruction = drain_sets_none here (waiting_here here)
 none_set kind.Take x here taken no_instruction = ap (λ (d : Done). d.files) (take_taken here taken)
-none_set kind.Done x here taken no_instruction = absurd (false≢true taken)
-none_set kind.Preempt x here taken no_instruction = absurd (false≢true taken)
-none_set kind.Run x here taken no_instruction = absurd (false≢true taken)
-none_set kind.Signal x here taken no_instruction = absurd (false≢true taken)
+none_set k x here taken no_instruction = absurd (false≢true taken)
 
 module _ (s : Setting) (e : Event) (before : History) (run : IsRunHistory s (e ∷ before)) (taken : is_taken_in e.entry.kind e.done.interrupted ≡ true) where
   kept_record : is_inside_at s e.entry.hart.0 before ≡ true → OnlySignals (kernel s before) (kernel s (e ∷ before))

@@ -155,13 +155,9 @@ module _ (s : Setting) (e : Event) (before : History) (q : Sequence) (run : IsRu
   ends_taken (Some o) told is = ends_whole_restarted s e before q run is was (ap (λ (i : Option Outcome). is_some i) told)
 
   ends_by : (k : Kind) → e.entry.kind ≡ k → EndsWhole s e before q
-  ends_by kind.Exec is = quiet_so kind.Exec is (λ same. cc) (λ same. cc)
-  ends_by kind.Drain is = quiet_so kind.Drain is (λ same. cc) (λ same. cc)
   ends_by kind.Take is = ends_taken e.done.interrupted refl is
-  ends_by kind.Done is = quiet_so kind.Done is (λ same. cc) (λ same. cc)
-  ends_by kind.Preempt is = quiet_so kind.Preempt is (λ same. cc) (λ same. cc)
-  ends_by kind.Run is = quiet_so kind.Run is (λ same. cc) (λ same. cc)
   ends_by kind.Signal is = ends_whole_delivered s e before q run is was
+  ends_by k is = quiet_so k is (λ same. cc) (λ same. cc)
 
   ends_whole : EndsWhole s e before q
   ends_whole = ends_by e.entry.kind refl

@@ -29,12 +29,7 @@ exec_free here (Some t) free = (out_of_barrier here.awaits _ free).0
 
 instruction_free : (k : Kind) (x : Entry) (here : Here) → is_instruction k ≡ true → refusal_of (choice_with k x) here ≡ None → here.awaits ≡ None
 instruction_free kind.Exec x here is free = exec_free here (runs here) free
-instruction_free kind.Drain x here is free = absurd (false≢true is)
-instruction_free kind.Take x here is free = absurd (false≢true is)
-instruction_free kind.Done x here is free = absurd (false≢true is)
-instruction_free kind.Preempt x here is free = absurd (false≢true is)
-instruction_free kind.Run x here is free = absurd (false≢true is)
-instruction_free kind.Signal x here is free = absurd (false≢true is)
+instruction_free k x here is free = absurd (false≢true is)
 
 -- WHAT A SEQUENCE TAKES IN BEGINS NO BARRIER
 
