@@ -20,11 +20,14 @@ abbrev pub StandsIn : Saved → Type 0
 StandsIn f = f.pc < 2 ^ 64
 
 module _ (seen : ℕ → Option ℕ) (f : Saved) (r : Option ℕ) (e : Effect) (stands : StandsIn f) where
-  of_inst : (o : Option Inst) → option_map (λ i. meaning i f.file f.pc) o ≡ Some e → (outcome seen f.file f.pc r e).pc < 2 ^ 64
+  of_inst : (o : Option Inst) → option_map (λ i. meaning i f.file f.pc) o ≡ Some e
+      → (outcome seen f.file f.pc r e).pc < 2 ^ 64
   of_inst (Some i) is =
       let same : meaning i f.file f.pc ≡ e = cc in
-      subst (λ e. (outcome seen f.file f.pc r e).pc < 2 ^ 64) same (pc-fits i f.file f.pc seen f.file r stands)
+      subst (λ e. (outcome seen f.file f.pc r e).pc < 2 ^ 64) same
+      (pc-fits i f.file f.pc seen f.file r stands)
   of_inst None is = absurd cc
 
-  pub outcome_stands : (word : Option ℕ) → effect_of word f ≡ Some e → (outcome seen f.file f.pc r e).pc < 2 ^ 64
+  pub outcome_stands : (word : Option ℕ) → effect_of word f ≡ Some e
+      → (outcome seen f.file f.pc r e).pc < 2 ^ 64
   outcome_stands word is = of_inst (instruction_of word) is

@@ -18,13 +18,16 @@ instruction_taken k o is = absurd (false≢true is)
 -- an event is of a sequence: it begins with the event, or was there before and takes it in
 pub data IsOf (s : Setting) (e : Event) (before : History) (h : ℕ) : Sequence → Type 0 where
   Begins : is_instruction e.entry.kind ≡ true → IsOf s e before h (begun_with h e before)
-  TakesIn : (r : Sequence) → sequence_on s h before ≡ Some r → is_taken_in e.entry.kind e.done.interrupted ≡ true
+  TakesIn : (r : Sequence) → sequence_on s h before ≡ Some r
+      → is_taken_in e.entry.kind e.done.interrupted ≡ true
       → IsOf s e before h (with_event e before r)
 
--- an event of another hart leaves the sequence as it was; one of its hart is of it, and the thread was inside before it
+-- an event of another hart leaves the sequence as it was; one of its hart is of it, and the thread was inside
+-- before it
 pub data SequenceStep (s : Setting) (e : Event) (before : History) (h : ℕ) (q : Sequence) : Type 0 where
   Elsewhere : is_of_hart h e ≡ false → sequence_on s h before ≡ Some q → SequenceStep s e before h q
-  Own : e.entry.hart.0 ≡ h → is_inside_at s h before ≡ true → IsOf s e before h q → SequenceStep s e before h q
+  Own : e.entry.hart.0 ≡ h → is_inside_at s h before ≡ true → IsOf s e before h q
+      → SequenceStep s e before h q
 
 module _ (s : Setting) (e : Event) (before : History) (h : ℕ) where
   pub is_taken : {q : Sequence} → IsOf s e before h q → is_taken_in e.entry.kind e.done.interrupted ≡ true
@@ -36,16 +39,21 @@ module _ (s : Setting) (e : Event) (before : History) (h : ℕ) where
   is_reached (TakesIn r was taken) = refl
 
 module _ (s : Setting) (e : Event) (before : History) (h : ℕ) (q : Sequence) where
-  begins_by : (b : Bool) → is_instruction e.entry.kind ≡ b → cond b (Some (begun_with h e before)) None ≡ Some q → IsOf s e before h q
+  begins_by : (b : Bool) → is_instruction e.entry.kind ≡ b
+      → cond b (Some (begun_with h e before)) None ≡ Some q → IsOf s e before h q
   begins_by false first is = absurd cc
-  begins_by true first is = let same : begun_with h e before ≡ q = cc in subst (IsOf s e before h) same (Begins first)
+  begins_by true first is = let same : begun_with h e before ≡ q = cc in
+      subst (IsOf s e before h) same (Begins first)
 
-  takes_by : (r : Sequence) (b : Bool) → sequence_on s h before ≡ Some r → is_taken_in e.entry.kind e.done.interrupted ≡ b
+  takes_by : (r : Sequence) (b : Bool) → sequence_on s h before ≡ Some r
+      → is_taken_in e.entry.kind e.done.interrupted ≡ b
       → cond b (Some (with_event e before r)) None ≡ Some q → IsOf s e before h q
   takes_by r false was taken is = absurd cc
-  takes_by r true was taken is = let same : with_event e before r ≡ q = cc in subst (IsOf s e before h) same (TakesIn r was taken)
+  takes_by r true was taken is = let same : with_event e before r ≡ q = cc in
+      subst (IsOf s e before h) same (TakesIn r was taken)
 
-  of_by : (o : Option Sequence) → sequence_on s h before ≡ o → taken_up h e before o ≡ Some q → IsOf s e before h q
+  of_by : (o : Option Sequence) → sequence_on s h before ≡ o → taken_up h e before o ≡ Some q
+      → IsOf s e before h q
   of_by None was is = begins_by (is_instruction e.entry.kind) refl is
   of_by (Some r) was is = takes_by r (is_taken_in e.entry.kind e.done.interrupted) was refl is
 
@@ -55,7 +63,8 @@ module _ (s : Setting) (e : Event) (before : History) (h : ℕ) (q : Sequence) w
   own_by true inside own is = Own own inside (of_by (sequence_on s h before) refl is)
 
   step_by : (b : Bool) → is_of_hart h e ≡ b
-      → cond (not b) (sequence_on s h before) (cond (is_inside_at s h before) (taken_up h e before (sequence_on s h before)) None) ≡ Some q
+      → cond (not b) (sequence_on s h before)
+      (cond (is_inside_at s h before) (taken_up h e before (sequence_on s h before)) None) ≡ Some q
       → SequenceStep s e before h q
   step_by true own is = own_by (is_inside_at s h before) refl (eqb-true e.entry.hart.0 h own) is
   step_by false other is = Elsewhere other is
@@ -65,27 +74,33 @@ module _ (s : Setting) (e : Event) (before : History) (h : ℕ) (q : Sequence) w
 
 -- A SEQUENCE THAT HANGS
 
--- it hung before the event, by which its thread doesn't begin to run; or the event preempts its thread inside it
+-- it hung before the event, by which its thread doesn't begin to run; or the event preempts its thread inside
+-- it
 pub data HangingStep (s : Setting) (e : Event) (before : History) (t : ℕ) (q : Sequence) : Type 0 where
-  HangsOn : hanging s t before ≡ Some q → (e.entry.kind ≡ kind.Run → e.entry.tid.0 ≢ t) → HangingStep s e before t q
+  HangsOn : hanging s t before ≡ Some q → (e.entry.kind ≡ kind.Run → e.entry.tid.0 ≢ t)
+      → HangingStep s e before t q
   Preempted : e.entry.kind ≡ kind.Preempt → e.entry.tid.0 ≡ t → is_inside_at s e.entry.hart.0 before ≡ true
       → sequence_on s e.entry.hart.0 before ≡ Some q → HangingStep s e before t q
 
 module _ (s : Setting) (e : Event) (before : History) (t : ℕ) (q : Sequence) where
-  preempted_by : (b : Bool) → is_inside_at s e.entry.hart.0 before ≡ b → e.entry.kind ≡ kind.Preempt → e.entry.tid.0 ≡ t
+  preempted_by : (b : Bool) → is_inside_at s e.entry.hart.0 before ≡ b → e.entry.kind ≡ kind.Preempt
+      → e.entry.tid.0 ≡ t
       → cond b (sequence_on s e.entry.hart.0 before) None ≡ Some q → HangingStep s e before t q
   preempted_by true inside its own is = Preempted its own inside is
   preempted_by false inside its own is = absurd cc
 
-  hangs_on : (k : Kind) → e.entry.kind ≡ k → k ≢ kind.Run → hanging s t before ≡ Some q → HangingStep s e before t q
+  hangs_on : (k : Kind) → e.entry.kind ≡ k → k ≢ kind.Run → hanging s t before ≡ Some q
+      → HangingStep s e before t q
   hangs_on k its other is = HangsOn is (λ runs. absurd (other (sym its ∙ runs)))
 
-  by_kind : (k : Kind) → e.entry.kind ≡ k → e.entry.tid.0 ≡ t → hanging_after s t e before k (hanging s t before) ≡ Some q → HangingStep s e before t q
+  by_kind : (k : Kind) → e.entry.kind ≡ k → e.entry.tid.0 ≡ t
+      → hanging_after s t e before k (hanging s t before) ≡ Some q → HangingStep s e before t q
   by_kind kind.Preempt its own is = preempted_by (is_inside_at s e.entry.hart.0 before) refl its own is
   by_kind kind.Run its own is = absurd cc
   by_kind k its own is = hangs_on k its (λ same. absurd cc) is
 
-  by_thread : (b : Bool) → eqb e.entry.tid.0 t ≡ b → cond b (hanging_after s t e before e.entry.kind (hanging s t before)) (hanging s t before) ≡ Some q
+  by_thread : (b : Bool) → eqb e.entry.tid.0 t ≡ b
+      → cond b (hanging_after s t e before e.entry.kind (hanging s t before)) (hanging s t before) ≡ Some q
       → HangingStep s e before t q
   by_thread true own is = by_kind e.entry.kind refl (eqb-true e.entry.tid.0 t own) is
   by_thread false other is = HangsOn is (λ runs. eqb-false e.entry.tid.0 t other)

@@ -11,18 +11,21 @@ use Rattle.block_model.proofs.Goods.Calls.Said.{IsApart}
 use Rattle.block_model.proofs.Goods.Calls.Steps.{IsKept, IsMoved, kept_moved}
 use Rattle.block_model.proofs.Paged.{IsPaged}
 
-module _ (here : Here) (d : Done) (good : IsGoodHere here) (no_store : d.executed ≡ []) (no_drain : d.drained ≡ 0) (one : d.instructions ≤ 1)
+module _ (here : Here) (d : Done) (good : IsGoodHere here) (no_store : d.executed ≡ [])
+    (no_drain : d.drained ≡ 0) (one : d.instructions ≤ 1)
     (apart : IsApart here d.files) (barriers : IsFitBarriers here d) where
   -- where its hart is left no store waits there
   pub fit_moving : IsMoved here.setting here.hart here.kernel d.kernel
       → (running_on here.hart d.kernel.threads ≡ None → waiting_here here ≡ []) → IsFit here d
   fit_moving moved idle = record {
     executed = rw no_store tt;
-    within = subst (λ (p : Pages). (k : ℕ) → AllByRecursion (MayEnter p) (here.waiting k)) (sym moved.pages) good.within;
+    within = subst (λ (p : Pages). (k : ℕ) → AllByRecursion (MayEnter p) (here.waiting k))
+        (sym moved.pages) good.within;
     few = rw no_store (let w = good.few in omega arith);
     drained = rw no_drain (omega arith);
     idle = λ gone.
-        ap (λ n. drop n (waiting_here here ++ d.executed)) no_drain ∙ ap (λ (ws : List Store). waiting_here here ++ ws) no_store
+        ap (λ n. drop n (waiting_here here ++ d.executed)) no_drain
+        ∙ ap (λ (ws : List Store). waiting_here here ++ ws) no_store
         ∙ ap (λ (ws : List Store). ws ++ []) (idle gone);
     others = moved.others;
     apart = apart;
