@@ -46,13 +46,8 @@ allowed_at s before h c e is = allowed (length before) (over_at s before) c (her
 
 -- the entry of a choice answers it
 pub choice_in : (c : Choice) (here : Here) → choice_of (entry_in c here) ≡ c
-choice_in asked.Exec here = refl
-choice_in asked.Drain here = refl
-choice_in asked.Take here = refl
-choice_in asked.Done here = refl
-choice_in asked.Preempt here = refl
 choice_in (asked.Run t) here = refl
-choice_in asked.Signal here = refl
+choice_in c here = refl
 
 -- what is decided is of the hart and the choice that were asked
 pub decided_is : (s : Setting) (before : History) (h : ℕ) (c : Choice) (e : Entry) → decide s before h c ≡ Ok e → (e.hart.0 ≡ h) × (choice_of e ≡ c)

@@ -6,14 +6,13 @@ use Rattle.std.proofs.lemmas.Bool.Decides.{eqb_tells}
 use Rattle.mach_types.proofs.Laws.{area_of-with_area_other, area_of-without_area_other, next_is_new, state_of-with_child_other, state_of-with_child_same, state_of-with_clear, state_of-with_state_other, state_of-with_state_same, state_of-without_other}
 use Rattle.mach_types.specs.Kernel.Areas.{area_of}
 use Rattle.mach_types.specs.Kernel.Signals.{Signalling}
-use Rattle.mach_types.specs.Kernel.Threads.{IsThreads, Thread, Threads, is_ready, is_waiting_state, longest_waiter, state_of, waits, with_child, with_state}
-use Rattle.mach_types.specs.declared.errors.Errno.{Errno}
+use Rattle.mach_types.specs.Kernel.Threads.{IsThreads, Thread, Threads, is_ready, longest_waiter, state_of, waits, with_child, with_state}
 use Rattle.mach_types.specs.declared.sequences.Area.{Area}
 use Rattle.mach_types.specs.declared.threads.Saved.{Saved}
 use Rattle.mach_types.specs.declared.threads.ThreadState.{ThreadState}
-use Rattle.mach_types.specs.declared.threads.ThreadState.TheVariants.{Ready, Running, Waiting}
+use Rattle.mach_types.specs.declared.threads.ThreadState.TheVariants.{Ready, Waiting}
 use Rattle.mach_types.specs.declared.user_memory.Write.{Write}
-use Rattle.block_model.specs.Calls.Answers.{CallDone, refused, returned, said}
+use Rattle.block_model.specs.Calls.Answers.{CallDone, returned, said}
 use Rattle.block_model.specs.Calls.Futexes.{Woken, answered_wait, wake, woken_first}
 use Rattle.block_model.specs.Here.{Here, runs}
 use Rattle.block_model.specs.History.{file_among}
@@ -55,15 +54,6 @@ ready_not_next u ts threads is same =
 pub ready_not_waiting : (u v : ℕ) (ts : Threads) → is_ready u ts ≡ true → waits ts v → v ≢ u
 ready_not_waiting u v ts is waiting same =
     false≢true (sym (ap its_ready waiting.1) ∙ ap (λ n. is_ready n ts) same ∙ is)
-
-not_both : (o : Option ThreadState) → its_ready o ≡ true → option_map_or is_waiting_state o false ≡ true → ⊥
-not_both None ready waiting = false≢true ready
-not_both (Some Ready) ready waiting = false≢true waiting
-not_both (Some (Running h)) ready waiting = false≢true ready
-not_both (Some (Waiting at)) ready waiting = false≢true ready
-
-pub waiting_not_ready : (v u : ℕ) (ts : Threads) → option_map_or is_waiting_state (state_of v ts) false ≡ true → is_ready u ts ≡ true → v ≢ u
-waiting_not_ready v u ts waiting is same = not_both (state_of v ts) (ap (λ n. is_ready n ts) same ∙ is) waiting
 
 -- STEPS OF THE RECORD
 
@@ -166,27 +156,9 @@ module _ (here : Here) (t : ℕ) (good : IsGoodHere here) (at : runs here ≡ So
   pub aside_wrote : (n : ℕ) (entered : List Write) → IsAside here t (record (said here t n) { entered = entered })
   aside_wrote n entered = aside_own n entered here.kernel (beside_same t here.kernel)
 
-  pub aside_refused : (errno : Errno) → IsAside here t (refused here t errno)
-  aside_refused errno = aside_wrote _ []
-
   -- one that sets no file and leaves the record
   pub aside_none : (c : CallDone) → c.files ≡ [] → c.kernel ≡ here.kernel → IsAside here t c
   aside_none c none same = record {
     files = λ u f ready. ap (λ (ps : List (ℕ × Saved)). file_among ps u f) none;
     beside = rw same (beside_same t here.kernel);
   }
-
-  pub either : (b : Bool) (x y : CallDone) → IsAside here t x → IsAside here t y → IsAside here t (cond b x y)
-  either true x y p q = p
-  either false x y p q = q
-
-  pub unless_refused : (errno : Errno) (b : Bool) (y : CallDone) → IsAside here t y → IsAside here t (cond b (refused here t errno) y)
-  unless_refused errno b y p = either b (refused here t errno) y (aside_refused errno) p
-
-  -- pages, the console and affinities are of no thread's state
-  pub aside_alike : (n : ℕ) (entered : List Write) (k : Kernel) → k.threads ≡ here.kernel.threads → k.areas ≡ here.kernel.areas
-      → IsAside here t (record (said here t n) { entered = entered; kernel = k })
-  aside_alike n entered k threads areas = aside_own n entered k (record {
-    ready = λ u ne is. ap (is_ready u) threads ∙ is;
-    areas = λ u ne. ap (area_of u) areas;
-  })

@@ -29,6 +29,7 @@ use Rattle.block_model.proofs.Goods.Take.{takes_where}
 use Rattle.block_model.proofs.HartSets.{none_in, without_hart-has, without_hart-other}
 use Rattle.block_model.proofs.Replay.{history-more}
 use Rattle.block_model.proofs.Runs.{fit_at}
+use Rattle.block_model.proofs.SequenceSteps.{Begins, Elsewhere, IsOf, Own, SequenceStep, TakesIn, sequence_step}
 use Rattle.block_model.proofs.WholeEvents.{did, is_free, place}
 
 -- WHICH EVENTS TAKE REQUESTS
@@ -89,38 +90,17 @@ more_drains false n m = omega arith
 abbrev IsAnew : Setting → History → History → ℕ → Type 0
 IsAnew s call before k = (q : Sequence) → sequence_on s k before ≡ Some q → length call ≤ length q.begun
 
-module _ (s : Setting) (call : History) (e : Event) (before : History) (k : ℕ) (place : length call ≤ length before) (was : IsAnew s call before k)
-    (q : Sequence) where
-  begins : (b : Bool) → cond b (Some (begun_with k e before)) None ≡ Some q → length call ≤ length q.begun
-  begins true is =
-      let same : before ≡ q.begun = cc in
-      subst (λ (begun : History). length call ≤ length begun) same place
-  begins false is = absurd cc
+module _ (s : Setting) (call : History) (e : Event) (before : History) (k : ℕ) (place : length call ≤ length before) (was : IsAnew s call before k) where
+  anew_own : {q : Sequence} → IsOf s e before k q → length call ≤ length q.begun
+  anew_own (Begins first) = place
+  anew_own (TakesIn r at taken) = was r at
 
-  takes_in : (r : Sequence) (b : Bool) → sequence_on s k before ≡ Some r → cond b (Some (with_event e before r)) None ≡ Some q
-      → length call ≤ length q.begun
-  takes_in r true at is =
-      let same : r.begun ≡ q.begun = cc in
-      subst (λ (begun : History). length call ≤ length begun) same (was r at)
-  takes_in r false at is = absurd cc
+  anew_by : (q : Sequence) → SequenceStep s e before k q → length call ≤ length q.begun
+  anew_by q (Own own inside its) = anew_own its
+  anew_by q (Elsewhere other at) = was q at
 
-  by_sequence : (o : Option Sequence) → sequence_on s k before ≡ o → taken_up k e before o ≡ Some q → length call ≤ length q.begun
-  by_sequence None at is = begins (is_instruction e.entry.kind) is
-  by_sequence (Some r) at is = takes_in r (is_taken_in e.entry.kind e.done.interrupted) at is
-
-  by_inside : (c : Bool) → cond c (taken_up k e before (sequence_on s k before)) None ≡ Some q → length call ≤ length q.begun
-  by_inside true is = by_sequence (sequence_on s k before) refl is
-  by_inside false is = absurd cc
-
-  by_hart : (b : Bool)
-      → cond (not b) (sequence_on s k before) (cond (is_inside_at s k before) (taken_up k e before (sequence_on s k before)) None) ≡ Some q
-      → length call ≤ length q.begun
-  by_hart true is = by_inside (is_inside_at s k before) is
-  by_hart false is = was q is
-
-anew_next : (s : Setting) (call : History) (e : Event) (before : History) (k : ℕ) → length call ≤ length before → IsAnew s call before k
-    → IsAnew s call (e ∷ before) k
-anew_next s call e before k place was q is = by_hart s call e before k place was q (is_of_hart k e) is
+  anew_next : IsAnew s call (e ∷ before) k
+  anew_next q is = anew_by q (sequence_step s e before k q is)
 
 pub passed_next : (s : Setting) (e : Event) (before : History) (b : Begun) (k : ℕ) → length b.call ≤ length before → IsPassed s before b k
     → IsPassed s (e ∷ before) b k
@@ -154,10 +134,6 @@ module _ (s : Setting) (e : Event) (before : History) (run : IsRunHistory s (e �
 
   none_waiting : waiting h before ≡ []
   none_waiting = (takes_where (place s e before run) (is_free s e before run kind.Take is)).1
-
-  not_inside : (r : Option ℕ) → running s h before ≡ r → r ≡ None → is_inside_at s h before ≡ false
-  not_inside None at none = ap (λ r. option_map_or (is_inside_here (here_in_history s before h)) r false) at
-  not_inside (Some t) at none = absurd cc
 
   -- a sequence takes in no take that interrupts
   takes_none : (o : Option Sequence) → is_none e.done.interrupted ≡ false → taken_up h e before o ≡ None

@@ -9,7 +9,6 @@ use Rattle.mach_types.specs.Kernel.Threads.{running_on}
 use Rattle.mach_types.specs.declared.events.Entry.{Entry}
 use Rattle.mach_types.specs.declared.events.Kind.{Kind}
 use Rattle.mach_types.specs.declared.events.Kind.TheVariants as kind
-use Rattle.mach_types.specs.declared.sequences.Outcome.{Outcome}
 use Rattle.mach_types.specs.declared.user_memory.Store.{Store}
 use Rattle.block_model.specs.Barriers.{Begun, IsWaiting, begun_on, begun_or}
 use Rattle.block_model.specs.Deciding.{done, event, history, number_of, thread_in}
@@ -17,19 +16,18 @@ use Rattle.block_model.specs.Events.{done_of, refusal_of}
 use Rattle.block_model.specs.Events.Drain.{refusal_drain_of}
 use Rattle.block_model.specs.Events.Exec.{refusal_exec_by}
 use Rattle.block_model.specs.Events.Preempt.{refusal_preempt_by, unless_waiting}
-use Rattle.block_model.specs.Events.Run.{done_killed, done_run_by, done_running, lives_on}
 use Rattle.block_model.specs.Events.Signal.{refusal_delivery, refusal_signal_by}
 use Rattle.block_model.specs.Events.Take.{done_take_by}
 use Rattle.block_model.specs.Here.{Barrier, Done, Here, runs, waiting_here}
 use Rattle.block_model.specs.History.{Event, History, awaits, is_of_hart, restart, running}
 use Rattle.block_model.specs.Requests.{awaits_of_own, without_hart}
 use Rattle.block_model.specs.Run.{IsAllowedLog, IsRunHistory}
-use Rattle.block_model.specs.Sequences.{interruption_here}
 use Rattle.block_model.specs.Setting.{Setting}
 use Rattle.block_model.proofs.BarrierEvents.{take_keeps}
 use Rattle.block_model.proofs.BarrierSteps.{waited_before}
 use Rattle.block_model.proofs.BarriersReturn.{returns_by}
 use Rattle.block_model.proofs.ErrorEvents.{run_to}
+use Rattle.block_model.proofs.EventDeeds.{Calls, EventDeed, deed_of}
 use Rattle.block_model.proofs.Goods.Preempt.{out_of_barrier}
 use Rattle.block_model.proofs.Goods.Run.{run_ready}
 use Rattle.block_model.proofs.Runs.{fit_at}
@@ -38,25 +36,11 @@ use Rattle.block_model.proofs.WholeEvents.{did, is_free, its_thread, place}
 
 -- THE EVENT THAT BEGINS A BARRIER
 
--- is no `run`, so it is one of the thread that runs on the hart
-module _ (here : Here) where
-  either_begins : (b : Bool) (x y : Done) → x.barrier ≡ None → y.barrier ≡ None → (cond b x y).barrier ≡ None
-  either_begins true x y p q = p
-  either_begins false x y p q = q
-
-  run_begins_none : (t : ℕ) (o : Outcome) → (done_run_by here t o).barrier ≡ None
-  run_begins_none t o = either_begins (lives_on here t o) (done_running here t o) (done_killed here t o) refl refl
-
-  begins_thread : (k : Kind) (x : Entry) (b : Barrier) → (done_of (choice_with k x) here).barrier ≡ Some b → thread_in (choice_with k x) here ≡ runs here
-  begins_thread kind.Exec x b is = refl
-  begins_thread kind.Drain x b is = refl
-  begins_thread kind.Take x b is = refl
-  begins_thread kind.Done x b is = refl
-  begins_thread kind.Preempt x b is = refl
-  begins_thread kind.Run x b is =
-      let bad : None ≡ Some b = sym (run_begins_none x.tid.0 (interruption_here here x.tid.0)) ∙ is in
-      absurd cc
-  begins_thread kind.Signal x b is = refl
+-- is a call, so it is one of the thread that runs on the hart
+begins_thread : (here : Here) (x : Entry) (b : Barrier) {k : Kind} {d : Done} → EventDeed here x.tid.0 k d → d.barrier ≡ Some b
+    → thread_in (choice_with k x) here ≡ runs here
+begins_thread here x b (Calls t e next calls outside) is = refl
+begins_thread here x b deed is = absurd cc
 
 some_number : (r : Option ℕ) → r ≢ None → r ≡ Some (number_of r)
 some_number None busy = absurd (busy refl)
@@ -68,7 +52,7 @@ begins_running s e before b run is =
     let begun = (fit_at s e before run).barriers.begun b is in
     let here = place s e before run in
     let k = e.entry.kind in
-    let same = begins_thread here k e.entry b (sym (ap (λ (d : Done). d.barrier) (did s e before run k refl)) ∙ is) in
+    let same = begins_thread here e.entry b (deed_of here k e.entry) (sym (ap (λ (d : Done). d.barrier) (did s e before run k refl)) ∙ is) in
     let number : e.entry.tid.0 ≡ number_of (runs here) = its_thread s e before run k refl ∙ ap number_of same in
     begun.stays ∙ some_number (runs here) (λ idle. begun.still.running (begun.stays ∙ idle)) ∙ ap Some (sym number)
 

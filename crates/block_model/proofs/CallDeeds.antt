@@ -1,5 +1,5 @@
--- What a call's deed can be. Each call of the table is one of these (CallDeeds/Table.antt); a law of all calls goes over them, and
--- names no call.
+-- What a call's deed can be. Each call of the table is one of these (CallDeeds/Table.antt); a law of all
+-- calls goes over them, and names no call.
 use Rattle.std.proofs.Common.{◌≡◌, ◌≢◌, ℕ, ◌+◌, ◌≤◌, ◌<◌, ◌^◌, List, [], ◌∷◌, length, map, refl, Bool, true, false, cond, Option, Some, None, arith}
 use Rattle.mach_types.specs.Kernel.Pages.{Pages}
 use Rattle.mach_types.specs.Kernel.SignalFrames.{frame_read}
@@ -64,38 +64,47 @@ NotOpen o = o ≢ Some over.Unended
 
 -- THE DEEDS
 
--- what the caller, which goes on or leaves its hart, makes of the record: of one table, or of those in which it stands
+-- what the caller, which goes on or leaves its hart, makes of the record: of one table, or of those in which
+-- it stands
 pub data TableStep (here : Here) (t number : ℕ) : Kernel → Type 0 where
   Same : TableStep here t number here.kernel
-  Prints : (bytes : List ℕ) → length here.kernel.console + length bytes ≤ CONSOLE_ROOM → TableStep here t number (printed bytes here.kernel)
+  Prints : (bytes : List ℕ) → length here.kernel.console + length bytes ≤ CONSOLE_ROOM
+      → TableStep here t number (printed bytes here.kernel)
   Clears : (at : ℕ) → TableStep here t number (cleared t at here.kernel)
   Leaves : TableStep here t number (left t here.kernel)
   Waits : (at : ℕ) → TableStep here t number (waited t at here.kernel)
-  Stays : (set : ℕ) → set < 2 ^ here.setting.limits.harts → set ≢ 0 → TableStep here t number (restricted t set here.kernel)
-  MovesOff : (set : ℕ) → set < 2 ^ here.setting.limits.harts → set ≢ 0 → TableStep here t number (left t (restricted t set here.kernel))
-  Registers : (area : Area) → area_here here t ≡ None → TableStep here t number (registered t area here.kernel)
+  Stays : (set : ℕ) → set < 2 ^ here.setting.limits.harts → set ≢ 0
+      → TableStep here t number (restricted t set here.kernel)
+  MovesOff : (set : ℕ) → set < 2 ^ here.setting.limits.harts → set ≢ 0
+      → TableStep here t number (left t (restricted t set here.kernel))
+  Registers : (area : Area) → area_here here t ≡ None
+      → TableStep here t number (registered t area here.kernel)
   Unregisters : TableStep here t number (unregistered t here.kernel)
-  Signalled : (g : Signalling) → KeepsThreads here.kernel.signals g → (AllStand here → HandlersStand g) → TableStep here t number (signalled g here.kernel)
+  Signalled : (g : Signalling) → KeepsThreads here.kernel.signals g → (AllStand here → HandlersStand g)
+      → TableStep here t number (signalled g here.kernel)
   EnrolsFor : (r : Registered) → TableStep here t number (for_barriers r here.kernel)
   Remaps : (pages : Pages) → StaysWritable here.kernel.pages (taken_by number here t) pages
-      → (IsPaged here.setting here.kernel.pages → IsPaged here.setting pages) → TableStep here t number (paged pages here.kernel)
+      → (IsPaged here.setting here.kernel.pages → IsPaged here.setting pages)
+      → TableStep here t number (paged pages here.kernel)
 
--- it only answers, perhaps with an error; it answers, writes and makes a step of the record; it wakes those who wait at an address; it
--- breaks the wait of a thread; its thread is gone; it has a child; it begins a barrier; it goes on from a frame of memory; or the process
--- ends
+-- it only answers, perhaps with an error; it answers, writes and makes a step of the record; it wakes those
+-- who wait at an address; it breaks the wait of a thread; its thread is gone; it has a child; it begins a
+-- barrier; it goes on from a frame of memory; or the process ends
 pub data CallDeed (here : Here) (t number : ℕ) : CallDone → Type 0 where
   Says : (n : ℕ) → CallDeed here t number (said here t n)
   Answers : (n : ℕ) (entered : List Write) (k : Kernel) → IsAnswer here t n → TableStep here t number k
       → CallDeed here t number (record (said here t n) { entered = entered; kernel = k })
   Wakes : (n at : ℕ) → n < 2 ^ 32
       → CallDeed here t number (record {
-        files = (t, returned (length (wake n at here.kernel).threads) (here.file t)) ∷ map (answered_wait here) (wake n at here.kernel).threads;
+        files = (t, returned (length (wake n at here.kernel).threads) (here.file t)) ∷ map
+            (answered_wait here) (wake n at here.kernel).threads;
         entered = [];
         kernel = (wake n at here.kernel).kernel;
         barrier = None;
         ended = None;
       })
-  Breaks : (u : ℕ) (g : Signalling) → waits here.kernel.threads u → KeepsThreads here.kernel.signals g → (AllStand here → HandlersStand g)
+  Breaks : (u : ℕ) (g : Signalling) → waits here.kernel.threads u → KeepsThreads here.kernel.signals g
+      → (AllStand here → HandlersStand g)
       → CallDeed here t number (record {
         files = (t, returned 0 (here.file t)) ∷ broken_wait here u ∷ [];
         entered = [];
@@ -106,17 +115,22 @@ pub data CallDeed (here : Here) (t number : ℕ) : CallDone → Type 0 where
   Exits : 1 < length here.kernel.threads.live → CallDeed here t number (one_exits here t)
   Bears : (entered : List Write) → is_full here.kernel.threads ≡ false
       → CallDeed here t number (record {
-        files = (t, returned (next_number here.kernel) (here.file t)) ∷ (next_number here.kernel, child_file here t) ∷ [];
+        files = (t, returned (next_number here.kernel) (here.file t)) ∷
+            (next_number here.kernel, child_file here t) ∷ [];
         entered = entered;
         kernel = with_new_child here t;
         barrier = None;
         ended = None;
       })
-  Begins : (targets : ℕ) (restart : Bool) → (IsGoodHere here → IsAtOthers here (record { targets = targets; restart = restart }))
-      → (IsError (register (here.file t).file 10) → ⊥) → CallDeed here t number (begins here t targets restart)
-  Resumes : (words : List ℕ) → frame_read (memory here) (here.file t) ≡ Some words → number ≡ 139 → CallDeed here t number (resumed here t (Some words))
+  Begins : (targets : ℕ) (restart : Bool)
+      → (IsGoodHere here → IsAtOthers here (record { targets = targets; restart = restart }))
+      → (IsError (register (here.file t).file 10) → ⊥)
+      → CallDeed here t number (begins here t targets restart)
+  Resumes : (words : List ℕ) → frame_read (memory here) (here.file t) ≡ Some words → number ≡ 139
+      → CallDeed here t number (resumed here t (Some words))
   Ends : (entered : List Write) (e : End) → NotOpen (Some e)
-      → CallDeed here t number (record { files = []; entered = entered; kernel = here.kernel; barrier = None; ended = Some e })
+      → CallDeed here t number
+      (record { files = []; entered = entered; kernel = here.kernel; barrier = None; ended = Some e })
 
 -- TESTS
 
@@ -127,11 +141,13 @@ NoneHolds (e ∷ es) = (e.0 ≡ false) × NoneHolds es
 
 module _ {here : Here} {t number : ℕ} where
   -- one of two calls, by a test
-  pub either : (b : Bool) {x y : CallDone} → (b ≡ true → CallDeed here t number x) → (b ≡ false → CallDeed here t number y) → CallDeed here t number (cond b x y)
+  pub either : (b : Bool) {x y : CallDone} → (b ≡ true → CallDeed here t number x)
+      → (b ≡ false → CallDeed here t number y) → CallDeed here t number (cond b x y)
   either true p q = p refl
   either false p q = q refl
 
-  pub step_either : (b : Bool) {x y : Kernel} → TableStep here t number x → TableStep here t number y → TableStep here t number (cond b x y)
+  pub step_either : (b : Bool) {x y : Kernel} → TableStep here t number x → TableStep here t number y
+      → TableStep here t number (cond b x y)
   step_either true p q = p
   step_either false p q = q
 

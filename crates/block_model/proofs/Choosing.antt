@@ -14,7 +14,6 @@ use Rattle.mach_types.specs.declared.events.Choice.{Choice}
 use Rattle.mach_types.specs.declared.events.Choice.TheVariants as asked
 use Rattle.mach_types.specs.declared.events.Entry.{Entry}
 use Rattle.mach_types.specs.declared.events.Sight.{Sight}
-use Rattle.mach_types.specs.declared.events.Tid.{Tid}
 use Rattle.mach_types.specs.declared.events.Why.{Why}
 use Rattle.mach_types.specs.declared.events.Why.TheVariants.{FullBuffer, NoRequest, Waiting}
 use Rattle.mach_types.specs.declared.limits.End.{End}
@@ -592,22 +591,6 @@ all_chosen_next s log e = ap (all_chosen s) (history-append s log e)
 -- whether two choices are one
 pub is_choice_same : (c : Choice) → is_choice (Some c) c ≡ true
 is_choice_same c = eq-eqb (number_of_choice c) (number_of_choice c) refl
-
-same_thread : (t u : Tid) → 6 + t.0 ≡ 6 + u.0 → t ≡ u
-same_thread t u is = let same : t.0 ≡ u.0 = omega arith in ap thread same
-
-pub is_choice_is : (a b : Choice) → is_choice (Some a) b ≡ true → a ≡ b
-is_choice_is a b same = one_choice a b (eqb-true (number_of_choice a) (number_of_choice b) same)
-  where
-    one_choice : (a b : Choice) → number_of_choice a ≡ number_of_choice b → a ≡ b
-    one_choice asked.Exec asked.Exec is = refl
-    one_choice asked.Drain asked.Drain is = refl
-    one_choice asked.Take asked.Take is = refl
-    one_choice asked.Done asked.Done is = refl
-    one_choice asked.Preempt asked.Preempt is = refl
-    one_choice asked.Signal asked.Signal is = refl
-    one_choice (asked.Run t) (asked.Run u) is = ap asked.Run (same_thread t u is)
-    one_choice a b is = absurd (omega arith)
 
 pub chosen_start : (s : Setting) → IsChosen s []
 unfolding IsChosen

@@ -82,13 +82,8 @@ starts_given s here t sound free =
     number_given t here.kernel.threads _ sound.tables.threads state
 
 pub thread_given : (s : Setting) (here : Here) (c : Choice) → IsSound s here.kernel → refusal_of c here ≡ None → number_of (thread_in c here) ≤ here.kernel.threads.given
-thread_given s here asked.Exec sound free = runs_given s here (runs here) sound refl
-thread_given s here asked.Drain sound free = runs_given s here (runs here) sound refl
-thread_given s here asked.Take sound free = runs_given s here (runs here) sound refl
-thread_given s here asked.Done sound free = runs_given s here (runs here) sound refl
-thread_given s here asked.Preempt sound free = runs_given s here (runs here) sound refl
 thread_given s here (asked.Run t) sound free = starts_given s here t.0 sound free
-thread_given s here asked.Signal sound free = runs_given s here (runs here) sound refl
+thread_given s here c sound free = runs_given s here (runs here) sound refl
 
 -- no event gives more than one number, so that a run gives no more than its limit of events and one
 pub given_below : (s : Setting) (before : History) → IsRunHistory s before → (kernel s before).threads.given ≤ length before + 1

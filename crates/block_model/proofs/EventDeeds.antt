@@ -1,5 +1,5 @@
--- What an event's deed can be, whether it was allowed or not. Each event is one of these; a law of all events goes over them, and tells
--- no kinds apart.
+-- What an event's deed can be, whether it was allowed or not. Each event is one of these; a law of all events
+-- goes over them, and tells no kinds apart.
 use Rattle.std.proofs.Common.{◌≡◌, ℕ, List, [], ◌∷◌, refl, Bool, true, false, cond, Option, Some, None}
 use Rattle.mach_types.specs.Events.{choice_with}
 use Rattle.mach_types.specs.Kernel.Signals.{next_for, with_pending}
@@ -36,37 +36,52 @@ pub record IsNext (here : Here) (t : ℕ) (e : Effect) : Type 0 where
   pub none : next_fault here t ≡ None
   pub is : next_effect here t ≡ Some e
 
--- nothing; an instruction that isn't there; a fault that is handled or kills; a call that kills inside a sequence, or is made; another
--- instruction; a store that enters memory; requests that are taken, with a restart or without; a barrier that returns; a thread that
--- leaves; one that begins to run, or is killed at it; a signal that is handled, or kills
+-- nothing; an instruction that isn't there; a fault that is handled or kills; a call that kills inside a
+-- sequence, or is made; another instruction; a store that enters memory; requests that are taken, with a
+-- restart or without; a barrier that returns; a thread that leaves; one that begins to run, or is killed at
+-- it; a signal that is handled, or kills
 pub data EventDeed (here : Here) (tid : ℕ) : Kind → Done → Type 0 where
   Nothing : (k : Kind) → EventDeed here tid k (nothing here)
   Skips : EventDeed here tid kind.Exec (one_instruction here)
   Faults : (t signal : ℕ) → IsFault here t signal
-      → EventDeed here tid kind.Exec (record (one_instruction here) { kernel = signalled (with_pending t signal here.kernel.signals) here.kernel })
-  FaultKills : (t signal : ℕ) → IsFault here t signal → EventDeed here tid kind.Exec (record (one_instruction here) { ended = Some (Killed signal) })
-  CallKills : (t : ℕ) (e : Effect) → IsNext here t e → is_call e ≡ true → EventDeed here tid kind.Exec (by_call here (killed_in_call here))
-  Calls : (t : ℕ) (e : Effect) → IsNext here t e → is_call e ≡ true → is_inside_here here t ≡ false → EventDeed here tid kind.Exec (by_call here (called here t))
-  Executes : (t : ℕ) (e : Effect) → IsNext here t e → EventDeed here tid kind.Exec (by_outcome here t (outcome_of here t e))
+      → EventDeed here tid kind.Exec
+      (record (one_instruction here) {
+        kernel =
+            signalled (with_pending t signal here.kernel.signals) here.kernel;
+      })
+  FaultKills : (t signal : ℕ) → IsFault here t signal
+      → EventDeed here tid kind.Exec (record (one_instruction here) { ended = Some (Killed signal) })
+  CallKills : (t : ℕ) (e : Effect) → IsNext here t e → is_call e ≡ true
+      → EventDeed here tid kind.Exec (by_call here (killed_in_call here))
+  Calls : (t : ℕ) (e : Effect) → IsNext here t e → is_call e ≡ true → is_inside_here here t ≡ false
+      → EventDeed here tid kind.Exec (by_call here (called here t))
+  Executes : (t : ℕ) (e : Effect) → IsNext here t e
+      → EventDeed here tid kind.Exec (by_outcome here t (outcome_of here t e))
   Drains : (w : Store) (ws : List Store) → waiting_here here ≡ w ∷ ws
       → EventDeed here tid kind.Drain (record (nothing here) { drained = 1; entered = Stored w ∷ [] })
   Takes : EventDeed here tid kind.Take (only_took here)
-  Restarts : (t : ℕ) → runs here ≡ Some t → EventDeed here tid kind.Take (took_and_interrupted here t (interruption_here here t))
+  Restarts : (t : ℕ) → runs here ≡ Some t
+      → EventDeed here tid kind.Take (took_and_interrupted here t (interruption_here here t))
   Returns : (t : ℕ) → runs here ≡ Some t
       → EventDeed here tid kind.Done (record (nothing here) {
         files = (t, record (here.file t) { file = with_register (here.file t).file 10 0 }) ∷ [];
         reserved = None;
         returned = true;
       })
-  Preempts : (t : ℕ) → runs here ≡ Some t → EventDeed here tid kind.Preempt (record (nothing here) { reserved = None; kernel = left t here.kernel })
+  Preempts : (t : ℕ) → runs here ≡ Some t
+      → EventDeed here tid kind.Preempt
+      (record (nothing here) { reserved = None; kernel = left t here.kernel })
   Runs : EventDeed here tid kind.Run (done_running here tid (interruption_here here tid))
   RunKills : EventDeed here tid kind.Run (done_killed here tid (interruption_here here tid))
-  Handles : (t signal : ℕ) → runs here ≡ Some t → EventDeed here tid kind.Signal (handled here t signal (interruption_here here t))
+  Handles : (t signal : ℕ) → runs here ≡ Some t
+      → EventDeed here tid kind.Signal (handled here t signal (interruption_here here t))
   SignalKills : (t signal killer : ℕ) → runs here ≡ Some t
-      → EventDeed here tid kind.Signal (record (only_taken here t signal (interruption_here here t)) { ended = Some (Killed killer) })
+      → EventDeed here tid kind.Signal
+      (record (only_taken here t signal (interruption_here here t)) { ended = Some (Killed killer) })
 
 module _ (here : Here) (tid : ℕ) where
-  either : (k : Kind) (b : Bool) (x y : Done) → (b ≡ true → EventDeed here tid k x) → (b ≡ false → EventDeed here tid k y) → EventDeed here tid k (cond b x y)
+  either : (k : Kind) (b : Bool) (x y : Done) → (b ≡ true → EventDeed here tid k x)
+      → (b ≡ false → EventDeed here tid k y) → EventDeed here tid k (cond b x y)
   either k true x y p q = p refl
   either k false x y p q = q refl
 
@@ -75,25 +90,30 @@ module _ (here : Here) (tid : ℕ) where
   deed_call t e true next calls is = CallKills t e next calls
   deed_call t e false next calls is = Calls t e next calls is
 
-  deed_effect : (t : ℕ) (fault : Option ℕ) (o : Option Effect) → runs here ≡ Some t → next_fault here t ≡ fault → next_effect here t ≡ o
+  deed_effect : (t : ℕ) (fault : Option ℕ) (o : Option Effect) → runs here ≡ Some t
+      → next_fault here t ≡ fault → next_effect here t ≡ o
       → EventDeed here tid kind.Exec (by_effect here t fault o)
   deed_effect t (Some signal) o at fault is =
       let its : IsFault here t signal = record { at = at; fault = fault } in
-      either kind.Exec (has_handler here t signal) _ _ (λ _. Faults t signal its) (λ _. FaultKills t signal its)
+      either kind.Exec (has_handler here t signal) _ _ (λ _. Faults t signal its)
+      (λ _. FaultKills t signal its)
   deed_effect t None None at none is = Skips
   deed_effect t None (Some e) at none is =
       let next : IsNext here t e = record { at = at; none = none; is = is } in
-      either kind.Exec (is_call e) _ _ (λ calls. deed_call t e (is_inside_here here t) next calls refl) (λ _. Executes t e next)
+      either kind.Exec (is_call e) _ _ (λ calls. deed_call t e (is_inside_here here t) next calls refl)
+      (λ _. Executes t e next)
 
   deed_exec : (r : Option ℕ) → runs here ≡ r → EventDeed here tid kind.Exec (done_exec_by here r)
   deed_exec None at = Nothing kind.Exec
   deed_exec (Some t) at = deed_effect t (next_fault here t) (next_effect here t) at refl refl
 
-  deed_drain : (ws : List Store) → waiting_here here ≡ ws → EventDeed here tid kind.Drain (done_drain_of here ws)
+  deed_drain : (ws : List Store) → waiting_here here ≡ ws
+      → EventDeed here tid kind.Drain (done_drain_of here ws)
   deed_drain [] is = Nothing kind.Drain
   deed_drain (w ∷ ws) is = Drains w ws is
 
-  deed_take : (restart : Bool) (r : Option ℕ) → runs here ≡ r → EventDeed here tid kind.Take (done_take_by here restart r)
+  deed_take : (restart : Bool) (r : Option ℕ) → runs here ≡ r
+      → EventDeed here tid kind.Take (done_take_by here restart r)
   deed_take false r at = Takes
   deed_take true None at = Takes
   deed_take true (Some t) at = Restarts t at
@@ -111,7 +131,8 @@ module _ (here : Here) (tid : ℕ) where
   deed_delivery t signal None at = Handles t signal at
   deed_delivery t signal (Some killer) at = SignalKills t signal killer at
 
-  deed_next : (t : ℕ) (next : Option ℕ) → runs here ≡ Some t → EventDeed here tid kind.Signal (done_next here t next)
+  deed_next : (t : ℕ) (next : Option ℕ) → runs here ≡ Some t
+      → EventDeed here tid kind.Signal (done_next here t next)
   deed_next t None at = Nothing kind.Signal
   deed_next t (Some signal) at = deed_delivery t signal (kills here t signal (interruption_here here t)) at
 
@@ -125,5 +146,7 @@ deed_of here kind.Drain x = deed_drain here x.tid.0 (waiting_here here) refl
 deed_of here kind.Take x = deed_take here x.tid.0 here.restart (runs here) refl
 deed_of here kind.Done x = deed_done here x.tid.0 (runs here) refl
 deed_of here kind.Preempt x = deed_preempt here x.tid.0 (runs here) refl
-deed_of here kind.Run x = either here x.tid.0 kind.Run (lives_on here x.tid.0 (interruption_here here x.tid.0)) _ _ (λ _. Runs) (λ _. RunKills)
+deed_of here kind.Run x =
+    either here x.tid.0 kind.Run (lives_on here x.tid.0 (interruption_here here x.tid.0)) _ _ (λ _. Runs)
+    (λ _. RunKills)
 deed_of here kind.Signal x = deed_signal here x.tid.0 (runs here) refl

@@ -4,6 +4,7 @@ pub mod Drain
 pub mod Exec
 pub mod Finish
 pub mod Preempt
+pub mod Quiet
 pub mod Run
 pub mod Signal
 pub mod Take

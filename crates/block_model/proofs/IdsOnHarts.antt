@@ -1,14 +1,13 @@
 -- The ids that are held are those of the threads that harts run.
-use Rattle.std.proofs.Common.{ℕ, zero, suc, ◌*◌, ◌%◌, ◌^◌, ◌<◌, ◌≤◌, ◌≡◌, ◌≢◌, ◌||◌, All, Bool, true, false, eqb, List, [], ◌∷◌, Option, Some, None, refl, sym, ap, ◌∙◌, subst, inl, inr, arith}
-use Rattle.std.specs.Int.{bit_at, w8}
+use Rattle.std.proofs.Common.{ℕ, zero, suc, ◌*◌, ◌%◌, ◌^◌, ◌<◌, ◌≤◌, ◌≡◌, ◌≢◌, ◌||◌, Bool, true, false, eqb, List, [], ◌∷◌, Option, Some, None, refl, sym, ap, ◌∙◌, subst, inl, inr, arith}
+use Rattle.std.specs.Int.{w8}
 use Rattle.std.specs.Int.Bits.{bit_or}
-use Rattle.std.specs.List.{AllByRecursion, list_any}
+use Rattle.std.specs.List.{list_any}
 use Rattle.std.specs.Option.{option_map_or}
 use Rattle.std.proofs.lemmas.Bool.{cases_lt, eqb-true, false≢true, lt-ltb}
 use Rattle.std.proofs.lemmas.Bool.Decides.{eqb_tells}
-use Rattle.std.proofs.lemmas.List.Elements.{recursion_from_All}
-use Rattle.std.proofs.lemmas.Nat.Bits.{bit_at-lt, bit_at_set_other, bit_at_set_same, same_from_bits_below}
-use Rattle.mach_types.proofs.Laws.{eqb_same, has_hart-harts_that, harts_that-fits, times_cons}
+use Rattle.std.proofs.lemmas.Nat.Bits.{bit_at_set_other, bit_at_set_same}
+use Rattle.mach_types.proofs.Laws.{eqb_same, has_hart-harts_that, times_cons}
 use Rattle.mach_types.specs.Kernel.Scheduling.{Scheduling, has_hart}
 use Rattle.mach_types.specs.Kernel.Threads.{Threads, running_on, state_of, times}
 use Rattle.block_model.specs.Ids.{AreIdsApart, held_ids, id_of, is_id_of, is_taken}
@@ -146,40 +145,7 @@ module _ (harts : ℕ) (ts : Threads) (sc : Scheduling) (ids : List (ℕ × ℕ)
       go false is true below = absurd (false≢true (sym is ∙ below_is_taken n harts below))
       go false is false below = refl
 
--- an id that is taken is one that threads can hold
-pub small_taken : (n : ℕ) (ids : List (ℕ × ℕ)) → All (λ pair. pair.1 < 8) ids → is_taken ids n ≡ true → n < 8
-small_taken n ids small is = passed ids (recursion_from_All (λ pair. pair.1 < 8) ids small) is
-  where
-    passed : (ids : List (ℕ × ℕ)) → AllByRecursion (λ pair. pair.1 < 8) ids → is_taken ids n ≡ true → n < 8
-    passed [] small is = absurd (false≢true is)
-    passed (x ∷ ids) small is = elim (eqb_tells x.1 n) [
-      | inl p ↦ subst (λ m. m < 8) p.1 small.0
-      | inr q ↦ passed ids small.1 (sym (ap (λ b. b || is_taken ids n) q.0) ∙ is)
-    ]
-
 -- SETS OF IDS
-
--- the bit of a set is 1 where it has the hart
-its_bit : (a b : ℕ) → a < 2 → b < 2 → eqb a 1 ≡ eqb b 1 → a ≡ b
-its_bit a b one two same = elim (eqb_tells a 1) [
-  | inl p ↦ p.1 ∙ sym (eqb-true b 1 (sym same ∙ p.0))
-  | inr q ↦
-      elim (eqb_tells b 1) [
-        | inl p ↦ absurd (false≢true (sym q.0 ∙ same ∙ p.0))
-        | inr r ↦ zero_of a one q.1 ∙ sym (zero_of b two r.1)
-      ]
-]
-  where
-    zero_of : (n : ℕ) → n < 2 → n ≢ 1 → n ≡ 0
-    zero_of zero small other = refl
-    zero_of (suc zero) small other = absurd (other refl)
-    zero_of (suc (suc n)) small other = absurd (omega arith)
-
--- a set of 8 that has the ids that are taken is the set of those that are held
-pub held_is : (set : ℕ) (ids : List (ℕ × ℕ)) → set < 2 ^ 8 → ((n : ℕ) → n < 8 → has_hart set n ≡ is_taken ids n) → set ≡ held_ids ids
-held_is set ids small same =
-    same_from_bits_below 8 set (held_ids ids) small (harts_that-fits (is_taken ids) 8)
-    (λ n lt. its_bit (bit_at set n) (bit_at (held_ids ids) n) (bit_at-lt set n) (bit_at-lt (held_ids ids) n) (same n lt ∙ sym (in_set ids n lt)))
 
 -- a set of 8 in which one isn't taken isn't full
 full_has : (n : ℕ) → n < 8 → has_hart 255 n ≡ true

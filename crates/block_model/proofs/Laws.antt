@@ -1,5 +1,5 @@
 -- The laws that crates above cite: what is decided at a place, what an event that is allowed did, and where a log begins.
-use Rattle.std.proofs.Common.{◌≡◌, ◌≢◌, ℕ, ◌+◌, ◌≤◌, ◌<◌, ◌-◌, ◌^◌, ◌&&◌, List, [], ◌∷◌, ◌++◌, length, map, All, eqb, arith, refl, sym, ap, ◌∙◌, subst, true, false, is_some, Option, Some, None, Ok, Err}
+use Rattle.std.proofs.Common.{◌≡◌, ◌≢◌, ℕ, ◌+◌, ◌≤◌, ◌<◌, ◌-◌, ◌^◌, ◌&&◌, List, [], ◌∷◌, ◌++◌, length, map, All, eqb, arith, refl, sym, ap, ◌∙◌, subst, true, false, Option, Some, None, Ok, Err}
 use Rattle.std.proofs.lemmas.Bool.{le-leb, lt-leb}
 use Rattle.std.specs.Result.{IsOk}
 use Rattle.std.specs.List.{list_any}
@@ -16,23 +16,21 @@ use Rattle.elf_load.specs.declared.image.Image.{Image}
 use Rattle.elf_load.specs.Images.{IsImage}
 use Rattle.block_model.specs.declared.refusals.Refused.TheVariants.{Ended, Full, NotEnabled}
 use Rattle.block_model.specs.Setting.{Setting, Seen, setting_of}
-use Rattle.mach_types.specs.Kernel.Scheduling.{Scheduling, has_hart}
+use Rattle.mach_types.specs.Kernel.Scheduling.{Scheduling}
 use Rattle.mach_types.specs.Kernel.Threads.{Threads, is_ready, running_on, with_state}
-use Rattle.block_model.specs.Ids.{AreIdsApart, IsLeastFree, held_ids, id_of, is_taken, next_id}
+use Rattle.block_model.specs.Ids.{AreIdsApart, IsLeastFree, held_ids, is_taken, next_id}
 use Rattle.block_model.specs.Tables.{AreOfLive, AreSignalsOfLive, IsTables, on}
 use Rattle.block_model.specs.Here.{Here, Done, runs}
 use Rattle.block_model.specs.Events.Run.{refusal_run}
 use Rattle.block_model.specs.Events.{refusal_of, done_of}
-use Rattle.block_model.specs.ErrorCalls.{GivesError, GivesErrorAlone}
-use Rattle.block_model.specs.History.{History, ended, events, file, here_in_history, ran, running}
-use Rattle.block_model.specs.Walks.{IsWalk, answers, computed}
+use Rattle.block_model.specs.History.{History, events, file, here_in_history, ran, running}
 use Rattle.block_model.specs.Choosing.{IsChosen, all_chosen, choice_at, has_ended, is_choice, luck, luck_after, next_entry, pick_with, sight_with}
 use Rattle.block_model.specs.Deciding.{decide, decide_in, end_of, entry_in, event, history, over_at, unless}
 use Rattle.block_model.specs.Replay.{Ask, AllAnswer, IsFirstBad, IsFirstRefused, play_line, played, played_read, script_of}
 use Rattle.block_model.specs.Run.{IsAllowedLog, IsBlockRun, IsRunHistory}
 use Rattle.block_model.specs.Sights.{is_deliverable_on, sight_in}
 use Rattle.block_model.specs.Solo.{IsSolo, solo_choice, solo_rule}
-use Rattle.block_model.specs.Plain.{Plain, apply, here_of, plain_after, plain_end, plain_over, plain_seen, plain_solo, plain_solo_choice, plain_start}
+use Rattle.block_model.specs.Plain.{Plain, apply, here_of, plain_after, plain_end, plain_over, plain_seen, plain_solo, plain_start}
 use Rattle.block_model.specs.PlainOf.{plain_of}
 use Rattle.block_model.specs.PlainSays.{MakesLog, SaysOf}
 use Rattle.block_model.proofs.Agreement as agrees
@@ -46,8 +44,6 @@ use Rattle.block_model.proofs.Goods.Run as run_laws_of
 use Rattle.block_model.proofs.KernelCalls as call_laws
 use Rattle.block_model.proofs.KernelTables as tables_laws
 use Rattle.block_model.proofs.Ends as ends
-use Rattle.block_model.proofs.ErrorEvents as error_events
-use Rattle.block_model.proofs.Walks as walks
 use Rattle.block_model.proofs.Entries as entries
 use Rattle.block_model.proofs.Good.{good_here}
 use Rattle.block_model.proofs.Held.{IsHeld}
@@ -167,10 +163,6 @@ length-history s log = run_laws.length-history s log
 pub decided_is : (s : Setting) (before : History) (h : ℕ) (c : Choice) (e : Entry) → decide s before h c ≡ Ok e → (e.hart.0 ≡ h) × (choice_of e ≡ c)
 decided_is s before h c e is = decisions.decided_is s before h c e is
 
--- a run that goes on is a run
-pub IsBlockRun-append : (s : Setting) (log : List Entry) (h : ℕ) (c : Choice) (e : Entry) → IsBlockRun s log → decide s (history s log) h c ≡ Ok e → IsBlockRun s (log ++ e ∷ [])
-IsBlockRun-append s log h c e run is = block_run s (log ++ e ∷ []) (run_laws.IsAllowedLog-append s log h c e run.allowed is)
-
 -- a run by the fixed rule that goes on by the rule is one
 pub IsSolo-append : (s : Setting) (log : List Entry) (e : Entry) → IsSolo s log → e.hart.0 ≡ 0 → solo_choice s (history s log) ≡ Some (choice_of e) → IsSolo s (log ++ e ∷ [])
 IsSolo-append s log e solo first chosen = solo_runs.IsSolo-append s log e solo first chosen
@@ -191,28 +183,7 @@ pub all_addresses : (s : Setting) (log : List Entry) → s.program.entry < 2 ^ 6
     → All (λ (e : Entry). e.pc < 2 ^ 64) log
 all_addresses s log start bytes run = entries.all_addresses s log start bytes run.allowed
 
--- a guest call that gives an error changes, of thread files, memory and the kernel's record, only a0 and the pc of its thread
-pub error_changes_nothing : (s : Setting) (earlier later : List Entry) (entry : Entry) → s.limits.steps < 2 ^ 31 - 1
-    → IsBlockRun s (earlier ++ entry ∷ later) → GivesError s (history s earlier) entry → GivesErrorAlone s (history s earlier) entry
-error_changes_nothing s earlier later entry short run gives = error_events.error_changes_nothing s earlier later entry short run.allowed gives
-
--- at the end of a walk the thread's file is what its instructions make of the file at its start, and the thread runs there throughout
-pub walk_file : (s : Setting) (earlier stretch later : List Entry) (h t : ℕ) → IsBlockRun s (earlier ++ stretch ++ later) → IsWalk s h t (history s earlier) stretch
-    → file s t (history s (earlier ++ stretch)) ≡ computed s.program.pages (file s t (history s earlier)) (answers s h (history s earlier) stretch)
-walk_file s earlier stretch later h t run walk = (walks.walk_computed s earlier stretch later h t run.allowed walk).file_is
-
-pub walk_throughout : (s : Setting) (earlier first rest later : List Entry) (h t : ℕ) → IsBlockRun s (earlier ++ first ++ rest ++ later) → IsWalk s h t (history s earlier) (first ++ rest)
-    → running s h (history s (earlier ++ first)) ≡ Some t
-walk_throughout s earlier first rest later h t run walk = walks.walk_throughout s earlier first rest later h t run.allowed walk
-
 -- ends
-
--- no event ended the process as a script ends, and no run is over in this way
-pub not_open : (s : Setting) (before : History) → IsRunHistory s before → ended before ≢ Some Unended
-not_open s before run = ends.not_open s before run
-
-pub over_not_open : (s : Setting) (before : History) → IsRunHistory s before → over_at s before ≢ Some Unended
-over_not_open s before run = opens.over_not_open s before run
 
 -- the end of a run that was ended; of one whose log is full; and of one that is open
 pub end_of-ended : (s : Setting) (before : History) (e : End) → over_at s before ≡ Some e → end_of s before ≡ e
@@ -272,10 +243,6 @@ played_read-all s lines = replay.played_read-all s lines
 pub same_state : (v : Seen) → IsBlockRun v.setting v.log → plain_seen v ≡ plain_of v.setting (history v.setting v.log)
 same_state v run = agrees.agreement v.setting v.log run.allowed
 
--- its choice by the fixed rule is the one that is read from the log
-pub same_rule : (v : Seen) → IsBlockRun v.setting v.log → plain_solo_choice v.setting (plain_seen v) ≡ solo_choice v.setting (history v.setting v.log)
-same_rule v run = SaysOf.same_rule (agrees.says_of v.setting v.log run.allowed)
-
 -- over a script it makes the script's log, and over a finished run's choices the run; and it says what is read from the log
 pub plain_makes : (s : Setting) (lines : List Ask) (log : List Entry) → played s lines ≡ Ok log → MakesLog s lines log
 plain_makes s lines log is = plain_runs.plain_makes s lines log is
@@ -287,11 +254,6 @@ pub plain_solo_says : (s : Setting) (log : List Entry) → IsBlockRun s log → 
 plain_solo_says s log run solo over = solo_runs.plain_solo_says s log run.allowed solo over
 
 -- the fixed rule
-
--- it has a choice where the machine has one hart and the run is open; its choice is made; and where hart 0 may execute its next
--- instruction and no signal is deliverable to its thread, that is the choice
-pub rule_chooses : (s : Setting) (log : List Entry) → s.limits.harts ≡ 1 → IsBlockRun s log → end_of s (history s log) ≡ Unended → is_some (solo_choice s (history s log)) ≡ true
-rule_chooses s log one run end = rules.rule_chooses s log one run.allowed end
 
 pub rule_is_made : (s : Setting) (log : List Entry) (c : Choice) → s.limits.harts ≡ 1 → IsBlockRun s log → end_of s (history s log) ≡ Unended → solo_choice s (history s log) ≡ Some c → IsOk (decide s (history s log) 0 c)
 rule_is_made s log c one run end chosen = rules.rule_is_made s log c run.allowed one end chosen
@@ -342,9 +304,6 @@ all_chosen_next s log e = choices.all_chosen_next s log e
 pub is_choice_same : (c : Choice) → is_choice (Some c) c ≡ true
 is_choice_same c = choices.is_choice_same c
 
-pub is_choice_is : (a b : Choice) → is_choice (Some a) b ≡ true → a ≡ b
-is_choice_is a b same = choices.is_choice_is a b same
-
 -- a log of choices begins empty, goes on by the entry that a hart makes next, and begins with logs of choices
 pub chosen_start : (s : Setting) → IsChosen s []
 chosen_start s = choices.chosen_start s
@@ -361,10 +320,6 @@ chosen_shorter s log more chosen = choices.chosen_shorter s log more chosen
 -- where the run has ended no hart makes an entry
 pub next_is_none : (s : Setting) (log : List Entry) (h : ℕ) → has_ended s (history s log) ≡ true → next_entry s h (history s log) ≡ None
 next_is_none s log h over = choices.next_is_none s log h over
-
--- a credit is at most 7
-pub credit_is_small : (s : Setting) (h : ℕ) (before : History) → (luck s h before).credit ≤ 7
-credit_is_small s h before = choices.credit_is_small s h before
 
 -- images
 
@@ -395,10 +350,6 @@ ran_few v h run =
 -- a run gives at most one number in each event
 pub given_few : (v : Seen) → IsBlockRun v.setting v.log → (plain_seen v).kernel.threads.given ≤ length v.log + 1
 given_few v run = let few = (good_at v run).given in let made = plain-made v.setting v.log run.allowed in omega arith
-
--- the choice that the entry of a choice answers
-pub choice_made : (c : Choice) (here : Here) → choice_of (entry_in c here) ≡ c
-choice_made c here = decisions.choice_in c here
 
 -- a thread is in the ready list where it is ready
 pub ready_listed : (harts t : ℕ) (ts : Threads) (sc : Scheduling) → IsTables harts ts sc → list_any (λ u. eqb u t) sc.order ≡ is_ready t ts
@@ -448,34 +399,9 @@ id_is_free v h t run few lt free =
     let least = ids.next_is k.ids (omega arith) in
     record { least = least; below = omega arith; some = on_harts.not_full k.ids (next_id k.ids) (omega arith) least.free }
 
--- the id that a thread on a hart holds is taken, and one that is taken is that of a thread on a hart of the machine
-pub id_is_taken : (v : Seen) (h t : ℕ) → IsBlockRun v.setting v.log → v.setting.limits.harts ≤ 8 → running_on h (plain_seen v).kernel.threads ≡ Some t
-    → is_taken (plain_seen v).kernel.ids (id_of t (plain_seen v).kernel.ids) ≡ true
-id_is_taken v h t run few at =
-    let k = (plain_seen v).kernel in
-    on_harts.id_is_taken v.setting.limits.harts k.threads k.scheduling k.ids (good_at v run).kernel.tables (ids_apart_at v run few) h t at
-
-pub taken_is_of : (v : Seen) (n : ℕ) → IsBlockRun v.setting v.log → v.setting.limits.harts ≤ 8 → is_taken (plain_seen v).kernel.ids n ≡ true
-    → IsHeldOnHart v.setting.limits.harts (plain_seen v).kernel.threads (plain_seen v).kernel.ids n
-taken_is_of v n run few is =
-    let k = (plain_seen v).kernel in
-    on_harts.taken_is_of v.setting.limits.harts k.threads k.scheduling k.ids (good_at v run).kernel.tables (ids_apart_at v run few) n is
-
 -- so an id is taken where a thread on one of the machine's harts holds it, looked for hart by hart
 pub taken_on_harts : (v : Seen) (n : ℕ) → IsBlockRun v.setting v.log → v.setting.limits.harts ≤ 8
     → is_taken (plain_seen v).kernel.ids n ≡ is_held_below (plain_seen v).kernel.threads (plain_seen v).kernel.ids n v.setting.limits.harts
 taken_on_harts v n run few =
     let k = (plain_seen v).kernel in
     on_harts.taken_on_harts v.setting.limits.harts k.threads k.scheduling k.ids (good_at v run).kernel.tables (ids_apart_at v run few) n
-
--- a byte whose bits are the ids of the threads on the machine's harts is the set of those that are held
-pub held_is : (v : Seen) (set : ℕ) → IsBlockRun v.setting v.log → v.setting.limits.harts ≤ 8 → set < 2 ^ 8
-    → ((n : ℕ) → n < 8 → has_hart set n ≡ is_held_below (plain_seen v).kernel.threads (plain_seen v).kernel.ids n v.setting.limits.harts)
-    → set ≡ held_ids (plain_seen v).kernel.ids
-held_is v set run few small same = on_harts.held_is set (plain_seen v).kernel.ids small (λ n lt. same n lt ∙ sym (taken_on_harts v n run few))
-
--- the id of a thread that runs is one of 8
-pub id_is_small : (v : Seen) (h t : ℕ) → IsBlockRun v.setting v.log → v.setting.limits.harts ≤ 8 → running_on h (plain_seen v).kernel.threads ≡ Some t
-    → id_of t (plain_seen v).kernel.ids < 8
-id_is_small v h t run few at =
-    on_harts.small_taken (id_of t (plain_seen v).kernel.ids) (plain_seen v).kernel.ids (ids_apart_at v run few).small (id_is_taken v h t run few at)

@@ -54,6 +54,7 @@ mod Rules
 mod Runs
 mod SequenceExamples
 mod SequencePlaces
+mod SequenceSteps
 mod SignalEvents
 mod SignalExamples
 mod SignalSteps

@@ -33,7 +33,7 @@ use Rattle.block_model.specs.Calls.{called}
 use Rattle.block_model.specs.Calls.Answers.{CallDone}
 use Rattle.block_model.proofs.EventDeeds.{CallKills, Calls, EventDeed, Executes, FaultKills, Handles, Preempts, Restarts, Returns, RunKills, Runs, SignalKills, deed_of}
 use Rattle.block_model.proofs.Good.{IsSound}
-use Rattle.block_model.proofs.Pcs.{effect_goes_on, outcome_goes_on}
+use Rattle.block_model.proofs.Pcs.{outcome_stands}
 use Rattle.block_model.proofs.ProperCalls.{AllStand, FilesStand, IsProperCall, NotOpen, SomeLive, not_ended, proper_called}
 use Rattle.block_model.proofs.SignalSteps.{HandlersStand, action_stands, handled_stand, same_stand}
 
@@ -152,8 +152,8 @@ module _ (here : Here) (tid : ℕ) where
   proper_deed (CallKills t e next calls) = ending here _ SIGSEGV (λ stand. tt) refl refl
   proper_deed (Calls t e next calls outside) = by_proper_call here (called here t) (proper_called here t)
   proper_deed (Executes t e next) =
-      let goes = effect_goes_on (fetched here.setting.program.pages (here.file t).pc) (here.file t) e next.is in
-      quiet here _ (λ stand. (outcome_goes_on (view here) (here.file t) here.reserved e (stand.threads t) goes, tt)) refl refl refl
+      let word = fetched here.setting.program.pages (here.file t).pc in
+      quiet here _ (λ stand. (outcome_stands (view here) (here.file t) here.reserved e (stand.threads t) word next.is, tt)) refl refl refl
   proper_deed (Restarts t at) = record {
     files = λ stand. stands_after t;
     handlers = λ stand. stand.handlers;

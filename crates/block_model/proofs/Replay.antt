@@ -94,10 +94,6 @@ IsAllowedLog-next s log rest e run =
     let more : IsRunHistory s (fold (λ b e. event s b e ∷ b) (history s log) (e ∷ rest)) = subst (IsRunHistory s) (history-more s log (e ∷ rest)) run in
     (run_before s rest (event s (history s log) e ∷ history s log) more).1
 
--- the lines before the end of a block run are one
-pub IsAllowedLog-before : (s : Setting) (log rest : List Entry) → IsAllowedLog s (log ++ rest) → IsAllowedLog s log
-IsAllowedLog-before s log rest run = run_before s rest (history s log) (subst (IsRunHistory s) (history-more s log rest) run)
-
 -- an entry that is decided is made by each line that it answers
 said_made : (check : _) (e : Entry) → is_as_said check e ≡ true → checked check (Ok e) ≡ Some e
 said_made check e said = rw said refl

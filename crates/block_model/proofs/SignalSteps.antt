@@ -119,10 +119,6 @@ acted_stand s (Some new) g stands stand =
     let after = set_stand s new g (stands new refl) stand in
     either_stand (is_ignored s new) (dropped s (set_action s new g)) (set_action s new g) after after
 
-pub returned_stand : (t : ℕ) (words : Option (List ℕ)) (g : Signalling) → HandlersStand g → HandlersStand (returned t words g)
-returned_stand t None g stand = stand
-returned_stand t (Some words) g stand = stand
-
 entered_stands : (b : Bool) (a : Action) → StandsAt a → StandsAt (cond b (record a { at = SIG_DFL }) a)
 entered_stands true a stands = default_stands
 entered_stands false a stands = stands

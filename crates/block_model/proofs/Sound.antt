@@ -1,5 +1,5 @@
 -- What holds of the harts and of the kernel's record at each place of a block run.
-use Rattle.std.proofs.Common.{◌≡◌, ◌≢◌, ◌<◌, ◌^◌, ℕ, List, [], ◌∷◌, refl, sym, ◌∙◌, subst, true, Option, Some, None}
+use Rattle.std.proofs.Common.{◌≡◌, ◌≢◌, ℕ, List, [], ◌∷◌, sym, ◌∙◌, true, Some, None}
 use Rattle.std.specs.List.{All}
 use Rattle.std.proofs.lemmas.List.Elements.{All-from_recursion}
 use Rattle.mach_types.specs.Bytes.{each_byte}
@@ -7,12 +7,10 @@ use Rattle.mach_types.specs.declared.events.Entry.{Entry}
 use Rattle.mach_types.specs.declared.user_memory.Store.{Store}
 use Rattle.block_model.specs.Setting.{Setting}
 use Rattle.block_model.specs.Deciding.{history}
-use Rattle.block_model.specs.History.{History, awaits, can_be_written, kernel, requests, restart, running, waiting}
+use Rattle.block_model.specs.History.{History, awaits, can_be_written, kernel, running, waiting}
 use Rattle.block_model.specs.Layouts.{IsLaidOut}
 use Rattle.block_model.specs.Run.{IsAllowedLog, IsRunHistory}
-use Rattle.block_model.proofs.Awaited.{IsAwaited, alone_awaits, alone_requests, asked_below}
 use Rattle.block_model.proofs.Good.{IsSound}
-use Rattle.block_model.proofs.HartSets.{harts_fit}
 use Rattle.block_model.proofs.Paged.{IsPaged, paged_start}
 use Rattle.block_model.specs.Tables.{on}
 use Rattle.block_model.proofs.KernelTables.{running_is, same_hart}
@@ -41,49 +39,6 @@ waiter_runs s before h left run waits = (settled s before run).good.busy h left 
 
 pub waiter_stores : (s : Setting) (before : History) (h left : ℕ) → IsRunHistory s before → awaits h before ≡ Some left → waiting h before ≡ []
 waiter_stores s before h left run waits = (settled s before run).good.empty h left waits
-
--- its hart is one of the machine
-pub waiter_below : (s : Setting) (before : History) (h left : ℕ) → IsRunHistory s before → awaits h before ≡ Some left → h < s.limits.harts
-waiter_below s before h left run waits = go (running s h before) refl
-  where
-    go : (o : Option ℕ) → running s h before ≡ o → h < s.limits.harts
-    go None idle = absurd (waiter_runs s before h left run waits idle)
-    go (Some t) at =
-        let record_at = kernel s before in
-        let tables = (settled s before run).good.kernel.tables in
-        tables.below t (record { 0 = h }) (running_is s.limits.harts h t record_at.threads record_at.scheduling tables at)
-
--- what barriers wait for, and which requests are pending
-pub awaited_at : (s : Setting) (before : History) → IsRunHistory s before
-    → IsAwaited s.limits.harts (λ k. requests k before) (λ h. awaits h before)
-awaited_at s before run = (settled s before run).good.awaited
-
-pub requests_below : (s : Setting) (before : History) (k : ℕ) → IsRunHistory s before → requests k before ≢ 0 → k < s.limits.harts
-requests_below s before k run some =
-    asked_below s.limits.harts (λ k. requests k before) (λ h. awaits h before) k (awaited_at s before run) some
-
--- as sets they fit the harts of the machine
-pub awaits_fit : (s : Setting) (before : History) (h left : ℕ) → IsRunHistory s before → awaits h before ≡ Some left → left < 2 ^ s.limits.harts
-awaits_fit s before h left run waits = harts_fit left s.limits.harts (λ k has. (awaited_at s before run).below h left k waits has)
-
-pub requests_fit : (s : Setting) (before : History) (k : ℕ) → IsRunHistory s before → requests k before < 2 ^ s.limits.harts
-requests_fit s before k run =
-    harts_fit (requests k before) s.limits.harts (λ h has.
-    let its = (awaited_at s before run).awaited k h has in
-    waiter_below s before h its.left run its.waits)
-
--- where a restart is asked, requests are pending
-pub restart_requested : (s : Setting) (before : History) (k : ℕ) → IsRunHistory s before → restart k before ≡ true → requests k before ≢ 0
-restart_requested s before k run is = (settled s before run).good.restart k is
-
--- on a machine of one hart no thread waits in a barrier, and nothing is requested
-pub alone_out : (s : Setting) (before : History) (h : ℕ) → s.limits.harts ≡ 1 → IsRunHistory s before → awaits h before ≡ None
-alone_out s before h one run =
-    alone_awaits (λ k. requests k before) (λ j. awaits j before) h (subst (λ n. IsAwaited n (λ k. requests k before) (λ j. awaits j before)) one (awaited_at s before run))
-
-pub alone_unasked : (s : Setting) (before : History) (k : ℕ) → s.limits.harts ≡ 1 → IsRunHistory s before → requests k before ≡ 0
-alone_unasked s before k one run =
-    alone_requests (λ k. requests k before) (λ j. awaits j before) k (subst (λ n. IsAwaited n (λ k. requests k before) (λ j. awaits j before)) one (awaited_at s before run))
 
 -- the kernel's record
 pub sound_record : (s : Setting) (log : List Entry) → IsAllowedLog s log → IsSound s (kernel s (history s log))

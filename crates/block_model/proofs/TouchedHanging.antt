@@ -1,8 +1,7 @@
 -- A sequence that hangs: what its thread keeps from the place on at which it was preempted, and that bytes stay which nothing touched.
-use Rattle.std.proofs.Common.{◌≡◌, ◌≢◌, ℕ, ◌+◌, ◌<◌, ◌⊎◌, inl, inr, List, [], ◌∷◌, length, refl, sym, ap, ◌∙◌, arith, Bool, true, false, cond, eqb, Option, Some, None}
+use Rattle.std.proofs.Common.{◌≡◌, ◌≢◌, ℕ, ◌+◌, ◌<◌, List, [], ◌∷◌, length, refl, sym, ap, ◌∙◌, arith, true, false, Option, Some, None}
 use Rattle.std.specs.List.{list_any}
 use Rattle.std.specs.Option.{option_map}
-use Rattle.std.proofs.lemmas.Bool.{eqb-false, eqb-true}
 use Rattle.mach_types.specs.Bytes.{overlay}
 use Rattle.mach_types.specs.Events.{choice_of, choice_with}
 use Rattle.mach_types.specs.Kernel.Areas.{area_of}
@@ -12,7 +11,7 @@ use Rattle.mach_types.specs.declared.events.Kind.{Kind}
 use Rattle.mach_types.specs.declared.events.Kind.TheVariants as kind
 use Rattle.mach_types.specs.declared.threads.ThreadState.TheVariants.{Ready}
 use Rattle.mach_types.specs.declared.user_memory.Store.{Store}
-use Rattle.block_model.specs.Acts.{Sequence, hanging, hanging_after, is_inside_at, sequence_on}
+use Rattle.block_model.specs.Acts.{Sequence, hanging, is_inside_at, sequence_on}
 use Rattle.block_model.specs.Deciding.{done, number_of, thread_in}
 use Rattle.block_model.specs.Events.{done_of, refusal_of}
 use Rattle.block_model.specs.Events.Preempt.{done_preempt_by, refusal_preempt_by, unless_waiting}
@@ -31,47 +30,9 @@ use Rattle.block_model.proofs.KernelTables.{its_ready, running_is, state_now}
 use Rattle.block_model.proofs.ReadyFiles.{area_stays, ready_file_stays, ready_stays}
 use Rattle.block_model.proofs.Runs.{settled}
 use Rattle.block_model.proofs.SequencePlaces.{runs_throughout}
+use Rattle.block_model.proofs.SequenceSteps.{HangingStep, HangsOn, Preempted, hanging_step}
 use Rattle.block_model.proofs.TouchedBytes.{memory_stays, neither}
 use Rattle.block_model.proofs.TouchedPlaces.{AgreeAll, AreSmall, agree_twice, peeled, since_count, since_last}
-
--- THE NEWEST EVENT
-
--- the thread is preempted by the newest event, inside its sequence
-record IsPreempted (s : Setting) (e : Event) (before : History) (t : ℕ) (q : Sequence) : Type 0 where
-  kind_is : e.entry.kind ≡ kind.Preempt
-  tid : e.entry.tid.0 ≡ t
-  inside : is_inside_at s e.entry.hart.0 before ≡ true
-  newest : sequence_on s e.entry.hart.0 before ≡ Some q
-
--- or the sequence hung before it, and it isn't the thread's beginning to run
-abbrev Shape : Setting → Event → History → ℕ → Sequence → Type 0
-Shape s e before t q = ((hanging s t before ≡ Some q) × (e.entry.kind ≡ kind.Run → e.entry.tid.0 ≢ t)) ⊎ IsPreempted s e before t q
-
-module _ (s : Setting) (e : Event) (before : History) (t : ℕ) (q : Sequence) where
-  preempted_by : (b : Bool) → is_inside_at s e.entry.hart.0 before ≡ b → e.entry.kind ≡ kind.Preempt → e.entry.tid.0 ≡ t
-      → cond b (sequence_on s e.entry.hart.0 before) None ≡ Some q → IsPreempted s e before t q
-  preempted_by true inside kind_is tid is = record { kind_is = kind_is; tid = tid; inside = inside; newest = is }
-  preempted_by false inside kind_is tid is = absurd cc
-
-  other_kind : (k : Kind) → e.entry.kind ≡ k → k ≢ kind.Run → hanging s t before ≡ Some q → Shape s e before t q
-  other_kind k kind_is other is = inl (is, λ runs. absurd (other (sym kind_is ∙ runs)))
-
-  shape_of : (k : Kind) → e.entry.kind ≡ k → e.entry.tid.0 ≡ t → hanging_after s t e before k (hanging s t before) ≡ Some q → Shape s e before t q
-  shape_of kind.Exec kind_is tid is = other_kind kind.Exec kind_is (λ same. absurd cc) is
-  shape_of kind.Drain kind_is tid is = other_kind kind.Drain kind_is (λ same. absurd cc) is
-  shape_of kind.Take kind_is tid is = other_kind kind.Take kind_is (λ same. absurd cc) is
-  shape_of kind.Done kind_is tid is = other_kind kind.Done kind_is (λ same. absurd cc) is
-  shape_of kind.Preempt kind_is tid is = inr (preempted_by (is_inside_at s e.entry.hart.0 before) refl kind_is tid is)
-  shape_of kind.Run kind_is tid is = absurd cc
-  shape_of kind.Signal kind_is tid is = other_kind kind.Signal kind_is (λ same. absurd cc) is
-
-  shape_by : (b : Bool) → eqb e.entry.tid.0 t ≡ b → cond b (hanging_after s t e before e.entry.kind (hanging s t before)) (hanging s t before) ≡ Some q
-      → Shape s e before t q
-  shape_by true own is = shape_of e.entry.kind refl (eqb-true e.entry.tid.0 t own) is
-  shape_by false other is = inl (is, λ runs. eqb-false e.entry.tid.0 t other)
-
-  shape : hanging s t (e ∷ before) ≡ Some q → Shape s e before t q
-  shape is = shape_by (eqb e.entry.tid.0 t) refl is
 
 -- A PREEMPTION
 
@@ -152,11 +113,11 @@ module _ (s : Setting) (e : Event) (before : History) (t : ℕ) (q : Sequence) (
 
   -- on the hart of the sequence
   hanging_from : q.hart ≡ e.entry.hart.0 → e.entry.kind ≡ kind.Preempt → running s e.entry.hart.0 before ≡ Some q.thread
-      → IsPreempted s e before t q → IsHanging s (e ∷ before) t q
-  hanging_from hart kind_is at new =
-      let thread : q.thread ≡ t = sym (preempt_tid s e before q.thread run kind_is at) ∙ new.tid in
+      → e.entry.tid.0 ≡ t → is_inside_at s e.entry.hart.0 before ≡ true → sequence_on s e.entry.hart.0 before ≡ Some q → IsHanging s (e ∷ before) t q
+  hanging_from hart kind_is at own inside was =
+      let thread : q.thread ≡ t = sym (preempt_tid s e before q.thread run kind_is at) ∙ own in
       let runs = at ∙ ap Some thread in
-      let newest = ap (λ k. sequence_on s k before) hart ∙ new.newest in
+      let newest = ap (λ k. sequence_on s k before) hart ∙ was in
       let longer = (since_last s before q.hart q run.0 newest).longer in
       let waits = ap (λ k. waiting_here (here_in_history s before k)) hart ∙ preempt_waits s e before t run kind_is runs in
       record {
@@ -164,7 +125,7 @@ module _ (s : Setting) (e : Event) (before : History) (t : ℕ) (q : Sequence) (
         run = run.0;
         thread = thread;
         newest = newest;
-        inside = ap (λ k. is_inside_at s k before) hart ∙ new.inside;
+        inside = ap (λ k. is_inside_at s k before) hart ∙ inside;
         longer = omega (arith, longer);
         ready = preempt_ready s e before t run kind_is runs;
         same_file = preempt_file s e before t run kind_is runs;
@@ -176,11 +137,6 @@ module _ (s : Setting) (e : Event) (before : History) (t : ℕ) (q : Sequence) (
                   (see_memory (here_in_history s before q.hart) ws waits) (memories_stay s e before q.hart ws small parts.0),
             );
       }
-
-  hanging_begins : IsPreempted s e before t q → IsHanging s (e ∷ before) t q
-  hanging_begins new =
-      let at = runs_throughout s before e.entry.hart.0 q run.0 new.newest in
-      hanging_from at.hart new.kind_is at.now new
 
   hanging_goes_on : (e.entry.kind ≡ kind.Run → e.entry.tid.0 ≢ t) → IsHanging s before t q → IsHanging s (e ∷ before) t q
   hanging_goes_on other was =
@@ -208,10 +164,12 @@ module _ (s : Setting) (e : Event) (before : History) (t : ℕ) (q : Sequence) (
             );
       }
 
-  hanging_by : Shape s e before t q → (hanging s t before ≡ Some q → IsHanging s before t q) → IsHanging s (e ∷ before) t q
-  hanging_by (inl later) rest = hanging_goes_on later.1 (rest later.0)
-  hanging_by (inr new) rest = hanging_begins new
+  hanging_by : HangingStep s e before t q → (hanging s t before ≡ Some q → IsHanging s before t q) → IsHanging s (e ∷ before) t q
+  hanging_by (HangsOn was other) rest = hanging_goes_on other (rest was)
+  hanging_by (Preempted kind_is own inside was) rest =
+      let at = runs_throughout s before e.entry.hart.0 q run.0 was in
+      hanging_from at.hart kind_is at.now own inside was
 
 pub hangs_since : (s : Setting) (before : History) (t : ℕ) (q : Sequence) → IsRunHistory s before → hanging s t before ≡ Some q → IsHanging s before t q
 hangs_since s [] t q run is = absurd cc
-hangs_since s (e ∷ before) t q run is = hanging_by s e before t q run (shape s e before t q is) (λ was. hangs_since s before t q run.0 was)
+hangs_since s (e ∷ before) t q run is = hanging_by s e before t q run (hanging_step s e before t q is) (λ was. hangs_since s before t q run.0 was)

@@ -1,7 +1,7 @@
 -- From the place before the last event of a sequence on: what its thread keeps, and that bytes stay which nothing touched since.
 use Rattle.std.proofs.Common.{◌≡◌, ◌≢◌, ℕ, ◌+◌, ◌-◌, ◌≤◌, ◌<◌, ◌⊎◌, inl, inr, List, [], ◌∷◌, length, refl, sym, ap, ◌∙◌, subst, arith, Bool, true, false, not, cond, ◌&&◌, ◌||◌, eqb, Option, Some, None, is_none}
 use Rattle.std.specs.List.{AllByRecursion, list_any}
-use Rattle.std.proofs.lemmas.Bool.{eqb-false, eqb-true, false≢true, ne_eqb}
+use Rattle.std.proofs.lemmas.Bool.{eqb-false, false≢true, ne_eqb}
 use Rattle.mach_types.specs.Events.{choice_with}
 use Rattle.mach_types.specs.Kernel.Areas.{area_of}
 use Rattle.mach_types.specs.Kernel.Threads.{running_on}
@@ -11,7 +11,7 @@ use Rattle.mach_types.specs.declared.events.Kind.{Kind}
 use Rattle.mach_types.specs.declared.events.Kind.TheVariants as kind
 use Rattle.mach_types.specs.declared.threads.Saved.{Saved}
 use Rattle.mach_types.specs.declared.user_memory.Store.{Store}
-use Rattle.block_model.specs.Acts.{Sequence, begun_with, is_inside_at, is_instruction, is_taken_in, sequence_on, taken_up, with_event}
+use Rattle.block_model.specs.Acts.{Sequence, is_inside_at, is_instruction, is_taken_in, sequence_on}
 use Rattle.block_model.specs.Deciding.{done}
 use Rattle.block_model.specs.Events.{done_of}
 use Rattle.block_model.specs.Events.Drain.{done_drain_of}
@@ -26,71 +26,10 @@ use Rattle.block_model.proofs.Goods.Calls.Fit.{runs_apart}
 use Rattle.block_model.proofs.NamedStays.{Agree}
 use Rattle.block_model.proofs.ReadyFiles.{area_stays}
 use Rattle.block_model.proofs.Runs.{fit_at, settled}
-use Rattle.block_model.proofs.SequencePlaces.{instruction_taken, runs_throughout, taken_keeps}
+use Rattle.block_model.proofs.SequencePlaces.{runs_throughout, taken_keeps}
+use Rattle.block_model.proofs.SequenceSteps.{Begins, Elsewhere, IsOf, Own, SequenceStep, TakesIn, is_reached, is_taken, sequence_step}
 use Rattle.block_model.proofs.SignalEvents.{OnlySignals}
 use Rattle.block_model.proofs.TouchedBytes.{neither, view_stays}
-
--- THE NEWEST EVENT
-
--- the newest event is of the sequence, as an instruction or not
-record IsNewest (s : Setting) (e : Event) (before : History) (h : ℕ) (q : Sequence) : Type 0 where
-  own : e.entry.hart.0 ≡ h
-  inside : is_inside_at s h before ≡ true
-  taken : is_taken_in e.entry.kind e.done.interrupted ≡ true
-  reached : q.reached ≡ e ∷ before
-  last : (q.last_instruction ≡ before) ⊎ (is_instruction e.entry.kind ≡ false)
-
--- or it is of another hart, and the sequence is as it was
-abbrev Shape : Setting → Event → History → ℕ → Sequence → Type 0
-Shape s e before h q = ((is_of_hart h e ≡ false) × (sequence_on s h before ≡ Some q)) ⊎ IsNewest s e before h q
-
-module _ (s : Setting) (e : Event) (before : History) (h : ℕ) (q : Sequence) (own : e.entry.hart.0 ≡ h) (inside : is_inside_at s h before ≡ true) where
-  newest_begun : (b : Bool) → is_instruction e.entry.kind ≡ b → cond b (Some (begun_with h e before)) None ≡ Some q → IsNewest s e before h q
-  newest_begun false first is = absurd cc
-  newest_begun true first is =
-      let same : begun_with h e before ≡ q = cc in
-      subst (λ (x : Sequence). IsNewest s e before h x) same (record {
-        own = own;
-        inside = inside;
-        taken = instruction_taken e.entry.kind e.done.interrupted first;
-        reached = refl;
-        last = inl refl;
-      })
-
-  last_of : (r : Sequence) (b : Bool) → is_instruction e.entry.kind ≡ b → (cond b before r.last_instruction ≡ before) ⊎ (is_instruction e.entry.kind ≡ false)
-  last_of r true is = inl refl
-  last_of r false is = inr is
-
-  newest_taken : (r : Sequence) (b : Bool) → is_taken_in e.entry.kind e.done.interrupted ≡ b → cond b (Some (with_event e before r)) None ≡ Some q → IsNewest s e before h q
-  newest_taken r false taken is = absurd cc
-  newest_taken r true taken is =
-      let same : with_event e before r ≡ q = cc in
-      subst (λ (x : Sequence). IsNewest s e before h x) same (record {
-        own = own;
-        inside = inside;
-        taken = taken;
-        reached = refl;
-        last = last_of r (is_instruction e.entry.kind) refl;
-      })
-
-  newest_of : (o : Option Sequence) → taken_up h e before o ≡ Some q → IsNewest s e before h q
-  newest_of None is = newest_begun (is_instruction e.entry.kind) refl is
-  newest_of (Some r) is = newest_taken r (is_taken_in e.entry.kind e.done.interrupted) refl is
-
-module _ (s : Setting) (e : Event) (before : History) (h : ℕ) (q : Sequence) where
-  shape_own : (c : Bool) → is_inside_at s h before ≡ c → e.entry.hart.0 ≡ h
-      → cond c (taken_up h e before (sequence_on s h before)) None ≡ Some q → IsNewest s e before h q
-  shape_own false inside own is = absurd cc
-  shape_own true inside own is = newest_of s e before h q own inside (sequence_on s h before) is
-
-  shape_by : (b : Bool) → is_of_hart h e ≡ b
-      → cond (not b) (sequence_on s h before) (cond (is_inside_at s h before) (taken_up h e before (sequence_on s h before)) None) ≡ Some q
-      → Shape s e before h q
-  shape_by true own is = inr (shape_own (is_inside_at s h before) refl (eqb-true e.entry.hart.0 h own) is)
-  shape_by false other is = inl (other, is)
-
-  shape : sequence_on s h (e ∷ before) ≡ Some q → Shape s e before h q
-  shape is = shape_by (is_of_hart h e) refl is
 
 -- WHAT THE EVENTS OF A SEQUENCE LEAVE
 
@@ -117,10 +56,7 @@ none_set : (k : Kind) (x : Entry) (here : Here) → IsTakenIn k x here → is_in
 none_set kind.Exec x here taken no_instruction = absurd (false≢true (sym no_instruction))
 none_set kind.Drain x here taken no_instruction = drain_sets_none here (waiting_here here)
 none_set kind.Take x here taken no_instruction = ap (λ (d : Done). d.files) (take_taken here taken)
-none_set kind.Done x here taken no_instruction = absurd (false≢true taken)
-none_set kind.Preempt x here taken no_instruction = absurd (false≢true taken)
-none_set kind.Run x here taken no_instruction = absurd (false≢true taken)
-none_set kind.Signal x here taken no_instruction = absurd (false≢true taken)
+none_set k x here taken no_instruction = absurd (false≢true taken)
 
 module _ (s : Setting) (e : Event) (before : History) (run : IsRunHistory s (e ∷ before)) (taken : is_taken_in e.entry.kind e.done.interrupted ≡ true) where
   kept_record : is_inside_at s e.entry.hart.0 before ≡ true → OnlySignals (kernel s before) (kernel s (e ∷ before))
@@ -155,21 +91,33 @@ last_place : (e : Event) (before : History) (q : Sequence) → q.reached ≡ e �
 last_place e before q is = ap (λ (r : History). elim r [ [] ↦ [] | e ∷ before ↦ before ]) is
 
 module _ (s : Setting) (e : Event) (before : History) (h : ℕ) (q : Sequence) (run : IsRunHistory s (e ∷ before)) where
-  since_own : sequence_on s h (e ∷ before) ≡ Some q → IsNewest s e before h q → IsSince s (e ∷ before) h q
-  since_own is new =
-      let at = last_place e before q new.reached in
-      let inside = ap (λ k. is_inside_at s k before) new.own ∙ new.inside in
-      let kept = kept_record s e before run new.taken inside in
+  -- its last event was its last instruction, or no instruction
+  last_is : (b : Bool) → is_instruction e.entry.kind ≡ b → (r : Sequence) → (cond b before r.last_instruction ≡ before) ⊎ (is_instruction e.entry.kind ≡ false)
+  last_is true is r = inl refl
+  last_is false is r = inr is
+
+  last_of : {r : Sequence} → IsOf s e before h r → (r.last_instruction ≡ before) ⊎ (is_instruction e.entry.kind ≡ false)
+  last_of (Begins first) = inl refl
+  last_of (TakesIn r was taken) = last_is (is_instruction e.entry.kind) refl r
+
+  since_own : sequence_on s h (e ∷ before) ≡ Some q → e.entry.hart.0 ≡ h → is_inside_at s h before ≡ true → IsOf s e before h q
+      → IsSince s (e ∷ before) h q
+  since_own is own stood its =
+      let taken = is_taken s e before h its in
+      let reached = is_reached s e before h its in
+      let at = last_place e before q reached in
+      let inside = ap (λ k. is_inside_at s k before) own ∙ stood in
+      let kept = kept_record s e before run taken inside in
       let now = (runs_throughout s (e ∷ before) h q run is).now in
       record {
-        inside = ap (is_inside_at s h) at ∙ new.inside;
+        inside = ap (is_inside_at s h) at ∙ stood;
         runs = ap (running s h) at ∙ sym (ap (λ (k : Kernel). running_on h k.threads) kept) ∙ now;
         longer = subst (λ (b : History). length b < length (e ∷ before)) (sym at) (omega arith);
-        last = elim new.last [
+        last = elim (last_of its) [
           | inl first ↦ inl (first ∙ sym at)
-          | inr no_instruction ↦ inr (ap (file s q.thread) new.reached ∙ kept_file s e before run new.taken q.thread no_instruction ∙ sym (ap (file s q.thread) at))
+          | inr no_instruction ↦ inr (ap (file s q.thread) reached ∙ kept_file s e before run taken q.thread no_instruction ∙ sym (ap (file s q.thread) at))
         ];
-        same_file = sym (ap (file s q.thread) new.reached);
+        same_file = sym (ap (file s q.thread) reached);
         same_area = ap (λ (k : Kernel). area_of q.thread k.areas) kept ∙ sym (ap (λ (b : History). area_of q.thread (kernel s b).areas) at);
       }
 
@@ -192,13 +140,13 @@ module _ (s : Setting) (e : Event) (before : History) (h : ℕ) (q : Sequence) (
         same_area = area_stays s e before q.thread run elsewhere ∙ since.same_area;
       }
 
-  since_by : sequence_on s h (e ∷ before) ≡ Some q → Shape s e before h q → (sequence_on s h before ≡ Some q → IsSince s before h q) → IsSince s (e ∷ before) h q
-  since_by is (inl other) rest = since_other other.0 other.1 (rest other.1)
-  since_by is (inr new) rest = since_own is new
+  since_by : sequence_on s h (e ∷ before) ≡ Some q → SequenceStep s e before h q → (sequence_on s h before ≡ Some q → IsSince s before h q) → IsSince s (e ∷ before) h q
+  since_by is (Elsewhere other was) rest = since_other other was (rest was)
+  since_by is (Own own inside its) rest = since_own is own inside its
 
 pub since_last : (s : Setting) (before : History) (h : ℕ) (q : Sequence) → IsRunHistory s before → sequence_on s h before ≡ Some q → IsSince s before h q
 since_last s [] h q run is = absurd cc
-since_last s (e ∷ before) h q run is = since_by s e before h q run is (shape s e before h q is) (λ was. since_last s before h q run.0 was)
+since_last s (e ∷ before) h q run is = since_by s e before h q run is (sequence_step s e before h q is) (λ was. since_last s before h q run.0 was)
 
 -- BYTES THAT NOTHING TOUCHED
 
@@ -239,10 +187,10 @@ module _ (s : Setting) (e : Event) (before : History) (h : ℕ) (q : Sequence) (
   abbrev seen_last : ℕ → Option ℕ
   seen_last = view (here_in_history s (before_last q) h)
 
-  agree_own : IsNewest s e before h q → touched_in s (since_count q (e ∷ before)) (e ∷ before) ws ≡ false
+  agree_own : IsOf s e before h q → touched_in s (since_count q (e ∷ before)) (e ∷ before) ws ≡ false
       → AgreeAll seen_last (view (here_in_history s (e ∷ before) h)) ws
-  agree_own new none =
-      let at = last_place e before q new.reached in
+  agree_own its none =
+      let at = last_place e before q (is_reached s e before h its) in
       let one : since_count q (e ∷ before) ≡ 0 + 1 = ap (λ (b : History). length (e ∷ before) - length b) at ∙ omega arith in
       let clear = (peeled s e before ws (since_count q (e ∷ before)) 0 one none).0 in
       subst (λ (b : History). AgreeAll (view (here_in_history s b h)) (view (here_in_history s (e ∷ before) h)) ws) (sym at)
@@ -257,15 +205,15 @@ module _ (s : Setting) (e : Event) (before : History) (h : ℕ) (q : Sequence) (
       let parts = peeled s e before ws (since_count q (e ∷ before)) (since_count q before) more none in
       agree_twice seen_last (view (here_in_history s before h)) (view (here_in_history s (e ∷ before) h)) ws (rest parts.1) (views_stay s e before h ws run small parts.0)
 
-  agree_by : Shape s e before h q → touched_in s (since_count q (e ∷ before)) (e ∷ before) ws ≡ false
+  agree_by : SequenceStep s e before h q → touched_in s (since_count q (e ∷ before)) (e ∷ before) ws ≡ false
       → (sequence_on s h before ≡ Some q → touched_in s (since_count q before) before ws ≡ false → AgreeAll seen_last (view (here_in_history s before h)) ws)
       → AgreeAll seen_last (view (here_in_history s (e ∷ before) h)) ws
-  agree_by (inl other) none rest = agree_other other.1 none (rest other.1)
-  agree_by (inr new) none rest = agree_own new none
+  agree_by (Elsewhere other was) none rest = agree_other was none (rest was)
+  agree_by (Own own inside its) none rest = agree_own its none
 
 pub agree_since : (s : Setting) (before : History) (h : ℕ) (q : Sequence) → IsRunHistory s before → sequence_on s h before ≡ Some q
     → (ws : List Bytes) → AreSmall ws → touched_in s (since_count q before) before ws ≡ false
     → AgreeAll (view (here_in_history s (before_last q) h)) (view (here_in_history s before h)) ws
 agree_since s [] h q run is ws small none = absurd cc
 agree_since s (e ∷ before) h q run is ws small none =
-    agree_by s e before h q run ws small (shape s e before h q is) none (λ was clear. agree_since s before h q run.0 was ws small clear)
+    agree_by s e before h q run ws small (sequence_step s e before h q is) none (λ was clear. agree_since s before h q run.0 was ws small clear)

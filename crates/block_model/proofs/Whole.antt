@@ -1,5 +1,5 @@
 -- Every log whose entries are allowed is whole.
-use Rattle.std.proofs.Common.{◌≡◌, ◌≢◌, ℕ, [], ◌∷◌, refl, sym, ap, ◌∙◌, subst, Bool, true, false, not, cond, Option, Some, None, is_some}
+use Rattle.std.proofs.Common.{◌≡◌, ◌≢◌, ℕ, [], ◌∷◌, refl, sym, ap, ◌∙◌, subst, true, false, Option, Some, None, is_some}
 use Rattle.std.specs.Option.{option_map_or}
 use Rattle.std.proofs.lemmas.Bool.{false≢true}
 use Rattle.mach_types.proofs.Laws.{eqb_same}
@@ -9,7 +9,7 @@ use Rattle.mach_types.specs.declared.limits.End.{End}
 use Rattle.mach_types.specs.declared.limits.End.TheVariants.{Killed}
 use Rattle.mach_types.specs.declared.sequences.Outcome.{Outcome}
 use Rattle.mach_types.specs.declared.signals.TheConstants.{SIGSEGV}
-use Rattle.block_model.specs.Acts.{Sequence, begun_with, is_inside_at, is_instruction, is_taken_in, sequence_on, taken_up, with_event}
+use Rattle.block_model.specs.Acts.{Sequence, is_inside_at, is_instruction, is_taken_in, sequence_on}
 use Rattle.block_model.specs.Calls.Answers.{killed_in_call}
 use Rattle.block_model.specs.Deciding.{number_of}
 use Rattle.block_model.specs.Events.Exec.{by_call, next_fault, one_instruction}
@@ -21,7 +21,8 @@ use Rattle.block_model.specs.Sequences.{is_inside_here}
 use Rattle.block_model.specs.Setting.{Setting}
 use Rattle.block_model.specs.Whole.{EndsWhole, IsFatalInstruction, IsWholeEvent, IsWholeHistory, IsWholePlace, TouchesNothing, faults_or_calls, signal_inside}
 use Rattle.block_model.proofs.EventDeeds.{CallKills, Calls, EventDeed, FaultKills, Restarts, RunKills, SignalKills, deed_of}
-use Rattle.block_model.proofs.SequencePlaces.{goes_on, instruction_taken, runs_throughout}
+use Rattle.block_model.proofs.SequencePlaces.{goes_on, runs_throughout}
+use Rattle.block_model.proofs.SequenceSteps.{Elsewhere, Own, SequenceStep, is_taken, sequence_step}
 use Rattle.block_model.proofs.TouchedPlaces.{IsTakenIn}
 use Rattle.block_model.proofs.WholeEnds.{dropped_at, ends_whole_uninterrupted, quiet}
 use Rattle.block_model.proofs.WholeEvents.{did, place}
@@ -37,37 +38,18 @@ record IsTaken (s : Setting) (e : Event) (before : History) : Type 0 where
   inside : is_inside_at s e.entry.hart.0 before ≡ true
   taken : is_taken_in e.entry.kind e.done.interrupted ≡ true
 
-module _ (s : Setting) (e : Event) (before : History) (q : Sequence) where
-  abbrev h : ℕ
-  h = e.entry.hart.0
+taken_by : (s : Setting) (e : Event) (before : History) (q : Sequence) → SequenceStep s e before e.entry.hart.0 q → IsTaken s e before
+taken_by s e before q (Elsewhere other is) = absurd (false≢true (sym other ∙ eqb_same e.entry.hart.0))
+taken_by s e before q (Own own inside its) = record { inside = inside; taken = is_taken s e before e.entry.hart.0 its }
 
-  begins : (b : Bool) → is_instruction e.entry.kind ≡ b → cond b (Some (begun_with h e before)) None ≡ Some q → is_taken_in e.entry.kind e.done.interrupted ≡ true
-  begins true first is = instruction_taken e.entry.kind e.done.interrupted first
-  begins false first is = absurd cc
-
-  takes : (r : Sequence) (b : Bool) → is_taken_in e.entry.kind e.done.interrupted ≡ b → cond b (Some (with_event e before r)) None ≡ Some q
-      → is_taken_in e.entry.kind e.done.interrupted ≡ true
-  takes r true taken is = taken
-  takes r false taken is = absurd cc
-
-  by_sequence : (o : Option Sequence) → taken_up h e before o ≡ Some q → is_taken_in e.entry.kind e.done.interrupted ≡ true
-  by_sequence None is = begins (is_instruction e.entry.kind) refl is
-  by_sequence (Some r) is = takes r (is_taken_in e.entry.kind e.done.interrupted) refl is
-
-  by_inside : (c : Bool) → is_inside_at s h before ≡ c → cond c (taken_up h e before (sequence_on s h before)) None ≡ Some q → IsTaken s e before
-  by_inside true inside is = record { inside = inside; taken = by_sequence (sequence_on s h before) is }
-  by_inside false inside is = absurd cc
-
-  is_taken : sequence_on s h (e ∷ before) ≡ Some q → IsTaken s e before
-  is_taken is =
-      by_inside (is_inside_at s h before) refl
-      (sym (ap (λ b. cond (not b) (sequence_on s h before) (cond (is_inside_at s h before) (taken_up h e before (sequence_on s h before)) None)) (eqb_same h)) ∙ is)
+event_taken : (s : Setting) (e : Event) (before : History) (q : Sequence) → sequence_on s e.entry.hart.0 (e ∷ before) ≡ Some q → IsTaken s e before
+event_taken s e before q is = taken_by s e before q (sequence_step s e before e.entry.hart.0 q is)
 
 -- it is an event of its thread
 own_event : (s : Setting) (e : Event) (before : History) (q : Sequence) → IsRunHistory s (e ∷ before) → sequence_on s e.entry.hart.0 (e ∷ before) ≡ Some q
     → e.entry.tid.0 ≡ q.thread
 own_event s e before q run is =
-    let t = is_taken s e before q is in
+    let t = event_taken s e before q is in
     let goes = goes_on s e before run t.taken t.inside in
     ap number_of (sym (goes.still ∙ goes.thread) ∙ (runs_throughout s (e ∷ before) e.entry.hart.0 q run is).now)
 
@@ -107,7 +89,7 @@ dies_by : (s : Setting) (e : Event) (before : History) (q : Sequence) → IsRunH
     → DiesBy e.done (signal_inside s e.entry.hart.0 e.entry.tid.0 before)
 dies_by s e before q run is =
     let here = place s e before run in
-    let t = is_taken s e before q is in
+    let t = event_taken s e before q is in
     let goes = goes_on s e before run t.taken t.inside in
     let inside : is_inside_here here e.entry.tid.0 ≡ true =
     sym (ap (λ r. option_map_or (is_inside_here here) r false) goes.thread) ∙ t.inside in
@@ -131,7 +113,7 @@ fatal_deed here t tid over deed taken on is = absurd cc
 fatal_instruction : (s : Setting) (e : Event) (before : History) (q : Sequence) (over : End) → IsRunHistory s (e ∷ before)
     → sequence_on s e.entry.hart.0 (e ∷ before) ≡ Some q → e.done.ended ≡ Some over → IsFatalInstruction s e before
 fatal_instruction s e before q over run is dies =
-    let t = is_taken s e before q is in
+    let t = event_taken s e before q is in
     let goes = goes_on s e before run t.taken t.inside in
     let ended = sym (ap (λ (d : Done). d.ended) (did s e before run e.entry.kind refl)) ∙ dies in
     let both =
@@ -173,13 +155,9 @@ module _ (s : Setting) (e : Event) (before : History) (q : Sequence) (run : IsRu
   ends_taken (Some o) told is = ends_whole_restarted s e before q run is was (ap (λ (i : Option Outcome). is_some i) told)
 
   ends_by : (k : Kind) → e.entry.kind ≡ k → EndsWhole s e before q
-  ends_by kind.Exec is = quiet_so kind.Exec is (λ same. cc) (λ same. cc)
-  ends_by kind.Drain is = quiet_so kind.Drain is (λ same. cc) (λ same. cc)
   ends_by kind.Take is = ends_taken e.done.interrupted refl is
-  ends_by kind.Done is = quiet_so kind.Done is (λ same. cc) (λ same. cc)
-  ends_by kind.Preempt is = quiet_so kind.Preempt is (λ same. cc) (λ same. cc)
-  ends_by kind.Run is = quiet_so kind.Run is (λ same. cc) (λ same. cc)
   ends_by kind.Signal is = ends_whole_delivered s e before q run is was
+  ends_by k is = quiet_so k is (λ same. cc) (λ same. cc)
 
   ends_whole : EndsWhole s e before q
   ends_whole = ends_by e.entry.kind refl

@@ -1,14 +1,14 @@
 -- A hart whose thread waits in a barrier is in no sequence: the call of the barrier is outside, and no instruction is executed until the
 -- barrier returns.
-use Rattle.std.proofs.Common.{◌≡◌, ℕ, [], ◌∷◌, refl, sym, ap, ◌∙◌, Bool, true, false, not, cond, Option, Some, None}
+use Rattle.std.proofs.Common.{◌≡◌, ℕ, [], ◌∷◌, refl, sym, ap, ◌∙◌, Bool, true, false, cond, eq-eqb, Option, Some, None}
 use Rattle.std.specs.Option.{option_map, option_map_or, option_or}
-use Rattle.std.proofs.lemmas.Bool.{eqb-true, false≢true}
+use Rattle.std.proofs.lemmas.Bool.{false≢true}
 use Rattle.mach_types.specs.Events.{choice_with}
 use Rattle.mach_types.specs.declared.events.Entry.{Entry}
 use Rattle.mach_types.specs.declared.events.Kind.{Kind}
 use Rattle.mach_types.specs.declared.events.Kind.TheVariants as kind
 use Rattle.mach_types.specs.declared.sequences.Outcome.{Outcome}
-use Rattle.block_model.specs.Acts.{Sequence, begun_with, is_inside_at, is_instruction, is_taken_in, sequence_on, taken_up, with_event}
+use Rattle.block_model.specs.Acts.{Sequence, is_inside_at, is_instruction, is_taken_in, sequence_on}
 use Rattle.block_model.specs.Events.{done_of, refusal_of}
 use Rattle.block_model.specs.Events.Exec.{refusal_exec_by}
 use Rattle.block_model.specs.Here.{Barrier, Done, Here, runs}
@@ -18,7 +18,7 @@ use Rattle.block_model.specs.Run.{IsRunHistory}
 use Rattle.block_model.specs.Sequences.{is_inside_here}
 use Rattle.block_model.specs.Setting.{Setting}
 use Rattle.block_model.proofs.Goods.Preempt.{out_of_barrier}
-use Rattle.block_model.proofs.SequencePlaces.{instruction_taken}
+use Rattle.block_model.proofs.SequenceSteps.{Begins, Elsewhere, IsOf, Own, SequenceStep, TakesIn, is_taken, sequence_step}
 use Rattle.block_model.proofs.WholeEvents.{did, is_free, place}
 use Rattle.block_model.proofs.EventDeeds.{Calls, EventDeed, deed_of}
 
@@ -29,12 +29,7 @@ exec_free here (Some t) free = (out_of_barrier here.awaits _ free).0
 
 instruction_free : (k : Kind) (x : Entry) (here : Here) → is_instruction k ≡ true → refusal_of (choice_with k x) here ≡ None → here.awaits ≡ None
 instruction_free kind.Exec x here is free = exec_free here (runs here) free
-instruction_free kind.Drain x here is free = absurd (false≢true is)
-instruction_free kind.Take x here is free = absurd (false≢true is)
-instruction_free kind.Done x here is free = absurd (false≢true is)
-instruction_free kind.Preempt x here is free = absurd (false≢true is)
-instruction_free kind.Run x here is free = absurd (false≢true is)
-instruction_free kind.Signal x here is free = absurd (false≢true is)
+instruction_free k x here is free = absurd (false≢true is)
 
 -- WHAT A SEQUENCE TAKES IN BEGINS NO BARRIER
 
@@ -62,45 +57,26 @@ other_awaits : (b : Bool) (k : ℕ) (waits : Option ℕ) → waits ≡ None → 
 other_awaits true k waits out = ap (option_map (without_hart k)) out
 other_awaits false k waits out = out
 
-module _ (s : Setting) (e : Event) (before : History) (h : ℕ) (q : Sequence) (run : IsRunHistory s (e ∷ before))
+module _ (s : Setting) (e : Event) (before : History) (h : ℕ) (run : IsRunHistory s (e ∷ before))
     (rest : (r : Sequence) → sequence_on s h before ≡ Some r → awaits h before ≡ None) where
-  -- what is known of an event of the hart that the sequence takes in
-  abbrev IsOut : Type 0
-  IsOut = (is_taken_in e.entry.kind e.done.interrupted ≡ true) × (awaits h before ≡ None)
+  was_out : {q : Sequence} → e.entry.hart.0 ≡ h → IsOf s e before h q → awaits h before ≡ None
+  was_out own (Begins first) =
+      ap (λ k. awaits k before) (sym own) ∙ instruction_free e.entry.kind e.entry (place s e before run) first (is_free s e before run e.entry.kind refl)
+  was_out own (TakesIn r was taken) = rest r was
 
-  begun_out : (b : Bool) → is_instruction e.entry.kind ≡ b → e.entry.hart.0 ≡ h → cond b (Some (begun_with h e before)) None ≡ Some q → IsOut
-  begun_out false first own is = absurd cc
-  begun_out true first own is = (
-    instruction_taken e.entry.kind e.done.interrupted first,
-    ap (λ k. awaits k before) (sym own) ∙ instruction_free e.entry.kind e.entry (place s e before run) first (is_free s e before run e.entry.kind refl),
-  )
-
-  taken_out : (b : Bool) (r : Sequence) → is_taken_in e.entry.kind e.done.interrupted ≡ b → sequence_on s h before ≡ Some r
-      → cond b (Some (with_event e before r)) None ≡ Some q → IsOut
-  taken_out false r taken was is = absurd cc
-  taken_out true r taken was is = (taken, rest r was)
-
-  by_sequence : (o : Option Sequence) → sequence_on s h before ≡ o → e.entry.hart.0 ≡ h → taken_up h e before o ≡ Some q → IsOut
-  by_sequence None was own is = begun_out (is_instruction e.entry.kind) refl own is
-  by_sequence (Some r) was own is = taken_out (is_taken_in e.entry.kind e.done.interrupted) r refl was is
-
-  no_barrier : IsOut → is_inside_at s h before ≡ true → e.entry.hart.0 ≡ h → e.done.barrier ≡ None
-  no_barrier out inside own =
+  no_barrier : is_taken_in e.entry.kind e.done.interrupted ≡ true → is_inside_at s h before ≡ true → e.entry.hart.0 ≡ h → e.done.barrier ≡ None
+  no_barrier taken inside own =
       ap (λ (d : Done). d.barrier) (did s e before run e.entry.kind refl)
-      ∙ begins_none e.entry.kind e.entry e.done.interrupted (place s e before run) out.0 (ap (λ k. is_inside_at s k before) own ∙ inside)
+      ∙ begins_none e.entry.kind e.entry e.done.interrupted (place s e before run) taken (ap (λ k. is_inside_at s k before) own ∙ inside)
 
-  by_inside : (c : Bool) → is_inside_at s h before ≡ c → e.entry.hart.0 ≡ h
-      → cond c (taken_up h e before (sequence_on s h before)) None ≡ Some q → awaits_of_own e.done (awaits h before) ≡ None
-  by_inside false inside own is = absurd cc
-  by_inside true inside own is =
-      let out = by_sequence (sequence_on s h before) refl own is in
-      own_awaits e.done e.done.returned (awaits h before) (no_barrier out inside own) out.1
+  abbrev awaits_by : Bool → Option ℕ
+  awaits_by own = cond own (awaits_of_own e.done (awaits h before)) (cond e.done.took (option_map (without_hart e.entry.hart.0) (awaits h before)) (awaits h before))
 
-  by_hart : (b : Bool) → is_of_hart h e ≡ b
-      → cond (not b) (sequence_on s h before) (cond (is_inside_at s h before) (taken_up h e before (sequence_on s h before)) None) ≡ Some q
-      → cond b (awaits_of_own e.done (awaits h before)) (cond e.done.took (option_map (without_hart e.entry.hart.0) (awaits h before)) (awaits h before)) ≡ None
-  by_hart true own is = by_inside (is_inside_at s h before) refl (eqb-true e.entry.hart.0 h own) is
-  by_hart false other is = other_awaits e.done.took e.entry.hart.0 (awaits h before) (rest q is)
+  is_out : (q : Sequence) → SequenceStep s e before h q → awaits_by (is_of_hart h e) ≡ None
+  is_out q (Own own inside its) =
+      ap awaits_by (eq-eqb e.entry.hart.0 h own)
+      ∙ own_awaits e.done e.done.returned (awaits h before) (no_barrier (is_taken s e before h its) inside own) (was_out own its)
+  is_out q (Elsewhere other is) = ap awaits_by other ∙ other_awaits e.done.took e.entry.hart.0 (awaits h before) (rest q is)
 
 -- LOGS
 
@@ -108,4 +84,4 @@ pub in_no_barrier : (s : Setting) (before : History) (h : ℕ) (q : Sequence) �
     → awaits h before ≡ None
 in_no_barrier s [] h q run is = refl
 in_no_barrier s (e ∷ before) h q run is =
-    by_hart s e before h q run (λ r was. in_no_barrier s before h r run.0 was) (is_of_hart h e) refl is
+    is_out s e before h run (λ r was. in_no_barrier s before h r run.0 was) q (sequence_step s e before h q is)

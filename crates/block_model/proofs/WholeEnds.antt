@@ -10,8 +10,11 @@ use Rattle.mach_types.specs.declared.events.Kind.{Kind}
 use Rattle.mach_types.specs.declared.events.Kind.TheVariants as kind
 use Rattle.mach_types.specs.declared.events.Why.TheVariants.{NotInBarrier}
 use Rattle.mach_types.specs.declared.limits.End.{End}
+use Rattle.mach_types.specs.declared.limits.End.TheVariants.{Killed}
+use Rattle.mach_types.specs.declared.sequences.Area.{Area}
 use Rattle.mach_types.specs.declared.sequences.Outcome.{Outcome}
 use Rattle.mach_types.specs.declared.sequences.Outcome.TheVariants as comes_to
+use Rattle.mach_types.specs.declared.signals.TheConstants.{SIGSEGV}
 use Rattle.block_model.specs.declared.acts.SeqEnd.{SeqEnd}
 use Rattle.block_model.specs.declared.acts.SeqEnd.TheVariants as ends
 use Rattle.block_model.specs.Acts.{Sequence, abort_of, cut_or, end_before, end_so_far, hanging, hanging_after, has_died, has_killed, is_inside_at, is_taken_in, left_or_dropped, moved_out, sequence_on, taken_up, with_event}
@@ -20,34 +23,33 @@ use Rattle.block_model.specs.Events.{refusal_of}
 use Rattle.block_model.specs.Events.Finish.{refusal_done_by, refusal_return}
 use Rattle.block_model.specs.Events.Run.{refusal_run_by}
 use Rattle.block_model.specs.Here.{Done, Here, runs}
-use Rattle.block_model.specs.History.{Event, History, ended, is_of_hart}
+use Rattle.block_model.specs.History.{Event, History, ended, file, here_in_history}
 use Rattle.block_model.specs.Run.{IsRunHistory}
+use Rattle.block_model.specs.Sequences.{area_here}
 use Rattle.block_model.specs.Setting.{Setting}
-use Rattle.block_model.specs.Whole.{EndsWhole, WasTouched}
+use Rattle.block_model.specs.Whole.{EndsWhole, FindsBad, GoesOnWith, IsCutOrDead, IsCutProperly, IsDeadBy, IsLeftNull, IsLeftOrDropped, WasTouched}
 use Rattle.block_model.proofs.Ends.{neither}
 use Rattle.block_model.proofs.EventDeeds.{EventDeed, Handles, Restarts, RunKills, Runs, SignalKills, deed_of}
 use Rattle.block_model.proofs.SequencePlaces.{runs_throughout}
 use Rattle.block_model.proofs.Touched.{dropped_is_touched}
 use Rattle.block_model.proofs.WholeBarriers.{in_no_barrier}
 use Rattle.block_model.proofs.WholeEvents.{did, is_free, its_thread, not_over, place}
-use Rattle.block_model.proofs.WholeHangs.{own_now}
+use Rattle.block_model.proofs.SequenceSteps.{Elsewhere, Own, SequenceStep, is_reached, sequence_step}
 
 -- NOTHING HAD ENDED
 
 -- a sequence of which an event ended the process is the end of the run
 module _ (s : Setting) (e : Event) (before : History) (h : ℕ) (q : Sequence) where
-  alive_by : (b : Bool) → is_of_hart h e ≡ b → option_or e.done.ended (ended before) ≡ None
-      → (ended before ≡ None → sequence_on s h before ≡ Some q → has_died q ≡ false)
-      → cond (not b) (sequence_on s h before) (cond (is_inside_at s h before) (taken_up h e before (sequence_on s h before)) None) ≡ Some q
-      → has_died q ≡ false
-  alive_by true own none rest is =
-      ap (λ (r : History). elim r [ [] ↦ false | x ∷ xs ↦ has_killed x ]) (own_now s e before h q (is_inside_at s h before) is)
+  alive_by : SequenceStep s e before h q → option_or e.done.ended (ended before) ≡ None
+      → (ended before ≡ None → sequence_on s h before ≡ Some q → has_died q ≡ false) → has_died q ≡ false
+  alive_by (Own own inside its) none rest =
+      ap (λ (r : History). elim r [ [] ↦ false | x ∷ xs ↦ has_killed x ]) (is_reached s e before h its)
       ∙ ap (λ (o : Option End). is_some o) (neither e.done.ended (ended before) none).0
-  alive_by false other none rest is = rest (neither e.done.ended (ended before) none).1 is
+  alive_by (Elsewhere other is) none rest = rest (neither e.done.ended (ended before) none).1 is
 
 pub alive : (s : Setting) (before : History) (h : ℕ) (q : Sequence) → ended before ≡ None → sequence_on s h before ≡ Some q → has_died q ≡ false
 alive s [] h q none is = absurd cc
-alive s (e ∷ before) h q none is = alive_by s e before h q (is_of_hart h e) refl none (λ n was. alive s before h q n was) is
+alive s (e ∷ before) h q none is = alive_by s e before h q (sequence_step s e before h q is) none (λ n was. alive s before h q n was)
 
 -- NOTHING INTERRUPTS
 
@@ -86,22 +88,6 @@ plain_end true killed moved inside i other p q = absurd cc
 plain_end false killed moved inside (Some o) other p q = absurd cc
 plain_end false killed moved inside None other p q = refl
 
-pub not_cut : (s : Setting) (q : Sequence) (inside : Bool) (at : ℕ) → left_or_dropped s q inside ≡ ends.Cut at → ⊥
-not_cut s q true at is = cc
-not_cut s q false at is = go (moved_out s q) is
-  where
-    go : (b : Bool) → cond b ends.Left ends.Dropped ≡ ends.Cut at → ⊥
-    go true is = cc
-    go false is = cc
-
-pub not_dead : (s : Setting) (q : Sequence) (inside : Bool) → left_or_dropped s q inside ≡ ends.Dead → ⊥
-not_dead s q true is = cc
-not_dead s q false is = go (moved_out s q) is
-  where
-    go : (b : Bool) → cond b ends.Left ends.Dropped ≡ ends.Dead → ⊥
-    go true is = cc
-    go false is = cc
-
 dropped_by : (s : Setting) (q : Sequence) (inside : Bool) → left_or_dropped s q inside ≡ ends.Dropped → (inside ≡ false) × (moved_out s q ≡ false)
 dropped_by s q true is = absurd cc
 dropped_by s q false is = (refl, go (moved_out s q) refl is)
@@ -119,14 +105,6 @@ dropped_so s before h q run is lives drops =
     dropped_is_touched s before h q run is lives outside p.1
 
 -- ONE THAT ISN'T OVER HANGS
-
-pub unended_by : (s : Setting) (q : Sequence) (inside : Bool) → left_or_dropped s q inside ≡ ends.Unended → inside ≡ true
-unended_by s q true is = refl
-unended_by s q false is = absurd (go (moved_out s q) is)
-  where
-    go : (b : Bool) → cond b ends.Left ends.Dropped ≡ ends.Unended → ⊥
-    go true is = cc
-    go false is = cc
 
 -- the event isn't taken in
 not_taken : (b : Bool) (q : Sequence) → cond b (Some q) None ≡ None → b ≡ false
@@ -179,31 +157,68 @@ module _ (s : Setting) (e : Event) (before : History) (q : Sequence) (run : IsRu
       ∙ ap (λ b. cond b (sequence_on s h before) None) inside
       ∙ is
 
+-- WHAT HOLDS BY THE END
+
+-- of a sequence that ends so
+abbrev pub FitsEnd : Setting → Event → History → Sequence → SeqEnd → Type 0
+FitsEnd s e before q ends.Dead = IsDeadBy s e.entry.kind e before
+FitsEnd s e before q (ends.Cut at) = IsCutProperly s e before q at
+FitsEnd s e before q ends.Left = Unit {0}
+FitsEnd s e before q ends.Dropped = WasTouched s before q
+FitsEnd s e before q ends.Unended = hanging s q.thread (e ∷ before) ≡ Some q
+
+-- of an event that interrupts
+pub record FitsInterruption (s : Setting) (e : Event) (before : History) (q : Sequence) : Type 0 where
+  pub inside : is_inside_at s q.hart before ≡ true → IsCutOrDead (end_before s q e before)
+  pub aborted : (at : ℕ) → e.done.interrupted ≡ Some (comes_to.Aborted at) → IsCutOrDead (end_before s q e before)
+  pub kept : e.done.ended ≡ None → IsLeftOrDropped (end_before s q e before) → GoesOnWith s e.entry.kind e before q.thread (file s q.thread q.reached)
+  pub emptied : (area : Area) → e.done.ended ≡ None → area_here (here_in_history s before e.entry.hart.0) q.thread ≡ Some area
+      → IsLeftNull s e.entry.kind e before q.thread area
+  pub killed : is_some e.done.ended ≡ true → IsDeadBy s e.entry.kind e before
+  pub caused : FindsBad (here_in_history s before e.entry.hart.0) q.thread → e.done.ended ≡ Some (Killed SIGSEGV)
+
+module _ (s : Setting) (e : Event) (before : History) (q : Sequence) where
+  pub ends_whole_by : FitsEnd s e before q (end_before s q e before) → (is_some e.done.interrupted ≡ true → FitsInterruption s e before q)
+      → EndsWhole s e before q
+  ends_whole_by fits interrupts = record {
+    unended = λ is. subst (FitsEnd s e before q) is fits;
+    interrupted = λ some. (interrupts some).inside;
+    cut = λ at is. subst (FitsEnd s e before q) is fits;
+    aborted = λ at sent. (interrupts (ap (λ (o : Option Outcome). is_some o) sent)).aborted at sent;
+    dropped = λ is. subst (FitsEnd s e before q) is fits;
+    kept = λ some. (interrupts some).kept;
+    emptied = λ area some. (interrupts some).emptied area;
+    dead = λ is. subst (FitsEnd s e before q) is fits;
+    killed = λ some. (interrupts some).killed;
+    caused = λ some. (interrupts some).caused;
+  }
+
+  -- one whose thread isn't inside was left, or dropped
+  pub fits_outside : IsRunHistory s before → sequence_on s e.entry.hart.0 before ≡ Some q → has_died q ≡ false → is_inside_at s q.hart before ≡ false
+      → FitsEnd s e before q (left_or_dropped s q false)
+  fits_outside run is lives outside = by_move (moved_out s q) refl
+    where
+      by_move : (b : Bool) → moved_out s q ≡ b → FitsEnd s e before q (cond b ends.Left ends.Dropped)
+      by_move true moved = tt
+      by_move false moved =
+          dropped_so s before e.entry.hart.0 q run is lives (ap (left_or_dropped s q) outside ∙ ap (λ b. cond b ends.Left ends.Dropped) moved)
+
 pub ends_whole_uninterrupted : (s : Setting) (e : Event) (before : History) (q : Sequence) → IsRunHistory s (e ∷ before)
     → e.entry.kind ≢ kind.Signal → e.done.interrupted ≡ None → sequence_on s e.entry.hart.0 before ≡ Some q
     → sequence_on s e.entry.hart.0 (e ∷ before) ≡ None → EndsWhole s e before q
 ends_whole_uninterrupted s e before q run isnt none is over =
     let never : is_some e.done.interrupted ≡ true → ⊥ = λ some. false≢true (sym (ap (λ (o : Option Outcome). is_some o) none) ∙ some) in
-    let goes = neither (ended before) _ (not_over s e before run) in
-    let lives = alive s before e.entry.hart.0 q goes.0 is in
-    let inside = is_inside_at s q.hart before in
-    let so : end_before s q e before ≡ left_or_dropped s q inside =
-    plain_end (has_died q) (has_killed e) (moved_out s q) inside e.done.interrupted (left_or_dropped s q inside) lives none in
+    let lives = alive s before e.entry.hart.0 q (neither (ended before) _ (not_over s e before run)).0 is in
+    let so : end_before s q e before ≡ left_or_dropped s q (is_inside_at s q.hart before) =
+    plain_end (has_died q) (has_killed e) (moved_out s q) (is_inside_at s q.hart before) e.done.interrupted _ lives none in
     let hart = (runs_throughout s before e.entry.hart.0 q run.0 is).hart in
-    record {
-      unended = λ goes_on.
-          let there : is_inside_at s e.entry.hart.0 before ≡ true = ap (λ k. is_inside_at s k before) (sym hart) ∙ unended_by s q inside (sym so ∙ goes_on) in
-          hangs_then s e before q run isnt none is over there;
-      interrupted = λ some there. absurd (never some);
-      cut = λ at cuts. absurd (not_cut s q inside at (sym so ∙ cuts));
-      aborted = λ at sent. let other : None ≡ Some (comes_to.Aborted at) = sym none ∙ sent in absurd cc;
-      dropped = λ drops. dropped_so s before e.entry.hart.0 q run.0 is lives (sym so ∙ drops);
-      kept = λ some goes_on left. absurd (never some);
-      emptied = λ area some goes_on registered. absurd (never some);
-      dead = λ dies. absurd (not_dead s q inside (sym so ∙ dies));
-      killed = λ some ends_it. absurd (never some);
-      caused = λ some found. absurd (never some);
-    }
+    let at_hart : is_inside_at s e.entry.hart.0 before ≡ is_inside_at s q.hart before = ap (λ k. is_inside_at s k before) (sym hart) in
+    ends_whole_by s e before q (subst (FitsEnd s e before q) (sym so) (by_inside lives at_hart (is_inside_at s q.hart before) refl)) (λ some. absurd (never some))
+  where
+    by_inside : has_died q ≡ false → is_inside_at s e.entry.hart.0 before ≡ is_inside_at s q.hart before → (b : Bool) → is_inside_at s q.hart before ≡ b
+        → FitsEnd s e before q (left_or_dropped s q b)
+    by_inside lives at_hart true inside = hangs_then s e before q run isnt none is over (at_hart ∙ inside)
+    by_inside lives at_hart false outside = fits_outside s e before q run.0 is lives outside
 
 -- one that has ended as dropped at a place, where nothing ended the process
 died_or : (died : Bool) (other : SeqEnd) → cond died ends.Dead other ≡ ends.Dropped → (died ≡ false) × (other ≡ ends.Dropped)

@@ -24,12 +24,12 @@ use Rattle.block_model.specs.History.{Event, History, ended, file, here_in_histo
 use Rattle.block_model.specs.Run.{IsRunHistory}
 use Rattle.block_model.specs.Sequences.{area_here, interruption_here, is_inside_here, is_inside_waiting, named_over}
 use Rattle.block_model.specs.Setting.{Setting}
-use Rattle.block_model.specs.Whole.{EndsWhole, FindsBad, GoesOnWith, IsCutProperly, IsDeadBy, IsLeftNull, IsLeftOrDropped, RunsThroughout}
+use Rattle.block_model.specs.Whole.{EndsWhole, FindsBad, GoesOnWith, IsCutOrDead, IsCutProperly, IsDeadBy, IsLeftNull, IsLeftOrDropped, RunsThroughout}
 use Rattle.block_model.proofs.Ends.{neither}
 use Rattle.block_model.proofs.SequencePlaces.{runs_throughout}
 use Rattle.block_model.proofs.TouchedHanging.{sees_memory}
 use Rattle.block_model.proofs.WholeCauses.{found_by, outside_goes_on}
-use Rattle.block_model.proofs.WholeEnds.{alive, dropped_so, not_cut, not_dead, unended_by}
+use Rattle.block_model.proofs.WholeEnds.{FitsEnd, FitsInterruption, alive, ends_whole_by, fits_outside}
 use Rattle.block_model.proofs.WholeEvents.{not_over, place}
 use Rattle.block_model.proofs.WholeHangs.{reached_file}
 use Rattle.block_model.proofs.WholeInterruptions.{InsideOf, first_cleared, inside_of}
@@ -136,20 +136,24 @@ module _ (s : Setting) (e : Event) (before : History) (q : Sequence) (run : IsRu
 
   -- THE PROCESS IS KILLED
 
+  -- what it makes of the sequence, by what the end is
+  interrupts : (is_inside_at s q.hart before ≡ true → IsCutOrDead (end_before s q e before))
+      → ((at : ℕ) → e.done.interrupted ≡ Some (comes_to.Aborted at) → IsCutOrDead (end_before s q e before))
+      → (e.done.ended ≡ None → IsLeftOrDropped (end_before s q e before) → GoesOnWith s e.entry.kind e before t (file s t q.reached))
+      → FitsInterruption s e before q
+  interrupts inside aborted kept = record {
+    inside = inside;
+    aborted = aborted;
+    kept = kept;
+    emptied = λ area goes_on registered. its.null (goes_so goes_on) area registered;
+    killed = its.dead;
+    caused = its.found;
+  }
+
   by_death : has_killed e ≡ true → end_before s q e before ≡ ends.Dead → EndsWhole s e before q
   by_death killed dead =
-      record {
-        unended = λ goes_on. let other : ends.Dead ≡ ends.Unended = sym dead ∙ goes_on in absurd cc;
-        interrupted = λ some inside. inl dead;
-        cut = λ at cuts. let other : ends.Dead ≡ ends.Cut at = sym dead ∙ cuts in absurd cc;
-        aborted = λ at sent. inl dead;
-        dropped = λ drops. let other : ends.Dead ≡ ends.Dropped = sym dead ∙ drops in absurd cc;
-        kept = λ some goes_on left. absurd (false≢true (sym (goes_so goes_on) ∙ killed));
-        emptied = λ area some goes_on registered. absurd (false≢true (sym (goes_so goes_on) ∙ killed));
-        dead = λ dies. its.dead killed;
-        killed = λ some ends_it. its.dead ends_it;
-        caused = λ some found. its.found found;
-      }
+      ends_whole_by s e before q (subst (FitsEnd s e before q) (sym dead) (its.dead killed))
+      (λ some. interrupts (λ inside. inl dead) (λ at sent. inl dead) (λ goes_on left. absurd (false≢true (sym (goes_so goes_on) ∙ killed))))
 
   -- INSIDE
 
@@ -190,21 +194,8 @@ module _ (s : Setting) (e : Event) (before : History) (q : Sequence) (run : IsRu
     by_cut =
         let so : end_before s q e before ≡ ends.Cut abort =
         end_is false true alive_on inside ∙ ap (λ o. ending s q false false (moved_out s q) true (Some o)) aborts in
-        record {
-          unended = λ goes_on. let other : ends.Cut abort ≡ ends.Unended = sym so ∙ goes_on in absurd cc;
-          interrupted = λ some there_is. inr (abort, so);
-          cut = λ at cuts.
-              let equal : ends.Cut abort ≡ ends.Cut at = sym so ∙ cuts in
-              let same : abort ≡ at = cc in
-              subst (IsCutProperly s e before q) same cut_so;
-          aborted = λ at sent. inr (abort, so);
-          dropped = λ drops. let other : ends.Cut abort ≡ ends.Dropped = sym so ∙ drops in absurd cc;
-          kept = λ some goes_on left. absurd (not_left_cut abort (subst IsLeftOrDropped so left));
-          emptied = λ area some goes_on registered. its.null alive_on area registered;
-          dead = λ dies. let other : ends.Cut abort ≡ ends.Dead = sym so ∙ dies in absurd cc;
-          killed = λ some ends_it. its.dead ends_it;
-          caused = λ some found. absurd (false≢true (sym alive_on ∙ found_kills found));
-        }
+        ends_whole_by s e before q (subst (FitsEnd s e before q) (sym so) cut_so)
+        (λ some. interrupts (λ there_is. inr (abort, so)) (λ at sent. inr (abort, so)) (λ goes_on left. absurd (not_left_cut abort (subst IsLeftOrDropped so left))))
 
   by_outcome : (killed : Bool) → has_killed e ≡ killed → is_inside_waiting here t ≡ true
       → InsideOf (memory here) (is_writable here) (area_here here t) (here.file t).pc → EndsWhole s e before q
@@ -220,23 +211,14 @@ module _ (s : Setting) (e : Event) (before : History) (q : Sequence) (run : IsRu
   by_left : is_inside_waiting here t ≡ false → end_before s q e before ≡ left_or_dropped s q false → EndsWhole s e before q
   by_left outside so =
       let there_is : is_inside_at s q.hart before ≡ false = inside_at_is ∙ outside in
-      record {
-        unended = λ goes_on. absurd (false≢true (unended_by s q false (sym so ∙ goes_on)));
-        interrupted = λ some inside. absurd (false≢true (sym there_is ∙ inside));
-        cut = λ at cuts. absurd (not_cut s q false at (sym so ∙ cuts));
-        aborted = λ at sent.
-            let equal : Some outcome ≡ Some (comes_to.Aborted at) = sym its.told ∙ sent in
-            let aborts : outcome ≡ comes_to.Aborted at = cc in
-            absurd (outside_goes_on here (here.file t).pc (area_here here t) at outside aborts);
-        dropped = λ drops.
-            dropped_so s before e.entry.hart.0 q run.0 newest lives (ap (left_or_dropped s q) there_is ∙ sym so ∙ drops);
-        kept = λ some goes_on left.
-            its.goes_on (goes_so goes_on) _ (same_file here t outcome refl outside ∙ reached_file s before e.entry.hart.0 q run.0 newest);
-        emptied = λ area some goes_on registered. its.null (goes_so goes_on) area registered;
-        dead = λ dies. absurd (not_dead s q false (sym so ∙ dies));
-        killed = λ some ends_it. its.dead ends_it;
-        caused = λ some found. its.found found;
-      }
+      let never_sent : (at : ℕ) → e.done.interrupted ≡ Some (comes_to.Aborted at) → ⊥ =
+      λ at sent.
+      let equal : Some outcome ≡ Some (comes_to.Aborted at) = sym its.told ∙ sent in
+      let aborts : outcome ≡ comes_to.Aborted at = cc in
+      outside_goes_on here (here.file t).pc (area_here here t) at outside aborts in
+      ends_whole_by s e before q (subst (FitsEnd s e before q) (sym so) (fits_outside s e before q run.0 newest lives there_is))
+      (λ some. interrupts (λ inside. absurd (false≢true (sym there_is ∙ inside))) (λ at sent. absurd (never_sent at sent))
+      (λ goes_on left. its.goes_on (goes_so goes_on) _ (same_file here t outcome refl outside ∙ reached_file s before e.entry.hart.0 q run.0 newest)))
 
   by_end : (killed : Bool) → has_killed e ≡ killed → is_inside_waiting here t ≡ false
       → ((ending s q false killed (moved_out s q) false (Some outcome) ≡ ends.Dead) × (killed ≡ true))

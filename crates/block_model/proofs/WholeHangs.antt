@@ -1,16 +1,15 @@
 -- Where the thread of a sequence that hangs is: it is ready, and its registers and its pc are those that the sequence left.
-use Rattle.std.proofs.Common.{◌≡◌, ◌≢◌, ℕ, List, [], ◌∷◌, refl, sym, ap, ◌∙◌, subst, Bool, true, false, not, cond, eqb, Option, Some, None}
-use Rattle.std.proofs.lemmas.Bool.{eqb-true, eqb-false}
+use Rattle.std.proofs.Common.{◌≡◌, ◌≢◌, ℕ, List, [], ◌∷◌, refl, sym, ap, ◌∙◌, subst, true, Option, Some, None}
+use Rattle.std.proofs.lemmas.Bool.{eqb-false}
 use Rattle.mach_types.specs.Kernel.Threads.{is_ready, state_of}
-use Rattle.mach_types.specs.declared.events.Kind.{Kind}
 use Rattle.mach_types.specs.declared.events.Kind.TheVariants as kind
 use Rattle.mach_types.specs.declared.threads.Saved.{Saved}
 use Rattle.mach_types.specs.declared.threads.ThreadState.TheVariants.{Ready}
-use Rattle.block_model.specs.Acts.{Sequence, begun_with, hanging, hanging_after, is_inside_at, is_instruction, is_taken_in, sequence_on, taken_up, with_event}
+use Rattle.block_model.specs.Acts.{Sequence, hanging, sequence_on}
 use Rattle.block_model.specs.Deciding.{number_of}
 use Rattle.block_model.specs.Events.Preempt.{done_preempt_by}
 use Rattle.block_model.specs.Here.{Done, Here, runs}
-use Rattle.block_model.specs.History.{Event, History, file, file_among, is_of_hart, kernel}
+use Rattle.block_model.specs.History.{Event, History, file, file_among, kernel}
 use Rattle.block_model.specs.Run.{IsRunHistory}
 use Rattle.block_model.specs.Setting.{Setting}
 use Rattle.block_model.specs.Tables.{on}
@@ -18,31 +17,18 @@ use Rattle.block_model.proofs.KernelTables.{its_ready, running_is, state_now}
 use Rattle.block_model.proofs.ReadyFiles.{ready_file_stays, ready_stays}
 use Rattle.block_model.proofs.Runs.{fit_at}
 use Rattle.block_model.proofs.SequencePlaces.{runs_throughout}
+use Rattle.block_model.proofs.SequenceSteps.{Elsewhere, HangingStep, HangsOn, Own, Preempted, SequenceStep, hanging_step, is_reached, sequence_step}
 use Rattle.block_model.proofs.WholeEvents.{did, its_thread, place, tables_before}
 
 -- UNTIL THE NEXT EVENT OF THE HART
 
--- the file of the thread of a sequence stays as its last event left it
+-- the file of the thread of a sequence stays as its last event left it, or that of an event of another hart
 module _ (s : Setting) (e : Event) (before : History) (h : ℕ) (q : Sequence) where
-  reached_now : (b : Bool) (r : Sequence) → r.reached ≡ e ∷ before → cond b (Some r) None ≡ Some q → q.reached ≡ e ∷ before
-  reached_now true r there is = let same : r ≡ q = cc in ap (λ (x : Sequence). x.reached) (sym same) ∙ there
-  reached_now false r there is = absurd cc
-
-  taken_now : (o : Option Sequence) → taken_up h e before o ≡ Some q → q.reached ≡ e ∷ before
-  taken_now None is = reached_now (is_instruction e.entry.kind) (begun_with h e before) refl is
-  taken_now (Some r) is = reached_now (is_taken_in e.entry.kind e.done.interrupted) (with_event e before r) refl is
-
-  pub own_now : (c : Bool) → cond c (taken_up h e before (sequence_on s h before)) None ≡ Some q → q.reached ≡ e ∷ before
-  own_now true is = taken_now (sequence_on s h before) is
-  own_now false is = absurd cc
-
-  -- or that of an event of another hart
-  by_hart : (b : Bool) → is_of_hart h e ≡ b → IsRunHistory s (e ∷ before)
+  file_by : SequenceStep s e before h q → IsRunHistory s (e ∷ before)
       → (sequence_on s h before ≡ Some q → file s q.thread before ≡ file s q.thread q.reached)
-      → cond (not b) (sequence_on s h before) (cond (is_inside_at s h before) (taken_up h e before (sequence_on s h before)) None) ≡ Some q
       → file s q.thread (e ∷ before) ≡ file s q.thread q.reached
-  by_hart true own run rest is = ap (file s q.thread) (sym (own_now (is_inside_at s h before) is))
-  by_hart false other run rest is =
+  file_by (Own own inside its) run rest = ap (file s q.thread) (sym (is_reached s e before h its))
+  file_by (Elsewhere other is) run rest =
       let there = runs_throughout s before h q run.0 is in
       let apart : h ≢ e.entry.hart.0 = λ same. eqb-false e.entry.hart.0 h other (sym same) in
       (fit_at s e before run).apart h q.thread (file s q.thread before) apart there.now ∙ rest is
@@ -51,7 +37,7 @@ pub reached_file : (s : Setting) (before : History) (h : ℕ) (q : Sequence) →
     → file s q.thread before ≡ file s q.thread q.reached
 reached_file s [] h q run is = absurd cc
 reached_file s (e ∷ before) h q run is =
-    by_hart s e before h q (is_of_hart h e) refl run (λ was. reached_file s before h q run.0 was) is
+    file_by s e before h q (sequence_step s e before h q is) run (λ was. reached_file s before h q run.0 was)
 
 -- WHILE IT HANGS
 
@@ -100,29 +86,11 @@ goes_on_hanging s e before t q run other was = record {
 
 module _ (s : Setting) (e : Event) (before : History) (t : ℕ) (q : Sequence) (run : IsRunHistory s (e ∷ before))
     (rest : hanging s t before ≡ Some q → Hangs s before t q) where
-  begins_inside : (b : Bool) → e.entry.kind ≡ kind.Preempt → e.entry.tid.0 ≡ t → cond b (sequence_on s e.entry.hart.0 before) None ≡ Some q
-      → Hangs s (e ∷ before) t q
-  begins_inside true is own was = begins_to s e before t q run is own was
-  begins_inside false is own was = absurd cc
-
-  still : (k : Kind) → e.entry.kind ≡ k → k ≢ kind.Run → hanging s t before ≡ Some q → Hangs s (e ∷ before) t q
-  still k is isnt was = goes_on_hanging s e before t q run (λ runs own. isnt (sym is ∙ runs)) (rest was)
-
-  by_kind : (k : Kind) → e.entry.kind ≡ k → e.entry.tid.0 ≡ t → hanging_after s t e before k (hanging s t before) ≡ Some q → Hangs s (e ∷ before) t q
-  by_kind kind.Preempt is own was = begins_inside (is_inside_at s e.entry.hart.0 before) is own was
-  by_kind kind.Run is own was = absurd cc
-  by_kind kind.Exec is own was = still kind.Exec is (λ same. cc) was
-  by_kind kind.Drain is own was = still kind.Drain is (λ same. cc) was
-  by_kind kind.Take is own was = still kind.Take is (λ same. cc) was
-  by_kind kind.Done is own was = still kind.Done is (λ same. cc) was
-  by_kind kind.Signal is own was = still kind.Signal is (λ same. cc) was
-
-  by_thread : (b : Bool) → eqb e.entry.tid.0 t ≡ b
-      → cond b (hanging_after s t e before e.entry.kind (hanging s t before)) (hanging s t before) ≡ Some q → Hangs s (e ∷ before) t q
-  by_thread true own was = by_kind e.entry.kind refl (eqb-true e.entry.tid.0 t own) was
-  by_thread false other was = goes_on_hanging s e before t q run (λ runs own. eqb-false e.entry.tid.0 t other own) (rest was)
+  hangs_by : HangingStep s e before t q → Hangs s (e ∷ before) t q
+  hangs_by (HangsOn was other) = goes_on_hanging s e before t q run other (rest was)
+  hangs_by (Preempted is own inside was) = begins_to s e before t q run is own was
 
 pub hangs : (s : Setting) (before : History) (t : ℕ) (q : Sequence) → IsRunHistory s before → hanging s t before ≡ Some q → Hangs s before t q
 hangs s [] t q run is = absurd cc
 hangs s (e ∷ before) t q run is =
-    by_thread s e before t q run (λ was. hangs s before t q run.0 was) (eqb e.entry.tid.0 t) refl is
+    hangs_by s e before t q run (λ was. hangs s before t q run.0 was) (hanging_step s e before t q is)

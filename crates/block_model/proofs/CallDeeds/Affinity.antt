@@ -12,13 +12,15 @@ module _ (here : Here) (t number : ℕ) where
   pub deed_setaffinity : CallDeed here t number (sched_setaffinity here t)
   deed_setaffinity =
       let set = set_given here t in
-      let below = harts_in_below (set_at here (argument here t 2) (int_argument here t 1)) here.setting.limits.harts in
+      let below = harts_in_below
+      (set_at here (argument here t 2) (int_argument here t 1)) here.setting.limits.harts in
       by_errors (setaffinity_errors here t) _ (λ none.
       let some = eqb-false set 0 none.1.1.1.0 in
       answers_0 [] _ (step_either (has_hart set here.hart) (Stays set below some) (MovesOff set below some)))
 
   pub deed_getaffinity : CallDeed here t number (sched_getaffinity here t)
-  deed_getaffinity = by_errors (getaffinity_errors here t) _ (λ _. Answers 8 _ _ (λ _. small_no_error 8 (omega arith)) Same)
+  deed_getaffinity = by_errors (getaffinity_errors here t) _
+      (λ _. Answers 8 _ _ (λ _. small_no_error 8 (omega arith)) Same)
 
   pub deed_yield : CallDeed here t number (sched_yield here t)
   deed_yield = answers_0 [] _ Leaves

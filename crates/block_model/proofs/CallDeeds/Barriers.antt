@@ -33,17 +33,20 @@ use Rattle.block_model.proofs.Good.{IsGoodHere}
 use Rattle.block_model.proofs.KernelTables.{found_passes}
 
 -- a thread runs on each hart that is in the set of those
-runs_there : (ts : Threads) (harts k : ℕ) → has_hart (running_harts ts harts) k ≡ true → running_on k ts ≢ None
+runs_there : (ts : Threads) (harts k : ℕ) → has_hart (running_harts ts harts) k ≡ true
+    → running_on k ts ≢ None
 runs_there ts harts k is none =
     let all = sym (has_hart-harts_that (λ h. is_some (running_on h ts)) harts k) ∙ is in
     let some = (and_parts (is_some (running_on k ts)) (ltb k harts) all).0 in
     absurd (false≢true (sym (ap (λ (o : Option ℕ). is_some o) none) ∙ some))
 
 -- a target is another hart of the machine, and in the set of those on which threads run
-module _ (flags : ℕ) (cpu : ℤ) (here running harts k : ℕ) (is : has_hart (targets flags cpu here running harts) k ≡ true) where
+module _ (flags : ℕ) (cpu : ℤ) (here running harts k : ℕ)
+    (is : has_hart (targets flags cpu here running harts) k ≡ true) where
   in_both : (is_target flags cpu here running k ≡ true) × (ltb k harts ≡ true)
   in_both =
-      and_parts (is_target flags cpu here running k) (ltb k harts) (sym (has_hart-harts_that (is_target flags cpu here running) harts k) ∙ is)
+      and_parts (is_target flags cpu here running k) (ltb k harts)
+      (sym (has_hart-harts_that (is_target flags cpu here running) harts k) ∙ is)
 
   runs_apart : (has_hart running k ≡ true) × (not (eqb k here) ≡ true)
   runs_apart =
@@ -63,7 +66,8 @@ module _ (flags : ℕ) (cpu : ℤ) (here running harts k : ℕ) (is : has_hart (
   target_below = ltb-true k harts in_both.1
 
 at_targets : (here : Here) (flags : ℕ) (cpu : ℤ) (set : ℕ) (restart : Bool) → IsGoodHere here
-    → set ≡ targets flags cpu here.hart (running_harts here.kernel.threads here.setting.limits.harts) here.setting.limits.harts → set ≢ 0
+    → set ≡ targets flags cpu here.hart
+    (running_harts here.kernel.threads here.setting.limits.harts) here.setting.limits.harts → set ≢ 0
     → IsAtOthers here (record { targets = set; restart = restart })
 at_targets here flags cpu set restart good is some =
     let harts = here.setting.limits.harts in
@@ -78,7 +82,8 @@ at_targets here flags cpu set restart good is some =
           omega arith;
       apart = λ k has. target_apart flags cpu here.hart running harts k (in_targets k has);
       below = λ k has. target_below flags cpu here.hart running harts k (in_targets k has);
-      ran = λ k has. runs_there here.kernel.threads harts k (target_runs flags cpu here.hart running harts k (in_targets k has));
+      ran = λ k has. runs_there here.kernel.threads harts k
+          (target_runs flags cpu here.hart running harts k (in_targets k has));
     }
 
 -- the command that a call asks for is the low 32 bits of a0
@@ -86,7 +91,8 @@ asked_number : (cmd : ℤ) (flags : ℕ) (c : BarrierCommand) → asked cmd flag
 unfolding asked
 asked_number cmd flags c is =
     let passes = found_passes (is_asked cmd flags) offered c is in
-    (Decides-int_eq cmd (pos (number_of c))).0 (and_parts (int_eq cmd (pos (number_of c))) (takes_flags flags c) passes).0
+    (Decides-int_eq cmd (pos (number_of c))).0
+    (and_parts (int_eq cmd (pos (number_of c))) (takes_flags flags c) passes).0
 
 low_number : (v n : ℕ) → signed_32 v ≡ pos n → v % 2 ^ 32 ≡ n
 low_number v n is = sym (of_z-to_z w32 (v % 2 ^ 32) (mod-lt v (omega arith))) ∙ ap (cast_unsigned w32) is
@@ -113,7 +119,8 @@ not_so_low n errno most low same = omega arith
 
 number_no_error : (v n : ℕ) → v % 2 ^ 32 ≡ n → n < 2 ^ 10 → IsError v → ⊥
 number_no_error v n is low error =
-    not_so_low n error.errno error.most low (sym is ∙ ap (λ m. m % 2 ^ 32) error.is ∙ error_low error.errno error.least error.most)
+    not_so_low n error.errno error.most low
+    (sym is ∙ ap (λ m. m % 2 ^ 32) error.is ∙ error_low error.errno error.least error.most)
 
 counted_low : (b : Bool) (c : BarrierCommand) → counted_if b c < 2 ^ 10
 counted_low true c = number_low c
@@ -137,9 +144,11 @@ module _ (here : Here) (t number : ℕ) where
   barriers_after = registered_after here.kernel.barriers cmd flags
 
   abbrev set : ℕ
-  set = targets flags (signed_32 (argument here t 2)) here.hart (running_harts here.kernel.threads here.setting.limits.harts) here.setting.limits.harts
+  set = targets flags (signed_32 (argument here t 2)) here.hart
+      (running_harts here.kernel.threads here.setting.limits.harts) here.setting.limits.harts
 
-  either_answer : (b : Bool) (x y : Answer) → (b ≡ true → CallDeed here t number (answers here t x)) → (b ≡ false → CallDeed here t number (answers here t y))
+  either_answer : (b : Bool) (x y : Answer) → (b ≡ true → CallDeed here t number (answers here t x))
+      → (b ≡ false → CallDeed here t number (answers here t y))
       → CallDeed here t number (answers here t (cond b x y))
   either_answer true x y p q = p refl
   either_answer false x y p q = q refl
@@ -148,39 +157,53 @@ module _ (here : Here) (t number : ℕ) where
   deed_value : (n : ℕ) → n < 2 ^ 32 → CallDeed here t number (answers here t (Value (pos n)))
   deed_value n small = Answers n [] _ (λ _. small_no_error n small) (EnrolsFor barriers_after)
 
-  deed_refusal : (e : Errno) → word (neg_ℤ (pos e.0)) ≡ negative e.0 → barriers_after ≡ here.kernel.barriers → CallDeed here t number (answers here t (refusal e))
+  deed_refusal : (e : Errno) → word (neg_ℤ (pos e.0)) ≡ negative e.0 → barriers_after ≡ here.kernel.barriers
+      → CallDeed here t number (answers here t (refusal e))
   deed_refusal e is same =
-      let barriers = λ (r : Registered). record (said here t (word (neg_ℤ (pos e.0)))) { kernel = for_barriers r here.kernel } in
+      let barriers = λ (r : Registered). record
+      (said here t (word (neg_ℤ (pos e.0)))) { kernel = for_barriers r here.kernel } in
       subst (λ (c : CallDone). CallDeed here t number c) (sym (ap barriers same)) (Says _)
 
   -- the command of a refusal registers nothing
-  kept : (c : BarrierCommand) → asked cmd flags ≡ Some c → registered_by here.kernel.barriers c ≡ here.kernel.barriers → barriers_after ≡ here.kernel.barriers
-  kept c is same = ap (λ o. option_map_or (registered_by here.kernel.barriers) o here.kernel.barriers) is ∙ same
+  kept : (c : BarrierCommand) → asked cmd flags ≡ Some c
+      → registered_by here.kernel.barriers c ≡ here.kernel.barriers → barriers_after ≡ here.kernel.barriers
+  kept c is same = ap (λ o. option_map_or (registered_by here.kernel.barriers) o here.kernel.barriers) is
+      ∙ same
 
-  deed_barrier : (c : BarrierCommand) (restart : Bool) → asked cmd flags ≡ Some c → CallDeed here t number (answers here t (barrier_at set restart))
+  deed_barrier : (c : BarrierCommand) (restart : Bool) → asked cmd flags ≡ Some c
+      → CallDeed here t number (answers here t (barrier_at set restart))
   deed_barrier c restart is =
       either_answer (eqb set 0) _ _ (λ _. deed_value 0 (omega arith)) (λ some.
       let low = low_number (argument here t 0) (number_of c) (asked_number cmd flags c is) in
-      Begins set restart (λ good. at_targets here flags (signed_32 (argument here t 2)) set restart good refl (eqb-false set 0 some))
+      Begins set restart (λ good. at_targets here flags (signed_32 (argument here t 2)) set restart good refl
+      (eqb-false set 0 some))
       (number_no_error (argument here t 0) (number_of c) low (number_low c)))
 
-  deed_command : (c : BarrierCommand) → asked cmd flags ≡ Some c → CallDeed here t number (answers here t (answer_of here.kernel.barriers set c))
+  deed_command : (c : BarrierCommand) → asked cmd flags ≡ Some c
+      → CallDeed here t number (answers here t (answer_of here.kernel.barriers set c))
   deed_command Query is = deed_value query_value (omega arith)
   deed_command Global is = deed_barrier Global false is
   deed_command GlobalExpedited is =
-      either_answer here.kernel.barriers.global _ _ (λ _. deed_barrier GlobalExpedited false is) (λ _. deed_value 0 (omega arith))
+      either_answer here.kernel.barriers.global _ _ (λ _. deed_barrier GlobalExpedited false is)
+      (λ _. deed_value 0 (omega arith))
   deed_command RegisterGlobalExpedited is = deed_value 0 (omega arith)
   deed_command PrivateExpedited is =
-      either_answer here.kernel.barriers.private _ _ (λ _. deed_barrier PrivateExpedited false is) (λ _. deed_refusal EPERM refl (kept PrivateExpedited is refl))
+      either_answer here.kernel.barriers.private _ _ (λ _. deed_barrier PrivateExpedited false is)
+      (λ _. deed_refusal EPERM refl (kept PrivateExpedited is refl))
   deed_command RegisterPrivateExpedited is = deed_value 0 (omega arith)
   deed_command PrivateExpeditedRseq is =
-      either_answer here.kernel.barriers.rseq _ _ (λ _. deed_barrier PrivateExpeditedRseq true is) (λ _. deed_refusal EPERM refl (kept PrivateExpeditedRseq is refl))
+      either_answer here.kernel.barriers.rseq _ _ (λ _. deed_barrier PrivateExpeditedRseq true is)
+      (λ _. deed_refusal EPERM refl (kept PrivateExpeditedRseq is refl))
   deed_command RegisterPrivateExpeditedRseq is = deed_value 0 (omega arith)
-  deed_command GetRegistrations is = deed_value (registrations here.kernel.barriers) (registrations_low here.kernel.barriers)
+  deed_command GetRegistrations is =
+      deed_value (registrations here.kernel.barriers) (registrations_low here.kernel.barriers)
 
   deed_found : (o : Option BarrierCommand) → asked cmd flags ≡ o
-      → CallDeed here t number (answers here t (option_map_or (answer_of here.kernel.barriers set) o (refusal EINVAL)))
-  deed_found None is = deed_refusal EINVAL refl (ap (λ o. option_map_or (registered_by here.kernel.barriers) o here.kernel.barriers) is)
+      → CallDeed here t number
+      (answers here t (option_map_or (answer_of here.kernel.barriers set) o (refusal EINVAL)))
+  deed_found None is =
+      deed_refusal EINVAL refl
+      (ap (λ o. option_map_or (registered_by here.kernel.barriers) o here.kernel.barriers) is)
   deed_found (Some c) is = deed_command c is
 
   pub deed_membarrier : CallDeed here t number (membarrier here t)

@@ -15,10 +15,13 @@ module _ (here : Here) (t number : ℕ) where
       either (eqb (total spans) 0) (λ _. Says 0) (λ _.
       by_errors (span_errors here spans) _ (λ none.
       let more = leb-false CONSOLE_ROOM (length here.kernel.console) none.1.0 in
-      Answers (length some) [] _ (λ _. small_no_error (length some) (omega arith)) (Prints some (omega arith))))
+      Answers (length some) [] _ (λ _. small_no_error (length some) (omega arith))
+      (Prints some (omega arith))))
 
   pub deed_write : CallDeed here t number (write here t)
-  deed_write = by_errors (write_errors here t) _ (λ _. deed_spans (record { at = argument here t 1; len = argument here t 2 } ∷ []))
+  deed_write = by_errors (write_errors here t) _
+      (λ _. deed_spans (record { at = argument here t 1; len = argument here t 2 } ∷ []))
 
   pub deed_writev : CallDeed here t number (writev here t)
-  deed_writev = by_errors (writev_errors here t) _ (λ _. deed_spans (spans_at here (argument here t 1) (argument here t 2)))
+  deed_writev = by_errors (writev_errors here t) _
+      (λ _. deed_spans (spans_at here (argument here t 1) (argument here t 2)))

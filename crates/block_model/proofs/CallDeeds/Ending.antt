@@ -8,7 +8,8 @@ use Rattle.block_model.proofs.CallDeeds.{CallDeed, Ends, Exits, either}
 module _ (here : Here) (t number : ℕ) where
   pub deed_exit : CallDeed here t number (exit here t)
   deed_exit =
-      either (is_last here) (λ _. Ends (clearing here t) (ended_with here t) (λ is. absurd cc)) (λ more. Exits (leb-false (length here.kernel.threads.live) 1 more))
+      either (is_last here) (λ _. Ends (clearing here t) (ended_with here t) (λ is. absurd cc))
+      (λ more. Exits (leb-false (length here.kernel.threads.live) 1 more))
 
   pub deed_exit_group : CallDeed here t number (exit_group here t)
   deed_exit_group = Ends [] (ended_with here t) (λ is. absurd cc)

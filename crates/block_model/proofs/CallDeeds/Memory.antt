@@ -1,4 +1,5 @@
--- brk(2), mmap(2), munmap(2) and mprotect(2): a page that such a call doesn't take can be written after it where it could before.
+-- brk(2), mmap(2), munmap(2) and mprotect(2): a page that such a call doesn't take can be written after it
+-- where it could before.
 use Rattle.std.proofs.Common.{◌≡◌, ℕ, ◌-◌, ◌/◌, ◌≤◌, inl, inr, List, [], ◌∷◌, refl, sym, subst, arith, Bool, true, false, cond, ◌&&◌, leb, ltb, Option, Some, None, Result, Ok, Err, is_none}
 use Rattle.std.proofs.lemmas.Bool.{and_parts, cases_lt, false≢true, le-leb, leb-true, lt-ltb, le-ltb}
 use Rattle.mach_types.proofs.Laws.{each_page-at}
@@ -25,15 +26,20 @@ address_no_error n low error =
     omega arith
 
 -- a call that answers 0 unless it is refused
-deed_changed : (here : Here) (t number : ℕ) (o : Option Errno) (r : PageRun) (pages : Pages) → taken_by number here t ≡ unless_refused o r
-    → StaysWritable here.kernel.pages r pages → (o ≡ None → IsPaged here.setting here.kernel.pages → IsPaged here.setting pages)
+deed_changed : (here : Here) (t number : ℕ) (o : Option Errno) (r : PageRun) (pages : Pages)
+    → taken_by number here t ≡ unless_refused o r
+    → StaysWritable here.kernel.pages r pages
+    → (o ≡ None → IsPaged here.setting here.kernel.pages → IsPaged here.setting pages)
     → CallDeed here t number (changed_unless here t o pages)
 deed_changed here t number (Some e) r pages takes stays paged_after = Says _
 deed_changed here t number None r pages takes stays paged_after =
-    answers_0 [] _ (Remaps pages (subst (λ (r : PageRun). StaysWritable here.kernel.pages r pages) (sym takes) stays) (paged_after refl))
+    answers_0 [] _ (Remaps pages
+    (subst (λ (r : PageRun). StaysWritable here.kernel.pages r pages) (sym takes) stays)
+    (paged_after refl))
 
 -- outside a run that lies over them pages have the permissions that they had
-over_stays : (r : PageRun) (rs : List PageRun) (n : ℕ) → is_in r n ≡ false → can_write (permission_of rs n) ≡ true
+over_stays : (r : PageRun) (rs : List PageRun) (n : ℕ) → is_in r n ≡ false
+    → can_write (permission_of rs n) ≡ true
     → can_write (permission_of (r ∷ rs) n) ≡ true
 over_stays r rs n outside may = rw outside may
 
@@ -41,7 +47,8 @@ pub deed_munmap : (here : Here) (t : ℕ) → CallDeed here t 215 (munmap here t
 deed_munmap here t =
     let p = argument here t 0 in
     let len = argument here t 1 in
-    deed_changed here t 215 (munmap_refusal (permission_here here) p len) (run (p / PAGE_SIZE) (pages_of len) None) (unmapped p len here.kernel.pages) refl
+    deed_changed here t 215 (munmap_refusal (permission_here here) p len)
+    (run (p / PAGE_SIZE) (pages_of len) None) (unmapped p len here.kernel.pages) refl
     (over_stays _ here.kernel.pages.runs) (paged_munmap here.setting here.kernel.pages p len)
 
 pub deed_mprotect : (here : Here) (t : ℕ) → CallDeed here t 226 (mprotect here t)
@@ -50,7 +57,8 @@ deed_mprotect here t =
     let len = argument here t 1 in
     let prot = argument here t 2 in
     deed_changed here t 226 (mprotect_refusal (permission_here here) p len prot)
-    (run (p / PAGE_SIZE) (pages_of len) (Some (permission_for prot))) (protected p len prot here.kernel.pages) refl
+    (run (p / PAGE_SIZE) (pages_of len) (Some (permission_for prot)))
+    (protected p len prot here.kernel.pages) refl
     (over_stays _ here.kernel.pages.runs) (paged_mprotect here.setting here.kernel.pages p len prot)
 
 -- a page in a hole can't be written
@@ -72,12 +80,15 @@ module _ (here : Here) (len prot at : ℕ) (place : IsPlaced (permission_here he
       let inside = is_inside mapped_run n is in
       let low = inside.0 in
       let high = inside.1 in
-      absurd (hole_writes (permission_here here n) (each_page-at (λ m. is_none (permission_here here m)) place.first (pages_of len) place.hole n (omega (arith, begins)) (omega (arith, begins))) may)
+      absurd (hole_writes (permission_here here n)
+      (each_page-at (λ m. is_none (permission_here here m)) place.first (pages_of len) place.hole n
+      (omega (arith, begins)) (omega (arith, begins))) may)
 
   mapped_stays : StaysWritable here.kernel.pages no_pages (mapped_at at len prot here.kernel.pages)
   mapped_stays n outside may = mapped_writes n (is_in mapped_run n) refl may
 
-deed_mapped : (here : Here) (t len prot : ℕ) (x : Result ℕ Errno) → x ≡ mmap_answer (permission_here here) here.kernel.pages.free len prot
+deed_mapped : (here : Here) (t len prot : ℕ) (x : Result ℕ Errno)
+    → x ≡ mmap_answer (permission_here here) here.kernel.pages.free len prot
     → CallDeed here t 222 (mapped_or_refused here t len prot x)
 deed_mapped here t len prot (Err e) is = Says _
 deed_mapped here t len prot (Ok a) is =
@@ -85,10 +96,12 @@ deed_mapped here t len prot (Ok a) is =
     let high = place.high in
     let at = place.is in
     Answers a _ _ (λ _. address_no_error a (omega arith))
-    (Remaps (mapped_at a len prot here.kernel.pages) (mapped_stays here len prot a place) (paged_mmap here.setting here.kernel.pages len prot a (sym is)))
+    (Remaps (mapped_at a len prot here.kernel.pages) (mapped_stays here len prot a place)
+    (paged_mmap here.setting here.kernel.pages len prot a (sym is)))
 
 pub deed_mmap : (here : Here) (t : ℕ) → CallDeed here t 222 (mmap here t)
-deed_mmap here t = by_errors (mmap_errors here t) _ (λ _. deed_mapped here t (argument here t 1) (argument here t 2) _ refl)
+deed_mmap here t = by_errors (mmap_errors here t) _
+    (λ _. deed_mapped here t (argument here t 1) (argument here t 2) _ refl)
 
 -- brk(2): where the break grows, pages are mapped that can be written
 grown_stays : (r : PageRun) (rs : List PageRun) (b : Bool) (n : ℕ) → is_in r n ≡ b → r.permission ≡ Some 6
@@ -101,7 +114,12 @@ module _ (here : Here) (p : ℕ) where
   old = here.kernel.pages
 
   abbrev moved : Pages
-  moved = record { runs = break_run old.break_at p ∷ old.runs; free = free_past (permission_of old.runs) old.free old.break_at p; break_at = p }
+  moved = record {
+    runs = break_run old.break_at p ∷ old.runs;
+    free =
+        free_past (permission_of old.runs) old.free old.break_at p;
+    break_at = p;
+  }
 
   grows : old.break_at ≤ p → (break_run old.break_at p).permission ≡ Some 6
   grows up = rw (le-leb old.break_at p up) refl
@@ -110,11 +128,14 @@ module _ (here : Here) (p : ℕ) where
   moved_stays = elim (cases_lt p old.break_at) [
     | inl down ↦ rw (lt-ltb p old.break_at down) (over_stays (break_run old.break_at p) old.runs)
     | inr up ↦
-        rw (le-ltb p old.break_at up) (λ n outside may. grown_stays (break_run old.break_at p) old.runs (is_in (break_run old.break_at p) n) n refl (grows up) may)
+        rw (le-ltb p old.break_at up)
+        (λ n outside may. grown_stays (break_run old.break_at p) old.runs
+        (is_in (break_run old.break_at p) n) n refl (grows up) may)
   ]
 
 deed_moved : (here : Here) (t : ℕ) (b : Bool) → may_break here (argument here t 0) ≡ b
-    → CallDeed here t 214 (record (said here t (cond b (moved here (argument here t 0)) here.kernel.pages).break_at) {
+    → CallDeed here t 214
+    (record (said here t (cond b (moved here (argument here t 0)) here.kernel.pages).break_at) {
       entered = cond b (zeros_if_mapped (break_run here.kernel.pages.break_at (argument here t 0))) [];
       kernel = paged (cond b (moved here (argument here t 0)) here.kernel.pages) here.kernel;
     })
@@ -123,10 +144,13 @@ deed_moved here t true may =
     let p = argument here t 0 in
     let lowest = here.setting.program.break_at in
     let k = here.kernel.pages in
-    let within = (and_parts (leb lowest p) (leb p MAPPING_START) (and_parts (leb lowest p && leb p MAPPING_START) (leb (pages_of p - pages_of k.break_at) k.free) may).0).1 in
+    let within = (and_parts (leb lowest p) (leb p MAPPING_START)
+    (and_parts (leb lowest p && leb p MAPPING_START)
+    (leb (pages_of p - pages_of k.break_at) k.free) may).0).1 in
     let low = leb-true p MAPPING_START within in
     Answers p _ _ (λ _. address_no_error p (omega arith)) (Remaps (moved here p)
-    (subst (λ b. StaysWritable k (cond (b && ltb p k.break_at) (break_run k.break_at p) no_pages) (moved here p)) (sym may) (moved_stays here p))
+    (subst (λ b. StaysWritable k (cond (b && ltb p k.break_at) (break_run k.break_at p) no_pages)
+    (moved here p)) (sym may) (moved_stays here p))
     (λ is. subst (λ b. IsPaged here.setting (cond b (moved here p) k)) may (paged_brk here.setting k is p)))
 
 pub deed_brk : (here : Here) (t : ℕ) → CallDeed here t 214 (brk here t)

@@ -13,29 +13,37 @@ use Rattle.block_model.proofs.CallDeeds.{CallDeed, Registers, Says, Unregisters,
 
 -- a registration that isn't refused is of a thread that has no area
 had_none : (old : Option Area) (at len sig : ℕ) (area : Area)
-    → option_map_or (λ (old : Area). Err (registered_again old at len sig)) old (registered_first at len sig) ≡ Ok area → old ≡ None
+    → option_map_or (λ (old : Area). Err (registered_again old at len sig)) old
+    (registered_first at len sig) ≡ Ok area → old ≡ None
 had_none None at len sig area is = refl
 had_none (Some old) at len sig area is = cc
 
-registers_first : (old : Option Area) (at len flags sig : ℕ) (area : Area) → registration old at len flags sig ≡ Ok area → old ≡ None
+registers_first : (old : Option Area) (at len flags sig : ℕ) (area : Area)
+    → registration old at len flags sig ≡ Ok area → old ≡ None
 registers_first old at len flags sig area is = go (eqb flags 0) is
   where
-    go : (b : Bool) → cond (not b) (Err EINVAL) (option_map_or (λ (old : Area). Err (registered_again old at len sig)) old (registered_first at len sig)) ≡ Ok area
+    go : (b : Bool) → cond (not b) (Err EINVAL)
+        (option_map_or (λ (old : Area). Err (registered_again old at len sig)) old
+        (registered_first at len sig)) ≡ Ok area
         → old ≡ None
     go true is = had_none old at len sig area is
     go false is = cc
 
 module _ (here : Here) (t number : ℕ) where
-  deed_registers : (x : Result Area Errno) → ((area : Area) → x ≡ Ok area → area_here here t ≡ None) → CallDeed here t number (registers_or_refused here t x)
+  deed_registers : (x : Result Area Errno) → ((area : Area) → x ≡ Ok area → area_here here t ≡ None)
+      → CallDeed here t number (registers_or_refused here t x)
   deed_registers (Err e) first = Says _
   deed_registers (Ok area) first =
-      either (are_words_writable (is_writable here) area) (λ _. answers_0 _ _ (Registers area (first area refl))) (λ _. deed_killed)
+      either (are_words_writable (is_writable here) area)
+      (λ _. answers_0 _ _ (Registers area (first area refl))) (λ _. deed_killed)
 
   deed_unregisters : (old : Option Area) → CallDeed here t number (unregisters here t old)
   deed_unregisters None = Says _
-  deed_unregisters (Some area) = either (are_words_writable (is_writable here) area) (λ _. answers_0 _ _ Unregisters) (λ _. Says _)
+  deed_unregisters (Some area) =
+      either (are_words_writable (is_writable here) area) (λ _. answers_0 _ _ Unregisters) (λ _. Says _)
 
-  deed_unregisters_or : (x : Result (Unit {0}) Errno) → CallDeed here t number (unregisters_or_refused here t x)
+  deed_unregisters_or : (x : Result (Unit {0}) Errno)
+      → CallDeed here t number (unregisters_or_refused here t x)
   deed_unregisters_or (Err e) = Says _
   deed_unregisters_or (Ok done) = deed_unregisters (area_here here t)
 

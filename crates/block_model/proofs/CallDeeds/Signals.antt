@@ -18,7 +18,8 @@ use Rattle.block_model.proofs.CallDeeds.{AllStand, CallDeed, Breaks, Resumes, Sa
 use Rattle.block_model.proofs.SignalSteps.{KeepsThreads, StandsAt, acted_keeps, acted_stand, masked_keeps, posted_keeps, posted_stand, same_stand}
 
 -- a thread whose wait a signal breaks waits
-waits_by : (ts : Threads) (u : ℕ) (o : Option ThreadState) → state_of u ts ≡ o → option_map_or is_waiting_state o false ≡ true → waits ts u
+waits_by : (ts : Threads) (u : ℕ) (o : Option ThreadState) → state_of u ts ≡ o
+    → option_map_or is_waiting_state o false ≡ true → waits ts u
 waits_by ts u None was is = absurd (false≢true is)
 waits_by ts u (Some Ready) was is = absurd (false≢true is)
 waits_by ts u (Some (Running h)) was is = absurd (false≢true is)
@@ -27,21 +28,24 @@ waits_by ts u (Some (Waiting at)) was is = (at, was)
 in_vain_waits : (u : ℕ) (k : Kernel) → waits_in_vain u k ≡ true → waits k.threads u
 in_vain_waits u k is =
     waits_by k.threads u (state_of u k.threads) refl
-    (and_parts (option_map_or is_waiting_state (state_of u k.threads) false) (is_some (next_for u k.signals)) is).0
+    (and_parts (option_map_or is_waiting_state (state_of u k.threads) false)
+    (is_some (next_for u k.signals)) is).0
 
 -- an action that is read has a handler below 2^64
 given_by : (b : Bool) (new a : Action) → StandsAt new → cond b None (Some new) ≡ Some a → StandsAt a
 given_by true new a stands is = cc
 given_by false new a stands is = let same : new ≡ a = cc in subst StandsAt same stands
 
-given_stands : (here : Here) (p : ℕ) → AllStand here → (a : Action) → action_given here p ≡ Some a → StandsAt a
+given_stands : (here : Here) (p : ℕ) → AllStand here → (a : Action) → action_given here p ≡ Some a
+    → StandsAt a
 given_stands here p stand a is = given_by (eqb p 0) (action_at here p) a (number_small here stand.bytes p) is
 
 masked_by : (b : Bool) (t mask : ℕ) (g : Signalling) → KeepsThreads g (cond b g (with_mask t mask g))
 masked_by true t mask g = refl
 masked_by false t mask g = masked_keeps t mask g
 
-masked_actions : (b : Bool) (t mask : ℕ) (g : Signalling) → g.actions ≡ (cond b g (with_mask t mask g)).actions
+masked_actions : (b : Bool) (t mask : ℕ) (g : Signalling)
+    → g.actions ≡ (cond b g (with_mask t mask g)).actions
 masked_actions true t mask g = refl
 masked_actions false t mask g = refl
 
@@ -52,16 +56,20 @@ module _ (here : Here) (t number : ℕ) where
       let after = with_posted here u sig in
       let keeps = posted_keeps u sig here.kernel.signals in
       let stand = λ (all : AllStand here). posted_stand u sig here.kernel.signals all.handlers in
-      either (waits_in_vain u after) (λ vain. Breaks u g (in_vain_waits u after vain) keeps stand) (λ _. answers_0 [] _ (Signalled g keeps stand))
+      either (waits_in_vain u after) (λ vain. Breaks u g (in_vain_waits u after vain) keeps stand)
+      (λ _. answers_0 [] _ (Signalled g keeps stand))
 
   deed_send : (u sig : ℕ) → CallDeed here t number (send here t u sig)
-  deed_send u sig = by_errors ((refuses_signal sig, EINVAL) ∷ []) _ (λ _. either (eqb sig 0) (λ _. Says 0) (λ _. deed_post u sig))
+  deed_send u sig = by_errors ((refuses_signal sig, EINVAL) ∷ []) _
+      (λ _. either (eqb sig 0) (λ _. Says 0) (λ _. deed_post u sig))
 
   pub deed_tkill : CallDeed here t number (tkill here t)
-  deed_tkill = by_errors (tkill_errors here t) _ (λ _. deed_send (int_argument here t 0) (int_argument here t 1))
+  deed_tkill = by_errors (tkill_errors here t) _
+      (λ _. deed_send (int_argument here t 0) (int_argument here t 1))
 
   pub deed_tgkill : CallDeed here t number (tgkill here t)
-  deed_tgkill = by_errors (tgkill_errors here t) _ (λ _. deed_send (int_argument here t 1) (int_argument here t 2))
+  deed_tgkill = by_errors (tgkill_errors here t) _
+      (λ _. deed_send (int_argument here t 1) (int_argument here t 2))
 
   pub deed_sigaction : CallDeed here t number (rt_sigaction here t)
   deed_sigaction =
@@ -70,7 +78,8 @@ module _ (here : Here) (t number : ℕ) where
       let g = here.kernel.signals in
       let new = action_given here act in
       by_errors (sigaction_errors here t) _ (λ _.
-      answers_0 _ _ (Signalled (acted sig new g) (acted_keeps sig new g) (λ all. acted_stand sig new g (given_stands here act all) all.handlers)))
+      answers_0 _ _ (Signalled (acted sig new g) (acted_keeps sig new g)
+      (λ all. acted_stand sig new g (given_stands here act all) all.handlers)))
 
   pub deed_sigprocmask : CallDeed here t number (rt_sigprocmask here t)
   deed_sigprocmask =
@@ -83,7 +92,8 @@ module _ (here : Here) (t number : ℕ) where
       (λ all. same_stand g (masked here t how set) (masked_actions (eqb set 0) t mask g) all.handlers)))
 
 -- a handler returns
-deed_resumed : (here : Here) (t : ℕ) (words : Option (List ℕ)) → frame_read (memory here) (here.file t) ≡ words → CallDeed here t 139 (resumed here t words)
+deed_resumed : (here : Here) (t : ℕ) (words : Option (List ℕ))
+    → frame_read (memory here) (here.file t) ≡ words → CallDeed here t 139 (resumed here t words)
 deed_resumed here t None is = deed_killed
 deed_resumed here t (Some words) is = Resumes words is refl
 

@@ -17,7 +17,8 @@ use Rattle.block_model.proofs.CallDeeds.Sequences.{deed_rseq}
 use Rattle.block_model.proofs.CallDeeds.Signals.{deed_sigaction, deed_sigprocmask, deed_sigreturn, deed_tgkill, deed_tkill}
 
 -- a call that takes pages, or goes on from a frame, by its number
-at_number : (here : Here) (t number k : ℕ) (c : CallDone) → eqb number k ≡ true → CallDeed here t k c → CallDeed here t number c
+at_number : (here : Here) (t number k : ℕ) (c : CallDone) → eqb number k ≡ true → CallDeed here t k c
+    → CallDeed here t number c
 at_number here t number k c is deed = subst (λ n. CallDeed here t n c) (sym (eqb-true number k is)) deed
 
 deed_call_of : (here : Here) (t number : ℕ) → CallDeed here t number (call_of number here t)

@@ -8,7 +8,6 @@ use Rattle.mach_types.specs.Kernel.Pages.{Pages, permission_at, can_write}
 use Rattle.mach_types.specs.Kernel.Signals.{with_pending}
 use Rattle.mach_types.specs.declared.events.Why.{Why}
 use Rattle.mach_types.specs.declared.events.Why.TheVariants.{Waiting, FullBuffer, Others}
-use Rattle.mach_types.specs.declared.limits.End.TheVariants.{Killed}
 use Rattle.mach_types.specs.declared.registers.Regs.{Regs}
 use Rattle.mach_types.specs.declared.user_memory.Store.{Store}
 use Rattle.mach_types.specs.declared.user_memory.TheConstants.{STORE_BUFFER_CAPACITY}
@@ -21,15 +20,16 @@ use Rattle.block_model.specs.Instruction.{fault_by, fetched}
 use Rattle.block_model.specs.Calls.{called}
 use Rattle.block_model.specs.Calls.Answers.{call_number, killed_in_call}
 use Rattle.block_model.specs.Calls.Memory.{lies_waiting_on, taken_by}
-use Rattle.block_model.specs.Events.Exec.{refusal_exec, refusal_exec_by, done_exec, done_exec_by, by_fault, by_call, called_here, by_effect, by_outcome, outcome_of, next_effect, next_fault, has_handler, is_held, one_instruction, others_gate}
-use Rattle.block_model.specs.Kernel.{signalled}
+use Rattle.block_model.specs.Events.Exec.{refusal_exec, refusal_exec_by, done_exec, done_exec_by, by_fault, by_call, called_here, by_effect, by_outcome, outcome_of, next_effect, next_fault, has_handler, is_held, others_gate}
 use Rattle.block_model.specs.Sequences.{is_inside_here}
 use Rattle.block_model.proofs.BarrierSteps.{quiet_free}
 use Rattle.block_model.proofs.Good.{IsGoodHere, IsFit, MayEnter, fit_either}
 use Rattle.block_model.proofs.Goods.Calls.Fit.{fit_by_call, own_apart}
-use Rattle.block_model.proofs.Goods.Calls.Steps.{kept_signalled}
+use Rattle.block_model.proofs.Goods.Calls.Said.{apart_none}
+use Rattle.block_model.proofs.Goods.Calls.Steps.{kept_signalled, kept_still}
 use Rattle.block_model.proofs.Goods.Calls.Table.{fit_called}
 use Rattle.block_model.proofs.Goods.Preempt.{out_of_barrier}
+use Rattle.block_model.proofs.Goods.Quiet.{fit_keeping}
 use Rattle.block_model.proofs.SignalSteps.{pending_keeps}
 
 -- what a plain store executes, where it doesn't fault: one store that may enter; no other instruction executes one
@@ -73,44 +73,12 @@ gate_room : (n : ℕ) (e : Effect) (faults : Bool) → n ≤ STORE_BUFFER_CAPACI
 gate_room n e faults few free = room_by _ (leb STORE_BUFFER_CAPACITY n) (is_plain_store e) n refl few free
 
 -- a fault: the thread stays where it is, and a signal becomes pending for it or the process ends
-still : (here : Here) (t signal : ℕ) → IsGoodHere here → runs here ≡ Some t → here.awaits ≡ None → IsFit here (by_fault here t signal)
-still here t signal good at out = fit_either here (has_handler here t signal) _ _ handled killed
-  where
-    handled : IsFit here (record (one_instruction here) { kernel = signalled (with_pending t signal here.kernel.signals) here.kernel })
-    handled =
-        let kept = kept_signalled here.setting (with_pending t signal here.kernel.signals) here.kernel good.kernel (pending_keeps t signal here.kernel.signals) in
-        record {
-          executed = tt;
-          few = let w = good.few in omega arith;
-          drained = omega arith;
-          idle = λ none. let bad : None ≡ Some t = sym none ∙ at in absurd (cc);
-          others = λ k ne. refl;
-          apart = λ k u f ne runs. refl;
-          within = good.within;
-          paged = λ is. is;
-          given = omega arith;
-          one = omega arith;
-          barriers = quiet_free here _ refl refl refl out;
-          kernel = kept.sound;
-          held = kept.held;
-        }
-
-    killed : IsFit here (record (one_instruction here) { ended = Some (Killed signal) })
-    killed = record {
-      executed = tt;
-      few = let w = good.few in omega arith;
-      drained = omega arith;
-      idle = λ none. let bad : None ≡ Some t = sym none ∙ at in absurd (cc);
-      others = λ k ne. refl;
-      apart = λ k u f ne runs. refl;
-      within = good.within;
-      paged = λ is. is;
-      given = omega arith;
-      one = omega arith;
-      barriers = quiet_free here _ refl refl refl out;
-      kernel = good.kernel;
-      held = λ is. is;
-    }
+still : (here : Here) (t signal : ℕ) → IsGoodHere here → here.awaits ≡ None → IsFit here (by_fault here t signal)
+still here t signal good out =
+    let kept = kept_signalled here.setting (with_pending t signal here.kernel.signals) here.kernel good.kernel (pending_keeps t signal here.kernel.signals) in
+    fit_either here (has_handler here t signal) _ _
+    (fit_keeping here _ good refl refl (omega arith) (apart_none here) (quiet_free here _ refl refl refl out) kept)
+    (fit_keeping here _ good refl refl (omega arith) (apart_none here) (quiet_free here _ refl refl refl out) (kept_still here.setting here.kernel good.kernel))
 
 plain : (here : Here) (t : ℕ) (e : Effect) → IsGoodHere here → runs here ≡ Some t → here.awaits ≡ None → IsExecuted here.kernel.pages e (outcome_of here t e) → length (waiting_here here) + cond (is_plain_store e) 1 0 ≤ STORE_BUFFER_CAPACITY → IsFit here (by_outcome here t (outcome_of here t e))
 plain here t e good at out is room = record {
@@ -164,27 +132,14 @@ gates None b free = (refl, free)
 gates (Some why) b free = absurd cc
 
 -- a call inside a sequence kills the process
-killed : (here : Here) (t : ℕ) → IsGoodHere here → runs here ≡ Some t → here.awaits ≡ None → IsFit here (by_call here (killed_in_call here))
-killed here t good at out = record {
-  executed = tt;
-  few = let w = good.few in omega arith;
-  drained = omega arith;
-  idle = λ none. let bad : None ≡ Some t = sym none ∙ at in absurd (cc);
-  others = λ k ne. refl;
-  apart = λ k u f ne runs. refl;
-  within = good.within;
-  paged = λ is. is;
-  given = omega arith;
-  one = omega arith;
-  barriers = quiet_free here _ refl refl refl out;
-  kernel = good.kernel;
-  held = λ is. is;
-}
+killed : (here : Here) → IsGoodHere here → here.awaits ≡ None → IsFit here (by_call here (killed_in_call here))
+killed here good out =
+    fit_keeping here _ good refl refl (omega arith) (apart_none here) (quiet_free here _ refl refl refl out) (kept_still here.setting here.kernel good.kernel)
 
 call_by : (here : Here) (t : ℕ) (b : Bool) → IsGoodHere here → runs here ≡ Some t → here.awaits ≡ None → waiting_here here ≡ []
     → (not b && lies_waiting_on (taken_by (call_number here t) here t) here.waiting here.setting.limits.harts) ≡ false
     → IsFit here (by_call here (cond b (killed_in_call here) (called here t)))
-call_by here t true good at out none clear = killed here t good at out
+call_by here t true good at out none clear = killed here good out
 call_by here t false good at out none clear =
     fit_by_call here (taken_by (call_number here t) here t) (called here t) good out none clear (fit_called here t good at)
 
@@ -197,7 +152,7 @@ call_or_plain here t e false is good at out clear free done = plain here t e goo
 fit_effect : (here : Here) (t : ℕ) (f : Option ℕ) (o : Option Effect) → IsGoodHere here → runs here ≡ Some t → here.awaits ≡ None →
     fault_by (memory here) (λ a. can_write (permission_at here.kernel.pages a)) (here.file t).pc (fetched here.setting.program.pages (here.file t).pc) o ≡ f →
     instruction_gate (length (waiting_here here)) o (is_some f) ≡ None → others_gate (is_held here t) o ≡ None → IsFit here (by_effect here t f o)
-fit_effect here t (Some signal) o good at out fault e clear = still here t signal good at out
+fit_effect here t (Some signal) o good at out fault e clear = still here t signal good out
 fit_effect here t None None good at out fault e clear = cc
 fit_effect here t None (Some x) good at out fault e clear =
     call_or_plain here t x (is_call x) refl good at out (call_held (is_call x) (is_held here t) clear) e (executed_by here.kernel.pages (memory here) (view here) (here.file t).file (here.file t).pc here.reserved x fault)

@@ -8,6 +8,8 @@ use Rattle.block_model.specs.Here.{Here, runs, waiting_here}
 use Rattle.block_model.specs.Events.Finish.{done_done, done_done_by, refusal_done, refusal_done_by, refusal_return}
 use Rattle.block_model.proofs.Good.{IsGoodHere, IsFit}
 use Rattle.block_model.proofs.Goods.Calls.Said.{apart_one}
+use Rattle.block_model.proofs.Goods.Calls.Steps.{kept_still}
+use Rattle.block_model.proofs.Goods.Quiet.{fit_keeping}
 
 -- it waits for no hart any more
 pub waits_for_none : (awaits : Option ℕ) → refusal_return awaits ≡ None → awaits ≡ Some 0
@@ -26,26 +28,13 @@ good_done here good free = go (runs here) refl free
     go (Some t) at free =
         let over = waits_for_none here.awaits free in
         let none : waiting_here here ≡ [] = good.empty 0 over in
-        record {
-          executed = tt;
-          few = let w = good.few in omega arith;
-          drained = omega arith;
-          idle = λ _. ap (λ (ws : List Store). ws ++ []) none;
-          others = λ k ne. refl;
-          apart = apart_one here t (record (here.file t) { file = with_register (here.file t).file 10 0 }) good at;
-          within = good.within;
-          paged = λ is. is;
-          given = omega arith;
-          one = omega arith;
-          barriers = record {
-            still = λ left is. record {
-              running = λ gone. let bad : None ≡ Some t = sym gone ∙ at in absurd cc;
-              empty = ap (λ (ws : List Store). ws ++ []) none;
-            };
-            begun = λ b is. absurd cc;
-            took = λ is. absurd cc;
-            returned = λ is. over;
+        let its = record (here.file t) { file = with_register (here.file t).file 10 0 } in
+        fit_keeping here _ good refl refl (omega arith) (apart_one here t its good at) (record {
+          still = λ left is. record {
+            running = λ gone. let bad : None ≡ Some t = sym gone ∙ at in absurd cc;
+            empty = ap (λ (ws : List Store). ws ++ []) none;
           };
-          kernel = good.kernel;
-          held = λ is. is;
-        }
+          begun = λ b is. absurd cc;
+          took = λ is. absurd cc;
+          returned = λ is. over;
+        }) (kept_still here.setting here.kernel good.kernel)

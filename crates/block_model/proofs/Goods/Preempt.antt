@@ -1,15 +1,15 @@
 -- A thread leaves its hart.
-use Rattle.std.proofs.Common.{◌≡◌, ℕ, List, [], ◌∷◌, ◌++◌, refl, sym, ap, ◌∙◌, arith, Option, Some, None}
+use Rattle.std.proofs.Common.{◌≡◌, ℕ, List, [], ◌∷◌, refl, arith, Option, Some, None}
 use Rattle.mach_types.specs.declared.events.Why.{Why}
 use Rattle.mach_types.specs.declared.user_memory.Store.{Store}
 use Rattle.block_model.specs.Here.{Here, runs, waiting_here}
 use Rattle.block_model.specs.Events.Preempt.{refusal_preempt, refusal_preempt_by, done_preempt, done_preempt_by, unless_in_barrier, unless_waiting}
 use Rattle.block_model.specs.Kernel.{left}
-use Rattle.block_model.proofs.Allowances.{same_live}
 use Rattle.block_model.proofs.BarrierSteps.{quiet_free}
-use Rattle.block_model.proofs.KernelTables.{tables_left, left_others}
 use Rattle.block_model.proofs.Good.{IsGoodHere, IsFit}
-use Rattle.block_model.proofs.Held.{held_left}
+use Rattle.block_model.proofs.Goods.Calls.Said.{apart_none}
+use Rattle.block_model.proofs.Goods.Calls.Steps.{moved_left}
+use Rattle.block_model.proofs.Goods.Quiet.{fit_moving}
 
 pub none_waits : (ws : List Store) → unless_waiting ws ≡ None → ws ≡ []
 none_waits [] e = refl
@@ -28,27 +28,5 @@ good_preempt here good free = go (runs here) refl free
     go (Some t) at e =
         let both = out_of_barrier here.awaits (unless_waiting (waiting_here here)) e in
         let none = none_waits (waiting_here here) both.1 in
-        let tables = good.kernel.tables in
-        let harts = here.setting.limits.harts in
-        let ts = here.kernel.threads in
-        let sc = here.kernel.scheduling in
-        let after = tables_left harts here.hart t ts sc tables at in
-        record {
-          executed = tt;
-          few = let w = good.few in omega arith;
-          drained = omega arith;
-          idle = λ _. ap (λ (ws : List Store). ws ++ []) none;
-          others = λ k ne. left_others harts here.hart t ts sc tables at k ne;
-          apart = λ k u f ne runs. refl;
-          within = good.within;
-          paged = λ is. is;
-          given = omega arith;
-          one = omega arith;
-          barriers = quiet_free here _ refl refl refl both.0;
-          kernel = record {
-            tables = after;
-            allowed = λ some u live. good.kernel.allowed some u (sym (same_live harts u ts (left t here.kernel).threads sc (left t here.kernel).scheduling tables after refl) ∙ live);
-            console = good.kernel.console;
-          };
-          held = held_left harts t here.kernel;
-        }
+        fit_moving here _ good refl refl (omega arith) (apart_none here) (quiet_free here _ refl refl refl both.0)
+        (moved_left here.setting here.hart t here.kernel good.kernel at) (λ gone. none)

@@ -1,12 +1,11 @@
 -- A thread begins to run.
-use Rattle.std.proofs.Common.{◌≡◌, ◌≢◌, ℕ, List, [], ◌++◌, refl, sym, ap, ◌∙◌, arith, Bool, true, false, cond, Option, Some, None}
+use Rattle.std.proofs.Common.{◌≡◌, ◌≢◌, ℕ, refl, sym, ap, ◌∙◌, arith, Bool, true, false, cond, Option, Some, None}
 use Rattle.std.proofs.lemmas.Bool.{ne_eqb}
 use Rattle.mach_types.specs.declared.events.Why.{Why}
 use Rattle.mach_types.specs.declared.events.Why.TheVariants.{NotReady, NotAllowed}
 use Rattle.mach_types.specs.declared.sequences.Outcome.{Outcome}
 use Rattle.mach_types.specs.declared.sequences.Outcome.TheVariants as comes_to
 use Rattle.mach_types.specs.declared.threads.ThreadState.TheVariants.{Ready}
-use Rattle.mach_types.specs.declared.user_memory.Store.{Store}
 use Rattle.mach_types.specs.Kernel.Threads.{Threads, is_ready, running_on, state_of}
 use Rattle.mach_types.specs.Kernel.Scheduling.{Scheduling, has_hart, affinity_of}
 use Rattle.block_model.specs.Here.{Here, runs}
@@ -19,6 +18,8 @@ use Rattle.block_model.proofs.BarrierSteps.{quiet_free}
 use Rattle.block_model.proofs.KernelTables.{ready_state, running_is, tables_ran, ran_runs, ran_others}
 use Rattle.block_model.proofs.Good.{IsGoodHere, IsFit, fit_either}
 use Rattle.block_model.proofs.Goods.Calls.Said.{IsApart}
+use Rattle.block_model.proofs.Goods.Calls.Steps.{kept_still}
+use Rattle.block_model.proofs.Goods.Quiet.{fit_keeping, fit_moving}
 use Rattle.block_model.proofs.Held.{held_ran}
 use Rattle.block_model.proofs.Ids.{fewer_than_harts}
 
@@ -65,44 +66,26 @@ good_running here t o good idle ready =
     let ts = here.kernel.threads in
     let sc = here.kernel.scheduling in
     let after = tables_ran harts here.hart t ts sc tables ready idle good.lt in
-    record {
-      executed = tt;
-      few = let w = good.few in omega arith;
-      drained = omega arith;
-      idle = λ none. let bad : None ≡ Some t = sym none ∙ ran_runs harts here.hart t ts sc tables ready idle good.lt in absurd (cc);
+    fit_moving here _ good refl refl (omega arith) (apart_interrupted here t o good ready) (quiet_free here _ refl refl refl (idle_free here good idle))
+    (record {
       others = λ k ne. ran_others harts here.hart t ts sc tables ready idle good.lt k ne;
-      apart = apart_interrupted here t o good ready;
-      within = good.within;
-      paged = λ is. is;
-      given = omega arith;
-      one = omega arith;
-      barriers = quiet_free here _ refl refl refl (idle_free here good idle);
-      kernel = record {
+      pages = refl;
+      given = refl;
+      sound = record {
         tables = after;
         allowed = λ some u live. good.kernel.allowed some u (sym (same_live harts u ts (ran t here.hart here.kernel).threads sc (ran t here.hart here.kernel).scheduling tables after refl) ∙ live);
         console = good.kernel.console;
       };
       held = held_ran harts t here.hart here.kernel (ready_state (state_of t ts) ready)
           (λ small are. let fewer = fewer_than_harts harts here.hart t ts sc here.kernel.ids tables are idle good.lt in omega arith);
-    }
+    })
+    (λ none. let bad : None ≡ Some t = sym none ∙ ran_runs harts here.hart t ts sc tables ready idle good.lt in absurd (cc))
 
 -- where the process is killed the thread doesn't begin to run, and the hart stays idle
 good_killed : (here : Here) (t : ℕ) (o : Outcome) → IsGoodHere here → runs here ≡ None → is_ready t here.kernel.threads ≡ true → IsFit here (done_killed here t o)
-good_killed here t o good idle ready = record {
-  executed = tt;
-  few = let w = good.few in omega arith;
-  drained = omega arith;
-  idle = λ none. ap (λ (ws : List Store). ws ++ []) (good.idle here.hart idle);
-  others = λ k ne. refl;
-  apart = apart_interrupted here t o good ready;
-  within = good.within;
-  paged = λ is. is;
-  given = omega arith;
-  one = omega arith;
-  barriers = quiet_free here _ refl refl refl (idle_free here good idle);
-  kernel = good.kernel;
-  held = λ is. is;
-}
+good_killed here t o good idle ready =
+    fit_keeping here _ good refl refl (omega arith) (apart_interrupted here t o good ready) (quiet_free here _ refl refl refl (idle_free here good idle))
+    (kept_still here.setting here.kernel good.kernel)
 
 pub good_run : (here : Here) (t : ℕ) → IsGoodHere here → refusal_run here t ≡ None → IsFit here (done_run here t)
 good_run here t good free =

@@ -11,7 +11,9 @@ use Rattle.block_model.specs.Sequences.{interruption_here}
 use Rattle.block_model.proofs.BarrierSteps.{IsFitBarriers}
 use Rattle.block_model.proofs.Good.{IsGoodHere, IsFit}
 use Rattle.block_model.proofs.Goods.Calls.Said.{apart_none}
+use Rattle.block_model.proofs.Goods.Calls.Steps.{kept_still}
 use Rattle.block_model.proofs.Goods.Preempt.{none_waits}
+use Rattle.block_model.proofs.Goods.Quiet.{fit_keeping}
 use Rattle.block_model.proofs.Goods.Signal.{apart_own_interrupted}
 
 -- a hart takes requests where some are pending and no store waits
@@ -37,38 +39,14 @@ took_still here d good none quiet stays same no_drain no_store = record {
 }
 
 took_alone : (here : Here) → IsGoodHere here → waiting_here here ≡ [] → IsFit here (only_took here)
-took_alone here good none = record {
-  executed = tt;
-  few = let w = good.few in omega arith;
-  drained = omega arith;
-  idle = λ _. ap (λ (ws : List Store). ws ++ []) none;
-  others = λ k ne. refl;
-  apart = apart_none here;
-  within = good.within;
-  paged = λ is. is;
-  given = omega arith;
-  one = omega arith;
-  barriers = took_still here _ good none refl refl refl refl refl;
-  kernel = good.kernel;
-  held = λ is. is;
-}
+took_alone here good none =
+    fit_keeping here _ good refl refl (omega arith) (apart_none here) (took_still here _ good none refl refl refl refl refl)
+    (kept_still here.setting here.kernel good.kernel)
 
 took_both : (here : Here) (t : ℕ) (o : Outcome) → IsGoodHere here → runs here ≡ Some t → waiting_here here ≡ [] → IsFit here (took_and_interrupted here t o)
-took_both here t o good at none = record {
-  executed = tt;
-  few = let w = good.few in omega arith;
-  drained = omega arith;
-  idle = λ _. ap (λ (ws : List Store). ws ++ []) none;
-  others = λ k ne. refl;
-  apart = apart_own_interrupted here t o good at;
-  within = good.within;
-  paged = λ is. is;
-  given = omega arith;
-  one = omega arith;
-  barriers = took_still here _ good none refl refl refl refl refl;
-  kernel = good.kernel;
-  held = λ is. is;
-}
+took_both here t o good at none =
+    fit_keeping here _ good refl refl (omega arith) (apart_own_interrupted here t o good at) (took_still here _ good none refl refl refl refl refl)
+    (kept_still here.setting here.kernel good.kernel)
 
 pub good_take : (here : Here) → IsGoodHere here → refusal_take here ≡ None → IsFit here (done_take here)
 good_take here good free = go here.restart (runs here) refl (takes_where here free).1

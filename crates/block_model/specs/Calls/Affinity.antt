@@ -25,7 +25,8 @@ moved_off here t set =
 
 -- sched_setaffinity(tid, len, p), number 122
 abbrev pub set_given : Here → ℕ → ℕ
-set_given here t = harts_in (set_at here (argument here t 2) (int_argument here t 1)) here.setting.limits.harts
+set_given here t =
+    harts_in (set_at here (argument here t 2) (int_argument here t 1)) here.setting.limits.harts
 
 abbrev pub setaffinity_errors : Here → ℕ → Errors
 setaffinity_errors here t =
@@ -38,7 +39,8 @@ setaffinity_errors here t =
 
 abbrev pub sched_setaffinity : Here → ℕ → CallDone
 sched_setaffinity here t =
-    unless here t (setaffinity_errors here t) (record (said here t 0) { kernel = moved_off here t (set_given here t) })
+    unless here t (setaffinity_errors here t)
+    (record (said here t 0) { kernel = moved_off here t (set_given here t) })
 
 -- sched_getaffinity(tid, len, p), number 123: 8 bytes
 abbrev pub getaffinity_errors : Here → ℕ → Errors
@@ -53,7 +55,8 @@ abbrev pub sched_getaffinity : Here → ℕ → CallDone
 sched_getaffinity here t =
     let tid = int_argument here t 0 in
     let set = affinity_of (if tid == 0 then t else tid) here.kernel.scheduling in
-    unless here t (getaffinity_errors here t) (record (said here t 8) { entered = double_written (argument here t 2) set ∷ [] })
+    unless here t (getaffinity_errors here t)
+    (record (said here t 8) { entered = double_written (argument here t 2) set ∷ [] })
 
 -- sched_yield(), number 124: the thread leaves and is ready
 abbrev pub sched_yield : Here → ℕ → CallDone
@@ -74,5 +77,7 @@ getcpu_errors here t =
 
 abbrev pub getcpu : Here → ℕ → CallDone
 getcpu here t =
+    let cpu = argument here t 0 in
+    let node = argument here t 1 in
     unless here t (getcpu_errors here t)
-    (record (said here t 0) { entered = written_unless_zero (argument here t 0) here.hart ++ written_unless_zero (argument here t 1) 0 })
+    (record (said here t 0) { entered = written_unless_zero cpu here.hart ++ written_unless_zero node 0 })

@@ -67,8 +67,8 @@ number_at here at size = unwrap_or (word_at (memory here) at size) 0
 abbrev pub refused : Here → ℕ → Errno → CallDone
 refused here t errno = said here t (negative errno.0)
 
--- the errors of a call, each where its test holds, in the order in which they are tested: the call is refused by the first, and where
--- none holds it does what follows
+-- the errors of a call, each where its test holds, in the order in which they are tested: the call is refused
+-- by the first, and where none holds it does what follows
 abbrev pub Errors : Type 0
 Errors = List (Bool × Errno)
 

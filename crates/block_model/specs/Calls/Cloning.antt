@@ -81,7 +81,8 @@ cloned here t =
     let child = next_number here.kernel in
     record {
       files = (t, returned child (here.file t)) ∷ (child, child_file here t) ∷ [];
-      entered = written_if flags clone_parent_settid (argument here t 2) child ++ written_if flags clone_child_settid (argument here t 4) child;
+      entered = written_if flags clone_parent_settid (argument here t 2) child
+          ++ written_if flags clone_child_settid (argument here t 4) child;
       kernel = with_new_child here t;
       barrier = None;
       ended = None;

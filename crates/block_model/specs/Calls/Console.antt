@@ -41,12 +41,16 @@ wrote here t bytes = record (said here t (length bytes)) { kernel = printed byte
 
 -- bytes of memory, joined
 abbrev pub span_errors : Here → List Span → Errors
-span_errors here spans = (not (all_readable here spans), EFAULT) ∷ (nat_le CONSOLE_ROOM (length here.kernel.console), ENOSPC) ∷ []
+span_errors here spans =
+    (not (all_readable here spans), EFAULT)
+    ∷ (nat_le CONSOLE_ROOM (length here.kernel.console), ENOSPC)
+    ∷ []
 
 abbrev pub write_spans : Here → ℕ → List Span → CallDone
 write_spans here t spans =
     if total spans == 0 then said here t 0
-    else unless here t (span_errors here spans) (wrote here t (take (room here) (bytes_of (memory here) spans)))
+    else unless here t (span_errors here spans)
+    (wrote here t (take (room here) (bytes_of (memory here) spans)))
 
 -- whether the call's descriptor isn't of the console
 abbrev pub is_elsewhere : Here → ℕ → Bool
@@ -57,7 +61,9 @@ abbrev pub write_errors : Here → ℕ → Errors
 write_errors here t = (is_elsewhere here t, EBADF) ∷ []
 
 abbrev pub write : Here → ℕ → CallDone
-write here t = unless here t (write_errors here t) (write_spans here t (record { at = argument here t 1; len = argument here t 2 } ∷ []))
+write here t =
+    unless here t (write_errors here t)
+    (write_spans here t (record { at = argument here t 1; len = argument here t 2 } ∷ []))
 
 -- the records of an iovec, so many: each has an address and a length, of 8 bytes each
 abbrev pub spans_at : Here → ℕ → ℕ → List Span
@@ -76,4 +82,6 @@ writev_errors here t =
     ∷ []
 
 abbrev pub writev : Here → ℕ → CallDone
-writev here t = unless here t (writev_errors here t) (write_spans here t (spans_at here (argument here t 1) (argument here t 2)))
+writev here t =
+    unless here t (writev_errors here t)
+    (write_spans here t (spans_at here (argument here t 1) (argument here t 2)))

@@ -47,7 +47,9 @@ wait_errors here t =
     ∷ []
 
 abbrev pub futex_wait : Here → ℕ → CallDone
-futex_wait here t = unless here t (wait_errors here t) (record (said here t 0) { kernel = waited t (argument here t 0) here.kernel })
+futex_wait here t =
+    unless here t (wait_errors here t)
+    (record (said here t 0) { kernel = waited t (argument here t 0) here.kernel })
 
 -- WAKE: the answer is how many were woken
 abbrev pub futex_wake : Here → ℕ → CallDone

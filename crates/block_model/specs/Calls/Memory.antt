@@ -77,7 +77,8 @@ abbrev pub mmap : Here → ℕ → CallDone
 mmap here t =
     let len = argument here t 1 in
     let prot = argument here t 2 in
-    unless here t (mmap_errors here t) (mapped_or_refused here t len prot (mmap_answer (permission_here here) here.kernel.pages.free len prot))
+    unless here t (mmap_errors here t)
+    (mapped_or_refused here t len prot (mmap_answer (permission_here here) here.kernel.pages.free len prot))
 
 -- mprotect(p, len, prot), number 226
 abbrev pub mprotect : Here → ℕ → CallDone

@@ -53,7 +53,8 @@ post here t u sig =
 
 -- what is left to do once there is the thread u
 abbrev pub send : Here → ℕ → ℕ → ℕ → CallDone
-send here t u sig = unless here t ((refuses_signal sig, EINVAL) ∷ []) (if sig == 0 then said here t 0 else post here t u sig)
+send here t u sig =
+    unless here t ((refuses_signal sig, EINVAL) ∷ []) (if sig == 0 then said here t 0 else post here t u sig)
 
 -- tkill(tid, sig), number 130
 abbrev pub tkill_errors : Here → ℕ → Errors
@@ -64,7 +65,8 @@ tkill_errors here t =
     ∷ []
 
 abbrev pub tkill : Here → ℕ → CallDone
-tkill here t = unless here t (tkill_errors here t) (send here t (int_argument here t 0) (int_argument here t 1))
+tkill here t =
+    unless here t (tkill_errors here t) (send here t (int_argument here t 0) (int_argument here t 1))
 
 -- tgkill(pid, tid, sig), number 131: the process has number 1
 abbrev pub tgkill_errors : Here → ℕ → Errors
@@ -76,7 +78,8 @@ tgkill_errors here t =
     ∷ []
 
 abbrev pub tgkill : Here → ℕ → CallDone
-tgkill here t = unless here t (tgkill_errors here t) (send here t (int_argument here t 1) (int_argument here t 2))
+tgkill here t =
+    unless here t (tgkill_errors here t) (send here t (int_argument here t 1) (int_argument here t 2))
 
 -- ACTIONS AND MASKS
 
