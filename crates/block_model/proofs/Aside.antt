@@ -1,25 +1,25 @@
 -- What a call leaves as it is of other threads: who is ready stays so with its file, and each other thread keeps its area.
-use Rattle.std.proofs.Common.{◌≡◌, ◌≢◌, ℕ, ◌+◌, zero, suc, List, [], map, refl, sym, ap, ◌∙◌, inl, inr, Bool, true, false, cond, Option, Some, None}
-use Rattle.std.specs.Option.{option_map, option_map_or}
+use Rattle.std.proofs.Common.{◌≡◌, ◌≢◌, ℕ, ◌+◌, List, [], refl, sym, ap, ◌∙◌, inl, inr, Bool, true, false, cond, Option, Some, None}
+use Rattle.std.specs.Option.{option_map}
 use Rattle.std.proofs.lemmas.Bool.{false≢true, ne_eqb}
 use Rattle.std.proofs.lemmas.Bool.Decides.{eqb_tells}
 use Rattle.mach_types.proofs.Laws.{area_of-with_area_other, area_of-without_area_other, next_is_new, state_of-with_child_other, state_of-with_child_same, state_of-with_clear, state_of-with_state_other, state_of-with_state_same, state_of-without_other}
 use Rattle.mach_types.specs.Kernel.Areas.{area_of}
 use Rattle.mach_types.specs.Kernel.Signals.{Signalling}
-use Rattle.mach_types.specs.Kernel.Threads.{IsThreads, Thread, Threads, is_ready, longest_waiter, state_of, waits, with_child, with_state}
+use Rattle.mach_types.specs.Kernel.Threads.{IsThreads, Thread, Threads, is_ready, state_of, waits, with_child, with_state}
 use Rattle.mach_types.specs.declared.sequences.Area.{Area}
 use Rattle.mach_types.specs.declared.threads.Saved.{Saved}
 use Rattle.mach_types.specs.declared.threads.ThreadState.{ThreadState}
 use Rattle.mach_types.specs.declared.threads.ThreadState.TheVariants.{Ready, Waiting}
 use Rattle.mach_types.specs.declared.user_memory.Write.{Write}
 use Rattle.block_model.specs.Calls.Answers.{CallDone, returned, said}
-use Rattle.block_model.specs.Calls.Futexes.{Woken, answered_wait, wake, woken_first}
+use Rattle.block_model.specs.Calls.Futexes.{wake}
 use Rattle.block_model.specs.Here.{Here, runs}
 use Rattle.block_model.specs.History.{file_among}
 use Rattle.block_model.specs.Kernel.{cleared, gone, had_child, left, registered, signalled, unregistered, waited, woken}
 use Rattle.block_model.specs.Record.{Kernel}
 use Rattle.block_model.proofs.Good.{IsGoodHere}
-use Rattle.block_model.proofs.Goods.Calls.Futexes.{longest_waits, wake_keeps}
+use Rattle.block_model.proofs.Goods.Calls.Futexes.{answered, wake_by, wake_keeps}
 use Rattle.block_model.proofs.Goods.Run.{ready_apart}
 use Rattle.block_model.proofs.KernelTables.{its_ready}
 
@@ -108,30 +108,16 @@ pub beside_if : (t : ℕ) (k x y : Kernel) (b : Bool) → IsBeside t k x → IsB
 beside_if t k x y true p q = p
 beside_if t k x y false p q = q
 
--- one more is woken before others, where one waits
-abbrev woken_next : ℕ → ℕ → Kernel → Option ℕ → Woken
-woken_next n at k o =
-    option_map_or (λ u. woken_first u (wake n at (woken u k))) o (record { threads = []; kernel = k })
-
 pub beside_wake : (t n at : ℕ) (k : Kernel) → IsBeside t k (wake n at k).kernel
 beside_wake t = wake_keeps (IsBeside t) (beside_same t) (λ u k after waiting rest. beside_after t k (woken u k) after (beside_woken t u k) rest)
 
 -- the files that a wake sets aren't those of ready threads
-abbrev answered : Here → Woken → ℕ → Saved → Saved
-answered here done u f = file_among (map (answered_wait here) done.threads) u f
-
-answered_next : (here : Here) (n at u : ℕ) (f : Saved) (k : Kernel) → is_ready u k.threads ≡ true
-    → ((v : ℕ) → answered here (wake n at (woken v k)) u f ≡ f)
-    → (o : Option ℕ) → longest_waiter at k.threads ≡ o → answered here (woken_next n at k o) u f ≡ f
-answered_next here n at u f k ready rest None is = refl
-answered_next here n at u f k ready rest (Some v) is =
-    rw (ne_eqb v u (ready_not_waiting u v k.threads ready (longest_waits at k.threads v is))) (rest v)
-
-pub answered_beside : (here : Here) (n at u : ℕ) (f : Saved) (k : Kernel) → is_ready u k.threads ≡ true → answered here (wake n at k) u f ≡ f
-answered_beside here zero at u f k ready = refl
-answered_beside here (suc n) at u f k ready =
-    answered_next here n at u f k ready (λ v. answered_beside here n at u f (woken v k) (ready_beside v u k.threads ready))
-    (longest_waiter at k.threads) refl
+pub answered_beside : (here : Here) (n at u : ℕ) (f : Saved) (k : Kernel) → is_ready u k.threads ≡ true
+    → answered here (wake n at k) u f ≡ f
+answered_beside here n at u f k =
+    wake_by (λ n k done. is_ready u k.threads ≡ true → answered here done u f ≡ f) (λ n k ready. refl)
+    (λ v n k rest waiting is ready.
+    rw (ne_eqb v u (ready_not_waiting u v k.threads ready waiting)) (is (ready_beside v u k.threads ready))) n at k
 
 -- CALLS
 

@@ -1,9 +1,8 @@
 -- Each call of the table is refused, or gives no error at its own entry.
 use Rattle.std.proofs.Common.{◌≡◌, ◌≢◌, refl, ℕ, ◌<◌, ◌≤◌, ◌^◌, ◌⊎◌, inl, inr, List, [], ◌∷◌, length, map, set, get_or, sym, ap, ◌∙◌, subst, true, false, cond, Option, Some, None, is_some, arith, zero, suc}
-use Rattle.std.specs.Option.{option_map_or}
 use Rattle.std.proofs.lemmas.Bool.{false≢true}
 use Rattle.mach_types.proofs.Laws.{eqb_same, filtered_same}
-use Rattle.mach_types.specs.Kernel.Threads.{Thread, is_live, longest_waiter}
+use Rattle.mach_types.specs.Kernel.Threads.{Thread, is_live}
 use Rattle.mach_types.specs.Registers.{register}
 use Rattle.mach_types.specs.declared.threads.Saved.{Saved}
 use Rattle.mach_types.specs.declared.user_memory.Write.{Write}
@@ -12,7 +11,7 @@ use Rattle.block_model.specs.Calls.{called}
 use Rattle.block_model.specs.Calls.Answers.{CallDone, call_number, negative, returned, said}
 use Rattle.block_model.specs.Calls.Cloning.{child_file, with_new_child}
 use Rattle.block_model.specs.Calls.Ending.{woken_at_exit}
-use Rattle.block_model.specs.Calls.Futexes.{Woken, answered_wait, wake, woken_first}
+use Rattle.block_model.specs.Calls.Futexes.{answered_wait, wake}
 use Rattle.block_model.specs.Calls.Signals.{broken_wait}
 use Rattle.block_model.specs.ErrorCalls.{IsError}
 use Rattle.block_model.specs.Here.{Here}
@@ -21,6 +20,7 @@ use Rattle.block_model.specs.Kernel.{gone, next_number, signalled, woken}
 use Rattle.block_model.specs.Record.{Kernel}
 use Rattle.block_model.proofs.CallDeeds.{Answers, AreFew, Bears, Begins, Breaks, CallDeed, Ends, Exits, Resumes, Says, Wakes, small_no_error}
 use Rattle.block_model.proofs.CallDeeds.Table.{deed_called}
+use Rattle.block_model.proofs.Goods.Calls.Futexes.{wake_by}
 
 -- a call is refused with an error number
 pub record IsRefusal (here : Here) (t : ℕ) (c : CallDone) : Type 0 where
@@ -54,19 +54,8 @@ not_gone t k =
     ap (λ (o : Option Thread). is_some o) (filtered_same (λ (th : Thread). th.tid) t k.threads.live)
 
 -- no more are woken than asked
-abbrev woken_next : ℕ → ℕ → Kernel → Option ℕ → Woken
-woken_next n at k o =
-    option_map_or (λ u. woken_first u (wake n at (woken u k))) o (record { threads = []; kernel = k })
-
-woken_few_one : (n at : ℕ) (k : Kernel) (o : Option ℕ)
-    → ((u : ℕ) → length (wake n at (woken u k)).threads ≤ n) → length (woken_next n at k o).threads ≤ suc n
-woken_few_one n at k None rest = omega arith
-woken_few_one n at k (Some u) rest = let few = rest u in omega arith
-
 woken_few : (n at : ℕ) (k : Kernel) → length (wake n at k).threads ≤ n
-woken_few zero at k = omega arith
-woken_few (suc n) at k =
-    woken_few_one n at k (longest_waiter at k.threads) (λ u. woken_few n at (woken u k))
+woken_few = wake_by (λ n k done. length done.threads ≤ n) (λ n k. omega arith) (λ u n k rest waiting few. omega arith)
 
 module _ (here : Here) (t : ℕ) where
   -- what is told of a0 where an answer was put there: it is the answer

@@ -40,23 +40,28 @@ waits_apart s h t u k sound waiting runs same =
     let states : Some (on h) ≡ Some (Waiting waiting.0) = sym run ∙ wait in
     cc
 
--- one more is woken before others, where one waits
-abbrev woken_next : ℕ → ℕ → Kernel → Option ℕ → Woken
-woken_next n at k o =
-    option_map_or (λ u. woken_first u (wake n at (woken u k))) o (record { threads = []; kernel = k })
+-- waking, one thread after another: what holds of none holds of all, where each that is woken keeps it
+abbrev none_woken : Kernel → Woken
+none_woken k = record { threads = []; kernel = k }
 
--- what each that is woken keeps, all keep
-wake_next : (P : Kernel → Kernel → Type 0) → (n at : ℕ) (k : Kernel) → P k k
-    → ((u : ℕ) → waits k.threads u → P k (wake n at (woken u k)).kernel) → (o : Option ℕ) → longest_waiter at k.threads ≡ o → P k (woken_next n at k o).kernel
-wake_next P n at k still rest None is = still
-wake_next P n at k still rest (Some u) is = rest u (longest_waits at k.threads u is)
+module _ (P : ℕ → Kernel → Woken → Type 0) (none : (n : ℕ) (k : Kernel) → P n k (none_woken k))
+    (step : (u n : ℕ) (k : Kernel) (rest : Woken) → waits k.threads u → P n (woken u k) rest
+    → P (suc n) k (woken_first u rest)) where
+  wake_next : (n at : ℕ) (k : Kernel) → ((u : ℕ) → P n (woken u k) (wake n at (woken u k)))
+      → (o : Option ℕ) → longest_waiter at k.threads ≡ o
+      → P (suc n) k (option_map_or (λ u. woken_first u (wake n at (woken u k))) o (none_woken k))
+  wake_next n at k rest None is = none (suc n) k
+  wake_next n at k rest (Some u) is = step u n k (wake n at (woken u k)) (longest_waits at k.threads u is) (rest u)
 
-pub wake_keeps : (P : Kernel → Kernel → Type 0) → ((k : Kernel) → P k k) → ((u : ℕ) (k after : Kernel) → waits k.threads u → P (woken u k) after → P k after)
+  pub wake_by : (n at : ℕ) (k : Kernel) → P n k (wake n at k)
+  wake_by zero at k = none zero k
+  wake_by (suc n) at k = wake_next n at k (λ u. wake_by n at (woken u k)) (longest_waiter at k.threads) refl
+
+pub wake_keeps : (P : Kernel → Kernel → Type 0) → ((k : Kernel) → P k k)
+    → ((u : ℕ) (k after : Kernel) → waits k.threads u → P (woken u k) after → P k after)
     → (n at : ℕ) (k : Kernel) → P k (wake n at k).kernel
-wake_keeps P still step zero at k = still k
-wake_keeps P still step (suc n) at k =
-    wake_next P n at k (still k) (λ u waiting. step u k (wake n at (woken u k)).kernel waiting (wake_keeps P still step n at (woken u k)))
-    (longest_waiter at k.threads) refl
+wake_keeps P still step =
+    wake_by (λ n k done. P k done.kernel) (λ n k. still k) (λ u n k rest waiting is. step u k rest.kernel waiting is)
 
 -- so the record stays sound
 pub kept_wake : (s : Setting) (n at : ℕ) (k : Kernel) → IsSound s k → IsKept s k (wake n at k).kernel
@@ -66,30 +71,18 @@ kept_wake s n at k sound =
     kept_twice s k (woken u k) after first (rest first.sound)) n at k sound
 
 -- and sets no file of a thread that runs
-abbrev answered : Here → Woken → ℕ → Saved → Saved
+abbrev pub answered : Here → Woken → ℕ → Saved → Saved
 answered here done u f = file_among (map (answered_wait here) done.threads) u f
 
-answered_one : (s : Setting) (here : Here) (n at h u : ℕ) (f : Saved) (k : Kernel) → IsSound s k
-    → running_on h k.threads ≡ Some u
-    → ((v : ℕ) → waits k.threads v → answered here (wake n at (woken v k)) u f ≡ f)
-    → (o : Option ℕ) → longest_waiter at k.threads ≡ o → answered here (woken_next n at k o) u f ≡ f
-answered_one s here n at h u f k sound runs rest None is = refl
-answered_one s here n at h u f k sound runs rest (Some v) is =
-    let waiting = longest_waits at k.threads v is in
-    rw (ne_eqb v u (waits_apart s h v u k sound waiting runs)) (rest v waiting)
-
-answered_apart : (s : Setting) (here : Here) (n at h u : ℕ) (f : Saved) (k : Kernel) → IsSound s k
-    → running_on h k.threads ≡ Some u
-    → answered here (wake n at k) u f ≡ f
-answered_apart s here zero at h u f k sound runs = refl
-answered_apart s here (suc n) at h u f k sound runs =
-    let rest : (v : ℕ) → waits k.threads v → answered here (wake n at (woken v k)) u f ≡ f =
-    λ v waiting.
+answered_apart : (s : Setting) (here : Here) (h u : ℕ) (f : Saved) (n at : ℕ) (k : Kernel) → IsSound s k
+    → running_on h k.threads ≡ Some u → answered here (wake n at k) u f ≡ f
+answered_apart s here h u f =
+    wake_by (λ n k done. IsSound s k → running_on h k.threads ≡ Some u → answered here done u f ≡ f)
+    (λ n k sound runs. refl) (λ v n k rest waiting is sound runs.
     let kept = kept_woken s v k sound waiting in
-    answered_apart s here n at h u f (woken v k) kept.sound (kept.running h ∙ runs) in
-    answered_one s here n at h u f k sound runs rest (longest_waiter at k.threads) refl
+    rw (ne_eqb v u (waits_apart s h v u k sound waiting runs)) (is kept.sound (kept.running h ∙ runs)))
 
 pub apart_woken : (here : Here) (n at : ℕ) → IsGoodHere here
     → IsApart here (map (answered_wait here) (wake n at here.kernel).threads)
 apart_woken here n at good k u f ne run =
-    answered_apart here.setting here n at k u f here.kernel good.kernel run
+    answered_apart here.setting here k u f n at here.kernel good.kernel run
