@@ -30,7 +30,7 @@ use messages::{AtHand, OUT_OF_MEMORY, brief, explain};
 use outside::{FileShelf, OpenGate, OutSink};
 use std::alloc::Global;
 use std::env;
-use std::io::ErrorKind;
+use std::io::{self, ErrorKind};
 use std::process::ExitCode;
 use std::rt::Files;
 use std::sync::Wait;
@@ -57,7 +57,7 @@ fn answer<R: Threads + Wait + Sync + Files + Print + Eprint + Copy>(
     words: &[String],
 ) -> u8 {
     let mut shelf = KeepingShelf::new(alloc, FileShelf::new(*rt));
-    let mut sink = OutSink::new(*rt);
+    let mut sink = OutSink::new(io::writer(rt));
     let explained = rseq_explained(alloc, rt, words, &mut shelf, &mut sink, &OpenGate);
     if let Some(reason) = &explained.reason {
         let at_hand = AtHand {
