@@ -105,7 +105,7 @@ fn executed(credit: u8) -> Pick {
 }
 
 #[test]
-fn hart_that_is_idle_or_waits(rt: HostRuntime) {
+fn harts_that_draw_no_word(rt: HostRuntime) {
     let mut chooser = Chooser::new(1);
     for (row, sight, expected) in [
         (0, IDLE, None),
@@ -127,49 +127,40 @@ fn hart_that_is_idle_or_waits(rt: HostRuntime) {
             requested(acknowledged(WAITING)),
             Some(plain(Choice::Take)),
         ),
-    ] {
-        assert_eq!(rt; chooser.next(Hart(0), &sight), expected, "row {row}");
-    }
-}
-
-#[test]
-fn hart_that_draws_no_word(rt: HostRuntime) {
-    let mut chooser = Chooser::new(1);
-    for (row, sight, expected) in [
-        (0, on_credit(1, RUNNING), Some(executed(0))),
-        (1, on_credit(7, RUNNING), Some(executed(6))),
-        (2, on_credit(255, RUNNING), Some(executed(254))),
+        (11, on_credit(1, RUNNING), Some(executed(0))),
+        (12, on_credit(7, RUNNING), Some(executed(6))),
+        (13, on_credit(255, RUNNING), Some(executed(254))),
         (
-            3,
+            14,
             on_credit(1, requested(deliverable(storing(8, RUNNING)))),
             Some(executed(0)),
         ),
         (
-            4,
+            15,
             on_credit(0, requested(RUNNING)),
             Some(plain(Choice::Take)),
         ),
         (
-            5,
+            16,
             Sight {
                 credit: 1,
                 ..requested(RUNNING)
             },
             Some(plain(Choice::Take)),
         ),
-        (6, requested(STORING), Some(plain(Choice::Drain))),
+        (17, requested(STORING), Some(plain(Choice::Drain))),
         (
-            7,
+            18,
             requested(deliverable(HELD_UP)),
             Some(plain(Choice::Take)),
         ),
-        (8, deliverable(RUNNING), Some(plain(Choice::Signal))),
-        (9, deliverable(STORING), Some(plain(Choice::Drain))),
-        (10, deliverable(HELD_UP), Some(plain(Choice::Signal))),
-        (11, storing(1, HELD_UP), Some(plain(Choice::Drain))),
-        (12, HELD_UP, None),
+        (19, deliverable(RUNNING), Some(plain(Choice::Signal))),
+        (20, deliverable(STORING), Some(plain(Choice::Drain))),
+        (21, deliverable(HELD_UP), Some(plain(Choice::Signal))),
+        (22, storing(1, HELD_UP), Some(plain(Choice::Drain))),
+        (23, HELD_UP, None),
         // the first word of the generator is still to come
-        (13, RUNNING, Some(executed(1))),
+        (24, RUNNING, Some(executed(1))),
     ] {
         assert_eq!(rt; chooser.next(Hart(0), &sight), expected, "row {row}");
     }
@@ -290,26 +281,9 @@ fn harts_draw_words_of_their_own(rt: HostRuntime) {
         (9, 7, RUNNING, executed(3)),
     ] {
         assert!(rt; number < 8);
-        assert_eq!(rt;
-            chooser.next(Hart(number), &sight),
-            Some(expected),
-            "row {row}"
-        );
-    }
-}
-
-#[test]
-fn a_peek_takes_no_word(rt: HostRuntime) {
-    let mut chooser = Chooser::new(1);
-    for (row, sight, expected) in [
-        (0, RUNNING, Some(executed(1))),
-        (1, IDLE, None),
-        (2, STORING, Some(plain(Choice::Drain))),
-        (3, on_credit(1, RUNNING), Some(executed(0))),
-        (4, RUNNING, Some(plain(Choice::Preempt))),
-    ] {
-        assert_eq!(rt; chooser.peek(Hart(0), &sight), expected, "row {row}");
-        assert_eq!(rt; chooser.peek(Hart(0), &sight), expected, "row {row}");
-        assert_eq!(rt; chooser.next(Hart(0), &sight), expected, "row {row}");
+        let peeked = chooser.peek(Hart(number), &sight);
+        assert_eq!(rt; peeked, Some(expected), "row {row}");
+        let next = chooser.next(Hart(number), &sight);
+        assert_eq!(rt; next, Some(expected), "row {row}");
     }
 }

@@ -142,25 +142,3 @@ fn refusals(rt: HostRuntime) -> Result<(), Fail> {
     assert_eq!(rt; refused(alloc, 0x11000, 5, 0x11000, 7, 4, 4)?, Some(1));
     Ok(())
 }
-
-#[test]
-fn counts(rt: HostRuntime) -> Result<(), Fail> {
-    let mut parts = program(rt.alloc(), 0x10078, 0);
-    assert_eq!(rt;
-        write_elf(rt.alloc(), &parts).err(),
-        Some(MakeFault::BadParts(0))
-    );
-    parts.segments.push(code_part(rt.alloc())?)?;
-    for k in 1u64..64 {
-        parts
-            .segments
-            .push(part(rt.alloc(), 0x10000 + 0x1000 * k, 4, &[1], 1)?)?;
-    }
-    assert!(rt; write_elf(rt.alloc(), &parts).is_ok());
-    parts.segments.push(part(rt.alloc(), 0x1000, 4, &[1], 1)?)?;
-    assert_eq!(rt;
-        write_elf(rt.alloc(), &parts).err(),
-        Some(MakeFault::BadParts(65))
-    );
-    Ok(())
-}

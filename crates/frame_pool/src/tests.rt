@@ -92,11 +92,3 @@ fn frames_are_apart(rt: HostRuntime) -> Result<(), Fail> {
     assert_eq!(rt; pool.free(), 2);
     Ok(())
 }
-
-#[test]
-fn pool_may_have_no_frame(rt: HostRuntime) -> Result<(), Fail> {
-    let mut pool = FramePool::new(rt.alloc(), 0)?;
-    assert_eq!(rt; pool.free(), 0);
-    assert!(rt; is_used_up(&mut pool));
-    Ok(())
-}

@@ -38,17 +38,6 @@ impl Bench {
         self.hart.perform(&mut self.memory, &effect);
     }
 
-    /// Executes an instruction but for memory: the store that it makes at once must have this value.
-    fn expect_made(&mut self, rt: &impl Abort, effect: Effect, value: Option<u64>)
-        requires sizes { HasAccessSizes effect }
-        requires no_call { effect ≢ Effect.Call }
-    {
-        assert!(rt; self.hart.exec_gate(Some(&effect), false).is_none());
-        assert!(rt; self.hart.fault_of(&self.memory, &effect).is_none());
-        let made = self.hart.execute(&self.memory, &effect);
-        assert_eq!(rt; made.map(|store| store.value), value);
-    }
-
     /// Executes a plain store.
     fn store(&mut self, rt: &impl Abort, at: u64, size: u8, value: u64)
         requires { IsAccessSize size }
@@ -226,47 +215,20 @@ fn plain_store(at: u64) -> Effect
 }
 
 #[test]
-fn a_new_hart_is_idle(rt: HostRuntime) -> Result<(), Fail> {
-    let hart = HartState::new(rt.alloc())?;
-    assert!(rt; hart.is_idle());
-    assert_eq!(rt; hart.buffer.len(), 0);
-    assert_eq!(rt;
-        hart.exec_gate(Some(&Effect::FenceI), false),
-        Some(Why::Idle)
-    );
-    Ok(())
-}
-
-#[test]
-fn some_instructions_want_an_empty_buffer(rt: HostRuntime) -> Result<(), Fail> {
+fn gates_come_in_order(rt: HostRuntime) -> Result<(), Fail> {
     let mut bench = Bench::new(rt.alloc())?;
     bench.expect_gate(&rt, Effect::FenceI, true, None);
-    bench.store(&rt, FLAT_START, 1, 1);
-    bench.expect_gate(&rt, STORE, false, None);
-    bench.expect_gate(&rt, plain_load(FLAT_START), false, None);
-    bench.expect_gate(&rt, plain_load(FLAT_START), true, Some(Why::Waiting));
+    for _ in 0..8 {
+        bench.expect_gate(&rt, STORE, false, None);
+        bench.store(&rt, FLAT_START, 1, 1);
+    }
+    assert_eq!(rt; bench.hart.exec_gate(None, true), Some(Why::Waiting));
+    assert_eq!(rt; bench.hart.exec_gate(None, false), None);
     bench.expect_gate(&rt, Effect::Fence { full: true }, false, Some(Why::Waiting));
     bench.expect_gate(&rt, Effect::Fence { full: false }, false, None);
     bench.expect_gate(&rt, Effect::FenceI, false, Some(Why::Waiting));
     bench.expect_gate(&rt, Effect::Call, false, Some(Why::Waiting));
-    Ok(())
-}
-
-#[test]
-fn a_hart_without_an_instruction_waits_where_it_faults(rt: HostRuntime) -> Result<(), Fail> {
-    let mut bench = Bench::new(rt.alloc())?;
-    bench.store(&rt, FLAT_START, 1, 1);
-    assert_eq!(rt; bench.hart.exec_gate(None, true), Some(Why::Waiting));
-    assert_eq!(rt; bench.hart.exec_gate(None, false), None);
-    Ok(())
-}
-
-#[test]
-fn gates_come_in_order(rt: HostRuntime) -> Result<(), Fail> {
-    let mut bench = Bench::new(rt.alloc())?;
-    for _ in 0..8 {
-        bench.store(&rt, FLAT_START, 1, 1);
-    }
+    bench.expect_gate(&rt, plain_load(FLAT_START), true, Some(Why::Waiting));
     bench.expect_gate(&rt, STORE, false, Some(Why::FullBuffer));
     bench.expect_gate(&rt, STORE, true, Some(Why::Waiting));
     bench.expect_gate(&rt, plain_load(FLAT_START), false, None);
@@ -278,7 +240,7 @@ fn gates_come_in_order(rt: HostRuntime) -> Result<(), Fail> {
 }
 
 #[test]
-fn an_atomic_access_must_be_aligned_and_allowed(rt: HostRuntime) -> Result<(), Fail> {
+fn faults_of_each_access(rt: HostRuntime) -> Result<(), Fail> {
     let bench = Bench::new(rt.alloc())?;
     bench.expect_amo_fault(&rt, 0x1004, 4, None);
     bench.expect_amo_fault(&rt, 0x1004, 8, Some(7));
@@ -290,24 +252,12 @@ fn an_atomic_access_must_be_aligned_and_allowed(rt: HostRuntime) -> Result<(), F
     bench.expect_sc_fault(&rt, 0x1001, 4, Some(7));
     bench.expect_sc_fault(&rt, 0x1030, 4, Some(11));
     bench.expect_sc_fault(&rt, 0x102c, 4, None);
-    Ok(())
-}
-
-#[test]
-fn a_plain_access_need_not_be_aligned(rt: HostRuntime) -> Result<(), Fail> {
-    let bench = Bench::new(rt.alloc())?;
     bench.expect_fault(&rt, plain_load(0x1001), None);
     bench.expect_fault(&rt, plain_load(0x13f8), None);
     bench.expect_fault(&rt, plain_load(0x13f9), Some(11));
     bench.expect_fault(&rt, plain_store(0x1001), None);
     bench.expect_fault(&rt, plain_store(0x1028), None);
     bench.expect_fault(&rt, plain_store(0x1029), Some(11));
-    Ok(())
-}
-
-#[test]
-fn other_faults(rt: HostRuntime) -> Result<(), Fail> {
-    let bench = Bench::new(rt.alloc())?;
     bench.expect_fault(&rt, Effect::Break, Some(5));
     bench.expect_fault(&rt, Effect::Misaligned, Some(7));
     bench.expect_fault(&rt, Effect::Call, None);
@@ -315,7 +265,7 @@ fn other_faults(rt: HostRuntime) -> Result<(), Fail> {
 }
 
 #[test]
-fn loads_see_waiting_stores(rt: HostRuntime) -> Result<(), Fail> {
+fn waiting_stores_are_seen_and_enter_in_order(rt: HostRuntime) -> Result<(), Fail> {
     let mut bench = Bench::new(rt.alloc())?;
     bench.store(&rt, 0x1002, 4, 0x1122_3344);
     bench.expect_load(&rt, 0x1000, 8, false, 0x0000_1122_3344_0000);
@@ -325,25 +275,16 @@ fn loads_see_waiting_stores(rt: HostRuntime) -> Result<(), Fail> {
     bench.expect_load(&rt, 0x1003, 1, false, 0xff);
     bench.expect_double(&rt, 0x1000, 0);
     bench.expect_pc(&rt, 0x418);
-    Ok(())
-}
-
-#[test]
-fn the_oldest_store_enters_first(rt: HostRuntime) -> Result<(), Fail> {
-    let mut bench = Bench::new(rt.alloc())?;
-    bench.store(&rt, 0x1009, 2, 0x1111);
-    bench.store(&rt, 0x100a, 2, 0x2222);
-    bench.expect_drain(&rt, Some(0x1111));
-    bench.expect_double(&rt, 0x1008, 0x0011_1100);
-    bench.expect_drain(&rt, Some(0x2222));
-    bench.expect_double(&rt, 0x1008, 0x2222_1100);
+    bench.expect_drain(&rt, Some(0x1122_3344));
+    bench.expect_double(&rt, 0x1000, 0x0000_1122_3344_0000);
+    bench.expect_drain(&rt, Some(0xff));
+    bench.expect_double(&rt, 0x1000, 0x0000_1122_ff44_0000);
     bench.expect_drain(&rt, None);
-    bench.expect_double(&rt, 0x1008, 0x2222_1100);
     Ok(())
 }
 
 #[test]
-fn an_amo_on_a_word_extends_its_sign(rt: HostRuntime) -> Result<(), Fail> {
+fn amos_read_and_write_at_once(rt: HostRuntime) -> Result<(), Fail> {
     let mut bench = Bench::new(rt.alloc())?;
     bench.write_double(&rt, 0x1000, 0xffff_fffe_0000_0000);
     bench.amo(&rt, AmoOp::Add, 0x1004, 4, 3);
@@ -352,12 +293,6 @@ fn an_amo_on_a_word_extends_its_sign(rt: HostRuntime) -> Result<(), Fail> {
     bench.expect_double(&rt, 0x1000, 0x0000_0001_0000_0000);
     bench.expect_double(&rt, 0x1008, 0);
     bench.expect_pc(&rt, 0x404);
-    Ok(())
-}
-
-#[test]
-fn an_amo_on_a_double_keeps_all_bits(rt: HostRuntime) -> Result<(), Fail> {
-    let mut bench = Bench::new(rt.alloc())?;
     bench.write_double(&rt, 0x1008, 0x8000_0000_0000_0001);
     bench.amo(&rt, AmoOp::Min, 0x1008, 8, 7);
     bench.expect_register(&rt, 5, 0x8000_0000_0000_0001);
@@ -379,45 +314,10 @@ fn an_sc_succeeds_once_where_it_is_reserved(rt: HostRuntime) -> Result<(), Fail>
     bench.expect_reserved(&rt, None);
     bench.expect_sc(&rt, 0x1008, 8, 10, 1);
     bench.expect_double(&rt, 0x1008, 9);
-    Ok(())
-}
-
-#[test]
-fn a_failing_sc_ends_the_reservation(rt: HostRuntime) -> Result<(), Fail> {
-    let mut bench = Bench::new(rt.alloc())?;
     bench.reserve(&rt, 0x1008, 8);
     bench.expect_sc(&rt, 0x1010, 4, 9, 1);
     bench.expect_reserved(&rt, None);
     bench.expect_double(&rt, 0x1010, 0);
-    Ok(())
-}
-
-#[test]
-fn what_an_instruction_makes_at_once(rt: HostRuntime) -> Result<(), Fail> {
-    let mut bench = Bench::new(rt.alloc())?;
-    let conditional = Effect::Sc {
-        at: 0x100c,
-        size: 4,
-        value: 9,
-        rd: 1,
-    };
-    bench.expect_made(&rt, conditional, None);
-    bench.expect_register(&rt, 1, 1);
-    bench.hart.reserved = Some(0x1008);
-    bench.expect_made(&rt, conditional, Some(9));
-    bench.expect_register(&rt, 1, 0);
-    let sum = Effect::Amo {
-        op: AmoOp::Add,
-        at: FLAT_START,
-        size: 8,
-        value: 3,
-        rd: 1,
-    };
-    bench.write_double(&rt, FLAT_START, 4);
-    bench.expect_made(&rt, sum, Some(7));
-    bench.expect_double(&rt, FLAT_START, 4);
-    bench.expect_made(&rt, STORE, None);
-    bench.expect_double(&rt, 0x1008, 0);
     Ok(())
 }
 
@@ -460,21 +360,5 @@ fn a_write_to_the_reserved_bytes_ends_the_reservation(rt: HostRuntime) -> Result
         bench.hart.lose(at, size);
         assert_eq!(rt; bench.hart.reserved.is_some(), stays, "at {at}");
     }
-    Ok(())
-}
-
-#[test]
-fn x0_stays_0(rt: HostRuntime) -> Result<(), Fail> {
-    let mut bench = Bench::new(rt.alloc())?;
-    let jump = Effect::Next {
-        rd: 0,
-        value: 5,
-        pc: 0x800,
-    };
-    bench.execute(&rt, jump);
-    bench.expect_register(&rt, 0, 0);
-    bench.expect_pc(&rt, 0x800);
-    bench.execute(&rt, Effect::Fence { full: true });
-    bench.expect_pc(&rt, 0x804);
     Ok(())
 }

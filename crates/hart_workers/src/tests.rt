@@ -64,20 +64,6 @@ fn eight_workers_make_each_entry_once_and_in_order(rt: HostRuntime) -> Result<()
 }
 
 #[test]
-fn a_run_that_has_ended_makes_no_entry(rt: HostRuntime) -> Result<(), Fail> {
-    assert_eq!(rt; driven(rt.alloc(), &rt, 0, 8)?.entries().len(), 0);
-    Ok(())
-}
-
-#[test]
-fn one_worker_makes_all_entries(rt: HostRuntime) -> Result<(), Fail> {
-    let tally = driven(rt.alloc(), &rt, 1000, 1)?;
-    assert_eq!(rt; tally.entries().len(), 1000);
-    assert!(rt; tally.entries()[999].hart == Hart(0));
-    Ok(())
-}
-
-#[test]
 fn stretches_used(rt: HostRuntime) -> Result<(), Fail> {
     assert!(rt; driven(rt.alloc(), &rt, 1000, 2)?.appends() != 0);
     Ok(())

@@ -75,6 +75,11 @@ fn thread_runs_and_leaves(rt: HostRuntime) -> Result<(), Fail> {
     assert_eq!(rt; threads.saved(Tid(1)), Some(saved(0x1004, 8)));
     assert_eq!(rt; threads.saved(Tid(2)), None);
     runs_with(&rt, &mut threads, Tid(1), 0x1004, 8);
+    expect_live(&rt, &threads, Tid(1));
+    assert_eq!(rt; threads.clear_at(Tid(1)), 0);
+    threads.set_clear(Tid(1), 0x2000);
+    expect_live(&rt, &threads, Tid(1));
+    assert_eq!(rt; threads.clear_at(Tid(1)), 0x2000);
     Ok(())
 }
 
@@ -96,33 +101,6 @@ fn longest_waiter_is_woken_first(rt: HostRuntime) -> Result<(), Fail> {
     threads.break_wait(Tid(3));
     assert_eq!(rt; threads.wake_one(0x48), None);
     runs_with(&rt, &mut threads, Tid(3), 0x3000, u64::MAX - 3);
-    Ok(())
-}
-
-#[test]
-fn ended_thread_is_gone(rt: HostRuntime) -> Result<(), Fail> {
-    let mut threads = Threads::new(rt.alloc(), saved(0x1000, 7))?;
-    assert_eq!(rt; child(&rt, &mut threads), Ok(Tid(2)));
-    run_and_wait(&rt, &mut threads, Tid(2), 0x40);
-    expect_live(&rt, &threads, Tid(2));
-    threads.exit(Tid(2));
-    assert_eq!(rt; threads.state(Tid(2)), None);
-    assert_eq!(rt; threads.live(), 1);
-    assert_eq!(rt; threads.wake_one(0x40), None);
-    Ok(())
-}
-
-#[test]
-fn clear_address_is_kept(rt: HostRuntime) -> Result<(), Fail> {
-    let mut threads = Threads::new(rt.alloc(), saved(0x1000, 7))?;
-    assert_eq!(rt; child(&rt, &mut threads), Ok(Tid(2)));
-    expect_live(&rt, &threads, Tid(1));
-    assert_eq!(rt; threads.clear_at(Tid(1)), 0);
-    threads.set_clear(Tid(1), 0x2000);
-    expect_live(&rt, &threads, Tid(1));
-    assert_eq!(rt; threads.clear_at(Tid(1)), 0x2000);
-    expect_live(&rt, &threads, Tid(2));
-    assert_eq!(rt; threads.clear_at(Tid(2)), 0);
     Ok(())
 }
 

@@ -12,23 +12,26 @@ use crate::lock::Turnstile;
 use crate::pass::Pass;
 use crate::plays::{Count, Cut, Draw, Give, Glue, Learn, Look};
 use atomic_table::Table;
+use crossbeam_utils::Backoff;
 use std::alloc::{AllocError, Global};
 use std::marker::Brand;
 use std::snapshot::Snapshot;
 use std::sync::Wait;
-use std::{hint, thread};
 
 /// How many looks in a row a pass spins between, before it gives its processor away between looks. (own)
 const SPINS: u32 = 128;
 
-/// Waits a moment after so many looks, and answers how many they are with this one: at first it spins, so that a turn that comes soon
-/// is seen at once; later it gives its processor away, since the turn may be that of a worker that isn't running.
-fn pause(looks: u32) -> u32 {
+/// Waits a moment after so many looks, and answers how many they are with this one.
+///
+/// At first it makes one pause, by a backoff that is made new for each look, so that a turn that comes soon is seen at once. Later
+/// it snoozes by the backoff of the wait, which gives the processor away, since the turn may be that of a worker that isn't
+/// running.
+fn pause(looks: u32, wait: &Backoff) -> u32 {
     if looks < SPINS {
-        hint::spin_loop();
+        Backoff::new().spin();
         looks + 1
     } else {
-        thread::yield_now();
+        wait.snooze();
         looks
     }
 }
@@ -102,6 +105,7 @@ impl<M: Meaning> Turnstile<M> {
         ensures got { Got M.setting M.log M.next (origin_of self.now) pass.old.seen result.machine }
     {
         let ticket = self.table.shared.fetch_add::<Draw>(&mut pass.seat, 0, 1);
+        let wait = Backoff::new();
         let mut looks = 0;
         for _ in rt.forever() {
             if self.table.shared.load::<Look>(&mut pass.seat, 1) == ticket {
@@ -109,7 +113,7 @@ impl<M: Meaning> Turnstile<M> {
                 let Some(machine) = old else { unreachable!() };
                 return Turn { machine };
             }
-            looks = pause(looks);
+            looks = pause(looks, &wait);
         }
         unreachable!()
     }

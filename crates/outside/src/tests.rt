@@ -1,8 +1,7 @@
 use super::*;
 use mach_types::Hart;
 use std::alloc::{AllocError, Global};
-use std::fmt::Display;
-use std::io::ErrorKind;
+use std::io::{ErrorKind, Write};
 use std::test::Fail;
 use std::{fs, io};
 
@@ -61,19 +60,6 @@ fn each_call_of_a_fetch_may_fail(rt: HostRuntime) -> Result<(), Fail> {
 }
 
 #[test]
-fn a_name_that_a_sure_shelf_lacks_is_empty(rt: HostRuntime) -> Result<(), Fail> {
-    let alloc = rt.alloc();
-    let mut shelf = SureShelf::new(alloc, three_files(alloc)?);
-    assert_eq!(rt; fetch(alloc, &mut shelf, "c", 0)?.len(), 0);
-    assert_eq!(rt;
-        fetch(alloc, &mut shelf, "a", 3)?.as_slice(),
-        b"one".as_slice()
-    );
-    assert!(rt; fetch(alloc, &mut shelf, "a", 2) == Err(FetchError::TooBig));
-    Ok(())
-}
-
-#[test]
 fn a_long_file_is_fetched_in_pieces(rt: HostRuntime) -> Result<(), Fail> {
     let alloc = rt.alloc();
     let long = vec![in alloc; 7u8; 200_000]?;
@@ -82,19 +68,6 @@ fn a_long_file_is_fetched_in_pieces(rt: HostRuntime) -> Result<(), Fail> {
     let mut shelf = SureShelf::new(alloc, files);
     assert!(rt; fetch(alloc, &mut shelf, "long", 200_000)? == long);
     assert!(rt; fetch(alloc, &mut shelf, "long", 199_999) == Err(FetchError::TooBig));
-    Ok(())
-}
-
-#[test]
-fn a_sink_with_room_takes_64_bytes_a_call(rt: HostRuntime) -> Result<(), Fail> {
-    let alloc = rt.alloc();
-    let text = vec![in alloc; b'x'; 100]?;
-    let mut sink = MemSink::new(alloc, 100, Vec::new(alloc))?;
-    assert_eq!(rt; sink.put(b"")?, 0);
-    assert_eq!(rt; sink.put(&text)?, 64);
-    assert_eq!(rt; sink.put(&text)?, 36);
-    assert!(rt; sink.put(&text) == Err(Failed));
-    assert_eq!(rt; sink.held(), text.as_slice());
     Ok(())
 }
 
@@ -132,26 +105,16 @@ fn an_open_gate_lets_pass() {
 }
 
 #[test]
-fn a_file_of_the_system_is_fetched(rt: HostRuntime) -> Result<(), Fail> {
-    let alloc = rt.alloc();
-    fs::write(&rt, "outside_test_file", "some bytes")?;
-    let mut shelf = FileShelf::new(&rt);
-    assert_eq!(rt;
-        fetch(alloc, &mut shelf, "outside_test_file", 10)?.as_slice(),
-        b"some bytes".as_slice()
-    );
-    assert!(rt; fetch(alloc, &mut shelf, "outside_test_file", 9) == Err(FetchError::TooBig));
-    assert!(rt; fetch(alloc, &mut shelf, "outside_test_none", 9) == Err(FetchError::Failed));
-    fs::remove_file(&rt, "outside_test_file")?;
-    Ok(())
-}
-
-#[test]
-fn a_shelf_of_the_system_tells_its_last_trouble(rt: HostRuntime) -> Result<(), Fail> {
+fn files_of_the_system_are_fetched(rt: HostRuntime) -> Result<(), Fail> {
     let alloc = rt.alloc();
     fs::write(&rt, "outside_test_trouble", "some bytes")?;
     let mut shelf = FileShelf::new(&rt);
-    assert_eq!(rt; shelf.trouble(), None);
+    assert_eq!(rt;
+        fetch(alloc, &mut shelf, "outside_test_trouble", 10)?.as_slice(),
+        b"some bytes".as_slice()
+    );
+    assert!(rt; fetch(alloc, &mut shelf, "outside_test_trouble", 9) == Err(FetchError::TooBig));
+    assert!(rt; shelf.trouble().is_none());
     for (name, trouble) in [
         ("outside_test_trouble", None),
         ("outside_test_none", Some(ErrorKind::NotFound)),
@@ -166,62 +129,32 @@ fn a_shelf_of_the_system_tells_its_last_trouble(rt: HostRuntime) -> Result<(), F
     Ok(())
 }
 
-#[test]
-fn standard_output_takes_bytes(rt: HostRuntime) -> Result<(), Fail> {
-    let mut sink = OutSink::new(&rt);
-    emit(&mut sink, b"a line of the test\n")?;
-    Ok(())
-}
-
-/// A printer that fails with this trouble, or takes no byte where it is none.
+/// A writer that fails with this trouble, or takes no byte where it is none.
 #[derive(Drop)]
-struct NoPrinter(Option<ErrorKind>);
+struct NoWriter(Option<ErrorKind>);
 
-impl Print for NoPrinter {
-    fn print<D: Display + Drop>(&self, _value: D) -> io::Result<()> {
-        self.write_all(b"")
-    }
-
-    fn println<D: Display + Drop>(&self, _value: D) -> io::Result<()> {
-        self.write_all(b"")
-    }
-
-    fn write_all(&self, _bytes: &[u8]) -> io::Result<()> {
-        Err(self.0.unwrap_or(ErrorKind::WriteZero).into())
-    }
-
-    fn write_some(&self, _bytes: &[u8]) -> io::Result<usize> {
+impl Write for NoWriter {
+    fn write(&mut self, _buf: &[u8]) -> io::Result<usize> {
         match self.0 {
             Some(kind) => Err(kind.into()),
             None => Ok(0),
         }
     }
+
+    fn flush(&mut self) -> io::Result<()> {
+        Ok(())
+    }
 }
 
 #[test]
-fn a_sink_to_a_printer_tells_its_last_trouble(rt: HostRuntime) -> Result<(), Fail> {
-    let mut good = OutSink::new(&rt);
-    emit(&mut good, b"")?;
+fn a_sink_to_a_writer_tells_its_last_trouble(rt: HostRuntime) -> Result<(), Fail> {
+    let mut good = OutSink::new(io::writer(&rt));
+    emit(&mut good, b"a line of the test\n")?;
     assert_eq!(rt; good.trouble(), None);
     for trouble in [Some(ErrorKind::StorageFull), None] {
-        let mut sink = OutSink::new(NoPrinter(trouble));
+        let mut sink = OutSink::new(NoWriter(trouble));
         assert!(rt; sink.put(b"x") == Err(Failed));
         assert_eq!(rt; sink.trouble(), trouble);
     }
-    Ok(())
-}
-
-#[test]
-fn what_is_in_memory_tells_no_trouble(rt: HostRuntime) -> Result<(), Fail> {
-    let alloc = rt.alloc();
-    let mut shelf = MemShelf::new(alloc, three_files(alloc)?, vec![in alloc; 2u64]?)?;
-    assert!(rt; fetch(alloc, &mut shelf, "none", 9) == Err(FetchError::Failed));
-    assert!(rt; fetch(alloc, &mut shelf, "a", 9) == Err(FetchError::Failed));
-    assert_eq!(rt; shelf.trouble(), None);
-    let mut sink = MemSink::new(alloc, 9, vec![in alloc; 1u64]?)?;
-    assert!(rt; sink.put(b"x") == Err(Failed));
-    assert_eq!(rt; sink.trouble(), None);
-    assert_eq!(rt; SureShelf::new(alloc, Vec::new(alloc)).trouble(), None);
-    assert_eq!(rt; SureSink::new(alloc, 1)?.trouble(), None);
     Ok(())
 }

@@ -35,64 +35,60 @@ fn good_memory() -> FlatMemory {
     memory
 }
 
-/// A pc, what an interruption there comes to, and the pointer after it.
-type Row = (u64, Outcome, u64);
+/// A word of the memory that is changed, a pc, what an interruption there comes to, and whether the pointer becomes 0.
+type Row = ((u64, u64), u64, Outcome, bool);
+
+/// Bytes that nobody looks at.
+const UNUSED: (u64, u64) = (0x1070, 0);
+
+const ROWS: [Row; 12] = [
+    (UNUSED, 0x40_0000, Outcome::Aborted(0x1050), true),
+    (UNUSED, 0x40_0004, Outcome::Aborted(0x1050), true),
+    (UNUSED, 0x40_000B, Outcome::Aborted(0x1050), true),
+    (UNUSED, 0x40_000C, Outcome::Cleared, true),
+    (UNUSED, 0x3F_FFFC, Outcome::Cleared, true),
+    (UNUSED, 0, Outcome::Cleared, true),
+    ((POINTER, 0), 0x40_0000, Outcome::Nothing, true),
+    (
+        (POINTER, 1 << 38),
+        0,
+        Outcome::Killed(BadWhy::Pointer),
+        false,
+    ),
+    ((DESCRIPTOR, 1), 0, Outcome::Killed(BadWhy::Version), false),
+    (
+        (DESCRIPTOR + 24, 0x40_0000),
+        0,
+        Outcome::Killed(BadWhy::AbortInside),
+        false,
+    ),
+    (
+        (BEFORE_ABORT, 0),
+        0,
+        Outcome::Killed(BadWhy::Signature),
+        false,
+    ),
+    (
+        (DESCRIPTOR, 1 << 32),
+        0x40_0000,
+        Outcome::Killed(BadWhy::SeqFlags),
+        false,
+    ),
+];
 
 #[test]
-fn inside_and_outside(rt: HostRuntime) -> Result<(), Fail> {
-    let rows: [Row; 6] = [
-        (0x40_0000, Outcome::Aborted(0x1050), 0),
-        (0x40_0004, Outcome::Aborted(0x1050), 0),
-        (0x40_000B, Outcome::Aborted(0x1050), 0),
-        (0x40_000C, Outcome::Cleared, 0),
-        (0x3F_FFFC, Outcome::Cleared, 0),
-        (0, Outcome::Cleared, 0),
-    ];
-    for (pc, outcome, pointer) in rows {
-        let mut memory = good_memory();
-        assert_eq!(rt; interrupt(&mut memory, Some(AREA), pc), outcome, "{pc:x}");
-        assert_eq!(rt; memory.get(POINTER, 8), Some(pointer), "{pc:x}");
-        assert_eq!(rt; memory.get(DESCRIPTOR + 8, 8), Some(0x40_0000), "{pc:x}");
-    }
-    Ok(())
-}
-
-#[test]
-fn nothing_is_named(rt: HostRuntime) -> Result<(), Fail> {
-    let mut memory = good_memory();
-    assert_eq!(rt; interrupt(&mut memory, None, 0x40_0000), Outcome::Nothing);
-    assert_eq!(rt; memory.get(POINTER, 8), Some(DESCRIPTOR));
-    put(&mut memory, POINTER, 0);
-    memory.writable = 0;
-    assert_eq!(rt;
-        interrupt(&mut memory, Some(AREA), 0x40_0000),
-        Outcome::Nothing
-    );
-    Ok(())
-}
-
-/// A word that is changed before, a pc, and what is wrong.
-type BadRow = (u64, u64, u64, BadWhy);
-
-#[test]
-fn bad_areas_kill(rt: HostRuntime) -> Result<(), Fail> {
-    let rows: [BadRow; 5] = [
-        (POINTER, 1 << 38, 0, BadWhy::Pointer),
-        (DESCRIPTOR, 1, 0, BadWhy::Version),
-        (DESCRIPTOR + 24, 0x40_0000, 0, BadWhy::AbortInside),
-        (BEFORE_ABORT, 0, 0, BadWhy::Signature),
-        (DESCRIPTOR, 1 << 32, 0x40_0000, BadWhy::SeqFlags),
-    ];
-    for (at, value, pc, why) in rows {
+fn each_outcome_of_an_interruption(rt: HostRuntime) -> Result<(), Fail> {
+    for ((at, value), pc, outcome, cleared) in ROWS {
         let mut memory = good_memory();
         put(&mut memory, at, value);
-        let pointer = memory.get(POINTER, 8);
+        let before = memory.get(POINTER, 8);
+        let after = if cleared { Some(0) } else { before };
         assert_eq!(rt;
             interrupt(&mut memory, Some(AREA), pc),
-            Outcome::Killed(why),
-            "{at:x}"
+            outcome,
+            "{at:x} {pc:x}"
         );
-        assert_eq!(rt; memory.get(POINTER, 8), pointer, "{at:x}");
+        assert_eq!(rt; memory.get(POINTER, 8), after, "{at:x} {pc:x}");
     }
     Ok(())
 }

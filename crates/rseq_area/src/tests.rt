@@ -3,7 +3,6 @@
 use crate::{lowest_cid, named, register, set_cpu, unregister};
 use mach_types::errors::{EBUSY, EFAULT, EINVAL, EPERM};
 use mach_types::{Area, BadWhy, Errno, FlatMemory, Named, Seq, UserMem};
-use std::process::Abort;
 use std::test::Fail;
 
 /// The signature that librseq has on RISC-V.
@@ -60,109 +59,62 @@ fn good_memory() -> FlatMemory {
     memory
 }
 
-/// What the area names at a pc, after one word of the memory was changed.
-fn named_with(at: u64, value: u64, pc: u64) -> Named {
-    let mut memory = good_memory();
-    put(&mut memory, at, value);
-    named(&memory, &AREA, pc)
-}
-
 /// A word that is changed, a pc, and what the area then names.
 type Row = (u64, u64, u64, Named);
 
-/// The area must name what each row says.
-fn expect_named(rt: &impl Abort, rows: &[Row]) {
-    for row in rows {
-        let (at, value, pc, expected) = *row;
+/// The longest sequence from 0x400000 on.
+const LONGEST: u64 = (1 << 38) - 0x40_0000 - 1;
+
+const LONG: Named = Named::Good(Seq {
+    start: 0x40_0000,
+    length: LONGEST,
+    abort: 0x1050,
+});
+
+/// By the pointer, the range, the signature and the flags.
+const NAMED: [Row; 25] = [
+    (UNUSED, 0, 0x40_0000, GOOD),
+    (POINTER, 0, 0x40_0000, Named::Nothing),
+    (POINTER, 1 << 38, 0, Named::Bad(BadWhy::Pointer)),
+    (POINTER, u64::MAX, 0, Named::Bad(BadWhy::Pointer)),
+    (POINTER, (1 << 38) - 1, 0, Named::Bad(BadWhy::Descriptor)),
+    (POINTER, 0x13E1, 0, Named::Bad(BadWhy::Descriptor)),
+    (DESCRIPTOR, 1, 0, Named::Bad(BadWhy::Version)),
+    (START, 1 << 38, 0, Named::Bad(BadWhy::Range)),
+    (ABORT, 1 << 38, 0, Named::Bad(BadWhy::Range)),
+    (LENGTH, LONGEST + 1, 0, Named::Bad(BadWhy::Range)),
+    (LENGTH, LONGEST, 0, LONG),
+    (LENGTH, u64::MAX - 0x3F_FFFF, 0, Named::Bad(BadWhy::Range)),
+    (ABORT, 0x40_0000, 0, Named::Bad(BadWhy::AbortInside)),
+    (ABORT, 0x40_000B, 0, Named::Bad(BadWhy::AbortInside)),
+    (
+        BEFORE_ABORT,
+        0xF140_1072 << 32,
+        0,
+        Named::Bad(BadWhy::Signature),
+    ),
+    (BEFORE_ABORT, 0xF140_1073, 0, Named::Bad(BadWhy::Signature)),
+    (ABORT, 0x40_000C, 0, Named::Bad(BadWhy::Signature)),
+    (ABORT, 3, 0, Named::Bad(BadWhy::Signature)),
+    (UNUSED, 0, 0, GOOD),
+    (AREA_FLAGS, 1, 0x40_0000, Named::Bad(BadWhy::SeqFlags)),
+    (AREA_FLAGS, 1, 0x3F_FFFF, GOOD),
+    (AREA_FLAGS, 1, 0x40_000C, GOOD),
+    (DESCRIPTOR, 4 << 32, 0x40_000B, Named::Bad(BadWhy::SeqFlags)),
+    (DESCRIPTOR, 4 << 32, 0x40_000C, GOOD),
+    (AREA_FLAGS, 7 << 32, 0x40_0000, GOOD),
+];
+
+#[test]
+fn what_an_area_names(rt: HostRuntime) -> Result<(), Fail> {
+    for (at, value, pc, expected) in NAMED {
+        let mut memory = good_memory();
+        put(&mut memory, at, value);
         assert_eq!(rt;
-            named_with(at, value, pc),
+            named(&memory, &AREA, pc),
             expected,
             "{at:x} {value:x} {pc:x}"
         );
-    }
-}
-
-#[test]
-fn pointers(rt: HostRuntime) -> Result<(), Fail> {
-    let rows: [Row; 6] = [
-        (UNUSED, 0, 0x40_0000, GOOD),
-        (POINTER, 0, 0x40_0000, Named::Nothing),
-        (POINTER, 1 << 38, 0, Named::Bad(BadWhy::Pointer)),
-        (POINTER, u64::MAX, 0, Named::Bad(BadWhy::Pointer)),
-        (POINTER, (1 << 38) - 1, 0, Named::Bad(BadWhy::Descriptor)),
-        (POINTER, 0x13E1, 0, Named::Bad(BadWhy::Descriptor)),
-    ];
-    expect_named(&rt, &rows);
-    Ok(())
-}
-
-#[test]
-fn ranges(rt: HostRuntime) -> Result<(), Fail> {
-    let longest = (1 << 38) - 0x40_0000 - 1;
-    let long = Named::Good(Seq {
-        start: 0x40_0000,
-        length: longest,
-        abort: 0x1050,
-    });
-    let rows: [Row; 8] = [
-        (DESCRIPTOR, 1, 0, Named::Bad(BadWhy::Version)),
-        (START, 1 << 38, 0, Named::Bad(BadWhy::Range)),
-        (ABORT, 1 << 38, 0, Named::Bad(BadWhy::Range)),
-        (LENGTH, longest + 1, 0, Named::Bad(BadWhy::Range)),
-        (LENGTH, longest, 0, long),
-        (LENGTH, u64::MAX - 0x3F_FFFF, 0, Named::Bad(BadWhy::Range)),
-        (ABORT, 0x40_0000, 0, Named::Bad(BadWhy::AbortInside)),
-        (ABORT, 0x40_000B, 0, Named::Bad(BadWhy::AbortInside)),
-    ];
-    expect_named(&rt, &rows);
-    Ok(())
-}
-
-#[test]
-fn signatures(rt: HostRuntime) -> Result<(), Fail> {
-    let rows: [Row; 5] = [
-        (
-            BEFORE_ABORT,
-            0xF140_1072 << 32,
-            0,
-            Named::Bad(BadWhy::Signature),
-        ),
-        (BEFORE_ABORT, 0xF140_1073, 0, Named::Bad(BadWhy::Signature)),
-        (ABORT, 0x40_000C, 0, Named::Bad(BadWhy::Signature)),
-        (ABORT, 3, 0, Named::Bad(BadWhy::Signature)),
-        (UNUSED, 0, 0, GOOD),
-    ];
-    expect_named(&rt, &rows);
-    Ok(())
-}
-
-#[test]
-fn flags_count_inside(rt: HostRuntime) -> Result<(), Fail> {
-    let rows: [Row; 6] = [
-        (AREA_FLAGS, 1, 0x40_0000, Named::Bad(BadWhy::SeqFlags)),
-        (AREA_FLAGS, 1, 0x3F_FFFF, GOOD),
-        (AREA_FLAGS, 1, 0x40_000C, GOOD),
-        (DESCRIPTOR, 4 << 32, 0x40_000B, Named::Bad(BadWhy::SeqFlags)),
-        (DESCRIPTOR, 4 << 32, 0x40_000C, GOOD),
-        (AREA_FLAGS, 7 << 32, 0x40_0000, GOOD),
-    ];
-    expect_named(&rt, &rows);
-    Ok(())
-}
-
-#[test]
-fn unreadable_areas(rt: HostRuntime) -> Result<(), Fail> {
-    let memory = good_memory();
-    let rows: [(u64, Named); 5] = [
-        (0x1000, GOOD),
-        (0x13E8, Named::Nothing),
-        (0x13F0, Named::Bad(BadWhy::AreaBytes)),
-        (0xFF0, Named::Bad(BadWhy::AreaBytes)),
-        (u64::MAX - 7, Named::Bad(BadWhy::AreaBytes)),
-    ];
-    for (at, expected) in rows {
-        let area = Area { at, sig: SIGNATURE };
-        assert_eq!(rt; named(&memory, &area, 0x40_0000), expected, "{at:x}");
     }
     Ok(())
 }
@@ -170,62 +122,43 @@ fn unreadable_areas(rt: HostRuntime) -> Result<(), Fail> {
 /// Arguments of rseq(2): address, length, flags, signature.
 type Arguments = (u64, u32, u32, u32);
 
-#[test]
-fn first_registrations(rt: HostRuntime) -> Result<(), Fail> {
-    let rows: [(Arguments, Option<Errno>); 8] = [
-        ((0x2_0000, 32, 0, SIGNATURE), None),
-        ((0x2_0000, 32, 2, SIGNATURE), Some(EINVAL)),
-        ((0x2_0000, 31, 0, SIGNATURE), Some(EINVAL)),
-        ((0x2_0000, 64, 0, SIGNATURE), Some(EINVAL)),
-        ((0, 32, 0, SIGNATURE), Some(EINVAL)),
-        ((0x2_0008, 32, 0, SIGNATURE), Some(EINVAL)),
-        ((1 << 38, 32, 0, 7), Some(EFAULT)),
-        (((1 << 38) - 32, 32, 0, 7), None),
-    ];
-    for ((at, len, flags, sig), refusal) in rows {
-        let answer = register(None, at, len, flags, sig);
-        assert_eq!(rt; answer.err(), refusal, "{at:x} {len} {flags}");
-    }
-    Ok(())
-}
+/// An area that is registered, arguments, and the refusal: bit 0 of the flags takes an area back.
+const REGISTRATIONS: [(Option<Area>, Arguments, Option<Errno>); 19] = [
+    (None, (0x2_0000, 32, 0, SIGNATURE), None),
+    (None, (0x2_0000, 32, 2, SIGNATURE), Some(EINVAL)),
+    (None, (0x2_0000, 31, 0, SIGNATURE), Some(EINVAL)),
+    (None, (0x2_0000, 64, 0, SIGNATURE), Some(EINVAL)),
+    (None, (0, 32, 0, SIGNATURE), Some(EINVAL)),
+    (None, (0x2_0008, 32, 0, SIGNATURE), Some(EINVAL)),
+    (None, (1 << 38, 32, 0, 7), Some(EFAULT)),
+    (None, ((1 << 38) - 32, 32, 0, 7), None),
+    (OLD, (0x2_0000, 32, 0, SIGNATURE), Some(EBUSY)),
+    (OLD, (0x2_0000, 32, 0, 5), Some(EPERM)),
+    (OLD, (0x2_0020, 32, 0, SIGNATURE), Some(EINVAL)),
+    (OLD, (0x2_0000, 33, 0, 5), Some(EINVAL)),
+    (OLD, (0x2_0000, 32, 4, SIGNATURE), Some(EINVAL)),
+    (OLD, (0x2_0000, 32, 1, SIGNATURE), None),
+    (OLD, (0x2_0000, 32, 3, SIGNATURE), Some(EINVAL)),
+    (None, (0x2_0000, 32, 1, SIGNATURE), Some(EINVAL)),
+    (OLD, (0x2_0020, 32, 1, SIGNATURE), Some(EINVAL)),
+    (OLD, (0x2_0000, 64, 1, 5), Some(EINVAL)),
+    (OLD, (0x2_0000, 32, 1, 5), Some(EPERM)),
+];
+
+const OLD: Option<Area> = Some(Area {
+    at: 0x2_0000,
+    sig: SIGNATURE,
+});
 
 #[test]
-fn second_registrations(rt: HostRuntime) -> Result<(), Fail> {
-    let old = Area {
-        at: 0x2_0000,
-        sig: SIGNATURE,
-    };
-    let rows: [(Arguments, Errno); 5] = [
-        ((0x2_0000, 32, 0, SIGNATURE), EBUSY),
-        ((0x2_0000, 32, 0, 5), EPERM),
-        ((0x2_0020, 32, 0, SIGNATURE), EINVAL),
-        ((0x2_0000, 33, 0, 5), EINVAL),
-        ((0x2_0000, 32, 4, SIGNATURE), EINVAL),
-    ];
-    for ((at, len, flags, sig), refusal) in rows {
-        let answer = register(Some(old), at, len, flags, sig);
-        assert_eq!(rt; answer, Err(refusal), "{at:x} {len} {flags}");
-    }
-    Ok(())
-}
-
-#[test]
-fn unregistrations(rt: HostRuntime) -> Result<(), Fail> {
-    let old = Some(Area {
-        at: 0x2_0000,
-        sig: SIGNATURE,
-    });
-    let rows: [(Option<Area>, Arguments, Result<(), Errno>); 6] = [
-        (old, (0x2_0000, 32, 1, SIGNATURE), Ok(())),
-        (old, (0x2_0000, 32, 3, SIGNATURE), Err(EINVAL)),
-        (None, (0x2_0000, 32, 1, SIGNATURE), Err(EINVAL)),
-        (old, (0x2_0020, 32, 1, SIGNATURE), Err(EINVAL)),
-        (old, (0x2_0000, 64, 1, 5), Err(EINVAL)),
-        (old, (0x2_0000, 32, 1, 5), Err(EPERM)),
-    ];
-    for (area, (at, len, flags, sig), expected) in rows {
-        let answer = unregister(area, at, len, flags, sig);
-        assert_eq!(rt; answer, expected, "{at:x} {len} {flags}");
+fn areas_are_registered_and_taken_back(rt: HostRuntime) -> Result<(), Fail> {
+    for (old, (at, len, flags, sig), refusal) in REGISTRATIONS {
+        let answer = if flags % 2 == 1 {
+            unregister(old, at, len, flags, sig).err()
+        } else {
+            register(old, at, len, flags, sig).err()
+        };
+        assert_eq!(rt; answer, refusal, "{at:x} {len} {flags} {sig}");
     }
     Ok(())
 }
@@ -253,26 +186,6 @@ fn words_are_set(rt: HostRuntime) -> Result<(), Fail> {
         Some(6),
     ];
     assert_eq!(rt; words_of(&memory), expected);
-    Ok(())
-}
-
-#[test]
-fn words_that_cannot_be_written(rt: HostRuntime) -> Result<(), Fail> {
-    for writable in [0, 7, 20, 27] {
-        let mut memory = FlatMemory::new(writable);
-        assert!(rt; !set_cpu(&mut memory, &AREA, 3, 4, 5, 6));
-        assert_eq!(rt;
-            words_of(&memory),
-            [Some(0), Some(0), Some(0), Some(0)],
-            "{writable}"
-        );
-    }
-    let mut memory = FlatMemory::new(1024);
-    let last = Area {
-        at: u64::MAX - 15,
-        sig: 0,
-    };
-    assert!(rt; !set_cpu(&mut memory, &last, 3, 4, 5, 6));
     Ok(())
 }
 

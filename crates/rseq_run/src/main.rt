@@ -7,7 +7,7 @@ use outside::{FileShelf, OpenGate, OutSink};
 use reason_text::{AtHand, KeepingShelf, OUT_OF_MEMORY, USAGE, brief, explain};
 use std::alloc::Global;
 use std::env;
-use std::io::ErrorKind;
+use std::io::{self, ErrorKind};
 use std::process::ExitCode;
 use std::rt::Files;
 use std::sync::Wait;
@@ -33,7 +33,7 @@ fn answer<R: Threads + Wait + Sync + Files + Print + Eprint + Copy>(
     words: &[String],
 ) -> u8 {
     let mut shelf = KeepingShelf::new(alloc, FileShelf::new(*rt));
-    let mut sink = OutSink::new(*rt);
+    let mut sink = OutSink::new(io::writer(rt));
     let explained = rseq_explained(alloc, rt, words, &mut shelf, &mut sink, &OpenGate);
     if let Some(reason) = &explained.reason {
         let at_hand = AtHand {

@@ -11,6 +11,7 @@ mod table;
 mod theorems;
 mod threads;
 
+pub use mach_types::Action;
 pub use table::Signals;
 pub use theorems::{
     handler_returns_to_where_it_was, kill_and_stop_are_never_masked, next_signal_is_the_lowest,

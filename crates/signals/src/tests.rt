@@ -47,18 +47,6 @@ fn expect_held(rt: &impl Abort, signals: &Signals, tid: Tid)
     assert!(rt; signals.is_held(tid));
 }
 
-#[test]
-fn thread_1_starts_with_nothing(rt: HostRuntime) -> Result<(), Fail> {
-    let signals = Signals::new();
-    assert!(rt; signals.is_held(Tid(1)));
-    assert!(rt; !signals.is_held(Tid(0)));
-    assert_eq!(rt; signals.mask_of(Tid(1)), 0);
-    assert_eq!(rt; signals.next_for(Tid(1)), None);
-    assert_eq!(rt; signals.action(1), Action::default());
-    assert_eq!(rt; signals.action(31), Action::default());
-    Ok(())
-}
-
 /// What sigaction(2) answers at the start, given a handler or none.
 fn expect_act(rt: &impl Abort, sig: u8, is_new: bool, answer: Result<Action, Errno>) {
     let mut signals = Signals::new();
@@ -87,26 +75,6 @@ fn actions_are_set_or_refused(rt: HostRuntime) -> Result<(), Fail> {
     expect_act(&rt, 32, false, refused);
     expect_act(&rt, 32, true, refused);
     expect_act(&rt, 255, false, refused);
-    Ok(())
-}
-
-/// What sigprocmask(2) makes of the mask 0x6 of thread 1 with the signals 1, 2, 9 and 19.
-fn expect_mask(rt: &impl Abort, how: u32, answer: Result<u64, Errno>, after: u64) {
-    let mut signals = Signals::new();
-    assert_eq!(rt; signals.mask(Tid(1), 2, 0x6), Ok(0));
-    expect_held(rt, &signals, Tid(1));
-    assert_eq!(rt; signals.mask(Tid(1), how, 0x4_0103), answer);
-    expect_held(rt, &signals, Tid(1));
-    assert_eq!(rt; signals.mask_of(Tid(1)), after);
-}
-
-#[test]
-fn masks_are_changed_or_refused(rt: HostRuntime) -> Result<(), Fail> {
-    expect_mask(&rt, 0, Ok(0x6), 0x7);
-    expect_mask(&rt, 1, Ok(0x6), 0x4);
-    expect_mask(&rt, 2, Ok(0x6), 0x3);
-    expect_mask(&rt, 3, Err(Errno(22)), 0x6);
-    expect_mask(&rt, u32::MAX, Err(Errno(22)), 0x6);
     Ok(())
 }
 
@@ -164,31 +132,6 @@ fn ignored_signals_are_dropped(rt: HostRuntime) -> Result<(), Fail> {
     expect_posted(&rt, 28, Some(handler(0, 0)), true);
     expect_posted(&rt, 10, Some(IGNORED), false);
     expect_posted(&rt, 10, Some(Action::default()), true);
-    Ok(())
-}
-
-/// Whether signal 17, pending for two threads, is still pending for both once its action is this.
-fn expect_kept(rt: &impl Abort, action: Action, kept: bool) {
-    let mut signals = Signals::new();
-    signals.add(Tid(1), Tid(2));
-    assert!(rt; signals.act(17, Some(handler(0, 0))).is_ok());
-    expect_held(rt, &signals, Tid(1));
-    signals.post(Tid(1), 17);
-    expect_held(rt, &signals, Tid(2));
-    signals.post(Tid(2), 17);
-    assert!(rt; signals.act(17, Some(action)).is_ok());
-    let next = if kept { Some(17) } else { None };
-    expect_held(rt, &signals, Tid(1));
-    expect_held(rt, &signals, Tid(2));
-    assert_eq!(rt; signals.next_for(Tid(1)), next);
-    assert_eq!(rt; signals.next_for(Tid(2)), next);
-}
-
-#[test]
-fn action_that_ignores_drops_its_signal(rt: HostRuntime) -> Result<(), Fail> {
-    expect_kept(&rt, handler(SA_NODEFER, 1), true);
-    expect_kept(&rt, IGNORED, false);
-    expect_kept(&rt, Action::default(), false);
     Ok(())
 }
 
@@ -315,35 +258,6 @@ fn flags_decide_on_mask_and_action(rt: HostRuntime) -> Result<(), Fail> {
     Ok(())
 }
 
-/// Whether a frame can be written below a stack pointer; where it can't, nothing changes.
-fn expect_pushed(rt: &impl Abort, memory: &mut FlatMemory, sp: u64, pushed: bool) {
-    let mut signals = catching(rt, handler(SA_RESETHAND, 0));
-    let mut saved = thread_at(sp);
-    assert_eq!(rt; push(rt, &mut signals, memory, &mut saved), pushed);
-    if !pushed {
-        assert_eq!(rt; saved, thread_at(sp));
-        expect_held(rt, &signals, Tid(1));
-        assert_eq!(rt; signals.mask_of(Tid(1)), 0x1);
-        assert_eq!(rt; signals.action(10), handler(SA_RESETHAND, 0));
-        assert_eq!(rt; memory.get(0x1200, 8), Some(0));
-    }
-}
-
-#[test]
-fn frame_needs_272_bytes_that_can_be_written(rt: HostRuntime) -> Result<(), Fail> {
-    let mut memory = FlatMemory::new(WRITABLE);
-    expect_pushed(&rt, &mut memory, 0x1310, false);
-    expect_pushed(&rt, &mut memory, 0x110f, false);
-    expect_pushed(&rt, &mut memory, 0, false);
-    expect_pushed(&rt, &mut memory, 8, false);
-    expect_pushed(&rt, &mut memory, 271, false);
-    expect_pushed(&rt, &mut memory, 272, false);
-    expect_pushed(&rt, &mut memory, u64::MAX, false);
-    expect_pushed(&rt, &mut memory, 0x1110, true);
-    expect_pushed(&rt, &mut memory, 0x130f, true);
-    Ok(())
-}
-
 #[test]
 fn handler_returns_to_where_it_was(rt: HostRuntime) -> Result<(), Fail> {
     let mut memory = FlatMemory::new(WRITABLE);
@@ -357,54 +271,5 @@ fn handler_returns_to_where_it_was(rt: HostRuntime) -> Result<(), Fail> {
     assert_eq!(rt; saved, thread_at(0x1200));
     expect_held(&rt, &signals, Tid(1));
     assert_eq!(rt; signals.mask_of(Tid(1)), 0x1);
-    Ok(())
-}
-
-#[test]
-fn frame_that_a_handler_changed_is_read(rt: HostRuntime) -> Result<(), Fail> {
-    let mut memory = FlatMemory::new(WRITABLE);
-    let mut signals = Signals::new();
-    let mut saved = thread_at(0x1008);
-    for (at, word) in [
-        (0x1008, 0x2_0000),
-        (0x1010, 77),
-        (0x1100, 99),
-        (0x1108, 0x4_0103),
-        (0x1110, 5),
-    ] {
-        assert!(rt; memory.set(at, 8, word));
-    }
-    assert!(rt; signals.pop_frame(&memory, Tid(1), &mut saved));
-    assert_eq!(rt; saved.pc, 0x2_0000);
-    for (number, value) in [(0, 0), (1, 77), (2, 0), (5, 0), (31, 99)] {
-        assert_eq!(rt; saved.file.get(number), value);
-    }
-    expect_held(&rt, &signals, Tid(1));
-    assert_eq!(rt; signals.mask_of(Tid(1)), 0x3);
-    Ok(())
-}
-
-/// Whether a frame can be read at a stack pointer; where it can't, nothing changes.
-fn expect_popped(rt: &impl Abort, memory: &FlatMemory, sp: u64, popped: bool) {
-    let mut signals = catching(rt, handler(0, 0));
-    let mut saved = thread_at(sp);
-    expect_held(rt, &signals, Tid(1));
-    assert_eq!(rt; signals.pop_frame(memory, Tid(1), &mut saved), popped);
-    if !popped {
-        assert_eq!(rt; saved, thread_at(sp));
-        expect_held(rt, &signals, Tid(1));
-        assert_eq!(rt; signals.mask_of(Tid(1)), 0x1);
-    }
-}
-
-#[test]
-fn frame_needs_272_bytes_that_can_be_read(rt: HostRuntime) -> Result<(), Fail> {
-    let memory = FlatMemory::new(WRITABLE);
-    expect_popped(&rt, &memory, 0xfff, false);
-    expect_popped(&rt, &memory, 0x1000, true);
-    expect_popped(&rt, &memory, 0x12f0, true);
-    expect_popped(&rt, &memory, 0x12f1, false);
-    expect_popped(&rt, &memory, 0xffff_ffff_ffff_fef0, false);
-    expect_popped(&rt, &memory, u64::MAX, false);
     Ok(())
 }

@@ -75,13 +75,11 @@ fn entries_are_printed(rt: HostRuntime) {
         entry(6, Kind::Signal, 100, 0x0123_4567_89ab_cdef),
         b"6 signal 100 0123456789abcdef\n",
     );
-}
-
-#[test]
-fn longest_entry_has_38_bytes(rt: HostRuntime) {
-    let longest = b"7 preempt 4294967295 ffffffffffffffff\n";
-    assert_eq!(&rt; longest.len(), 38);
-    prints(&rt, entry(7, Kind::Preempt, u32::MAX, u64::MAX), longest);
+    prints(
+        &rt,
+        entry(7, Kind::Preempt, u32::MAX, u64::MAX),
+        b"7 preempt 4294967295 ffffffffffffffff\n",
+    );
 }
 
 #[test]
@@ -111,49 +109,52 @@ fn each_form_is_read(rt: HostRuntime) {
     );
 }
 
-#[test]
-fn malformed_lines_are_refused(rt: HostRuntime) {
-    refuses(&rt, b"0 run");
-    refuses(&rt, b"8 run 1");
-    refuses(&rt, b"9 exec");
-    refuses(&rt, b"00 exec");
-    refuses(&rt, b"/ exec");
-    refuses(&rt, b"0 run 01");
-    refuses(&rt, b"0 run 00");
-    refuses(&rt, b"0 run 4294967296");
-    refuses(&rt, b"0 run 18446744073709551617");
-    refuses(&rt, b"0 run +1");
-    refuses(&rt, b"0 run -1");
-    refuses(&rt, b"0 run 1a");
-    refuses(&rt, b"0 run \n");
-    refuses(&rt, b"0  run 1");
-    refuses(&rt, b"0 run  1");
-    refuses(&rt, b" 0 run 1");
-    refuses(&rt, b"0 run 1 ");
-    refuses(&rt, b"0 exec ");
-    refuses(&rt, b"0\texec");
-    refuses(&rt, b"0 exec\r\n");
-    refuses(&rt, b"\n");
-    refuses(&rt, b"\n0 exec");
-    refuses(&rt, b"\xff");
-    refuses(&rt, b"0");
-    refuses(&rt, b"exec");
-    refuses(&rt, b"0 Run 1");
-    refuses(&rt, b"0 execute");
-    refuses(&rt, b"0 exe");
-}
+/// Lines that say nothing.
+const MALFORMED: [&[u8]; 37] = [
+    b"0 run",
+    b"8 run 1",
+    b"9 exec",
+    b"00 exec",
+    b"/ exec",
+    b"0 run 01",
+    b"0 run 00",
+    b"0 run 4294967296",
+    b"0 run 18446744073709551617",
+    b"0 run +1",
+    b"0 run -1",
+    b"0 run 1a",
+    b"0 run \n",
+    b"0  run 1",
+    b"0 run  1",
+    b" 0 run 1",
+    b"0 run 1 ",
+    b"0 exec ",
+    b"0\texec",
+    b"0 exec\r\n",
+    b"\n",
+    b"\n0 exec",
+    b"\xff",
+    b"0",
+    b"exec",
+    b"0 Run 1",
+    b"0 execute",
+    b"0 exe",
+    b"0 exec 1",
+    b"0 run 1 000000000001007A",
+    b"0 run 1 000000000001007",
+    b"0 run 1 00000000000010078",
+    b"0 run 1 000000000001007g",
+    b"0 run 1 0x00000000010078",
+    b"0 run 1 0000000000010078 ",
+    b"0 run 1 0000000000010078 0",
+    b"0 exec 01 0000000000010078",
+];
 
 #[test]
-fn malformed_pcs_are_refused(rt: HostRuntime) {
-    refuses(&rt, b"0 exec 1");
-    refuses(&rt, b"0 run 1 000000000001007A");
-    refuses(&rt, b"0 run 1 000000000001007");
-    refuses(&rt, b"0 run 1 00000000000010078");
-    refuses(&rt, b"0 run 1 000000000001007g");
-    refuses(&rt, b"0 run 1 0x00000000010078");
-    refuses(&rt, b"0 run 1 0000000000010078 ");
-    refuses(&rt, b"0 run 1 0000000000010078 0");
-    refuses(&rt, b"0 exec 01 0000000000010078");
+fn malformed_lines_are_refused(rt: HostRuntime) {
+    for text in MALFORMED {
+        refuses(&rt, text);
+    }
 }
 
 #[test]
@@ -167,11 +168,4 @@ fn lines_are_counted(rt: HostRuntime) -> Result<(), Fail> {
     assert_eq!(rt; reader.next_line(), Err(BadLine(3)));
     assert_eq!(rt; reader.next_line(), Err(BadLine(3)));
     Ok(())
-}
-
-#[test]
-fn empty_script_has_no_lines(rt: HostRuntime) {
-    let mut reader = LineReader::new(b"");
-    assert_eq!(rt; reader.next_line(), Ok(None));
-    assert_eq!(rt; reader.next_line(), Ok(None));
 }

@@ -16,16 +16,6 @@ fn eight_workers_make_what_is_due(rt: HostRuntime) -> Result<(), Fail> {
 }
 
 #[test]
-fn nothing_is_due(rt: HostRuntime) -> Result<(), Fail> {
-    let tally = driven(rt.alloc(), &rt, 3, 0)?;
-    assert_eq!(rt; tally.counts().len(), 3);
-    for count in tally.counts() {
-        assert_eq!(rt; *count, 0);
-    }
-    Ok(())
-}
-
-#[test]
 fn a_rehearsal_leaves_no_entry(rt: HostRuntime) -> Result<(), Fail> {
     let tally = Tally::new(rt.alloc(), 2, 5)?;
     let (lock, mut pass) = Turnstile::new(rt.alloc(), tally, 2)?;

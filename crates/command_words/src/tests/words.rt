@@ -3,7 +3,6 @@
 use crate::commands::{Command, command_of};
 use mach_types::Limits;
 use std::alloc::{AllocError, Global};
-use std::process::Abort;
 use std::test::Fail;
 
 /// Words as they come from a command line.
@@ -131,93 +130,65 @@ fn words_of_the_grammar_name_a_command(rt: HostRuntime) -> Result<(), Fail> {
     Ok(())
 }
 
-/// None of these lines of words may name a command.
-fn expect_none<R: Abort>(alloc: Global, rt: &R, table: &[&[&str]]) -> Result<(), AllocError> {
-    for words in table {
-        let all = strings(alloc, words)?;
-        assert_eq!(rt; command_of(alloc, &all)?, None, "{words:?}");
+/// Lines of words that are none of the grammar.
+const OTHERS: [&[&str]; 50] = [
+    &["solo"],
+    &["solo", "F", "G"],
+    &["solo", "--harts", "2", "F"],
+    &["solo", "--step", "1", "F"],
+    &["solo", "-x"],
+    &["solo", "F", "--steps"],
+    &["solo", "--steps=", "F"],
+    &["solo", "--steps", "-1", "F"],
+    &["solo", "--steps=1", "--steps=1", "F"],
+    &["solo", "--steps", "0", "F"],
+    &["solo", "--steps", "1000001", "F"],
+    &["solo", "--steps=000000000000000000001", "F"],
+    &["solo", "--seed", "1", "F"],
+    &["solo", "F", "--", "--steps=1"],
+    &["solo", "--"],
+    &["solo", "--help"],
+    &["solo", "-h", "F"],
+    &["solo", "--version"],
+    &["solo", "--=1", "F"],
+    &["play", "F"],
+    &["play", "F", "S", "T"],
+    &["play", "--seed", "1", "F", "S"],
+    &["blocks"],
+    &["blocks", "F"],
+    &["blocks", "F", "S", "T"],
+    &["blocks", "--seed", "1", "F", "S"],
+    &["blocks", "F", "S", "--harts", "0"],
+    &["inspect"],
+    &["inspect", "F"],
+    &["inspect", "F", "S", "T"],
+    &["inspect", "F", "S", "--seed=1"],
+    &["inspect", "F", "S", "--harts=9"],
+    &["run"],
+    &["run", "F", "S"],
+    &["run", "--harts", "9", "F"],
+    &["run", "--harts", "2", "--harts", "2", "F"],
+    &["run", "--harts=2", "--harts", "2", "F"],
+    &["run", "--seed", "1", "--seed=1", "F"],
+    &["run", "--seed", "18446744073709551616", "F"],
+    &["run", "--seed", "-1", "F"],
+    &["run", "--seed=", "F"],
+    &["run", "F", "--seed"],
+    &["run", "--seed", "-", "F"],
+    &["run", "--seed=+1", "F"],
+    &["run", "--seed", "--", "1", "F"],
+    &[],
+    &["Solo", "F"],
+    &["block", "F", "S"],
+    &["help"],
+    &["inspects", "F", "S"],
+];
+
+#[test]
+fn other_words_name_none(rt: HostRuntime) -> Result<(), Fail> {
+    for words in OTHERS {
+        let all = strings(rt.alloc(), words)?;
+        assert_eq!(rt; command_of(rt.alloc(), &all)?, None, "{words:?}");
     }
-    Ok(())
-}
-
-#[test]
-fn other_words_of_solo_name_none(rt: HostRuntime) -> Result<(), Fail> {
-    let table: [&[&str]; 19] = [
-        &["solo"],
-        &["solo", "F", "G"],
-        &["solo", "--harts", "2", "F"],
-        &["solo", "--step", "1", "F"],
-        &["solo", "-x"],
-        &["solo", "F", "--steps"],
-        &["solo", "--steps=", "F"],
-        &["solo", "--steps", "-1", "F"],
-        &["solo", "--steps=1", "--steps=1", "F"],
-        &["solo", "--steps", "0", "F"],
-        &["solo", "--steps", "1000001", "F"],
-        &["solo", "--steps=000000000000000000001", "F"],
-        &["solo", "--seed", "1", "F"],
-        &["solo", "F", "--", "--steps=1"],
-        &["solo", "--"],
-        &["solo", "--help"],
-        &["solo", "-h", "F"],
-        &["solo", "--version"],
-        &["solo", "--=1", "F"],
-    ];
-    expect_none(rt.alloc(), &rt, &table)?;
-    Ok(())
-}
-
-#[test]
-fn other_words_of_commands_on_a_script_name_none(rt: HostRuntime) -> Result<(), Fail> {
-    let table: [&[&str]; 13] = [
-        &["play", "F"],
-        &["play", "F", "S", "T"],
-        &["play", "--seed", "1", "F", "S"],
-        &["blocks"],
-        &["blocks", "F"],
-        &["blocks", "F", "S", "T"],
-        &["blocks", "--seed", "1", "F", "S"],
-        &["blocks", "F", "S", "--harts", "0"],
-        &["inspect"],
-        &["inspect", "F"],
-        &["inspect", "F", "S", "T"],
-        &["inspect", "F", "S", "--seed=1"],
-        &["inspect", "F", "S", "--harts=9"],
-    ];
-    expect_none(rt.alloc(), &rt, &table)?;
-    Ok(())
-}
-
-#[test]
-fn other_words_of_run_name_none(rt: HostRuntime) -> Result<(), Fail> {
-    let table: [&[&str]; 13] = [
-        &["run"],
-        &["run", "F", "S"],
-        &["run", "--harts", "9", "F"],
-        &["run", "--harts", "2", "--harts", "2", "F"],
-        &["run", "--harts=2", "--harts", "2", "F"],
-        &["run", "--seed", "1", "--seed=1", "F"],
-        &["run", "--seed", "18446744073709551616", "F"],
-        &["run", "--seed", "-1", "F"],
-        &["run", "--seed=", "F"],
-        &["run", "F", "--seed"],
-        &["run", "--seed", "-", "F"],
-        &["run", "--seed=+1", "F"],
-        &["run", "--seed", "--", "1", "F"],
-    ];
-    expect_none(rt.alloc(), &rt, &table)?;
-    Ok(())
-}
-
-#[test]
-fn other_first_words_name_none(rt: HostRuntime) -> Result<(), Fail> {
-    let table: [&[&str]; 5] = [
-        &[],
-        &["Solo", "F"],
-        &["block", "F", "S"],
-        &["help"],
-        &["inspects", "F", "S"],
-    ];
-    expect_none(rt.alloc(), &rt, &table)?;
     Ok(())
 }

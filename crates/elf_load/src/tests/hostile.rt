@@ -200,26 +200,6 @@ fn changed_fields(rt: HostRuntime) -> Result<(), Fail> {
     Ok(())
 }
 
-#[test]
-fn cut_files(rt: HostRuntime) {
-    let cuts: [(usize, u8, Option<u64>); 8] = [
-        (0, 1, None),
-        (1, 1, None),
-        (63, 1, None),
-        (64, 9, None),
-        (119, 9, None),
-        (120, 11, Some(0)),
-        (131, 11, Some(0)),
-        (132, 0, None),
-    ];
-    for (length, number, detail) in cuts {
-        if length <= EXITS.len() {
-            let found = answer(rt.alloc(), &EXITS[..length], 128);
-            assert_eq!(rt; found, (number, detail), "{length} bytes");
-        }
-    }
-}
-
 /// A file of so many headers, each of a load segment of one page, at falling addresses.
 fn many_headers(alloc: Global, count: u16) -> Result<Vec<u8>, AllocError> {
     let mut file = vec![in alloc; 0u8; 64 + 56 * usize::from(count)]?;

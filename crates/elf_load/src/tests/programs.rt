@@ -52,27 +52,6 @@ pub(super) fn answer(alloc: Global, file: &[u8], frames: u32) -> (u8, Option<u64
 }
 
 #[test]
-fn smallest_program(rt: HostRuntime) -> Result<(), Fail> {
-    let limits = Limits {
-        harts: 1,
-        frames: 128,
-        steps: 1,
-    };
-    let image = load(rt.alloc(), &EXITS, &limits)?;
-    assert_eq!(rt; image.entry, 0x10078);
-    assert_eq!(rt; image.phdr, 0x10040);
-    assert_eq!(rt; image.phnum, 1);
-    assert_eq!(rt; image.break_at, 0x11000);
-    assert_eq!(rt; image.pages.len(), 1);
-    assert_eq!(rt; image.pages[0].number, 0x10);
-    assert_eq!(rt; image.pages[0].perm, 5);
-    assert_eq!(rt; image.pages[0].bytes[0x78], 0x13);
-    assert_eq!(rt; image.pages[0].bytes[0x83], 0);
-    assert_eq!(rt; image.pages[0].bytes[4095], 0);
-    Ok(())
-}
-
-#[test]
 fn prints_faults(rt: HostRuntime) -> Result<(), Fail> {
     let text = format!(in rt.alloc(); "{}; {}", ElfFault::Flags(5), ElfFault::TooLarge(322))?;
     assert_eq!(rt;

@@ -2,6 +2,8 @@
 
 use crate::tests::bench::{boot, expect_lines, make};
 use mach_types::{Choice, Tid};
+use machine_core::Machine;
+use std::process::Abort;
 use std::test::Fail;
 
 /// The first thread begins to run, and the second.
@@ -58,58 +60,82 @@ const EXITS: [u32; 3] = [
     0x00000073, // ecall: exit
 ];
 
-#[test]
-fn a_store_of_another_hart_waits(rt: HostRuntime) -> Result<(), Fail> {
-    let mut machine = boot(rt.alloc(), &PROTECTS, 100)?;
-    make(&rt, &mut machine, 0, RUN, 1);
-    make(&rt, &mut machine, 0, Choice::Exec, 10);
-    make(&rt, &mut machine, 1, RUN_CHILD, 1);
-    make(&rt, &mut machine, 1, Choice::Exec, 2);
-    expect_lines(&rt, rt.alloc(), &machine, &["not 0 exec Others"])
+/// A program, the most entries of its log, the events of harts, so many of each choice, and lines of the place that they
+/// come to.
+struct Refusal {
+    words: &'static [u32],
+    steps: u32,
+    events: &'static [(u8, Choice, u8)],
+    lines: &'static [&'static str],
+}
+
+const REFUSALS: [Refusal; 5] = [
+    Refusal {
+        words: &PROTECTS,
+        steps: 100,
+        events: &[
+            (0, RUN, 1),
+            (0, Choice::Exec, 10),
+            (1, RUN_CHILD, 1),
+            (1, Choice::Exec, 2),
+        ],
+        lines: &["not 0 exec Others"],
+    },
+    Refusal {
+        words: &STORES,
+        steps: 100,
+        events: &[(0, RUN, 1), (0, Choice::Exec, 9)],
+        lines: &["not 0 exec FullBuffer"],
+    },
+    Refusal {
+        words: &MOVES,
+        steps: 100,
+        events: &[
+            (0, RUN, 1),
+            (0, Choice::Exec, 3),
+            (0, Choice::Drain, 1),
+            (0, Choice::Exec, 4),
+        ],
+        lines: &["not 0 run 1 NotAllowed", "may 1 run 1 00000000000100cc"],
+    },
+    Refusal {
+        words: &EXITS,
+        steps: 1,
+        events: &[(0, RUN, 1)],
+        lines: &[
+            "place 1",
+            "end limit",
+            "not 0 exec Full",
+            "not 1 run 1 Full",
+        ],
+    },
+    Refusal {
+        words: &EXITS,
+        steps: 100,
+        events: &[(0, RUN, 1), (0, Choice::Exec, 3)],
+        lines: &[
+            "place 4",
+            "end exit 7",
+            "thread 1 running 0",
+            "not 0 exec Ended",
+        ],
+    },
+];
+
+/// Makes events that must be allowed.
+fn make_all(rt: &impl Abort, machine: &mut Machine, events: &[(u8, Choice, u8)]) {
+    for (hart, choice, count) in events {
+        make(rt, machine, *hart, *choice, *count);
+    }
 }
 
 #[test]
-fn a_buffer_is_full(rt: HostRuntime) -> Result<(), Fail> {
-    let mut machine = boot(rt.alloc(), &STORES, 100)?;
-    make(&rt, &mut machine, 0, RUN, 1);
-    make(&rt, &mut machine, 0, Choice::Exec, 9);
-    expect_lines(&rt, rt.alloc(), &machine, &["not 0 exec FullBuffer"])
-}
-
-#[test]
-fn an_affinity_lacks_a_hart(rt: HostRuntime) -> Result<(), Fail> {
-    let mut machine = boot(rt.alloc(), &MOVES, 100)?;
-    make(&rt, &mut machine, 0, RUN, 1);
-    make(&rt, &mut machine, 0, Choice::Exec, 3);
-    make(&rt, &mut machine, 0, Choice::Drain, 1);
-    make(&rt, &mut machine, 0, Choice::Exec, 4);
-    let lines = ["not 0 run 1 NotAllowed", "may 1 run 1 00000000000100cc"];
-    expect_lines(&rt, rt.alloc(), &machine, &lines)
-}
-
-#[test]
-fn a_log_is_full(rt: HostRuntime) -> Result<(), Fail> {
-    let mut machine = boot(rt.alloc(), &EXITS, 1)?;
-    make(&rt, &mut machine, 0, RUN, 1);
-    let lines = [
-        "place 1",
-        "end limit",
-        "not 0 exec Full",
-        "not 1 run 1 Full",
-    ];
-    expect_lines(&rt, rt.alloc(), &machine, &lines)
-}
-
-#[test]
-fn a_run_has_ended(rt: HostRuntime) -> Result<(), Fail> {
-    let mut machine = boot(rt.alloc(), &EXITS, 100)?;
-    make(&rt, &mut machine, 0, RUN, 1);
-    make(&rt, &mut machine, 0, Choice::Exec, 3);
-    let lines = [
-        "place 4",
-        "end exit 7",
-        "thread 1 running 0",
-        "not 0 exec Ended",
-    ];
-    expect_lines(&rt, rt.alloc(), &machine, &lines)
+fn refused_choices_have_their_conditions(rt: HostRuntime) -> Result<(), Fail> {
+    for refusal in &REFUSALS {
+        assert!(rt; refusal.steps > 0 && refusal.steps < 1000);
+        let mut machine = boot(rt.alloc(), refusal.words, refusal.steps)?;
+        make_all(&rt, &mut machine, refusal.events);
+        expect_lines(&rt, rt.alloc(), &machine, refusal.lines)?;
+    }
+    Ok(())
 }

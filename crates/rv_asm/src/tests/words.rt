@@ -12,13 +12,6 @@ macro_rules! rows {
     };
 }
 
-/// A list of instructions, a line each.
-macro_rules! insts {
-    ($($inst:expr;)*) => {
-        [$($inst),*]
-    };
-}
-
 const WORDS: [(Inst, u32); 12] = rows! {
     Inst::Lui { rd: 31, imm: -2147483648 } => 0x80000fb7; // lui x31, 0x80000
     Inst::Jal { rd: 16, imm: -349526 } => 0xaabaa86f; // jal x16, .-349526
@@ -34,32 +27,9 @@ const WORDS: [(Inst, u32); 12] = rows! {
     Inst::Ebreak => 0x00100073; // ebreak
 };
 
-/// A register or an immediate just past its field, one of each field.
-const UNFIT: [Inst; 12] = insts! {
-    Inst::Lui { rd: 32, imm: 0 };
-    Inst::Lui { rd: 1, imm: 4095 };
-    Inst::Lui { rd: 1, imm: 2147483648 };
-    Inst::Jal { rd: 1, imm: 1048576 };
-    Inst::Jal { rd: 1, imm: 3 };
-    Inst::Bne { rs1: 1, rs2: 2, imm: -4098 };
-    Inst::Addi { rd: 1, rs1: 2, imm: 2048 };
-    Inst::Sb { rs1: 1, rs2: 2, imm: -2049 };
-    Inst::Slli { rd: 1, rs1: 2, shamt: 64 };
-    Inst::Sraiw { rd: 1, rs1: 2, shamt: 32 };
-    Inst::Add { rd: 1, rs1: 32, rs2: 3 };
-    Inst::Fence { fm: 0, pred: 0, succ: 16 };
-};
-
 #[test]
 fn encodes_words(rt: HostRuntime) {
     for (inst, word) in WORDS {
         assert_eq!(rt; encode(&inst), Some(word), "at {word:x}");
-    }
-}
-
-#[test]
-fn refuses_what_does_not_fit(rt: HostRuntime) {
-    for inst in UNFIT {
-        assert!(rt; encode(&inst).is_none(), "at {inst:?}");
     }
 }

@@ -196,9 +196,10 @@ impl Bench {
         Ok(bench)
     }
 
-    /// A ready thread begins to run on a hart, 0 or 1, which must be idle; answers the registers that it goes on with.
-    pub fn begin(&mut self, rt: &impl Abort, hart: u8, tid: u32) -> Saved {
-        assert!(rt; hart < 2);
+    /// A ready thread begins to run on a hart, which must be idle; answers the registers that it goes on with.
+    pub fn begin(&mut self, rt: &impl Abort, hart: u8, tid: u32) -> Saved
+        requires { hart < 2 }
+    {
         let (tid, hart) = (Tid(tid), Hart(hart));
         expect_idle(rt, &self.kernel.threads, hart);
         expect_ready(rt, &self.kernel.threads, tid);

@@ -78,9 +78,11 @@ fn take(rt: &impl Abort, bench: &mut Bench, step: Step) {
         }
         Step::Exit(tid) => bench.exit(rt, tid),
         Step::Run(hart, tid) => {
+            assert!(rt; hart < 2);
             let _saved = bench.begin(rt, hart, tid);
         }
         Step::Wakes(hart, tid, a0) => {
+            assert!(rt; hart < 2);
             let saved = bench.begin(rt, hart, tid);
             assert_eq!(rt; saved.file.get(10), a0);
         }
