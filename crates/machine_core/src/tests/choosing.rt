@@ -210,28 +210,28 @@ fn stretches_make_the_log_of_single_events(rt: HostRuntime) -> Result<(), Fail> 
     Ok(())
 }
 
-/// How long the log may be, how many events hart 0 makes before a stretch of it is lent, whose event follows if any does, and how
-/// many entries come of the stretch. After two events hart 0 has the credit for the next three instructions, and after seven for
-/// the next four.
-const STRETCHES: [(u32, u8, Option<u8>, u32); 8] = [
-    (100, 2, None, 3),
-    (5, 2, None, 3),
-    (4, 2, None, 2),
-    (3, 2, None, 1),
-    (100, 7, Some(0), 0),
-    (100, 7, Some(1), 4),
-    (9, 7, Some(1), 1),
-    (8, 7, Some(1), 0),
+/// How long the log may be, how many events hart 0 makes before a stretch of it is lent, whose event follows if any does, how many
+/// entries come of the stretch, and how long the log is then. After two events hart 0 has the credit for the next three
+/// instructions, and after seven for the next four.
+const STRETCHES: [(u32, u8, Option<u8>, u32, usize); 8] = [
+    (100, 2, None, 3, 5),
+    (5, 2, None, 3, 5),
+    (4, 2, None, 2, 4),
+    (3, 2, None, 1, 3),
+    (100, 7, Some(0), 0, 8),
+    (100, 7, Some(1), 4, 12),
+    (9, 7, Some(1), 1, 9),
+    (8, 7, Some(1), 0, 8),
 ];
 
 /// Appends a worked stretch of hart 0 after one more event of some hart, or at once, where one without work comes to nothing.
-/// Answers how many entries that was, with those of the other event.
-fn append_with(rt: &impl Abort, player: &mut Player, since: Option<u8>) -> (u32, usize) {
+/// Answers how many entries came of it.
+fn append_with(rt: &impl Abort, player: &mut Player, since: Option<u8>) -> u32 {
     match since {
-        Some(hart) => (player.append_after(rt, 0, hart), 1),
+        Some(hart) => player.append_after(rt, 0, hart),
         None => {
             assert_eq!(rt; player.append_unworked(rt, 0), 0);
-            (player.append_worked(0), 0)
+            player.append_worked(0)
         }
     }
 }
@@ -239,13 +239,15 @@ fn append_with(rt: &impl Abort, player: &mut Player, since: Option<u8>) -> (u32,
 /// As many as the log has room for, and none where its hart has made an event since.
 #[test]
 fn a_stretch_is_appended(rt: HostRuntime) -> Result<(), Fail> {
-    for (steps, before, since, count) in STRETCHES {
+    for (steps, before, since, count, length) in STRETCHES {
         assert!(rt; 0 < steps && steps < 1000);
         let mut player = Player::new(rt.alloc(), &PAIR, steps, 0)?;
         player.advance_all(&rt, 0, before);
-        let (appended, others) = append_with(&rt, &mut player, since);
-        assert_eq!(rt; appended, count, "steps {steps}");
-        let length = usize::from(before) + others + count as usize;
+        assert_eq!(rt;
+            append_with(&rt, &mut player, since),
+            count,
+            "steps {steps}"
+        );
         assert_eq!(rt; player.machine().log().len(), length, "steps {steps}");
     }
     Ok(())
