@@ -19,7 +19,7 @@ use std::snapshot::Snapshot;
 use std::sync::Wait;
 
 /// How many looks in a row a pass spins between, before it gives its processor away between looks. (own)
-const SPINS: u32 = 128;
+const SPINS: u32 = 32;
 
 /// Waits a moment after so many looks, and answers how many they are with this one.
 ///
