@@ -1,6 +1,6 @@
 //! How a run differs from what is due, and how that is told.
 
-use crate::printed::lines;
+use crate::printed::is_newline;
 use std::alloc::{AllocError, Global};
 use std::{fmt, str};
 
@@ -76,8 +76,9 @@ impl LineDifference {
         found: &[u8],
         due: &[u8],
     ) -> Result<LineDifference, AllocError> {
-        let same = lines(found)
-            .zip(lines(due))
+        let same = found
+            .split_inclusive(is_newline)
+            .zip(due.split_inclusive(is_newline))
             .take_while(|pair| pair.0 == pair.1)
             .count();
         Ok(LineDifference {
@@ -90,7 +91,7 @@ impl LineDifference {
 
 /// The line at this place, counted from 0; no bytes past the last.
 fn line_at(alloc: Global, text: &[u8], place: usize) -> Result<Vec<u8>, AllocError> {
-    match lines(text).nth(place) {
+    match text.split_inclusive(is_newline).nth(place) {
         Some(line) => line.to_vec(alloc),
         None => Ok(Vec::new(alloc)),
     }

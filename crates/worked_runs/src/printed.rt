@@ -1,7 +1,8 @@
 //! The parts of a text that `solo`, `play` or `run` prints: `console N`, N bytes, `log M`, M lines, and the end.
 
+ghost use Rattle.std.specs.Prelude.{◌≡◌, ◌↔◌, IsTrue};
+
 use std::alloc::{AllocError, Global};
-use std::slice::SplitInclusive;
 use std::str;
 
 /// What stands before the log lines, these, and what stands behind them.
@@ -26,30 +27,32 @@ impl<'a> Printed<'a> {
     /// Whether all log lines are of one hart.
     fn is_of_one_hart(&self) -> bool {
         let first = self.log.first();
-        lines(self.log).all(|line| line.first() == first)
+        self.log
+            .split_inclusive(is_newline)
+            .all(|line| line.first() == first)
     }
 }
 
 /// The number of a line of a word and a number, and what follows the line.
 fn number_line<'a>(text: &'a [u8], word: &[u8]) -> Option<(usize, &'a [u8])> {
-    let mut parts = text
-        .strip_prefix(word)?
-        .splitn(2, |byte: &u8| *byte == b'\n');
+    let mut parts = text.strip_prefix(word)?.splitn(2, is_newline);
     let digits = str::from_utf8(parts.next()?).ok()?;
     Some((digits.parse::<usize>().ok()?, parts.next()?))
 }
 
 /// How many bytes the first lines of a text have.
 fn length_of_lines(text: &[u8], count: usize) -> usize {
-    lines(text).take(count).fold(
+    text.split_inclusive(is_newline).take(count).fold(
         0,
         |length: usize, line: &[u8]| length.saturating_add(line.len()),
     )
 }
 
-/// The lines of a text, each with its newline.
-pub(crate) fn lines(text: &[u8]) -> impl Iterator<Item = &[u8]> {
-    text.split_inclusive(|byte: &u8| *byte == b'\n')
+/// Whether a byte ends a line.
+pub(crate) fn is_newline(byte: &u8) -> bool
+    ensures { IsTrue result ↔ (byte.now ≡ 10) }
+{
+    *byte == b'\n'
 }
 
 /// The text with hart 0 in its log lines, where they are all of one hart; else as it is.
@@ -67,7 +70,7 @@ pub(crate) fn on_hart_0(alloc: Global, text: &[u8]) -> Result<Vec<u8>, AllocErro
 
 /// Appends log lines, with hart 0 in each.
 fn extend_on_hart_0(moved: &mut Vec<u8>, log: &[u8]) -> Result<(), AllocError> {
-    for line in lines(log) {
+    for line in log.split_inclusive(is_newline) {
         if let Some((_, rest)) = line.split_first() {
             moved.push(b'0')?;
             moved.extend_from_slice(rest)?;
