@@ -11,7 +11,7 @@ use top_call::{rseq_main, rseq_quiet, sure_main, sure_quiet};
 const ROOM: usize = 1_048_576;
 
 /// What a call came to: its status, none where it leaves the words to workers, and what the sink holds.
-#[derive(Debug, Drop)]
+#[derive(Drop)]
 pub(crate) struct Outcome {
     pub(crate) status: Option<u8>,
     pub(crate) text: Vec<u8>,

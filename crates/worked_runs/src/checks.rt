@@ -77,7 +77,7 @@ fn quiet_unlike(
 }
 
 /// The program and the limits of words that print a log.
-#[derive(Clone, Copy, Debug, Drop)]
+#[derive(Clone, Copy, Drop)]
 struct Logged<'a> {
     program: &'a str,
     limits: Limits,

@@ -5,7 +5,7 @@ use std::alloc::{AllocError, Global};
 use std::{fmt, str};
 
 /// The calls that are made of a run.
-#[derive(Clone, Copy, Debug, PartialEq, Eq, Drop)]
+#[derive(Clone, Copy, Drop)]
 pub(crate) enum Call {
     /// `rseq_main`.
     Main,
@@ -32,7 +32,7 @@ impl fmt::Display for Call {
 }
 
 /// How one outcome isn't like another. No status is that of a call that leaves the words to workers.
-#[derive(Debug, Drop)]
+#[derive(Drop)]
 pub(crate) enum Unlike {
     Status { found: Option<u8>, due: Option<u8> },
     /// The first line that differs.
@@ -61,7 +61,7 @@ impl fmt::Display for Unlike {
 }
 
 /// A line at which two texts differ. A line past the end of a text has no bytes.
-#[derive(Debug, Drop)]
+#[derive(Drop)]
 pub(crate) struct LineDifference {
     /// Counted from 1.
     number: usize,
@@ -117,7 +117,7 @@ fn write_line<W: fmt::Write>(f: &mut fmt::Formatter<W>, line: &[u8]) -> fmt::Res
 }
 
 /// A call of a run that came to something else than is due.
-#[derive(Debug, Drop)]
+#[derive(Drop)]
 pub(crate) struct Difference {
     pub(crate) call: Call,
     pub(crate) unlike: Unlike,

@@ -6,14 +6,14 @@ use crate::printed::on_hart_0;
 use std::alloc::{AllocError, Global};
 
 /// The status and the text that are due.
-#[derive(Debug, Drop)]
+#[derive(Drop)]
 pub(crate) struct Due {
     pub(crate) status: u8,
     pub(crate) text: DueText,
 }
 
 /// The text that is due.
-#[derive(Debug, Drop)]
+#[derive(Drop)]
 pub(crate) enum DueText {
     /// These bytes.
     Whole(Vec<u8>),

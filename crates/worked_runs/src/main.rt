@@ -1,8 +1,7 @@
 //! `worked_runs`: makes the runs that its folder data/ tells of, and says which of them come to something else
 //! than stands there.
 //!
-//! A row is a folder: command lines, the files that they name, and the status and the text that are due. The file
-//! `rows` names the folders, in the order in which they are walked.
+//! A row is a folder GROUP/NAME: command lines, the files that they name, and the status and the text that are due.
 #![tactic(auto)]
 
 mod calls;
@@ -16,19 +15,18 @@ mod rows;
 use anyhow::{Context, Result};
 use calls::words_of;
 use checks::difference_of;
-use reading::read_row;
+use reading::{folders_in, read_row};
 use rows::{Row, Run};
-use std::fs;
 use std::process::ExitCode;
 use std::rt::Files;
 use std::sync::Wait;
 use std::thread::Threads;
 
-/// The file that names the folders of the rows, one a line.
-const INDEX: &str = "rows";
+/// The folder of the groups: the one that the program runs in.
+const HERE: &str = ".";
 
 /// How many runs were made, and how many of them differ from what is due.
-#[derive(Debug, Drop)]
+#[derive(Drop)]
 struct Tally {
     runs: u64,
     differ: u64,
@@ -45,15 +43,28 @@ fn main(rt: HostRuntime) -> Result<ExitCode> {
     }
 }
 
-/// Makes the runs of all rows, and prints a line for each that differs.
-fn walk<R: Files + AllocGlobal + Print + Threads + Wait + Sync>(rt: &R) -> Result<Tally> {
-    let index = fs::read_to_string(rt, INDEX).context("the file that names the rows")?;
+/// Makes the runs of all groups, and prints a line for each that differs.
+fn walk<R: Files + AllocGlobal + Print + Threads + Wait + Sync + Clone + Drop>(
+    rt: &R,
+) -> Result<Tally> {
     let mut tally = Tally { runs: 0, differ: 0 };
-    for name in index.lines() {
-        let row = read_row(rt, name).context(format_args!("the row {name}"))?;
-        check_row(rt, &row, &mut tally)?;
+    for group in folders_in(rt, HERE)?.iter() {
+        check_group(rt, group.as_str(), &mut tally)?;
     }
     Ok(tally)
+}
+
+/// Makes the runs of the rows of one group.
+fn check_group<R: Files + AllocGlobal + Print + Threads + Wait + Sync + Clone + Drop>(
+    rt: &R,
+    group: &str,
+    tally: &mut Tally,
+) -> Result<()> {
+    for name in folders_in(rt, group)?.iter() {
+        let row = read_row(rt, group, name.as_str()).context(format_args!("{group}/{name}"))?;
+        check_row(rt, &row, tally)?;
+    }
+    Ok(())
 }
 
 /// Makes the runs of one row.

@@ -6,7 +6,7 @@ use std::alloc::{AllocError, Global};
 use std::str;
 
 /// What stands before the log lines, these, and what stands behind them.
-#[derive(Clone, Copy, Debug, Drop)]
+#[derive(Clone, Copy, Drop)]
 pub(crate) struct Printed<'a> {
     head: &'a [u8],
     pub(crate) log: &'a [u8],

@@ -1,4 +1,4 @@
-//! Reading a row from its folder.
+//! Finding the rows, and reading each from its folder.
 
 use crate::dues::{Due, DueText};
 use crate::rows::{Failing, NamedFile, Row};
@@ -10,12 +10,30 @@ use std::{fs, io};
 /// The files of a folder that its command lines may name: a program, and a script.
 const GIVEN: [&str; 2] = ["F", "S"];
 
-/// The row in a folder: its files `words`, `fails` (where calls of the devices fail), `F`, `S`, `status`, and `stdout`,
-/// or in place of that `begins` and `ends`; and `any-hart`, where the text leaves the hart open.
-pub(crate) fn read_row<R: Files + AllocGlobal>(rt: &R, folder: &str) -> Result<Row> {
+/// The names of the folders in a folder, in the order of their letters.
+pub(crate) fn folders_in<R: Files + AllocGlobal + Clone + Drop>(
+    rt: &R,
+    folder: &str,
+) -> Result<Vec<String>> {
+    let mut names = Vec::new(rt.alloc());
+    for entry in fs::read_dir(rt, folder)? {
+        let entry = entry?;
+        if entry.file_type()?.is_dir() {
+            names.push(String::from_str(rt.alloc(), entry.file_name())?)?;
+        }
+    }
+    names.sort()?;
+    Ok(names)
+}
+
+/// The row of a group and a name. Its folder has the files `words`; `fails`, where calls of the devices fail; `F` and
+/// `S`; `status`; and `stdout`, with `any-hart` where the text leaves the hart open, or in its place `begins` and
+/// `ends`.
+pub(crate) fn read_row<R: Files + AllocGlobal>(rt: &R, group: &str, name: &str) -> Result<Row> {
     let alloc = rt.alloc();
+    let path = path_of(alloc, group, name)?;
+    let folder = path.as_str();
     Ok(Row {
-        name: String::from_str(alloc, folder)?,
         lines: read_lines(rt, folder)?,
         failing: read_failing(rt, folder)?,
         files: read_files(rt, folder)?,
@@ -23,6 +41,7 @@ pub(crate) fn read_row<R: Files + AllocGlobal>(rt: &R, folder: &str) -> Result<R
             status: read_status(rt, folder)?,
             text: read_due_text(rt, folder)?,
         },
+        name: path,
     })
 }
 

@@ -5,14 +5,14 @@ use std::alloc::Global;
 use std::fmt;
 
 /// A file that the command lines of a row may name.
-#[derive(Debug, Drop)]
+#[derive(Drop)]
 pub(crate) struct NamedFile {
     pub(crate) name: String,
     pub(crate) bytes: Vec<u8>,
 }
 
 /// Which calls of the shelf and of the sink fail, each counted from 1.
-#[derive(Debug, Drop)]
+#[derive(Drop)]
 pub(crate) struct Failing {
     pub(crate) shelf: Vec<u64>,
     pub(crate) sink: Vec<u64>,
@@ -46,7 +46,7 @@ impl fmt::Display for Failing {
 }
 
 /// A row: each of its command lines is a run with each of its choices of calls that fail.
-#[derive(Debug, Drop)]
+#[derive(Drop)]
 pub(crate) struct Row {
     pub(crate) name: String,
     pub(crate) lines: Vec<String>,
@@ -56,7 +56,7 @@ pub(crate) struct Row {
 }
 
 /// A run: the words of its command line, the files that they name, and which calls of its devices fail.
-#[derive(Clone, Copy, Debug, Drop)]
+#[derive(Clone, Copy, Drop)]
 pub(crate) struct Run<'a> {
     pub(crate) words: &'a [String],
     pub(crate) files: &'a [NamedFile],
