@@ -4,7 +4,7 @@
     examples/check.py [PROGRAM [NAME..]]
 
 PROGRAM is crates/rseq_run/out/rseq_run where it isn't given: `rt ci` leaves it there. Where names are given, those alone are run: a
-name of an example, or a group of worked runs (barriers), or one of them (barriers/taken_by_an_idle_hart).
+name of an example, or of a group of worked runs (barriers/), or of one of them (barriers/taken_by_an_idle_hart).
 
 For each example NAME:
 - `solo` prints the console of console.expected and the end of end.expected;
@@ -310,7 +310,7 @@ def rows(names):
     """The folders of the worked runs that the built program can make, of these names; all of them where no name is given."""
     for words in sorted(ROWS.glob('*/*/words')):
         row, group = words.parent, words.parent.parent.name
-        if not (row / 'fails').exists() and (not names or group in names or f'{group}/{row.name}' in names):
+        if not (row / 'fails').exists() and (not names or f'{group}/' in names or f'{group}/{row.name}' in names):
             yield row
 
 
