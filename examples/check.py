@@ -1,10 +1,10 @@
 #!/usr/bin/env python3
-"""Runs the examples on the built program, and compares what it prints with what stands beside them.
+"""Runs the examples and the worked runs on the built program, and compares what it prints with what stands beside them.
 
     examples/check.py [PROGRAM [NAME..]]
 
-PROGRAM is crates/rseq_run/out/rseq_run where it isn't given: `rt ci` leaves it there. Where names are given, those examples alone
-are run.
+PROGRAM is crates/rseq_run/out/rseq_run where it isn't given: `rt ci` leaves it there. Where names are given, those alone are run: a
+name of an example, or of a group of worked runs (barriers/), or of one of them (barriers/taken_by_an_idle_hart).
 
 For each example NAME:
 - `solo` prints the console of console.expected and the end of end.expected;
@@ -25,6 +25,10 @@ For each example NAME:
   *.end beside it (else the example's), where they hang on the interleaving (a *.pattern there is a regular expression for the
   whole console); and the log lines that it prints, played on as many harts, give the same text.
 
+For each worked run crates/worked_runs/data/GROUP/NAME, each line of its file `words`, given to the program in that folder, gives its
+`status` and its `stdout` (but for the number of the hart, where a file `any-hart` is there and all log lines are of one hart); or a
+text that begins with its `begins` and ends with its `ends`. Those whose devices fail (a file `fails`) only crates/worked_runs can make.
+
 In each call standard error is empty exactly where the status is 0.
 """
 import os
@@ -34,9 +38,11 @@ import shutil
 import subprocess
 import sys
 import tempfile
+from concurrent.futures import ThreadPoolExecutor
 
 HERE = pathlib.Path(__file__).resolve().parent
 BUILT = HERE.parent / 'crates' / 'rseq_run' / 'out' / 'rseq_run'
+ROWS = HERE.parent / 'crates' / 'worked_runs' / 'data'
 STEPS = '1000000'
 SEEDS = range(1, 11)
 HARTS = ('1', '2', '4', '8')
@@ -82,10 +88,10 @@ class Output:
         return int(number)
 
 
-def run(program, *words):
-    """The status and the standard output of the program on these words."""
+def run(program, *words, folder=None):
+    """The status and the standard output of the program on these words, in this folder."""
     try:
-        ran = subprocess.run([program, *words], stdin=subprocess.DEVNULL, capture_output=True, timeout=SECONDS)
+        ran = subprocess.run([program, *words], cwd=folder, stdin=subprocess.DEVNULL, capture_output=True, timeout=SECONDS)
     except subprocess.TimeoutExpired:
         raise Difference(f'{" ".join(map(str, words))}: it had not ended after {SECONDS} seconds') from None
     if (ran.returncode == DONE) != (not ran.stderr):
@@ -264,6 +270,50 @@ def check_runs(program, folder, elf, harts):
         check_replay(program, elf, text, harts)
 
 
+def on_hart_0(text):
+    """The text with hart 0 in its log lines, where they are all of one hart; else as it is."""
+    log = Output(text).log
+    if len({line[:1] for line in log}) != 1:
+        return text
+    end = Output(text).end
+    return text[:len(text) - len(b''.join(log)) - len(end)] + b''.join(b'0' + line[1:] for line in log) + end
+
+
+def check_line(program, folder, line):
+    """A command line of a worked run gives the status and the text that stand beside it."""
+    status, text = run(program, *line.split(), folder=folder)
+    want('its status', status, int((folder / 'status').read_text()))
+    if not (folder / 'stdout').is_file():
+        begins, ends = (folder / 'begins').read_bytes(), (folder / 'ends').read_bytes()
+        want('its beginning', text[:len(begins)], begins)
+        want('its ending', text[max(0, len(text) - len(ends)):], ends)
+        return
+    due = (folder / 'stdout').read_bytes()
+    if (folder / 'any-hart').exists():
+        text, due = on_hart_0(text), on_hart_0(due)
+    want('its text', text, due)
+
+
+def row_passes(program, folder):
+    """Whether each command line of a worked run passes; says which doesn't."""
+    is_well = True
+    for line in (folder / 'words').read_text().splitlines():
+        try:
+            check_line(program, folder, line)
+        except Difference as difference:
+            is_well = False
+            print(f'{folder.parent.name}/{folder.name}: {line}: {difference}')
+    return is_well
+
+
+def rows(names):
+    """The folders of the worked runs that the built program can make, of these names; all of them where no name is given."""
+    for words in sorted(ROWS.glob('*/*/words')):
+        row, group = words.parent, words.parent.parent.name
+        if not (row / 'fails').exists() and (not names or f'{group}/' in names or f'{group}/{row.name}' in names):
+            yield row
+
+
 def checks(program, folder):
     """The checks of one example, each with its name."""
     elf = folder / f'{folder.name}.elf'
@@ -309,7 +359,11 @@ def main():
     folders = sorted(it.parent for it in HERE.glob('*/console.expected') if not names or it.parent.name in names)
     failed = sum(not passes(program, folder) for folder in folders)
     print(f'{len(folders) - failed} examples passed' + (f', {failed} failed' if failed else ''))
-    sys.exit(1 if failed or not folders else 0)
+    worked = list(rows(names))
+    with ThreadPoolExecutor(os.cpu_count()) as workers:
+        differ = sum(not is_well for is_well in workers.map(lambda row: row_passes(program, row), worked))
+    print(f'{len(worked) - differ} worked runs passed' + (f', {differ} failed' if differ else ''))
+    sys.exit(1 if failed or differ or not (folders or worked) or not (names or worked) else 0)
 
 
 main()
