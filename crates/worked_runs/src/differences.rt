@@ -48,15 +48,26 @@ pub(crate) enum Unlike {
 impl fmt::Display for Unlike {
     fn fmt<W: fmt::Write>(&self, f: &mut fmt::Formatter<W>) -> fmt::Result {
         match self {
-            Unlike::Status { found, due } => write!(
-                f,
-                "its status is {found:?}, and {due:?} is due"
-            ),
+            Unlike::Status { found, due } => {
+                write!(f, "its status is ")?;
+                write_status(f, *found)?;
+                write!(f, ", and ")?;
+                write_status(f, *due)?;
+                write!(f, " is due")
+            }
             Unlike::Line(line) => write!(f, "{line}"),
             Unlike::Beginning => write!(f, "its text begins otherwise"),
             Unlike::Ending => write!(f, "its text ends otherwise"),
             Unlike::NoLog => write!(f, "its text has no log"),
         }
+    }
+}
+
+/// Writes a status.
+fn write_status<W: fmt::Write>(f: &mut fmt::Formatter<W>, status: Option<u8>) -> fmt::Result {
+    match status {
+        Some(number) => write!(f, "{number}"),
+        None => write!(f, "none"),
     }
 }
 
