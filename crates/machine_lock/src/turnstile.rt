@@ -23,9 +23,9 @@ const SPINS: u32 = 32;
 
 /// Waits a moment after so many looks, and answers how many they are with this one.
 ///
-/// At first it makes one pause, by a backoff that is made new for each look, so that a turn that comes soon is seen at once. Later
-/// it snoozes by the backoff of the wait, which gives the processor away, since the turn may be that of a worker that isn't
-/// running.
+/// At first it makes one pause, by a backoff that is made new for each look, so that a turn that comes soon
+/// is seen at once. Later it snoozes by the backoff of the wait, which gives the processor away, since the
+/// turn may be that of a worker that isn't running.
 fn pause(looks: u32, wait: &Backoff) -> u32 {
     if looks < SPINS {
         Backoff::new().spin();

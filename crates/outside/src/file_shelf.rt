@@ -14,8 +14,8 @@ use std::rt::Files;
 /// The files of the system. It tells no content; its one count of faults, raised at each error of
 /// std, is the count of every name.
 ///
-/// What a file has left is known where std's file tells it. The system's files tell nothing: what they give is trusted, and no
-/// clause names their bytes.
+/// What a file has left is known where std's file tells it. The system's files tell nothing: what they give
+/// is trusted, and no clause names their bytes.
 #[derive(Drop)]
 pub struct FileShelf<R: Files> {
     files: R,
@@ -30,7 +30,12 @@ impl<R: Files> Model for FileShelf<R> {
 
     ghost Value = { SystemFiles };
 
-    ghost view = { λ s. record { is_started = is_some s.started; left = known_left R.File.remaining s.started; faults = s.faults; trouble = s.trouble } };
+    ghost view = { λ s. record {
+      is_started = is_some s.started;
+      left = known_left R.File.remaining s.started;
+      faults = s.faults;
+      trouble = s.trouble;
+    } };
 }
 
 impl<R: Files> FileShelf<R> {

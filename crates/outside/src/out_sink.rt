@@ -9,11 +9,11 @@ use crate::traits::Sink;
 use std::io::{ErrorKind, Write};
 use std::marker::Model;
 
-/// Standard output, or another writer of std. It doesn't tell what it holds; its count of faults is raised at each error
-/// of std, and where nothing is taken of a piece that isn't empty.
+/// Standard output, or another writer of std. It doesn't tell what it holds; its count of faults is raised
+/// at each error of std, and where nothing is taken of a piece that isn't empty.
 ///
-/// What the writer holds is known where the writer's own contract tells it. The system's standard output tells nothing: that
-/// it passes the bytes on is trusted, and no clause names them.
+/// What the writer holds is known where the writer's own contract tells it. The system's standard output
+/// tells nothing: that it passes the bytes on is trusted, and no clause names them.
 #[derive(Drop)]
 pub struct OutSink<W: Write> {
     out: W,

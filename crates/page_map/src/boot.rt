@@ -84,10 +84,11 @@ impl PageMap {
     /// ABI, "Process Initialization"), and the page that signal handlers return to (own). The other frames of the pool
     /// stay free. It has all the memory that it ever takes.
     ///
-    /// The image must be such as `elf_load`'s `load` gives: it has a page, its pages rise in number and lie below page
-    /// 33,554,432 and none at address 0, each has 4,096 bytes and a permission by which it isn't both written and executed,
-    /// the break is the end of the highest, and the entry is a multiple of 4. The pool must have 65 free frames more than the
-    /// image has pages: the stack's 64, and one for the page that handlers return to.
+    /// The image must be such as `elf_load`'s `load` gives: it has a page, its pages rise in number and lie
+    /// below page 33,554,432 and none at address 0, each has 4,096 bytes and a permission by which it isn't
+    /// both written and executed, the break is the end of the highest, and the entry is a multiple of 4.
+    /// The pool must have 65 free frames more than the image has pages: the stack's 64, and one for the
+    /// page that handlers return to.
     pub fn boot(alloc: Global, pool: FramePool, image: &Image) -> Result<PageMap, AllocError>
         requires { IsBootable (free_count pool) image.now }
         ensures permissions { IfOk result (λ m. (n : ℕ) → permission_in m n

@@ -35,7 +35,8 @@ fn good_memory() -> FlatMemory {
     memory
 }
 
-/// A word of the memory that is changed, a pc, what an interruption there comes to, and whether the pointer becomes 0.
+/// A word of the memory that is changed, a pc, what an interruption there comes to, and whether the pointer
+/// becomes 0.
 type Row = ((u64, u64), u64, Outcome, bool);
 
 /// Bytes that nobody looks at.

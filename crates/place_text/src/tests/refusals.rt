@@ -60,8 +60,8 @@ const EXITS: [u32; 3] = [
     0x00000073, // ecall: exit
 ];
 
-/// A program, the most entries of its log, the events of harts, so many of each choice, and lines of the place that they
-/// come to.
+/// A program, the most entries of its log, the events of harts, so many of each choice, and lines of the
+/// place that they come to.
 struct Refusal {
     words: &'static [u32],
     steps: u32,

@@ -196,7 +196,8 @@ impl Bench {
         Ok(bench)
     }
 
-    /// A ready thread begins to run on a hart, which must be idle; answers the registers that it goes on with.
+    /// A ready thread begins to run on a hart, which must be idle; answers the registers that it goes on
+    /// with.
     pub fn begin(&mut self, rt: &impl Abort, hart: u8, tid: u32) -> Saved
         requires { hart < 2 }
     {

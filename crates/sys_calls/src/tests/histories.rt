@@ -214,7 +214,8 @@ const MASK: [u64; 5] = [2, SET, 0, 8, 0];
 /// Thread 2 waits.
 const WAITS_YET: Step = Step::State(2, Some(ThreadState::Waiting(DATA)));
 
-/// Signals that are posted by thread 1: they break the wait of a thread that doesn't mask them, and of no other.
+/// Signals that are posted by thread 1: they break the wait of a thread that doesn't mask them, and of no
+/// other.
 const POSTS: [Scene; 6] = [
     &[
         Step::Answers(CLONE, &CHILD),

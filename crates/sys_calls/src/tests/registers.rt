@@ -1,4 +1,5 @@
-//! Calls after which a thread goes on with other registers: a handler that returns, and a barrier that begins.
+//! Calls after which a thread goes on with other registers: a handler that returns, and a barrier that
+//! begins.
 
 use crate::CallEnd;
 use crate::tests::bench::{Bench, CODE, DATA, DATA_END, Row};

@@ -83,7 +83,8 @@ const BRKS: [Row; 11] = [
     ([DATA_END, 0, 0, 0, 0], BREAK),
 ];
 
-/// Calls that change pages, over the 60 frames that are free at the start; in the last scene they run out and come back.
+/// Calls that change pages, over the 60 frames that are free at the start; in the last scene they run out
+/// and come back.
 pub const SCENES: [Scene; 5] = [
     &[Step::Answers(MMAP, &MMAPS)],
     &[Step::Answers(MUNMAP, &MUNMAPS)],

@@ -1,5 +1,5 @@
-//! futex(2), sched_setaffinity(2), sched_getaffinity(2), getcpu(2), clone(2), numbers that a thread is told, and those of
-//! no call.
+//! futex(2), sched_setaffinity(2), sched_getaffinity(2), getcpu(2), clone(2), numbers that a thread is
+//! told, and those of no call.
 
 use crate::tests::bench::{CODE, DATA, DATA_END, Row, USER_END};
 use crate::tests::steps::{Scene, Step};
