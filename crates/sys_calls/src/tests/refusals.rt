@@ -1,6 +1,6 @@
 //! Each refusal of each call, beside calls that succeed.
 
-use crate::tests::scenes::{console, memory, sequences, signals, threads};
+use crate::tests::scenes::{console, memory, sequences, signalling, threads};
 use crate::tests::steps::{Scene, play};
 use std::test::Fail;
 
@@ -10,7 +10,7 @@ fn each_refusal_stands_beside_a_success(rt: HostRuntime) -> Result<(), Fail> {
         &console::SCENES,
         &memory::SCENES,
         &sequences::SCENES,
-        &signals::SCENES,
+        &signalling::SCENES,
         &threads::SCENES,
     ];
     for scenes in tables {

@@ -4,5 +4,5 @@
 pub mod console;
 pub mod memory;
 pub mod sequences;
-pub mod signals;
+pub mod signalling;
 pub mod threads;
