@@ -29,13 +29,13 @@ module _ (here : Here) (t number : ℕ) where
   beside_step Same = beside_same t here.kernel
   beside_step (Clears at) = beside_cleared t t at here.kernel
   beside_step Leaves = beside_left t t here.kernel
-  beside_step (Waits at) = beside_waited t at here.kernel
+  beside_step (Waits at none) = beside_waited t at here.kernel
   beside_step (MovesOff set below some) =
       let k = restricted t set here.kernel in
       beside_after t here.kernel k (left t k) (alike t here.kernel k refl refl) (beside_left t t k)
   beside_step (Registers area none) = beside_registered t area here.kernel
   beside_step Unregisters = beside_unregistered t here.kernel
-  beside_step (Signalled g keeps stand) = beside_signalled t g here.kernel
+  beside_step (Signalled g keeps stand heeds calm) = beside_signalled t g here.kernel
   beside_step step = alike t here.kernel _ refl refl
 
 module _ (here : Here) (t : ℕ) (good : IsGoodHere here) (at : runs here ≡ Some t) where
@@ -63,7 +63,7 @@ module _ (here : Here) (t : ℕ) (good : IsGoodHere here) (at : runs here ≡ So
             past_own (returned (length done.threads) (here.file t)) (map (answered_wait here) done.threads) u f ready ∙ answered_beside here n p u f here.kernel ready;
         beside = beside_wake t n p here.kernel;
       }
-  aside_deed number (Breaks u g waiting keeps stand) =
+  aside_deed number (Breaks u g waiting keeps stand heeds calm) =
       let broken = broken_wait here u in
       let k = signalled g here.kernel in
       record {

@@ -3,7 +3,7 @@
 use Rattle.std.proofs.Common.{◌≡◌, ◌≢◌, ℕ, ◌+◌, ◌≤◌, ◌<◌, ◌^◌, List, [], ◌∷◌, length, map, refl, Bool, true, false, cond, Option, Some, None, arith}
 use Rattle.mach_types.specs.Kernel.Pages.{Pages}
 use Rattle.mach_types.specs.Kernel.SignalFrames.{frame_read}
-use Rattle.mach_types.specs.Kernel.Signals.{Signalling}
+use Rattle.mach_types.specs.Kernel.Signals.{Signalling, next_for}
 use Rattle.mach_types.specs.Kernel.Threads.{is_full, waits}
 use Rattle.mach_types.specs.Registers.{register}
 use Rattle.mach_types.specs.declared.barriers.Registered.{Registered}
@@ -28,6 +28,7 @@ use Rattle.block_model.specs.Sequences.{area_here}
 use Rattle.block_model.proofs.BarrierSteps.{IsAtOthers}
 use Rattle.block_model.proofs.Good.{IsGoodHere}
 use Rattle.block_model.proofs.Goods.Calls.Fit.{StaysWritable}
+use Rattle.block_model.proofs.Heeded.{AllHeeded}
 use Rattle.block_model.proofs.Paged.{IsPaged}
 use Rattle.block_model.proofs.Pcs.{StandsIn}
 use Rattle.block_model.proofs.SignalSteps.{HandlersStand, KeepsThreads}
@@ -72,7 +73,7 @@ pub data TableStep (here : Here) (t number : ℕ) : Kernel → Type 0 where
       → TableStep here t number (printed bytes here.kernel)
   Clears : (at : ℕ) → TableStep here t number (cleared t at here.kernel)
   Leaves : TableStep here t number (left t here.kernel)
-  Waits : (at : ℕ) → TableStep here t number (waited t at here.kernel)
+  Waits : (at : ℕ) → next_for t here.kernel.signals ≡ None → TableStep here t number (waited t at here.kernel)
   Stays : (set : ℕ) → set < 2 ^ here.setting.limits.harts → set ≢ 0
       → TableStep here t number (restricted t set here.kernel)
   MovesOff : (set : ℕ) → set < 2 ^ here.setting.limits.harts → set ≢ 0
@@ -81,6 +82,8 @@ pub data TableStep (here : Here) (t number : ℕ) : Kernel → Type 0 where
       → TableStep here t number (registered t area here.kernel)
   Unregisters : TableStep here t number (unregistered t here.kernel)
   Signalled : (g : Signalling) → KeepsThreads here.kernel.signals g → (AllStand here → HandlersStand g)
+      → (AllHeeded here.kernel.signals → AllHeeded g)
+      → ((w : ℕ) → w ≢ t → waits here.kernel.threads w → next_for w here.kernel.signals ≡ None → next_for w g ≡ None)
       → TableStep here t number (signalled g here.kernel)
   EnrolsFor : (r : Registered) → TableStep here t number (for_barriers r here.kernel)
   Remaps : (pages : Pages) → StaysWritable here.kernel.pages (taken_by number here t) pages
@@ -104,7 +107,8 @@ pub data CallDeed (here : Here) (t number : ℕ) : CallDone → Type 0 where
         ended = None;
       })
   Breaks : (u : ℕ) (g : Signalling) → waits here.kernel.threads u → KeepsThreads here.kernel.signals g
-      → (AllStand here → HandlersStand g)
+      → (AllStand here → HandlersStand g) → (AllHeeded here.kernel.signals → AllHeeded g)
+      → ((w : ℕ) → w ≢ u → next_for w here.kernel.signals ≡ None → next_for w g ≡ None)
       → CallDeed here t number (record {
         files = (t, returned 0 (here.file t)) ∷ broken_wait here u ∷ [];
         entered = [];

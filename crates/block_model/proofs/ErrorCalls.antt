@@ -85,7 +85,7 @@ module _ (here : Here) (t : ℕ) where
       let done = wake n at here.kernel in
       let most = woken_few n at here.kernel in
       tells_answer (length done.threads) (map (answered_wait here) done.threads) [] done.kernel (small_no_error (length done.threads) (omega arith))
-  tells_deed number other few (Breaks u g waiting keeps stand) =
+  tells_deed number other few (Breaks u g waiting keeps stand heeds calm) =
       tells_answer 0 (broken_wait here u ∷ []) [] (woken u (signalled g here.kernel)) (small_no_error 0 (omega arith))
   tells_deed number other few (Exits more) = λ goes lives e. absurd (false≢true (sym (not_gone t (woken_at_exit here t).kernel) ∙ lives))
   tells_deed number other few (Bears entered free) =

@@ -43,7 +43,7 @@ pub record IsNext (here : Here) (t : ℕ) (e : Effect) : Type 0 where
 pub data EventDeed (here : Here) (tid : ℕ) : Kind → Done → Type 0 where
   Nothing : (k : Kind) → EventDeed here tid k (nothing here)
   Skips : EventDeed here tid kind.Exec (one_instruction here)
-  Faults : (t signal : ℕ) → IsFault here t signal
+  Faults : (t signal : ℕ) → IsFault here t signal → has_handler here t signal ≡ true
       → EventDeed here tid kind.Exec
       (record (one_instruction here) {
         kernel =
@@ -95,7 +95,7 @@ module _ (here : Here) (tid : ℕ) where
       → EventDeed here tid kind.Exec (by_effect here t fault o)
   deed_effect t (Some signal) o at fault is =
       let its : IsFault here t signal = record { at = at; fault = fault } in
-      either kind.Exec (has_handler here t signal) _ _ (λ _. Faults t signal its)
+      either kind.Exec (has_handler here t signal) _ _ (λ handler. Faults t signal its handler)
       (λ _. FaultKills t signal its)
   deed_effect t None None at none is = Skips
   deed_effect t None (Some e) at none is =

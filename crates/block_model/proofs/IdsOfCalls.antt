@@ -29,7 +29,7 @@ either_kept false x y ids p q = q
 module _ (here : Here) (t number : ℕ) where
   ids_step : {k : Kernel} → TableStep here t number k → HasLostOne t here.kernel.ids k.ids
   ids_step Leaves = inr refl
-  ids_step (Waits at) = inr refl
+  ids_step (Waits at none) = inr refl
   ids_step (MovesOff set below some) = inr refl
   ids_step step = inl refl
 

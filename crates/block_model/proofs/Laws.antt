@@ -59,6 +59,7 @@ use Rattle.block_model.proofs.Rules as rules
 use Rattle.block_model.proofs.Runs as run_laws
 use Rattle.block_model.proofs.Runs.{good_of}
 use Rattle.block_model.proofs.Whole.{allowed_is_whole}
+pub use Rattle.block_model.proofs.AgreedCalls.{IsAgreed, agreed_called}
 pub use Rattle.block_model.proofs.Awaited.{IsAwaited, IsAwaitedBy, alone_awaits, alone_requests, asked_below}
 pub use Rattle.block_model.proofs.BarrierSteps.{IsAtOthers, IsBegun, IsFitBarriers, IsStill}
 pub use Rattle.block_model.proofs.BytesOfMemory.{HaveBytes, image_bytes}

@@ -1,4 +1,5 @@
 mod ActExamples
+mod AgreedCalls
 mod Agreement
 mod Allowances
 mod Allowed
@@ -14,6 +15,8 @@ mod BarriersAbout
 mod BarriersReturn
 mod BarriersWait
 mod BytesOfMemory
+mod Calm
+mod CalmRuns
 mod Choosing
 mod Counts
 mod Ends
@@ -25,6 +28,8 @@ mod Examples
 mod Good
 mod Goods
 mod HartSets
+mod Heeded
+mod HeededRuns
 mod Held
 mod Ids
 mod IdsOfCalls

@@ -112,13 +112,13 @@ child_stand_if t child at k false stand = stand
 module _ (here : Here) (t number : ℕ) where
   -- a step keeps handlers below 2^64, and all threads
   stand_step : {k : Kernel} → TableStep here t number k → AllStand here → HandlersStand k.signals
-  stand_step (Signalled g keeps stand) all = stand all
+  stand_step (Signalled g keeps stand heeds calm) all = stand all
   stand_step step all = all.handlers
 
   lives_step : {k : Kernel} → TableStep here t number k → lives k ≡ lives here.kernel
   lives_step (Clears at) = cleared_lives t at here.kernel
   lives_step Leaves = left_lives t here.kernel
-  lives_step (Waits at) = waited_lives t at here.kernel
+  lives_step (Waits at none) = waited_lives t at here.kernel
   lives_step (MovesOff set below some) = left_lives t (restricted t set here.kernel)
   lives_step step = refl
 
@@ -143,7 +143,7 @@ module _ (here : Here) (t number : ℕ) where
   proper_deed (Wakes n at small) =
       let same = wake_lives n at here.kernel in
       proper_going _ (λ all. (pc_past, woken_stand here (wake n at here.kernel).threads all)) (λ all. wake_stand n at here.kernel all.handlers) refl (omega arith)
-  proper_deed (Breaks u g waiting keeps stand) =
+  proper_deed (Breaks u g waiting keeps stand heeds calm) =
       let same = woken_lives u (signalled g here.kernel) in
       proper_going _ (λ all. (pc_past, (all.threads u, tt))) stand refl (omega arith)
   proper_deed (Exits more) =

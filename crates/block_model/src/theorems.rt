@@ -7,7 +7,8 @@ ghost use Rattle.mach_types.specs.Events.{choice_of};
 ghost use Rattle.mach_types.specs.Kernel.Areas.{area_of};
 ghost use Rattle.mach_types.specs.Kernel.Pages.{can_execute, permission_of};
 ghost use Rattle.mach_types.specs.Kernel.Scheduling.{affinity_of, has_hart};
-ghost use Rattle.mach_types.specs.Kernel.Threads.{is_live, is_ready, numbers, times};
+ghost use Rattle.mach_types.specs.Kernel.Signals.{action_of, has_signal, is_ignored, next_for, pending_of};
+ghost use Rattle.mach_types.specs.Kernel.Threads.{is_live, is_ready, numbers, times, waits};
 ghost use Rattle.mach_types.specs.declared.events.Choice.{Choice};
 ghost use Rattle.mach_types.specs.declared.events.Choice.TheVariants as asked;
 ghost use Rattle.mach_types.specs.declared.events.Entry.{Entry};
@@ -16,6 +17,7 @@ ghost use Rattle.mach_types.specs.declared.events.Tid.{Tid};
 ghost use Rattle.mach_types.specs.declared.kernel_words.TheConstants.{CONSOLE_ROOM, MOST_THREADS};
 ghost use Rattle.mach_types.specs.declared.limits.End.TheVariants.{Unended};
 ghost use Rattle.mach_types.specs.declared.limits.Limits.{Limits};
+ghost use Rattle.mach_types.specs.declared.signals.TheConstants.{LAST_SIGNAL};
 ghost use Rattle.mach_types.specs.declared.user_memory.Store.{Store};
 ghost use Rattle.mach_types.specs.declared.user_memory.TheConstants.{STORE_BUFFER_CAPACITY};
 ghost use Rattle.elf_load.specs.declared.image.Image.{Image};
@@ -212,6 +214,21 @@ pub fn areas_belong_to_live_threads()
 pub fn signals_belong_to_live_threads()
     ensures { (s : Setting) (log : List Entry) → IsBlockRun s log
         → AreSignalsOfLive (kernel s (history s log)).threads (kernel s (history s log)).signals }
+{}
+
+/// At each place of a block run no signal is pending that its action ignores: such a signal is dropped when it is sent, and when the
+/// action is set (signal(7), sigaction(2)).
+pub fn no_ignored_signal_is_pending()
+    ensures { (s : Setting) (log : List Entry) (t signal : ℕ) → IsBlockRun s log → 1 ≤ signal → signal ≤ LAST_SIGNAL
+        → has_signal (pending_of t (kernel s (history s log)).signals) signal ≡ true
+        → is_ignored signal (action_of signal (kernel s (history s log)).signals) ≡ false }
+{}
+
+/// At each place of a block run no thread waits in futex(2) while a signal can be delivered to it (signal(7), "Interruption of system
+/// calls").
+pub fn no_thread_waits_with_a_signal()
+    ensures { (s : Setting) (log : List Entry) (t : ℕ) → IsBlockRun s log → waits (kernel s (history s log)).threads t
+        → next_for t (kernel s (history s log)).signals ≡ None }
 {}
 
 /// At each place of a block run the thread of the restartable sequence that a hart's newest event is of runs on that hart, and

@@ -3,11 +3,14 @@
 ghost use Rattle.std.specs.Prelude.{ℕ, List, ◌≡◌, ◌+◌, ◌==◌, All, Some, filter, length, map, slice_get};
 ghost use Rattle.std.specs.List.Sorted.{IsStrictlyIncreasing};
 ghost use Rattle.mach_types.specs.declared.events.Entry.{Entry};
+ghost use Rattle.block_model.specs.Run.{IsBlockRun};
 ghost use Rattle.block_model.specs.Setting.{Setting};
 ghost use Rattle.block_view.specs.Acts.{acts_of};
 ghost use Rattle.block_view.specs.Counting.{counts_of, total};
 ghost use Rattle.block_view.specs.Entries.{HasEntry, IsWithin};
+ghost use Rattle.block_view.specs.Viewing.{IsViewCause};
 ghost use Rattle.block_view.specs.declared.forms.Act.{Act};
+ghost use Rattle.block_view.specs.declared.viewing.ViewFault.TheVariants.{NotARun};
 
 /// Each entry of a log is in exactly one act, which is of its hart, and the acts come in the order of their first entries. Entries are
 /// numbered from 1.
@@ -25,4 +28,9 @@ pub fn acts_cover_the_log()
 /// The counts of a hart add up to the number of its acts.
 pub fn counts_add_up()
     ensures { (list : List Act) (h : ℕ) → total (counts_of list h) ≡ length (filter (λ (act : Act). act.hart.0 == h) list) }
+{}
+
+/// A block run is viewed: `acts` refuses no entry of it, and so errs only for want of memory. The log of a machine is one.
+pub fn block_runs_are_viewed()
+    ensures { (s : Setting) (log : List Entry) (number : ℕ) → IsBlockRun s log → IsViewCause s log (NotARun number) → ⊥ }
 {}

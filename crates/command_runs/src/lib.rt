@@ -7,9 +7,9 @@ mod scripts;
 mod shared;
 mod solo;
 mod summary;
+mod texts;
 
-pub use output::output_text;
 pub use run::run_workers;
 pub use scripts::play;
 pub use solo::run_solo;
-pub use summary::summary_text;
+pub use texts::shown_text;

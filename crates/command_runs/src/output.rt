@@ -20,7 +20,7 @@ const FRAME: usize = 128;
 
 /// The text of a run: its console, its log and its end.
 #[tactic(auto, unfolding(outcomes::specs::Text::output_text))]
-pub fn output_text(alloc: Global, machine: &Machine) -> Result<Vec<u8>, AllocError>
+pub(crate) fn output_text(alloc: Global, machine: &Machine) -> Result<Vec<u8>, AllocError>
     requires { All (λ e. e.hart.0 < 8) machine.now.log }
     ensures { IfOk result (λ text. text.items ≡ log_output machine.now.setting machine.now.log) }
 {

@@ -18,7 +18,7 @@ use std::alloc::{AllocError, Global};
 
 /// The summary of a run of an image under limits: its acts, counted for each hart, its barriers, and its end.
 #[tactic(auto, unfolding(outcomes::specs::Summary::summary_text))]
-pub fn summary_text(
+pub(crate) fn summary_text(
     alloc: Global,
     image: &Image,
     limits: &Limits,

@@ -2,9 +2,7 @@
 -- alone, which is no number of any option.
 use Rattle.std.proofs.Common.{◌≡◌, ◌∙◌, ◌⊎◌, inl, inr, ℕ, ◌≤◌, Bool, cond, true, false, List, [], ◌∷◌, ◌++◌}
 use Rattle.std.proofs.Common.{length, Option, Some, None, refl, sym, ap, subst, codes, arith, String}
-use Rattle.std.specs.Prelude.{◌||◌, nat_lt, slice_get}
-use Rattle.std.specs.Option.{is_some}
-use Rattle.std.specs.Str.{bytes_eq}
+use Rattle.std.specs.Prelude.{nat_lt, slice_get}
 use Rattle.std.specs.declared.alloc.Global.{Global}
 use Rattle.std.proofs.lemmas.Str.{IsUtf8-string_bytes}
 use Rattle.step_log.specs.Script.{◌>>=◌}
@@ -12,85 +10,30 @@ use Rattle.clap.specs.Walk.{Row, Text}
 use Rattle.clap.specs.Simple.{matches_of}
 use Rattle.clap.specs.Faults.{fault_of}
 use Rattle.command_words.specs.Grammar.{Arguments, Item, Name, Given, asked_by, begins_with_dash, is_option}
-use Rattle.command_words.specs.Grammar.{blocks_of, inspect_of, limits_on, play_of, run_named, run_of, scripted_named}
-use Rattle.command_words.specs.Grammar.{solo_named, solo_of}
 use Rattle.command_words.specs.Line.{AsksAlike, arguments_found, line, names_found}
-use Rattle.command_words.specs.Options.{OptionName, Harts, Frames, Steps, Seed, chosen, range_of}
+use Rattle.command_words.specs.Options.{OptionName, Harts, Frames, Steps, Seed}
+use Rattle.command_words.specs.Takes.{has, takes_by}
 use Rattle.command_words.specs.Words.{Reading, Options, Value, Names, texts, word_read}
 use Rattle.command_words.proofs.Parts.{no_arguments, with_item}
-use Rattle.command_words.proofs.Gathering.{arguments_gathered, none_after, none_either, with_words}
+use Rattle.command_words.proofs.Gathering.{arguments_gathered, with_words}
 use Rattle.command_words.proofs.Gathering.{word_refused, word_taken, word_unread}
 use Rattle.command_words.proofs.ClapRows.{first_held}
 use Rattle.command_words.proofs.ClapWords.{by_form}
 use Rattle.command_words.proofs.ClapTurns.{AreLetters, Ends, Fits, and_false, value_of}
 use Rattle.command_words.proofs.ClapWalk.{loose, loosely, read_on, with_option}
 use Rattle.command_words.proofs.ClapGoes.{long_word_is, option_item, option_twice}
-use Rattle.command_words.proofs.ClapLine.{fault_is, matches_are, or_true, start, whole}
+use Rattle.command_words.proofs.ClapLine.{fault_is, matches_are, start, whole}
+use Rattle.command_words.proofs.Suits.{suits, unsuited}
 
 -- ---- no command takes a value that is `-`
 
 abbrev pub dash : Text
 dash = 45 ∷ []
 
-no_frames : (harts : ℕ) (given : Arguments) → given.frames ≡ Some dash → limits_on harts given ≡ None
-no_frames harts given is = rw is refl
-
-no_steps : (harts : ℕ) (given : Arguments) → given.steps ≡ Some dash → limits_on harts given ≡ None
-no_steps harts given is = none_after (chosen (range_of Frames) given.frames) _ (λ frames. rw is refl)
-
-no_solo : (o : OptionName) (names : List Text) (given : Arguments) → value_of o given ≡ Some dash
-    → solo_named names given ≡ None
-no_solo o [] given is = refl
-no_solo o (a ∷ b ∷ more) given is = refl
-no_solo Harts (a ∷ []) given is = rw is refl
-no_solo Frames (a ∷ []) given is =
-    none_either (is_some given.harts || is_some given.seed) _ (rw (no_frames 1 given is) refl)
-no_solo Steps (a ∷ []) given is =
-    none_either (is_some given.harts || is_some given.seed) _ (rw (no_steps 1 given is) refl)
-no_solo Seed (a ∷ []) given is = rw (is, or_true (is_some given.harts)) refl
-
-no_scripted : (o : OptionName) (names : List Text) (given : Arguments) → value_of o given ≡ Some dash
-    → scripted_named names given ≡ None
-no_scripted o [] given is = refl
-no_scripted o (a ∷ []) given is = refl
-no_scripted o (a ∷ b ∷ c ∷ more) given is = refl
-no_scripted Harts (a ∷ b ∷ []) given is = none_either (is_some given.seed) _ (rw is refl)
-no_scripted Frames (a ∷ b ∷ []) given is =
-    none_either (is_some given.seed) _
-    (none_after (chosen (range_of Harts) given.harts) _ (λ harts. rw (no_frames harts given is) refl))
-no_scripted Steps (a ∷ b ∷ []) given is =
-    none_either (is_some given.seed) _
-    (none_after (chosen (range_of Harts) given.harts) _ (λ harts. rw (no_steps harts given is) refl))
-no_scripted Seed (a ∷ b ∷ []) given is = rw is refl
-
-no_run : (o : OptionName) (names : List Text) (given : Arguments) → value_of o given ≡ Some dash
-    → run_named names given ≡ None
-no_run o [] given is = refl
-no_run o (a ∷ b ∷ more) given is = refl
-no_run Harts (a ∷ []) given is = rw is refl
-no_run Frames (a ∷ []) given is =
-    none_after (chosen (range_of Harts) given.harts) _ (λ harts. rw (no_frames harts given is) refl)
-no_run Steps (a ∷ []) given is =
-    none_after (chosen (range_of Harts) given.harts) _ (λ harts. rw (no_steps harts given is) refl)
-no_run Seed (a ∷ []) given is =
-    none_after (chosen (range_of Harts) given.harts) _
-    (λ harts. none_after (limits_on harts given) _ (λ limits. rw is refl))
-
 none_asked : (word : Text) (o : OptionName) (given : Arguments) → value_of o given ≡ Some dash
     → asked_by word given ≡ None
 none_asked word o given is =
-    go (bytes_eq word (codes "solo")) (bytes_eq word (codes "play")) (bytes_eq word (codes "blocks"))
-    (bytes_eq word (codes "inspect")) (bytes_eq word (codes "run"))
-  where
-    go : (s p b i r : Bool)
-        → cond s (solo_of given) (cond p (play_of given) (cond b (blocks_of given)
-        (cond i (inspect_of given) (cond r (run_of given) None)))) ≡ None
-    go true p b i r = no_solo o given.names given is
-    go false true b i r = rw (no_scripted o given.names given is) refl
-    go false false true i r = rw (no_scripted o given.names given is) refl
-    go false false false true r = rw (no_scripted o given.names given is) refl
-    go false false false false true = no_run o given.names given is
-    go false false false false false = refl
+    unsuited word given o (λ source. ap (suits (takes_by source) o) is ∙ and_false (has (takes_by source).options o))
 
 -- ---- such a value stays
 

@@ -10,7 +10,8 @@ use Rattle.step_log.specs.Script.{◌>>=◌}
 use Rattle.command_words.specs.declared.faults.WordsFault.{WordsFault}
 use Rattle.command_words.specs.declared.faults.WordsFault.TheVariants.{NoProgram, NoScript, NotTaken, NoValue}
 use Rattle.command_words.specs.declared.faults.WordsFault.TheVariants.{OneNameTooMany, Twice, UnknownOption}
-use Rattle.command_words.specs.Grammar.{Arguments, Command, Item, Name, Given, asked_by, begins_with_dash, is_option}
+use Rattle.command_words.specs.Commands.{Command}
+use Rattle.command_words.specs.Grammar.{Arguments, Item, Name, Given, asked_by, begins_with_dash, is_option}
 use Rattle.command_words.specs.Options.{OptionName, Harts, Frames, Steps, Seed, chosen, option_named, range_of}
 use Rattle.command_words.specs.Takes.{Takes, has, takes_of}
 use Rattle.command_words.specs.WordFaults.{SoFar, fault_among, fault_behind, joined_fault, name_fault, name_missing, out_of}
@@ -341,3 +342,13 @@ fault_or_command words = by_parts (words_fault words) (command_of words) (agreed
     by_parts None (Some command) is = (λ none. refl, λ some. refl)
     by_parts (Some fault) None is = (λ none. absurd (cc none), λ some. absurd (cc some))
     by_parts (Some fault) (Some command) is = absurd (cc is)
+
+-- and words with which something is wrong name none
+pub wrong_is_none : (words : List (List ℕ)) (fault : WordsFault) → words_fault words ≡ Some fault
+    → command_of words ≡ None
+wrong_is_none words fault is =
+    by_command (command_of words) (sym (agreed words) ∙ ap (λ (o : Option WordsFault). is_none o) is)
+  where
+    by_command : (o : Option Command) → is_some o ≡ false → o ≡ None
+    by_command None none = refl
+    by_command (Some command) none = absurd (cc none)

@@ -12,12 +12,14 @@ use Rattle.std.specs.List.{before_first, position_or_len}
 use Rattle.std.specs.Option.{option_to_list}
 use Rattle.std.specs.Str.{bytes_eq}
 use Rattle.step_log.specs.Script.{◌>>=◌}
-use Rattle.command_words.specs.Grammar.{Arguments, AreWritten, Command, Given, IsCommandLine, IsLine}
+use Rattle.command_words.specs.Commands.{Command}
+use Rattle.command_words.specs.Grammar.{AreWritten, Given, IsCommandLine, IsLine}
 use Rattle.command_words.specs.Grammar.{IsWritten, Item, Name, arguments_in, asked_by, at_most_one, names_in}
 use Rattle.command_words.specs.Grammar.{values_in, begins_with_dash, command_in, is_option}
 use Rattle.command_words.specs.Options.{OptionName, Harts, Frames, Steps, Seed, option_named, option_word}
 use Rattle.command_words.specs.Words.{Reading, Options, Value, Names, arguments_of, behind_equals, command_of}
 use Rattle.command_words.specs.Words.{few_arguments, is_equals, items, option_read, word_read}
+use Rattle.command_words.proofs.Suits.{many_names}
 
 -- the word that names an option is its word
 named_by : (word : List ℕ) (option : OptionName) (h f s d : Bool) → bytes_eq word (option_word Harts) ≡ h
@@ -347,24 +349,6 @@ line_read found words (inr ended) =
     ∙ ap (λ o. o >>= (λ more. Some (ended.before ++ more))) behind ∙ ap Some (sym ended.all)
 
 -- no command has more than two names
-nothing_asked : (solo play blocks inspect run : Bool)
-    → cond {A = Option Command} solo None (cond play None (cond blocks None (cond inspect None (cond run None None)))) ≡ None
-nothing_asked true play blocks inspect run = refl
-nothing_asked false true blocks inspect run = refl
-nothing_asked false false true inspect run = refl
-nothing_asked false false false true run = refl
-nothing_asked false false false false true = refl
-nothing_asked false false false false false = refl
-
-many_names : (word : List ℕ) (given : Arguments) (names : List (List ℕ)) → given.names ≡ names
-    → 2 < length names → asked_by word given ≡ None
-many_names word given [] is many = absurd (omega arith)
-many_names word given (first ∷ []) is many = absurd (omega arith)
-many_names word given (first ∷ second ∷ []) is many = absurd (omega arith)
-many_names word given (first ∷ second ∷ third ∷ more) is many =
-    rw is (nothing_asked (bytes_eq word (codes "solo")) (bytes_eq word (codes "play"))
-    (bytes_eq word (codes "blocks")) (bytes_eq word (codes "inspect")) (bytes_eq word (codes "run")))
-
 too_many : (word : List ℕ) (names : List (List ℕ)) (h f s d : Option (Option (List ℕ))) → 2 < length names
     → ((h >>= (λ harts. f
     >>= (λ frames. s >>= (λ steps. d >>= (λ seed. Some
@@ -375,13 +359,7 @@ too_many word names (Some harts) None s d many = refl
 too_many word names (Some harts) (Some frames) None d many = refl
 too_many word names (Some harts) (Some frames) (Some steps) None many = refl
 too_many word names (Some harts) (Some frames) (Some steps) (Some seed) many =
-    many_names word (record {
-      names = names;
-      harts = harts;
-      frames = frames;
-      steps = steps;
-      seed = seed;
-    }) names refl many
+    many_names word (record { names = names; harts = harts; frames = frames; steps = steps; seed = seed }) many
 
 few_asked : (found : List Item) (word : List ℕ) (many : Bool) → ltb 2 (length (names_in found)) ≡ many
     → (cond many None (arguments_in found) >>= asked_by word) ≡ (arguments_in found >>= asked_by word)

@@ -1,20 +1,21 @@
 -- What a command asks for is told by what it takes: a command's word with arguments is a command exactly where it
 -- has so many names, and where each option that is given is one of its own, with a number in its range.
-use Rattle.std.proofs.Common.{◌≡◌, ◌∙◌, ℕ, ◌≤◌, Bool, cond, true, false, List, [], ◌∷◌, length, Option, Some}
-use Rattle.std.proofs.Common.{None, refl, ap, codes, arith}
-use Rattle.std.specs.Prelude.{◌&&◌, ◌||◌, not, nat_eq, nat_lt}
+use Rattle.std.proofs.Common.{◌≡◌, ◌∙◌, ℕ, ◌<◌, ◌≤◌, Bool, cond, true, false, List, [], ◌∷◌, length, Option, Some}
+use Rattle.std.proofs.Common.{None, refl, sym, ap, arith, option_map}
+use Rattle.std.specs.Prelude.{◌&&◌, not, nat_eq, nat_lt}
 use Rattle.std.specs.Option.{is_some}
-use Rattle.std.specs.Str.{bytes_eq}
 use Rattle.std.proofs.lemmas.Bool.{and_parts}
 use Rattle.std.proofs.lemmas.Bool.Decides.{nat_tests}
-use Rattle.mach_types.specs.declared.limits.Limits.{Limits}
 use Rattle.step_log.specs.Script.{◌>>=◌}
-use Rattle.command_words.specs.Grammar.{Arguments, Command, Scripted, Solo, Play, Blocks, Inspect, Run, asked_by, blocks_of, inspect_of}
-use Rattle.command_words.specs.Grammar.{play_of, run_named, run_of}
-use Rattle.command_words.specs.Grammar.{scripted_named, scripted_of, solo_named, solo_of}
+use Rattle.command_words.specs.declared.table.CommandKind.{CommandKind}
+use Rattle.command_words.specs.declared.table.SourceKind.{SourceKind}
+use Rattle.command_words.specs.declared.table.SourceKind.TheVariants.{ByRule, ByScript, ByWorkers}
+use Rattle.command_words.specs.Commands.{Source, Rule, Workers}
+use Rattle.command_words.specs.Grammar.{Arguments, asked_by, asked_for, command_for, files_for, number_for, one_name, two_names}
 use Rattle.command_words.specs.Options.{OptionName, Harts, Frames, Steps, Seed, chosen, range_of}
-use Rattle.command_words.specs.Takes.{Takes, has, taken_alone, taken_by_workers, taken_on_script, takes_of}
-use Rattle.command_words.proofs.ClapTurns.{value_of}
+use Rattle.command_words.specs.Table.{command_kind}
+use Rattle.command_words.specs.Takes.{Takes, has, takes_by, takes_of}
+use Rattle.command_words.proofs.ClapTurns.{and_false, value_of}
 
 -- the value of an option, if it is given, suits a command
 abbrev pub suits : Takes → OptionName → Option (List ℕ) → Bool
@@ -30,179 +31,127 @@ all_suit takes given =
 abbrev pub fits : Takes → Arguments → Bool
 fits takes given = nat_eq (length given.names) takes.names && all_suit takes given
 
--- an option that the command has suits it by its number, and another one where it isn't given
-of_own : (takes : Takes) (option : OptionName) (value : Option (List ℕ)) → has takes.options option ≡ true
-    → suits takes option value ≡ is_some (chosen (range_of option) value)
-of_own takes option None own = refl
-of_own takes option (Some text) own = rw own refl
+-- it is told by the number that the option comes to
+suits_is : (source : SourceKind) (option : OptionName) (value : Option (List ℕ))
+    → is_some (number_for source option value) ≡ suits (takes_by source) option value
+suits_is source option None = refl
+suits_is source option (Some text) = by_has (has (takes_by source).options option)
+  where
+    by_has : (b : Bool) → is_some (cond (not b) None (chosen (range_of option) (Some text)))
+        ≡ (b && is_some (chosen (range_of option) (Some text)))
+    by_has true = refl
+    by_has false = refl
 
-of_others : (takes : Takes) (option : OptionName) (value : Option (List ℕ)) → has takes.options option ≡ false
-    → suits takes option value ≡ not (is_some value)
-of_others takes option None other = refl
-of_others takes option (Some text) other = rw other refl
+-- a command is made of numbers and names exactly where each is there
+and_true : (b : Bool) → (b && true) ≡ b
+and_true true = refl
+and_true false = refl
 
--- what is made of a value is there where the value is
-made_of : {A B : Type 0} (o : Option A) (f : A → B) → is_some (o >>= (λ x. Some (f x))) ≡ is_some o
-made_of None f = refl
-made_of (Some x) f = refl
+made_of : {A B : Type 0} (h f s d : Option ℕ) (files : ℕ → Option A) (make : ℕ → ℕ → ℕ → A → B) (b : Bool)
+    → ((seed : ℕ) → is_some (files seed) ≡ b)
+    → is_some (h >>= (λ harts. f >>= (λ frames. s >>= (λ steps. d >>= (λ seed. files seed >>= (λ x.
+    Some (make harts frames steps x)))))))
+    ≡ (b && (is_some h && is_some f && is_some s && is_some d))
+made_of None f s d files make b named = sym (and_false b)
+made_of (Some x) None s d files make b named = sym (and_false b)
+made_of (Some x) (Some y) None d files make b named = sym (and_false b)
+made_of (Some x) (Some y) (Some z) None files make b named = sym (and_false b)
+made_of {A} (Some x) (Some y) (Some z) (Some w) files make b named =
+    by_files (files w) ∙ named w ∙ sym (and_true b)
+  where
+    by_files : (o : Option A) → is_some (o >>= (λ a. Some (make x y z a))) ≡ is_some o
+    by_files None = refl
+    by_files (Some a) = refl
 
--- none is made, whatever is refused
-none_made : (A : Type 0) (b : Bool) → is_some {T = A} (cond b None None) ≡ false
-none_made A true = refl
-none_made A false = refl
+-- names give files exactly where there are so many
+one_is : (source : Source) (names : List (List ℕ)) → is_some (one_name source names) ≡ nat_eq (length names) 1
+one_is source [] = refl
+one_is source (a ∷ []) = refl
+one_is source (a ∷ b ∷ more) = let other : nat_eq (length (a ∷ b ∷ more)) 1 ≡ false = grind (arith, nat_tests) in sym other
 
--- each part is needed, and no other is
-abbrev limits_of : ℕ → ℕ → ℕ → Limits
-limits_of harts frames steps = record { harts = harts; frames = frames; steps = steps }
+two_are : (names : List (List ℕ)) → is_some (two_names names) ≡ nat_eq (length names) 2
+two_are [] = refl
+two_are (a ∷ []) = refl
+two_are (a ∷ b ∷ []) = refl
+two_are (a ∷ b ∷ c ∷ more) =
+    let other : nat_eq (length (a ∷ b ∷ c ∷ more)) 2 ≡ false = grind (arith, nat_tests) in sym other
 
-alone_parts : (program : List ℕ) (h d : Bool) (f s : Option ℕ)
-    → is_some (cond (h || d) None ((f >>= (λ frames. s >>= (λ steps. Some (limits_of 1 frames steps))))
-    >>= (λ limits. Some (Solo program limits))))
-    ≡ (not h && is_some f && is_some s && not d)
-alone_parts program true d f s = refl
-alone_parts program false d None s = none_made Command d
-alone_parts program false d (Some x) None = none_made Command d
-alone_parts program false true (Some x) (Some y) = refl
-alone_parts program false false (Some x) (Some y) = refl
+files_are : (source : SourceKind) (names : List (List ℕ)) (seed : ℕ)
+    → is_some (files_for source names seed) ≡ nat_eq (length names) (takes_by source).names
+files_are ByRule names seed = one_is Rule names
+files_are ByScript names seed = two_are names
+files_are ByWorkers names seed = one_is (Workers seed) names
 
-script_parts : (program script : List ℕ) (d : Bool) (h f s : Option ℕ)
-    → is_some {T = Scripted} (cond d None (h >>= (λ harts. (f >>= (λ frames. s
-    >>= (λ steps. Some (limits_of harts frames steps))))
-    >>= (λ limits. Some (record { program = program; script = script; limits = limits })))))
-    ≡ (is_some h && is_some f && is_some s && not d)
-script_parts program script d None f s = none_made Scripted d
-script_parts program script d (Some x) None s = none_made Scripted d
-script_parts program script d (Some x) (Some y) None = none_made Scripted d
-script_parts program script true (Some x) (Some y) (Some z) = refl
-script_parts program script false (Some x) (Some y) (Some z) = refl
-
-worker_parts : (program : List ℕ) (h f s d : Option ℕ)
-    → is_some (h >>= (λ harts. (f >>= (λ frames. s >>= (λ steps. Some (limits_of harts frames steps))))
-    >>= (λ limits. d >>= (λ seed. Some (Run program limits seed)))))
-    ≡ (is_some h && is_some f && is_some s && is_some d)
-worker_parts program None f s d = refl
-worker_parts program (Some x) None s d = refl
-worker_parts program (Some x) (Some y) None d = refl
-worker_parts program (Some x) (Some y) (Some z) None = refl
-worker_parts program (Some x) (Some y) (Some z) (Some w) = refl
-
--- what each command asks for
-alone_fits : (names : List (List ℕ)) (given : Arguments)
-    → is_some (solo_named names given) ≡ (nat_eq (length names) 1 && all_suit taken_alone given)
-alone_fits [] given = refl
-alone_fits (a ∷ []) given =
-    simp (
-      of_own taken_alone Frames given.frames refl,
-      of_own taken_alone Steps given.steps refl,
-      of_others taken_alone Harts given.harts refl,
-      of_others taken_alone Seed given.seed refl,
-      alone_parts a (is_some given.harts) (is_some given.seed) (chosen (range_of Frames) given.frames)
-          (chosen (range_of Steps) given.steps),
-    )
-alone_fits (a ∷ b ∷ more) given =
-    let other : nat_eq (length (a ∷ b ∷ more)) 1 ≡ false = grind (arith, nat_tests) in rw other refl
-
-script_fits : (names : List (List ℕ)) (given : Arguments)
-    → is_some (scripted_named names given) ≡ (nat_eq (length names) 2 && all_suit taken_on_script given)
-script_fits [] given = refl
-script_fits (a ∷ []) given = refl
-script_fits (a ∷ b ∷ []) given =
-    simp (
-      of_own taken_on_script Harts given.harts refl,
-      of_own taken_on_script Frames given.frames refl,
-      of_own taken_on_script Steps given.steps refl,
-      of_others taken_on_script Seed given.seed refl,
-      script_parts a b (is_some given.seed) (chosen (range_of Harts) given.harts)
-          (chosen (range_of Frames) given.frames) (chosen (range_of Steps) given.steps),
-    )
-script_fits (a ∷ b ∷ c ∷ more) given =
-    let other : nat_eq (length (a ∷ b ∷ c ∷ more)) 2 ≡ false = grind (arith, nat_tests) in rw other refl
-
-workers_fit : (names : List (List ℕ)) (given : Arguments)
-    → is_some (run_named names given) ≡ (nat_eq (length names) 1 && all_suit taken_by_workers given)
-workers_fit [] given = refl
-workers_fit (a ∷ []) given =
-    simp (
-      of_own taken_by_workers Harts given.harts refl,
-      of_own taken_by_workers Frames given.frames refl,
-      of_own taken_by_workers Steps given.steps refl,
-      of_own taken_by_workers Seed given.seed refl,
-      worker_parts a (chosen (range_of Harts) given.harts) (chosen (range_of Frames) given.frames)
-          (chosen (range_of Steps) given.steps) (chosen (range_of Seed) given.seed),
-    )
-workers_fit (a ∷ b ∷ more) given =
-    let other : nat_eq (length (a ∷ b ∷ more)) 1 ≡ false = grind (arith, nat_tests) in rw other refl
+-- so a command of a kind is asked for exactly where the arguments are its own
+kind_fits : (kind : CommandKind) (given : Arguments) → is_some (asked_for kind given) ≡ fits (takes_by kind.source) given
+kind_fits kind given =
+    let source = kind.source in
+    let count = nat_eq (length given.names) (takes_by source).names in
+    made_of (number_for source Harts given.harts) (number_for source Frames given.frames)
+    (number_for source Steps given.steps) (number_for source Seed given.seed)
+    (files_for source given.names) (command_for kind) count (files_are source given.names)
+    ∙ (λ i. count && (suits_is source Harts given.harts i && suits_is source Frames given.frames i
+    && suits_is source Steps given.steps i && suits_is source Seed given.seed i))
 
 -- what the command of a word asks for
 pub asked_fits : (word : List ℕ) (takes : Takes) (given : Arguments) → takes_of word ≡ Some takes
     → is_some (asked_by word given) ≡ fits takes given
-asked_fits word takes given is =
-    go (bytes_eq word (codes "solo")) (bytes_eq word (codes "play")) (bytes_eq word (codes "blocks"))
-    (bytes_eq word (codes "inspect")) (bytes_eq word (codes "run")) is
+asked_fits word takes given is = by_kind (command_kind word) is
   where
-    go : (s p b i r : Bool)
-        → cond s (Some taken_alone) (cond p (Some taken_on_script) (cond b (Some taken_on_script)
-        (cond i (Some taken_on_script) (cond r (Some taken_by_workers) None)))) ≡ Some takes
-        → is_some (cond s (solo_of given) (cond p (play_of given) (cond b (blocks_of given)
-        (cond i (inspect_of given) (cond r (run_of given) None)))))
-        ≡ fits takes given
-    go true p b i r is =
-        let same : taken_alone ≡ takes = cc is in
-        alone_fits given.names given ∙ ap (λ (t : Takes). fits t given) same
-    go false true b i r is =
-        let same : taken_on_script ≡ takes = cc is in
-        made_of (scripted_of given) (λ (s : Scripted). Play s.program s.script s.limits) ∙ script_fits given.names given
-        ∙ ap (λ (t : Takes). fits t given) same
-    go false false true i r is =
-        let same : taken_on_script ≡ takes = cc is in
-        made_of (scripted_of given) (λ (s : Scripted). Blocks s.program s.script s.limits)
-        ∙ script_fits given.names given ∙ ap (λ (t : Takes). fits t given) same
-    go false false false true r is =
-        let same : taken_on_script ≡ takes = cc is in
-        made_of (scripted_of given) (λ (s : Scripted). Inspect s.program s.script s.limits)
-        ∙ script_fits given.names given ∙ ap (λ (t : Takes). fits t given) same
-    go false false false false true is =
-        let same : taken_by_workers ≡ takes = cc is in
-        workers_fit given.names given ∙ ap (λ (t : Takes). fits t given) same
-    go false false false false false is = absurd (cc is)
+    by_kind : (o : Option CommandKind) → option_map (λ (kind : CommandKind). takes_by kind.source) o ≡ Some takes
+        → is_some (o >>= (λ (kind : CommandKind). asked_for kind given)) ≡ fits takes given
+    by_kind None is = absurd (cc is)
+    by_kind (Some kind) is =
+        let same : takes_by kind.source ≡ takes = cc is in
+        kind_fits kind given ∙ ap (λ (t : Takes). fits t given) same
 
 -- a word of no command asks for nothing
 pub none_asked : (word : List ℕ) (given : Arguments) → takes_of word ≡ None → asked_by word given ≡ None
-none_asked word given is =
-    go (bytes_eq word (codes "solo")) (bytes_eq word (codes "play")) (bytes_eq word (codes "blocks"))
-    (bytes_eq word (codes "inspect")) (bytes_eq word (codes "run")) is
+none_asked word given is = by_kind (command_kind word) is
   where
-    go : (s p b i r : Bool)
-        → cond s (Some taken_alone) (cond p (Some taken_on_script) (cond b (Some taken_on_script)
-        (cond i (Some taken_on_script) (cond r (Some taken_by_workers) None)))) ≡ None
-        → cond s (solo_of given) (cond p (play_of given) (cond b (blocks_of given)
-        (cond i (inspect_of given) (cond r (run_of given) None)))) ≡ None
-    go true p b i r is = absurd (cc is)
-    go false true b i r is = absurd (cc is)
-    go false false true i r is = absurd (cc is)
-    go false false false true r is = absurd (cc is)
-    go false false false false true is = absurd (cc is)
-    go false false false false false is = refl
+    by_kind : (o : Option CommandKind) → option_map (λ (kind : CommandKind). takes_by kind.source) o ≡ None
+        → (o >>= (λ (kind : CommandKind). asked_for kind given)) ≡ None
+    by_kind None is = refl
+    by_kind (Some kind) is = absurd (cc is)
 
 -- a command has two names at most
+two_names_most : (source : SourceKind) → (takes_by source).names ≤ 2
+two_names_most ByRule = omega arith
+two_names_most ByScript = omega arith
+two_names_most ByWorkers = omega arith
+
 pub few_taken : (word : List ℕ) (takes : Takes) → takes_of word ≡ Some takes → takes.names ≤ 2
-few_taken word takes is =
-    go (bytes_eq word (codes "solo")) (bytes_eq word (codes "play")) (bytes_eq word (codes "blocks"))
-    (bytes_eq word (codes "inspect")) (bytes_eq word (codes "run")) is
+few_taken word takes is = by_kind (command_kind word) is
   where
-    go : (s p b i r : Bool)
-        → cond s (Some taken_alone) (cond p (Some taken_on_script) (cond b (Some taken_on_script)
-        (cond i (Some taken_on_script) (cond r (Some taken_by_workers) None)))) ≡ Some takes → takes.names ≤ 2
-    go true p b i r is = let same : taken_alone ≡ takes = cc is in omega (arith, ap (λ (t : Takes). t.names) same)
-    go false true b i r is =
-        let same : taken_on_script ≡ takes = cc is in omega (arith, ap (λ (t : Takes). t.names) same)
-    go false false true i r is =
-        let same : taken_on_script ≡ takes = cc is in omega (arith, ap (λ (t : Takes). t.names) same)
-    go false false false true r is =
-        let same : taken_on_script ≡ takes = cc is in omega (arith, ap (λ (t : Takes). t.names) same)
-    go false false false false true is =
-        let same : taken_by_workers ≡ takes = cc is in omega (arith, ap (λ (t : Takes). t.names) same)
-    go false false false false false is = absurd (cc is)
+    by_kind : (o : Option CommandKind) → option_map (λ (kind : CommandKind). takes_by kind.source) o ≡ Some takes
+        → takes.names ≤ 2
+    by_kind None is = absurd (cc is)
+    by_kind (Some kind) is =
+        let same : takes_by kind.source ≡ takes = cc is in
+        omega (arith, two_names_most kind.source, ap (λ (t : Takes). t.names) same)
+
+-- arguments that aren't a command's ask for nothing
+nothing_there : {A : Type 0} (o : Option A) → is_some o ≡ false → o ≡ None
+nothing_there None is = refl
+nothing_there (Some x) is = absurd (cc is)
+
+nothing_asked : (word : List ℕ) (given : Arguments) → ((source : SourceKind) → fits (takes_by source) given ≡ false)
+    → asked_by word given ≡ None
+nothing_asked word given never = by_kind (command_kind word)
+  where
+    by_kind : (o : Option CommandKind) → (o >>= (λ (kind : CommandKind). asked_for kind given)) ≡ None
+    by_kind None = refl
+    by_kind (Some kind) = nothing_there (asked_for kind given) (kind_fits kind given ∙ never kind.source)
+
+-- nor do more names than two
+pub many_names : (word : List ℕ) (given : Arguments) → 2 < length given.names → asked_by word given ≡ None
+many_names word given many = nothing_asked word given (λ source. by_count source)
+  where
+    by_count : (source : SourceKind) → fits (takes_by source) given ≡ false
+    by_count source =
+        let most = two_names_most source in
+        let other : nat_eq (length given.names) (takes_by source).names ≡ false = grind (arith, nat_tests) in
+        rw other refl
 
 -- the arguments so far may become a command's: not too many names, and options that suit it
 pub record Sound (takes : Takes) (given : Arguments) : Type 0 where
@@ -225,6 +174,18 @@ parts_suit takes given all =
     by_option h f s d Frames = f
     by_option h f s d Steps = s
     by_option h f s d Seed = d
+
+-- where one doesn't suit, nothing is asked for
+pub unsuited : (word : List ℕ) (given : Arguments) (option : OptionName)
+    → ((source : SourceKind) → suits (takes_by source) option (value_of option given) ≡ false)
+    → asked_by word given ≡ None
+unsuited word given option bad = nothing_asked word given (λ source. by_test source (fits (takes_by source) given) refl)
+  where
+    by_test : (source : SourceKind) (b : Bool) → fits (takes_by source) given ≡ b → b ≡ false
+    by_test source false is = refl
+    by_test source true is =
+        let all = (and_parts (nat_eq (length given.names) (takes_by source).names) (all_suit (takes_by source) given) is).1 in
+        absurd (cc (sym (parts_suit (takes_by source) given all option) ∙ bad source))
 
 -- where each suits, all do
 all_of : (takes : Takes) (given : Arguments)

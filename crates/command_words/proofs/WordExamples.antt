@@ -1,23 +1,44 @@
 -- Worked examples of words, by computation.
-use Rattle.std.proofs.Common.{◌≡◌, ℕ, ◌-◌, ◌^◌, [], ◌∷◌, Option, Some, None, refl, codes}
+use Rattle.std.proofs.Common.{◌≡◌, ℕ, ◌-◌, ◌^◌, List, [], ◌∷◌, Option, Some, None, refl, codes}
 use Rattle.mach_types.specs.declared.limits.Limits.{Limits}
-use Rattle.command_words.specs.Grammar.{Command, Solo, Play, Blocks, Inspect, Run}
+use Rattle.command_words.specs.declared.table.Shown.{Shown}
+use Rattle.command_words.specs.declared.table.Shown.TheVariants.{Output, Summary, Place}
+use Rattle.command_words.specs.Commands.{Command, Source, Rule, Script, Workers}
 use Rattle.command_words.specs.Options.{number_of}
 use Rattle.command_words.specs.Words.{arguments_of, command_of}
 
 abbrev limits : ℕ → ℕ → ℕ → Limits
 limits harts frames steps = record { harts = harts; frames = frames; steps = steps }
 
+-- the commands
+abbrev asked : List ℕ → Source → Shown → Limits → Command
+asked program source shown limits = record { program = program; source = source; shown = shown; limits = limits }
+
+abbrev solo : List ℕ → Limits → Command
+solo program limits = asked program Rule Output limits
+
+abbrev play : List ℕ → List ℕ → Limits → Command
+play program script limits = asked program (Script script) Output limits
+
+abbrev blocks : List ℕ → List ℕ → Limits → Command
+blocks program script limits = asked program (Script script) Summary limits
+
+abbrev inspect : List ℕ → List ℕ → Limits → Command
+inspect program script limits = asked program (Script script) Place limits
+
+abbrev run : List ℕ → Limits → ℕ → Command
+run program limits seed = asked program (Workers seed) Output limits
+
 abbrev three_harts : Option Command
-three_harts = Some (Play (codes "F") (codes "S") (limits 3 4096 200000))
+three_harts = Some (play (codes "F") (codes "S") (limits 3 4096 200000))
 
 -- the limits where no option is given
-solo_defaults : command_of (codes "solo" ∷ codes "F" ∷ []) ≡ Some (Solo (codes "F") (limits 1 4096 200000))
+solo_defaults : command_of (codes "solo" ∷ codes "F" ∷ []) ≡ Some (solo (codes "F") (limits 1 4096 200000))
 unfolding command_of arguments_of
 solo_defaults = refl
 
 play_defaults : command_of (codes "play" ∷ codes "F" ∷ codes "S" ∷ [])
-    ≡ Some (Play (codes "F") (codes "S") (limits 2 4096 200000))
+    ≡ Some (play (codes "F") (codes "S") (limits 2 4096 200000))
 unfolding command_of arguments_of
 play_defaults = refl
 
@@ -43,54 +64,54 @@ harts_in_one_word = refl
 
 -- an option stands before or behind the name, as one word or as two
 value_behind_equals : command_of (codes "solo" ∷ codes "--steps=1" ∷ codes "F" ∷ [])
-    ≡ Some (Solo (codes "F") (limits 1 4096 1))
+    ≡ Some (solo (codes "F") (limits 1 4096 1))
 unfolding command_of arguments_of
 value_behind_equals = refl
 
 value_in_next_word : command_of (codes "solo" ∷ codes "F" ∷ codes "--steps" ∷ codes "1" ∷ [])
-    ≡ Some (Solo (codes "F") (limits 1 4096 1))
+    ≡ Some (solo (codes "F") (limits 1 4096 1))
 unfolding command_of arguments_of
 value_in_next_word = refl
 
 two_options : command_of (codes "solo" ∷ codes "--frames" ∷ codes "128" ∷ codes "--steps=5" ∷ codes "F" ∷ [])
-    ≡ Some (Solo (codes "F") (limits 1 128 5))
+    ≡ Some (solo (codes "F") (limits 1 128 5))
 unfolding command_of arguments_of
 two_options = refl
 
 most_harts : command_of (codes "play" ∷ codes "F" ∷ codes "S" ∷ codes "--harts=8" ∷ [])
-    ≡ Some (Play (codes "F") (codes "S") (limits 8 4096 200000))
+    ≡ Some (play (codes "F") (codes "S") (limits 8 4096 200000))
 unfolding command_of arguments_of
 most_harts = refl
 
 -- behind `--` each word is a name
 options_ended : command_of (codes "solo" ∷ codes "--steps" ∷ codes "1" ∷ codes "--" ∷ codes "F" ∷ [])
-    ≡ Some (Solo (codes "F") (limits 1 4096 1))
+    ≡ Some (solo (codes "F") (limits 1 4096 1))
 unfolding command_of arguments_of
 options_ended = refl
 
 name_like_an_option : command_of (codes "solo" ∷ codes "--" ∷ codes "--steps" ∷ [])
-    ≡ Some (Solo (codes "--steps") (limits 1 4096 200000))
+    ≡ Some (solo (codes "--steps") (limits 1 4096 200000))
 unfolding command_of arguments_of
 name_like_an_option = refl
 
 name_of_two_dashes : command_of (codes "solo" ∷ codes "--" ∷ codes "--" ∷ [])
-    ≡ Some (Solo (codes "--") (limits 1 4096 200000))
+    ≡ Some (solo (codes "--") (limits 1 4096 200000))
 unfolding command_of arguments_of
 name_of_two_dashes = refl
 
 -- `-` alone is a name, and so is the empty word
-name_of_one_dash : command_of (codes "solo" ∷ codes "-" ∷ []) ≡ Some (Solo (codes "-") (limits 1 4096 200000))
+name_of_one_dash : command_of (codes "solo" ∷ codes "-" ∷ []) ≡ Some (solo (codes "-") (limits 1 4096 200000))
 unfolding command_of arguments_of
 name_of_one_dash = refl
 
 name_of_no_character : command_of (codes "solo" ∷ codes "" ∷ [])
-    ≡ Some (Solo (codes "") (limits 1 4096 200000))
+    ≡ Some (solo (codes "") (limits 1 4096 200000))
 unfolding command_of arguments_of
 name_of_no_character = refl
 
 -- a number may have leading zeros, but 20 digits at most
 leading_zeros : command_of (codes "solo" ∷ codes "--steps=00001" ∷ codes "F" ∷ [])
-    ≡ Some (Solo (codes "F") (limits 1 4096 1))
+    ≡ Some (solo (codes "F") (limits 1 4096 1))
 unfolding command_of arguments_of
 leading_zeros = refl
 
@@ -99,7 +120,7 @@ unfolding command_of arguments_of
 many_digits = refl
 
 twenty_digits : command_of (codes "solo" ∷ codes "--steps=00000000000000000001" ∷ codes "F" ∷ [])
-    ≡ Some (Solo (codes "F") (limits 1 4096 1))
+    ≡ Some (solo (codes "F") (limits 1 4096 1))
 unfolding command_of arguments_of
 twenty_digits = refl
 
@@ -206,24 +227,24 @@ unfolding command_of arguments_of
 too_few_frames = refl
 
 -- `run F` has the number of harts and the seed that are given, or else the defaults
-run_defaults : command_of (codes "run" ∷ codes "F" ∷ []) ≡ Some (Run (codes "F") (limits 2 4096 200000) 1)
+run_defaults : command_of (codes "run" ∷ codes "F" ∷ []) ≡ Some (run (codes "F") (limits 2 4096 200000) 1)
 unfolding command_of arguments_of
 run_defaults = refl
 
 run_options : command_of
     (codes "run" ∷ codes "--harts" ∷ codes "3" ∷ codes "F" ∷ codes "--frames=128" ∷ codes "--steps=5"
-    ∷ codes "--seed" ∷ codes "7" ∷ []) ≡ Some (Run (codes "F") (limits 3 128 5) 7)
+    ∷ codes "--seed" ∷ codes "7" ∷ []) ≡ Some (run (codes "F") (limits 3 128 5) 7)
 unfolding command_of arguments_of
 run_options = refl
 
 least_seed : command_of (codes "run" ∷ codes "F" ∷ codes "--seed=0" ∷ [])
-    ≡ Some (Run (codes "F") (limits 2 4096 200000) 0)
+    ≡ Some (run (codes "F") (limits 2 4096 200000) 0)
 unfolding command_of arguments_of
 least_seed = refl
 
 largest_seed : command_of
     (codes "run" ∷ codes "--seed=18446744073709551615" ∷ codes "--" ∷ codes "F" ∷ [])
-    ≡ Some (Run (codes "F") (limits 2 4096 200000) (2 ^ 64 - 1))
+    ≡ Some (run (codes "F") (limits 2 4096 200000) (2 ^ 64 - 1))
 unfolding command_of arguments_of
 largest_seed = refl
 
@@ -255,13 +276,13 @@ run_two_names = refl
 
 -- `blocks F S` has the limits that are given, or else the defaults
 blocks_defaults : command_of (codes "blocks" ∷ codes "F" ∷ codes "S" ∷ [])
-    ≡ Some (Blocks (codes "F") (codes "S") (limits 2 4096 200000))
+    ≡ Some (blocks (codes "F") (codes "S") (limits 2 4096 200000))
 unfolding command_of arguments_of
 blocks_defaults = refl
 
 blocks_options : command_of
     (codes "blocks" ∷ codes "--harts" ∷ codes "3" ∷ codes "F" ∷ codes "--frames=128" ∷ codes "S"
-    ∷ codes "--steps=5" ∷ []) ≡ Some (Blocks (codes "F") (codes "S") (limits 3 128 5))
+    ∷ codes "--steps=5" ∷ []) ≡ Some (blocks (codes "F") (codes "S") (limits 3 128 5))
 unfolding command_of arguments_of
 blocks_options = refl
 
@@ -279,12 +300,12 @@ blocks_too_many_harts = refl
 
 -- so has `inspect F S`
 inspect_defaults : command_of (codes "inspect" ∷ codes "F" ∷ codes "S" ∷ [])
-    ≡ Some (Inspect (codes "F") (codes "S") (limits 2 4096 200000))
+    ≡ Some (inspect (codes "F") (codes "S") (limits 2 4096 200000))
 unfolding command_of arguments_of
 inspect_defaults = refl
 
 inspect_options : command_of (codes "inspect" ∷ codes "F" ∷ codes "--harts=8" ∷ codes "S" ∷ [])
-    ≡ Some (Inspect (codes "F") (codes "S") (limits 8 4096 200000))
+    ≡ Some (inspect (codes "F") (codes "S") (limits 8 4096 200000))
 unfolding command_of arguments_of
 inspect_options = refl
 

@@ -5,15 +5,19 @@
 --     item ::= name  |  option value  |  option=value
 --
 -- Names and options stand in any order. Behind `--` each word is a name, a further `--` too.
-use Rattle.std.specs.Prelude.{ℕ, ◌≡◌, Bool, ◌&&◌, ◌||◌, false, List, [], ◌∷◌, ◌++◌, ◌⊎◌, length, map, Option, Some}
+use Rattle.std.specs.Prelude.{ℕ, ◌≡◌, Bool, ◌&&◌, not, false, List, [], ◌∷◌, ◌++◌, ◌⊎◌, length, map, Option, Some}
 use Rattle.std.specs.Prelude.{None, if◌then◌else◌, nat_lt, nat_eq, codes}
 use Rattle.std.specs.List.{starts_with}
 use Rattle.std.specs.Option.{is_some}
-use Rattle.std.specs.Str.{bytes_eq}
-use Rattle.mach_types.specs.declared.limits.Limits.{Limits}
 use Rattle.step_log.specs.Script.{◌>>=◌}
+use Rattle.command_words.specs.declared.table.CommandKind.{CommandKind}
+use Rattle.command_words.specs.declared.table.SourceKind.{SourceKind}
+use Rattle.command_words.specs.declared.table.SourceKind.TheVariants.{ByRule, ByScript, ByWorkers}
+use Rattle.command_words.specs.Commands.{Command, Source, Rule, Script, Workers}
 use Rattle.command_words.specs.Options.{OptionName, Harts, Frames, Steps, Seed, option_word, same_option}
 use Rattle.command_words.specs.Options.{chosen, range_of}
+use Rattle.command_words.specs.Table.{command_kind}
+use Rattle.command_words.specs.Takes.{has, takes_by}
 
 -- what a command is given behind its word: a name, or an option with the text of its value
 pub data Item : Type 0 where
@@ -92,94 +96,58 @@ arguments_in items = do
   seed ← at_most_one (values_in Seed items)
   Some (record { names = names_in items; harts = harts; frames = frames; steps = steps; seed = seed })
 
--- what can be asked for: to run a program on one hart by the fixed rule, on the events of a script, or by
--- workers, one for each hart, that choose by a seed; and to count the acts of a run on the events of a script, or
--- to show the place that it comes to. The names are those of the files
-pub data Command : Type 0 where
-  Solo : (program : List ℕ) (limits : Limits) → Command
-  Play : (program : List ℕ) (script : List ℕ) (limits : Limits) → Command
-  Blocks : (program : List ℕ) (script : List ℕ) (limits : Limits) → Command
-  Inspect : (program : List ℕ) (script : List ℕ) (limits : Limits) → Command
-  Run : (program : List ℕ) (limits : Limits) (seed : ℕ) → Command
+-- the number that an option comes to by how the log comes about: none where it is given and such a command hasn't
+-- the option, and where it isn't one that the option takes
+abbrev pub number_for : SourceKind → OptionName → Option (List ℕ) → Option ℕ
+number_for source option text =
+    if is_some text && not (has (takes_by source).options option) then None else chosen (range_of option) text
 
--- the limits of a run on so many harts
-abbrev pub limits_on : ℕ → Arguments → Option Limits
-limits_on harts given = do
-  frames ← chosen (range_of Frames) given.frames
-  steps ← chosen (range_of Steps) given.steps
-  Some (record { harts = harts; frames = frames; steps = steps })
+-- how many harts there are: one by the fixed rule
+abbrev pub harts_for : SourceKind → ℕ → ℕ
+harts_for ByRule harts = 1
+harts_for ByScript harts = harts
+harts_for ByWorkers harts = harts
 
--- `solo FILE` has one hart and chooses nothing: it takes no number of harts, and no seed
-abbrev pub solo_named : List (List ℕ) → Arguments → Option Command
-solo_named (program ∷ []) given =
-    if is_some given.harts || is_some given.seed then None else do
-      limits ← limits_on 1 given
-      Some (Solo program limits)
-solo_named _ given = None
+-- the program that one name gives, where there is one
+abbrev pub one_name : Source → List (List ℕ) → Option (List ℕ × Source)
+one_name source (program ∷ []) = Some (program, source)
+one_name source _ = None
 
--- what a command on the events of a script is given
-pub record Scripted : Type 0 where
-  pub program : List ℕ
-  pub script : List ℕ
-  pub limits : Limits
+-- the program and the script that two names give, where there are two
+abbrev pub two_names : List (List ℕ) → Option (List ℕ × Source)
+two_names (program ∷ script ∷ []) = Some (program, Script script)
+two_names _ = None
 
--- such a command has two names, `FILE SCRIPT`; it chooses nothing, and takes no seed
-abbrev pub scripted_named : List (List ℕ) → Arguments → Option Scripted
-scripted_named (program ∷ script ∷ []) given =
-    if is_some given.seed then None else do
-      harts ← chosen (range_of Harts) given.harts
-      limits ← limits_on harts given
-      Some (record { program = program; script = script; limits = limits })
-scripted_named _ given = None
+-- the program that names give, and how the log comes about, with this seed
+abbrev pub files_for : SourceKind → List (List ℕ) → ℕ → Option (List ℕ × Source)
+files_for ByRule names seed = one_name Rule names
+files_for ByScript names seed = two_names names
+files_for ByWorkers names seed = one_name (Workers seed) names
 
--- `run FILE`
-abbrev pub run_named : List (List ℕ) → Arguments → Option Command
-run_named (program ∷ []) given = do
-  harts ← chosen (range_of Harts) given.harts
-  limits ← limits_on harts given
-  seed ← chosen (range_of Seed) given.seed
-  Some (Run program limits seed)
-run_named _ given = None
+-- the command of these numbers and names
+abbrev pub command_for : CommandKind → ℕ → ℕ → ℕ → List ℕ × Source → Command
+command_for kind harts frames steps files = record {
+  program = files.0;
+  source = files.1;
+  shown = kind.shown;
+  limits = record { harts = harts_for kind.source harts; frames = frames; steps = steps };
+}
 
--- what the arguments of `solo` ask for
-abbrev pub solo_of : Arguments → Option Command
-solo_of given = solo_named given.names given
+-- what such a command asks for with these arguments
+abbrev pub asked_for : CommandKind → Arguments → Option Command
+asked_for kind given = do
+  harts ← number_for kind.source Harts given.harts
+  frames ← number_for kind.source Frames given.frames
+  steps ← number_for kind.source Steps given.steps
+  seed ← number_for kind.source Seed given.seed
+  files ← files_for kind.source given.names seed
+  Some (command_for kind harts frames steps files)
 
--- what the arguments give a command on the events of a script
-abbrev pub scripted_of : Arguments → Option Scripted
-scripted_of given = scripted_named given.names given
-
--- what the arguments of `play` ask for
-abbrev pub play_of : Arguments → Option Command
-play_of given = do
-  scripted ← scripted_of given
-  Some (Play scripted.program scripted.script scripted.limits)
-
--- what the arguments of `blocks` ask for
-abbrev pub blocks_of : Arguments → Option Command
-blocks_of given = do
-  scripted ← scripted_of given
-  Some (Blocks scripted.program scripted.script scripted.limits)
-
--- what the arguments of `inspect` ask for
-abbrev pub inspect_of : Arguments → Option Command
-inspect_of given = do
-  scripted ← scripted_of given
-  Some (Inspect scripted.program scripted.script scripted.limits)
-
--- what the arguments of `run` ask for
-abbrev pub run_of : Arguments → Option Command
-run_of given = run_named given.names given
-
--- what a command's word asks for with these arguments
+-- what a command's word asks for with them
 abbrev pub asked_by : List ℕ → Arguments → Option Command
-asked_by word given =
-    if bytes_eq word (codes "solo") then solo_of given
-    else if bytes_eq word (codes "play") then play_of given
-    else if bytes_eq word (codes "blocks") then blocks_of given
-    else if bytes_eq word (codes "inspect") then inspect_of given
-    else if bytes_eq word (codes "run") then run_of given
-    else None
+asked_by word given = do
+  kind ← command_kind word
+  asked_for kind given
 
 -- what it asks for with these items behind it
 unfoldable pub command_in : List ℕ → List Item → Option Command

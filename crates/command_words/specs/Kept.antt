@@ -5,8 +5,8 @@ use Rattle.command_words.specs.declared.arguments.Arguments.{Arguments}
 use Rattle.command_words.specs.declared.arguments.FileNames.{FileNames}
 use Rattle.command_words.specs.declared.arguments.FileNames.TheVariants.{Zero, One, Two}
 use Rattle.command_words.specs.declared.commands.Command.{Command}
-use Rattle.command_words.specs.declared.commands.Command.TheVariants as code
-use Rattle.command_words.specs.declared.commands.Scripted.{Scripted}
+use Rattle.command_words.specs.declared.commands.Source.{Source}
+use Rattle.command_words.specs.declared.commands.Source.TheVariants as code
 use Rattle.command_words.specs.declared.options.Numbers.{Numbers}
 use Rattle.command_words.specs.declared.options.OptionName.{OptionName}
 use Rattle.command_words.specs.declared.options.OptionName.TheVariants as option
@@ -15,8 +15,8 @@ use Rattle.command_words.specs.declared.reader.Reading.{Reading}
 use Rattle.command_words.specs.declared.reader.Reading.TheVariants as reading
 use Rattle.command_words.specs.declared.takes.OptionSet.{OptionSet}
 use Rattle.command_words.specs.declared.takes.Takes.{Takes}
-use Rattle.command_words.specs.Grammar.{Arguments as Stated, Command as Asked, Scripted as OnScript}
-use Rattle.command_words.specs.Grammar.{Solo, Play, Blocks, Inspect, Run}
+use Rattle.command_words.specs.Commands.{Command as Asked, Source as FromSource, Rule, Script, Workers}
+use Rattle.command_words.specs.Grammar.{Arguments as Stated}
 use Rattle.command_words.specs.Options.{OptionName as Named, Harts, Frames, Steps, Seed, Range}
 use Rattle.command_words.specs.Takes.{OptionSet as SomeOptions, Takes as Taken}
 use Rattle.command_words.specs.WordFaults.{SoFar}
@@ -49,17 +49,20 @@ stated kept = record {
   seed = option_copied kept.seed;
 }
 
--- what a command on the events of a script is given, with the texts of its names
-abbrev pub on_script : Scripted → OnScript
-on_script kept = record { program = kept.program.now; script = kept.script.now; limits = kept.limits }
+-- how the log comes about, with the text of the script's name
+abbrev pub source_said : Source → FromSource
+source_said code.Rule = Rule
+source_said (code.Script name) = Script name.now
+source_said (code.Workers seed) = Workers seed
 
 -- the command, with the texts of its names
 abbrev pub said : Command → Asked
-said (code.Solo program limits) = Solo program.now limits
-said (code.Play program script limits) = Play program.now script.now limits
-said (code.Blocks program script limits) = Blocks program.now script.now limits
-said (code.Inspect program script limits) = Inspect program.now script.now limits
-said (code.Run program limits seed) = Run program.now limits seed
+said command = record {
+  program = command.program.now;
+  source = source_said command.source;
+  shown = command.shown;
+  limits = command.limits;
+}
 
 -- some of the options
 abbrev pub options_kept : OptionSet → SomeOptions

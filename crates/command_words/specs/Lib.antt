@@ -1,7 +1,10 @@
+pub mod Commands
 pub mod Grammar
 pub mod Kept
 pub mod Line
 pub mod Options
+pub mod Table
 pub mod Takes
+pub mod WordErrors
 pub mod WordFaults
 pub mod Words

@@ -1,7 +1,10 @@
 -- What each command takes behind its word (own): how many names, and which options.
-use Rattle.std.specs.Prelude.{ℕ, Bool, true, false, List, Option, Some, None, if◌then◌else◌, codes}
-use Rattle.std.specs.Str.{bytes_eq}
+use Rattle.std.specs.Prelude.{ℕ, Bool, true, false, List, Option, option_map}
+use Rattle.command_words.specs.declared.table.CommandKind.{CommandKind}
+use Rattle.command_words.specs.declared.table.SourceKind.{SourceKind}
+use Rattle.command_words.specs.declared.table.SourceKind.TheVariants.{ByRule, ByScript, ByWorkers}
 use Rattle.command_words.specs.Options.{OptionName, Harts, Frames, Steps, Seed}
+use Rattle.command_words.specs.Table.{command_kind}
 
 -- some of the options
 pub record OptionSet : Type 0 where
@@ -47,12 +50,12 @@ abbrev pub taken_by_workers : Takes
 taken_by_workers =
     record { names = 1; options = record { harts = true; frames = true; steps = true; seed = true } }
 
+-- what a command takes by how its log comes about
+abbrev pub takes_by : SourceKind → Takes
+takes_by ByRule = taken_alone
+takes_by ByScript = taken_on_script
+takes_by ByWorkers = taken_by_workers
+
 -- what the command of a word takes, if a command has the word
 abbrev pub takes_of : List ℕ → Option Takes
-takes_of word =
-    if bytes_eq word (codes "solo") then Some taken_alone
-    else if bytes_eq word (codes "play") then Some taken_on_script
-    else if bytes_eq word (codes "blocks") then Some taken_on_script
-    else if bytes_eq word (codes "inspect") then Some taken_on_script
-    else if bytes_eq word (codes "run") then Some taken_by_workers
-    else None
+takes_of word = option_map (λ (kind : CommandKind). takes_by kind.source) (command_kind word)

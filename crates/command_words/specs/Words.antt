@@ -1,14 +1,14 @@
 -- What words ask for, as a function: the words are read one after another.
-use Rattle.std.specs.Prelude.{ℕ, ◌≡◌, ◌+◌, ◌==◌, Bool, true, false, List, [], ◌∷◌, ◌++◌, map, drop, Option, Some, None}
+use Rattle.std.specs.Prelude.{ℕ, ◌+◌, ◌==◌, Bool, List, [], ◌∷◌, ◌++◌, map, drop, Option, Some, None}
 use Rattle.std.specs.Prelude.{option_map, if◌then◌else◌, nat_lt, length, codes, string_bytes}
 use Rattle.std.specs.List.{before_first, position}
 use Rattle.std.specs.Option.{option_to_list}
 use Rattle.std.specs.Str.{bytes_eq}
 use Rattle.std.specs.declared.alloc.Global.{Global}
 use Rattle.std.specs.declared.string.String.{String}
-use Rattle.mach_types.specs.declared.limits.Limits.{Limits}
 use Rattle.step_log.specs.Script.{◌>>=◌}
-use Rattle.command_words.specs.Grammar.{Arguments, Command, Item, Name, Given, Solo, Play, Blocks, Inspect, Run}
+use Rattle.command_words.specs.Commands.{Command}
+use Rattle.command_words.specs.Grammar.{Arguments, Item, Name, Given}
 use Rattle.command_words.specs.Grammar.{arguments_in, begins_with_dash, asked_by, is_option, names_in}
 use Rattle.command_words.specs.Options.{OptionName, option_named}
 
@@ -81,28 +81,3 @@ command_among (word ∷ rest) = do
 -- what the words ask for: the one command whose line they are, and none where they are the line of no command
 unfoldable pub command_of : List (List ℕ) → Option Command
 command_of words = command_among words
-
--- whether that is a run by workers
-abbrev pub is_run : Option Command → Bool
-is_run None = false
-is_run (Some (Solo program limits)) = false
-is_run (Some (Play program script limits)) = false
-is_run (Some (Blocks program script limits)) = false
-is_run (Some (Inspect program script limits)) = false
-is_run (Some (Run program limits seed)) = true
-
--- the limits that a command has
-abbrev pub limits_in : Command → Limits
-limits_in (Solo program limits) = limits
-limits_in (Play program script limits) = limits
-limits_in (Blocks program script limits) = limits
-limits_in (Inspect program script limits) = limits
-limits_in (Run program limits seed) = limits
-
--- `solo` runs on one hart
-abbrev pub HasItsHarts : Command → Type 0
-HasItsHarts (Solo program limits) = limits.harts ≡ 1
-HasItsHarts (Play program script limits) = Unit {0}
-HasItsHarts (Blocks program script limits) = Unit {0}
-HasItsHarts (Inspect program script limits) = Unit {0}
-HasItsHarts (Run program limits seed) = Unit {0}

@@ -1,74 +1,45 @@
 //! The commands of a command line.
 
-ghost use Rattle.std.specs.Prelude.{◌≡◌, ◌≤◌, IfOk, IfSome, option_map};
+ghost use Rattle.std.specs.Prelude.{◌≡◌, ◌≤◌, IfOk, IfSome, option_copied, option_map};
 ghost use Rattle.mach_types.specs.Limits.{InRange};
-ghost use Rattle.command_words.specs.Kept.{on_script, said, stated};
-ghost use Rattle.command_words.specs.Grammar.{asked_by, blocks_of, inspect_of, limits_on, play_of, run_of};
-ghost use Rattle.command_words.specs.Grammar.{scripted_of, solo_of};
-ghost use Rattle.command_words.specs.Words.{HasItsHarts, command_of, limits_in, texts};
+ghost use Rattle.command_words.specs.Commands.{HasItsHarts, ShowsItsText};
+ghost use Rattle.command_words.specs.Kept.{named, names_kept, said, source_said, stated};
+ghost use Rattle.command_words.specs.Grammar.{asked_by, asked_for, files_for, harts_for, number_for, one_name};
+ghost use Rattle.command_words.specs.Grammar.{two_names};
+ghost use Rattle.command_words.specs.Options.{range_of};
+ghost use Rattle.command_words.specs.Words.{command_of, texts};
 
 use crate::arguments::{Arguments, FileNames, arguments_of};
 use crate::options::{OptionName, chosen};
+use crate::table::{CommandKind, Shown, SourceKind, command_kind};
 use mach_types::Limits;
 use std::alloc::{AllocError, Global};
 
-/// What the words ask for.
+/// How the log of a run comes about.
 #[derive(Clone, Copy, Debug, PartialEq, Eq, Drop)]
-pub enum Command<'a> {
-    /// Runs the program in the file of this name on one hart, by the fixed rule.
-    Solo {
-        /// The name of the program's file.
-        program: &'a str,
-        /// The limits of the run, on one hart.
-        limits: Limits,
-    },
-    /// Runs the program in the file of this name on the events of a script.
-    Play {
-        /// The name of the program's file.
-        program: &'a str,
-        /// The name of the script's file.
-        script: &'a str,
-        /// The limits of the run.
-        limits: Limits,
-    },
-    /// Counts the acts of a run of the program in the file of this name on the events of a script.
-    Blocks {
-        /// The name of the program's file.
-        program: &'a str,
-        /// The name of the script's file.
-        script: &'a str,
-        /// The limits of the run.
-        limits: Limits,
-    },
-    /// Shows the place that a run of the program in the file of this name comes to on the events of a script.
-    Inspect {
-        /// The name of the program's file.
-        program: &'a str,
-        /// The name of the script's file.
-        script: &'a str,
-        /// The limits of the run.
-        limits: Limits,
-    },
-    /// Runs the program in the file of this name by workers, one for each hart.
-    Run {
-        /// The name of the program's file.
-        program: &'a str,
-        /// The limits of the run.
-        limits: Limits,
+pub enum Source<'a> {
+    /// On one hart, by the fixed rule.
+    Rule,
+    /// By the events of the script in the file of this name.
+    Script(&'a str),
+    /// By workers, one for each hart.
+    Workers {
         /// The seed of what the harts choose.
         seed: u64,
     },
 }
 
-/// What a command on the events of a script is given.
-#[derive(Clone, Copy, Debug, Drop)]
-struct Scripted<'a> {
+/// What words ask for: to run a program, and to show something of the run.
+#[derive(Clone, Copy, Debug, PartialEq, Eq, Drop)]
+pub struct Command<'a> {
     /// The name of the program's file.
-    program: &'a str,
-    /// The name of the script's file.
-    script: &'a str,
+    pub program: &'a str,
+    /// How the log of the run comes about.
+    pub source: Source<'a>,
+    /// What is shown of the run.
+    pub shown: Shown,
     /// The limits of the run.
-    limits: Limits,
+    pub limits: Limits,
 }
 
 /// What the words ask for; None exactly where they aren't of the grammar. It errs only for want of memory.
@@ -77,10 +48,14 @@ struct Scripted<'a> {
 /// `blocks FILE SCRIPT` or `inspect FILE SCRIPT`, with `--harts` too; or `run FILE`, with `--harts` and `--seed`
 /// too. Each limit is in its range.
 #[tactic(auto, unfolding(crate::specs::Words::command_of))]
-pub fn command_of<'a>(alloc: Global, words: &'a [String]) -> Result<Option<Command<'a>>, AllocError>
+pub(crate) fn command_of<'a>(
+    alloc: Global,
+    words: &'a [String],
+) -> Result<Option<Command<'a>>, AllocError>
     ensures command { IfOk result (λ found. option_map said found ≡ command_of (texts words.now)) }
-    ensures limits { IfOk result (λ found. IfSome found (λ command. InRange (limits_in (said command)))) }
+    ensures limits { IfOk result (λ found. IfSome found (λ command. InRange command.limits)) }
     ensures harts { IfOk result (λ found. IfSome found (λ command. HasItsHarts (said command))) }
+    ensures shown { IfOk result (λ found. IfSome found (λ command. ShowsItsText (said command))) }
 {
     let Some((command, rest)) = words.split_first() else {
         return Ok(None);
@@ -94,140 +69,93 @@ pub fn command_of<'a>(alloc: Global, words: &'a [String]) -> Result<Option<Comma
 /// What a command's word asks for with these arguments; None where no command has the word.
 fn asked_by<'a>(command: &str, arguments: Arguments<'a>) -> Option<Command<'a>>
     ensures command { option_map said result ≡ asked_by command.now (stated arguments.entry) }
-    ensures limits { IfSome result (λ command. InRange (limits_in (said command))) }
+    ensures limits { IfSome result (λ command. InRange command.limits) }
     ensures harts { IfSome result (λ command. HasItsHarts (said command)) }
+    ensures shown { IfSome result (λ command. ShowsItsText (said command)) }
 {
-    match command {
-        "solo" => solo_of(arguments),
-        "play" => play_of(arguments),
-        "blocks" => blocks_of(arguments),
-        "inspect" => inspect_of(arguments),
-        "run" => run_of(arguments),
-        _ => None,
+    let kind = command_kind(command)?;
+    asked_for(kind, arguments)
+}
+
+/// What a command of this kind asks for with these arguments.
+fn asked_for<'a>(kind: CommandKind, arguments: Arguments<'a>) -> Option<Command<'a>>
+    requires { kind.source ≡ SourceKind.ByWorkers → kind.shown ≡ Shown.Output }
+    ensures command { option_map said result ≡ asked_for kind (stated arguments.entry) }
+    ensures limits { IfSome result (λ command. InRange command.limits) }
+    ensures harts { IfSome result (λ command. HasItsHarts (said command)) }
+    ensures shown { IfSome result (λ command. ShowsItsText (said command)) }
+{
+    let harts = number_for(kind.source, OptionName::Harts, arguments.harts)?;
+    let frames = number_for(kind.source, OptionName::Frames, arguments.frames)?;
+    let steps = number_for(kind.source, OptionName::Steps, arguments.steps)?;
+    let seed = number_for(kind.source, OptionName::Seed, arguments.seed)?;
+    let (program, source) = files_for(kind.source, arguments.names, seed)?;
+    let limits = Limits {
+        harts: harts_for(kind.source, harts as u8),
+        frames: frames as u32,
+        steps: steps as u32,
+    };
+    Some(Command {
+        program,
+        source,
+        shown: kind.shown,
+        limits,
+    })
+}
+
+/// The number that an option comes to by how the log comes about; None where it is given and such a command
+/// hasn't the option, and where it isn't one that the option takes.
+fn number_for(source: SourceKind, option: OptionName, text: Option<&str>) -> Option<u64>
+    ensures number { result ≡ number_for source (named option) (option_copied text.entry) }
+    ensures least { IfSome result (λ number. (range_of (named option)).least ≤ number) }
+    ensures most { IfSome result (λ number. number ≤ (range_of (named option)).most) }
+{
+    if text.is_some() && !source.takes().options.has(option) {
+        return None;
+    }
+    chosen(option.numbers(), text)
+}
+
+/// How many harts there are: one by the fixed rule.
+fn harts_for(source: SourceKind, harts: u8) -> u8
+    ensures { result ≡ harts_for source harts }
+{
+    match source {
+        SourceKind::ByRule => 1,
+        SourceKind::ByScript | SourceKind::ByWorkers => harts,
     }
 }
 
-/// The limits of a run on so many harts; None where a number isn't one that its option takes.
-fn limits_on(harts: u8, arguments: &Arguments) -> Option<Limits>
-    requires some_hart { 1 ≤ harts }
-    requires eight_harts { harts ≤ 8 }
-    ensures limits { result ≡ limits_on harts (stated arguments.now) }
-    ensures in_range { IfSome result InRange }
-    ensures harts { IfSome result (λ limits. limits.harts ≡ harts) }
+/// The program that one name gives, and how the log comes about; None where there isn't one name.
+fn one_name<'a>(source: Source<'a>, names: FileNames<'a>) -> Option<(&'a str, Source<'a>)>
+    ensures { option_map (λ files. (files.0.now, source_said files.1)) result
+        ≡ one_name (source_said source.entry) (names_kept names.entry) }
 {
-    let frames = chosen(OptionName::Frames.numbers(), arguments.frames)?;
-    let steps = chosen(OptionName::Steps.numbers(), arguments.steps)?;
-    Some(Limits {
-        harts,
-        frames: u32::try_from(frames).ok()?,
-        steps: u32::try_from(steps).ok()?,
-    })
-}
-
-/// What the arguments of `solo` ask for: one name, no number of harts and no seed.
-fn solo_of(arguments: Arguments<'_>) -> Option<Command<'_>>
-    ensures command { option_map said result ≡ solo_of (stated arguments.entry) }
-    ensures limits { IfSome result (λ command. InRange (limits_in (said command))) }
-    ensures harts { IfSome result (λ command. HasItsHarts (said command)) }
-{
-    let FileNames::One(program) = arguments.names else {
-        return None;
-    };
-    if arguments.harts.is_some() || arguments.seed.is_some() {
-        return None;
+    match names {
+        FileNames::One(program) => Some((program, source)),
+        FileNames::Zero | FileNames::Two(..) => None,
     }
-    Some(Command::Solo {
-        program,
-        limits: limits_on(1, &arguments)?,
-    })
 }
 
-/// What the arguments give a command on the events of a script: two names, and no seed.
-fn scripted_of(arguments: Arguments<'_>) -> Option<Scripted<'_>>
-    ensures given { option_map on_script result ≡ scripted_of (stated arguments.entry) }
-    ensures limits { IfSome result (λ scripted. InRange scripted.limits) }
+/// The program and the script that two names give; None where there aren't two.
+fn two_names(names: FileNames<'_>) -> Option<(&str, Source<'_>)>
+    ensures { option_map (λ files. (files.0.now, source_said files.1)) result ≡ two_names (names_kept names.entry) }
 {
-    let FileNames::Two(program, script) = arguments.names else {
-        return None;
-    };
-    if arguments.seed.is_some() {
-        return None;
+    match names {
+        FileNames::Two(program, script) => Some((program, Source::Script(script))),
+        FileNames::Zero | FileNames::One(_) => None,
     }
-    let harts = chosen(OptionName::Harts.numbers(), arguments.harts)?;
-    Some(Scripted {
-        program,
-        script,
-        limits: limits_on(u8::try_from(harts).ok()?, &arguments)?,
-    })
 }
 
-/// What the arguments of `play` ask for.
-fn play_of(arguments: Arguments<'_>) -> Option<Command<'_>>
-    ensures command { option_map said result ≡ play_of (stated arguments.entry) }
-    ensures limits { IfSome result (λ command. InRange (limits_in (said command))) }
-    ensures harts { IfSome result (λ command. HasItsHarts (said command)) }
+/// The program that names give, and how the log comes about, with this seed; None where they are too few or too
+/// many.
+fn files_for(source: SourceKind, names: FileNames<'_>, seed: u64) -> Option<(&str, Source<'_>)>
+    ensures { option_map (λ files. (files.0.now, source_said files.1)) result
+        ≡ files_for source (names_kept names.entry) seed }
 {
-    let Scripted {
-        program,
-        script,
-        limits,
-    } = scripted_of(arguments)?;
-    Some(Command::Play {
-        program,
-        script,
-        limits,
-    })
-}
-
-/// What the arguments of `blocks` ask for.
-fn blocks_of(arguments: Arguments<'_>) -> Option<Command<'_>>
-    ensures command { option_map said result ≡ blocks_of (stated arguments.entry) }
-    ensures limits { IfSome result (λ command. InRange (limits_in (said command))) }
-    ensures harts { IfSome result (λ command. HasItsHarts (said command)) }
-{
-    let Scripted {
-        program,
-        script,
-        limits,
-    } = scripted_of(arguments)?;
-    Some(Command::Blocks {
-        program,
-        script,
-        limits,
-    })
-}
-
-/// What the arguments of `inspect` ask for.
-fn inspect_of(arguments: Arguments<'_>) -> Option<Command<'_>>
-    ensures command { option_map said result ≡ inspect_of (stated arguments.entry) }
-    ensures limits { IfSome result (λ command. InRange (limits_in (said command))) }
-    ensures harts { IfSome result (λ command. HasItsHarts (said command)) }
-{
-    let Scripted {
-        program,
-        script,
-        limits,
-    } = scripted_of(arguments)?;
-    Some(Command::Inspect {
-        program,
-        script,
-        limits,
-    })
-}
-
-/// What the arguments of `run` ask for: one name.
-fn run_of(arguments: Arguments<'_>) -> Option<Command<'_>>
-    ensures command { option_map said result ≡ run_of (stated arguments.entry) }
-    ensures limits { IfSome result (λ command. InRange (limits_in (said command))) }
-    ensures harts { IfSome result (λ command. HasItsHarts (said command)) }
-{
-    let FileNames::One(program) = arguments.names else {
-        return None;
-    };
-    let harts = chosen(OptionName::Harts.numbers(), arguments.harts)?;
-    Some(Command::Run {
-        program,
-        limits: limits_on(u8::try_from(harts).ok()?, &arguments)?,
-        seed: chosen(OptionName::Seed.numbers(), arguments.seed)?,
-    })
+    match source {
+        SourceKind::ByRule => one_name(Source::Rule, names),
+        SourceKind::ByScript => two_names(names),
+        SourceKind::ByWorkers => one_name(Source::Workers { seed }, names),
+    }
 }

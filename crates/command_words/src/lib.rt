@@ -5,12 +5,16 @@ mod arguments;
 mod commands;
 mod faults;
 mod options;
+mod read;
 mod reader;
+mod table;
 mod takes;
 #[cfg(test)]
 mod tests;
 mod theorems;
 
-pub use commands::{Command, command_of};
+pub use commands::{Command, Source};
 pub use faults::{WordsFault, words_fault};
+pub use read::{WordsError, read_words};
+pub use table::{COMMANDS, CommandKind, Shown, SourceKind, command_kind};
 pub use theorems::words_are_wrong_or_name_a_command;

@@ -5,6 +5,7 @@ ghost use Rattle.command_words.specs.Kept.{named, options_kept, takes_kept};
 ghost use Rattle.command_words.specs.Takes.{has, no_options, takes_of, with_option};
 
 use crate::options::OptionName;
+use crate::table::{SourceKind, command_kind};
 
 /// Some of the options.
 #[derive(Clone, Copy, Debug, Drop)]
@@ -88,15 +89,28 @@ pub(crate) struct Takes {
     pub(crate) options: OptionSet,
 }
 
+impl SourceKind {
+    ghost use Rattle.std.specs.Prelude.{◌≡◌};
+    ghost use Rattle.command_words.specs.Kept.{takes_kept};
+    ghost use Rattle.command_words.specs.Takes.{takes_by};
+
+    /// What a command takes whose log comes about in this way.
+    pub(crate) fn takes(self) -> Takes
+        ensures { takes_kept result ≡ takes_by self }
+    {
+        let (names, options) = match self {
+            SourceKind::ByRule => (1, ON_ONE_HART),
+            SourceKind::ByScript => (2, ON_A_SCRIPT),
+            SourceKind::ByWorkers => (1, BY_WORKERS),
+        };
+        Takes { names, options }
+    }
+}
+
 /// What the command of a word takes; None where no command has the word.
 pub(crate) fn takes_of(command: &str) -> Option<Takes>
     ensures { option_map takes_kept result ≡ takes_of command.now }
 {
-    let (names, options) = match command {
-        "solo" => (1, ON_ONE_HART),
-        "play" | "blocks" | "inspect" => (2, ON_A_SCRIPT),
-        "run" => (1, BY_WORKERS),
-        _ => return None,
-    };
-    Some(Takes { names, options })
+    let kind = command_kind(command)?;
+    Some(kind.source.takes())
 }

@@ -1,7 +1,9 @@
 //! Laws of the words, as the contracts of functions that do nothing.
 
 ghost use Rattle.std.specs.Prelude.{◌≡◌, ◌↔◌, ℕ, List, None, Some, IsSome};
-ghost use Rattle.command_words.specs.Grammar.{Command, IsCommandLine};
+ghost use Rattle.command_words.specs.Commands.{Command};
+ghost use Rattle.command_words.specs.Grammar.{IsCommandLine};
+ghost use Rattle.command_words.specs.declared.faults.WordsFault.{WordsFault};
 ghost use Rattle.command_words.specs.WordFaults.{words_fault};
 ghost use Rattle.command_words.specs.Words.{command_of};
 
@@ -20,5 +22,7 @@ pub fn words_are_of_one_command()
 
 /// Nothing is wrong with the words exactly where they name a command.
 pub fn words_are_wrong_or_name_a_command()
-    ensures { (words : List (List ℕ)) → (words_fault words ≡ None) ↔ IsSome (command_of words) }
+    ensures right { (words : List (List ℕ)) → (words_fault words ≡ None) ↔ IsSome (command_of words) }
+    ensures wrong { (words : List (List ℕ)) (fault : WordsFault)
+        → words_fault words ≡ Some fault → command_of words ≡ None }
 {}

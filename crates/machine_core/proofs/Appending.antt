@@ -214,13 +214,8 @@ move s log m words h t x rd value to way room is =
         harts = none_beside h.0 (by_outcome here t.0 done.outcome) (set m.harts.items h.0 y) (record { none_begun = refl; none_taken = refl }) (ap all_stored none);
         pages = subst (λ (ws : List Store). HoldsPages (plain_seen v).kernel.pages s.program.break_at (λ a. written (all_stored ws) a ((plain_seen v).byte a)) m.pages) (sym none) way.settled.tied.pages;
         readable = way.settled.tied.readable;
-        threads = way.settled.tied.threads;
-        signals = way.settled.tied.signals;
-        scheduling = way.settled.tied.scheduling;
-        areas = way.settled.tied.areas;
+        tables = way.settled.tied.tables;
         ids = λ k u ne at. refl;
-        registered = way.settled.tied.registered;
-        console = way.settled.tied.console;
         saved = saved_plain (plain_seen v).file t.0 (record { file = done.outcome.regs; pc = done.outcome.pc }) h m.kernel.threads way.settled.tied.table (runs_there v m h t.0 place at) way.settled.tied.saved;
         table = way.settled.tied.table;
         ended = done.ended;

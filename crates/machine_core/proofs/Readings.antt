@@ -35,7 +35,7 @@ hart_read m h x machine lt value =
 
 -- the bytes that were written to the console
 pub console_read : (m : Inside) → IsMachine m → m.parts.kernel.console ≡ console (setting_of m) (history_of m)
-console_read m machine = machine.tied.console ∙ ap (λ (p : Plain). p.kernel.console) (same_state (seen m) machine.run)
+console_read m machine = machine.tied.tables.console ∙ ap (λ (p : Plain). p.kernel.console) (same_state (seen m) machine.run)
 
 -- the kernel's record, and the file of each thread that doesn't run
 pub kernel_read : (m : Inside) → IsMachine m → (plain_seen (seen m)).kernel ≡ kernel (setting_of m) (history_of m)
@@ -66,4 +66,4 @@ writable_read m h machine =
 
 -- the ready threads
 pub scheduling_read : (m : Inside) (h : ℕ) → IsMachine m → m.parts.kernel.ready ≡ (here_read m h).kernel.scheduling
-scheduling_read m h machine = machine.tied.scheduling ∙ ap (λ (here : Here). here.kernel.scheduling) (same_here (seen m) h machine.run)
+scheduling_read m h machine = machine.tied.tables.scheduling ∙ ap (λ (here : Here). here.kernel.scheduling) (same_here (seen m) h machine.run)

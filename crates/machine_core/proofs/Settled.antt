@@ -72,12 +72,7 @@ tied_with s p m m' sight generators h c tied harts pages kernel ended = record {
       at ∙ (ap Some (credit_alone sight generators s p h c k (credit_of m.harts.items k)) ∙ ap (λ n. Some (hart_at s p k n)) (sym credit));
   pages = rw pages tied.pages;
   readable = rw pages tied.readable;
-  threads = rw kernel tied.threads;
-  signals = rw kernel tied.signals;
-  scheduling = rw kernel tied.scheduling;
-  areas = rw kernel tied.areas;
-  registered = rw kernel tied.registered;
-  console = rw kernel tied.console;
+  tables = rw kernel tied.tables;
   table = rw kernel tied.table;
   saved = rw kernel tied.saved;
   ended = ended ∙ tied.ended;

@@ -94,12 +94,14 @@ tied-start image limits seed m allowed permissions held free break_at break_star
       let o = permission_of (start_runs image.pages.items) n in
       let whole : may_write o ≡ true = start_alone image.pages.items n allowed ∙ sym (ap can_write (permissions n)) ∙ may in
       ap can_read (permissions n) ∙ (and_parts (can_read o) (can_write o) whole).0;
-  threads = ap (λ t. t.threads) threads;
-  signals = signals;
-  scheduling = ready;
-  areas = areas;
-  registered = registered;
-  console = console;
+  tables = record {
+    threads = ap (λ t. t.threads) threads;
+    signals = signals;
+    scheduling = ready;
+    areas = areas;
+    barriers = registered;
+    console = console;
+  };
   table = table;
   saved = λ u x is. saved_start (start_file (program_of image)) u x (ap (λ t. saved_of u t.saved) (sym threads) ∙ is);
   ended = ended;

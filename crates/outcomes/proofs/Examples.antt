@@ -9,7 +9,7 @@ use Rattle.block_model.specs.declared.acts.SeqEnd.TheVariants.{Cut}
 use Rattle.block_view.specs.declared.forms.Act.{Act}
 use Rattle.block_view.specs.declared.forms.Form.{Form}
 use Rattle.block_view.specs.declared.forms.Form.TheVariants.{Step, Kernel, Sequence}
-use Rattle.outcomes.specs.declared.faults.Fault.TheVariants.{Usage, Elf, Script}
+use Rattle.outcomes.specs.declared.faults.Fault.TheVariants.{Usage, Elf, Guest, Script}
 use Rattle.outcomes.specs.Summary.{summary_text}
 use Rattle.outcomes.specs.Text.{output_text, fault_line}
 
@@ -24,6 +24,10 @@ elf_line_with_number = refl
 script_line : fault_line (Script 15) ≡ codes "fault script 15\n"
 unfolding fault_line digits
 script_line = refl
+
+guest_line : fault_line (Guest 0) ≡ codes "fault guest 0\n"
+unfolding fault_line digits
+guest_line = refl
 
 elf_line_alone : fault_line (Elf Short) ≡ codes "fault elf 1\n"
 unfolding fault_line digits

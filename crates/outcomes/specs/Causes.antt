@@ -1,12 +1,12 @@
 -- Why a call gives no output.
-use Rattle.std.specs.Prelude.{ℕ, ◌≡◌, ◌⊎◌, List, Option, None}
+use Rattle.std.specs.Prelude.{ℕ, ◌≡◌, ◌⊎◌, IsSome, List, Option, None}
 use Rattle.mach_types.specs.declared.limits.Limits.{Limits}
 use Rattle.elf_load.specs.declared.fault.ElfFault.{ElfFault}
 use Rattle.elf_load.specs.declared.image.Image.{Image}
 use Rattle.outside.specs.Counts.{Rose}
 use Rattle.outcomes.specs.declared.faults.Fault.{Fault}
-use Rattle.outcomes.specs.declared.faults.Fault.TheVariants.{Usage, Read, Memory, Big, Elf, Script}
-use Rattle.command_words.specs.Grammar.{Command}
+use Rattle.outcomes.specs.declared.faults.Fault.TheVariants.{Usage, Read, Memory, Big, Elf, Script, Guest}
+use Rattle.command_words.specs.Commands.{Command}
 use Rattle.outcomes.specs.Needs as need
 use Rattle.outcomes.specs.Programs.{Files, IsProgram, IsRefused, IsScript, IsTooBig, most_program_bytes}
 use Rattle.outcomes.specs.Programs.{most_script_bytes, start_of}
@@ -63,14 +63,20 @@ ReadFailed files (need.Program program limits) old new = Rose (old program) (new
 ReadFailed files (need.Script program script limits) old new =
     Rose (old program) (new program) ⊎ IsUnreadScript files program script limits old new
 
--- why a fault comes where a command is asked for, or none; want of memory is free
+-- the number is outside the range of the guest that a command makes; no command makes one yet
+abbrev pub IsOutsideGuest : Option Command → ℕ → Type 0
+IsOutsideGuest command number = ⊥
+
+-- why a fault comes where a command is asked for, or none; for a command want of memory is free, and for none it is
+-- no cause: what is wrong with words is found without memory
 abbrev pub IsCauseOf : Files → Option Command → (List ℕ → ℕ) → (List ℕ → ℕ) → Fault → Type 0
 IsCauseOf files command old new Usage = command ≡ None
 IsCauseOf files command old new Read = ReadFailed files (need.needs_of command) old new
-IsCauseOf files command old new Memory = Unit {0}
+IsCauseOf files command old new Memory = IsSome command
 IsCauseOf files command old new Big = HasBigFile files (need.needs_of command)
 IsCauseOf files command old new (Elf fault) = IsRefusalOf files (need.needs_of command) fault
 IsCauseOf files command old new (Script number) = IsScriptRefusalOf files (need.needs_of command) number
+IsCauseOf files command old new (Guest number) = IsOutsideGuest command number
 
 -- the same, by the words
 abbrev pub IsCause : Files → List (List ℕ) → (List ℕ → ℕ) → (List ℕ → ℕ) → Fault → Type 0

@@ -11,7 +11,7 @@ use Rattle.outside.specs.Told.{Gained, GainedPrefix}
 use Rattle.outcomes.specs.declared.reasons.Explained.{Explained}
 use Rattle.outcomes.specs.declared.reasons.FileRole.{FileRole}
 use Rattle.outcomes.specs.declared.reasons.Reason.{Reason}
-use Rattle.outcomes.specs.declared.reasons.Reason.TheVariants.{Words, Unread, NoMemory, TooBig, Elf, Script, Unwritten}
+use Rattle.outcomes.specs.declared.reasons.Reason.TheVariants.{Words, Unread, NoMemory, TooBig, Elf, Script, Guest, Unwritten}
 use Rattle.outcomes.specs.ElfPlaces.{place_of}
 use Rattle.outcomes.specs.Programs.{Files, IsTooBig}
 use Rattle.outcomes.specs.Reasons.{IsBadLine, most_bytes, reason_status}
@@ -35,17 +35,17 @@ IsDelivered old new before after text due status =
 
 -- how a call that has this answer is explained where it is written
 abbrev pub due_for : Result (Vec ℕ Global) Reason → Explained
-due_for (Ok text) = record { status = 0; reason = None }
-due_for (Err reason) = record { status = reason_status reason; reason = Some reason }
+due_for (Ok text) = record { status = 0; reason = None; untold = None }
+due_for (Err reason) = record { status = reason_status reason; reason = Some reason; untold = None }
 
--- the sink failed, whose count of faults rose and which says this of it
-pub record IsUnwritten (before after : ℕ) (said : Option ErrorKind) (explained : Explained) : Type 0 where
-  pub failed : explained ≡ record { status = 6; reason = Some (Unwritten said) }
+-- the sink failed, whose count of faults rose and which says this of it, and what was due is untold
+pub record IsUnwritten (before after : ℕ) (said : Option ErrorKind) (due explained : Explained) : Type 0 where
+  pub failed : explained ≡ record { status = 6; reason = Some (Unwritten said); untold = due.reason }
   pub rose : Rose before after
 
 -- a call is explained as it was due, or the sink failed
 abbrev pub IsAsDue : ℕ → ℕ → Option ErrorKind → Explained → Explained → Type 0
-IsAsDue before after said due explained = (explained ≡ due) ⊎ IsUnwritten before after said explained
+IsAsDue before after said due explained = (explained ≡ due) ⊎ IsUnwritten before after said due explained
 
 -- the file of this name couldn't be read, which has this role; the shelf's count rose, and it says this of it
 pub record IsUnreadFile
@@ -66,6 +66,7 @@ IsFileReason files name file old new said (TooBig other) =
     (other ≡ file) × IsTooBig files name (most_bytes file)
 IsFileReason files name file old new said (Elf fault about) = ⊥
 IsFileReason files name file old new said (Script number fault) = ⊥
+IsFileReason files name file old new said (Guest number) = ⊥
 IsFileReason files name file old new said (Unwritten trouble) = ⊥
 
 -- why no image is taken from these bytes
@@ -77,6 +78,7 @@ IsLoadReason bytes limits (TooBig file) = ⊥
 IsLoadReason bytes limits (Elf fault about) =
     (first_fault bytes limits.frames ≡ Some fault) × (about ≡ place_of bytes limits fault)
 IsLoadReason bytes limits (Script number fault) = ⊥
+IsLoadReason bytes limits (Guest number) = ⊥
 IsLoadReason bytes limits (Unwritten trouble) = ⊥
 
 -- why a script isn't played to its end: memory is short, or one of its lines is the first bad one
@@ -87,4 +89,5 @@ IsPlayReason s text NoMemory = Unit {0}
 IsPlayReason s text (TooBig file) = ⊥
 IsPlayReason s text (Elf fault about) = ⊥
 IsPlayReason s text (Script number fault) = IsBadLine s text number fault
+IsPlayReason s text (Guest number) = ⊥
 IsPlayReason s text (Unwritten trouble) = ⊥

@@ -2,7 +2,7 @@
 -- commands.
 use Rattle.std.specs.Prelude.{ℕ, List, Option, Some, None}
 use Rattle.mach_types.specs.declared.limits.Limits.{Limits}
-use Rattle.command_words.specs.Grammar.{Command, Solo, Play, Blocks, Inspect, Run}
+use Rattle.command_words.specs.Commands as words
 use Rattle.command_words.specs.Words.{command_of}
 
 -- nothing; the program in the file of this name, taken under these limits; or such a program, and the script
@@ -12,14 +12,16 @@ pub data Needs : Type 0 where
   Program : (program : List ℕ) (limits : Limits) → Needs
   Script : (program : List ℕ) (script : List ℕ) (limits : Limits) → Needs
 
+-- what the program of this name needs by how the log of its run comes about
+abbrev pub needs_by : List ℕ → words.Source → Limits → Needs
+needs_by program words.Rule limits = Program program limits
+needs_by program (words.Script name) limits = Script program name limits
+needs_by program (words.Workers seed) limits = Program program limits
+
 -- what a command needs
-abbrev pub needs_of : Option Command → Needs
+abbrev pub needs_of : Option words.Command → Needs
 needs_of None = Nothing
-needs_of (Some (Solo program limits)) = Program program limits
-needs_of (Some (Play program script limits)) = Script program script limits
-needs_of (Some (Blocks program script limits)) = Script program script limits
-needs_of (Some (Inspect program script limits)) = Script program script limits
-needs_of (Some (Run program limits seed)) = Program program limits
+needs_of (Some command) = needs_by command.program command.source command.limits
 
 -- what the command of the words needs
 abbrev pub needs_in : List (List ℕ) → Needs

@@ -4,8 +4,8 @@ use Rattle.elf_load.specs.declared.fault.ElfFault.{ElfFault}
 use Rattle.outside.specs.Counts.{NeverFalls, NoneFalls, Rose}
 use Rattle.outside.specs.Told.{Gained, GainedPrefix}
 use Rattle.outcomes.specs.declared.faults.Fault.{Fault}
-use Rattle.outcomes.specs.declared.faults.Fault.TheVariants.{Usage, Read, Memory, Big, Elf, Script}
-use Rattle.outcomes.specs.Causes.{HasBigFile, IsCause, IsRefusalOf, IsScriptRefusalOf, ReadFailed}
+use Rattle.outcomes.specs.declared.faults.Fault.TheVariants.{Usage, Read, Memory, Big, Elf, Script, Guest}
+use Rattle.outcomes.specs.Causes.{HasBigFile, IsCause, IsOutsideGuest, IsRefusalOf, IsScriptRefusalOf, ReadFailed}
 use Rattle.outcomes.specs.Needs.{needs_in}
 use Rattle.outcomes.specs.Outputs.{IsOutput, IsPlainOutput}
 use Rattle.outcomes.specs.Programs.{Files}
@@ -54,6 +54,12 @@ pub record IsScriptLine (files : Files) (words : List (List ℕ)) (written : Lis
   pub refused : IsScriptRefusalOf files (needs_in words) number
   pub line : written ≡ fault_line (Script number)
 
+-- the line of a number that is outside the range of the guest of the words
+pub record IsGuestLine (words : List (List ℕ)) (written : List ℕ) : Type 0 where
+  pub number : ℕ
+  pub outside : IsOutsideGuest (command_of words) number
+  pub line : written ≡ fault_line (Guest number)
+
 -- the line of a fault that has its cause
 pub record IsFaultLine (call : Call) (written : List ℕ) : Type 0 where
   pub fault : Fault
@@ -80,7 +86,7 @@ NoneFailed call = ¬ (CouldNotRead call) × ¬ (CouldNotWrite call)
 abbrev pub IsStatus : ℕ → Type 0
 IsStatus status =
     (status ≡ 0) ⊎ (status ≡ 2) ⊎ (status ≡ 3) ⊎ (status ≡ 4)
-    ⊎ (status ≡ 5) ⊎ (status ≡ 6) ⊎ (status ≡ 7) ⊎ (status ≡ 8)
+    ⊎ (status ≡ 5) ⊎ (status ≡ 6) ⊎ (status ≡ 7) ⊎ (status ≡ 8) ⊎ (status ≡ 9)
 
 -- what a call answers, and what it leaves
 pub record IsOutcome (call : Call) (status : ℕ) : Type 0 where
@@ -88,9 +94,9 @@ pub record IsOutcome (call : Call) (status : ℕ) : Type 0 where
   -- 0: the sink gained the output of the words, which is the plain machine's too
   pub done : status ≡ 0 → Wrote call (IsOutput call.files call.words)
   pub plain : status ≡ 0 → Wrote call (IsPlainOutput call.files call.words)
-  -- 2: the words are of no command; it yields to a failed write and to want of memory
+  -- 2: the words are of no command; it yields to a failed write, and not to want of memory
   pub usage : status ≡ 2 → (command_of call.words ≡ None) × WroteText call (fault_line Usage)
-  pub usage_always : command_of call.words ≡ None → (status ≡ 2) ⊎ (status ≡ 6) ⊎ (status ≡ 7)
+  pub usage_always : command_of call.words ≡ None → (status ≡ 2) ⊎ (status ≡ 6)
   -- 3: the program is refused
   pub elf : status ≡ 3 → Wrote call (IsElfLine call.files call.words)
   pub elf_always : TellsFaultyProgram call.files (needs_in call.words)
@@ -109,6 +115,8 @@ pub record IsOutcome (call : Call) (status : ℕ) : Type 0 where
   pub big : status ≡ 8 → HasBigFile call.files (needs_in call.words) × WroteText call (fault_line Big)
   pub big_always : TellsBigFile call.files (needs_in call.words)
       → NoneFailed call → (status ≡ 8) ⊎ (status ≡ 7)
+  -- 9: the number is outside the range of the guest
+  pub guest : status ≡ 9 → Wrote call (IsGuestLine call.words)
   -- where the files are told and good, and no device fails, there is an output
   pub complete : TellsGoodFiles call.files (needs_in call.words)
       → NoneFailed call → (status ≡ 0) ⊎ (status ≡ 7)
@@ -131,9 +139,9 @@ pub record IsSureOutcome
   -- 0: the sink gained the output of the words, which is the plain machine's too
   pub done : status ≡ 0 → GainedOf held held_after (IsOutput (all_told files) words)
   pub plain : status ≡ 0 → GainedOf held held_after (IsPlainOutput (all_told files) words)
-  -- 2: the words are of no command; it yields to want of memory
+  -- 2: exactly where the words are of no command
   pub usage : status ≡ 2 → (command_of words ≡ None) × Gained held held_after (fault_line Usage)
-  pub usage_always : command_of words ≡ None → (status ≡ 2) ⊎ (status ≡ 7)
+  pub usage_always : command_of words ≡ None → status ≡ 2
   -- 3: the program is refused
   pub elf : status ≡ 3 → GainedOf held held_after (IsElfLine (all_told files) words)
   pub elf_always : TellsFaultyProgram (all_told files) (needs_in words) → (status ≡ 3) ⊎ (status ≡ 7)
@@ -145,5 +153,7 @@ pub record IsSureOutcome
   -- 8: a file that is needed has too many bytes
   pub big : status ≡ 8 → HasBigFile (all_told files) (needs_in words) × Gained held held_after (fault_line Big)
   pub big_always : TellsBigFile (all_told files) (needs_in words) → (status ≡ 8) ⊎ (status ≡ 7)
+  -- 9: the number is outside the range of the guest
+  pub guest : status ≡ 9 → GainedOf held held_after (IsGuestLine words)
   -- where the files are good, there is an output
   pub complete : TellsGoodFiles (all_told files) (needs_in words) → (status ≡ 0) ⊎ (status ≡ 7)

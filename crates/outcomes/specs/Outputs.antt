@@ -1,21 +1,24 @@
--- The output of a command: the text of a whole run.
+-- The output of a command: what it shows of a whole run of its program.
 use Rattle.std.specs.Prelude.{ℕ, ◌≡◌, List, Option, Some, None, Ok, map}
 use Rattle.mach_types.specs.declared.events.Entry.{Entry}
+use Rattle.mach_types.specs.declared.limits.End.{End}
 use Rattle.mach_types.specs.declared.limits.Limits.{Limits}
 use Rattle.elf_load.specs.declared.image.Image.{Image}
-use Rattle.block_model.specs.Setting.{Setting, setting_of}
+use Rattle.block_model.specs.Setting.{Seen, Setting, setting_of}
 use Rattle.block_model.specs.History.{console}
 use Rattle.block_model.specs.Deciding.{history, end_of}
 use Rattle.block_model.specs.Plain.{PlainRun, plain_end, plain_run, plain_solo}
 use Rattle.block_model.specs.Replay.{Ask, script_of}
 use Rattle.block_view.specs.Acts.{acts_of}
 use Rattle.place_text.specs.Place.{place_text}
-use Rattle.outcomes.specs.Programs.{Files, IsProgram, IsScript, asks_of, start_of}
+use Rattle.command_words.specs.declared.table.Shown.{Shown}
+use Rattle.command_words.specs.declared.table.Shown.TheVariants.{Output, Summary, Place}
+use Rattle.command_words.specs.Commands.{Command, Source, Rule, Script, Workers}
+use Rattle.command_words.specs.Words.{command_of}
+use Rattle.outcomes.specs.Programs.{Files, IsProgram, IsScript, asks_of}
 use Rattle.outcomes.specs.Runs.{IsChosenRun, IsSoloRun, IsPlayedRun}
 use Rattle.outcomes.specs.Summary.{summary_text}
 use Rattle.outcomes.specs.Text.{output_text}
-use Rattle.command_words.specs.Grammar.{Command, Solo, Play, Blocks, Inspect, Run}
-use Rattle.command_words.specs.Words.{command_of}
 
 -- the output text of a log: its lines, and the console and the end that it comes to
 abbrev pub log_output : Setting → List Entry → List ℕ
@@ -25,154 +28,110 @@ log_output s log = output_text (console s (history s log)) log (end_of s (histor
 abbrev pub log_summary : Setting → List Entry → List ℕ
 log_summary s log = summary_text s.limits.harts (acts_of s log) log (end_of s (history s log))
 
--- the text of the place that a log comes to: what is seen there of each hart and of each live thread, and what each hart may do next
-abbrev pub log_place : Setting → List Entry → List ℕ
-log_place s log = place_text s (history s log)
+-- what is shown of a log with this console and this end
+abbrev pub text_of : Shown → Setting → List ℕ → List Entry → End → List ℕ
+text_of Output s bytes log end = output_text bytes log end
+text_of Summary s bytes log end = summary_text s.limits.harts (acts_of s log) log end
+text_of Place s bytes log end = place_text s (history s log)
 
--- the text that `solo` writes: that of a whole run of the program by the fixed rule
-pub record IsSoloOutput (files : Files) (program : List ℕ) (limits : Limits) (written : List ℕ) : Type 0 where
-  pub image : Image
-  pub taken : IsProgram files program limits image
-  pub log : List Entry
-  pub run : IsSoloRun (start_of image limits) log
-  pub text : written ≡ log_output (start_of image limits) log
+-- of a log, with the console and the end that it comes to
+abbrev pub shown_text : Shown → Setting → List Entry → List ℕ
+shown_text shown s log = text_of shown s (console s (history s log)) log (end_of s (history s log))
 
--- the program was taken and the script read, and a whole run of this image by the script made this log
-pub record IsPlayed
-    (files : Files) (program script : List ℕ) (limits : Limits) (image : Image) (log : List Entry) : Type 0 where
-  pub taken : IsProgram files program limits image
+-- the seed of what the harts choose: 0 where no choice is drawn
+abbrev pub seed_of : Source → ℕ
+seed_of Rule = 0
+seed_of (Script name) = 0
+seed_of (Workers seed) = seed
+
+-- what the run of a command starts from, where this is the image of its program
+abbrev pub setting_for : Command → Image → Setting
+setting_for command image = setting_of image command.limits (seed_of command.source)
+
+-- the script of this name was read, and a whole run by its lines made this log
+pub record IsScriptRun (files : Files) (name : List ℕ) (s : Setting) (log : List Entry) : Type 0 where
   pub lines : List ℕ
-  pub read : IsScript files script lines
-  pub run : IsPlayedRun (start_of image limits) lines log
+  pub read : IsScript files name lines
+  pub run : IsPlayedRun s lines log
 
--- the text that `play` writes: that of a whole run of the program by the script
-pub record IsPlayOutput
-    (files : Files) (program script : List ℕ) (limits : Limits) (written : List ℕ) : Type 0 where
-  pub image : Image
-  pub log : List Entry
-  pub played : IsPlayed files program script limits image log
-  pub text : written ≡ log_output (start_of image limits) log
+-- a log came about in this way
+abbrev pub IsLogOf : Files → Source → Setting → List Entry → Type 0
+IsLogOf files Rule s log = IsSoloRun s log
+IsLogOf files (Script name) s log = IsScriptRun files name s log
+IsLogOf files (Workers seed) s log = IsChosenRun s log
 
--- the text that `blocks` writes: the summary of such a run
-pub record IsBlocksOutput
-    (files : Files) (program script : List ℕ) (limits : Limits) (written : List ℕ) : Type 0 where
-  pub image : Image
-  pub log : List Entry
-  pub played : IsPlayed files program script limits image log
-  pub text : written ≡ log_summary (start_of image limits) log
-
--- the text that `inspect` writes: that of the place which such a run comes to
-pub record IsInspectOutput
-    (files : Files) (program script : List ℕ) (limits : Limits) (written : List ℕ) : Type 0 where
-  pub image : Image
-  pub log : List Entry
-  pub played : IsPlayed files program script limits image log
-  pub text : written ≡ log_place (start_of image limits) log
-
--- the text that `run` writes: that of a whole run of the program by workers, whose harts choose by the seed
-pub record IsRunOutput
-    (files : Files) (program : List ℕ) (limits : Limits) (seed : ℕ) (written : List ℕ) : Type 0 where
-  pub image : Image
+-- the program of this name was taken, and a machine is at the end of a run of this image, whose log came about in
+-- this way
+pub record HasRun
+    (files : Files) (program : List ℕ) (source : Source) (limits : Limits) (image : Image) (m : Seen) : Type 0 where
   pub taken : IsProgram files program limits image
+  pub setting : m.setting ≡ setting_of image limits (seed_of source)
+  pub made : IsLogOf files source (setting_of image limits (seed_of source)) m.log
+
+-- the text that a command writes: what it shows of the log of a whole run of its program, which came about as the
+-- command says
+pub record IsCommandOutput (files : Files) (command : Command) (written : List ℕ) : Type 0 where
+  pub image : Image
+  pub taken : IsProgram files command.program command.limits image
   pub log : List Entry
-  pub run : IsChosenRun (setting_of image limits seed) log
-  pub text : written ≡ log_output (setting_of image limits seed) log
+  pub made : IsLogOf files command.source (setting_for command image) log
+  pub text : written ≡ shown_text command.shown (setting_for command image) log
 
 -- the output of a command
 abbrev pub IsOutputOf : Files → Option Command → List ℕ → Type 0
 IsOutputOf files None written = ⊥
-IsOutputOf files (Some (Solo program limits)) written = IsSoloOutput files program limits written
-IsOutputOf files (Some (Play program script limits)) written =
-    IsPlayOutput files program script limits written
-IsOutputOf files (Some (Blocks program script limits)) written =
-    IsBlocksOutput files program script limits written
-IsOutputOf files (Some (Inspect program script limits)) written =
-    IsInspectOutput files program script limits written
-IsOutputOf files (Some (Run program limits seed)) written = IsRunOutput files program limits seed written
+IsOutputOf files (Some command) written = IsCommandOutput files command written
 
 -- the output of the words
 abbrev pub IsOutput : Files → List (List ℕ) → List ℕ → Type 0
 IsOutput files words written = IsOutputOf files (command_of words) written
 
--- the output text of the plain machine's run: what it holds on its console, the entries that it made, and its
--- end
-abbrev pub plain_output : Setting → PlainRun → List ℕ
-plain_output s run = output_text run.machine.kernel.console run.log (plain_end s run.machine)
+-- the command `play` on a program and a script, and its output
+abbrev pub playing : List ℕ → List ℕ → Limits → Command
+playing program script limits =
+    record { program = program; source = Script script; shown = Output; limits = limits }
 
--- the summary of the plain machine's run: of the acts of the entries that it made, its barriers, and its end
-abbrev pub plain_summary : Setting → PlainRun → List ℕ
-plain_summary s run = summary_text s.limits.harts (acts_of s run.log) run.log (plain_end s run.machine)
+abbrev pub IsPlayOutput : Files → List ℕ → List ℕ → Limits → List ℕ → Type 0
+IsPlayOutput files program script limits written = IsCommandOutput files (playing program script limits) written
 
--- the place that the entries which the plain machine made come to
-abbrev pub plain_place : Setting → PlainRun → List ℕ
-plain_place s run = log_place s run.log
+-- what is shown of the plain machine's run, with what it holds on its console, the entries that it made, and its end
+abbrev pub plain_text : Shown → Setting → PlainRun → List ℕ
+plain_text shown s run = text_of shown s run.machine.kernel.console run.log (plain_end s run.machine)
 
--- the text of the plain machine's own run of the program by the fixed rule, for as many steps as the limits
--- allow
-pub record IsPlainSoloOutput
-    (files : Files) (program : List ℕ) (limits : Limits) (written : List ℕ) : Type 0 where
-  pub image : Image
-  pub taken : IsProgram files program limits image
-  pub text : written ≡ plain_output (start_of image limits) (plain_solo (start_of image limits) limits.steps)
-
--- the program was taken and the script read, and this is the plain machine's run of this image over its lines
-pub record IsPlainPlayed
-    (files : Files) (program script : List ℕ) (limits : Limits) (image : Image) (run : PlainRun) : Type 0 where
-  pub taken : IsProgram files program limits image
+-- the script of this name was read, and this is the plain machine's run over its lines
+pub record IsPlainScriptRun (files : Files) (name : List ℕ) (s : Setting) (run : PlainRun) : Type 0 where
   pub lines : List ℕ
-  pub read : IsScript files script lines
+  pub read : IsScript files name lines
   pub asks : List Ask
   pub readable : asks_of lines ≡ map Some asks
-  pub made : plain_run (start_of image limits) asks ≡ Ok run
+  pub made : plain_run s asks ≡ Ok run
 
--- the text of the plain machine's run of the program over the lines of the script
-pub record IsPlainPlayOutput
-    (files : Files) (program script : List ℕ) (limits : Limits) (written : List ℕ) : Type 0 where
-  pub image : Image
-  pub run : PlainRun
-  pub played : IsPlainPlayed files program script limits image run
-  pub text : written ≡ plain_output (start_of image limits) run
-
--- the summary of such a run
-pub record IsPlainBlocksOutput
-    (files : Files) (program script : List ℕ) (limits : Limits) (written : List ℕ) : Type 0 where
-  pub image : Image
-  pub run : PlainRun
-  pub played : IsPlainPlayed files program script limits image run
-  pub text : written ≡ plain_summary (start_of image limits) run
-
--- the text of the place that such a run comes to
-pub record IsPlainInspectOutput
-    (files : Files) (program script : List ℕ) (limits : Limits) (written : List ℕ) : Type 0 where
-  pub image : Image
-  pub run : PlainRun
-  pub played : IsPlainPlayed files program script limits image run
-  pub text : written ≡ plain_place (start_of image limits) run
-
--- the text of the plain machine's run of the program over the hart and the choice of each entry of a log, which
--- are those of a whole run by workers
-pub record IsPlainRunOutput
-    (files : Files) (program : List ℕ) (limits : Limits) (seed : ℕ) (written : List ℕ) : Type 0 where
-  pub image : Image
-  pub taken : IsProgram files program limits image
+-- this is the plain machine's run over the hart and the choice of each entry of a log, which are those of a whole
+-- run by workers
+pub record IsPlainChosenRun (s : Setting) (run : PlainRun) : Type 0 where
   pub log : List Entry
-  pub chosen : IsChosenRun (setting_of image limits seed) log
+  pub chosen : IsChosenRun s log
+  pub made : plain_run s (script_of log) ≡ Ok run
+
+-- the plain machine's run came about in this way; by the fixed rule it is its own run, for as many steps as the
+-- limits allow
+abbrev pub IsPlainRunOf : Files → Source → Setting → PlainRun → Type 0
+IsPlainRunOf files Rule s run = run ≡ plain_solo s s.limits.steps
+IsPlainRunOf files (Script name) s run = IsPlainScriptRun files name s run
+IsPlainRunOf files (Workers seed) s run = IsPlainChosenRun s run
+
+-- what the plain machine prints for a command
+pub record IsPlainCommandOutput (files : Files) (command : Command) (written : List ℕ) : Type 0 where
+  pub image : Image
+  pub taken : IsProgram files command.program command.limits image
   pub run : PlainRun
-  pub made : plain_run (setting_of image limits seed) (script_of log) ≡ Ok run
-  pub text : written ≡ plain_output (setting_of image limits seed) run
+  pub made : IsPlainRunOf files command.source (setting_for command image) run
+  pub text : written ≡ plain_text command.shown (setting_for command image) run
 
 -- the plain machine's output of a command
 abbrev pub IsPlainOutputOf : Files → Option Command → List ℕ → Type 0
 IsPlainOutputOf files None written = ⊥
-IsPlainOutputOf files (Some (Solo program limits)) written = IsPlainSoloOutput files program limits written
-IsPlainOutputOf files (Some (Play program script limits)) written =
-    IsPlainPlayOutput files program script limits written
-IsPlainOutputOf files (Some (Blocks program script limits)) written =
-    IsPlainBlocksOutput files program script limits written
-IsPlainOutputOf files (Some (Inspect program script limits)) written =
-    IsPlainInspectOutput files program script limits written
-IsPlainOutputOf files (Some (Run program limits seed)) written =
-    IsPlainRunOutput files program limits seed written
+IsPlainOutputOf files (Some command) written = IsPlainCommandOutput files command written
 
 -- the plain machine's output of the words
 abbrev pub IsPlainOutput : Files → List (List ℕ) → List ℕ → Type 0

@@ -1,5 +1,5 @@
 -- Why a call gives no output, exactly: the reason that goes with its status (own).
-use Rattle.std.specs.Prelude.{ℕ, ◌≡◌, ◌↔◌, List, Option, Some, None, Result, Ok, Err, IfSome, if◌then◌else◌}
+use Rattle.std.specs.Prelude.{ℕ, ◌≡◌, ◌↔◌, List, Option, Some, None, Result, Ok, Err, IfSome, IsSome, if◌then◌else◌}
 use Rattle.std.specs.declared.io.ErrorKind.{ErrorKind}
 use Rattle.mach_types.specs.declared.events.Entry.{Entry}
 use Rattle.mach_types.specs.declared.events.Tid.{Tid}
@@ -22,11 +22,12 @@ use Rattle.outcomes.specs.declared.reasons.FileRole.TheVariants as role
 use Rattle.outcomes.specs.declared.reasons.LineFault.{LineFault}
 use Rattle.outcomes.specs.declared.reasons.LineFault.TheVariants as line
 use Rattle.outcomes.specs.declared.reasons.Reason.{Reason}
-use Rattle.outcomes.specs.declared.reasons.Reason.TheVariants.{Words, Unread, NoMemory, TooBig, Elf, Script, Unwritten}
+use Rattle.outcomes.specs.declared.reasons.Reason.TheVariants.{Words, Unread, NoMemory, TooBig, Elf, Script, Guest, Unwritten}
 use Rattle.outcomes.specs.Causes.{IsBigScript, IsScriptRefused, IsUnreadScript}
 use Rattle.outcomes.specs.ElfPlaces.{place_of}
 use Rattle.outcomes.specs.Needs as need
-use Rattle.outcomes.specs.Outcome.{Call, CouldNotWrite, IsOutcome, WroteText}
+use Rattle.outcomes.specs.Outcome.{Call, CouldNotWrite, IsOutcome, WrotePrefix, WroteText}
+use Rattle.outcomes.specs.Outputs.{IsOutput}
 use Rattle.outcomes.specs.Programs.{Files, IsRefused, IsTooBig, most_program_bytes, most_script_bytes, start_of}
 use Rattle.outcomes.specs.Runs.{IsFirstBadLine}
 use Rattle.outcomes.specs.Text.{fault_line}
@@ -45,6 +46,7 @@ reason_status (Unread file trouble) = 5
 reason_status (Unwritten trouble) = 6
 reason_status NoMemory = 7
 reason_status (TooBig file) = 8
+reason_status (Guest number) = 9
 
 -- the fault whose line is written; none where no line could be written
 abbrev pub fault_told : Reason → Option Fault
@@ -54,6 +56,7 @@ fault_told NoMemory = Some told.Memory
 fault_told (TooBig file) = Some told.Big
 fault_told (Elf fault about) = Some (told.Elf fault)
 fault_told (Script number fault) = Some (told.Script number)
+fault_told (Guest number) = Some (told.Guest number)
 fault_told (Unwritten trouble) = None
 
 -- what is wrong with a line by what is decided of its event: the event isn't allowed, or its entry isn't as the
@@ -134,6 +137,7 @@ IsReasonFor files needs old new said NoMemory = Unit {0}
 IsReasonFor files needs old new said (TooBig file) = IsBig files needs file
 IsReasonFor files needs old new said (Elf fault about) = IsRefusalAbout files needs fault about
 IsReasonFor files needs old new said (Script number fault) = IsScriptRefusalFor files needs number fault
+IsReasonFor files needs old new said (Guest number) = ⊥
 IsReasonFor files needs old new said (Unwritten trouble) = ⊥
 
 -- the words are no command, and this is what is wrong with them
@@ -141,9 +145,10 @@ pub record AreWrongWords (words : List (List ℕ)) (fault : WordsFault) : Type 0
   pub none : command_of words ≡ None
   pub why : words_fault words ≡ Some fault
 
--- why a reason comes of the words and of the files that they need
+-- why a reason comes of the words and of the files that they need; memory is wanted for words of a command alone
 abbrev pub IsReasonOf : Files → List (List ℕ) → (List ℕ → ℕ) → (List ℕ → ℕ) → Option ErrorKind → Reason → Type 0
 IsReasonOf files words old new said (Words fault) = AreWrongWords words fault
+IsReasonOf files words old new said NoMemory = IsSome (command_of words)
 IsReasonOf files words old new said reason = IsReasonFor files (need.needs_in words) old new said reason
 
 -- what the shelf and the sink say of their last faults, after a call
@@ -166,6 +171,11 @@ IsReason call troubles reason =
 abbrev pub WroteLine : Call → Reason → Type 0
 WroteLine call reason = IfSome (fault_told reason) (λ fault. WroteText call (fault_line fault))
 
+-- it was to be told, and the sink failed
+pub record IsUntold (call : Call) (troubles : Troubles) (status : ℕ) (reason : Reason) : Type 0 where
+  pub unwritten : status ≡ 6
+  pub why : IsReasonOf call.files call.words call.read_faults call.read_faults_after troubles.shelf reason
+
 -- the status of a call, and the reason that goes with it
 pub record IsExplained (call : Call) (troubles : Troubles) (explained : Explained) : Type 0 where
   -- the status is what the call answers
@@ -180,3 +190,7 @@ pub record IsExplained (call : Call) (troubles : Troubles) (explained : Explaine
   pub line : IfSome explained.reason (WroteLine call)
   -- and it is why the output isn't there
   pub why : IfSome explained.reason (IsReason call troubles)
+  -- a reason that was to be told and couldn't be written comes at status 6 alone, and is of the words and the files
+  pub untold : IfSome explained.untold (IsUntold call troubles explained.status)
+  -- and at status 6 there is one, unless a part of the output was written
+  pub in_part : explained.status ≡ 6 → explained.untold ≡ None → WrotePrefix call (IsOutput call.files call.words)

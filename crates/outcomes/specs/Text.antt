@@ -10,7 +10,7 @@ use Rattle.step_log.specs.Text.{newline, space}
 use Rattle.step_log.specs.Grammar.{log_text}
 use Rattle.place_text.specs.Ends.{end_line, number_line}
 use Rattle.outcomes.specs.declared.faults.Fault.{Fault}
-use Rattle.outcomes.specs.declared.faults.Fault.TheVariants.{Usage, Read, Memory, Big, Elf, Script}
+use Rattle.outcomes.specs.declared.faults.Fault.TheVariants.{Usage, Read, Memory, Big, Elf, Script, Guest}
 
 -- the console's length, its bytes, and a newline
 abbrev pub console_text : List ℕ → List ℕ
@@ -40,6 +40,7 @@ fault_words Memory = codes "memory"
 fault_words Big = codes "big"
 fault_words (Elf fault) = elf_words fault
 fault_words (Script number) = codes "script " ++ decimal number
+fault_words (Guest number) = codes "guest " ++ decimal number
 
 -- the line of a fault
 unfoldable pub fault_line : Fault → List ℕ

@@ -27,6 +27,8 @@ pub enum Fault {
     /// The line of this number, counted from 1, is the first of the script that is malformed, whose event
     /// isn't allowed, or whose thread or pc differs.
     Script(u64),
+    /// This number is outside the range of the guest that is asked for.
+    Guest(u64),
 }
 
 impl Fault {
@@ -41,6 +43,7 @@ impl Fault {
             Fault::Read => 5,
             Fault::Memory => 7,
             Fault::Big => 8,
+            Fault::Guest(_) => 9,
         }
     }
 
@@ -56,6 +59,7 @@ impl Fault {
             Fault::Read => line_of("read"),
             Fault::Memory => line_of("memory"),
             Fault::Big => line_of("big"),
+            Fault::Guest(number) => guest_line(*number),
         }
     }
 }
@@ -100,6 +104,16 @@ fn script_line(number: u64) -> ArrayString<64>
 {
     let mut words = ArrayString::<48>::new();
     words.push_str("script ");
+    push_number(&mut words, number);
+    line_of(words.as_str())
+}
+
+/// The line of a number that is outside the range of a guest.
+fn guest_line(number: u64) -> ArrayString<64>
+    ensures { result.bytes ≡ codes "fault " ++ (codes "guest " ++ decimal number) ++ newline ∷ [] }
+{
+    let mut words = ArrayString::<48>::new();
+    words.push_str("guest ");
     push_number(&mut words, number);
     line_of(words.as_str())
 }

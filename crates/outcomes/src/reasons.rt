@@ -109,6 +109,8 @@ pub enum Reason {
         /// What is wrong with it.
         fault: LineFault,
     },
+    /// This number is outside the range of the guest that is asked for.
+    Guest(u64),
     /// The text couldn't be written.
     Unwritten {
         /// What the system said, where that is known.
@@ -128,6 +130,7 @@ impl Reason {
             Reason::TooBig(_) => Some(Fault::Big),
             Reason::Elf { fault, .. } => Some(Fault::Elf(*fault)),
             Reason::Script { line, .. } => Some(Fault::Script(*line)),
+            Reason::Guest(number) => Some(Fault::Guest(*number)),
             Reason::Unwritten { .. } => None,
         }
     }
@@ -144,6 +147,7 @@ impl Reason {
             Reason::Unwritten { .. } => 6,
             Reason::NoMemory => 7,
             Reason::TooBig(_) => 8,
+            Reason::Guest(_) => 9,
         }
     }
 }
@@ -160,10 +164,14 @@ impl From<AllocError> for Reason {
 }
 
 /// The exit status of a call, and the reason that goes with it: there is none exactly at status 0.
+///
+/// At status 6 the reason is that the text couldn't be written; what that text was to tell stands beside it.
 #[derive(Clone, Copy, Debug, PartialEq, Eq, Drop)]
 pub struct Explained {
     /// The exit status.
     pub status: u8,
     /// Why there is no output, or not all of it.
     pub reason: Option<Reason>,
+    /// The reason that was to be told, where that couldn't be written.
+    pub untold: Option<Reason>,
 }

@@ -8,22 +8,22 @@ use Rattle.elf_load.specs.declared.fault.ElfFault.{ElfFault}
 use Rattle.elf_load.specs.declared.image.Image.{Image}
 use Rattle.elf_load.specs.Images.{IsImage}
 use Rattle.block_model.specs.Replay.{played_read}
-use Rattle.block_model.specs.Setting.{Setting}
+use Rattle.block_model.specs.Setting.{Setting, setting_of}
 use Rattle.block_model.proofs.Laws.{is_bad, one_setting, played_read-all, run_is_played}
 use Rattle.outcomes.specs.declared.faults.Fault.{Fault}
 use Rattle.outcomes.specs.declared.faults.Fault.TheVariants as fault
 use Rattle.outcomes.specs.declared.faults.Fault.TheVariants.{Usage, Read, Memory, Big, Elf}
 use Rattle.outcomes.specs.Causes.{HasBigFile, IsBigScript, IsCauseOf, IsRefusalOf, IsScriptRefusalOf}
 use Rattle.outcomes.specs.Causes.{IsScriptRefused, ReadFailed}
-use Rattle.outcomes.specs.Needs.{Needs, Nothing, Program, Script, needs_of}
-use Rattle.outcomes.specs.Outputs.{IsOutputOf, IsPlayed}
+use Rattle.outcomes.specs.Needs.{Needs, Nothing, Program, Script, needs_by, needs_of}
+use Rattle.outcomes.specs.Outputs.{IsLogOf, IsOutputOf, seed_of}
 use Rattle.outcomes.specs.Programs.{Files, IsFaulty, IsGood, IsProgram, IsReadAs, IsRefused, IsScript}
 use Rattle.outcomes.specs.Programs.{IsTooBig, asks_of, most_program_bytes, most_script_bytes, start_of}
 use Rattle.outcomes.specs.Runs.{IsFirstBadLine, IsPlayedRun}
 use Rattle.outcomes.specs.Statuses.{fault_status}
 use Rattle.outcomes.specs.Told.{TellsBadScript, TellsBig, TellsBigFile, TellsBoth, TellsFaulty}
 use Rattle.outcomes.specs.Told.{TellsFaultyProgram, TellsGood, TellsGoodFiles}
-use Rattle.command_words.specs.Grammar.{Command, Solo, Play, Blocks, Inspect, Run}
+use Rattle.command_words.specs.Commands as words
 
 -- a file that is told was read as it is
 read_as_told : (files : Files) (name bytes told : List ℕ) → IsReadAs files name bytes → files name ≡ Some told
@@ -99,22 +99,19 @@ AreUsed files (Script program script limits) =
     (image : Image) × (lines : List ℕ) × (log : List Entry) × IsProgram files program limits image
     × IsScript files script lines × IsPlayedRun (start_of image limits) lines log
 
-used_by_script : (files : Files) (program script : List ℕ) (limits : Limits) (image : Image) (log : List Entry)
-    → IsPlayed files program script limits image log → AreUsed files (Script program script limits)
-used_by_script files program script limits image log played =
-    (image, played.lines, log, played.taken, played.read, played.run)
+used_by_run : (files : Files) (program : List ℕ) (limits : Limits) (source : words.Source) (image : Image)
+    (log : List Entry) → IsProgram files program limits image
+    → IsLogOf files source (setting_of image limits (seed_of source)) log → AreUsed files (needs_by program source limits)
+used_by_run files program limits words.Rule image log taken made = (image, taken)
+used_by_run files program limits (words.Script name) image log taken made =
+    (image, made.lines, log, taken, made.read, made.run)
+used_by_run files program limits (words.Workers seed) image log taken made = (image, taken)
 
-pub used_by_output : (files : Files) (command : Option Command) (written : List ℕ)
+pub used_by_output : (files : Files) (command : Option words.Command) (written : List ℕ)
     → IsOutputOf files command written → AreUsed files (needs_of command)
 used_by_output files None written output = tt
-used_by_output files (Some (Solo program limits)) written output = (output.image, output.taken)
-used_by_output files (Some (Play program script limits)) written output =
-    used_by_script files program script limits output.image output.log output.played
-used_by_output files (Some (Blocks program script limits)) written output =
-    used_by_script files program script limits output.image output.log output.played
-used_by_output files (Some (Inspect program script limits)) written output =
-    used_by_script files program script limits output.image output.log output.played
-used_by_output files (Some (Run program limits seed)) written output = (output.image, output.taken)
+used_by_output files (Some command) written output =
+    used_by_run files command.program command.limits command.source output.image output.log output.taken output.made
 
 -- the program is good
 program_fits : (files : Files) (name bytes : List ℕ) (limits : Limits) → files name ≡ Some bytes
@@ -170,12 +167,12 @@ no_bad_line_when_good files (Script program script limits) n told refused =
     (same_first files program script limits n told.both refused)
 
 -- a fault comes for a command's needs, for want of memory, or where there is no command
-no_usage : (files : Files) (command : Option Command) (Tells : Files → Needs → Type 0)
+no_usage : (files : Files) (command : Option words.Command) (Tells : Files → Needs → Type 0)
     → ¬ (Tells files Nothing) → Tells files (needs_of command) → ¬ (command ≡ None)
 no_usage files command Tells never told none = never (subst (λ c. Tells files (needs_of c)) none told)
 
 -- where good files are told, no fault comes but want of memory
-pub fault_when_good : (files : Files) (command : Option Command) (old new : List ℕ → ℕ) (fault : Fault)
+pub fault_when_good : (files : Files) (command : Option words.Command) (old new : List ℕ → ℕ) (fault : Fault)
     → TellsGoodFiles files (needs_of command) → ¬ (ReadFailed files (needs_of command) old new)
     → IsCauseOf files command old new fault → fault ≡ Memory
 fault_when_good files command old new Usage told unread cause =
@@ -186,6 +183,7 @@ fault_when_good files command old new Big told unread cause =
     absurd (no_big_when_good files (needs_of command) told cause)
 fault_when_good files command old new (Elf fault) told unread cause =
     absurd (no_refusal_when_good files (needs_of command) fault told cause)
+fault_when_good files command old new (fault.Guest number) told unread cause = absurd cause
 fault_when_good files command old new (fault.Script number) told unread cause =
     absurd (no_bad_line_when_good files (needs_of command) number told cause)
 
@@ -229,7 +227,7 @@ unused_when_faulty files (Script program script limits) told used =
     faulty_program files program limits used.0 told used.3
 
 -- where a faulty program is told, it is refused
-pub fault_when_faulty : (files : Files) (command : Option Command) (old new : List ℕ → ℕ) (fault : Fault)
+pub fault_when_faulty : (files : Files) (command : Option words.Command) (old new : List ℕ → ℕ) (fault : Fault)
     → TellsFaultyProgram files (needs_of command) → ¬ (ReadFailed files (needs_of command) old new)
     → IsCauseOf files command old new fault → (fault_status fault ≡ 3) ⊎ (fault_status fault ≡ 7)
 fault_when_faulty files command old new Usage told unread cause =
@@ -239,6 +237,7 @@ fault_when_faulty files command old new Memory told unread cause = inr refl
 fault_when_faulty files command old new Big told unread cause =
     absurd (no_big_when_faulty files (needs_of command) told cause)
 fault_when_faulty files command old new (Elf fault) told unread cause = inl refl
+fault_when_faulty files command old new (fault.Guest number) told unread cause = absurd cause
 fault_when_faulty files command old new (fault.Script number) told unread cause =
     absurd (no_bad_line_when_faulty files (needs_of command) number told cause)
 
@@ -269,7 +268,7 @@ unused_when_bad_line files (Script program script limits) told used =
     (subst (λ text. IsPlayedRun (start_of told.both.image limits) text used.2) lines run) told.first
 
 -- where a bad line is told, the script is refused
-pub fault_when_bad_line : (files : Files) (command : Option Command) (old new : List ℕ → ℕ) (fault : Fault)
+pub fault_when_bad_line : (files : Files) (command : Option words.Command) (old new : List ℕ → ℕ) (fault : Fault)
     → TellsBadScript files (needs_of command) → ¬ (ReadFailed files (needs_of command) old new)
     → IsCauseOf files command old new fault → (fault_status fault ≡ 4) ⊎ (fault_status fault ≡ 7)
 fault_when_bad_line files command old new Usage told unread cause =
@@ -280,6 +279,7 @@ fault_when_bad_line files command old new Big told unread cause =
     absurd (no_big_when_bad_line files (needs_of command) told cause)
 fault_when_bad_line files command old new (Elf fault) told unread cause =
     absurd (no_refusal_when_bad_line files (needs_of command) fault told cause)
+fault_when_bad_line files command old new (fault.Guest number) told unread cause = absurd cause
 fault_when_bad_line files command old new (fault.Script number) told unread cause = inl refl
 
 -- what can't be where a file that is too big is told
@@ -332,7 +332,7 @@ unused_when_big files (Script program script limits) told used =
     no_run_when_big files program script used.1 limits used.0 told used.3 used.4.read used.4.fits
 
 -- where a file that is too big is told, that is said
-pub fault_when_big : (files : Files) (command : Option Command) (old new : List ℕ → ℕ) (fault : Fault)
+pub fault_when_big : (files : Files) (command : Option words.Command) (old new : List ℕ → ℕ) (fault : Fault)
     → TellsBigFile files (needs_of command) → ¬ (ReadFailed files (needs_of command) old new)
     → IsCauseOf files command old new fault → (fault_status fault ≡ 8) ⊎ (fault_status fault ≡ 7)
 fault_when_big files command old new Usage told unread cause =
@@ -342,5 +342,6 @@ fault_when_big files command old new Memory told unread cause = inr refl
 fault_when_big files command old new Big told unread cause = inl refl
 fault_when_big files command old new (Elf fault) told unread cause =
     absurd (no_refusal_when_big files (needs_of command) fault told cause)
+fault_when_big files command old new (fault.Guest number) told unread cause = absurd cause
 fault_when_big files command old new (fault.Script number) told unread cause =
     absurd (no_bad_line_when_big files (needs_of command) number told cause)

@@ -5,18 +5,15 @@ use Rattle.std.specs.Prelude.{IsSome, IfSome}
 use Rattle.mach_types.specs.declared.limits.Limits.{Limits}
 use Rattle.elf_load.specs.declared.image.Image.{Image}
 use Rattle.elf_load.specs.Images.{IsImage}
-use Rattle.block_model.specs.Plain.{PlainRun, plain_run, plain_solo}
+use Rattle.block_model.specs.Plain.{PlainRun, plain_run}
 use Rattle.block_model.specs.Replay.{Ask}
-use Rattle.block_model.specs.Setting.{Setting}
+use Rattle.block_model.specs.Setting.{Setting, setting_of}
 use Rattle.block_model.proofs.Laws.{one_setting}
-use Rattle.outcomes.specs.Needs.{Needs, Nothing, Program, Script, needs_of}
-use Rattle.outcomes.specs.Outputs.{IsOutputOf, IsPlainBlocksOutput, IsPlainInspectOutput, IsPlainOutputOf}
-use Rattle.outcomes.specs.Outputs.{IsPlainPlayOutput, IsPlainPlayed, IsPlainSoloOutput, plain_output, plain_place}
-use Rattle.outcomes.specs.Outputs.{plain_summary}
-use Rattle.outcomes.specs.Programs.{Files, IsProgram, asks_of, start_of}
+use Rattle.command_words.specs.Commands as words
+use Rattle.outcomes.specs.Needs.{Needs, Nothing, Program, Script, needs_by, needs_of}
+use Rattle.outcomes.specs.Outputs.{IsOutputOf, IsPlainOutputOf, IsPlainRunOf, plain_text, seed_of, setting_for}
+use Rattle.outcomes.specs.Programs.{Files, IsProgram, asks_of}
 use Rattle.outcomes.specs.Told.{AreTold, TellsGoodFiles}
-use Rattle.command_words.specs.Grammar.{Command, Solo, Play, Blocks, Inspect, Run}
-use Rattle.command_words.specs.Words.{is_run}
 use Rattle.output_laws.proofs.Exclusions.{AreUsed, used_by_output}
 use Rattle.output_laws.proofs.PlainOutputs.{plain_output_of}
 
@@ -27,19 +24,13 @@ one_reading None a b told first second = absurd cc
 one_reading (Some bytes) a b told first second = first ∙ sym second
 
 -- a program that is told starts in one way
-one_start : (files : Files) (name : List ℕ) (limits : Limits) (a b : Image) → IsSome (files name)
-    → IsProgram files name limits a → IsProgram files name limits b → start_of a limits ≡ start_of b limits
-one_start files name limits a b told first second =
+one_start : (files : Files) (name : List ℕ) (limits : Limits) (seed : ℕ) (a b : Image) → IsSome (files name)
+    → IsProgram files name limits a → IsProgram files name limits b
+    → setting_of a limits seed ≡ setting_of b limits seed
+one_start files name limits seed a b told first second =
     let same = one_reading (files name) first.bytes second.bytes told first.read second.read in
-    one_setting second.bytes a b limits 0 (subst (λ (x : List ℕ). IsImage x a) same first.loaded)
+    one_setting second.bytes a b limits seed (subst (λ (x : List ℕ). IsImage x a) same first.loaded)
     second.loaded
-
-one_solo : (files : Files) (program : List ℕ) (limits : Limits) (a b : List ℕ) → IsSome (files program)
-    → IsPlainSoloOutput files program limits a → IsPlainSoloOutput files program limits b → a ≡ b
-one_solo files program limits a b told first second =
-    first.text ∙ ap (λ (s : Setting). plain_output s (plain_solo s limits.steps))
-    (one_start files program limits first.image second.image told first.taken second.taken)
-    ∙ sym second.text
 
 -- a script that can be read asks for one list of events
 same_asks : (xs ys : List Ask) → map Some xs ≡ map Some ys → xs ≡ ys
@@ -51,59 +42,39 @@ same_asks (x ∷ xs) (y ∷ ys) same =
     let rest : map Some xs ≡ map Some ys = cc in
     ap₂ (λ z zs. z ∷ zs) first (same_asks xs ys rest)
 
--- a script that is told is played in one way
-one_run : (files : Files) (program script : List ℕ) (limits : Limits) (a b : Image) (run other : PlainRun)
-    → IsSome (files program) → IsSome (files script) → IsPlainPlayed files program script limits a run
-    → IsPlainPlayed files program script limits b other → (start_of a limits ≡ start_of b limits) × (run ≡ other)
-one_run files program script limits a b run other told script_told first second =
-    let start = one_start files program limits a b told first.taken second.taken in
-    let text = one_reading (files script) first.lines second.lines script_told first.read.read
-    second.read.read in
+-- the program of a command that is told
+program_told : (files : Files) (program : List ℕ) (source : words.Source) (limits : Limits)
+    → AreTold files (needs_by program source limits) → IsSome (files program)
+program_told files program words.Rule limits told = told
+program_told files program (words.Script name) limits told = told.0
+program_told files program (words.Workers seed) limits told = told
+
+-- without workers it is run in one way
+one_run : (files : Files) (program : List ℕ) (source : words.Source) (limits : Limits) (s : Setting)
+    (run other : PlainRun) → words.is_by_workers source ≡ false → AreTold files (needs_by program source limits)
+    → IsPlainRunOf files source s run → IsPlainRunOf files source s other → run ≡ other
+one_run files program words.Rule limits s run other quiet told first second = first ∙ sym second
+one_run files program (words.Script name) limits s run other quiet told first second =
+    let text = one_reading (files name) first.lines second.lines told.1 first.read.read second.read.read in
     let asks = same_asks first.asks second.asks (sym first.readable ∙ ap asks_of text ∙ second.readable) in
-    let made : plain_run (start_of b limits) second.asks ≡ Ok run =
-    ap₂ plain_run (sym start) (sym asks) ∙ first.made in
+    let made : plain_run s second.asks ≡ Ok run = ap (plain_run s) (sym asks) ∙ first.made in
     let is = second.made in
-    (start, (cc))
+    cc
+one_run files program (words.Workers seed) limits s run other quiet told first second = absurd (cc quiet)
 
-one_play : (files : Files) (program script : List ℕ) (limits : Limits) (a b : List ℕ) → IsSome (files program)
-    → IsSome (files script) → IsPlainPlayOutput files program script limits a
-    → IsPlainPlayOutput files program script limits b → a ≡ b
-one_play files program script limits a b told script_told first second =
-    let one = one_run files program script limits first.image second.image first.run second.run told script_told
-    first.played second.played in
-    first.text ∙ ap₂ plain_output one.0 one.1 ∙ sym second.text
-
-one_blocks : (files : Files) (program script : List ℕ) (limits : Limits) (a b : List ℕ) → IsSome (files program)
-    → IsSome (files script) → IsPlainBlocksOutput files program script limits a
-    → IsPlainBlocksOutput files program script limits b → a ≡ b
-one_blocks files program script limits a b told script_told first second =
-    let one = one_run files program script limits first.image second.image first.run second.run told script_told
-    first.played second.played in
-    first.text ∙ ap₂ plain_summary one.0 one.1 ∙ sym second.text
-
-one_place : (files : Files) (program script : List ℕ) (limits : Limits) (a b : List ℕ) → IsSome (files program)
-    → IsSome (files script) → IsPlainInspectOutput files program script limits a
-    → IsPlainInspectOutput files program script limits b → a ≡ b
-one_place files program script limits a b told script_told first second =
-    let one = one_run files program script limits first.image second.image first.run second.run told script_told
-    first.played second.played in
-    first.text ∙ ap₂ plain_place one.0 one.1 ∙ sym second.text
-
-one_plain : (files : Files) (command : Option Command) (a b : List ℕ) → is_run command ≡ false
+one_plain : (files : Files) (command : Option words.Command) (a b : List ℕ) → words.is_run command ≡ false
     → AreTold files (needs_of command)
     → IsPlainOutputOf files command a → IsPlainOutputOf files command b → a ≡ b
-one_plain files None a b no_run told first second = absurd first
-one_plain files (Some (Solo program limits)) a b no_run told first second =
-    one_solo files program limits a b told first second
-one_plain files (Some (Play program script limits)) a b no_run told first second =
-    one_play files program script limits a b told.0 told.1 first second
-one_plain files (Some (Blocks program script limits)) a b no_run told first second =
-    one_blocks files program script limits a b told.0 told.1 first second
-one_plain files (Some (Inspect program script limits)) a b no_run told first second =
-    one_place files program script limits a b told.0 told.1 first second
-one_plain files (Some (Run program limits seed)) a b no_run told first second = absurd (cc no_run)
+one_plain files None a b quiet told first second = absurd first
+one_plain files (Some command) a b quiet told first second =
+    let start = one_start files command.program command.limits (seed_of command.source) first.image second.image
+    (program_told files command.program command.source command.limits told) first.taken second.taken in
+    let run = one_run files command.program command.source command.limits (setting_for command second.image) first.run
+    second.run quiet told
+    (subst (λ (s : Setting). IsPlainRunOf files command.source s first.run) start first.made) second.made in
+    first.text ∙ ap₂ (plain_text command.shown) start run ∙ sym second.text
 
-pub one_output : (files : Files) (command : Option Command) (a b : List ℕ) → is_run command ≡ false
+pub one_output : (files : Files) (command : Option words.Command) (a b : List ℕ) → words.is_run command ≡ false
     → AreTold files (needs_of command)
     → IsOutputOf files command a → IsOutputOf files command b → a ≡ b
 one_output files command a b no_run told first second =
@@ -141,19 +112,21 @@ used_are_good files (Script program script limits) some told used = record {
   run = used.5;
 }
 
--- each command with an output needs a file
-some_need : (files : Files) (command : Option Command) (written : List ℕ) → IsOutputOf files command written
-    → ¬ (needs_of command ≡ Nothing)
-some_need files None written output none = absurd output
-some_need files (Some (Solo program limits)) written output none = absurd cc
-some_need files (Some (Play program script limits)) written output none = absurd cc
-some_need files (Some (Blocks program script limits)) written output none = absurd cc
-some_need files (Some (Inspect program script limits)) written output none = absurd cc
-some_need files (Some (Run program limits seed)) written output none = absurd cc
+-- each command needs a file
+some_need : (program : List ℕ) (source : words.Source) (limits : Limits) → ¬ (needs_by program source limits ≡ Nothing)
+some_need program words.Rule limits none = absurd cc
+some_need program (words.Script name) limits none = absurd cc
+some_need program (words.Workers seed) limits none = absurd cc
 
-pub good_files : (files : Files) (command : Option Command) (written : List ℕ)
+needs_some : (files : Files) (command : Option words.Command) (written : List ℕ) → IsOutputOf files command written
+    → ¬ (needs_of command ≡ Nothing)
+needs_some files None written output none = absurd output
+needs_some files (Some command) written output none =
+    some_need command.program command.source command.limits none
+
+pub good_files : (files : Files) (command : Option words.Command) (written : List ℕ)
     → AreTold files (needs_of command) → IsOutputOf files command written
     → TellsGoodFiles files (needs_of command)
 good_files files command written told output =
-    used_are_good files (needs_of command) (some_need files command written output) told
+    used_are_good files (needs_of command) (needs_some files command written output) told
     (used_by_output files command written output)

@@ -21,9 +21,12 @@ use Rattle.step_log.specs.Text.{entry_line, entry_text, hex_text, kind_word, new
 use Rattle.step_log.proofs.Laws.{length-decimal_32, length-hex_text, length-kind_word-le, log_meanings}
 use Rattle.block_model.specs.Replay.{script_of}
 use Rattle.block_model.specs.Run.{IsBlockRun}
-use Rattle.block_model.specs.Setting.{Setting, setting_of}
+use Rattle.block_model.specs.Setting.{Setting}
 use Rattle.block_model.proofs.Laws.{HaveBytes, all_addresses, all_harts, all_threads, answers_itself, image_bytes, within_limit}
-use Rattle.outcomes.specs.Outputs.{IsPlayOutput, IsRunOutput, IsSoloOutput, log_output}
+use Rattle.command_words.specs.declared.table.Shown.{Shown}
+use Rattle.command_words.specs.declared.table.Shown.TheVariants.{Output}
+use Rattle.command_words.specs.Commands.{Command, Source, Rule, Script, Workers}
+use Rattle.outcomes.specs.Outputs.{IsCommandOutput, IsLogOf, IsPlayOutput, log_output, setting_for, shown_text}
 use Rattle.outcomes.specs.Programs.{Files, IsProgram, IsReadAs, ask_in, ask_of, asks_of, most_script_bytes}
 use Rattle.outcomes.specs.Programs.{start_of}
 use Rattle.outcomes.specs.Runs.{IsPlayedRun}
@@ -153,9 +156,9 @@ output_again files later program script limits written image log range same take
     (entry_fits files program limits image taken) (image_bytes taken.bytes image taken.are_bytes taken.loaded) run in
     record {
       image = image;
+      taken = taken_again files later program limits image same taken;
       log = log;
-      played = record {
-        taken = taken_again files later program limits image same taken;
+      made = record {
         lines = log_text log;
         read = record { read = read; fits = log_fits (start_of image limits) log range run fits };
         run = played_again (start_of image limits) log run fits;
@@ -163,27 +166,20 @@ output_again files later program script limits written image log range same take
       text = text;
     }
 
-pub solo_again : (files later : Files) (program script : List ℕ) (limits : Limits) (written : List ℕ)
-    → InRange limits → later program ≡ files program → (output : IsSoloOutput files program limits written)
-    → IsReadAs later script (log_text output.log) → IsPlayOutput later program script limits written
-solo_again files later program script limits written range same output read =
-    output_again files later program script limits written output.image output.log range same output.taken
-    output.run.block_run output.text read
+-- each log is one of a block run
+pub block_run_of : (files : Files) (source : Source) (s : Setting) (log : List Entry) → IsLogOf files source s log
+    → IsBlockRun s log
+block_run_of files Rule s log made = made.block_run
+block_run_of files (Script name) s log made = made.run.block_run
+block_run_of files (Workers seed) s log made = made.block_run
 
-pub play_again : (files later : Files) (program first script : List ℕ) (limits : Limits) (written : List ℕ)
-    → InRange limits → later program ≡ files program
-    → (output : IsPlayOutput files program first limits written) → IsReadAs later script (log_text output.log)
-    → IsPlayOutput later program script limits written
-play_again files later program first script limits written range same output read =
-    output_again files later program script limits written output.image output.log range same output.played.taken
-    output.played.run.block_run output.text read
-
--- a run by workers is one without a seed too, with the same text
-pub run_again : (files later : Files) (program script : List ℕ) (limits : Limits) (seed : ℕ) (written : List ℕ)
-    → InRange limits → later program ≡ files program
-    → (output : IsRunOutput files program limits seed written) → IsReadAs later script (log_text output.log)
-    → IsPlayOutput later program script limits written
-run_again files later program script limits seed written range same output read =
-    let s = setting_of output.image limits seed in
-    output_again files later program script limits written output.image output.log range same output.taken
-    (reseeded_run 0 s output.log output.run.block_run) (output.text ∙ sym (reseeded_output 0 s output.log)) read
+-- a run that draws choices is one without a seed too, with the same text
+pub printed_again : (files later : Files) (command : Command) (script written : List ℕ)
+    → InRange command.limits → command.shown ≡ Output → later command.program ≡ files command.program
+    → (output : IsCommandOutput files command written) → IsReadAs later script (log_text output.log)
+    → IsPlayOutput later command.program script command.limits written
+printed_again files later command script written range shows same output read =
+    let s = setting_for command output.image in
+    output_again files later command.program script command.limits written output.image output.log range same
+    output.taken (reseeded_run 0 s output.log (block_run_of files command.source s output.log output.made))
+    (output.text ∙ ap (λ (x : Shown). shown_text x s output.log) shows ∙ sym (reseeded_output 0 s output.log)) read

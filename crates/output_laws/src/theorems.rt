@@ -1,39 +1,28 @@
 //! Laws of the outputs, each as the contract of a function that does nothing.
 
 ghost use Rattle.std.specs.Prelude.{◌≡◌, false, ℕ, List, Option};
-ghost use Rattle.mach_types.specs.declared.limits.Limits.{Limits};
 ghost use Rattle.mach_types.specs.Limits.{InRange};
 ghost use Rattle.step_log.specs.Grammar.{log_text};
 ghost use Rattle.outcomes.specs.Needs.{needs_of};
-ghost use Rattle.outcomes.specs.Outputs.{IsOutput, IsOutputOf, IsPlainOutput, IsPlayOutput, IsRunOutput, IsSoloOutput};
+ghost use Rattle.outcomes.specs.Outputs.{IsCommandOutput, IsOutput, IsOutputOf, IsPlainOutput, IsPlayOutput};
 ghost use Rattle.outcomes.specs.Programs.{Files, IsReadAs};
 ghost use Rattle.outcomes.specs.Told.{AreTold, TellsGoodFiles};
-ghost use Rattle.command_words.specs.Grammar.{Command};
-ghost use Rattle.command_words.specs.Words.{is_run};
+ghost use Rattle.command_words.specs.declared.table.Shown.TheVariants.{Output};
+ghost use Rattle.command_words.specs.Commands.{Command, is_run};
 
 /// The log lines of an output, read as a script by `play` with the same program and limits, are allowed at
 /// every line and give the same output text. The shelf of the later call has the same program, and those
 /// lines as the script.
 pub fn printed_log_replays()
-    ensures solo { (files later : Files) (program script : List ℕ) (limits : Limits) (written : List ℕ)
-        → InRange limits → later program ≡ files program
-        → (output : IsSoloOutput files program limits written) → IsReadAs later script (log_text output.log)
-        → IsPlayOutput later program script limits written }
-    ensures play { (files later : Files) (program first script : List ℕ) (limits : Limits) (written : List ℕ)
-        → InRange limits → later program ≡ files program
-        → (output : IsPlayOutput files program first limits written)
-        → IsReadAs later script (log_text output.log)
-        → IsPlayOutput later program script limits written }
-    ensures run { (files later : Files) (program script : List ℕ) (limits : Limits) (seed : ℕ)
-        (written : List ℕ) → InRange limits → later program ≡ files program
-        → (output : IsRunOutput files program limits seed written)
-        → IsReadAs later script (log_text output.log)
-        → IsPlayOutput later program script limits written }
+    ensures { (files later : Files) (command : Command) (script written : List ℕ)
+        → InRange command.limits → command.shown ≡ Output → later command.program ≡ files command.program
+        → (output : IsCommandOutput files command written) → IsReadAs later script (log_text output.log)
+        → IsPlayOutput later command.program script command.limits written }
 {}
 
-/// Where a shelf tells the files that `solo`, `play`, `blocks` or `inspect` needs, there is one output: which it is depends on
-/// their bytes and the limits alone. Which one comes of `run` hangs also on the order in which the harts take turns.
-/// And where there is an output, the files are good.
+/// Where a shelf tells the files that a command needs, there is one output, unless its log comes about by workers:
+/// which it is depends on their bytes and the limits alone. Which one comes of `run` hangs also on the order in which
+/// the harts take turns. And where there is an output, the files are good.
 pub fn told_files_have_one_output()
     ensures one { (files : Files) (command : Option Command) (written other : List ℕ)
         → is_run command ≡ false → AreTold files (needs_of command)

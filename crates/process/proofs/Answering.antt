@@ -22,7 +22,7 @@ pub starter_is_saved : (v : Seen) (m : Parts) (h : Hart) (t : Tid) → IsPlace v
     → (o : Option Saved) → o ≡ saved_of t.0 m.kernel.threads.saved → o ≡ None → ⊥
 starter_is_saved v m h t place free o read none =
     let ready : state_of t.0 m.kernel.threads.threads ≡ Some Ready =
-    ap (state_of t.0) place.tied.threads ∙ state_ready t.0 (plain_seen v).kernel.threads (run_ready (here_of v h.0) t.0 free).1 in
+    ap (state_of t.0) place.tied.tables.threads ∙ state_ready t.0 (plain_seen v).kernel.threads (run_ready (here_of v h.0) t.0 free).1 in
     missing o none (subst IsSome (sym read) (ready_saves_something t.0 m.kernel.threads place.tied.table ready))
   where
     missing : (o : Option Saved) → o ≡ None → IsSome o → ⊥

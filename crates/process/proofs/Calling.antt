@@ -114,14 +114,9 @@ calling v m h running harts x e place plan outside set all value is =
       at = record {
         hart = refl;
         count = sym (all ∙ place.tied.all_harts);
-        threads = place.tied.threads;
+        tables = place.tied.tables;
         running = sym (set ∙ running_here v m h.0 place);
-        barriers = place.tied.registered;
-        signals = place.tied.signals;
-        scheduling = place.tied.scheduling;
-        areas = place.tied.areas;
         id = sym (ap (λ (y : HartState). y.cid) own ∙ ap (id_on (here_of v h.0)) at);
-        console = place.tied.console;
         pages = place.tied.pages;
         file = ap (λ (y : HartState). record { file = y.file; pc = y.pc }) own ∙ ap (file_on (here_of v h.0)) at;
       };
@@ -131,17 +126,17 @@ calling v m h running harts x e place plan outside set all value is =
 -- a further number can be given
 pub numbers_left : (v : Seen) (m : Parts) (h : ℕ) → IsPlace v m h → m.kernel.threads.threads.given < 2 ^ 31 - 1
 numbers_left v m h place =
-    let few = given_few v place.run in let same = ap (λ (ts : Threads). ts.given) place.tied.threads in
+    let few = given_few v place.run in let same = ap (λ (ts : Threads). ts.given) place.tied.tables.threads in
     let room = place.room in let steps = place.limits.most_steps in omega arith
 
 -- the set of the harts that run threads
 pub running_found : (v : Seen) (m : Parts) (h running harts : ℕ) → IsPlace v m h → running ≡ harts_that (is_busy m.harts.items) 8 → harts ≡ length m.harts.items
     → running_harts m.kernel.threads.threads harts ≡ running
-running_found v m h running harts place set all = rw (all, place.tied.all_harts, place.tied.threads) (sym (set ∙ running_here v m h place))
+running_found v m h running harts place set all = rw (all, place.tied.all_harts, place.tied.tables.threads) (sym (set ∙ running_here v m h place))
 
 -- the tables that it finds
 pub tables_found : (v : Seen) (m : Parts) (h harts : ℕ) → IsPlace v m h → harts ≡ length m.harts.items → IsTables harts m.kernel.threads.threads m.kernel.ready
-tables_found v m h harts place all = rw (all, place.tied.all_harts, place.tied.threads, place.tied.scheduling) (tables_at v m h place)
+tables_found v m h harts place all = rw (all, place.tied.all_harts, place.tied.tables.threads, place.tied.tables.scheduling) (tables_at v m h place)
 
 -- it counts nothing by itself
 pub same_ran : (end : CallEnd) (saved : Saved) (x : HartState) → (hart_after_call end saved x).ran ≡ x.ran
@@ -160,11 +155,11 @@ same_events end saved x = go (gives_up end)
 
 -- the signals that it finds
 pub signals_found : (v : Seen) (m : Parts) (h : ℕ) → IsPlace v m h → AreSignalsOfLive m.kernel.threads.threads m.kernel.signals
-signals_found v m h place = rw (place.tied.threads, place.tied.signals) (live_signals v place.run)
+signals_found v m h place = rw (place.tied.tables.threads, place.tied.tables.signals) (live_signals v place.run)
 
 -- the areas that it finds
 pub areas_found : (v : Seen) (m : Parts) (h : ℕ) → IsPlace v m h → AreOfLive m.kernel.threads.threads (areas_by_number m.kernel.areas.items)
-areas_found v m h place = rw (place.tied.threads, place.tied.areas) (live_areas v place.run)
+areas_found v m h place = rw (place.tied.tables.threads, place.tied.tables.areas) (live_areas v place.run)
 
 -- the ids of other threads stay
 pub ids_kept : (harts h t : ℕ) (b : Bool) (p : Plain) (c : CallDone) → IsTables harts p.kernel.threads p.kernel.scheduling → running_on h p.kernel.threads ≡ Some t

@@ -10,7 +10,7 @@ use Rattle.mach_types.specs.declared.limits.End.TheVariants as over
 use Rattle.hart_state.specs.declared.hart.HartState.{HartState}
 use Rattle.kernel_threads.specs.Table.{IsTable}
 use Rattle.sys_calls.specs.Made.{AreSaved, HoldsPages}
-use Rattle.sys_calls.specs.Registered.{areas_by_number}
+use Rattle.sys_calls.specs.Tables.{HoldsTables}
 use Rattle.block_model.specs.Setting.{Seen}
 use Rattle.block_model.specs.Here.{Done}
 use Rattle.block_model.specs.History.{file_among}
@@ -82,13 +82,8 @@ pub record IsChange (v : Seen) (h : ℕ) (d : Done) (m m' : Parts) (y : HartStat
   pub harts : AreBeside h d (set m.harts.items h y) m'.harts.items
   pub pages : HoldsPages d.kernel.pages v.setting.program.break_at (λ a. written d.entered a ((plain_seen v).byte a)) m'.pages
   pub readable : IsReadable m'.pages
-  pub threads : m'.kernel.threads.threads ≡ d.kernel.threads
-  pub signals : m'.kernel.signals ≡ d.kernel.signals
-  pub scheduling : m'.kernel.ready ≡ d.kernel.scheduling
-  pub areas : areas_by_number m'.kernel.areas.items ≡ d.kernel.areas
+  pub tables : HoldsTables m'.kernel d.kernel
   pub ids : KeepsIds (plain_seen v) h d
-  pub registered : m'.kernel.registered ≡ d.kernel.barriers
-  pub console : m'.kernel.console ≡ d.kernel.console
   pub table : IsTable m'.kernel.threads
   pub saved : AreSaved (λ t. file_among d.files t ((plain_seen v).file t)) m'.kernel.threads
   pub ended : m'.ended ≡ final d.ended d.kernel
@@ -117,12 +112,7 @@ changed v h d m m' y place fit is = record { tied = tied; credits = credits_kept
       harts = harts_tied v.setting p h d m.harts.items m'.harts.items y place.tied.harts place.lt fit is.ids is.own is.harts;
       pages = is.pages;
       readable = is.readable;
-      threads = is.threads;
-      signals = is.signals;
-      scheduling = is.scheduling;
-      areas = is.areas;
-      registered = is.registered;
-      console = is.console;
+      tables = is.tables;
       table = is.table;
       saved = is.saved;
       ended = is.ended ∙ ap (λ o. final o d.kernel) (sym (or_none d.ended p.ended (open_process p.ended (if_stuck (is_stuck p.kernel.threads)) place.goes)));

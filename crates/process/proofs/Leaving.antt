@@ -50,9 +50,9 @@ leaving v m h x e place free value is =
     record {
       own = own;
       at = at;
-      runs = ap (state_of e.tid.0) place.tied.threads ∙ state;
+      runs = ap (state_of e.tid.0) place.tied.tables.threads ∙ state;
       live = live;
-      held = ap (λ (s : Scheduling). list_any (is_of e.tid.0) s.affinities) place.tied.scheduling ∙ (tables.held e.tid.0 ∙ live);
-      not_ready = ap (λ (s : Scheduling). list_any (λ u. eqb u e.tid.0) s.order) place.tied.scheduling ∙ (ready_listed harts e.tid.0 ts sc tables ∙ ap (λ o. option_map_or is_ready_state o false) state);
+      held = ap (λ (s : Scheduling). list_any (is_of e.tid.0) s.affinities) place.tied.tables.scheduling ∙ (tables.held e.tid.0 ∙ live);
+      not_ready = ap (λ (s : Scheduling). list_any (λ u. eqb u e.tid.0) s.order) place.tied.tables.scheduling ∙ (ready_listed harts e.tid.0 ts sc tables ∙ ap (λ o. option_map_or is_ready_state o false) state);
       file = ap (λ (y : HartState). record { file = y.file; pc = y.pc }) own ∙ ap (file_on (here_of v h.0)) at;
     }

@@ -76,7 +76,7 @@ writable_at v m h place = writable_held (plain_seen v).kernel v.setting.program.
 
 -- the thread on the hart of a place runs there
 pub runs_there : (v : Seen) (m : Parts) (h : Hart) (t : ℕ) → IsPlace v m h.0 → runs (here_of v h.0) ≡ Some t → state_of t m.kernel.threads.threads ≡ Some (Running h)
-runs_there v m h t place at = ap (state_of t) place.tied.threads ∙ running_is v.setting.limits.harts h.0 t (plain_seen v).kernel.threads (plain_seen v).kernel.scheduling (tables_at v m h.0 place) at
+runs_there v m h t place at = ap (state_of t) place.tied.tables.threads ∙ running_is v.setting.limits.harts h.0 t (plain_seen v).kernel.threads (plain_seen v).kernel.scheduling (tables_at v m h.0 place) at
 
 -- a thread that a hart keeps is the one that runs there
 pub thread_is : (o : Option ℕ) (t : Tid) → Some t ≡ option_map thread o → o ≡ Some t.0

@@ -8,7 +8,7 @@ use Rattle.std.proofs.lemmas.List.Kept.{AllPairs-from_increasing}
 use Rattle.mach_types.proofs.Laws.{state_of-with_state_same}
 use Rattle.mach_types.specs.Kernel.Areas.{area_of, lowest_cid}
 use Rattle.mach_types.specs.Kernel.Barriers.{harts_that}
-use Rattle.mach_types.specs.Kernel.Scheduling.{without_ready}
+use Rattle.mach_types.specs.Kernel.Scheduling.{Scheduling, without_ready}
 use Rattle.mach_types.specs.Kernel.Threads.{Thread, Threads, is_ready, is_ready_state, is_running_state, is_thread, numbers, state_if, state_of, with_state}
 use Rattle.mach_types.specs.declared.events.Choice.TheVariants as asked
 use Rattle.mach_types.specs.declared.events.Hart.{Hart}
@@ -29,6 +29,9 @@ use Rattle.kernel_threads.proofs.Laws.{emptied, is_kept, saved_of_others}
 use Rattle.page_map.specs.Map.{Map}
 use Rattle.sys_calls.specs.Made.{AreSaved}
 use Rattle.sys_calls.specs.Registered.{areas_by_number}
+use Rattle.sys_calls.specs.Tables.{HoldsTables}
+use Rattle.sys_calls.specs.declared.kernel.Kernel.{Kernel}
+use Rattle.sys_calls.proofs.Laws.{holds_past_ids, holds_scheduling, holds_threads}
 use Rattle.block_model.specs.Events.{refusal_of}
 use Rattle.block_model.specs.Events.Run.{done_killed, done_run, done_running, lives_on}
 use Rattle.block_model.specs.Here.{Done, Here}
@@ -160,7 +163,7 @@ module _ (v : Seen) (m : Parts) (h : Hart) (t : Tid) (place : IsPlace v m h.0) (
     hart = refl;
     bytes = bytes_at v m h.0 place;
     writable = writable_at v m h.0 place;
-    area = has ∙ ap (area_of t.0) place.tied.areas;
+    area = has ∙ ap (area_of t.0) place.tied.tables.areas;
     file = place.tied.saved t.0 x (sym kept);
     id = its ∙ ap lowest_cid (held_here v m h.0 place);
   }
@@ -179,20 +182,20 @@ module _ (v : Seen) (m : Parts) (h : Hart) (t : Tid) (place : IsPlace v m h.0) (
 
   -- it is in the ready list, and runs once it was taken to
   pub listed : is_listed t.0 m.kernel.ready ≡ true
-  listed = ap (is_listed t.0) place.tied.scheduling ∙ ready_listed v.setting.limits.harts t.0 (plain_seen v).kernel.threads (plain_seen v).kernel.scheduling (tables_at v m h.0 place) ∙ ready
+  listed = ap (is_listed t.0) place.tied.tables.scheduling ∙ ready_listed v.setting.limits.harts t.0 (plain_seen v).kernel.threads (plain_seen v).kernel.scheduling (tables_at v m h.0 place) ∙ ready
 
   pub runs_then : state_of t.0 (with_state t.0 (Running h) m.kernel.threads.threads) ≡ Some (Running h)
   runs_then =
       state_of-with_state_same t.0 (Running h) m.kernel.threads.threads
-      ∙ ap (option_map (λ (_ : ThreadState). Running h)) (ap (state_of t.0) place.tied.threads ∙ state_ready t.0 (plain_seen v).kernel.threads ready)
+      ∙ ap (option_map (λ (_ : ThreadState). Running h)) (ap (state_of t.0) place.tied.tables.threads ∙ state_ready t.0 (plain_seen v).kernel.threads ready)
 
   -- it runs
-  pub begun_running : (m1 m2 : Parts) (x : Saved) (id : ℕ) → IsReadied here t.0 true x m m1 → id ≡ next_id (plain_seen v).kernel.ids
+  pub begun_running : (m1 m2 : Parts) (x : Saved) (id : ℕ) (file : Table) (order : Scheduling) → IsReadied here t.0 true x m m1 → id ≡ next_id (plain_seen v).kernel.ids
       → IsChanged h.0 (begun_with t x id) m1.harts.items m2.harts.items → m2.pages ≡ m1.pages
-      → m2.kernel.threads.threads ≡ with_state t.0 (Running h) m.kernel.threads.threads → m2.kernel.threads.saved ≡ with_saved t.0 None m.kernel.threads.saved → IsTable m2.kernel.threads
-      → m2.kernel.signals ≡ m.kernel.signals → m2.kernel.ready ≡ without_ready t.0 m.kernel.ready → m2.kernel.areas ≡ m.kernel.areas → m2.kernel.registered ≡ m.kernel.registered → m2.kernel.console ≡ m.kernel.console → m2.ended ≡ m.ended
+      → m2.kernel ≡ record m.kernel { threads = file; ready = order } → file.threads ≡ with_state t.0 (Running h) m.kernel.threads.threads
+      → file.saved ≡ with_saved t.0 None m.kernel.threads.saved → IsTable file → order ≡ without_ready t.0 m.kernel.ready → m2.ended ≡ m.ended
       → IsAfter v h.0 (done_run here t.0) m m2
-  begun_running m1 m2 x id is its changed pages threads saved table signals order areas registered console ended =
+  begun_running m1 m2 x id file order is its changed pages kernel threads saved table taken ended =
       let p = plain_seen v in
       let tables = tables_at v m h.0 place in
       let d = done_running here t.0 comes in
@@ -208,15 +211,12 @@ module _ (v : Seen) (m : Parts) (h : Hart) (t : Tid) (place : IsPlace v m h.0) (
             (λ k. is.harts k ∙ ap (λ (e : Done). option_map (lost_unless (eqb k h.0) e.entered) (slice_get m.harts.items k)) same) changed;
         pages = pages_written p.kernel.pages v.setting.program.break_at p.byte d.entered m.pages m2.pages place.tied.pages wrote;
         readable = readable_written d.entered m.pages m2.pages place.tied.readable wrote;
-        threads = threads ∙ ap (with_state t.0 (Running h)) place.tied.threads;
-        signals = signals ∙ place.tied.signals;
-        scheduling = order ∙ ap (without_ready t.0) place.tied.scheduling;
-        areas = rw areas place.tied.areas;
+        tables = rw kernel (holds_past_ids (holds_scheduling
+            (holds_threads place.tied.tables file (with_state t.0 (Running h) p.kernel.threads) (threads ∙ ap (with_state t.0 (Running h)) place.tied.tables.threads))
+            order (without_ready t.0 p.kernel.scheduling) (taken ∙ ap (without_ready t.0) place.tied.tables.scheduling)) (with_id t.0 p.kernel.ids));
         ids = λ k u ne runs. id_with_other t.0 u p.kernel.ids (ready_apart v.setting.limits.harts k t.0 u p.kernel.threads p.kernel.scheduling tables ready runs);
-        registered = registered ∙ place.tied.registered;
-        console = console ∙ place.tied.console;
-        table = table;
-        saved = kept_running p.file (λ u. file_among d.files u (p.file u)) t.0 m.kernel.threads m2.kernel.threads saved (λ u other. file_other here t.0 u comes (p.file u) other) place.tied.saved;
+        table = rw kernel table;
+        saved = rw kernel (kept_running p.file (λ u. file_among d.files u (p.file u)) t.0 m.kernel.threads file saved (λ u other. file_other here t.0 u comes (p.file u) other) place.tied.saved);
         ended = ended ∙ goes_on v m h.0 (ran t.0 h.0 p.kernel) place (not_stuck t.0 (Running h) p.kernel.threads refl (ready_live t.0 p.kernel.threads ready));
       })
 
@@ -225,9 +225,9 @@ module _ (v : Seen) (m : Parts) (h : Hart) (t : Tid) (place : IsPlace v m h.0) (
       → IsChanged h.0 begun_without m1.harts.items m2.harts.items → m2.pages ≡ m1.pages
       → mid.threads ≡ with_state t.0 (Running h) m.kernel.threads.threads → mid.saved ≡ with_saved t.0 None m.kernel.threads.saved
       → m2.kernel.threads.threads ≡ with_state t.0 Ready mid.threads → m2.kernel.threads.saved ≡ with_saved t.0 (Some x) mid.saved → IsTable m2.kernel.threads
-      → m2.kernel.signals ≡ m.kernel.signals → m2.kernel.ready ≡ m.kernel.ready → m2.kernel.areas ≡ m.kernel.areas → m2.kernel.registered ≡ m.kernel.registered → m2.kernel.console ≡ m.kernel.console → m2.ended ≡ Some (Killed SIGSEGV)
+      → m2.kernel ≡ record m.kernel { threads = m2.kernel.threads } → m2.ended ≡ Some (Killed SIGSEGV)
       → IsAfter v h.0 (done_run here t.0) m m2
-  begun_killed m1 m2 x mid is changed pages ran_threads ran_saved threads saved table signals order areas registered console ended =
+  begun_killed m1 m2 x mid is changed pages ran_threads ran_saved threads saved table others ended =
       let p = plain_seen v in
       let tables = tables_at v m h.0 place in
       let d = done_killed here t.0 comes in
@@ -243,13 +243,9 @@ module _ (v : Seen) (m : Parts) (h : Hart) (t : Tid) (place : IsPlace v m h.0) (
             (λ k. is.harts k ∙ ap (λ (e : Done). option_map (lost_unless (eqb k h.0) e.entered) (slice_get m.harts.items k)) same) changed;
         pages = pages_written p.kernel.pages v.setting.program.break_at p.byte d.entered m.pages m2.pages place.tied.pages wrote;
         readable = readable_written d.entered m.pages m2.pages place.tied.readable wrote;
-        threads = threads ∙ ap (with_state t.0 Ready) (ran_threads ∙ ap (with_state t.0 (Running h)) place.tied.threads) ∙ back;
-        signals = signals ∙ place.tied.signals;
-        scheduling = order ∙ place.tied.scheduling;
-        areas = rw areas place.tied.areas;
+        tables = subst (λ (k : Kernel). HoldsTables k p.kernel) (sym others) (holds_threads place.tied.tables m2.kernel.threads p.kernel.threads
+            (threads ∙ ap (with_state t.0 Ready) (ran_threads ∙ ap (with_state t.0 (Running h)) place.tied.tables.threads) ∙ back));
         ids = λ k u ne runs. refl;
-        registered = registered ∙ place.tied.registered;
-        console = console ∙ place.tied.console;
         table = table;
         saved = kept_again p.file (λ u. file_among d.files u (p.file u)) t.0 x m.kernel.threads mid m2.kernel.threads ran_saved saved
             (is.file ∙ ap (λ (e : Done). file_among e.files t.0 (p.file t.0)) same) (λ u other. file_other here t.0 u comes (p.file u) other) place.tied.saved;

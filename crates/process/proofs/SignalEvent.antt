@@ -20,7 +20,9 @@ use Rattle.kernel_threads.specs.Table.{IsTable, Table, saved_of}
 use Rattle.kernel_threads.proofs.Laws.{running_saves_nothing}
 use Rattle.page_map.specs.Map.{Map}
 use Rattle.sys_calls.specs.Made.{AreSaved}
+use Rattle.sys_calls.specs.Tables.{HoldsTables}
 use Rattle.sys_calls.specs.declared.kernel.Kernel.{Kernel}
+use Rattle.sys_calls.proofs.Laws.{holds_signals}
 use Rattle.block_model.specs.Events.{done_of, refusal_of}
 use Rattle.block_model.specs.Events.Preempt.{unless_in_barrier, unless_waiting}
 use Rattle.block_model.specs.Events.Signal.{done_next, done_signal_by, handled_unless_killed, kills, refusal_delivery, refusal_signal_by}
@@ -165,11 +167,7 @@ pub record IsOver (here : Here) (h t s : ℕ) (killer : Option ℕ) (x : Saved) 
   pub changed : IsChanged h (gone_on_with x) m1.harts.items m2.harts.items
   pub same_pages : m2.pages ≡ m1.pages
   pub same_kernel : m2.kernel ≡ m1.kernel
-  pub threads : m1.kernel.threads ≡ m.kernel.threads
-  pub order : m1.kernel.ready ≡ m.kernel.ready
-  pub areas : m1.kernel.areas ≡ m.kernel.areas
-  pub registered : m1.kernel.registered ≡ m.kernel.registered
-  pub console : m1.kernel.console ≡ m.kernel.console
+  pub others : m1.kernel ≡ record m.kernel { signals = m1.kernel.signals }
   pub ended : m2.ended ≡ ended_unless killer m.ended
 
 module _ (v : Seen) (m : Parts) (h : Hart) (place : IsPlace v m h.0) (free : refusal_of asked.Signal (here_of v h.0) ≡ None) (is : IsReceiving (here_of v h.0)) where
@@ -195,8 +193,8 @@ module _ (v : Seen) (m : Parts) (h : Hart) (place : IsPlace v m h.0) (free : ref
     hart = refl;
     bytes = bytes_at v m h.0 place;
     writable = writable_at v m h.0 place;
-    area = ap (area_of t) place.tied.areas;
-    signals = place.tied.signals;
+    area = ap (area_of t) place.tied.tables.areas;
+    signals = place.tied.tables.signals;
     file = ap (λ (y : HartState). record { file = y.file; pc = y.pc }) own ∙ ap (file_on here) is.at ∙ ap (λ n. here.file n) (sym named);
   }
 
@@ -226,7 +224,7 @@ module _ (v : Seen) (m : Parts) (h : Hart) (place : IsPlace v m h.0) (free : ref
       let before : AreSaved (λ u. file_among (done_with killer).files u (p.file u)) m.kernel.threads =
       kept_running p.file (λ u. file_among (done_with killer).files u (p.file u)) is.thread h m.kernel.threads place.tied.table (runs_there v m h is.thread place is.at)
       (λ u other. file_apart here is.thread is.signal u comes killer (p.file u) other) place.tied.saved in
-      rw (over.same_kernel, over.threads) before
+      rw (over.same_kernel, over.others) before
 
   event_by : (killer : Option ℕ) (x : Saved) (m1 m2 : Parts) → IsOver here h.0 is.thread is.signal killer x m m1 m2 → IsAfter v h.0 (done_of asked.Signal here) m m2
   event_by None x m1 m2 over =
@@ -239,14 +237,10 @@ module _ (v : Seen) (m : Parts) (h : Hart) (place : IsPlace v m h.0) (free : ref
             (λ k. over.made.harts k ∙ ap (λ (e : Done). option_map (lost_unless (eqb k h.0) e.entered) (slice_get m.harts.items k)) same) over.changed;
         pages = pages_written p.kernel.pages v.setting.program.break_at p.byte d.entered m.pages m2.pages place.tied.pages (wrote None x m1 m2 over);
         readable = readable_written d.entered m.pages m2.pages place.tied.readable (wrote None x m1 m2 over);
-        threads = rw (over.same_kernel, over.threads) place.tied.threads;
-        signals = ap (λ (k : Kernel). k.signals) over.same_kernel ∙ over.made.signals ∙ ap (λ (e : Done). e.kernel.signals) same;
-        scheduling = rw (over.same_kernel, over.order) place.tied.scheduling;
-        areas = rw (over.same_kernel, over.areas) place.tied.areas;
+        tables = subst (λ (k : Kernel). HoldsTables k d.kernel) (sym (over.same_kernel ∙ over.others))
+            (holds_signals place.tied.tables m1.kernel.signals d.kernel.signals (over.made.signals ∙ ap (λ (e : Done). e.kernel.signals) same));
         ids = λ k u ne runs. refl;
-        registered = rw (over.same_kernel, over.registered) place.tied.registered;
-        console = rw (over.same_kernel, over.console) place.tied.console;
-        table = rw (over.same_kernel, over.threads) place.tied.table;
+        table = rw (over.same_kernel, over.others) place.tied.table;
         saved = kept None x m1 m2 over;
         ended = over.ended ∙ goes_on v m h.0 d.kernel place (was_not_stuck v m h.0 place);
       })
@@ -260,14 +254,10 @@ module _ (v : Seen) (m : Parts) (h : Hart) (place : IsPlace v m h.0) (free : ref
             (λ k. over.made.harts k ∙ ap (λ (e : Done). option_map (lost_unless (eqb k h.0) e.entered) (slice_get m.harts.items k)) same) over.changed;
         pages = pages_written p.kernel.pages v.setting.program.break_at p.byte d.entered m.pages m2.pages place.tied.pages (wrote (Some killer) x m1 m2 over);
         readable = readable_written d.entered m.pages m2.pages place.tied.readable (wrote (Some killer) x m1 m2 over);
-        threads = rw (over.same_kernel, over.threads) place.tied.threads;
-        signals = ap (λ (k : Kernel). k.signals) over.same_kernel ∙ over.made.signals ∙ ap (λ (e : Done). e.kernel.signals) same;
-        scheduling = rw (over.same_kernel, over.order) place.tied.scheduling;
-        areas = rw (over.same_kernel, over.areas) place.tied.areas;
+        tables = subst (λ (k : Kernel). HoldsTables k d.kernel) (sym (over.same_kernel ∙ over.others))
+            (holds_signals place.tied.tables m1.kernel.signals d.kernel.signals (over.made.signals ∙ ap (λ (e : Done). e.kernel.signals) same));
         ids = λ k u ne runs. refl;
-        registered = rw (over.same_kernel, over.registered) place.tied.registered;
-        console = rw (over.same_kernel, over.console) place.tied.console;
-        table = rw (over.same_kernel, over.threads) place.tied.table;
+        table = rw (over.same_kernel, over.others) place.tied.table;
         saved = kept (Some killer) x m1 m2 over;
         ended = over.ended;
       })

@@ -62,7 +62,7 @@ pub held_where_run : (v : Seen) (m : Parts) (h t : ℕ) → IsBlockRun v.setting
 held_where_run v m h t run tied lt at =
     let k = (plain_seen v).kernel in
     let state = running_is v.setting.limits.harts h t k.threads k.scheduling (place_good v h run lt).kernel.tables at in
-    ap (is_held t) tied.signals ∙ held_as_live t k.threads k.signals (live_signals v run) ∙ live_with t (Running (record { 0 = h })) k.threads state
+    ap (is_held t) tied.tables.signals ∙ held_as_live t k.threads k.signals (live_signals v run) ∙ live_with t (Running (record { 0 = h })) k.threads state
 
 pub held_at : (v : Seen) (m : Parts) (h t : ℕ) → IsPlace v m h → runs (here_of v h) ≡ Some t → is_held t m.kernel.signals ≡ true
 held_at v m h t place at = held_where_run v m h t place.run place.tied place.lt at

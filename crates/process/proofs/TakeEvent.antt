@@ -204,13 +204,8 @@ module _ (v : Seen) (m : Parts) (h : Hart) (place : IsPlace v m h.0) (free : ref
             (λ k. is.restarted.harts k ∙ ap (λ vs. option_map (lost_unless (eqb k h.0) vs) (slice_get m.harts.items k)) its) is.harts;
         pages = pages_written p.kernel.pages v.setting.program.break_at p.byte ws m.pages m2.pages place.tied.pages wrote;
         readable = readable_written ws m.pages m2.pages place.tied.readable wrote;
-        threads = rw is.same_kernel place.tied.threads;
-        signals = rw is.same_kernel place.tied.signals;
-        scheduling = rw is.same_kernel place.tied.scheduling;
-        areas = rw is.same_kernel place.tied.areas;
+        tables = rw is.same_kernel place.tied.tables;
         ids = λ k u ne runs. refl;
-        registered = rw is.same_kernel place.tied.registered;
-        console = rw is.same_kernel place.tied.console;
         table = rw is.same_kernel place.tied.table;
         saved = rw is.same_kernel kept;
         ended = is.ended ∙ ap (λ o. option_or o m.ended) (sym over) ∙ ap (option_or e) (goes_on v m h.0 p.kernel place (was_not_stuck v m h.0 place));

@@ -9,7 +9,7 @@ use Rattle.kernel_threads.specs.Table.{IsTable}
 use Rattle.mach_types.specs.Kernel.Pages.{can_read, can_write}
 use Rattle.page_map.specs.Map.{Map, permission_in}
 use Rattle.sys_calls.specs.Made.{AreSaved, HoldsPages}
-use Rattle.sys_calls.specs.Registered.{areas_by_number}
+use Rattle.sys_calls.specs.Tables.{HoldsTables}
 use Rattle.block_model.specs.Setting.{Setting, Seen}
 use Rattle.block_model.specs.Here.{Done}
 use Rattle.block_model.specs.Events.{refusal_of, done_of}
@@ -23,19 +23,14 @@ use Rattle.process.specs.declared.parts.Parts.{Parts}
 abbrev pub IsReadable : Map → Type 0
 IsReadable m = (n : ℕ) → can_write (permission_in m n) ≡ true → can_read (permission_in m n) ≡ true
 
--- each part is that of the plain machine: the harts, but for their credits; the pages and their bytes; the threads with their
--- files, the signals, the ready list, the areas, the registrations for barriers and the console; and how the run has ended
+-- each part is that of the plain machine: the harts, but for their credits; the pages and their bytes; the kernel's tables, and the
+-- files of the threads that don't run; and how the run has ended
 pub record IsTied (s : Setting) (p : Plain) (m : Parts) : Type 0 where
   pub all_harts : length m.harts.items ≡ s.limits.harts
   pub harts : (h : ℕ) → h < s.limits.harts → slice_get m.harts.items h ≡ Some (hart_at s p h (credit_of m.harts.items h))
   pub pages : HoldsPages p.kernel.pages s.program.break_at p.byte m.pages
   pub readable : IsReadable m.pages
-  pub threads : m.kernel.threads.threads ≡ p.kernel.threads
-  pub signals : m.kernel.signals ≡ p.kernel.signals
-  pub scheduling : m.kernel.ready ≡ p.kernel.scheduling
-  pub areas : areas_by_number m.kernel.areas.items ≡ p.kernel.areas
-  pub registered : m.kernel.registered ≡ p.kernel.barriers
-  pub console : m.kernel.console ≡ p.kernel.console
+  pub tables : HoldsTables m.kernel p.kernel
   pub table : IsTable m.kernel.threads
   pub saved : AreSaved p.file m.kernel.threads
   pub ended : m.ended ≡ plain_over p

@@ -196,11 +196,7 @@ impl Parts {
         requires ready { is_ready tid.0 self.old.kernel.ready ≡ true }
         ensures harts { IsChanged hart.0 (begun_with tid saved id) self.old.harts.items self.new.harts.items }
         ensures ready { self.new.kernel.ready ≡ without_ready tid.0 self.old.kernel.ready }
-        ensures threads { self.new.kernel.threads ≡ self.old.kernel.threads }
-        ensures signals { self.new.kernel.signals ≡ self.old.kernel.signals }
-        ensures areas { self.new.kernel.areas ≡ self.old.kernel.areas }
-        ensures registered { self.new.kernel.registered ≡ self.old.kernel.registered }
-        ensures console { self.new.kernel.console ≡ self.old.kernel.console }
+        ensures others { self.new.kernel ≡ record self.old.kernel { ready = self.new.kernel.ready } }
         ensures pages { self.new.pages ≡ self.old.pages }
         ensures ended { self.new.ended ≡ self.old.ended }
     {
@@ -215,14 +211,10 @@ impl Parts {
         requires counted { HasEvent self.old.harts.items hart.0 }
         requires runs { runs self.old.kernel.threads.threads tid.0 }
         ensures harts { IsChanged hart.0 begun_without self.old.harts.items self.new.harts.items }
-        ensures ready { self.new.kernel.ready ≡ self.old.kernel.ready }
         ensures threads { self.new.kernel.threads.threads ≡ with_state tid.0 ThreadState.Ready self.old.kernel.threads.threads }
         ensures saved { self.new.kernel.threads.saved ≡ with_saved tid.0 (Some saved) self.old.kernel.threads.saved }
         ensures table { IsTable self.new.kernel.threads }
-        ensures signals { self.new.kernel.signals ≡ self.old.kernel.signals }
-        ensures areas { self.new.kernel.areas ≡ self.old.kernel.areas }
-        ensures registered { self.new.kernel.registered ≡ self.old.kernel.registered }
-        ensures console { self.new.kernel.console ≡ self.old.kernel.console }
+        ensures others { self.new.kernel ≡ record self.old.kernel { threads = self.new.kernel.threads } }
         ensures pages { self.new.pages ≡ self.old.pages }
         ensures ended { self.new.ended ≡ Some (End.Killed SIGSEGV) }
     {

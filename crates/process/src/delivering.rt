@@ -100,11 +100,7 @@ impl Parts {
         requires handler { IsTrue (is_handler (action_of signal self.old.kernel.signals)) }
         ensures killer { result ≡ killer_of (can_write_in self.old.pages) signal saved.old self.old.kernel.signals }
         ensures entered { IsEntered tid.0 hart.0 signal result saved.old saved.new self.old self.new }
-        ensures threads { self.new.kernel.threads ≡ self.old.kernel.threads }
-        ensures ready { self.new.kernel.ready ≡ self.old.kernel.ready }
-        ensures areas { self.new.kernel.areas ≡ self.old.kernel.areas }
-        ensures registered { self.new.kernel.registered ≡ self.old.kernel.registered }
-        ensures console { self.new.kernel.console ≡ self.old.kernel.console }
+        ensures others { self.new.kernel ≡ record self.old.kernel { signals = self.new.kernel.signals } }
         ensures ended { self.new.ended ≡ self.old.ended }
     {
         has_all_registers(saved);
@@ -133,11 +129,7 @@ impl Parts {
         requires highest { signal ≤ LAST_SIGNAL }
         ensures killer { result ≡ killer_of (can_write_in self.old.pages) signal saved.old self.old.kernel.signals }
         ensures entered { IsEntered tid.0 hart.0 signal result saved.old saved.new self.old self.new }
-        ensures threads { self.new.kernel.threads ≡ self.old.kernel.threads }
-        ensures ready { self.new.kernel.ready ≡ self.old.kernel.ready }
-        ensures areas { self.new.kernel.areas ≡ self.old.kernel.areas }
-        ensures registered { self.new.kernel.registered ≡ self.old.kernel.registered }
-        ensures console { self.new.kernel.console ≡ self.old.kernel.console }
+        ensures others { self.new.kernel ≡ record self.old.kernel { signals = self.new.kernel.signals } }
         ensures ended { self.new.ended ≡ self.old.ended }
     {
         if !is_handler(self.kernel.signals.action(signal)) {
@@ -154,11 +146,7 @@ impl Parts {
         requires highest { signal ≤ LAST_SIGNAL }
         ensures delivered { (h : Here) → IsInterrupted h tid.0 hart.0 self.old saved.old
             → IsDelivered h tid.0 signal result saved.new self.old self.new }
-        ensures threads { self.new.kernel.threads ≡ self.old.kernel.threads }
-        ensures ready { self.new.kernel.ready ≡ self.old.kernel.ready }
-        ensures areas { self.new.kernel.areas ≡ self.old.kernel.areas }
-        ensures registered { self.new.kernel.registered ≡ self.old.kernel.registered }
-        ensures console { self.new.kernel.console ≡ self.old.kernel.console }
+        ensures others { self.new.kernel ≡ record self.old.kernel { signals = self.new.kernel.signals } }
         ensures ended { self.new.ended ≡ self.old.ended }
     {
         self.kernel.signals.take_pending(tid, signal);

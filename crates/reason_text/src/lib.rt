@@ -10,4 +10,4 @@ mod usage;
 
 pub use keeping::KeepingShelf;
 pub use messages::{AtHand, OUT_OF_MEMORY, brief, explain};
-pub use usage::USAGE;
+pub use usage::usage_text;

@@ -5,7 +5,7 @@ mod programs;
 mod shown;
 mod words;
 
-use command_words::{Command, command_of};
+use command_words::{Source, WordsError, read_words};
 use lines::push_line_fault;
 use outcomes::{FileRole, Reason};
 use programs::push_elf_fault;
@@ -39,6 +39,7 @@ pub fn brief(reason: &Reason) -> &'static str {
         Reason::TooBig(_) => "rseq_run: a file has too many bytes\n",
         Reason::Elf { .. } => "rseq_run: the program is refused\n",
         Reason::Script { .. } => "rseq_run: a line of the script is refused\n",
+        Reason::Guest(_) => "rseq_run: the guest doesn't take this number\n",
         Reason::Unwritten { .. } => "rseq_run: standard output can't be written\n",
     }
 }
@@ -65,6 +66,7 @@ pub fn explain(alloc: Global, reason: &Reason, at_hand: AtHand) -> Result<String
             let name = file_name(alloc, at_hand.words, FileRole::Script)?;
             push_line_fault(&mut text, name, at_hand.script, *line, *fault)?;
         }
+        Reason::Guest(number) => writeln!(text, "{number}: the guest doesn't take this number")?,
         Reason::Unwritten { trouble } => push_unwritten(&mut text, *trouble)?,
     }
     Ok(text)
@@ -72,28 +74,16 @@ pub fn explain(alloc: Global, reason: &Reason, at_hand: AtHand) -> Result<String
 
 /// The name of the file that has this role, by the words.
 fn file_name(alloc: Global, words: &[String], role: FileRole) -> Result<&str, AllocError> {
-    let name = match (role, command_of(alloc, words)?) {
-        (
-            FileRole::Program,
-            Some(
-                Command::Solo { program, .. }
-                | Command::Play { program, .. }
-                | Command::Blocks { program, .. }
-                | Command::Inspect { program, .. }
-                | Command::Run { program, .. },
-            ),
-        ) => program,
-        (
-            FileRole::Script,
-            Some(
-                Command::Play { script, .. }
-                | Command::Blocks { script, .. }
-                | Command::Inspect { script, .. },
-            ),
-        ) => script,
-        _ => "the file",
+    let command = match read_words(alloc, words) {
+        Ok(command) => command,
+        Err(WordsError::Wrong(_)) => return Ok("the file"),
+        Err(WordsError::NoMemory) => return Err(AllocError),
     };
-    Ok(name)
+    match (role, command.source) {
+        (FileRole::Program, _) => Ok(command.program),
+        (FileRole::Script, Source::Script(name)) => Ok(name),
+        (FileRole::Script, _) => Ok("the file"),
+    }
 }
 
 /// Appends that a file couldn't be read.

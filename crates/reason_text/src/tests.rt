@@ -1,7 +1,6 @@
 //! Tests: the text of each reason, for a person.
 
 use crate::messages::{AtHand, brief, explain};
-use crate::usage::USAGE;
 use block_model::Refused;
 use command_words::WordsFault;
 use elf_load::ElfFault;
@@ -11,6 +10,30 @@ use std::alloc::{AllocError, Global};
 use std::io::ErrorKind;
 use std::process::Abort;
 use std::test::Fail;
+
+/// The commands and their options.
+const USAGE: &str = "\
+usage: rseq_run solo FILE [--frames N] [--steps N]
+       rseq_run play FILE SCRIPT [--harts N] [--frames N] [--steps N]
+       rseq_run blocks FILE SCRIPT [--harts N] [--frames N] [--steps N]
+       rseq_run inspect FILE SCRIPT [--harts N] [--frames N] [--steps N]
+       rseq_run run FILE [--harts N] [--frames N] [--steps N] [--seed N]
+  --harts N   how many harts there are: 1 to 8; 2 where it isn't given
+  --frames N  how many frames of memory there are: 128 to 16384; 4096
+  --steps N   how many lines the log may have: 1 to 1000000; 200000
+  --seed N    where the generators of the harts begin: 0 to 18446744073709551615; 1
+";
+
+/// What stands behind that where help or the version is asked for.
+const HELP: &str = "\
+solo: runs FILE on one hart by the fixed rule; prints its console, its log and its end
+play: runs FILE on the events of SCRIPT; prints its console, its log and its end
+blocks: runs FILE on the events of SCRIPT; prints how many acts of each form each hart made
+inspect: runs FILE on the events of SCRIPT; prints the place that they come to
+run: runs FILE by workers, one for each hart; prints its console, its log and its end
+for example: rseq_run solo FILE > OUTPUT
+rseq_run 0.1
+";
 
 /// A reason that is told of a call, and its text: how the first line begins, what it says, and the lines behind it; and
 /// what is said of it where there is no memory.
@@ -444,5 +467,22 @@ fn each_reason_has_its_text(rt: HostRuntime) -> Result<(), Fail> {
     expect(alloc, &rt, &refused_segments())?;
     expect(alloc, &rt, &refused_lines())?;
     expect(alloc, &rt, &refused_events())?;
+    Ok(())
+}
+
+#[test]
+fn help_is_the_usage_and_what_each_command_does(rt: HostRuntime) -> Result<(), Fail> {
+    let alloc = rt.alloc();
+    for word in ["--help", "-h", "help", "--version"] {
+        let words = words_of(alloc, word)?;
+        let at_hand = AtHand {
+            words: &words,
+            script: &[],
+        };
+        let reason = Reason::Words(WordsFault::UnknownCommand);
+        let text = explain(alloc, &reason, at_hand)?;
+        let due = format!(in alloc; "rseq_run: {word}: there is no such command\n{USAGE}{HELP}")?;
+        assert_eq!(rt; text.as_str(), due.as_str());
+    }
     Ok(())
 }

@@ -1,14 +1,55 @@
-//! The usage of all commands.
+//! The usage of all commands, and help. Both go over the table of commands, and name none.
 
-/// The commands and their options.
-pub const USAGE: &str = "\
-usage: rseq_run solo FILE [--frames N] [--steps N]
-       rseq_run play FILE SCRIPT [--harts N] [--frames N] [--steps N]
-       rseq_run blocks FILE SCRIPT [--harts N] [--frames N] [--steps N]
-       rseq_run inspect FILE SCRIPT [--harts N] [--frames N] [--steps N]
-       rseq_run run FILE [--harts N] [--frames N] [--steps N] [--seed N]
-  --harts N   how many harts there are: 1 to 8; 2 where it isn't given
+use command_words::{COMMANDS, SourceKind, command_kind};
+use std::alloc::{AllocError, Global};
+use std::fmt::Write;
+
+/// What the options are.
+const OPTIONS: &str = "  --harts N   how many harts there are: 1 to 8; 2 where it isn't given
   --frames N  how many frames of memory there are: 128 to 16384; 4096
   --steps N   how many lines the log may have: 1 to 1000000; 200000
   --seed N    where the generators of the harts begin: 0 to 18446744073709551615; 1
 ";
+
+/// An example, and the version.
+const EXAMPLE: &str = "\
+for example: rseq_run solo FILE > OUTPUT
+rseq_run 0.1
+";
+
+/// What stands behind the word of a command whose log comes about in this way.
+fn words_behind(source: SourceKind) -> &'static str {
+    match source {
+        SourceKind::ByRule => "FILE [--frames N] [--steps N]",
+        SourceKind::ByScript => "FILE SCRIPT [--harts N] [--frames N] [--steps N]",
+        SourceKind::ByWorkers => "FILE [--harts N] [--frames N] [--steps N] [--seed N]",
+    }
+}
+
+/// Appends the commands with their names and options, and what the options are.
+pub(crate) fn push_usage(text: &mut String) -> Result<(), AllocError> {
+    let mut begin = "usage:";
+    for (word, _) in COMMANDS {
+        if let Some(kind) = command_kind(word) {
+            let behind = words_behind(kind.source);
+            writeln!(text, "{begin} rseq_run {word} {behind}")?;
+            begin = "      ";
+        }
+    }
+    text.push_str(OPTIONS)
+}
+
+/// Appends what each command does, an example, and the version.
+pub(crate) fn push_help(text: &mut String) -> Result<(), AllocError> {
+    for (word, about) in COMMANDS {
+        writeln!(text, "{word}: {about}")?;
+    }
+    text.push_str(EXAMPLE)
+}
+
+/// The usage of all commands.
+pub fn usage_text(alloc: Global) -> Result<String, AllocError> {
+    let mut text = String::new(alloc);
+    push_usage(&mut text)?;
+    Ok(text)
+}

@@ -2,9 +2,9 @@
 //! it ended; or how many acts of each form each hart made; or the place that a script comes to.
 #![tactic(auto)]
 
-use outcomes::Fault;
+use outcomes::{Fault, Reason};
 use outside::{FileShelf, OpenGate, OutSink};
-use reason_text::{AtHand, KeepingShelf, OUT_OF_MEMORY, USAGE, brief, explain};
+use reason_text::{AtHand, KeepingShelf, OUT_OF_MEMORY, brief, explain, usage_text};
 use std::alloc::Global;
 use std::env;
 use std::io::{self, ErrorKind};
@@ -19,14 +19,14 @@ fn main(rt: HostRuntime) -> ExitCode {
     match system_words(&rt) {
         Ok(words) => ExitCode::from(answer(rt.alloc(), &rt, &words)),
         Err(fault) => {
-            say_fault(&rt, fault);
+            say_fault(rt.alloc(), &rt, fault);
             ExitCode::from(fault.status())
         }
     }
 }
 
 /// Does what the words ask for, with the files of the system and standard output, and gives the exit status. Where
-/// there is no output, standard error says why.
+/// there is no output, standard error says why; where that couldn't be written, it says so behind it.
 fn answer<R: Threads + Wait + Sync + Files + Print + Eprint + Copy>(
     alloc: Global,
     rt: &R,
@@ -35,17 +35,23 @@ fn answer<R: Threads + Wait + Sync + Files + Print + Eprint + Copy>(
     let mut shelf = KeepingShelf::new(alloc, FileShelf::new(*rt));
     let mut sink = OutSink::new(io::writer(rt));
     let explained = rseq_explained(alloc, rt, words, &mut shelf, &mut sink, &OpenGate);
-    if let Some(reason) = &explained.reason {
-        let at_hand = AtHand {
-            words,
-            script: shelf.kept(),
-        };
+    let at_hand = AtHand {
+        words,
+        script: shelf.kept(),
+    };
+    say_reason(alloc, rt, &explained.untold, at_hand);
+    say_reason(alloc, rt, &explained.reason, at_hand);
+    explained.status
+}
+
+/// Says a reason, if there is one.
+fn say_reason<R: Eprint>(alloc: Global, rt: &R, reason: &Option<Reason>, at_hand: AtHand) {
+    if let Some(reason) = reason {
         match explain(alloc, reason, at_hand) {
             Ok(text) => say(rt, text.as_str()),
             Err(_) => say(rt, brief(reason)),
         }
     }
-    explained.status
 }
 
 /// Prints a text to standard error. Where that can't be written, nobody is told.
@@ -64,12 +70,14 @@ fn system_words(rt: &HostRuntime) -> Result<Vec<String>, Fault> {
 }
 
 /// Says why the words can't be taken.
-fn say_fault<R: Eprint>(rt: &R, fault: Fault) {
+fn say_fault<R: Eprint>(alloc: Global, rt: &R, fault: Fault) {
     match fault {
         Fault::Memory => say(rt, OUT_OF_MEMORY),
         _ => {
             say(rt, "rseq_run: a word of the command line isn't UTF-8\n");
-            say(rt, USAGE);
+            if let Ok(usage) = usage_text(alloc) {
+                say(rt, usage.as_str());
+            }
         }
     }
 }

@@ -23,9 +23,11 @@ use Rattle.block_model.specs.Calls.Answers.{argument, int_argument, returned}
 use Rattle.block_model.specs.Calls.Barriers.{answers, membarrier, running_harts}
 use Rattle.sys_calls.specs.declared.calling.CallEnd.{CallEnd}
 use Rattle.sys_calls.specs.declared.kernel.Kernel.{Kernel}
-use Rattle.sys_calls.specs.Answered.{IsCaller, IsEntered, IsTold}
+use Rattle.sys_calls.specs.Answered.{IsCaller, IsEntered}
+use Rattle.sys_calls.specs.Tables.{HoldsTables}
 use Rattle.sys_calls.specs.Made.{AreSaved, HasPages, IsAnswer, IsMade, StandsSo, barrier_of, gives_up, process_end}
 use Rattle.sys_calls.proofs.Entering.{entered_none, pages_kept}
+use Rattle.sys_calls.proofs.Laws.{holds_barriers}
 use Rattle.sys_calls.proofs.Saying.{kept_own}
 use Rattle.sys_calls.proofs.Tables.{caller_runs}
 
@@ -80,22 +82,13 @@ own_alone : (h : Here) (t : ℕ) (table : Table) (a : Answer) → saved_of t tab
 own_alone h t table (Value n) quiet all = kept_own t (returned (word n) (h.file t)) h.file [] table quiet all
 own_alone h t table (Begin targets restart) quiet all = kept_own t (record (h.file t) { pc = sum_64 (h.file t).pc 4 }) h.file [] table quiet all
 
--- the tables with other registrations
-abbrev pub with_registered : Kernel → Registered → Kernel
-with_registered k r = record { threads = k.threads; signals = k.signals; ready = k.ready; areas = k.areas; registered = r; console = k.console }
-
 -- the call, once it is answered so
-made_answers : (h : Here) (t here : ℕ) (k : Kernel) (r : Registered) (m : Map) (saved' : Saved) (end : CallEnd) (a : Answer) → h.hart ≡ here → IsTold h k → HasPages h m → IsCaller k here t
+made_answers : (h : Here) (t here : ℕ) (k : Kernel) (r : Registered) (m : Map) (saved' : Saved) (end : CallEnd) (a : Answer) → h.hart ≡ here → HoldsTables k h.kernel → HasPages h m → IsCaller k here t
     → (answers h t a).kernel ≡ for_barriers r h.kernel → saved' ≡ file_among (answers h t a).files t (h.file t) → barrier_of end ≡ (answers h t a).barrier → IsAnswer end saved'
-    → gives_up end ≡ false → ((u : ℕ) (ts : Threads) → runs ts u → StandsSo end u ts) → process_end end ≡ None → IsMade h t k m (with_registered k r) m saved' end (answers h t a)
+    → gives_up end ≡ false → ((u : ℕ) (ts : Threads) → runs ts u → StandsSo end u ts) → process_end end ≡ None → IsMade h t k m (record k { registered = r }) m saved' end (answers h t a)
 made_answers h t here k r m saved' end a hart told has caller after own begun answered stays runs_on ends = record {
-  threads = told.threads ∙ ap (λ (x : record_of.Kernel). x.threads) (sym after);
-  signals = told.signals ∙ ap (λ (x : record_of.Kernel). x.signals) (sym after);
-  scheduling = told.scheduling ∙ ap (λ (x : record_of.Kernel). x.scheduling) (sym after);
-  areas = told.areas ∙ ap (λ (x : record_of.Kernel). x.areas) (sym after);
-  barriers = ap (λ (x : record_of.Kernel). x.barriers) (sym after);
+  tables = subst (HoldsTables (record k { registered = r })) (sym after) (holds_barriers told r);
   ids = ap (λ (x : record_of.Kernel). x.ids) after ∙ ap (λ (b : Bool). cond b (without_id t h.kernel.ids) h.kernel.ids) (sym stays);
-  console = told.console ∙ ap (λ (x : record_of.Kernel). x.console) (sym after);
   kept = λ all. own_alone h t k.threads a caller.quiet all;
   own = own;
   pages = pages_kept h m m (answers h t a) (subst (IsEntered m m) (sym (answers_silent h t a)) (entered_none m)) (ap (λ (x : record_of.Kernel). x.pages) after) has;
@@ -108,10 +101,10 @@ made_answers h t here k r m saved' end a hart told has caller after own begun an
   answer = answered;
 }
 
-pub made_membarrier : (h : Here) (t here : ℕ) (k : Kernel) (r : Registered) (m : Map) (saved' : Saved) (end : CallEnd) (a : Answer) → h.hart ≡ here → IsTold h k → HasPages h m → IsCaller k here t
+pub made_membarrier : (h : Here) (t here : ℕ) (k : Kernel) (r : Registered) (m : Map) (saved' : Saved) (end : CallEnd) (a : Answer) → h.hart ≡ here → HoldsTables k h.kernel → HasPages h m → IsCaller k here t
     → a ≡ answer_asked h t → r ≡ registered_after h.kernel.barriers (signed_32 (argument h t 0)) (int_argument h t 1)
     → saved' ≡ file_among (answers h t a).files t (h.file t) → barrier_of end ≡ (answers h t a).barrier → IsAnswer end saved'
-    → gives_up end ≡ false → ((u : ℕ) (ts : Threads) → runs ts u → StandsSo end u ts) → process_end end ≡ None → IsMade h t k m (with_registered k r) m saved' end (membarrier h t)
+    → gives_up end ≡ false → ((u : ℕ) (ts : Threads) → runs ts u → StandsSo end u ts) → process_end end ≡ None → IsMade h t k m (record k { registered = r }) m saved' end (membarrier h t)
 made_membarrier h t here k r m saved' end a hart told has caller is after own begun answered stays runs_on ends =
-    subst (λ (x : Answer). IsMade h t k m (with_registered k r) m saved' end (answers h t x)) is
+    subst (λ (x : Answer). IsMade h t k m (record k { registered = r }) m saved' end (answers h t x)) is
     (made_answers h t here k r m saved' end a hart told has caller (registered_then h t r a is after) own begun answered stays runs_on ends)

@@ -45,34 +45,7 @@ lives_other t ts holds live same =
     let no : true ≡ false = sym live ∙ none in
     cc
 
--- the threads of the record, where an address is set
-pub asked_threads : (h : Here) (t u : ℕ) (b : Bool) → u ≡ next_number h.kernel
-    → (cond b (cleared (next_number h.kernel) (argument h t 4) (had_child t h.kernel)) (had_child t h.kernel)).threads ≡ cond b (with_clear u (argument h t 4) (with_child h.kernel.threads)) (with_child h.kernel.threads)
-asked_threads h t u true is = ap (λ n. with_clear n (argument h t 4) (with_child h.kernel.threads)) (sym is)
-asked_threads h t u false is = refl
-
-pub asked_scheduling : (h : Here) (t : ℕ) (b : Bool)
-    → (cond b (cleared (next_number h.kernel) (argument h t 4) (had_child t h.kernel)) (had_child t h.kernel)).scheduling ≡ (had_child t h.kernel).scheduling
-asked_scheduling h t true = refl
-asked_scheduling h t false = refl
-
-pub asked_signals : (h : Here) (t : ℕ) (b : Bool)
-    → (cond b (cleared (next_number h.kernel) (argument h t 4) (had_child t h.kernel)) (had_child t h.kernel)).signals ≡ (had_child t h.kernel).signals
-asked_signals h t true = refl
-asked_signals h t false = refl
-
-pub asked_console : (h : Here) (t : ℕ) (b : Bool) → (cond b (cleared (next_number h.kernel) (argument h t 4) (had_child t h.kernel)) (had_child t h.kernel)).console ≡ h.kernel.console
-asked_console h t true = refl
-asked_console h t false = refl
-
-pub asked_areas : (h : Here) (t : ℕ) (b : Bool) → (cond b (cleared (next_number h.kernel) (argument h t 4) (had_child t h.kernel)) (had_child t h.kernel)).areas ≡ h.kernel.areas
-asked_areas h t true = refl
-asked_areas h t false = refl
-
-pub asked_barriers : (h : Here) (t : ℕ) (b : Bool) → (cond b (cleared (next_number h.kernel) (argument h t 4) (had_child t h.kernel)) (had_child t h.kernel)).barriers ≡ h.kernel.barriers
-asked_barriers h t true = refl
-asked_barriers h t false = refl
-
+-- the address that is set touches neither ids nor pages
 pub asked_ids : (h : Here) (t : ℕ) (b : Bool) → (cond b (cleared (next_number h.kernel) (argument h t 4) (had_child t h.kernel)) (had_child t h.kernel)).ids ≡ h.kernel.ids
 asked_ids h t true = refl
 asked_ids h t false = refl

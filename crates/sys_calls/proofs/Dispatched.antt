@@ -1,9 +1,6 @@
--- The calls by their numbers: what the tables hold for each, and which of them write nothing.
+-- The calls by their numbers, and which of them write nothing.
 use Rattle.std.proofs.Common.{◌≡◌, ℕ, ◌%◌, min, Bool, true, false, not, ◌||◌, cond, eqb, leb, List, [], Option, Some, None, is_some, refl, sym, ap, ◌∙◌}
-use Rattle.mach_types.specs.declared.events.Hart.{Hart}
-use Rattle.mach_types.specs.declared.events.Tid.{Tid}
 use Rattle.mach_types.specs.declared.threads.Saved.{Saved}
-use Rattle.page_map.specs.Map.{Map}
 use Rattle.block_model.specs.Here.{Here, memory}
 use Rattle.block_model.specs.Calls.{call_of, called}
 use Rattle.block_model.specs.Calls.Affinity.{moved_off, names_nobody, sched_setaffinity, set_at}
@@ -17,12 +14,6 @@ use Rattle.mach_types.specs.Kernel.Scheduling.{harts_in}
 use Rattle.mach_types.specs.declared.address_space.TheConstants.{USER_END}
 use Rattle.mach_types.specs.declared.errors.TheConstants.{EAGAIN, EFAULT, EINTR, EINVAL, ENOSYS, EPERM, ESRCH}
 use Rattle.mach_types.specs.Registers.{register}
-use Rattle.sys_calls.specs.declared.kernel.Kernel.{Kernel}
-use Rattle.sys_calls.specs.Answered.{IsTold}
-use Rattle.sys_calls.specs.Made.{IsAt}
-
-pub told_at : (h : Here) (k : Kernel) (m : Map) (here : Hart) (busy harts : ℕ) (tid : Tid) (saved : Saved) (cid : ℕ) → IsAt h k m here busy harts tid saved cid → IsTold h k
-told_at h k m here busy harts tid saved cid at = record { threads = at.threads; signals = at.signals; scheduling = at.scheduling; areas = at.areas; barriers = at.barriers; console = at.console }
 
 -- the call that the number names
 pub numbered : (h : Here) (t n i : ℕ) (saved : Saved) → saved ≡ h.file t → n ≡ register saved.file 17 → n ≡ i → called h t ≡ call_of i h t

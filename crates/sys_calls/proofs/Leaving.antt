@@ -22,9 +22,9 @@ use Rattle.sys_calls.specs.declared.calling.CallEnd.{CallEnd}
 use Rattle.sys_calls.specs.declared.calling.CallEnd.TheVariants as over
 use Rattle.sys_calls.specs.declared.kernel.Kernel.{Kernel}
 use Rattle.sys_calls.specs.Made.{AreSaved, HasPages, IsAnswer, IsMade, StandsSo, barrier_of, gives_up, process_end}
-use Rattle.sys_calls.specs.Registered.{areas_by_number}
+use Rattle.sys_calls.specs.Tables.{HoldsTables}
 use Rattle.sys_calls.proofs.Entering.{entered_none, pages_kept}
-use Rattle.sys_calls.proofs.Registering.{same_areas}
+use Rattle.sys_calls.proofs.Laws.{holds_left}
 use Rattle.sys_calls.proofs.Saying.{own_first}
 use Rattle.sys_calls.proofs.Tables.{runs_there}
 
@@ -43,19 +43,13 @@ kept_left t x file before after is all u y at =
 
 -- a call whose thread gave up its hart with the answer 0, and which changed the record so, but not its pages
 pub made_gone : (h : Here) (t here : ℕ) (k k' : Kernel) (m : Map) (saved' : Saved) (end : CallEnd) (after : record_of.Kernel) → h.hart ≡ here → HasPages h m → after.pages ≡ h.kernel.pages
-    → areas_by_number k'.areas.items ≡ after.areas → after.ids ≡ without_id t h.kernel.ids
-    → k'.threads.threads ≡ after.threads → k'.signals ≡ after.signals → k'.ready ≡ after.scheduling → k'.registered ≡ after.barriers → k'.console ≡ after.console → k'.threads.saved ≡ with_saved t (Some saved') k.threads.saved
+    → HoldsTables k' after → after.ids ≡ without_id t h.kernel.ids → k'.threads.saved ≡ with_saved t (Some saved') k.threads.saved
     → saved' ≡ returned 0 (h.file t) → running_on here after.threads ≡ None → gives_up end ≡ true → StandsSo end t after.threads → barrier_of end ≡ None → process_end end ≡ None → IsAnswer end saved'
     → IsMade h t k m k' m saved' end (record (said h t 0) { kernel = after })
-made_gone h t here k k' m saved' end after hart has same_pages areas ids threads signals ready registered console kept file idle gives stands in_none ends answers =
+made_gone h t here k k' m saved' end after hart has same_pages held ids kept file idle gives stands in_none ends answers =
     record {
-      threads = threads;
-      signals = signals;
-      scheduling = ready;
-      areas = areas;
-      barriers = registered;
+      tables = held;
       ids = ids ∙ ap (λ (b : Bool). cond b (without_id t h.kernel.ids) h.kernel.ids) (sym gives);
-      console = console;
       kept = λ all. kept_left t (returned 0 (h.file t)) h.file k.threads k'.threads (kept ∙ ap (λ (x : Saved). with_saved t (Some x) k.threads.saved) file) all;
       own = file ∙ sym (own_first t (returned 0 (h.file t)) (h.file t) []);
       pages = pages_kept h m m (record (said h t 0) { kernel = after }) (entered_none m) same_pages has;
@@ -69,17 +63,15 @@ made_gone h t here k k' m saved' end after hart has same_pages areas ids threads
 
 -- a thread left its hart, and is ready; before, the record was this one
 pub made_left : (h : Here) (t here : ℕ) (k k1 k' : Kernel) (m : Map) (saved saved' : Saved) (end : CallEnd) (before : record_of.Kernel) → h.hart ≡ here → HasPages h m → before.pages ≡ h.kernel.pages
-    → areas_by_number k1.areas.items ≡ before.areas → before.ids ≡ h.kernel.ids → saved ≡ h.file t
-    → k1.threads.threads ≡ before.threads → k1.signals ≡ before.signals → k1.ready ≡ before.scheduling → k1.registered ≡ before.barriers → k1.console ≡ before.console → k1.threads.saved ≡ k.threads.saved → IsCaller k1 here t
+    → HoldsTables k1 before → before.ids ≡ h.kernel.ids → saved ≡ h.file t → k1.threads.saved ≡ k.threads.saved → IsCaller k1 here t
     → saved' ≡ returned 0 saved → k'.threads.threads ≡ with_state t Ready k1.threads.threads → k'.threads.saved ≡ with_saved t (Some saved') k1.threads.saved
-    → k'.ready ≡ with_ready t k1.ready → k'.signals ≡ k1.signals → k'.areas ≡ k1.areas → k'.registered ≡ k1.registered → k'.console ≡ k1.console → end ≡ over.Leave (pos 0) → register saved'.file 10 ≡ 0
+    → k'.ready ≡ with_ready t k1.ready → k' ≡ record k1 { threads = k'.threads; ready = k'.ready } → end ≡ over.Leave (pos 0) → register saved'.file 10 ≡ 0
     → IsMade h t k m k' m saved' end (record (said h t 0) { kernel = left t before })
-made_left h t here k k1 k' m saved saved' end before hart has same_pages areas ids file threads signals ready registered console same caller after threads' saved'is ready' signals' areas' registered' console' is a0 =
-    let ready_now = ap (λ (ts : Threads). state_of t (with_state t Ready ts)) (sym threads) ∙ state_now t Ready (on here) k1.threads.threads (runs_there k1 here t caller) in
+made_left h t here k k1 k' m saved saved' end before hart has same_pages held ids file same caller after threads' saved'is ready' others is a0 =
+    let ready_now = ap (λ (ts : Threads). state_of t (with_state t Ready ts)) (sym held.threads) ∙ state_now t Ready (on here) k1.threads.threads (runs_there k1 here t caller) in
     let idle = left_idle caller.tables.0 here t k1.threads.threads k1.ready caller.tables.1 caller.runs in
     made_gone h t here k k' m saved' end (left t before) hart has same_pages
-    (same_areas k1 k' areas' ∙ areas) (ap (without_id t) ids)
-    (threads' ∙ ap (with_state t Ready) threads) (signals' ∙ signals) (ready' ∙ ap (with_ready t) ready) (registered' ∙ registered) (console' ∙ console)
+    (subst (λ (x : Kernel). HoldsTables x (left t before)) (sym others) (holds_left held t k'.threads k'.ready threads' ready')) (ap (without_id t) ids)
     (saved'is ∙ ap (with_saved t (Some saved')) same) (after ∙ ap (returned 0) file)
-    (ap (λ (ts : Threads). running_on here (with_state t Ready ts)) (sym threads) ∙ idle)
+    (ap (λ (ts : Threads). running_on here (with_state t Ready ts)) (sym held.threads) ∙ idle)
     (ap gives_up is) (subst (λ (e : CallEnd). StandsSo e t (left t before).threads) (sym is) ready_now) (ap barrier_of is) (ap process_end is) (subst (λ (e : CallEnd). IsAnswer e saved') (sym is) (sym a0))

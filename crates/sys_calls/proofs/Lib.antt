@@ -4,7 +4,7 @@ pub mod Barriers
 pub mod Children
 pub mod Dispatched
 pub mod Entering
-pub mod Keeping
+pub mod Laws
 mod Leaving
 mod PagesAnswered
 pub mod Posted
@@ -16,6 +16,7 @@ pub mod Saying
 mod Sequencing
 pub mod Signalling
 pub mod Spans
+pub mod Standing
 pub mod Tables
 pub mod Waking
 pub mod Written

@@ -1,5 +1,5 @@
 -- A call that changes pages answers, and changes nothing else of the tables.
-use Rattle.std.proofs.Common.{ℕ, List, [], Result, sym, ap, ◌∙◌}
+use Rattle.std.proofs.Common.{ℕ, List, [], Result, sym, ap, subst}
 use Rattle.mach_types.specs.declared.errors.Errno.{Errno}
 use Rattle.mach_types.specs.declared.user_memory.Write.{Write}
 use Rattle.block_model.specs.Record as record_of
@@ -8,19 +8,16 @@ use Rattle.page_map.specs.Map.{Map}
 use Rattle.block_model.specs.Here.{Here}
 use Rattle.block_model.specs.Calls.Answers.{CallDone}
 use Rattle.sys_calls.specs.declared.kernel.Kernel.{Kernel}
-use Rattle.sys_calls.specs.Answered.{IsAnswered, IsTold}
+use Rattle.sys_calls.specs.Answered.{IsAnswered}
+use Rattle.sys_calls.specs.Tables.{HoldsTables}
 use Rattle.sys_calls.specs.Remapped.{IsRemapped}
+use Rattle.sys_calls.proofs.Laws.{holds_past_pages}
 
-pub answered_remapped : (h : Here) (t : ℕ) (k : Kernel) (m m' : Map) (written : List Write) (answer : Result ℕ Errno) (c : CallDone) → IsTold h k → IsRemapped h t m m' written answer c
+pub answered_remapped : (h : Here) (t : ℕ) (k : Kernel) (m m' : Map) (written : List Write) (answer : Result ℕ Errno) (c : CallDone) → HoldsTables k h.kernel → IsRemapped h t m m' written answer c
     → IsAnswered h t k m k m' written answer c
 answered_remapped h t k m m' written answer c told done = record {
-  threads = told.threads ∙ ap (λ (r : record_of.Kernel). r.threads) (sym done.kernel);
-  signals = told.signals ∙ ap (λ (r : record_of.Kernel). r.signals) (sym done.kernel);
-  scheduling = told.scheduling ∙ ap (λ (r : record_of.Kernel). r.scheduling) (sym done.kernel);
-  areas = told.areas ∙ ap (λ (r : record_of.Kernel). r.areas) (sym done.kernel);
-  barriers = told.barriers ∙ ap (λ (r : record_of.Kernel). r.barriers) (sym done.kernel);
+  tables = subst (HoldsTables k) (sym done.kernel) (holds_past_pages told c.kernel.pages);
   ids = ap (λ (r : record_of.Kernel). r.ids) done.kernel;
-  console = told.console ∙ ap (λ (r : record_of.Kernel). r.console) (sym done.kernel);
   pages = λ has. done.pages;
   code = done.code;
   told = done.told;

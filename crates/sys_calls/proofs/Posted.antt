@@ -2,7 +2,7 @@
 use Rattle.std.proofs.Common.{◌≡◌, ◌≢◌, ℕ, Bool, true, false, not, ◌||◌, cond, eqb, List, [], ◌∷◌, Some, None, is_some, ◌&&◌, Ok, Result, refl, sym, ap, subst, ◌∙◌}
 use Rattle.std.proofs.lemmas.Bool.{eqb-true, eqb-false}
 use Rattle.std.specs.Option.{option_map_or}
-use Rattle.mach_types.specs.Kernel.Scheduling.{with_ready}
+use Rattle.mach_types.specs.Kernel.Scheduling.{Scheduling, with_ready}
 use Rattle.mach_types.specs.Kernel.Signals.{Signalling, next_for, posted}
 use Rattle.mach_types.specs.Kernel.Threads.{Threads, is_live, is_waiting_state, running_on, state_of, waits, with_woken}
 use Rattle.mach_types.specs.declared.errors.Errno.{Errno}
@@ -19,25 +19,21 @@ use Rattle.block_model.specs.Calls.Answers.{CallDone, int_argument, refused, ret
 use Rattle.block_model.specs.Calls.Signals.{broken_wait, is_below_one, post, send, tgkill, tkill, waits_in_vain, with_posted}
 use Rattle.block_model.proofs.Laws.{woken_same}
 use Rattle.sys_calls.specs.declared.kernel.Kernel.{Kernel}
-use Rattle.sys_calls.specs.Answered.{AreTables, IsAnswered, IsEntered, IsTold, answer_of}
+use Rattle.sys_calls.specs.Answered.{AreTables, IsAnswered, IsEntered, answer_of}
+use Rattle.sys_calls.specs.Tables.{HoldsTables}
 use Rattle.sys_calls.specs.Made.{AreSaved}
 use Rattle.sys_calls.proofs.Entering.{entered_none, pages_entered}
 use Rattle.sys_calls.proofs.Reading.{if_false, if_true}
-use Rattle.sys_calls.proofs.Registering.{same_areas}
+use Rattle.sys_calls.proofs.Laws.{holds_signals, holds_woken}
 use Rattle.sys_calls.proofs.Waking.{answered_some, quiet_woken}
 
 -- an answer, writes and other signals
-pub answered_signalled : (h : Here) (t : ℕ) (k k' : Kernel) (m m' : Map) (ws written : List Write) (answer : Result ℕ Errno) (g : Signalling) → IsTold h k → k'.threads ≡ k.threads → k'.signals ≡ g
-    → k'.ready ≡ k.ready → k'.areas ≡ k.areas → k'.registered ≡ k.registered → k'.console ≡ k.console → IsEntered m m' ws → written ≡ ws
-    → IsAnswered h t k m k' m' written answer (record (said h t (answer_of answer)) { entered = ws; kernel = signalled g h.kernel })
-answered_signalled h t k k' m m' ws written answer g told threads signals ready areas registered console entered writes = record {
-  threads = ap (λ (table : Table). table.threads) threads ∙ told.threads;
-  signals = signals;
-  scheduling = ready ∙ told.scheduling;
-  areas = same_areas k k' areas ∙ told.areas;
-  barriers = registered ∙ told.barriers;
+pub answered_signalled : (h : Here) (t : ℕ) (k : Kernel) (m m' : Map) (ws written : List Write) (answer : Result ℕ Errno)
+    (g g' : Signalling) → HoldsTables k h.kernel → g ≡ g' → IsEntered m m' ws → written ≡ ws
+    → IsAnswered h t k m (record k { signals = g }) m' written answer (record (said h t (answer_of answer)) { entered = ws; kernel = signalled g' h.kernel })
+answered_signalled h t k m m' ws written answer g g' told is entered writes = record {
+  tables = holds_signals told g g' is;
   ids = refl;
-  console = console ∙ told.console;
   pages = pages_entered h m m' ws entered;
   code = entered.code;
   told = writes;
@@ -46,8 +42,8 @@ answered_signalled h t k k' m m' ws written answer g told threads signals ready 
   goes_on = refl;
   others = [];
   files = refl;
-  kept = λ all. subst (AreSaved h.file) (sym threads) all;
-  quiet = λ q. ap (λ (table : Table). saved_of t table.saved) threads ∙ q;
+  kept = λ all. all;
+  quiet = λ q. q;
 }
 
 -- what is kept, once one thread's wait was answered
@@ -74,30 +70,28 @@ abbrev unbroken : Here → ℕ → ℕ → ℕ → CallDone
 unbroken h t u sig = record (said h t 0) { kernel = with_posted h u sig }
 
 -- whether it breaks one, as the tables tell it
-pub vain_as : (h : Here) (u sig : ℕ) (k : Kernel) (g : Signalling) (b : Bool) → IsTold h k → g ≡ posted u sig k.signals
+pub vain_as : (h : Here) (u sig : ℕ) (k : Kernel) (g : Signalling) (b : Bool) → HoldsTables k h.kernel → g ≡ posted u sig k.signals
     → b ≡ (option_map_or is_waiting_state (state_of u k.threads.threads) false && is_some (next_for u g)) → waits_in_vain u (with_posted h u sig) ≡ b
 vain_as h u sig k g b told is e =
     sym (e ∙ ap (λ (ts : Threads). option_map_or is_waiting_state (state_of u ts) false && is_some (next_for u g)) told.threads
     ∙ ap (λ (s : Signalling). option_map_or is_waiting_state (state_of u h.kernel.threads) false && is_some (next_for u s)) (is ∙ ap (posted u sig) told.signals))
 
-pub answered_posted : (h : Here) (t u sig : ℕ) (k k' : Kernel) (m : Map) → IsTold h k → k'.threads ≡ k.threads → k'.signals ≡ posted u sig k.signals → k'.ready ≡ k.ready → k'.areas ≡ k.areas
-    → k'.registered ≡ k.registered → k'.console ≡ k.console → waits_in_vain u (with_posted h u sig) ≡ false → IsAnswered h t k m k' m [] (Ok 0) (post h t u sig)
-answered_posted h t u sig k k' m told threads signals ready areas registered console not_vain =
-    let done = answered_signalled h t k k' m m [] [] (Ok 0) (posted u sig h.kernel.signals) told threads (signals ∙ ap (posted u sig) told.signals) ready areas registered console (entered_none m) refl in
-    subst (λ (d : CallDone). IsAnswered h t k m k' m [] (Ok 0) d) (sym (if_false (waits_in_vain u (with_posted h u sig)) (broken h t u sig) (unbroken h t u sig) not_vain)) done
+pub answered_posted : (h : Here) (t u sig : ℕ) (k : Kernel) (g : Signalling) (m : Map) → HoldsTables k h.kernel → g ≡ posted u sig k.signals
+    → waits_in_vain u (with_posted h u sig) ≡ false → IsAnswered h t k m (record k { signals = g }) m [] (Ok 0) (post h t u sig)
+answered_posted h t u sig k g m told signals not_vain =
+    let done = answered_signalled h t k m m [] [] (Ok 0) g (posted u sig h.kernel.signals) told (signals ∙ ap (posted u sig) told.signals) (entered_none m) refl in
+    subst (λ (d : CallDone). IsAnswered h t k m (record k { signals = g }) m [] (Ok 0) d) (sym (if_false (waits_in_vain u (with_posted h u sig)) (broken h t u sig) (unbroken h t u sig) not_vain)) done
 
-pub answered_broken : (h : Here) (t u sig : ℕ) (k k' : Kernel) (m : Map) → IsTold h k → AreTables k → waits k.threads.threads u → k'.threads.threads ≡ with_woken u k.threads.threads
-    → k'.threads.saved ≡ with_answer u interrupted k.threads.saved → k'.signals ≡ posted u sig k.signals → k'.ready ≡ with_ready u k.ready → k'.areas ≡ k.areas → k'.registered ≡ k.registered → k'.console ≡ k.console
-    → waits_in_vain u (with_posted h u sig) ≡ true → IsAnswered h t k m k' m [] (Ok 0) (post h t u sig)
-answered_broken h t u sig k k' m told tables waiting threads saved signals ready areas registered console vain =
+pub answered_broken : (h : Here) (t u sig : ℕ) (k : Kernel) (table : Table) (g : Signalling) (sc : Scheduling) (m : Map)
+    → HoldsTables k h.kernel → AreTables k → waits k.threads.threads u → table.threads ≡ with_woken u k.threads.threads
+    → table.saved ≡ with_answer u interrupted k.threads.saved → g ≡ posted u sig k.signals → sc ≡ with_ready u k.ready
+    → waits_in_vain u (with_posted h u sig) ≡ true
+    → IsAnswered h t k m (record k { threads = table; signals = g; ready = sc }) m [] (Ok 0) (post h t u sig)
+answered_broken h t u sig k table g sc m told tables waiting threads saved signals ready vain =
+    let k' : Kernel = record k { threads = table; signals = g; ready = sc } in
     let done : IsAnswered h t k m k' m [] (Ok 0) (broken h t u sig) = record {
-      threads = threads ∙ ap (with_woken u) told.threads;
-      signals = signals ∙ ap (posted u sig) told.signals;
-      scheduling = ready ∙ ap (with_ready u) told.scheduling;
-      areas = same_areas k k' areas ∙ told.areas;
-      barriers = registered ∙ told.barriers;
+      tables = holds_woken (holds_signals told g (posted u sig h.kernel.signals) (signals ∙ ap (posted u sig) told.signals)) u table sc threads ready;
       ids = refl;
-      console = console ∙ told.console;
       pages = λ has. has;
       code = λ a. refl;
       told = refl;
@@ -107,8 +101,8 @@ answered_broken h t u sig k k' m told tables waiting threads saved signals ready
       goes_on = refl;
       others = broken_wait h u ∷ [];
       files = refl;
-      kept = λ all. kept_answered interrupted u h.file k.threads k'.threads saved all;
-      quiet = λ q. quiet_woken interrupted t u k.threads k'.threads saved q;
+      kept = λ all. kept_answered interrupted u h.file k.threads table saved all;
+      quiet = λ q. quiet_woken interrupted t u k.threads table saved q;
     } in
     subst (λ (d : CallDone). IsAnswered h t k m k' m [] (Ok 0) d) (sym (if_true (waits_in_vain u (with_posted h u sig)) (broken h t u sig) (unbroken h t u sig) vain)) done
 

@@ -18,22 +18,18 @@ use Rattle.block_model.specs.Tables.{IsTables}
 use Rattle.block_model.proofs.Laws.{running_is}
 use Rattle.sys_calls.specs.declared.calling.CallEnd.{CallEnd}
 use Rattle.sys_calls.specs.declared.kernel.Kernel.{Kernel}
-use Rattle.sys_calls.specs.Answered.{AreTables, IsAnswered, IsCaller, IsEntered, IsTold, answer_of}
+use Rattle.sys_calls.specs.Answered.{AreTables, IsAnswered, IsCaller, IsEntered, answer_of}
+use Rattle.sys_calls.specs.Tables.{HoldsTables}
 use Rattle.sys_calls.specs.Made.{AreSaved, HasPages, IsAnswer, IsMade, StandsSo, barrier_of, gives_up, process_end}
 use Rattle.sys_calls.proofs.Entering.{entered_none, pages_entered}
-use Rattle.sys_calls.proofs.Registering.{same_areas}
+use Rattle.sys_calls.proofs.Laws.{holds_console, holds_scheduling}
 
 -- an answer, and writes
-pub answered_wrote : (h : Here) (t : ℕ) (k : Kernel) (m m' : Map) (answer : Result ℕ Errno) (ws : List Write) → IsTold h k → IsEntered m m' ws
+pub answered_wrote : (h : Here) (t : ℕ) (k : Kernel) (m m' : Map) (answer : Result ℕ Errno) (ws : List Write) → HoldsTables k h.kernel → IsEntered m m' ws
     → IsAnswered h t k m k m' ws answer (record (said h t (answer_of answer)) { entered = ws })
 answered_wrote h t k m m' answer ws told entered = record {
-  threads = told.threads;
-  signals = told.signals;
-  scheduling = told.scheduling;
-  areas = told.areas;
-  barriers = told.barriers;
+  tables = told;
   ids = refl;
-  console = told.console;
   pages = pages_entered h m m' ws entered;
   code = entered.code;
   told = refl;
@@ -47,23 +43,19 @@ answered_wrote h t k m m' answer ws told entered = record {
 }
 
 -- an answer, and nothing else
-pub answered_said : (h : Here) (t : ℕ) (k : Kernel) (m : Map) (answer : Result ℕ Errno) (c : CallDone) → IsTold h k → c ≡ said h t (answer_of answer)
+pub answered_said : (h : Here) (t : ℕ) (k : Kernel) (m : Map) (answer : Result ℕ Errno) (c : CallDone) → HoldsTables k h.kernel → c ≡ said h t (answer_of answer)
     → IsAnswered h t k m k m [] answer c
 answered_said h t k m answer c told is =
     subst (λ (d : CallDone). IsAnswered h t k m k m [] answer d) (sym is) (answered_wrote h t k m m answer [] told (entered_none m))
 
 -- an answer, and bytes on the console
-pub answered_printed : (h : Here) (t : ℕ) (k k' : Kernel) (m : Map) (answer : Result ℕ Errno) (bytes : List ℕ) (c : CallDone) → IsTold h k → k'.threads ≡ k.threads → k'.signals ≡ k.signals → k'.ready ≡ k.ready → k'.areas ≡ k.areas
-    → k'.registered ≡ k.registered → k'.console ≡ k.console ++ bytes → answer_of answer ≡ length bytes → c ≡ wrote h t bytes → IsAnswered h t k m k' m [] answer c
-answered_printed h t k k' m answer bytes c told threads signals ready areas registered console count is =
-    subst (λ (d : CallDone). IsAnswered h t k m k' m [] answer d) (sym is) (record {
-      threads = ap (λ (table : Table). table.threads) threads ∙ told.threads;
-      signals = signals ∙ told.signals;
-      scheduling = ready ∙ told.scheduling;
-      areas = same_areas k k' areas ∙ told.areas;
-      barriers = registered ∙ told.barriers;
+pub answered_printed : (h : Here) (t : ℕ) (k : Kernel) (console : List ℕ) (m : Map) (answer : Result ℕ Errno) (bytes : List ℕ)
+    (c : CallDone) → HoldsTables k h.kernel → console ≡ k.console ++ bytes → answer_of answer ≡ length bytes → c ≡ wrote h t bytes
+    → IsAnswered h t k m (record k { console = console }) m [] answer c
+answered_printed h t k console m answer bytes c told printed count is =
+    subst (λ (d : CallDone). IsAnswered h t k m (record k { console = console }) m [] answer d) (sym is) (record {
+      tables = holds_console told console (h.kernel.console ++ bytes) (printed ∙ ap (λ (x : List ℕ). x ++ bytes) told.console);
       ids = refl;
-      console = console ∙ ap (λ (c : List ℕ). c ++ bytes) told.console;
       pages = λ has. has;
       code = λ a. refl;
       told = refl;
@@ -72,8 +64,8 @@ answered_printed h t k k' m answer bytes c told threads signals ready areas regi
       goes_on = refl;
       others = [];
       files = ap (λ n. (t, returned n (h.file t)) ∷ []) (sym count);
-      kept = λ all. subst (AreSaved h.file) (sym threads) all;
-      quiet = λ q. ap (λ (table : Table). saved_of t table.saved) threads ∙ q;
+      kept = λ all. all;
+      quiet = λ q. q;
     })
 
 -- nothing is kept of the caller, whose file comes first
@@ -93,29 +85,24 @@ pub own_first : (t : ℕ) (x f : Saved) (others : List (ℕ × Saved)) → file_
 own_first t x f others = rw (eq-eqb t t refl) refl
 
 -- the caller of a call that answers runs on
-pub answered_runs : (h : Here) (t here : ℕ) (k k' : Kernel) (m m' : Map) (written : List Write) (answer : Result ℕ Errno) (c : CallDone) → h.hart ≡ here → IsTold h k → IsCaller k here t
+pub answered_runs : (h : Here) (t here : ℕ) (k k' : Kernel) (m m' : Map) (written : List Write) (answer : Result ℕ Errno) (c : CallDone) → h.hart ≡ here → HoldsTables k h.kernel → IsCaller k here t
     → IsAnswered h t k m k' m' written answer c → AreTables k' → runs c.kernel.threads t
 answered_runs h t here k k' m m' written answer c hart told caller done tables =
-    let holds = subst (λ (ts : Threads). IsTables tables.0 ts k'.ready) done.threads tables.1 in
+    let holds = subst (λ (ts : Threads). IsTables tables.0 ts k'.ready) done.tables.threads tables.1 in
     let there : running_on here c.kernel.threads ≡ Some t =
     ap (λ n. running_on n c.kernel.threads) (sym hart) ∙ done.hart ∙ ap (λ n. running_on n h.kernel.threads) hart ∙ ap (running_on here) (sym told.threads) ∙ caller.runs in
     (record { 0 = here }, running_is tables.0 here t c.kernel.threads k'.ready holds there)
 
 -- what a call comes to that answers
 pub made_answered : (h : Here) (t here : ℕ) (k k' : Kernel) (m m' : Map) (saved saved' : Saved) (written : List Write) (answer : Result ℕ Errno) (end : CallEnd) (c : CallDone)
-    → h.hart ≡ here → IsTold h k → HasPages h m → saved ≡ h.file t → IsCaller k here t → IsAnswered h t k m k' m' written answer c → AreTables k'
+    → h.hart ≡ here → HoldsTables k h.kernel → HasPages h m → saved ≡ h.file t → IsCaller k here t → IsAnswered h t k m k' m' written answer c → AreTables k'
     → saved' ≡ returned (answer_of answer) saved → gives_up end ≡ false → ((u : ℕ) (ts : Threads) → runs ts u → StandsSo end u ts) → barrier_of end ≡ None → process_end end ≡ None → IsAnswer end saved' → IsMade h t k m k' m' saved' end c
 made_answered h t here k k' m m' saved saved' written answer end c hart told has file caller done tables after stays runs_on in_none ends answers =
     let own : List (ℕ × Saved) = (t, returned (answer_of answer) (h.file t)) ∷ done.others in
     let files : c.files ≡ own = done.files in
     record {
-      threads = done.threads;
-      signals = done.signals;
-      scheduling = done.scheduling;
-      areas = done.areas;
-      barriers = done.barriers;
+      tables = done.tables;
       ids = done.ids ∙ ap (λ (b : Bool). cond b (without_id t h.kernel.ids) h.kernel.ids) (sym stays);
-      console = done.console;
       kept = λ all. subst (λ (fs : List (ℕ × Saved)). AreSaved (λ u. file_among fs u (h.file u)) k'.threads) (sym files)
           (kept_own t (returned (answer_of answer) (h.file t)) h.file done.others k'.threads (done.quiet caller.quiet) (done.kept all));
       own = after ∙ ap (returned (answer_of answer)) file ∙ sym (own_first t (returned (answer_of answer) (h.file t)) (h.file t) done.others)
@@ -135,16 +122,12 @@ pub saved_alike : (file : ℕ → Saved) (before after : Table) → after.saved 
 saved_alike file before after same all u x at = all u x (ap (saved_of u) (sym same) ∙ at)
 
 -- an answer, and another scheduling
-pub answered_scheduled : (h : Here) (t : ℕ) (k k' : Kernel) (m : Map) (answer : Result ℕ Errno) (sc : Scheduling) → IsTold h k → k'.threads ≡ k.threads → k'.signals ≡ k.signals → k'.ready ≡ sc → k'.areas ≡ k.areas → k'.registered ≡ k.registered → k'.console ≡ k.console
-    → IsAnswered h t k m k' m [] answer (record (said h t (answer_of answer)) { kernel = record h.kernel { scheduling = sc } })
-answered_scheduled h t k k' m answer sc told threads signals ready areas registered console = record {
-  threads = ap (λ (table : Table). table.threads) threads ∙ told.threads;
-  signals = signals ∙ told.signals;
-  scheduling = ready;
-  areas = same_areas k k' areas ∙ told.areas;
-  barriers = registered ∙ told.barriers;
+pub answered_scheduled : (h : Here) (t : ℕ) (k : Kernel) (m : Map) (answer : Result ℕ Errno) (ready sc : Scheduling)
+    → HoldsTables k h.kernel → ready ≡ sc
+    → IsAnswered h t k m (record k { ready = ready }) m [] answer (record (said h t (answer_of answer)) { kernel = record h.kernel { scheduling = sc } })
+answered_scheduled h t k m answer ready sc told is = record {
+  tables = holds_scheduling told ready sc is;
   ids = refl;
-  console = console ∙ told.console;
   pages = λ has. has;
   code = λ a. refl;
   told = refl;
@@ -153,8 +136,8 @@ answered_scheduled h t k k' m answer sc told threads signals ready areas registe
   goes_on = refl;
   others = [];
   files = refl;
-  kept = λ all. subst (AreSaved h.file) (sym threads) all;
-  quiet = λ q. ap (λ (table : Table). saved_of t table.saved) threads ∙ q;
+  kept = λ all. all;
+  quiet = λ q. q;
 }
 
 -- what is kept of the others, once one is gone

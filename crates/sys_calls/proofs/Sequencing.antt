@@ -16,12 +16,14 @@ use Rattle.block_model.specs.Ids.{id_of}
 use Rattle.block_model.specs.Kernel.{registered, unregistered}
 use Rattle.block_model.specs.Calls.Answers.{CallDone, refused, said, killed_in_call}
 use Rattle.block_model.specs.Calls.Sequences.{registers, unregisters}
-use Rattle.sys_calls.specs.Answered.{IsAnswered, IsCaller, IsEntered, IsRead, IsTold}
+use Rattle.sys_calls.specs.Answered.{IsAnswered, IsCaller, IsEntered, IsRead}
+use Rattle.sys_calls.specs.Tables.{HoldsTables}
 use Rattle.sys_calls.specs.Made.{HasPages, IsMade}
 use Rattle.sys_calls.specs.Registered.{areas_by_number}
 use Rattle.sys_calls.specs.declared.areas.RegisteredArea.{RegisteredArea}
 use Rattle.sys_calls.specs.declared.calling.CallEnd.TheVariants as over
 use Rattle.sys_calls.specs.declared.kernel.Kernel.{Kernel}
+use Rattle.sys_calls.proofs.Laws.{holds_areas}
 use Rattle.sys_calls.proofs.Entering.{pages_entered, pages_kept}
 use Rattle.sys_calls.proofs.Reading.{if_false, if_true}
 use Rattle.sys_calls.proofs.Tables.{caller_runs}
@@ -52,17 +54,12 @@ unregisters_refused h t area cannot = if_false (are_words_writable (is_writable 
 
 -- an answer, writes and other areas
 pub answered_area : (h : Here) (t : ℕ) (k : Kernel) (others : Items RegisteredArea) (m m' : Map) (ws written : List Write) (areas : List (ℕ × Area))
-    → IsTold h k → areas_by_number others.items ≡ areas → IsEntered m m' ws → written ≡ ws
-    → IsAnswered h t k m (record { threads = k.threads; signals = k.signals; ready = k.ready; areas = others; registered = k.registered; console = k.console }) m' written (Ok 0)
+    → HoldsTables k h.kernel → areas_by_number others.items ≡ areas → IsEntered m m' ws → written ≡ ws
+    → IsAnswered h t k m (record k { areas = others }) m' written (Ok 0)
     (record (said h t 0) { entered = ws; kernel = record h.kernel { areas = areas } })
 answered_area h t k others m m' ws written areas told these entered writes = record {
-  threads = told.threads;
-  signals = told.signals;
-  scheduling = told.scheduling;
-  areas = these;
-  barriers = told.barriers;
+  tables = holds_areas told others areas these;
   ids = refl;
-  console = told.console;
   pages = pages_entered h m m' ws entered;
   code = entered.code;
   told = writes;
@@ -76,16 +73,11 @@ answered_area h t k others m m' ws written areas told these entered writes = rec
 }
 
 -- the process is killed in a call
-pub made_killed : (h : Here) (t here : ℕ) (k : Kernel) (m m' : Map) (saved : Saved) (ws : List Write) → h.hart ≡ here → IsTold h k → saved ≡ h.file t → IsCaller k here t → HasPages h m
+pub made_killed : (h : Here) (t here : ℕ) (k : Kernel) (m m' : Map) (saved : Saved) (ws : List Write) → h.hart ≡ here → HoldsTables k h.kernel → saved ≡ h.file t → IsCaller k here t → HasPages h m
     → IsEntered m m' ws → ws ≡ [] → IsMade h t k m k m' saved (over.ProcessEnd (Killed SIGSEGV)) (killed_in_call h)
 made_killed h t here k m m' saved ws hart told file caller has entered none = record {
-  threads = told.threads;
-  signals = told.signals;
-  scheduling = told.scheduling;
-  areas = told.areas;
-  barriers = told.barriers;
+  tables = told;
   ids = refl;
-  console = told.console;
   kept = λ all. all;
   own = file;
   pages = pages_kept h m m' (killed_in_call h) (subst (IsEntered m m') none entered) refl has;

@@ -6,7 +6,6 @@ use Rattle.std.specs.List.{find}
 use Rattle.std.specs.Option.{option_map, option_map_or}
 use Rattle.block_model.specs.Record.{Kernel}
 use Rattle.mach_types.specs.Kernel.Scheduling.{Scheduling, with_ready}
-use Rattle.mach_types.specs.Kernel.Signals.{Signalling}
 use Rattle.mach_types.specs.Kernel.Threads.{Threads, is_live, is_waiting_at, longest_waiter, numbers, running_on, state_of, waits, with_woken}
 use Rattle.mach_types.proofs.Laws.{same_numbers}
 use Rattle.mach_types.specs.declared.threads.Saved.{Saved}
@@ -21,11 +20,9 @@ use Rattle.block_model.specs.Calls.Futexes.{Woken, answered_wait, wake, woken_fi
 use Rattle.block_model.specs.Tables.{IsTables, on}
 use Rattle.block_model.proofs.Laws.{running_is, tables_woken, woken_same}
 use Rattle.sys_calls.specs.declared.kernel.Kernel.{Kernel as Tables}
-use Rattle.mach_types.specs.declared.barriers.Registered.{Registered}
-use Rattle.mach_types.specs.declared.sequences.Area.{Area}
-use Rattle.sys_calls.specs.Answered.{IsTold}
-use Rattle.sys_calls.specs.Registered.{areas_by_number}
-use Rattle.sys_calls.proofs.Registering.{live_changed, same_areas}
+use Rattle.sys_calls.specs.Tables.{HoldsTables}
+use Rattle.sys_calls.proofs.Laws.{held_is, holds_itself, holds_woken, record_with}
+use Rattle.sys_calls.proofs.Registering.{live_changed}
 use Rattle.sys_calls.specs.Made.{AreSaved}
 use Rattle.sys_calls.specs.Woken.{IsOnward, IsWoken}
 
@@ -157,71 +154,49 @@ runs_alone harts h t at (suc n) here f k tables runs =
     (λ u waiting. runs_alone harts h t at n here f (woken u k) (tables_woken harts u k.threads k.scheduling tables waiting) (woken_same harts u k.threads k.scheduling tables waiting h ∙ runs))
     (longest_waiter at k.threads) refl
 
--- the kernel's record, with these tables
-abbrev pub kernel_now : Here → Tables → Kernel
-kernel_now h k = record h.kernel { threads = k.threads.threads; scheduling = k.ready; signals = k.signals; areas = areas_by_number k.areas.items; barriers = k.registered; console = k.console }
-
-pub kernel_told : (h : Here) (k : Tables) → IsTold h k → kernel_now h k ≡ h.kernel
-kernel_told h k told =
-    ap (λ (ts : Threads). record h.kernel { threads = ts; scheduling = k.ready; signals = k.signals; areas = areas_by_number k.areas.items; barriers = k.registered; console = k.console }) told.threads
-    ∙ ap (λ (sc : Scheduling). record h.kernel { scheduling = sc; signals = k.signals; areas = areas_by_number k.areas.items; barriers = k.registered; console = k.console }) told.scheduling
-    ∙ ap (λ (g : Signalling). record h.kernel { signals = g; areas = areas_by_number k.areas.items; barriers = k.registered; console = k.console }) told.signals
-    ∙ ap (λ (xs : List (ℕ × Area)). record h.kernel { areas = xs; barriers = k.registered; console = k.console }) told.areas
-    ∙ ap (λ (r : Registered). record h.kernel { barriers = r; console = k.console }) told.barriers
-    ∙ ap (λ (c : List ℕ). record h.kernel { console = c }) told.console
-
 -- so many of the threads were woken, these ones; what is left to wake is woken behind them
 pub record IsWaking (h : Here) (k : Tables) (k' : Tables) (most : ℕ) (at : ℕ) (count : ℕ) : Type 0 where
   pub us : List ℕ
   pub number : length us ≡ count
-  pub rest : wake most at h.kernel ≡ woken_before us (wake (most - count) at (kernel_now h k'))
+  pub rest : wake most at h.kernel ≡ woken_before us (wake (most - count) at (record_with k' h.kernel))
   pub kept : AreSaved h.file k.threads → AreSaved (λ u. file_among (map (answered_wait h) us) u (h.file u)) k'.threads
 
 -- at first none was
-pub waking_none : (h : Here) (k : Tables) (most at : ℕ) → IsTold h k → IsWaking h k k most at 0
+pub waking_none : (h : Here) (k : Tables) (most at : ℕ) → HoldsTables k h.kernel → IsWaking h k k most at 0
 waking_none h k most at told = record {
   us = [];
   number = refl;
-  rest = ap (wake most at) (sym (kernel_told h k told)) ∙ ap (λ (n : ℕ). wake n at (kernel_now h k)) (let e : most ≡ most - 0 = omega arith in e);
+  rest = ap (wake most at) (sym (held_is k h.kernel told)) ∙ ap (λ (n : ℕ). wake n at (record_with k h.kernel)) (let e : most ≡ most - 0 = omega arith in e);
   kept = λ all. all;
 }
 
 -- then one more was
 pub waking_more : (h : Here) (k k' k'' : Tables) (most at count u : ℕ) → count < most → IsWaking h k k' most at count → longest_waiter at k'.threads.threads ≡ Some u
-    → k''.threads.threads ≡ with_woken u k'.threads.threads → k''.threads.saved ≡ with_answer u 0 k'.threads.saved → k''.ready ≡ with_ready u k'.ready → k''.signals ≡ k'.signals → k''.areas ≡ k'.areas → k''.registered ≡ k'.registered → k''.console ≡ k'.console
+    → k''.threads.threads ≡ with_woken u k'.threads.threads → k''.threads.saved ≡ with_answer u 0 k'.threads.saved → k''.ready ≡ with_ready u k'.ready → k'' ≡ record k' { threads = k''.threads; ready = k''.ready }
     → IsWaking h k k'' most at (count + 1)
-waking_more h k k' k'' most at count u lt waking longest threads saved ready signals areas registered console =
+waking_more h k k' k'' most at count u lt waking longest threads saved ready others =
     let left : most - count ≡ suc (most - (count + 1)) = omega arith in
-    let now : woken u (kernel_now h k') ≡ kernel_now h k'' =
-    ap (λ (ts : Threads). record h.kernel { threads = ts; scheduling = with_ready u k'.ready; signals = k'.signals; areas = areas_by_number k'.areas.items; barriers = k'.registered; console = k'.console }) (sym threads)
-    ∙ ap (λ (sc : Scheduling). record h.kernel { threads = k''.threads.threads; scheduling = sc; signals = k'.signals; areas = areas_by_number k'.areas.items; barriers = k'.registered; console = k'.console }) (sym ready)
-    ∙ ap (λ (g : Signalling). record h.kernel { threads = k''.threads.threads; scheduling = k''.ready; signals = g; areas = areas_by_number k'.areas.items; barriers = k'.registered; console = k'.console }) (sym signals)
-    ∙ ap (λ (xs : List (ℕ × Area)). record h.kernel { threads = k''.threads.threads; scheduling = k''.ready; signals = k''.signals; areas = xs; barriers = k'.registered; console = k'.console }) (sym (same_areas k' k'' areas))
-    ∙ ap (λ (r : Registered). record h.kernel { threads = k''.threads.threads; scheduling = k''.ready; signals = k''.signals; areas = areas_by_number k''.areas.items; barriers = r; console = k'.console }) (sym registered)
-    ∙ ap (λ (c : List ℕ). record h.kernel { threads = k''.threads.threads; scheduling = k''.ready; signals = k''.signals; areas = areas_by_number k''.areas.items; barriers = k''.registered; console = c }) (sym console) in
+    let last = woken u (record_with k' h.kernel) in
+    let held : HoldsTables k'' last = subst (λ (x : Tables). HoldsTables x last) (sym others) (holds_woken (holds_itself k' h.kernel) u k''.threads k''.ready threads ready) in
+    let now : last ≡ record_with k'' h.kernel = sym (held_is k'' last held) in
     record {
       us = waking.us ++ u ∷ [];
       number = length-append waking.us (u ∷ []) ∙ ap (λ (n : ℕ). n + 1) waking.number;
-      rest = waking.rest ∙ ap (λ (n : ℕ). woken_before waking.us (wake n at (kernel_now h k'))) left ∙ before_next waking.us (most - (count + 1)) at u (kernel_now h k') longest
+      rest = waking.rest ∙ ap (λ (n : ℕ). woken_before waking.us (wake n at (record_with k' h.kernel))) left ∙ before_next waking.us (most - (count + 1)) at u (record_with k' h.kernel) longest
           ∙ ap (λ (r : Kernel). woken_before (waking.us ++ u ∷ []) (wake (most - (count + 1)) at r)) now;
       kept = λ all. kept_woken h waking.us u k'.threads k''.threads saved (waking.kept all);
     }
 
 -- at last nobody waits any more, or all were woken
-pub woken_all : (h : Here) (k k' : Tables) (most at count : ℕ) → IsWaking h k k' most at count → wake (most - count) at (kernel_now h k') ≡ record { threads = []; kernel = kernel_now h k' }
+pub woken_all : (h : Here) (k k' : Tables) (most at count : ℕ) → IsWaking h k k' most at count → wake (most - count) at (record_with k' h.kernel) ≡ record { threads = []; kernel = record_with k' h.kernel }
     → IsWoken h k k' most at count
 woken_all h k k' most at count waking over =
-    let is : wake most at h.kernel ≡ record { threads = waking.us; kernel = kernel_now h k' } =
-    waking.rest ∙ ap (woken_before waking.us) over ∙ ap (λ (us : List ℕ). record { threads = us; kernel = kernel_now h k' }) (append-nil waking.us) in
+    let is : wake most at h.kernel ≡ record { threads = waking.us; kernel = record_with k' h.kernel } =
+    waking.rest ∙ ap (woken_before waking.us) over ∙ ap (λ (us : List ℕ). record { threads = us; kernel = record_with k' h.kernel }) (append-nil waking.us) in
     record {
       number = sym waking.number ∙ ap (λ (w : Woken). length w.threads) (sym is);
-      threads = ap (λ (w : Woken). w.kernel.threads) (sym is);
-      signals = ap (λ (w : Woken). w.kernel.signals) (sym is);
-      scheduling = ap (λ (w : Woken). w.kernel.scheduling) (sym is);
-      areas = ap (λ (w : Woken). w.kernel.areas) (sym is);
-      barriers = ap (λ (w : Woken). w.kernel.barriers) (sym is);
+      tables = subst (λ (w : Woken). HoldsTables k' w.kernel) (sym is) (holds_itself k' h.kernel);
       ids = ap (λ (w : Woken). w.kernel.ids) is;
-      console = ap (λ (w : Woken). w.kernel.console) (sym is);
       kept = λ all. subst (λ (us : List ℕ). AreSaved (λ u. file_among (map (answered_wait h) us) u (h.file u)) k'.threads) (ap (λ (w : Woken). w.threads) (sym is)) (waking.kept all);
     }
 
@@ -230,14 +205,14 @@ pub onward_still : (k : Tables) → IsOnward k k
 onward_still k = record { tables = λ harts holds. holds; running = λ j. refl; quiet = λ t q. q; live = λ t. refl; numbers = refl; signals = refl; areas = refl }
 
 pub onward_more : (k k' k'' : Tables) (harts u : ℕ) → IsTables harts k.threads.threads k.ready → IsOnward k k' → waits k'.threads.threads u
-    → k''.threads.threads ≡ with_woken u k'.threads.threads → k''.threads.saved ≡ with_answer u 0 k'.threads.saved → k''.ready ≡ with_ready u k'.ready → k''.signals ≡ k'.signals → k''.areas ≡ k'.areas → IsOnward k k''
-onward_more k k' k'' harts u holds onward waiting threads saved ready signals areas = record {
+    → k''.threads.threads ≡ with_woken u k'.threads.threads → k''.threads.saved ≡ with_answer u 0 k'.threads.saved → k''.ready ≡ with_ready u k'.ready → k'' ≡ record k' { threads = k''.threads; ready = k''.ready } → IsOnward k k''
+onward_more k k' k'' harts u holds onward waiting threads saved ready others = record {
   tables = λ n all. subst (λ (ts : Threads). IsTables n ts k''.ready) (sym threads) (subst (λ (sc : Scheduling). IsTables n (with_woken u k'.threads.threads) sc) (sym ready)
       (tables_woken n u k'.threads.threads k'.ready (onward.tables n all) waiting));
   running = λ j. ap (running_on j) threads ∙ woken_same harts u k'.threads.threads k'.ready (onward.tables harts holds) waiting j ∙ onward.running j;
   quiet = λ t q. quiet_woken 0 t u k'.threads k''.threads saved (onward.quiet t q);
   live = λ t. ap (is_live t) threads ∙ live_changed u t Ready k'.threads.threads ∙ onward.live t;
   numbers = ap (λ (ts : Threads). numbers ts.live) threads ∙ same_numbers u Ready k'.threads.threads.live ∙ onward.numbers;
-  signals = signals ∙ onward.signals;
-  areas = areas ∙ onward.areas;
+  signals = ap (λ (x : Tables). x.signals) others ∙ onward.signals;
+  areas = ap (λ (x : Tables). x.areas) others ∙ onward.areas;
 }

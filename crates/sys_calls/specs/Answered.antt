@@ -14,8 +14,8 @@ use Rattle.block_model.specs.Tables.{IsTables}
 use Rattle.block_model.specs.Calls.Answers.{CallDone, negative, returned}
 use Rattle.sys_calls.specs.declared.kernel.Kernel.{Kernel}
 use Rattle.sys_calls.specs.Made.{AreSaved, HasPages, HoldsPages}
-use Rattle.sys_calls.specs.Registered.{areas_by_number}
 use Rattle.sys_calls.specs.Signalled.{HoldSignals}
+use Rattle.sys_calls.specs.Tables.{HoldsTables}
 
 -- what a0 gets: the number, or the negative of the error number
 abbrev pub answer_of : Result ℕ Errno → ℕ
@@ -27,15 +27,6 @@ pub record IsRead (h : Here) (m : Map) (t : ℕ) (saved : Saved) : Type 0 where
   pub bytes : byte_in m ≡ memory h
   pub writable : can_write_in m ≡ is_writable h
   pub file : saved ≡ h.file t
-
--- and what the tables hold
-pub record IsTold (h : Here) (k : Kernel) : Type 0 where
-  pub threads : k.threads.threads ≡ h.kernel.threads
-  pub signals : k.signals ≡ h.kernel.signals
-  pub scheduling : k.ready ≡ h.kernel.scheduling
-  pub areas : areas_by_number k.areas.items ≡ h.kernel.areas
-  pub barriers : k.registered ≡ h.kernel.barriers
-  pub console : k.console ≡ h.kernel.console
 
 -- these writes entered memory, and nothing else of the page map changed
 pub record IsEntered (m : Map) (m' : Map) (writes : List Write) : Type 0 where
@@ -50,13 +41,8 @@ pub record IsEntered (m : Map) (m' : Map) (writes : List Write) : Type 0 where
 -- the tables were changed as the call did, and the page map where it had the pages of the process, no code with it; its writes
 -- were told; the thread runs on with this answer and waits in no barrier, no concurrency id changes hands, and the files of other threads that the call set are kept with them
 pub record IsAnswered (h : Here) (t : ℕ) (k : Kernel) (m : Map) (k' : Kernel) (m' : Map) (written : List Write) (answer : Result ℕ Errno) (c : CallDone) : Type 0 where
-  pub threads : k'.threads.threads ≡ c.kernel.threads
-  pub signals : k'.signals ≡ c.kernel.signals
-  pub scheduling : k'.ready ≡ c.kernel.scheduling
-  pub areas : areas_by_number k'.areas.items ≡ c.kernel.areas
-  pub barriers : k'.registered ≡ c.kernel.barriers
+  pub tables : HoldsTables k' c.kernel
   pub ids : c.kernel.ids ≡ h.kernel.ids
-  pub console : k'.console ≡ c.kernel.console
   pub pages : HasPages h m → HoldsPages c.kernel.pages h.setting.program.break_at (λ a. written_by c.entered a (h.byte a)) m'
   pub code : (a : ℕ) → code_in m' a ≡ code_in m a
   pub told : written ≡ c.entered
@@ -71,10 +57,6 @@ pub record IsAnswered (h : Here) (t : ℕ) (k : Kernel) (m : Map) (k' : Kernel) 
 -- the tables hold what holds at each place of a run
 abbrev pub AreTables : Kernel → Type 0
 AreTables k = (harts : ℕ) × IsTables harts k.threads.threads k.ready
-
--- where the tables held, they hold
-abbrev pub KeepsTables : Kernel → Kernel → Type 0
-KeepsTables k k' = (harts : ℕ) → IsTables harts k.threads.threads k.ready → IsTables harts k'.threads.threads k'.ready
 
 -- a thread calls: the tables hold, the signals are those of the live threads, it runs on the hart, and nothing is saved of it
 pub record IsCaller (k : Kernel) (here : ℕ) (t : ℕ) : Type 0 where

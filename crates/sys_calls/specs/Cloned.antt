@@ -11,7 +11,7 @@ use Rattle.block_model.specs.Here.{Here}
 use Rattle.block_model.specs.Kernel.{next_number}
 use Rattle.block_model.specs.Calls.Answers.{CallDone, argument, returned}
 use Rattle.block_model.specs.Calls.Cloning.{child_file, clone_child_cleartid, clone_child_settid, clone_parent_settid, has_flag, with_new_child, written_if}
-use Rattle.sys_calls.specs.Registered.{areas_by_number}
+use Rattle.sys_calls.specs.Tables.{HoldsTables}
 use Rattle.sys_calls.specs.declared.kernel.Kernel.{Kernel}
 
 -- the writes of a child's number
@@ -50,11 +50,6 @@ clear_asked saved child ts =
 
 -- the tables have the child, which has its parent's mask and no area
 pub record HasChild (h : Here) (t : ℕ) (k : Kernel) (k' : Kernel) : Type 0 where
-  pub threads : k'.threads.threads ≡ (with_new_child h t).threads
-  pub signals : k'.signals ≡ (with_new_child h t).signals
-  pub scheduling : k'.ready ≡ (with_new_child h t).scheduling
-  pub areas : areas_by_number k'.areas.items ≡ (with_new_child h t).areas
-  pub barriers : k'.registered ≡ (with_new_child h t).barriers
-  pub console : k'.console ≡ (with_new_child h t).console
+  pub tables : HoldsTables k' (with_new_child h t)
   pub saved : k'.threads.saved ≡ with_start (next_number h.kernel) (child_file h t) k.threads.saved
   pub running : (j : ℕ) → process.running_on j k'.threads.threads ≡ process.running_on j k.threads.threads

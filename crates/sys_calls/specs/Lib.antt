@@ -8,4 +8,5 @@ pub mod Numbers
 pub mod Registered
 pub mod Remapped
 pub mod Signalled
+pub mod Tables
 pub mod Woken

@@ -19,7 +19,7 @@ use Rattle.block_model.specs.History.{file_among}
 use Rattle.block_model.specs.Ids.{id_of, without_id}
 use Rattle.block_model.specs.Calls.Answers.{CallDone}
 use Rattle.block_model.specs.Calls.Barriers.{running_harts}
-use Rattle.sys_calls.specs.Registered.{areas_by_number}
+use Rattle.sys_calls.specs.Tables.{HoldsTables}
 use Rattle.sys_calls.specs.declared.kernel.Kernel.{Kernel}
 use Rattle.sys_calls.specs.declared.calling.CallEnd.{CallEnd}
 use Rattle.sys_calls.specs.declared.calling.CallEnd.TheVariants as over
@@ -45,13 +45,8 @@ HasPages h m = HoldsPages h.kernel.pages h.setting.program.break_at h.byte m
 pub record IsAt (h : Here) (k : Kernel) (m : Map) (here : Hart) (busy : ℕ) (harts : ℕ) (tid : Tid) (saved : Saved) (cid : ℕ) : Type 0 where
   pub hart : h.hart ≡ here.0
   pub count : h.setting.limits.harts ≡ harts
-  pub threads : k.threads.threads ≡ h.kernel.threads
+  pub tables : HoldsTables k h.kernel
   pub running : running_harts h.kernel.threads h.setting.limits.harts ≡ busy
-  pub signals : k.signals ≡ h.kernel.signals
-  pub scheduling : k.ready ≡ h.kernel.scheduling
-  pub areas : areas_by_number k.areas.items ≡ h.kernel.areas
-  pub barriers : k.registered ≡ h.kernel.barriers
-  pub console : k.console ≡ h.kernel.console
   pub pages : HasPages h m
   pub file : saved ≡ h.file tid.0
   pub id : id_of tid.0 h.kernel.ids ≡ cid
@@ -110,13 +105,8 @@ IsAnswer (over.ProcessEnd e) x = Unit {0}
 -- the tables, the page map and the caller's registers were changed as the call did, and nothing else was; a caller that gave up its
 -- hart holds no concurrency id any more, and no other id changes hands; and so the call ended
 pub record IsMade (h : Here) (t : ℕ) (k : Kernel) (m : Map) (k' : Kernel) (m' : Map) (saved : Saved) (end : CallEnd) (c : CallDone) : Type 0 where
-  pub threads : k'.threads.threads ≡ c.kernel.threads
-  pub signals : k'.signals ≡ c.kernel.signals
-  pub scheduling : k'.ready ≡ c.kernel.scheduling
-  pub areas : areas_by_number k'.areas.items ≡ c.kernel.areas
-  pub barriers : k'.registered ≡ c.kernel.barriers
+  pub tables : HoldsTables k' c.kernel
   pub ids : c.kernel.ids ≡ (if gives_up end then without_id t h.kernel.ids else h.kernel.ids)
-  pub console : k'.console ≡ c.kernel.console
   pub kept : AreSaved h.file k.threads → AreSaved (λ u. file_among c.files u (h.file u)) k'.threads
   pub own : saved ≡ file_among c.files t (h.file t)
   pub pages : HoldsPages c.kernel.pages h.setting.program.break_at (λ a. written c.entered a (h.byte a)) m'

@@ -17,10 +17,6 @@ areas_by_number registered = map (λ entry. (entry.tid.0, entry.area)) registere
 abbrev pub HoldAreas : Kernel → Type 0
 HoldAreas k = AreOfLive k.threads.threads (areas_by_number k.areas.items)
 
--- where it was so, it is so
-abbrev pub KeepsAreas : Kernel → Kernel → Type 0
-KeepsAreas k k' = HoldAreas k → HoldAreas k'
-
 -- an argument of a call that is an `int`: the low 32 bits of its register
 abbrev pub int_in : Saved → ℕ → ℕ
 int_in saved k = register saved.file (10 + k) % 2 ^ 32

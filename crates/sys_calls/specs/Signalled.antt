@@ -14,10 +14,6 @@ use Rattle.sys_calls.specs.declared.kernel.Kernel.{Kernel}
 abbrev pub HoldSignals : Kernel → Type 0
 HoldSignals k = AreSignalsOfLive k.threads.threads k.signals
 
--- where it was so, it is so
-abbrev pub KeepsSignals : Kernel → Kernel → Type 0
-KeepsSignals k k' = HoldSignals k → HoldSignals k'
-
 -- whether the bytes of an action pass a test
 unfoldable pub pass_action : (ℕ → Bool) → ℕ → Bool
 pass_action test at = each_byte test at action_size

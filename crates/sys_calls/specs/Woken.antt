@@ -11,7 +11,7 @@ use Rattle.sys_calls.specs.declared.futexes.Operation.{Operation}
 use Rattle.sys_calls.specs.declared.futexes.Operation.TheVariants.{Wait, Wake}
 use Rattle.sys_calls.specs.declared.kernel.Kernel.{Kernel}
 use Rattle.sys_calls.specs.Made.{AreSaved}
-use Rattle.sys_calls.specs.Registered.{areas_by_number}
+use Rattle.sys_calls.specs.Tables.{HoldsTables}
 
 -- what an operation does
 abbrev pub futex_of : Operation → Here → ℕ → CallDone
@@ -21,13 +21,8 @@ futex_of Wake here t = futex_wake here t
 -- at most so many of the threads that wait at an address were woken, and so many were
 pub record IsWoken (h : Here) (k : Kernel) (k' : Kernel) (most : ℕ) (at : ℕ) (count : ℕ) : Type 0 where
   pub number : count ≡ length (wake most at h.kernel).threads
-  pub threads : k'.threads.threads ≡ (wake most at h.kernel).kernel.threads
-  pub signals : k'.signals ≡ (wake most at h.kernel).kernel.signals
-  pub scheduling : k'.ready ≡ (wake most at h.kernel).kernel.scheduling
-  pub areas : areas_by_number k'.areas.items ≡ (wake most at h.kernel).kernel.areas
-  pub barriers : k'.registered ≡ (wake most at h.kernel).kernel.barriers
+  pub tables : HoldsTables k' (wake most at h.kernel).kernel
   pub ids : (wake most at h.kernel).kernel.ids ≡ h.kernel.ids
-  pub console : k'.console ≡ (wake most at h.kernel).kernel.console
   pub kept : AreSaved h.file k.threads
       → AreSaved (λ u. file_among (map (answered_wait h) (wake most at h.kernel).threads) u (h.file u)) k'.threads
 

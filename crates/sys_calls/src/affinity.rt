@@ -14,11 +14,10 @@ ghost use Rattle.block_model.specs.Here.{Here};
 ghost use Rattle.block_model.specs.Calls.Affinity.{getcpu, moved_off, sched_getaffinity, sched_setaffinity, sched_yield, set_at, written_unless_zero};
 ghost use Rattle.block_model.specs.Calls.Answers.{argument as argument_of, int_argument as int_argument_of, refused, returned, said};
 ghost use Rattle.block_model.specs.Tables.{IsTables};
-ghost use Rattle.sys_calls.specs.Answered.{AreTables, IsAnswered, IsCaller, IsEntered, IsRead, IsTold, KeepsTables};
+ghost use Rattle.sys_calls.specs.Answered.{AreTables, IsAnswered, IsCaller, IsEntered, IsRead};
+ghost use Rattle.sys_calls.specs.Tables.{HoldsTables};
 ghost use Rattle.sys_calls.specs.Chosen.{setaffinity_with};
 ghost use Rattle.sys_calls.specs.Made.{HasPages, IsMade};
-ghost use Rattle.sys_calls.specs.Registered.{KeepsAreas};
-ghost use Rattle.sys_calls.specs.Signalled.{KeepsSignals};
 ghost use Rattle.sys_calls.specs.declared.kernel.Kernel.{Kernel as Tables};
 ghost use Rattle.sys_calls.specs.declared.calling.CallEnd.TheVariants as over;
 
@@ -52,9 +51,9 @@ fn set_at(pages: &PageMap, at: u64, len: u32) -> u8
 /// another one (own), in this order.
 fn asked_set(kernel: &Kernel, pages: &PageMap, tid: Tid, saved: &Saved) -> Result<u8, Errno>
     ensures errno { IfErr result (λ e. 1 ≤ e.0) }
-    ensures refused { IfErr result (λ e. (h : Here) → IsTold h kernel.now → IsRead h pages.now tid.0 saved.now
+    ensures refused { IfErr result (λ e. (h : Here) → HoldsTables kernel.now h.kernel → IsRead h pages.now tid.0 saved.now
         → sched_setaffinity h tid.0 ≡ refused h tid.0 e) }
-    ensures set { IfOk result (λ set. (h : Here) → IsTold h kernel.now → IsRead h pages.now tid.0 saved.now
+    ensures set { IfOk result (λ set. (h : Here) → HoldsTables kernel.now h.kernel → IsRead h pages.now tid.0 saved.now
         → sched_setaffinity h tid.0 ≡ setaffinity_with h tid.0 set) }
 {
     let named = int_argument(saved, 0);
@@ -79,15 +78,9 @@ fn leave(kernel: &mut Kernel, here: Hart, tid: Tid, saved: &mut Saved) -> CallEn
     ensures threads { kernel.new.threads.threads ≡ with_state tid.0 state.Ready kernel.old.threads.threads }
     ensures kept { kernel.new.threads.saved ≡ with_saved tid.0 (Some saved.new) kernel.old.threads.saved }
     ensures ready { kernel.new.ready ≡ with_ready tid.0 kernel.old.ready }
-    ensures same_areas { kernel.new.areas ≡ kernel.old.areas }
-    ensures same_signals { kernel.new.signals ≡ kernel.old.signals }
-    ensures same_registered { kernel.new.registered ≡ kernel.old.registered }
-    ensures console { kernel.new.console ≡ kernel.old.console }
+    ensures others { kernel.new ≡ record kernel.old { threads = kernel.new.threads; ready = kernel.new.ready } }
     ensures end { result ≡ over.Leave (pos 0) }
     ensures a0 { register saved.new.file 10 ≡ 0 }
-    ensures tables { KeepsTables kernel.old kernel.new }
-    ensures areas { KeepsAreas kernel.old kernel.new }
-    ensures signals { KeepsSignals kernel.old kernel.new }
 {
     answer(saved, 0);
     kernel.threads.leave(tid, *saved);
@@ -108,10 +101,7 @@ pub fn sched_setaffinity(
     requires some_hart { 1 ≤ harts }
     requires eight_harts { harts ≤ 8 }
     requires caller { IsCaller kernel.old here.0 tid.0 }
-    ensures tables { KeepsTables kernel.old kernel.new }
-    ensures areas { KeepsAreas kernel.old kernel.new }
-    ensures signals { KeepsSignals kernel.old kernel.new }
-    ensures made { (h : Here) → h.hart ≡ here.0 → h.setting.limits.harts ≡ harts → IsTold h kernel.old → HasPages h pages.now
+    ensures made { (h : Here) → h.hart ≡ here.0 → h.setting.limits.harts ≡ harts → HoldsTables kernel.old h.kernel → HasPages h pages.now
         → IsRead h pages.now tid.0 saved.old → IsMade h tid.0 kernel.old pages.now kernel.new pages.now saved.new result (sched_setaffinity h tid.0) }
 {
     match asked_set(kernel, pages, tid, saved) {
@@ -132,10 +122,7 @@ fn restrict(
     requires some_hart { 1 ≤ harts }
     requires eight_harts { harts ≤ 8 }
     requires caller { IsCaller kernel.old here.0 tid.0 }
-    ensures tables { KeepsTables kernel.old kernel.new }
-    ensures areas { KeepsAreas kernel.old kernel.new }
-    ensures signals { KeepsSignals kernel.old kernel.new }
-    ensures made { (h : Here) (m : Map) → h.hart ≡ here.0 → h.setting.limits.harts ≡ harts → IsTold h kernel.old → HasPages h m
+    ensures made { (h : Here) (m : Map) → h.hart ≡ here.0 → h.setting.limits.harts ≡ harts → HoldsTables kernel.old h.kernel → HasPages h m
         → saved.old ≡ h.file tid.0 → IsMade h tid.0 kernel.old m kernel.new m saved.new result (setaffinity_with h tid.0 set) }
 {
     if let Err(errno) = kernel.ready.set_affinity(tid, set, harts) {
@@ -150,10 +137,7 @@ fn restrict(
 /// sched_yield(): the thread leaves its hart, and is ready.
 pub fn sched_yield(kernel: &mut Kernel, here: Hart, tid: Tid, saved: &mut Saved) -> CallEnd
     requires { IsCaller kernel.old here.0 tid.0 }
-    ensures tables { KeepsTables kernel.old kernel.new }
-    ensures areas { KeepsAreas kernel.old kernel.new }
-    ensures signals { KeepsSignals kernel.old kernel.new }
-    ensures made { (h : Here) (m : Map) → h.hart ≡ here.0 → IsTold h kernel.old → HasPages h m → saved.old ≡ h.file tid.0
+    ensures made { (h : Here) (m : Map) → h.hart ≡ here.0 → HoldsTables kernel.old h.kernel → HasPages h m → saved.old ≡ h.file tid.0
         → IsMade h tid.0 kernel.old m kernel.new m saved.new result (sched_yield h tid.0) }
 {
     leave(kernel, here, tid, saved)
@@ -186,7 +170,7 @@ pub fn sched_getaffinity(
     requires tables { AreTables kernel.now }
     requires live { IsTrue (is_live tid.0 kernel.now.threads.threads) }
     ensures errno { IfErr result (λ e. 1 ≤ e.0) }
-    ensures answered { (h : Here) → IsTold h kernel.now → IsRead h pages.old tid.0 saved.now
+    ensures answered { (h : Here) → HoldsTables kernel.now h.kernel → IsRead h pages.old tid.0 saved.now
         → IsAnswered h tid.0 kernel.now pages.old kernel.now pages.new written.new.items result (sched_getaffinity h tid.0) }
 {
     let named = int_argument(saved, 0);
@@ -242,7 +226,7 @@ pub fn getcpu(
 ) -> Result<u32, Errno>
     requires { written.old.items ≡ [] }
     ensures errno { IfErr result (λ e. 1 ≤ e.0) }
-    ensures answered { (h : Here) (k : Tables) (t : ℕ) → h.hart ≡ here.0 → IsTold h k → IsRead h pages.old t saved.now
+    ensures answered { (h : Here) (k : Tables) (t : ℕ) → h.hart ≡ here.0 → HoldsTables k h.kernel → IsRead h pages.old t saved.now
         → IsAnswered h t k pages.old k pages.new written.new.items result (getcpu h t) }
 {
     let cpu = argument(saved, 0);

@@ -4,11 +4,11 @@ ghost use Rattle.std.specs.Prelude.{◌≡◌, ◌<◌, ◌≤◌, ◌-◌, ◌^
 ghost use Rattle.mach_types.specs.Kernel.Threads.{is_live};
 ghost use Rattle.block_model.specs.Here.{Here};
 ghost use Rattle.block_model.specs.Calls.{call_of};
-ghost use Rattle.sys_calls.specs.Answered.{AreTables, IsAnswered, IsRead, IsTold, KeepsTables};
+ghost use Rattle.sys_calls.specs.Answered.{AreTables, IsAnswered, IsRead};
+ghost use Rattle.sys_calls.specs.Tables.{HoldsTables};
 ghost use Rattle.sys_calls.specs.Made.{HasPages};
 ghost use Rattle.sys_calls.specs.Numbers.{IsOffPages, IsOther};
-ghost use Rattle.sys_calls.specs.Registered.{KeepsAreas};
-ghost use Rattle.sys_calls.specs.Signalled.{HoldSignals, KeepsSignals};
+ghost use Rattle.sys_calls.specs.Signalled.{HoldSignals};
 
 use crate::affinity::{getcpu, sched_getaffinity};
 use crate::arguments::widened;
@@ -74,10 +74,7 @@ pub fn answered(
     requires fresh { written.old.items ≡ [] }
     requires others { IsOther number }
     ensures errno { IfErr result (λ e. 1 ≤ e.0) }
-    ensures tables { KeepsTables kernel.old kernel.new }
-    ensures areas { KeepsAreas kernel.old kernel.new }
-    ensures signals { KeepsSignals kernel.old kernel.new }
-    ensures answered { (h : Here) → h.hart ≡ here.0 → IsTold h kernel.old → HasPages h pages.old → IsRead h pages.old tid.0 saved.now
+    ensures answered { (h : Here) → h.hart ≡ here.0 → HoldsTables kernel.old h.kernel → HasPages h pages.old → IsRead h pages.old tid.0 saved.now
         → IsAnswered h tid.0 kernel.old pages.old kernel.new pages.new written.new.items result (call_of number h tid.0) }
 {
     match number {
@@ -107,10 +104,7 @@ fn answered_on_same_pages(
     requires others { IsOther number }
     requires off_pages { IsOffPages number }
     ensures errno { IfErr result (λ e. 1 ≤ e.0) }
-    ensures tables { KeepsTables kernel.old kernel.new }
-    ensures areas { KeepsAreas kernel.old kernel.new }
-    ensures signals { KeepsSignals kernel.old kernel.new }
-    ensures answered { (h : Here) → h.hart ≡ here.0 → IsTold h kernel.old → IsRead h pages.old tid.0 saved.now
+    ensures answered { (h : Here) → h.hart ≡ here.0 → HoldsTables kernel.old h.kernel → IsRead h pages.old tid.0 saved.now
         → IsAnswered h tid.0 kernel.old pages.old kernel.new pages.new written.new.items result (call_of number h tid.0) }
 {
     match number {

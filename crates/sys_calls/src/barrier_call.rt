@@ -6,10 +6,9 @@ ghost use Rattle.page_map.specs.Map.{Map};
 ghost use Rattle.block_model.specs.Here.{Here};
 ghost use Rattle.block_model.specs.History.{file_among};
 ghost use Rattle.block_model.specs.Calls.Barriers.{answers, membarrier, running_harts};
-ghost use Rattle.sys_calls.specs.Answered.{IsCaller, IsTold, KeepsTables};
+ghost use Rattle.sys_calls.specs.Answered.{IsCaller};
+ghost use Rattle.sys_calls.specs.Tables.{HoldsTables};
 ghost use Rattle.sys_calls.specs.Made.{HasPages, IsAnswer, IsMade, StandsSo, barrier_of, gives_up, process_end};
-ghost use Rattle.sys_calls.specs.Registered.{KeepsAreas};
-ghost use Rattle.sys_calls.specs.Signalled.{KeepsSignals};
 
 use crate::arguments::{answer, int_argument, signed_argument, skip};
 use crate::calling::{CallEnd, Caller};
@@ -42,11 +41,8 @@ fn end_with(saved: &mut Saved, outcome: Answer) -> CallEnd
 /// thread waits on its hart until it returns. The arguments are the low 32 bits of their registers.
 pub fn membarrier(kernel: &mut Kernel, caller: Caller, saved: &mut Saved) -> CallEnd
     requires { IsCaller kernel.old caller.here.0 caller.tid.0 }
-    ensures tables { KeepsTables kernel.old kernel.new }
-    ensures areas { KeepsAreas kernel.old kernel.new }
-    ensures signals { KeepsSignals kernel.old kernel.new }
     ensures made { (h : Here) (m : Map) → h.hart ≡ caller.here.0 → h.setting.limits.harts ≡ caller.harts
-        → running_harts h.kernel.threads h.setting.limits.harts ≡ caller.running → IsTold h kernel.old → HasPages h m
+        → running_harts h.kernel.threads h.setting.limits.harts ≡ caller.running → HoldsTables kernel.old h.kernel → HasPages h m
         → saved.old ≡ h.file caller.tid.0
         → IsMade h caller.tid.0 kernel.old m kernel.new m saved.new result (membarrier h caller.tid.0) }
 {

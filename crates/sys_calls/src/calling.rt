@@ -7,10 +7,9 @@ ghost use Rattle.block_model.specs.Here.{Here};
 ghost use Rattle.block_model.specs.Calls.{called as call_done};
 ghost use Rattle.block_model.specs.Calls.Barriers.{running_harts};
 ghost use Rattle.block_model.specs.Tables.{AreOfLive, AreSignalsOfLive, IsTables};
-ghost use Rattle.sys_calls.specs.Answered.{IsCaller, KeepsTables};
+ghost use Rattle.sys_calls.specs.Answered.{IsCaller};
 ghost use Rattle.sys_calls.specs.Made.{IsAt, IsMade};
-ghost use Rattle.sys_calls.specs.Registered.{HoldAreas, KeepsAreas, areas_by_number};
-ghost use Rattle.sys_calls.specs.Signalled.{KeepsSignals};
+ghost use Rattle.sys_calls.specs.Registered.{HoldAreas, areas_by_number};
 
 use crate::affinity::{sched_setaffinity, sched_yield};
 use crate::answering::answered;
@@ -151,9 +150,6 @@ fn dispatch(
     requires areas { HoldAreas kernel.old }
     requires numbers { kernel.old.threads.threads.given < 2 ^ 31 - 1 }
     requires fresh { written.old.items ≡ [] }
-    ensures tables { KeepsTables kernel.old kernel.new }
-    ensures areas { KeepsAreas kernel.old kernel.new }
-    ensures signals { KeepsSignals kernel.old kernel.new }
     ensures made { (h : Here) → IsAt h kernel.old pages.old caller.here caller.running caller.harts caller.tid saved.old caller.cid
         → IsMade h caller.tid.0 kernel.old pages.old kernel.new pages.new saved.new result (call_done h caller.tid.0) }
     ensures told { (h : Here) → IsAt h kernel.old pages.old caller.here caller.running caller.harts caller.tid saved.old caller.cid → written.new.items ≡ (call_done h caller.tid.0).entered }

@@ -10,10 +10,10 @@ ghost use Rattle.page_map.specs.Map.{can_write_in};
 ghost use Rattle.block_model.specs.Here.{Here};
 ghost use Rattle.block_model.specs.Calls.Answers.{refused};
 ghost use Rattle.block_model.specs.Calls.Cloning.{are_flags, child_file, clone, has_flag, set_if, written_if};
-ghost use Rattle.sys_calls.specs.Answered.{AreTables, IsAnswered, IsEntered, IsRead, IsTold, KeepsTables};
+ghost use Rattle.sys_calls.specs.Answered.{AreTables, IsAnswered, IsEntered, IsRead};
+ghost use Rattle.sys_calls.specs.Tables.{HoldsTables};
 ghost use Rattle.sys_calls.specs.Cloned.{CanWriteNumbers, HasChild, can_write_numbers, clear_asked, cloned, numbers_written};
-ghost use Rattle.sys_calls.specs.Registered.{KeepsAreas};
-ghost use Rattle.sys_calls.specs.Signalled.{HoldSignals, KeepsSignals};
+ghost use Rattle.sys_calls.specs.Signalled.{HoldSignals};
 
 use crate::arguments::{answer, argument};
 use crate::kernel::Kernel;
@@ -104,9 +104,9 @@ fn child_file(saved: &Saved) -> Saved
 /// written, in this order.
 fn may_clone(kernel: &Kernel, pages: &PageMap, saved: &Saved) -> Result<(), Errno>
     ensures errno { IfErr result (λ e. 1 ≤ e.0) }
-    ensures refused { IfErr result (λ e. (h : Here) (t : ℕ) → IsTold h kernel.now → IsRead h pages.now t saved.now
+    ensures refused { IfErr result (λ e. (h : Here) (t : ℕ) → HoldsTables kernel.now h.kernel → IsRead h pages.now t saved.now
         → clone h t ≡ refused h t e) }
-    ensures made { OnOk result ((h : Here) (t : ℕ) → IsTold h kernel.now → IsRead h pages.now t saved.now → clone h t ≡ cloned h t) }
+    ensures made { OnOk result ((h : Here) (t : ℕ) → HoldsTables kernel.now h.kernel → IsRead h pages.now t saved.now → clone h t ≡ cloned h t) }
     ensures room { OnOk result (is_full kernel.now.threads.threads ≡ false) }
     ensures words { OnOk result (CanWriteNumbers pages.now saved.now) }
     ensures table { IsTable kernel.now.threads }
@@ -146,9 +146,7 @@ fn add_child(kernel: &mut Kernel, tid: Tid, start: Saved) -> Result<Tid, Errno>
     ensures saved { kernel.new.threads.saved ≡ with_start (kernel.old.threads.threads.given + 1) start kernel.old.threads.saved }
     ensures ready { kernel.new.ready ≡ with_ready (kernel.old.threads.threads.given + 1) (with_thread tid.0 (kernel.old.threads.threads.given + 1) kernel.old.ready) }
     ensures signals { kernel.new.signals ≡ signals.with_thread tid.0 (kernel.old.threads.threads.given + 1) kernel.old.signals }
-    ensures areas { kernel.new.areas ≡ kernel.old.areas }
-    ensures registered { kernel.new.registered ≡ kernel.old.registered }
-    ensures console { kernel.new.console ≡ kernel.old.console }
+    ensures others { kernel.new ≡ record kernel.old { threads = kernel.new.threads; ready = kernel.new.ready; signals = kernel.new.signals } }
 {
     let child = kernel.threads.clone_thread(tid, start)?;
     kernel.ready.add(tid, child);
@@ -177,10 +175,7 @@ fn make_child(kernel: &mut Kernel, tid: Tid, saved: &Saved) -> Result<Tid, Errno
     requires room { is_full kernel.old.threads.threads ≡ false }
     ensures child { IsOk result }
     ensures number { IfOk result (λ t. t.0 ≡ kernel.old.threads.threads.given + 1) }
-    ensures tables { KeepsTables kernel.old kernel.new }
-    ensures areas { KeepsAreas kernel.old kernel.new }
-    ensures signals { KeepsSignals kernel.old kernel.new }
-    ensures made { (h : Here) → IsTold h kernel.old → saved.now ≡ h.file tid.0 → HasChild h tid.0 kernel.old kernel.new }
+    ensures made { (h : Here) → HoldsTables kernel.old h.kernel → saved.now ≡ h.file tid.0 → HasChild h tid.0 kernel.old kernel.new }
 {
     let child = add_child(kernel, tid, child_file(saved))?;
     set_clear_if(&mut kernel.threads, child, saved);
@@ -228,10 +223,7 @@ pub fn clone(
     requires live { IsTrue (is_live tid.0 kernel.old.threads.threads) }
     requires numbers { kernel.old.threads.threads.given < 2 ^ 31 - 1 }
     ensures errno { IfErr result (λ e. 1 ≤ e.0) }
-    ensures tables { KeepsTables kernel.old kernel.new }
-    ensures areas { KeepsAreas kernel.old kernel.new }
-    ensures signals { KeepsSignals kernel.old kernel.new }
-    ensures answered { (h : Here) → IsTold h kernel.old → IsRead h pages.old tid.0 saved.now
+    ensures answered { (h : Here) → HoldsTables kernel.old h.kernel → IsRead h pages.old tid.0 saved.now
         → IsAnswered h tid.0 kernel.old pages.old kernel.new pages.new written.new.items result (clone h tid.0) }
 {
     may_clone(kernel, pages, saved)?;

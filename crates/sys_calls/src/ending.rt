@@ -7,11 +7,10 @@ ghost use Rattle.page_map.specs.Map.{can_write_in};
 ghost use Rattle.block_model.specs.Here.{Here};
 ghost use Rattle.block_model.specs.Calls.Answers.{word_written};
 ghost use Rattle.block_model.specs.Calls.Ending.{ended_with, exit};
-ghost use Rattle.sys_calls.specs.Answered.{IsCaller, IsEntered, IsRead, IsTold, KeepsTables};
+ghost use Rattle.sys_calls.specs.Answered.{IsCaller, IsEntered, IsRead};
+ghost use Rattle.sys_calls.specs.Tables.{HoldsTables};
 ghost use Rattle.sys_calls.specs.Ended.{IsGone};
 ghost use Rattle.sys_calls.specs.Made.{HasPages, IsMade};
-ghost use Rattle.sys_calls.specs.Registered.{KeepsAreas};
-ghost use Rattle.sys_calls.specs.Signalled.{KeepsSignals};
 ghost use Rattle.sys_calls.specs.declared.calling.CallEnd.TheVariants as over;
 
 use crate::areas::remove_area;
@@ -47,10 +46,7 @@ fn clear_word(pages: &mut PageMap, written: &mut Written, at: u64) -> bool
 /// Wakes at most so many waiters at an address, and then the thread is gone, and with it its signals and its area.
 fn go(kernel: &mut Kernel, here: Hart, tid: Tid, at: u64, most: u32)
     requires { IsCaller kernel.old here.0 tid.0 }
-    ensures tables { KeepsTables kernel.old kernel.new }
-    ensures areas { KeepsAreas kernel.old kernel.new }
-    ensures signals { KeepsSignals kernel.old kernel.new }
-    ensures gone { (h : Here) → IsTold h kernel.old → IsGone h kernel.old kernel.new tid.0 most at here.0 }
+    ensures gone { (h : Here) → HoldsTables kernel.old h.kernel → IsGone h kernel.old kernel.new tid.0 most at here.0 }
 {
     let _ = wake(kernel, at, most);
     kernel.threads.exit(tid);
@@ -71,11 +67,8 @@ pub fn exit(
 ) -> CallEnd
     requires caller { IsCaller kernel.old here.0 tid.0 }
     requires fresh { written.old.items ≡ [] }
-    ensures tables { KeepsTables kernel.old kernel.new }
-    ensures areas { KeepsAreas kernel.old kernel.new }
-    ensures signals { KeepsSignals kernel.old kernel.new }
-    ensures told { (h : Here) → IsTold h kernel.old → IsRead h pages.old tid.0 saved.now → written.new.items ≡ (exit h tid.0).entered }
-    ensures made { (h : Here) → h.hart ≡ here.0 → IsTold h kernel.old → HasPages h pages.old → IsRead h pages.old tid.0 saved.now
+    ensures told { (h : Here) → HoldsTables kernel.old h.kernel → IsRead h pages.old tid.0 saved.now → written.new.items ≡ (exit h tid.0).entered }
+    ensures made { (h : Here) → h.hart ≡ here.0 → HoldsTables kernel.old h.kernel → HasPages h pages.old → IsRead h pages.old tid.0 saved.now
         → IsMade h tid.0 kernel.old pages.old kernel.new pages.new saved.now result (exit h tid.0) }
 {
     let at = kernel.threads.clear_at(tid);

@@ -10,11 +10,10 @@ ghost use Rattle.block_model.specs.Here.{Here};
 ghost use Rattle.block_model.specs.Calls.Answers.{argument as argument_of, refused, said};
 ghost use Rattle.block_model.specs.Calls.Futexes.{futex, futex_wait, operation};
 ghost use Rattle.block_model.specs.Kernel.{waited};
-ghost use Rattle.sys_calls.specs.Answered.{AreTables, IsCaller, IsRead, IsTold, KeepsTables};
+ghost use Rattle.sys_calls.specs.Answered.{AreTables, IsCaller, IsRead};
+ghost use Rattle.sys_calls.specs.Tables.{HoldsTables};
 ghost use Rattle.sys_calls.specs.Made.{HasPages, IsMade};
 ghost use Rattle.sys_calls.specs.Woken.{IsOnward, IsWoken, futex_of};
-ghost use Rattle.sys_calls.specs.Registered.{KeepsAreas};
-ghost use Rattle.sys_calls.specs.Signalled.{KeepsSignals};
 
 use crate::arguments::{answer, argument, go_on, int_argument};
 use crate::calling::CallEnd;
@@ -48,10 +47,7 @@ fn wake_one(kernel: &mut Kernel, at: u64) -> Option<Tid>
     ensures threads { IfSome result (λ t. kernel.new.threads.threads ≡ with_woken t.0 kernel.old.threads.threads) }
     ensures saved { IfSome result (λ t. kernel.new.threads.saved ≡ with_answer t.0 0 kernel.old.threads.saved) }
     ensures ready { IfSome result (λ t. kernel.new.ready ≡ with_ready t.0 kernel.old.ready) }
-    ensures signals { kernel.new.signals ≡ kernel.old.signals }
-    ensures areas { kernel.new.areas ≡ kernel.old.areas }
-    ensures registered { kernel.new.registered ≡ kernel.old.registered }
-    ensures console { kernel.new.console ≡ kernel.old.console }
+    ensures others { kernel.new ≡ record kernel.old { threads = kernel.new.threads; ready = kernel.new.ready } }
 {
     let tid = kernel.threads.wake_one(at)?;
     kernel.ready.push(tid);
@@ -61,7 +57,7 @@ fn wake_one(kernel: &mut Kernel, at: u64) -> Option<Tid>
 /// Wakes at most so many of the threads that wait at an address, the longest waiting first, and answers how many.
 pub fn wake(kernel: &mut Kernel, at: u64, most: u32) -> u32
     requires tables { AreTables kernel.old }
-    ensures woken { (h : Here) → IsTold h kernel.old → IsWoken h kernel.old kernel.new most at result }
+    ensures woken { (h : Here) → HoldsTables kernel.old h.kernel → IsWoken h kernel.old kernel.new most at result }
     ensures onward { IsOnward kernel.old kernel.new }
 {
     for count in 0..most {
@@ -109,9 +105,9 @@ fn asked(saved: &Saved) -> Result<Operation, Errno>
 fn may_wait(kernel: &Kernel, pages: &PageMap, tid: Tid, saved: &Saved) -> Result<(), Errno>
     requires held { IsTrue (is_held tid.0 kernel.now.signals) }
     ensures errno { IfErr result (λ e. 1 ≤ e.0) }
-    ensures refused { IfErr result (λ e. (h : Here) → IsTold h kernel.now → IsRead h pages.now tid.0 saved.now
+    ensures refused { IfErr result (λ e. (h : Here) → HoldsTables kernel.now h.kernel → IsRead h pages.now tid.0 saved.now
         → futex_wait h tid.0 ≡ refused h tid.0 e) }
-    ensures waits { OnOk result ((h : Here) → IsTold h kernel.now → IsRead h pages.now tid.0 saved.now
+    ensures waits { OnOk result ((h : Here) → HoldsTables kernel.now h.kernel → IsRead h pages.now tid.0 saved.now
         → futex_wait h tid.0 ≡ record (said h tid.0 0) { kernel = waited tid.0 (argument_of h tid.0 0) h.kernel }) }
 {
     let at = argument(saved, 0);
@@ -133,10 +129,7 @@ fn may_wait(kernel: &Kernel, pages: &PageMap, tid: Tid, saved: &Saved) -> Result
 /// The thread leaves its hart and waits, unless it is refused.
 fn wait(kernel: &mut Kernel, pages: &PageMap, here: Hart, tid: Tid, saved: &mut Saved) -> CallEnd
     requires { IsCaller kernel.old here.0 tid.0 }
-    ensures tables { KeepsTables kernel.old kernel.new }
-    ensures areas { KeepsAreas kernel.old kernel.new }
-    ensures signals { KeepsSignals kernel.old kernel.new }
-    ensures made { (h : Here) → h.hart ≡ here.0 → IsTold h kernel.old → HasPages h pages.now → IsRead h pages.now tid.0 saved.old
+    ensures made { (h : Here) → h.hart ≡ here.0 → HoldsTables kernel.old h.kernel → HasPages h pages.now → IsRead h pages.now tid.0 saved.old
         → IsMade h tid.0 kernel.old pages.now kernel.new pages.now saved.new result (futex_wait h tid.0) }
 {
     match may_wait(kernel, pages, tid, saved) {
@@ -159,10 +152,7 @@ pub fn futex(
     saved: &mut Saved,
 ) -> CallEnd
     requires { IsCaller kernel.old here.0 tid.0 }
-    ensures tables { KeepsTables kernel.old kernel.new }
-    ensures areas { KeepsAreas kernel.old kernel.new }
-    ensures signals { KeepsSignals kernel.old kernel.new }
-    ensures made { (h : Here) → h.hart ≡ here.0 → IsTold h kernel.old → HasPages h pages.now → IsRead h pages.now tid.0 saved.old
+    ensures made { (h : Here) → h.hart ≡ here.0 → HoldsTables kernel.old h.kernel → HasPages h pages.now → IsRead h pages.now tid.0 saved.old
         → IsMade h tid.0 kernel.old pages.now kernel.new pages.now saved.new result (futex h tid.0) }
 {
     match asked(saved) {

@@ -9,9 +9,9 @@ ghost use Rattle.mach_types.specs.declared.signals.TheConstants.{LAST_SIGNAL};
 ghost use Rattle.page_map.specs.Map.{Map};
 ghost use Rattle.block_model.specs.Here.{Here};
 ghost use Rattle.block_model.specs.Calls.Signals as call;
-ghost use Rattle.sys_calls.specs.Answered.{AreTables, IsAnswered, IsTold, KeepsTables};
-ghost use Rattle.sys_calls.specs.Registered.{KeepsAreas};
-ghost use Rattle.sys_calls.specs.Signalled.{HoldSignals, KeepsSignals};
+ghost use Rattle.sys_calls.specs.Answered.{AreTables, IsAnswered};
+ghost use Rattle.sys_calls.specs.Tables.{HoldsTables};
+ghost use Rattle.sys_calls.specs.Signalled.{HoldSignals};
 
 use crate::arguments::{int_argument, signal_number};
 use crate::kernel::Kernel;
@@ -90,10 +90,7 @@ fn post(kernel: &mut Kernel, to: Tid, sig: u8)
     requires live { IsTrue (threads_of.is_live to.0 kernel.old.threads.threads) }
     requires lowest { 1 ≤ sig }
     requires highest { sig ≤ LAST_SIGNAL }
-    ensures tables { KeepsTables kernel.old kernel.new }
-    ensures areas { KeepsAreas kernel.old kernel.new }
-    ensures signals { KeepsSignals kernel.old kernel.new }
-    ensures answered { (h : Here) (t : ℕ) (m : Map) → IsTold h kernel.old
+    ensures answered { (h : Here) (t : ℕ) (m : Map) → HoldsTables kernel.old h.kernel
         → IsAnswered h t kernel.old m kernel.new m [] (Ok 0) (call.post h t to.0 sig) }
 {
     kernel.signals.post(to, sig);
@@ -109,10 +106,7 @@ fn send(kernel: &mut Kernel, to: Tid, sig: u32) -> Result<u32, Errno>
     requires signals { HoldSignals kernel.old }
     requires live { IsTrue (threads_of.is_live to.0 kernel.old.threads.threads) }
     ensures errno { IfErr result (λ e. 1 ≤ e.0) }
-    ensures tables { KeepsTables kernel.old kernel.new }
-    ensures areas { KeepsAreas kernel.old kernel.new }
-    ensures signals { KeepsSignals kernel.old kernel.new }
-    ensures answered { (h : Here) (t : ℕ) (m : Map) → IsTold h kernel.old
+    ensures answered { (h : Here) (t : ℕ) (m : Map) → HoldsTables kernel.old h.kernel
         → IsAnswered h t kernel.old m kernel.new m [] result (call.send h t to.0 sig) }
 {
     if refuses_signal(sig) {
@@ -130,10 +124,7 @@ pub fn tkill(kernel: &mut Kernel, saved: &Saved) -> Result<u32, Errno>
     requires tables { AreTables kernel.old }
     requires signals { HoldSignals kernel.old }
     ensures errno { IfErr result (λ e. 1 ≤ e.0) }
-    ensures tables { KeepsTables kernel.old kernel.new }
-    ensures areas { KeepsAreas kernel.old kernel.new }
-    ensures signals { KeepsSignals kernel.old kernel.new }
-    ensures answered { (h : Here) (t : ℕ) (m : Map) → IsTold h kernel.old → saved.now ≡ h.file t
+    ensures answered { (h : Here) (t : ℕ) (m : Map) → HoldsTables kernel.old h.kernel → saved.now ≡ h.file t
         → IsAnswered h t kernel.old m kernel.new m [] result (call.tkill h t) }
 {
     let number = int_argument(saved, 0);
@@ -152,10 +143,7 @@ pub fn tgkill(kernel: &mut Kernel, saved: &Saved) -> Result<u32, Errno>
     requires tables { AreTables kernel.old }
     requires signals { HoldSignals kernel.old }
     ensures errno { IfErr result (λ e. 1 ≤ e.0) }
-    ensures tables { KeepsTables kernel.old kernel.new }
-    ensures areas { KeepsAreas kernel.old kernel.new }
-    ensures signals { KeepsSignals kernel.old kernel.new }
-    ensures answered { (h : Here) (t : ℕ) (m : Map) → IsTold h kernel.old → saved.now ≡ h.file t
+    ensures answered { (h : Here) (t : ℕ) (m : Map) → HoldsTables kernel.old h.kernel → saved.now ≡ h.file t
         → IsAnswered h t kernel.old m kernel.new m [] result (call.tgkill h t) }
 {
     let process = int_argument(saved, 0);

@@ -7,10 +7,10 @@ ghost use Rattle.page_map.specs.Map.{can_write_in};
 ghost use Rattle.block_model.specs.Here.{Here};
 ghost use Rattle.block_model.specs.Ids.{id_of};
 ghost use Rattle.block_model.specs.Calls.Sequences.{registers, registers_or_refused, rseq as rseq_of, unregisters_or_refused};
-ghost use Rattle.sys_calls.specs.Answered.{IsAnswered, IsCaller, IsEntered, IsRead, IsTold, KeepsTables};
+ghost use Rattle.sys_calls.specs.Answered.{IsAnswered, IsCaller, IsEntered, IsRead};
+ghost use Rattle.sys_calls.specs.Tables.{HoldsTables};
 ghost use Rattle.sys_calls.specs.Made.{HasPages, IsMade};
-ghost use Rattle.sys_calls.specs.Registered.{HoldAreas, KeepsAreas, areas_by_number, area_asked, unregistration_asked};
-ghost use Rattle.sys_calls.specs.Signalled.{KeepsSignals};
+ghost use Rattle.sys_calls.specs.Registered.{HoldAreas, areas_by_number, area_asked, unregistration_asked};
 
 use crate::areas::{add_area, area_of, remove_area};
 use crate::arguments::{argument, go_on, int_argument};
@@ -100,12 +100,9 @@ fn register_area(
     requires areas { HoldAreas kernel.old }
     requires none { areas.area_of tid.0 (areas_by_number kernel.old.areas.items) ≡ None }
     requires fresh { written.old.items ≡ [] }
-    ensures tables { KeepsTables kernel.old kernel.new }
-    ensures areas { KeepsAreas kernel.old kernel.new }
-    ensures signals { KeepsSignals kernel.old kernel.new }
     ensures told { (h : Here) → h.hart ≡ here.0 → IsRead h pages.old tid.0 saved.old → id_of tid.0 h.kernel.ids ≡ cid
         → written.new.items ≡ (registers h tid.0 area).entered }
-    ensures made { (h : Here) → h.hart ≡ here.0 → IsTold h kernel.old → HasPages h pages.old → IsRead h pages.old tid.0 saved.old
+    ensures made { (h : Here) → h.hart ≡ here.0 → HoldsTables kernel.old h.kernel → HasPages h pages.old → IsRead h pages.old tid.0 saved.old
         → id_of tid.0 h.kernel.ids ≡ cid
         → IsMade h tid.0 kernel.old pages.old kernel.new pages.new saved.new result (registers h tid.0 area) }
 {
@@ -130,12 +127,9 @@ fn register_asked(
     requires caller { IsCaller kernel.old here.0 tid.0 }
     requires areas { HoldAreas kernel.old }
     requires fresh { written.old.items ≡ [] }
-    ensures tables { KeepsTables kernel.old kernel.new }
-    ensures areas { KeepsAreas kernel.old kernel.new }
-    ensures signals { KeepsSignals kernel.old kernel.new }
-    ensures told { (h : Here) → h.hart ≡ here.0 → IsTold h kernel.old → IsRead h pages.old tid.0 saved.old → id_of tid.0 h.kernel.ids ≡ cid
+    ensures told { (h : Here) → h.hart ≡ here.0 → HoldsTables kernel.old h.kernel → IsRead h pages.old tid.0 saved.old → id_of tid.0 h.kernel.ids ≡ cid
         → written.new.items ≡ (registers_or_refused h tid.0 (area_asked saved.old (areas.area_of tid.0 h.kernel.areas))).entered }
-    ensures made { (h : Here) → h.hart ≡ here.0 → IsTold h kernel.old → HasPages h pages.old → IsRead h pages.old tid.0 saved.old
+    ensures made { (h : Here) → h.hart ≡ here.0 → HoldsTables kernel.old h.kernel → HasPages h pages.old → IsRead h pages.old tid.0 saved.old
         → id_of tid.0 h.kernel.ids ≡ cid → IsMade h tid.0 kernel.old pages.old kernel.new pages.new saved.new result
         (registers_or_refused h tid.0 (area_asked saved.old (areas.area_of tid.0 h.kernel.areas))) }
 {
@@ -156,10 +150,8 @@ fn unregister_area(
 ) -> Result<u64, Errno>
     requires fresh { written.old.items ≡ [] }
     ensures errno { IfErr result (λ e. 1 ≤ e.0) }
-    ensures tables { KeepsTables kernel.old kernel.new }
-    ensures areas { KeepsAreas kernel.old kernel.new }
-    ensures signals { KeepsSignals kernel.old kernel.new }
-    ensures answered { (h : Here) → IsTold h kernel.old → IsRead h pages.old tid.0 saved.now
+    ensures others { kernel.new ≡ record kernel.old { areas = kernel.new.areas } }
+    ensures answered { (h : Here) → HoldsTables kernel.old h.kernel → IsRead h pages.old tid.0 saved.now
         → IsAnswered h tid.0 kernel.old pages.old kernel.new pages.new written.new.items result
         (unregisters_or_refused h tid.0 (unregistration_asked saved.now (areas.area_of tid.0 h.kernel.areas))) }
 {
@@ -197,12 +189,9 @@ pub fn rseq(
     requires caller { IsCaller kernel.old here.0 tid.0 }
     requires areas { HoldAreas kernel.old }
     requires fresh { written.old.items ≡ [] }
-    ensures tables { KeepsTables kernel.old kernel.new }
-    ensures areas { KeepsAreas kernel.old kernel.new }
-    ensures signals { KeepsSignals kernel.old kernel.new }
-    ensures told { (h : Here) → h.hart ≡ here.0 → IsTold h kernel.old → IsRead h pages.old tid.0 saved.old → id_of tid.0 h.kernel.ids ≡ cid
+    ensures told { (h : Here) → h.hart ≡ here.0 → HoldsTables kernel.old h.kernel → IsRead h pages.old tid.0 saved.old → id_of tid.0 h.kernel.ids ≡ cid
         → written.new.items ≡ (rseq_of h tid.0).entered }
-    ensures made { (h : Here) → h.hart ≡ here.0 → IsTold h kernel.old → HasPages h pages.old → IsRead h pages.old tid.0 saved.old
+    ensures made { (h : Here) → h.hart ≡ here.0 → HoldsTables kernel.old h.kernel → HasPages h pages.old → IsRead h pages.old tid.0 saved.old
         → id_of tid.0 h.kernel.ids ≡ cid
         → IsMade h tid.0 kernel.old pages.old kernel.new pages.new saved.new result (rseq_of h tid.0) }
 {

@@ -9,10 +9,11 @@ ghost use Rattle.page_map.specs.Map.{byte_in, can_write_in};
 ghost use Rattle.block_model.specs.Here.{Here};
 ghost use Rattle.block_model.specs.Calls.Answers.{double_written, refused};
 ghost use Rattle.block_model.specs.Calls.Signals as call;
-ghost use Rattle.sys_calls.specs.Answered.{IsAnswered, IsCaller, IsEntered, IsRead, IsTold, KeepsTables};
+ghost use Rattle.sys_calls.specs.Answered.{IsAnswered, IsCaller, IsEntered, IsRead};
+ghost use Rattle.sys_calls.specs.Tables.{HoldsTables};
 ghost use Rattle.sys_calls.specs.Made.{HasPages, IsMade};
-ghost use Rattle.sys_calls.specs.Registered.{KeepsAreas, int_in};
-ghost use Rattle.sys_calls.specs.Signalled.{KeepsSignals, mask_changed, pass_action, sigaction_with, sigprocmask_done};
+ghost use Rattle.sys_calls.specs.Registered.{int_in};
+ghost use Rattle.sys_calls.specs.Signalled.{mask_changed, pass_action, sigaction_with, sigprocmask_done};
 ghost use Rattle.mach_types.specs.Registers.{register};
 
 use crate::arguments::{argument, int_argument, signal_number};
@@ -176,10 +177,7 @@ pub fn rt_sigaction(
 ) -> Result<u32, Errno>
     requires fresh { written.old.items ≡ [] }
     ensures errno { IfErr result (λ e. 1 ≤ e.0) }
-    ensures tables { KeepsTables kernel.old kernel.new }
-    ensures areas { KeepsAreas kernel.old kernel.new }
-    ensures signals { KeepsSignals kernel.old kernel.new }
-    ensures answered { (h : Here) (t : ℕ) → IsTold h kernel.old → IsRead h pages.old t saved.now
+    ensures answered { (h : Here) (t : ℕ) → HoldsTables kernel.old h.kernel → IsRead h pages.old t saved.now
         → IsAnswered h t kernel.old pages.old kernel.new pages.new written.new.items result (call.rt_sigaction h t) }
 {
     let new = asked_action(pages, saved)?;
@@ -285,10 +283,7 @@ pub fn rt_sigprocmask(
     requires fresh { written.old.items ≡ [] }
     requires held { IsTrue (spec.is_held tid.0 kernel.old.signals) }
     ensures errno { IfErr result (λ e. 1 ≤ e.0) }
-    ensures tables { KeepsTables kernel.old kernel.new }
-    ensures areas { KeepsAreas kernel.old kernel.new }
-    ensures signals { KeepsSignals kernel.old kernel.new }
-    ensures answered { (h : Here) → IsTold h kernel.old → IsRead h pages.old tid.0 saved.now
+    ensures answered { (h : Here) → HoldsTables kernel.old h.kernel → IsRead h pages.old tid.0 saved.now
         → IsAnswered h tid.0 kernel.old pages.old kernel.new pages.new written.new.items result (call.rt_sigprocmask h tid.0) }
 {
     may_mask(pages, saved)?;
@@ -309,10 +304,7 @@ pub fn rt_sigreturn(
     saved: &mut Saved,
 ) -> CallEnd
     requires { IsCaller kernel.old here.0 tid.0 }
-    ensures tables { KeepsTables kernel.old kernel.new }
-    ensures areas { KeepsAreas kernel.old kernel.new }
-    ensures signals { KeepsSignals kernel.old kernel.new }
-    ensures made { (h : Here) → h.hart ≡ here.0 → IsTold h kernel.old → HasPages h pages.now → IsRead h pages.now tid.0 saved.old
+    ensures made { (h : Here) → h.hart ≡ here.0 → HoldsTables kernel.old h.kernel → HasPages h pages.now → IsRead h pages.now tid.0 saved.old
         → IsMade h tid.0 kernel.old pages.now kernel.new pages.now saved.new result (call.rt_sigreturn h tid.0) }
 {
     if kernel.signals.pop_frame(pages, tid, saved) {

@@ -7,9 +7,8 @@ ghost use Rattle.block_model.specs.Here.{Here, memory};
 ghost use Rattle.block_model.specs.Calls.Answers.{number_at as number_there};
 ghost use Rattle.block_model.specs.Calls.Console.{all_readable, bytes_from, bytes_of, is_elsewhere, spans_at, total, write, writev};
 ghost use Rattle.sys_calls.specs.Joined.{write_joined};
-ghost use Rattle.sys_calls.specs.Answered.{IsAnswered, IsRead, IsTold, KeepsTables};
-ghost use Rattle.sys_calls.specs.Registered.{KeepsAreas};
-ghost use Rattle.sys_calls.specs.Signalled.{KeepsSignals};
+ghost use Rattle.sys_calls.specs.Answered.{IsAnswered, IsRead};
+ghost use Rattle.sys_calls.specs.Tables.{HoldsTables};
 
 use crate::arguments::{argument, int_argument};
 use crate::console::Console;
@@ -51,10 +50,7 @@ fn is_elsewhere(saved: &Saved) -> bool
 /// write(fd, buf, len): appends the first bytes that fit, and answers how many. EBADF, EFAULT, ENOSPC in this order.
 pub fn write(kernel: &mut Kernel, pages: &PageMap, saved: &Saved) -> Result<u32, Errno>
     ensures errno { IfErr result (λ e. 1 ≤ e.0) }
-    ensures tables { KeepsTables kernel.old kernel.new }
-    ensures areas { KeepsAreas kernel.old kernel.new }
-    ensures signals { KeepsSignals kernel.old kernel.new }
-    ensures answered { (h : Here) (t : ℕ) → IsTold h kernel.old → IsRead h pages.now t saved.now
+    ensures answered { (h : Here) (t : ℕ) → HoldsTables kernel.old h.kernel → IsRead h pages.now t saved.now
         → IsAnswered h t kernel.old pages.now kernel.new pages.now [] result (write h t) }
 {
     if is_elsewhere(saved) {
@@ -158,10 +154,7 @@ impl Records {
 /// more than 1,024 records, EFAULT for the records, EINVAL for 2^31 bytes or more, and then as write: in this order.
 pub fn writev(kernel: &mut Kernel, pages: &PageMap, saved: &Saved) -> Result<u32, Errno>
     ensures errno { IfErr result (λ e. 1 ≤ e.0) }
-    ensures tables { KeepsTables kernel.old kernel.new }
-    ensures areas { KeepsAreas kernel.old kernel.new }
-    ensures signals { KeepsSignals kernel.old kernel.new }
-    ensures answered { (h : Here) (t : ℕ) → IsTold h kernel.old → IsRead h pages.now t saved.now
+    ensures answered { (h : Here) (t : ℕ) → HoldsTables kernel.old h.kernel → IsRead h pages.now t saved.now
         → IsAnswered h t kernel.old pages.now kernel.new pages.now [] result (writev h t) }
 {
     if is_elsewhere(saved) {
@@ -184,10 +177,7 @@ pub fn writev(kernel: &mut Kernel, pages: &PageMap, saved: &Saved) -> Result<u32
 fn write_records(kernel: &mut Kernel, pages: &PageMap, records: Records) -> Result<u32, Errno>
     requires end { records.at + 16 * records.count ≤ 2 ^ 64 }
     ensures errno { IfErr result (λ e. 1 ≤ e.0) }
-    ensures tables { KeepsTables kernel.old kernel.new }
-    ensures areas { KeepsAreas kernel.old kernel.new }
-    ensures signals { KeepsSignals kernel.old kernel.new }
-    ensures answered { (h : Here) (t : ℕ) → IsTold h kernel.old → byte_in pages.now ≡ memory h
+    ensures answered { (h : Here) (t : ℕ) → HoldsTables kernel.old h.kernel → byte_in pages.now ≡ memory h
         → IsAnswered h t kernel.old pages.now kernel.new pages.now [] result (write_joined h t (spans_at h records.at records.count)) }
 {
     let Some(length) = records.total(pages) else {

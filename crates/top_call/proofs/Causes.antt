@@ -11,7 +11,7 @@ use Rattle.outside.specs.Counts.{NeverFalls, NoneFalls, Rose}
 use Rattle.outcomes.specs.declared.reasons.FileRole.{FileRole}
 use Rattle.outcomes.specs.declared.reasons.FileRole.TheVariants as role
 use Rattle.outcomes.specs.declared.reasons.Reason.{Reason}
-use Rattle.outcomes.specs.declared.reasons.Reason.TheVariants.{Words, Unread, NoMemory, TooBig, Elf, Script, Unwritten}
+use Rattle.outcomes.specs.declared.reasons.Reason.TheVariants.{Words, Unread, NoMemory, TooBig, Elf, Script, Guest, Unwritten}
 use Rattle.outcomes.specs.Causes.{HasBigFile, IsCause, IsRefusalOf, IsScriptRefusalOf, ReadFailed}
 use Rattle.outcomes.specs.Delivery.{IsFileReason, IsLoadReason, IsPlayReason}
 use Rattle.outcomes.specs.ElfPlaces.{place_of}
@@ -44,6 +44,7 @@ unread_program files program limits old new said (TooBig role.Program) why = why
 unread_program files program limits old new said (TooBig role.Script) why = absurd cc
 unread_program files program limits old new said (Elf fault about) why = absurd why
 unread_program files program limits old new said (Script number fault) why = absurd why
+unread_program files program limits old new said (Guest number) why = absurd why
 unread_program files program limits old new said (Unwritten trouble) why = absurd why
 
 -- the program is read, and no image is taken from its bytes
@@ -66,6 +67,7 @@ refused_program files program bytes given limits old new said (Elf fault about) 
   place = subst (λ (b : List ℕ). about ≡ place_of b limits fault) same why.1;
 }
 refused_program files program bytes given limits old new said (Script number fault) same read fits why = absurd why
+refused_program files program bytes given limits old new said (Guest number) same read fits why = absurd why
 refused_program files program bytes given limits old new said (Unwritten trouble) same read fits why = absurd why
 
 -- what is said of a program is said of it beside a script too
@@ -81,6 +83,7 @@ program_beside files program script limits old new said (TooBig role.Program) wh
 program_beside files program script limits old new said (TooBig role.Script) why = absurd why
 program_beside files program script limits old new said (Elf fault about) why = why
 program_beside files program script limits old new said (Script number fault) why = absurd why
+program_beside files program script limits old new said (Guest number) why = absurd why
 program_beside files program script limits old new said (Unwritten trouble) why = absurd why
 
 -- the script isn't read, after the program was taken
@@ -114,6 +117,7 @@ unread_script files same program script limits image old mid new said (Elf fault
     absurd why
 unread_script files same program script limits image old mid new said (Script number fault) is taken first second why =
     absurd why
+unread_script files same program script limits image old mid new said (Guest number) is taken first second why = absurd why
 unread_script files same program script limits image old mid new said (Unwritten trouble) is taken first second why = absurd why
 
 -- the script isn't played to its end
@@ -143,6 +147,7 @@ unplayed files same program script lines text limits image old new said (Script 
       };
       why = bad.why;
     }
+unplayed files same program script lines text limits image old new said (Guest number) is equal taken read why = absurd why
 unplayed files same program script lines text limits image old new said (Unwritten trouble) is equal taken read why = absurd why
 
 -- an error that is passed on
@@ -164,7 +169,7 @@ cause_of files words old new said (Unread file trouble) why = by_needs (need.nee
     by_needs (need.Program program limits) role.Script why = absurd why
     by_needs (need.Script program script limits) role.Program why = inl why
     by_needs (need.Script program script limits) role.Script why = inr why
-cause_of files words old new said NoMemory why = tt
+cause_of files words old new said NoMemory why = why
 cause_of files words old new said (TooBig file) why = by_needs (need.needs_in words) file why
   where
     by_needs : (needs : need.Needs) (file : FileRole) → IsBig files needs file → HasBigFile files needs
@@ -186,6 +191,7 @@ cause_of files words old new said (Script number fault) why = by_needs (need.nee
     by_needs need.Nothing why = absurd why
     by_needs (need.Program program limits) why = absurd why
     by_needs (need.Script program script limits) why = why.refused
+cause_of files words old new said (Guest number) why = absurd why
 cause_of files words old new said (Unwritten trouble) why = absurd why
 
 -- it stands for a fault
@@ -197,4 +203,5 @@ is_told files words old new said NoMemory why = refl
 is_told files words old new said (TooBig file) why = refl
 is_told files words old new said (Elf fault about) why = refl
 is_told files words old new said (Script number fault) why = refl
+is_told files words old new said (Guest number) why = absurd why
 is_told files words old new said (Unwritten trouble) why = absurd why

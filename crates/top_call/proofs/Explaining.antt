@@ -1,5 +1,5 @@
 -- The outcome of a call and the reason that goes with it, from what was answered and how it was delivered.
-use Rattle.std.proofs.Common.{◌≡◌, ◌∙◌, ℕ, inl, inr, List, Option, refl, sym, ap, subst, Some, Result, Ok, Err}
+use Rattle.std.proofs.Common.{◌≡◌, ◌∙◌, ℕ, inl, inr, List, Option, None, refl, sym, ap, subst, Some, Result, Ok, Err}
 use Rattle.std.specs.declared.alloc.Global.{Global}
 use Rattle.std.specs.declared.vec.Vec.{Vec}
 use Rattle.std.specs.declared.io.ErrorKind.{ErrorKind}
@@ -7,15 +7,20 @@ use Rattle.outcomes.specs.declared.faults.Fault.{Fault}
 use Rattle.outcomes.specs.declared.faults.Fault.TheVariants as told
 use Rattle.outcomes.specs.declared.reasons.Explained.{Explained}
 use Rattle.outcomes.specs.declared.reasons.Reason.{Reason}
-use Rattle.outcomes.specs.declared.reasons.Reason.TheVariants.{Words, Unread, NoMemory, TooBig, Elf, Script, Unwritten}
-use Rattle.std.specs.Prelude.{IfErr, IfSome, IsSome}
+use Rattle.outcomes.specs.declared.reasons.Reason.TheVariants.{Words, Unread, NoMemory, TooBig, Elf, Script, Guest, Unwritten}
+use Rattle.std.specs.Option.{is_some}
+use Rattle.std.specs.Prelude.{IfErr, IfOk, IfSome, IsSome}
+use Rattle.command_words.specs.Commands.{Command}
+use Rattle.command_words.specs.Words.{command_of}
 use Rattle.outcomes.specs.Answers.{IsAnswerFor, IsToldFor}
 use Rattle.outcomes.specs.Causes.{IsCause}
 use Rattle.outcomes.specs.Delivery.{IsAsDue, IsDelivered, due_for}
-use Rattle.outcomes.specs.Outcome.{Call, IsOutcome, WroteText}
+use Rattle.outcomes.specs.Outcome.{Call, IsOutcome, WrotePrefix, WroteText}
+use Rattle.outcomes.specs.Needs.{needs_of}
+use Rattle.outcomes.specs.Outputs.{IsCommandOutput, IsOutput, IsOutputOf}
 use Rattle.outcomes.specs.Programs.{Files}
 use Rattle.outcomes.specs.Text.{fault_line}
-use Rattle.outcomes.specs.Reasons.{IsExplained, IsReason, IsReasonOf, Troubles, WroteLine, fault_told, reason_status}
+use Rattle.outcomes.specs.Reasons.{IsExplained, IsReason, IsReasonFor, IsReasonOf, IsUntold, Troubles, WroteLine, fault_told, reason_status}
 use Rattle.top_call.proofs.Causes.{cause_of, is_told}
 use Rattle.top_call.proofs.Outcomes.{IsKept, told_outcome}
 
@@ -44,6 +49,7 @@ outcome_of call said (Err (Elf fault about)) status keeps why told_so =
     told_outcome call (Err (told.Elf fault)) status keeps (cause call said (Elf fault about) why) told_so
 outcome_of call said (Err (Script number fault)) status keeps why told_so =
     told_outcome call (Err (told.Script number)) status keeps (cause call said (Script number fault) why) told_so
+outcome_of call said (Err (Guest number)) status keeps why told_so = absurd why
 outcome_of call said (Err (Unwritten trouble)) status keeps why told_so = absurd why
 
 -- a reason of the words and the files
@@ -59,6 +65,7 @@ module _ (call : Call) (troubles : Troubles) where
   is_reason (TooBig file) why = why
   is_reason (Elf fault about) why = why
   is_reason (Script number fault) why = why
+  is_reason (Guest number) why = absurd why
   is_reason (Unwritten trouble) why = absurd why
 
   -- has neither the status of an output nor that of a failed sink
@@ -73,6 +80,7 @@ module _ (call : Call) (troubles : Troubles) where
   not_six (TooBig file) why is = absurd cc
   not_six (Elf fault about) why is = absurd cc
   not_six (Script number fault) why is = absurd cc
+  not_six (Guest number) why is = absurd cc
   not_six (Unwritten trouble) why is = absurd why
 
   not_unwritten : (reason : Reason) → IsOfFiles reason → ¬ (reason ≡ Unwritten troubles.sink)
@@ -94,10 +102,11 @@ module _ (call : Call) (troubles : Troubles) where
   wrote_line (TooBig file) status is well told_so = line_of told.Big 8 status is well told_so
   wrote_line (Elf fault about) status is well told_so = line_of (told.Elf fault) 3 status is well told_so
   wrote_line (Script number fault) status is well told_so = line_of (told.Script number) 4 status is well told_so
+  wrote_line (Guest number) status is well told_so = line_of (told.Guest number) 9 status is well told_so
   wrote_line (Unwritten trouble) status is well told_so = tt
 
   by_reason : (reason : Reason) → IsOfFiles reason → IsOutcome call (reason_status reason) → WroteLine call reason
-      → IsExplained call troubles (record { status = reason_status reason; reason = Some reason })
+      → IsExplained call troubles (record { status = reason_status reason; reason = Some reason; untold = None })
   by_reason reason why outcome line = record {
     outcome = outcome;
     none = (λ e. absurd cc, λ e. absurd (not_zero reason e));
@@ -108,7 +117,23 @@ module _ (call : Call) (troubles : Troubles) where
     status = refl;
     line = line;
     why = is_reason reason why;
+    untold = tt;
+    in_part = λ six none. absurd (not_six reason why six);
   }
+
+  -- where the sink failed, what was due is untold: a reason of the words and the files, or a part of the output
+  untold_of : (answer : Result (Vec ℕ Global) Reason) → IsAnswerFor call.files call.words call.read_faults
+      call.read_faults_after troubles.shelf answer → IfSome (due_for answer).reason (IsUntold call troubles 6)
+  untold_of (Ok text) output = tt
+  untold_of (Err reason) why = record { unwritten = refl; why = why }
+
+  part_of : (answer : Result (Vec ℕ Global) Reason) (status : ℕ) → IsAnswerFor call.files call.words call.read_faults
+      call.read_faults_after troubles.shelf answer
+      → IsToldFor call.held call.held_after call.write_faults call.write_faults_after answer status
+      → status ≡ 6 → (due_for answer).reason ≡ None → WrotePrefix call (IsOutput call.files call.words)
+  part_of (Ok text) status output (inl written) six none = absurd (cc (sym written.status ∙ six))
+  part_of (Ok text) status output (inr cut) six none = (text.items, output, cut.gained)
+  part_of (Err reason) status why told_so six none = absurd (cc none)
 
 -- how a call is explained whose answer was told, with this outcome
 explained_so : (call : Call) (troubles : Troubles) (answer : Result (Vec ℕ Global) Reason) (explained : Explained)
@@ -125,6 +150,8 @@ explained_so call troubles (Ok text) explained output told_so (inl due) outcome 
       status = tt;
       line = tt;
       why = tt;
+      untold = tt;
+      in_part = λ six none. absurd (cc six);
     })
 explained_so call troubles (Err reason) explained why told_so (inl due) outcome =
     let is : explained.status ≡ reason_status reason = ap (λ (e : Explained). e.status) due in
@@ -140,6 +167,9 @@ explained_so call troubles answer explained answered told_so (inr unwritten) out
       status = refl;
       line = tt;
       why = record { failed = unwritten.rose; trouble_told = refl };
+      untold = untold_of call troubles answer answered;
+      in_part = λ six none. part_of call troubles answer explained.status answered told_so
+          (ap (λ (e : Explained). e.status) unwritten.failed) none;
     })
 
 pub explained_of : (call : Call) (troubles : Troubles) (answer : Result (Vec ℕ Global) Reason) (explained : Explained)
@@ -158,3 +188,31 @@ pub due_is_told : (files : Files) (words : List (List ℕ)) (old new : List ℕ 
     → IfErr answer (λ reason. IsSome (fault_told reason))
 due_is_told files words old new said (Ok text) output = tt
 due_is_told files words old new said (Err reason) why = is_told files words old new said reason why
+
+-- a reason of the files that the command of the words needs is one of the words
+reason_for : (files : Files) (words : List (List ℕ)) (old new : List ℕ → ℕ) (said : Option ErrorKind)
+    (command : Command) (reason : Reason) → command_of words ≡ Some command
+    → IsReasonFor files (needs_of (Some command)) old new said reason → IsReasonOf files words old new said reason
+reason_for files words old new said command (Words fault) is why = absurd why
+reason_for files words old new said command (Unread file trouble) is why =
+    subst (λ (c : Option Command). IsReasonFor files (needs_of c) old new said (Unread file trouble)) (sym is) why
+reason_for files words old new said command NoMemory is why = ap (λ (c : Option Command). is_some c) is
+reason_for files words old new said command (TooBig file) is why =
+    subst (λ (c : Option Command). IsReasonFor files (needs_of c) old new said (TooBig file)) (sym is) why
+reason_for files words old new said command (Elf fault about) is why =
+    subst (λ (c : Option Command). IsReasonFor files (needs_of c) old new said (Elf fault about)) (sym is) why
+reason_for files words old new said command (Script number fault) is why =
+    subst (λ (c : Option Command). IsReasonFor files (needs_of c) old new said (Script number fault)) (sym is) why
+reason_for files words old new said command (Guest number) is why = absurd why
+reason_for files words old new said command (Unwritten trouble) is why = absurd why
+
+-- the answer to the words, from the answer to their command
+pub answer_for : (files : Files) (words : List (List ℕ)) (old new : List ℕ → ℕ) (said : Option ErrorKind)
+    (command : Command) (answer : Result (Vec ℕ Global) Reason) → command_of words ≡ Some command
+    → IfOk answer (λ text. IsCommandOutput files command text.items)
+    → IfErr answer (IsReasonFor files (needs_of (Some command)) old new said)
+    → IsAnswerFor files words old new said answer
+answer_for files words old new said command (Ok text) is output why =
+    subst (λ (c : Option Command). IsOutputOf files c text.items) (sym is) output
+answer_for files words old new said command (Err reason) is output why =
+    reason_for files words old new said command reason is why

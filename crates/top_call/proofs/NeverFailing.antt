@@ -34,11 +34,9 @@ none_failed : (words : List (List ℕ)) (files : List ℕ → List ℕ) (after :
     → NoneFailed (sure_call words files after held held_after)
 none_failed words files after held held_after = (all_read (all_told files) (needs_in words), never_rose)
 
-without_six : (status : ℕ) → ¬ (status ≡ 6) → (status ≡ 2) ⊎ (status ≡ 6) ⊎ (status ≡ 7)
-    → (status ≡ 2) ⊎ (status ≡ 7)
-without_six status none (inl two) = inl two
-without_six status none (inr (inl six)) = absurd (none six)
-without_six status none (inr (inr seven)) = inr seven
+without_six : (status : ℕ) → ¬ (status ≡ 6) → (status ≡ 2) ⊎ (status ≡ 6) → status ≡ 2
+without_six status none (inl two) = two
+without_six status none (inr six) = absurd (none six)
 
 pub sure_of : (words : List (List ℕ)) (files : List ℕ → List ℕ) (after : Files) (held held_after : Option (List ℕ))
     (status : ℕ) → IsOutcome (sure_call words files after held held_after) status
@@ -61,5 +59,6 @@ sure_of words files after held held_after status outcome =
       memory = outcome.memory;
       big = outcome.big;
       big_always = λ told. outcome.big_always told none;
+      guest = outcome.guest;
       complete = λ told. outcome.complete told none;
     }

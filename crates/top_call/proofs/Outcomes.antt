@@ -5,12 +5,12 @@ use Rattle.std.specs.declared.alloc.Global.{Global}
 use Rattle.std.specs.declared.vec.Vec.{Vec}
 use Rattle.outside.specs.Counts.{NeverFalls, NoneFalls}
 use Rattle.outcomes.specs.declared.faults.Fault.{Fault}
-use Rattle.outcomes.specs.declared.faults.Fault.TheVariants.{Usage, Read, Memory, Big, Elf, Script}
+use Rattle.outcomes.specs.declared.faults.Fault.TheVariants.{Usage, Read, Memory, Big, Elf, Script, Guest}
 use Rattle.outcomes.specs.Answers.{IsAnswer, IsTold}
 use Rattle.outcomes.specs.Causes.{HasBigFile, IsCause, IsCauseOf}
 use Rattle.outcomes.specs.Delivery.{IsCutShort, IsDelivered, IsWritten}
 use Rattle.outcomes.specs.Needs.{needs_in}
-use Rattle.outcomes.specs.Outcome.{Call, CouldNotRead, IsDue, IsElfLine, IsOutcome, IsScriptLine, IsStatus}
+use Rattle.outcomes.specs.Outcome.{Call, CouldNotRead, IsDue, IsElfLine, IsGuestLine, IsOutcome, IsScriptLine, IsStatus}
 use Rattle.outcomes.specs.Outcome.{Wrote, WroteText}
 use Rattle.outcomes.specs.Outputs.{IsOutput, IsOutputOf}
 use Rattle.outcomes.specs.Programs.{Files}
@@ -55,7 +55,7 @@ cut_short call text status keeps due cut =
       done = not_both status 6 0 is (λ e. absurd cc);
       plain = not_both status 6 0 is (λ e. absurd cc);
       usage = not_both status 6 2 is (λ e. absurd cc);
-      usage_always = λ none. inr (inl is);
+      usage_always = λ none. inr is;
       elf = not_both status 6 3 is (λ e. absurd cc);
       elf_always = λ told none. absurd (none.1 cut.rose);
       script = not_both status 6 4 is (λ e. absurd cc);
@@ -65,6 +65,7 @@ cut_short call text status keeps due cut =
       memory = not_both status 6 7 is (λ e. absurd cc);
       big = not_both status 6 8 is (λ e. absurd cc);
       big_always = λ told none. absurd (none.1 cut.rose);
+      guest = not_both status 6 9 is (λ e. absurd cc);
       complete = λ told none. absurd (none.1 cut.rose);
       files = keeps.files;
       shelf_counts = keeps.shelf_counts;
@@ -92,6 +93,7 @@ written_output call text status keeps output written =
       memory = not_both status 0 7 is (λ e. absurd cc);
       big = not_both status 0 8 is (λ e. absurd cc);
       big_always = λ told none. absurd (unused_when_big call.files (needs_in call.words) told used);
+      guest = not_both status 0 9 is (λ e. absurd cc);
       complete = λ told none. inl is;
       files = keeps.files;
       shelf_counts = keeps.shelf_counts;
@@ -105,7 +107,8 @@ a_status (Elf fault) = inr (inr (inl refl))
 a_status (Script number) = inr (inr (inr (inl refl)))
 a_status Read = inr (inr (inr (inr (inl refl))))
 a_status Memory = inr (inr (inr (inr (inr (inr (inl refl))))))
-a_status Big = inr (inr (inr (inr (inr (inr (inr refl))))))
+a_status Big = inr (inr (inr (inr (inr (inr (inr (inl refl)))))))
+a_status (Guest number) = inr (inr (inr (inr (inr (inr (inr (inr refl)))))))
 
 no_output_status : (fault : Fault) → ¬ (fault_status fault ≡ 0)
 no_output_status Usage is = absurd cc
@@ -152,17 +155,18 @@ module _ (call : Call) where
   big_said Big cause gained is = (cause, gained)
   big_said fault cause gained is = absurd cc
 
--- where there is no command, the fault is one of usage, or want of memory
-usage_alone : (files : Files) (old new : List ℕ → ℕ) (fault : Fault) → IsCauseOf files None old new fault
-    → (fault_status fault ≡ 2) ⊎ (fault_status fault ≡ 7)
-usage_alone files old new Usage cause = inl refl
-usage_alone files old new Memory cause = inr refl
-usage_alone files old new fault cause = absurd cause
+  guest_said : (fault : Fault) → HasCause fault → WroteText call (fault_line fault) → fault_status fault ≡ 9
+      → Wrote call (IsGuestLine call.words)
+  guest_said (Guest number) cause gained is =
+      (fault_line (Guest number), record { number = number; outside = cause; line = refl }, gained)
+  guest_said fault cause gained is = absurd cc
 
-or_six : (due status : ℕ) → status ≡ due → (due ≡ 2) ⊎ (due ≡ 7)
-    → (status ≡ 2) ⊎ (status ≡ 6) ⊎ (status ≡ 7)
-or_six due status is (inl at) = inl (is ∙ at)
-or_six due status is (inr at) = inr (inr (is ∙ at))
+-- where there is no command, the fault is one of usage
+usage_alone : (files : Files) (old new : List ℕ → ℕ) (fault : Fault) → IsCauseOf files None old new fault
+    → fault_status fault ≡ 2
+usage_alone files old new Usage cause = refl
+usage_alone files old new Memory cause = absurd (cc cause)
+usage_alone files old new fault cause = absurd cause
 
 -- the line of a fault was written
 written_line : (call : Call) (fault : Fault) (status : ℕ) → IsKept call
@@ -180,9 +184,8 @@ written_line call fault status keeps cause written =
       done = λ at. absurd (no_output_status fault (sym is ∙ at));
       plain = λ at. absurd (no_output_status fault (sym is ∙ at));
       usage = λ at. usage_said call fault cause written.gained (sym is ∙ at);
-      usage_always = λ none. or_six (fault_status fault) status is
-          (usage_alone call.files old new fault
-          (subst (λ c. IsCauseOf call.files c old new fault) none cause));
+      usage_always = λ none. inl (is
+          ∙ usage_alone call.files old new fault (subst (λ c. IsCauseOf call.files c old new fault) none cause));
       elf = λ at. elf_said call fault cause written.gained (sym is ∙ at);
       elf_always = λ told none. is_now 3 7
           (fault_when_faulty call.files command old new fault told none.0 cause);
@@ -195,6 +198,7 @@ written_line call fault status keeps cause written =
       big = λ at. big_said call fault cause written.gained (sym is ∙ at);
       big_always = λ told none. is_now 8 7
           (fault_when_big call.files command old new fault told none.0 cause);
+      guest = λ at. guest_said call fault cause written.gained (sym is ∙ at);
       complete = λ told none. inr (is
           ∙ ap fault_status (fault_when_good call.files command old new fault told none.0 cause));
       files = keeps.files;

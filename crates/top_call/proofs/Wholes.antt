@@ -1,95 +1,56 @@
 -- From a whole run to the text of a command.
-use Rattle.std.proofs.Common.{◌≡◌, ℕ, ◌<◌, ◌≤◌, subst, List, All, arith}
-use Rattle.mach_types.specs.declared.events.Entry.{Entry}
+use Rattle.std.proofs.Common.{◌≡◌, ℕ, List, subst, sym}
 use Rattle.mach_types.specs.declared.limits.Limits.{Limits}
 use Rattle.elf_load.specs.declared.image.Image.{Image}
 use Rattle.block_model.specs.Run.{IsBlockRun}
 use Rattle.block_model.specs.Setting.{Setting, Seen, setting_of}
-use Rattle.block_model.proofs.Laws.{all_harts}
-use Rattle.outcomes.specs.Outputs.{IsBlocksOutput, IsInspectOutput, IsPlayOutput, IsPlayed, IsRunOutput, IsSoloOutput}
-use Rattle.outcomes.specs.Outputs.{log_output, log_place, log_summary}
+use Rattle.command_words.specs.Commands.{Command, Source, Rule, Script, Workers}
+use Rattle.outcomes.specs.Outputs.{HasRun, IsCommandOutput, seed_of, shown_text}
 use Rattle.outcomes.specs.Programs.{Files, IsProgram, IsScript, start_of}
 use Rattle.outcomes.specs.Runs.{IsPlayedRun, IsWholePlay, IsWholeRun, IsWholeSolo}
+use Rattle.output_laws.proofs.Laws.{block_run_of}
 
--- each hart of a run is a digit
-digits : (s : Setting) (log : List Entry) → s.limits.harts ≤ 8 → IsBlockRun s log
-    → All (λ (e : Entry). e.hart.0 < 8) log
-digits s log eight run = λ k d lt. let small = all_harts s log run k d lt in omega (arith, small, eight)
+pub run_by_rule : (files : Files) (program : List ℕ) (limits : Limits) (image : Image) (m : Seen)
+    → IsProgram files program limits image → IsWholeSolo (start_of image limits) m
+    → HasRun files program Rule limits image m
+run_by_rule files program limits image m taken whole =
+    record { taken = taken; setting = whole.setting; made = whole.run }
 
-pub solo_digits : (image : Image) (limits : Limits) (m : Seen) → limits.harts ≤ 8
-    → IsWholeSolo (start_of image limits) m → All (λ (e : Entry). e.hart.0 < 8) m.log
-solo_digits image limits m eight whole = digits (start_of image limits) m.log eight whole.run.block_run
-
-pub run_digits : (image : Image) (limits : Limits) (seed : ℕ) (m : Seen) → limits.harts ≤ 8
-    → IsWholeRun (setting_of image limits seed) m → All (λ (e : Entry). e.hart.0 < 8) m.log
-run_digits image limits seed m eight whole =
-    digits (setting_of image limits seed) m.log eight whole.run.block_run
-
-pub solo_output_of : (files : Files) (program : List ℕ) (limits : Limits) (image : Image) (m : Seen)
-    (text : List ℕ) → IsProgram files program limits image → IsWholeSolo (start_of image limits) m
-    → text ≡ log_output m.setting m.log → IsSoloOutput files program limits text
-solo_output_of files program limits image m text taken whole is = record {
-  image = image;
-  taken = taken;
-  log = m.log;
-  run = whole.run;
-  text = subst (λ (s : Setting). text ≡ log_output s m.log) whole.setting is;
-}
-
--- what was played, from the machine that played it
-pub played_of : (files same : Files) (program script lines given : List ℕ) (limits : Limits)
+pub run_by_script : (files same : Files) (program script lines given : List ℕ) (limits : Limits)
     (image : Image) (m : Seen) → same ≡ files → given ≡ lines → IsProgram files program limits image
     → IsScript same script lines → IsWholePlay (start_of image limits) given m
-    → IsPlayed files program script limits image m.log
-played_of files same program script lines given limits image m is equal taken read whole = record {
+    → HasRun files program (Script script) limits image m
+run_by_script files same program script lines given limits image m is equal taken read whole = record {
   taken = taken;
-  lines = lines;
-  read = subst (λ f. IsScript f script lines) is read;
-  run = subst (λ t. IsPlayedRun (start_of image limits) t m.log) equal whole.run;
+  setting = whole.setting;
+  made = record {
+    lines = lines;
+    read = subst (λ f. IsScript f script lines) is read;
+    run = subst (λ t. IsPlayedRun (start_of image limits) t m.log) equal whole.run;
+  };
 }
 
-pub play_digits : (files : Files) (program script : List ℕ) (limits : Limits) (image : Image) (log : List Entry)
-    → limits.harts ≤ 8 → IsPlayed files program script limits image log → All (λ (e : Entry). e.hart.0 < 8) log
-play_digits files program script limits image log eight played =
-    digits (start_of image limits) log eight played.run.block_run
+pub run_by_workers : (files : Files) (program : List ℕ) (limits : Limits) (seed : ℕ) (image : Image) (m : Seen)
+    → IsProgram files program limits image → IsWholeRun (setting_of image limits seed) m
+    → HasRun files program (Workers seed) limits image m
+run_by_workers files program limits seed image m taken whole =
+    record { taken = taken; setting = whole.setting; made = whole.run }
 
-pub play_output_of : (files : Files) (program script : List ℕ) (limits : Limits) (image : Image) (m : Seen)
-    (text : List ℕ) → IsPlayed files program script limits image m.log → m.setting ≡ start_of image limits
-    → text ≡ log_output m.setting m.log → IsPlayOutput files program script limits text
-play_output_of files program script limits image m text played start written = record {
-  image = image;
-  log = m.log;
-  played = played;
-  text = subst (λ (s : Setting). text ≡ log_output s m.log) start written;
-}
+-- the machine at its end made a block run
+pub block_run_at_end : (files : Files) (program : List ℕ) (source : Source) (limits : Limits) (image : Image) (m : Seen)
+    → HasRun files program source limits image m → IsBlockRun m.setting m.log
+block_run_at_end files program source limits image m run =
+    subst (λ (s : Setting). IsBlockRun s m.log) (sym run.setting)
+    (block_run_of files source (setting_of image limits (seed_of source)) m.log run.made)
 
-pub blocks_output_of : (files : Files) (program script : List ℕ) (limits : Limits) (image : Image) (m : Seen)
-    (text : List ℕ) → IsPlayed files program script limits image m.log → m.setting ≡ start_of image limits
-    → text ≡ log_summary m.setting m.log → IsBlocksOutput files program script limits text
-blocks_output_of files program script limits image m text played start written = record {
+-- what the command shows of it is its output
+pub output_of_run : (files : Files) (command : Command) (image : Image) (m : Seen) (text : List ℕ)
+    → HasRun files command.program command.source command.limits image m
+    → text ≡ shown_text command.shown m.setting m.log → IsCommandOutput files command text
+output_of_run files command image m text run is = record {
   image = image;
+  taken = run.taken;
   log = m.log;
-  played = played;
-  text = subst (λ (s : Setting). text ≡ log_summary s m.log) start written;
-}
-
-pub inspect_output_of : (files : Files) (program script : List ℕ) (limits : Limits) (image : Image) (m : Seen)
-    (text : List ℕ) → IsPlayed files program script limits image m.log → m.setting ≡ start_of image limits
-    → text ≡ log_place m.setting m.log → IsInspectOutput files program script limits text
-inspect_output_of files program script limits image m text played start written = record {
-  image = image;
-  log = m.log;
-  played = played;
-  text = subst (λ (s : Setting). text ≡ log_place s m.log) start written;
-}
-
-pub run_output_of : (files : Files) (program : List ℕ) (limits : Limits) (seed : ℕ) (image : Image) (m : Seen)
-    (text : List ℕ) → IsProgram files program limits image → IsWholeRun (setting_of image limits seed) m
-    → text ≡ log_output m.setting m.log → IsRunOutput files program limits seed text
-run_output_of files program limits seed image m text taken whole is = record {
-  image = image;
-  taken = taken;
-  log = m.log;
-  run = whole.run;
-  text = subst (λ (s : Setting). text ≡ log_output s m.log) whole.setting is;
+  made = run.made;
+  text = subst (λ (s : Setting). text ≡ shown_text command.shown s m.log) run.setting is;
 }

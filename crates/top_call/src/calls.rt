@@ -1,20 +1,20 @@
 //! The top call: from words, files and a sink to a status, and to the reason that goes with it.
 
-ghost use Rattle.std.specs.Prelude.{◌≡◌, true, None, Some, Err, IfNone, IfSome};
+ghost use Rattle.std.specs.Prelude.{◌≡◌, true, None, Some, Err, IfErr, IfNone, IfOk, IfSome};
+ghost use Rattle.mach_types.specs.Limits.{InRange};
 ghost use Rattle.outside.specs.Counts.{NoneFalls};
+ghost use Rattle.command_words.specs.Commands.{ShowsItsText, is_by_workers, is_run};
+ghost use Rattle.command_words.specs.Kept.{said, source_said};
+ghost use Rattle.command_words.specs.Words.{command_of, texts};
 ghost use Rattle.outcomes.specs.declared.faults.Fault.TheVariants.{Memory};
 ghost use Rattle.outcomes.specs.declared.reasons.Reason.TheVariants.{NoMemory};
 ghost use Rattle.outcomes.specs.Answers.{IsAnswerFor, IsTold};
 ghost use Rattle.outcomes.specs.Outcome.{IsOutcome};
 ghost use Rattle.outcomes.specs.Reasons.{IsExplained};
-ghost use Rattle.command_words.specs.WordFaults.{words_fault};
-ghost use Rattle.command_words.specs.Words.{command_of, is_run, texts};
 
 use crate::delivery::tell;
-use crate::texts::{blocks_text, inspect_text, play_text, run_text, solo_text};
-use command_words::{
-    Command, WordsFault, command_of, words_are_wrong_or_name_a_command, words_fault,
-};
+use crate::texts::{quiet_text, workers_text};
+use command_words::{Command, Source, WordsError, read_words};
 use outcomes::{Explained, Reason};
 use outside::{Gate, Shelf, Sink};
 use std::alloc::Global;
@@ -79,8 +79,8 @@ pub fn rseq_explained<R: Threads + Wait + Sync, S: Shelf, K: Sink, G: Gate + Syn
     ensures untouched { command_of (texts words.now) ≡ None → shelf.new ≡ shelf.old }
 {
     match quiet_explained(alloc, words, shelf, sink) {
-        Some(explained) => explained,
-        None => tell(sink, run_answer(alloc, rt, words, shelf, gate)),
+        Ok(explained) => explained,
+        Err(command) => tell(sink, workers_text(alloc, rt, &command, shelf, gate)),
     }
 }
 
@@ -112,23 +112,28 @@ pub fn rseq_quiet<S: Shelf, K: Sink>(
     })) }
     ensures untouched { command_of (texts words.now) ≡ None → shelf.new ≡ shelf.old }
 {
-    let explained = quiet_explained(alloc, words, shelf, sink)?;
-    Some(explained.status)
+    match quiet_explained(alloc, words, shelf, sink) {
+        Ok(explained) => Some(explained.status),
+        Err(_) => None,
+    }
 }
 
-/// The same, and the reason that goes with the status.
-fn quiet_explained<S: Shelf, K: Sink>(
+/// The same, and the reason that goes with the status; Err with the command where it is left to workers.
+fn quiet_explained<'a, S: Shelf, K: Sink>(
     alloc: Global,
-    words: &[String],
+    words: &'a [String],
     shelf: &mut S,
     sink: &mut K,
-) -> Option<Explained>
-    ensures none { IfNone result (is_run (command_of (texts words.now)) ≡ true) }
-    ensures run { is_run (command_of (texts words.now)) ≡ true → IfSome result (λ explained.
+) -> Result<Explained, Command<'a>>
+    ensures left { IfErr result (λ command. command_of (texts words.now) ≡ Some (said command)) }
+    ensures workers { IfErr result (λ command. is_by_workers (source_said command.source) ≡ true) }
+    ensures limits { IfErr result (λ command. InRange command.limits) }
+    ensures shown { IfErr result (λ command. ShowsItsText (said command)) }
+    ensures run { is_run (command_of (texts words.now)) ≡ true → IfOk result (λ explained.
         IsTold (K.held sink.old) (K.held sink.new) (K.faults sink.old) (K.faults sink.new) (Err Memory)
         explained.status) }
-    ensures unused { IfNone result ((shelf.new ≡ shelf.old) × (sink.new ≡ sink.old)) }
-    ensures explained { IfSome result (IsExplained (record {
+    ensures unused { IfErr result (λ command. (shelf.new ≡ shelf.old) × (sink.new ≡ sink.old)) }
+    ensures explained { IfOk result (IsExplained (record {
       words = texts words.now;
       files = S.file shelf.old;
       files_after = S.file shelf.new;
@@ -141,110 +146,53 @@ fn quiet_explained<S: Shelf, K: Sink>(
     }) (record { shelf = S.last_trouble shelf.new; sink = K.last_trouble sink.new })) }
     ensures untouched { command_of (texts words.now) ≡ None → shelf.new ≡ shelf.old }
 {
-    let answer = quiet_answer(alloc, words, shelf)?;
-    Some(tell(sink, answer))
+    match quiet_answer(alloc, words, shelf) {
+        Ok(answer) => Ok(tell(sink, answer)),
+        Err(command) => Err(command),
+    }
 }
 
-/// The output of the words, or the reason why there is none. Where the words are a `run` that is None, or want of memory
-/// before that is known. All memory is taken here.
-fn quiet_answer<S: Shelf>(
+/// The output of the words, or the reason why there is none; Err with the command where it is left to workers. Where
+/// the words are a `run` the answer is that, or want of memory before it is known. All memory is taken here.
+fn quiet_answer<'a, S: Shelf>(
     alloc: Global,
-    words: &[String],
+    words: &'a [String],
     shelf: &mut S,
-) -> Option<Result<Vec<u8>, Reason>>
-    ensures none { IfNone result (is_run (command_of (texts words.now)) ≡ true) }
+) -> Result<Result<Vec<u8>, Reason>, Command<'a>>
+    ensures left { IfErr result (λ command. command_of (texts words.now) ≡ Some (said command)) }
+    ensures workers { IfErr result (λ command. is_by_workers (source_said command.source) ≡ true) }
+    ensures limits { IfErr result (λ command. InRange command.limits) }
+    ensures shown { IfErr result (λ command. ShowsItsText (said command)) }
     ensures run { is_run (command_of (texts words.now)) ≡ true
-        → IfSome result (λ answer. answer ≡ Err NoMemory) }
+        → IfOk result (λ answer. answer ≡ Err NoMemory) }
     ensures unread { is_run (command_of (texts words.now)) ≡ true → shelf.new ≡ shelf.old }
-    ensures answer { IfSome result
+    ensures unused { IfErr result (λ command. shelf.new ≡ shelf.old) }
+    ensures answer { IfOk result
         (IsAnswerFor (S.file shelf.old) (texts words.now) (S.faults shelf.old) (S.faults shelf.new)
         (S.last_trouble shelf.new)) }
     ensures untouched { command_of (texts words.now) ≡ None → shelf.new ≡ shelf.old }
     ensures files { S.file shelf.new ≡ S.file shelf.old }
     ensures counts { NoneFalls (S.faults shelf.old) (S.faults shelf.new) }
 {
-    match command_of(alloc, words) {
-        Ok(Some(Command::Solo { program, limits })) => {
-            Some(solo_text(alloc, program, limits, shelf))
+    match read_words(alloc, words) {
+        Ok(command) => {
+            if needs_workers(&command) {
+                Err(command)
+            } else {
+                Ok(quiet_text(alloc, &command, shelf))
+            }
         }
-        Ok(
-            Some(
-                Command::Play {
-                    program,
-                    script,
-                    limits,
-                },
-            ),
-        ) => Some(play_text(alloc, program, script, limits, shelf)),
-        Ok(
-            Some(
-                Command::Blocks {
-                    program,
-                    script,
-                    limits,
-                },
-            ),
-        ) => Some(blocks_text(alloc, program, script, limits, shelf)),
-        Ok(
-            Some(
-                Command::Inspect {
-                    program,
-                    script,
-                    limits,
-                },
-            ),
-        ) => Some(inspect_text(alloc, program, script, limits, shelf)),
-        Ok(Some(Command::Run { .. })) => None,
-        Ok(None) => Some(Err(Reason::Words(wrong_words(words)))),
-        Err(_) => Some(Err(Reason::NoMemory)),
+        Err(WordsError::Wrong(fault)) => Ok(Err(Reason::Words(fault))),
+        Err(WordsError::NoMemory) => Ok(Err(Reason::NoMemory)),
     }
 }
 
-/// The output of words that are a `run`, or the reason why there is none. All memory is taken here.
-fn run_answer<R: Threads + Wait + Sync, S: Shelf, G: Gate + Sync>(
-    alloc: Global,
-    rt: &R,
-    words: &[String],
-    shelf: &mut S,
-    gate: &G,
-) -> Result<Vec<u8>, Reason>
-    requires run { is_run (command_of (texts words.now)) ≡ true }
-    ensures answer { IsAnswerFor (S.file shelf.old) (texts words.now) (S.faults shelf.old) (S.faults shelf.new)
-        (S.last_trouble shelf.new) result }
-    ensures files { S.file shelf.new ≡ S.file shelf.old }
-    ensures counts { NoneFalls (S.faults shelf.old) (S.faults shelf.new) }
+/// Whether the log of a command comes about by workers.
+fn needs_workers(command: &Command) -> bool
+    ensures { result ≡ is_by_workers (source_said command.now.source) }
 {
-    match command_of(alloc, words) {
-        Ok(
-            Some(
-                Command::Run {
-                    program,
-                    limits,
-                    seed,
-                },
-            ),
-        ) => run_text(alloc, rt, program, limits, seed, shelf, gate),
-        Ok(
-            Some(
-                Command::Solo { .. }
-                | Command::Play { .. }
-                | Command::Blocks { .. }
-                | Command::Inspect { .. },
-            )
-            | None,
-        ) => unreachable!(),
-        Err(_) => Err(Reason::NoMemory),
-    }
-}
-
-/// What is wrong with words that are no command.
-fn wrong_words(words: &[String]) -> WordsFault
-    requires { command_of (texts words.now) ≡ None }
-    ensures { words_fault (texts words.now) ≡ Some result }
-{
-    words_are_wrong_or_name_a_command();
-    match words_fault(words) {
-        Some(fault) => fault,
-        None => unreachable!(),
+    match command.source {
+        Source::Workers { .. } => true,
+        Source::Rule | Source::Script(_) => false,
     }
 }

@@ -1,6 +1,6 @@
 //! Writing an answer: an output, or the line of a fault.
 
-ghost use Rattle.std.specs.Prelude.{◌≡◌, IfErr, IsSome, Some};
+ghost use Rattle.std.specs.Prelude.{◌≡◌, IfErr, IsSome, None, Some};
 ghost use Rattle.outside.specs.Counts.{NeverFalls};
 ghost use Rattle.outcomes.specs.Answers.{IsToldFor};
 ghost use Rattle.outcomes.specs.Delivery.{IsAsDue, IsDelivered, due_for};
@@ -26,6 +26,7 @@ pub(crate) fn tell<K: Sink>(sink: &mut K, answer: Result<Vec<u8>, Reason>) -> Ex
             let due = Explained {
                 status: DONE,
                 reason: None,
+                untold: None,
             };
             deliver(sink, &text, due)
         }
@@ -47,18 +48,26 @@ fn deliver<K: Sink>(sink: &mut K, text: &[u8], due: Explained) -> Explained
 {
     match emit(sink, text) {
         Ok(()) => due,
-        Err(_) => told(Reason::Unwritten {
-            trouble: sink.trouble(),
-        }),
+        Err(_) => {
+            let reason = Reason::Unwritten {
+                trouble: sink.trouble(),
+            };
+            Explained {
+                status: reason.status(),
+                reason: Some(reason),
+                untold: due.reason,
+            }
+        }
     }
 }
 
 /// A call with this reason and its status.
 fn told(reason: Reason) -> Explained
-    ensures { result ≡ record { status = reason_status reason; reason = Some reason } }
+    ensures { result ≡ record { status = reason_status reason; reason = Some reason; untold = None } }
 {
     Explained {
         status: reason.status(),
         reason: Some(reason),
+        untold: None,
     }
 }

@@ -3,7 +3,8 @@
 ghost use Rattle.std.specs.Prelude.{◌≡◌, true, IfNone, IfSome};
 ghost use Rattle.outside.specs.SureShelf.{sure_file};
 ghost use Rattle.outcomes.specs.Outcome.{IsSureOutcome};
-ghost use Rattle.command_words.specs.Words.{command_of, is_run, texts};
+ghost use Rattle.command_words.specs.Commands.{is_run};
+ghost use Rattle.command_words.specs.Words.{command_of, texts};
 
 use crate::calls::{rseq_main, rseq_quiet};
 use outside::{Gate, SureShelf, SureSink};

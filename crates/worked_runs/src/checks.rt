@@ -5,7 +5,7 @@ use crate::differences::{Call, Difference, Unlike};
 use crate::dues::{Due, unlike_outcome};
 use crate::printed::Printed;
 use crate::rows::{Failing, NamedFile, Run};
-use command_words::{Command, command_of};
+use command_words::{Command, Shown, Source, WordsError, read_words};
 use mach_types::Limits;
 use std::alloc::{AllocError, Global};
 use std::sync::Wait;
@@ -66,7 +66,9 @@ fn quiet_unlike(
     due: &Due,
     found: &Outcome,
 ) -> Result<Option<Unlike>, AllocError> {
-    if let Some(Command::Run { .. }) = command_of(alloc, run.words)? {
+    if let Some(command) = command_of(alloc, run.words)?
+        && let Source::Workers { .. } = command.source
+    {
         let nothing = Outcome {
             status: None,
             text: Vec::new(alloc),
@@ -83,18 +85,22 @@ struct Logged<'a> {
     limits: Limits,
 }
 
+/// What these words ask for, where they are a command.
+fn command_of(alloc: Global, words: &[String]) -> Result<Option<Command<'_>>, AllocError> {
+    match read_words(alloc, words) {
+        Ok(command) => Ok(Some(command)),
+        Err(WordsError::Wrong(_)) => Ok(None),
+        Err(WordsError::NoMemory) => Err(AllocError),
+    }
+}
+
 /// The program and the limits of these words, where they are of a command that prints a log.
 fn logged_of(alloc: Global, words: &[String]) -> Result<Option<Logged<'_>>, AllocError> {
     match command_of(alloc, words)? {
         Some(
-            Command::Solo { program, limits }
-            | Command::Play {
+            Command {
                 program,
-                limits,
-                ..
-            }
-            | Command::Run {
-                program,
+                shown: Shown::Output,
                 limits,
                 ..
             },

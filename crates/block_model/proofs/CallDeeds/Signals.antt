@@ -1,5 +1,5 @@
 -- tkill(2), tgkill(2), sigaction(2), sigprocmask(2) and sigreturn(2).
-use Rattle.std.proofs.Common.{◌≡◌, ℕ, List, Bool, cond, eqb, false, true, refl, subst, Option, Some, None, is_some, [], ◌∷◌}
+use Rattle.std.proofs.Common.{◌≡◌, ◌≢◌, ◌∙◌, ℕ, List, Bool, cond, eqb, false, true, refl, subst, Option, Some, None, is_some, [], ◌∷◌}
 use Rattle.std.specs.Option.{option_map_or}
 use Rattle.std.proofs.lemmas.Bool.{and_parts, false≢true}
 use Rattle.mach_types.specs.Kernel.SignalFrames.{frame_read}
@@ -15,6 +15,8 @@ use Rattle.block_model.specs.Here.{Here, memory}
 use Rattle.block_model.specs.Record.{Kernel}
 use Rattle.block_model.proofs.BytesOfMemory.{number_small}
 use Rattle.block_model.proofs.CallDeeds.{AllStand, CallDeed, Breaks, Resumes, Says, Signalled, answers_0, by_errors, deed_killed, either}
+use Rattle.block_model.proofs.Calm.{next_acted, next_masked, next_posted, next_unbroken}
+use Rattle.block_model.proofs.Heeded.{AllHeeded, heeded_acted, heeded_masked, heeded_posted}
 use Rattle.block_model.proofs.SignalSteps.{KeepsThreads, StandsAt, acted_keeps, acted_stand, masked_keeps, posted_keeps, posted_stand, same_stand}
 
 -- a thread whose wait a signal breaks waits
@@ -49,6 +51,14 @@ masked_actions : (b : Bool) (t mask : ℕ) (g : Signalling)
 masked_actions true t mask g = refl
 masked_actions false t mask g = refl
 
+masked_heeds : (b : Bool) (t mask : ℕ) (g : Signalling) → AllHeeded g → AllHeeded (cond b g (with_mask t mask g))
+masked_heeds true t mask g all = all
+masked_heeds false t mask g all = heeded_masked t mask g all
+
+masked_calm : (b : Bool) (t mask w : ℕ) → w ≢ t → (g : Signalling) → next_for w (cond b g (with_mask t mask g)) ≡ next_for w g
+masked_calm true t mask w ne g = refl
+masked_calm false t mask w ne g = next_masked t w ne mask g
+
 module _ (here : Here) (t number : ℕ) where
   deed_post : (u sig : ℕ) → CallDeed here t number (post here t u sig)
   deed_post u sig =
@@ -56,8 +66,10 @@ module _ (here : Here) (t number : ℕ) where
       let after = with_posted here u sig in
       let keeps = posted_keeps u sig here.kernel.signals in
       let stand = λ (all : AllStand here). posted_stand u sig here.kernel.signals all.handlers in
-      either (waits_in_vain u after) (λ vain. Breaks u g (in_vain_waits u after vain) keeps stand)
-      (λ _. answers_0 [] _ (Signalled g keeps stand))
+      let heeds = heeded_posted u sig here.kernel.signals in
+      either (waits_in_vain u after) (λ vain. Breaks u g (in_vain_waits u after vain) keeps stand heeds
+      (λ w ne none. next_posted u w ne sig here.kernel.signals ∙ none)) (λ calm. answers_0 [] _ (Signalled g keeps stand heeds
+      (λ w ne is none. next_unbroken u sig w here.kernel.threads here.kernel.signals calm is none)))
 
   deed_send : (u sig : ℕ) → CallDeed here t number (send here t u sig)
   deed_send u sig = by_errors ((refuses_signal sig, EINVAL) ∷ []) _
@@ -79,7 +91,8 @@ module _ (here : Here) (t number : ℕ) where
       let new = action_given here act in
       by_errors (sigaction_errors here t) _ (λ _.
       answers_0 _ _ (Signalled (acted sig new g) (acted_keeps sig new g)
-      (λ all. acted_stand sig new g (given_stands here act all) all.handlers)))
+      (λ all. acted_stand sig new g (given_stands here act all) all.handlers) (heeded_acted sig new g)
+      (λ w ne is none. next_acted sig w new g none)))
 
   pub deed_sigprocmask : CallDeed here t number (rt_sigprocmask here t)
   deed_sigprocmask =
@@ -89,7 +102,9 @@ module _ (here : Here) (t number : ℕ) where
       let mask = changed_mask how (number_at here set 8) (mask_of t g) in
       by_errors (sigprocmask_errors here t) _ (λ _.
       answers_0 _ _ (Signalled (masked here t how set) (masked_by (eqb set 0) t mask g)
-      (λ all. same_stand g (masked here t how set) (masked_actions (eqb set 0) t mask g) all.handlers)))
+      (λ all. same_stand g (masked here t how set) (masked_actions (eqb set 0) t mask g) all.handlers)
+      (masked_heeds (eqb set 0) t mask g)
+      (λ w ne is none. masked_calm (eqb set 0) t mask w ne g ∙ none)))
 
 -- a handler returns
 deed_resumed : (here : Here) (t : ℕ) (words : Option (List ℕ))

@@ -1,6 +1,7 @@
 //! Words of the grammar, and others.
 
-use crate::commands::{Command, command_of};
+use crate::commands::{Command, Source, command_of};
+use crate::table::Shown;
 use mach_types::Limits;
 use std::alloc::{AllocError, Global};
 use std::test::Fail;
@@ -14,68 +15,39 @@ pub(crate) fn strings(alloc: Global, words: &[&str]) -> Result<Vec<String>, Allo
     Ok(all)
 }
 
+/// A command with these limits.
+fn asked<'a>(
+    program: &'a str,
+    source: Source<'a>,
+    shown: Shown,
+    (harts, frames, steps): (u8, u32, u32),
+) -> Option<Command<'a>> {
+    Some(Command {
+        program,
+        source,
+        shown,
+        limits: Limits {
+            harts,
+            frames,
+            steps,
+        },
+    })
+}
+
 /// The command `solo` with these limits.
 fn solo(program: &str, frames: u32, steps: u32) -> Option<Command<'_>> {
-    Some(Command::Solo {
-        program,
-        limits: Limits {
-            harts: 1,
-            frames,
-            steps,
-        },
-    })
+    asked(program, Source::Rule, Shown::Output, (1, frames, steps))
 }
 
-/// The command `play` on `F` and `S` with these limits.
-fn play(harts: u8, frames: u32, steps: u32) -> Option<Command<'static>> {
-    Some(Command::Play {
-        program: "F",
-        script: "S",
-        limits: Limits {
-            harts,
-            frames,
-            steps,
-        },
-    })
-}
-
-/// The command `blocks` on `F` and `S` with these limits.
-fn blocks(harts: u8, frames: u32, steps: u32) -> Option<Command<'static>> {
-    Some(Command::Blocks {
-        program: "F",
-        script: "S",
-        limits: Limits {
-            harts,
-            frames,
-            steps,
-        },
-    })
-}
-
-/// The command `inspect` on `F` and `S` with these limits.
-fn inspect(harts: u8, frames: u32, steps: u32) -> Option<Command<'static>> {
-    Some(Command::Inspect {
-        program: "F",
-        script: "S",
-        limits: Limits {
-            harts,
-            frames,
-            steps,
-        },
-    })
+/// A command on `F` and `S` with these limits.
+fn scripted(shown: Shown, harts: u8, frames: u32, steps: u32) -> Option<Command<'static>> {
+    asked("F", Source::Script("S"), shown, (harts, frames, steps))
 }
 
 /// The command `run` on `F` with this number of harts and this seed.
 fn run(harts: u8, seed: u64) -> Option<Command<'static>> {
-    Some(Command::Run {
-        program: "F",
-        limits: Limits {
-            harts,
-            frames: 4_096,
-            steps: 200_000,
-        },
-        seed,
-    })
+    let source = Source::Workers { seed };
+    asked("F", source, Shown::Output, (harts, 4_096, 200_000))
 }
 
 #[test]
@@ -93,21 +65,33 @@ fn words_of_the_grammar_name_a_command(rt: HostRuntime) -> Result<(), Fail> {
         (&["solo", "--", "--"], solo("--", 4_096, 200_000)),
         (&["solo", "-"], solo("-", 4_096, 200_000)),
         (&["solo", "", "--steps=00001"], solo("", 4_096, 1)),
-        (&["play", "F", "S"], play(2, 4_096, 200_000)),
-        (&["play", "F", "S", "--harts=8"], play(8, 4_096, 200_000)),
-        (&["blocks", "F", "S"], blocks(2, 4_096, 200_000)),
+        (
+            &["play", "F", "S"],
+            scripted(Shown::Output, 2, 4_096, 200_000),
+        ),
+        (
+            &["play", "F", "S", "--harts=8"],
+            scripted(Shown::Output, 8, 4_096, 200_000),
+        ),
+        (
+            &["blocks", "F", "S"],
+            scripted(Shown::Summary, 2, 4_096, 200_000),
+        ),
         (
             &["blocks", "--steps", "5", "F", "S", "--frames=128"],
-            blocks(2, 128, 5),
+            scripted(Shown::Summary, 2, 128, 5),
         ),
         (
             &["blocks", "--harts=8", "F", "--", "S"],
-            blocks(8, 4_096, 200_000),
+            scripted(Shown::Summary, 8, 4_096, 200_000),
         ),
-        (&["inspect", "F", "S"], inspect(2, 4_096, 200_000)),
+        (
+            &["inspect", "F", "S"],
+            scripted(Shown::Place, 2, 4_096, 200_000),
+        ),
         (
             &["inspect", "F", "--steps=3", "S", "--harts", "1"],
-            inspect(1, 4_096, 3),
+            scripted(Shown::Place, 1, 4_096, 3),
         ),
         (&["run", "F"], run(2, 1)),
         (&["run", "F", "--harts", "8", "--seed", "7"], run(8, 7)),
@@ -120,7 +104,7 @@ fn words_of_the_grammar_name_a_command(rt: HostRuntime) -> Result<(), Fail> {
         (&["solo", "--", "--help"], solo("--help", 4_096, 200_000)),
         (
             &["play", "--harts=3", "F", "--", "S"],
-            play(3, 4_096, 200_000),
+            scripted(Shown::Output, 3, 4_096, 200_000),
         ),
     ];
     for (words, command) in table {

@@ -1,7 +1,7 @@
 //! What is wrong with the words of a command line, for a person.
 
 use super::shown::Shown;
-use crate::usage::USAGE;
+use crate::usage::{push_help, push_usage};
 use command_words::WordsFault;
 use std::alloc::AllocError;
 use std::fmt::Write;
@@ -49,7 +49,19 @@ pub(crate) fn push_words_fault(
         WordsFault::NoProgram => writeln!(text, "{command}: the name of the program is missing")?,
         WordsFault::NoScript => writeln!(text, "{command}: the name of the script is missing")?,
     }
-    text.push_str(USAGE)
+    push_usage(text)?;
+    if asks_for_help(words) {
+        push_help(text)?;
+    }
+    Ok(())
+}
+
+/// Whether the only word asks for help or for the version. The grammar has no such word.
+fn asks_for_help(words: &[String]) -> bool {
+    match words {
+        [word] => matches!(word.as_str(), "--help" | "-h" | "help" | "--version"),
+        _ => false,
+    }
 }
 
 /// The word of this number, counted from 1.

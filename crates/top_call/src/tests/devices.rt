@@ -30,11 +30,12 @@ pub(super) const SURE: Failing<'static> = Failing {
     writes: &[],
 };
 
-/// What a call came to: its status, the reason that goes with it, and what the sink holds.
+/// What a call came to: its status, the reason that goes with it, what couldn't be told, and what the sink holds.
 #[derive(Debug, Drop)]
 pub(super) struct Outcome {
     pub(super) status: u8,
     pub(super) reason: Option<Reason>,
+    pub(super) untold: Option<Reason>,
     pub(super) held: Vec<u8>,
 }
 
@@ -107,6 +108,7 @@ pub(super) fn made<R: Threads + Wait + Sync>(
     Ok(Outcome {
         status: explained.status,
         reason: explained.reason,
+        untold: explained.untold,
         held: sink.held().to_vec(alloc)?,
     })
 }

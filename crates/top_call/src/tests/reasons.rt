@@ -6,6 +6,7 @@ use super::programs::{
     NINTH_STORE_SCRIPT, REMOVES_ITS_PAGE, REMOVES_ITS_PAGE_SCRIPT, STORES, TAKEN_SCRIPT,
 };
 use block_model::Refused;
+use command_words::WordsFault;
 use elf_load::ElfFault;
 use mach_types::{End, Entry, Hart, Kind, Tid, Why};
 use outcomes::{ElfPlace, FileRole, LineFault, Reason, Span};
@@ -59,6 +60,24 @@ fn devices_have_their_reasons(rt: HostRuntime) -> Result<(), Fail> {
         let outcome = made(rt.alloc(), &rt, line, FILES, Failing { reads, writes })?;
         assert_eq!(rt; outcome.status, status, "{line} {reads:?} {writes:?}");
         assert_eq!(rt; outcome.reason, reason, "{line} {reads:?} {writes:?}");
+    }
+    Ok(())
+}
+
+#[test]
+fn what_could_not_be_told_stands_beside_it(rt: HostRuntime) -> Result<(), Fail> {
+    let wrong = Some(Reason::Words(WordsFault::UnknownCommand));
+    let table: [(&str, &[u64], &[u64], Option<Reason>); 4] = [
+        ("play F S", &[], &[2], None),
+        ("play F S", &[5], &[1], NO_SCRIPT),
+        ("run f", &[], &[1], NO_PROGRAM),
+        ("Solo F", &[], &[1], wrong),
+    ];
+    for (line, reads, writes, untold) in table {
+        let outcome = made(rt.alloc(), &rt, line, FILES, Failing { reads, writes })?;
+        assert_eq!(rt; outcome.status, 6, "{line}");
+        assert_eq!(rt; outcome.reason, UNWRITTEN, "{line}");
+        assert_eq!(rt; outcome.untold, untold, "{line}");
     }
     Ok(())
 }

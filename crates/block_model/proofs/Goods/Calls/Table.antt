@@ -77,7 +77,7 @@ module _ (here : Here) (t number : ℕ) (good : IsGoodHere here) (at : runs here
   fit_step n entered (Prints bytes room) = keeping n entered _ (kept_printed s bytes now good.kernel room)
   fit_step n entered (Clears p) = keeping n entered _ (kept_cleared s t p now good.kernel)
   fit_step n entered Leaves = moving n entered _ (moved_left s h t now good.kernel at)
-  fit_step n entered (Waits p) = moving n entered _ (moved_waited s h t p now good.kernel at)
+  fit_step n entered (Waits p none) = moving n entered _ (moved_waited s h t p now good.kernel at)
   fit_step n entered (Stays set below some) = keeping n entered _ (kept_restricted s t set now good.kernel below some)
   fit_step n entered (MovesOff set below some) =
       let k = restricted t set now in
@@ -86,7 +86,7 @@ module _ (here : Here) (t number : ℕ) (good : IsGoodHere here) (at : runs here
   fit_step n entered (Registers area none) =
       keeping n entered _ (kept_areas s (with_area t area now.areas) now good.kernel (held_registered s.limits.harts t area now (running_lives here t good at) none))
   fit_step n entered Unregisters = keeping n entered _ (kept_areas s (without_area t now.areas) now good.kernel (held_unregistered s.limits.harts t now))
-  fit_step n entered (Signalled g keeps stand) = keeping n entered _ (kept_signalled s g now good.kernel keeps)
+  fit_step n entered (Signalled g keeps stand heeds calm) = keeping n entered _ (kept_signalled s g now good.kernel keeps)
   fit_step n entered (EnrolsFor r) = keeping n entered _ (kept_for_barriers s r now good.kernel)
   fit_step n entered (Remaps pages stays paged) = record {
     others = λ k ne. refl;
@@ -111,7 +111,7 @@ module _ (here : Here) (t number : ℕ) (good : IsGoodHere here) (at : runs here
       fit_kept_by _ refl
       (apart_own here t (returned (length done.threads) (here.file t)) (map (answered_wait here) done.threads) good at (apart_woken here n p good))
       (kept_wake s n p now good.kernel)
-  fit_deed (Breaks u g waiting keeps stand) =
+  fit_deed (Breaks u g waiting keeps stand heeds calm) =
       let k = signalled g now in
       let kept = kept_signalled s g now good.kernel keeps in
       fit_kept_by _ refl (apart_own here t (returned 0 (here.file t)) (broken_wait here u ∷ []) good at (apart_broken here u good waiting))

@@ -10,13 +10,14 @@ use Rattle.block_model.specs.Here.{Here}
 use Rattle.block_model.specs.Calls.Affinity.{names_nobody, set_at}
 use Rattle.block_model.specs.Calls.Answers.{argument, are_readable, int_argument}
 use Rattle.sys_calls.specs.declared.kernel.Kernel.{Kernel}
-use Rattle.sys_calls.specs.Answered.{IsRead, IsTold}
+use Rattle.sys_calls.specs.Answered.{IsRead}
+use Rattle.sys_calls.specs.Tables.{HoldsTables}
 use Rattle.sys_calls.specs.Chosen.{setaffinity_with}
 use Rattle.sys_calls.proofs.Reading.{argument_is, if_false, if_true, int_argument_is, not_false, not_true, readable_at}
 use Rattle.sys_calls.proofs.affinity.asked_set.Goals as goal
 
 -- the thread that the call names
-nobody_is : (h : Here) (t named : ℕ) (k : Kernel) → IsTold h k → named ≡ int_argument h t 0 → not (eqb named 0 || is_live named k.threads.threads) ≡ names_nobody h (int_argument h t 0)
+nobody_is : (h : Here) (t named : ℕ) (k : Kernel) → HoldsTables k h.kernel → named ≡ int_argument h t 0 → not (eqb named 0 || is_live named k.threads.threads) ≡ names_nobody h (int_argument h t 0)
 nobody_is h t named k told is =
     ap (λ (ts : Threads). not (eqb named 0 || is_live named ts)) told.threads ∙ ap (names_nobody h) is
 

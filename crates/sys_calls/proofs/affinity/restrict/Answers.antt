@@ -2,7 +2,7 @@
 use Rattle.std.proofs.Common.{◌≡◌, ℕ, Bool, true, false, [], eqb, cond, refl, sym, ap, subst, ◌∙◌}
 use Rattle.std.specs.Prelude.{Ok, Err}
 use Rattle.std.specs.List.{list_any}
-use Rattle.std.proofs.lemmas.Bool.{eq-eqb, ne_eqb, false≢true}
+use Rattle.std.proofs.lemmas.Bool.{eq-eqb, false≢true, ne_eqb}
 use Rattle.mach_types.specs.declared.errors.Errno.{Errno}
 use Rattle.mach_types.specs.declared.errors.TheConstants.{EINVAL}
 use Rattle.block_model.specs.Record as record_of
@@ -15,10 +15,10 @@ use Rattle.block_model.specs.Calls.Affinity.{moved_off}
 use Rattle.block_model.specs.Calls.Answers.{CallDone, refused, said}
 use Rattle.block_model.proofs.Laws.{tables_allowed}
 use Rattle.sys_calls.specs.declared.kernel.Kernel.{Kernel}
-use Rattle.sys_calls.specs.Answered.{IsCaller, KeepsTables}
+use Rattle.sys_calls.specs.Answered.{IsCaller}
 use Rattle.sys_calls.specs.Made.{IsMade}
 use Rattle.sys_calls.specs.Chosen.{setaffinity_with}
-use Rattle.sys_calls.proofs.Keeping.{keeps_by, keeps_twice}
+use Rattle.sys_calls.proofs.Laws.{holds_scheduling}
 use Rattle.sys_calls.proofs.Leaving.{made_left}
 use Rattle.sys_calls.proofs.Reading.{if_false, if_true}
 use Rattle.sys_calls.proofs.Saying.{answered_said, answered_scheduled, made_answered}
@@ -41,7 +41,7 @@ setaffinity_at harts h t asked = cond (eqb (harts_in asked harts) 0) (refused h 
 
 -- a caller whose harts are others
 allowed_caller : (k : Kernel) (here t set : ℕ) (s : Scheduling) → IsCaller k here t → s ≡ with_affinity t set k.ready
-    → IsCaller (record { threads = k.threads; signals = k.signals; ready = s; areas = k.areas; registered = k.registered; console = k.console }) here t
+    → IsCaller (record k { ready = s }) here t
 allowed_caller k here t set s caller is =
     let tables = tables_allowed caller.tables.0 t set k.threads.threads k.ready caller.tables.1 in
     record {
@@ -63,64 +63,56 @@ pub leave-requires : goal.leave-requires
 leave-requires c =
     allowed_caller c.args.kernel.now c.args.here.0 c.args.tid.0 (harts_in c.args.set c.args.harts) c.set_affinity.new.self c.requires.caller c.in_default.ensures.ok
 
--- the tables, once the thread's harts are others
-allowed_keeps : (t set : ℕ) (k : Kernel) (s : Scheduling) → s ≡ with_affinity t set k.ready → KeepsTables k (record { threads = k.threads; signals = k.signals; ready = s; areas = k.areas; registered = k.registered; console = k.console })
-allowed_keeps t set k s is =
-    keeps_by k (record { threads = k.threads; signals = k.signals; ready = s; areas = k.areas; registered = k.registered; console = k.console }) k.threads.threads (with_affinity t set k.ready) refl is
-    (λ harts holds. tables_allowed harts t set k.threads.threads k.ready holds)
+pub returns-in-Err : goal.returns-in-Err
+returns-in-Err c = record {
+  made = λ h m hart count told has file.
+      let t = c.args.tid.0 in
+      let k = c.args.kernel.now in
+      let asked = c.args.set in
+      let none : eqb (harts_in asked c.args.harts) 0 ≡ true = eq-eqb (harts_in asked c.args.harts) 0 (c.in-Err.ensures.no_hart.0 refl) in
+      let is : setaffinity_with h t asked ≡ refused h t c.in-Err.errno =
+      ap (λ (n : ℕ). setaffinity_at n h t asked) count ∙ if_true (eqb (harts_in asked c.args.harts) 0) (refused h t EINVAL) _ none
+      ∙ ap (λ (e : Errno). refused h t e) (sym c.in-Err.ensures.errno) in
+      let done = answered_said h t k m (Err c.in-Err.errno) (setaffinity_with h t asked) told is in
+      let made = made_answered h t c.args.here.0 k k m m c.args.saved.now c.go_on.new.saved [] (Err c.in-Err.errno) c.go_on.result (setaffinity_with h t asked) hart told has file c.requires.caller done c.requires.caller.tables
+      c.go_on.ensures.saved c.go_on.ensures.stays c.go_on.ensures.runs_on c.go_on.ensures.waits_in_none c.go_on.ensures.ends c.go_on.ensures.answer in
+      subst (λ (s : Scheduling). IsMade h t k m (record k { ready = s }) m c.go_on.new.saved c.go_on.result (setaffinity_with h t asked)) (sym c.in-Err.ensures.err) made;
+}
 
-pub returns-then-allows-clause-tables : goal.returns-then-allows-clause-tables
-returns-then-allows-clause-tables c = allowed_keeps c.args.tid.0 (harts_in c.args.set c.args.harts) c.args.kernel.now c.set_affinity.new.self c.in_default.ensures.ok
+pub returns-then-allows : goal.returns-then-allows
+returns-then-allows c = record {
+  made = λ h m hart count told has file.
+      let t = c.args.tid.0 in
+      let k = c.args.kernel.now in
+      let set = harts_in c.args.set c.args.harts in
+      let some : eqb set 0 ≡ false = ne_eqb set 0 (λ e. false≢true (c.in_default.ensures.no_hart.1 e)) in
+      let held = caller_held k c.args.here.0 t c.requires.caller in
+      let at : has_hart set c.args.here.0 ≡ true = sym (has_now t set c.args.here.0 k.ready c.set_affinity.new.self held c.in_default.ensures.ok) ∙ (sym c.allows.ensures ∙ c.if-allows.true) in
+      let is = chosen h t c.args.set c.args.harts c.args.here.0 true count hart some at (restricted t set h.kernel) refl in
+      let k' : Kernel = record k { ready = c.set_affinity.new.self } in
+      let ready : k'.ready ≡ with_affinity t set h.kernel.scheduling = c.in_default.ensures.ok ∙ ap (with_affinity t set) told.scheduling in
+      let done = answered_scheduled h t k m (Ok 0) c.set_affinity.new.self (with_affinity t set h.kernel.scheduling) told ready in
+      let allowed = allowed_caller k c.args.here.0 t set c.set_affinity.new.self c.requires.caller c.in_default.ensures.ok in
+      let made = made_answered h t c.args.here.0 k k' m m c.args.saved.now c.go_on-then-allows.new.saved [] (Ok 0) c.go_on-then-allows.result _ hart told has file c.requires.caller done allowed.tables
+      c.go_on-then-allows.ensures.saved c.go_on-then-allows.ensures.stays c.go_on-then-allows.ensures.runs_on c.go_on-then-allows.ensures.waits_in_none c.go_on-then-allows.ensures.ends c.go_on-then-allows.ensures.answer in
+      subst (λ (d : CallDone). IsMade h t k m k' m c.go_on-then-allows.new.saved c.go_on-then-allows.result d) (sym is) made;
+}
 
-pub returns-clause-tables : goal.returns-clause-tables
-returns-clause-tables c =
-    let k = c.args.kernel.now in
-    keeps_twice k (record { threads = k.threads; signals = k.signals; ready = c.set_affinity.new.self; areas = k.areas; registered = k.registered; console = k.console }) c.leave.new.kernel
-    (allowed_keeps c.args.tid.0 (harts_in c.args.set c.args.harts) k c.set_affinity.new.self c.in_default.ensures.ok) c.leave.ensures.tables
-
-pub returns-in-Err-clause-made : goal.returns-in-Err-clause-made
-returns-in-Err-clause-made c = λ h m hart count told has file.
-    let t = c.args.tid.0 in
-    let k = c.args.kernel.now in
-    let asked = c.args.set in
-    let none : eqb (harts_in asked c.args.harts) 0 ≡ true = eq-eqb (harts_in asked c.args.harts) 0 (c.in-Err.ensures.no_hart.0 refl) in
-    let is : setaffinity_with h t asked ≡ refused h t c.in-Err.errno =
-    ap (λ (n : ℕ). setaffinity_at n h t asked) count ∙ if_true (eqb (harts_in asked c.args.harts) 0) (refused h t EINVAL) _ none
-    ∙ ap (λ (e : Errno). refused h t e) (sym c.in-Err.ensures.errno) in
-    let done = answered_said h t k m (Err c.in-Err.errno) (setaffinity_with h t asked) told is in
-    let made = made_answered h t c.args.here.0 k k m m c.args.saved.now c.go_on.new.saved [] (Err c.in-Err.errno) c.go_on.result (setaffinity_with h t asked) hart told has file c.requires.caller done c.requires.caller.tables
-    c.go_on.ensures.saved c.go_on.ensures.stays c.go_on.ensures.runs_on c.go_on.ensures.waits_in_none c.go_on.ensures.ends c.go_on.ensures.answer in
-    subst (λ (s : Scheduling). IsMade h t k m (record { threads = k.threads; signals = k.signals; ready = s; areas = k.areas; registered = k.registered; console = k.console }) m c.go_on.new.saved c.go_on.result (setaffinity_with h t asked)) (sym c.in-Err.ensures.err) made
-
-pub returns-then-allows-clause-made : goal.returns-then-allows-clause-made
-returns-then-allows-clause-made c = λ h m hart count told has file.
-    let t = c.args.tid.0 in
-    let k = c.args.kernel.now in
-    let set = harts_in c.args.set c.args.harts in
-    let some : eqb set 0 ≡ false = ne_eqb set 0 (λ e. false≢true (c.in_default.ensures.no_hart.1 e)) in
-    let held = caller_held k c.args.here.0 t c.requires.caller in
-    let at : has_hart set c.args.here.0 ≡ true = sym (has_now t set c.args.here.0 k.ready c.set_affinity.new.self held c.in_default.ensures.ok) ∙ (sym c.allows.ensures ∙ c.if-allows.true) in
-    let is = chosen h t c.args.set c.args.harts c.args.here.0 true count hart some at (restricted t set h.kernel) refl in
-    let k' : Kernel = record { threads = k.threads; signals = k.signals; ready = c.set_affinity.new.self; areas = k.areas; registered = k.registered; console = k.console } in
-    let ready : k'.ready ≡ with_affinity t set h.kernel.scheduling = c.in_default.ensures.ok ∙ ap (with_affinity t set) told.scheduling in
-    let done = answered_scheduled h t k k' m (Ok 0) (with_affinity t set h.kernel.scheduling) told refl refl ready refl refl refl in
-    let allowed = allowed_caller k c.args.here.0 t set c.set_affinity.new.self c.requires.caller c.in_default.ensures.ok in
-    let made = made_answered h t c.args.here.0 k k' m m c.args.saved.now c.go_on-then-allows.new.saved [] (Ok 0) c.go_on-then-allows.result _ hart told has file c.requires.caller done allowed.tables
-    c.go_on-then-allows.ensures.saved c.go_on-then-allows.ensures.stays c.go_on-then-allows.ensures.runs_on c.go_on-then-allows.ensures.waits_in_none c.go_on-then-allows.ensures.ends c.go_on-then-allows.ensures.answer in
-    subst (λ (d : CallDone). IsMade h t k m k' m c.go_on-then-allows.new.saved c.go_on-then-allows.result d) (sym is) made
-
-pub returns-clause-made : goal.returns-clause-made
-returns-clause-made c = λ h m hart count told has file.
-    let t = c.args.tid.0 in
-    let k = c.args.kernel.now in
-    let set = harts_in c.args.set c.args.harts in
-    let some : eqb set 0 ≡ false = ne_eqb set 0 (λ e. false≢true (c.in_default.ensures.no_hart.1 e)) in
-    let held = caller_held k c.args.here.0 t c.requires.caller in
-    let at : has_hart set c.args.here.0 ≡ false = sym (has_now t set c.args.here.0 k.ready c.set_affinity.new.self held c.in_default.ensures.ok) ∙ (sym c.allows.ensures ∙ c.if-allows.false) in
-    let is = chosen h t c.args.set c.args.harts c.args.here.0 false count hart some at (left t (restricted t set h.kernel)) refl in
-    let k1 : Kernel = record { threads = k.threads; signals = k.signals; ready = c.set_affinity.new.self; areas = k.areas; registered = k.registered; console = k.console } in
-    let ready : k1.ready ≡ with_affinity t set h.kernel.scheduling = c.in_default.ensures.ok ∙ ap (with_affinity t set) told.scheduling in
-    let made = made_left h t c.args.here.0 k k1 c.leave.new.kernel m c.args.saved.now c.leave.new.saved c.leave.result (restricted t set h.kernel) hart has refl told.areas refl file
-    told.threads told.signals ready told.barriers told.console refl (allowed_caller k c.args.here.0 t set c.set_affinity.new.self c.requires.caller c.in_default.ensures.ok)
-    c.leave.ensures.saved c.leave.ensures.threads c.leave.ensures.kept c.leave.ensures.ready c.leave.ensures.same_signals c.leave.ensures.same_areas c.leave.ensures.same_registered c.leave.ensures.console c.leave.ensures.end c.leave.ensures.a0 in
-    subst (λ (d : CallDone). IsMade h t k m c.leave.new.kernel m c.leave.new.saved c.leave.result d) (sym is) made
+pub returns : goal.returns
+returns c = record {
+  made = λ h m hart count told has file.
+      let t = c.args.tid.0 in
+      let k = c.args.kernel.now in
+      let set = harts_in c.args.set c.args.harts in
+      let some : eqb set 0 ≡ false = ne_eqb set 0 (λ e. false≢true (c.in_default.ensures.no_hart.1 e)) in
+      let held = caller_held k c.args.here.0 t c.requires.caller in
+      let at : has_hart set c.args.here.0 ≡ false = sym (has_now t set c.args.here.0 k.ready c.set_affinity.new.self held c.in_default.ensures.ok) ∙ (sym c.allows.ensures ∙ c.if-allows.false) in
+      let is = chosen h t c.args.set c.args.harts c.args.here.0 false count hart some at (left t (restricted t set h.kernel)) refl in
+      let k1 : Kernel = record k { ready = c.set_affinity.new.self } in
+      let ready : k1.ready ≡ with_affinity t set h.kernel.scheduling = c.in_default.ensures.ok ∙ ap (with_affinity t set) told.scheduling in
+      let held = holds_scheduling told c.set_affinity.new.self (with_affinity t set h.kernel.scheduling) ready in
+      let made = made_left h t c.args.here.0 k k1 c.leave.new.kernel m c.args.saved.now c.leave.new.saved c.leave.result (restricted t set h.kernel) hart has refl held refl file refl
+      (allowed_caller k c.args.here.0 t set c.set_affinity.new.self c.requires.caller c.in_default.ensures.ok)
+      c.leave.ensures.saved c.leave.ensures.threads c.leave.ensures.kept c.leave.ensures.ready c.leave.ensures.others c.leave.ensures.end c.leave.ensures.a0 in
+      subst (λ (d : CallDone). IsMade h t k m c.leave.new.kernel m c.leave.new.saved c.leave.result d) (sym is) made;
+}

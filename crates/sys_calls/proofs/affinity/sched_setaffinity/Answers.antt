@@ -7,19 +7,23 @@ use Rattle.sys_calls.specs.Made.{IsMade}
 use Rattle.sys_calls.proofs.Saying.{answered_said, made_answered}
 use Rattle.sys_calls.proofs.affinity.sched_setaffinity.Goals as goal
 
-pub returns-in-Ok-clause-made : goal.returns-in-Ok-clause-made
-returns-in-Ok-clause-made c = λ h hart count told has read.
-    let t = c.args.tid.0 in
-    let k = c.args.kernel.now in
-    let m = c.args.pages.now in
-    subst (λ (d : CallDone). IsMade h t k m c.restrict.new.kernel m c.restrict.new.saved c.restrict.result d) (sym (c.in-Ok.ensures.set h told read))
-    (c.restrict.ensures.made h m hart count told has read.file)
+pub returns-in-Ok : goal.returns-in-Ok
+returns-in-Ok c = record {
+  made = λ h hart count told has read.
+      let t = c.args.tid.0 in
+      let k = c.args.kernel.now in
+      let m = c.args.pages.now in
+      subst (λ (d : CallDone). IsMade h t k m c.restrict.new.kernel m c.restrict.new.saved c.restrict.result d) (sym (c.in-Ok.ensures.set h told read))
+      (c.restrict.ensures.made h m hart count told has read.file);
+}
 
-pub returns-in-Err-clause-made : goal.returns-in-Err-clause-made
-returns-in-Err-clause-made c = λ h hart count told has read.
-    let t = c.args.tid.0 in
-    let k = c.args.kernel.now in
-    let m = c.args.pages.now in
-    let done = answered_said h t k m (Err c.in-Err.errno) (sched_setaffinity h t) told (c.in-Err.ensures.refused h told read) in
-    made_answered h t c.args.here.0 k k m m c.args.saved.now c.go_on.new.saved [] (Err c.in-Err.errno) c.go_on.result (sched_setaffinity h t) hart told has read.file c.requires.caller done c.requires.caller.tables
-    c.go_on.ensures.saved c.go_on.ensures.stays c.go_on.ensures.runs_on c.go_on.ensures.waits_in_none c.go_on.ensures.ends c.go_on.ensures.answer
+pub returns-in-Err : goal.returns-in-Err
+returns-in-Err c = record {
+  made = λ h hart count told has read.
+      let t = c.args.tid.0 in
+      let k = c.args.kernel.now in
+      let m = c.args.pages.now in
+      let done = answered_said h t k m (Err c.in-Err.errno) (sched_setaffinity h t) told (c.in-Err.ensures.refused h told read) in
+      made_answered h t c.args.here.0 k k m m c.args.saved.now c.go_on.new.saved [] (Err c.in-Err.errno) c.go_on.result (sched_setaffinity h t) hart told has read.file c.requires.caller done c.requires.caller.tables
+      c.go_on.ensures.saved c.go_on.ensures.stays c.go_on.ensures.runs_on c.go_on.ensures.waits_in_none c.go_on.ensures.ends c.go_on.ensures.answer;
+}

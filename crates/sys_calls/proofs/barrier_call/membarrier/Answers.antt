@@ -15,23 +15,25 @@ again z n is =
     let fits : n % 4294967296 < 4294967296 = omega arith in
     ap (to_z w32) (ap (of_z w32) is ∙ of_z-to_z w32 (n % 4294967296) fits)
 
-pub returns-clause-made : goal.returns-clause-made
-returns-clause-made c = λ h m hart count busy told has file.
-    let t = c.args.caller.tid.0 in
-    let k = c.args.kernel.now in
-    let saved = c.args.saved.now in
-    let harts = h.setting.limits.harts in
-    let cmd : to_z w32 (of_z w32 c.signed_argument-cmd.result) ≡ signed_32 (argument h t 0) =
-    again c.signed_argument-cmd.result (argument h t 0) (c.signed_argument-cmd.ensures ∙ ap signed_32 (argument_is h t saved file 0)) in
-    let flags : c.int_argument-flags.result ≡ int_argument h t 1 = c.int_argument-flags.ensures ∙ int_argument_is h t saved file 1 in
-    let cpu : to_z w32 (of_z w32 c.signed_argument-cpu.result) ≡ signed_32 (argument h t 2) =
-    again c.signed_argument-cpu.result (argument h t 2) (c.signed_argument-cpu.ensures ∙ ap signed_32 (argument_is h t saved file 2)) in
-    let here : c.args.caller.here.0 ≡ h.hart = sym hart in
-    let set : c.args.caller.running ≡ running_harts h.kernel.threads harts = sym busy in
-    let many : c.args.caller.harts ≡ harts = sym count in
-    let is : c.command-outcome.result ≡ answer_asked h t =
-    c.command-outcome.ensures.answer ∙ (λ i. command (told.barriers i) (cmd i) (flags i) (cpu i) (here i) (set i) (many i)) in
-    let after : c.command-outcome.new.regs ≡ registered_after h.kernel.barriers (signed_32 (argument h t 0)) (int_argument h t 1) =
-    c.command-outcome.ensures.registered ∙ (λ i. registered_after (told.barriers i) (cmd i) (flags i)) in
-    made_membarrier h t c.args.caller.here.0 k c.command-outcome.new.regs m c.end_with.new.saved c.end_with.result c.command-outcome.result hart told has c.requires is after
-    (c.end_with.ensures.saved h t file) (c.end_with.ensures.barrier h t) c.end_with.ensures.answer c.end_with.ensures.stays c.end_with.ensures.runs_on c.end_with.ensures.ends
+pub returns : goal.returns
+returns c = record {
+  made = λ h m hart count busy told has file.
+      let t = c.args.caller.tid.0 in
+      let k = c.args.kernel.now in
+      let saved = c.args.saved.now in
+      let harts = h.setting.limits.harts in
+      let cmd : to_z w32 (of_z w32 c.signed_argument-cmd.result) ≡ signed_32 (argument h t 0) =
+      again c.signed_argument-cmd.result (argument h t 0) (c.signed_argument-cmd.ensures ∙ ap signed_32 (argument_is h t saved file 0)) in
+      let flags : c.int_argument-flags.result ≡ int_argument h t 1 = c.int_argument-flags.ensures ∙ int_argument_is h t saved file 1 in
+      let cpu : to_z w32 (of_z w32 c.signed_argument-cpu.result) ≡ signed_32 (argument h t 2) =
+      again c.signed_argument-cpu.result (argument h t 2) (c.signed_argument-cpu.ensures ∙ ap signed_32 (argument_is h t saved file 2)) in
+      let here : c.args.caller.here.0 ≡ h.hart = sym hart in
+      let set : c.args.caller.running ≡ running_harts h.kernel.threads harts = sym busy in
+      let many : c.args.caller.harts ≡ harts = sym count in
+      let is : c.command-outcome.result ≡ answer_asked h t =
+      c.command-outcome.ensures.answer ∙ (λ i. command (told.barriers i) (cmd i) (flags i) (cpu i) (here i) (set i) (many i)) in
+      let after : c.command-outcome.new.regs ≡ registered_after h.kernel.barriers (signed_32 (argument h t 0)) (int_argument h t 1) =
+      c.command-outcome.ensures.registered ∙ (λ i. registered_after (told.barriers i) (cmd i) (flags i)) in
+      made_membarrier h t c.args.caller.here.0 k c.command-outcome.new.regs m c.end_with.new.saved c.end_with.result c.command-outcome.result hart told has c.requires is after
+      (c.end_with.ensures.saved h t file) (c.end_with.ensures.barrier h t) c.end_with.ensures.answer c.end_with.ensures.stays c.end_with.ensures.runs_on c.end_with.ensures.ends;
+}

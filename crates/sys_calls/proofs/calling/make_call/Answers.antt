@@ -1,15 +1,28 @@
--- The thread runs on its hart.
+-- The thread runs on its hart, and the tables agree once its call is made.
 use Rattle.block_model.proofs.Laws.{running_is}
+use Rattle.sys_calls.proofs.Standing.{agreed_made}
 use Rattle.sys_calls.proofs.calling.make_call.Goals as goal
 
 pub returns-clause-tables : goal.returns-clause-tables
-returns-clause-tables c = c.dispatch-end.ensures.tables c.args.harts c.requires.tables
+returns-clause-tables c =
+    let agreed = agreed_made c.args.kernel.now c.args.pages.now c.args.here c.args.running c.args.harts c.args.tid c.args.saved.now c.args.cid
+    c.dispatch-end.new.kernel c.dispatch-end.new.pages c.dispatch-end.new.saved c.dispatch-end.result c.requires.running c.requires.runs
+    c.requires.tables c.requires.areas c.requires.signals c.dispatch-end.ensures.made in
+    agreed.tables
 
 pub returns-clause-signals : goal.returns-clause-signals
-returns-clause-signals c = c.dispatch-end.ensures.signals c.requires.signals
+returns-clause-signals c =
+    let agreed = agreed_made c.args.kernel.now c.args.pages.now c.args.here c.args.running c.args.harts c.args.tid c.args.saved.now c.args.cid
+    c.dispatch-end.new.kernel c.dispatch-end.new.pages c.dispatch-end.new.saved c.dispatch-end.result c.requires.running c.requires.runs
+    c.requires.tables c.requires.areas c.requires.signals c.dispatch-end.ensures.made in
+    agreed.signals
 
 pub returns-clause-areas : goal.returns-clause-areas
-returns-clause-areas c = c.dispatch-end.ensures.areas c.requires.areas
+returns-clause-areas c =
+    let agreed = agreed_made c.args.kernel.now c.args.pages.now c.args.here c.args.running c.args.harts c.args.tid c.args.saved.now c.args.cid
+    c.dispatch-end.new.kernel c.dispatch-end.new.pages c.dispatch-end.new.saved c.dispatch-end.result c.requires.running c.requires.runs
+    c.requires.tables c.requires.areas c.requires.signals c.dispatch-end.ensures.made in
+    agreed.areas
 
 pub has_nothing_saved-requires : goal.has_nothing_saved-requires
 has_nothing_saved-requires c =

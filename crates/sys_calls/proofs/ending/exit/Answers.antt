@@ -14,7 +14,8 @@ use Rattle.block_model.specs.Calls.Ending.{clearing, clears, ended_with, is_last
 use Rattle.mach_types.proofs.Laws.{state_of-without_same}
 use Rattle.sys_calls.specs.declared.calling.CallEnd.TheVariants as over
 use Rattle.sys_calls.specs.declared.kernel.Kernel.{Kernel}
-use Rattle.sys_calls.specs.Answered.{IsCaller, IsEntered, IsRead, IsTold}
+use Rattle.sys_calls.specs.Answered.{IsCaller, IsEntered, IsRead}
+use Rattle.sys_calls.specs.Tables.{HoldsTables}
 use Rattle.sys_calls.specs.Ended.{IsGone}
 use Rattle.sys_calls.specs.Made.{HasPages, IsMade}
 use Rattle.sys_calls.proofs.Entering.{pages_kept}
@@ -33,20 +34,15 @@ clearing_is h t at r ws is clear e =
     e ∙ ap (λ (b : Bool). cond b (word_written at 0 ∷ []) []) clear ∙ ap (λ (a : ℕ). cond (clears h t) (word_written a 0 ∷ []) []) is
 
 -- whether the thread is the last one
-last_is : (h : Here) (k : Kernel) (n : ℕ) (b : Bool) → IsTold h k → n ≡ length k.threads.threads.live → leb n 1 ≡ b → is_last h ≡ b
+last_is : (h : Here) (k : Kernel) (n : ℕ) (b : Bool) → HoldsTables k h.kernel → n ≡ length k.threads.threads.live → leb n 1 ≡ b → is_last h ≡ b
 last_is h k n b told is e = ap (λ (ts : Threads). leb (length ts.live) 1) (sym told.threads) ∙ ap (λ (x : ℕ). leb x 1) (sym is) ∙ e
 
 -- the process ends
-made_last : (h : Here) (t here : ℕ) (k : Kernel) (m m' : Map) (saved : Saved) (ws : List Write) (e : End) → h.hart ≡ here → IsTold h k → saved ≡ h.file t → IsCaller k here t → HasPages h m → IsEntered m m' ws
+made_last : (h : Here) (t here : ℕ) (k : Kernel) (m m' : Map) (saved : Saved) (ws : List Write) (e : End) → h.hart ≡ here → HoldsTables k h.kernel → saved ≡ h.file t → IsCaller k here t → HasPages h m → IsEntered m m' ws
     → ws ≡ clearing h t → e ≡ ended_with h t → IsMade h t k m k m' saved (over.ProcessEnd e) (last_exits h t)
 made_last h t here k m m' saved ws e hart told file caller has entered writes end = record {
-  threads = told.threads;
-  signals = told.signals;
-  scheduling = told.scheduling;
-  areas = told.areas;
-  barriers = told.barriers;
+  tables = told;
   ids = refl;
-  console = told.console;
   kept = λ all. all;
   own = file;
   pages = pages_kept h m m' (last_exits h t) (subst (IsEntered m m') writes entered) refl has;
@@ -62,18 +58,13 @@ made_last h t here k m m' saved ws e hart told file caller has entered writes en
 made_one : (h : Here) (t here : ℕ) (k k' : Kernel) (m m' : Map) (saved : Saved) (ws : List Write) → h.hart ≡ here → saved ≡ h.file t → HasPages h m → IsEntered m m' ws → ws ≡ clearing h t
     → IsGone h k k' t (cond (clears h t) 1 0) (clear_of t h.kernel.threads) here → IsMade h t k m k' m' saved over.ThreadEnd (one_exits h t)
 made_one h t here k k' m m' saved ws hart file has entered writes gone = record {
-  threads = gone.threads;
-  signals = gone.signals;
-  scheduling = gone.scheduling;
-  areas = gone.areas;
-  barriers = gone.barriers;
+  tables = gone.tables;
   ids = gone.ids;
-  console = gone.console;
   kept = gone.kept;
   own = file ∙ sym gone.alone;
   pages = pages_kept h m m' (one_exits h t) (subst (IsEntered m m') writes entered) (wake_pages (cond (clears h t) 1 0) (clear_of t h.kernel.threads) h.kernel) has;
   code = entered.code;
-  hart = ap (running_on h.hart) (sym gone.threads) ∙ ap (λ n. running_on n k'.threads.threads) hart ∙ gone.idle;
+  hart = ap (running_on h.hart) (sym gone.tables.threads) ∙ ap (λ n. running_on n k'.threads.threads) hart ∙ gone.idle;
   stands = state_of-without_same t (woken_at_exit h t).kernel.threads;
   barrier = refl;
   ended = refl;

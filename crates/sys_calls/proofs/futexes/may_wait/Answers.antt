@@ -7,7 +7,7 @@ use Rattle.mach_types.specs.Kernel.Signals.{Signalling, next_for}
 use Rattle.mach_types.specs.Registers.{register}
 use Rattle.mach_types.specs.declared.threads.Saved.{Saved}
 use Rattle.sys_calls.specs.declared.kernel.Kernel.{Kernel}
-use Rattle.sys_calls.specs.Answered.{IsTold}
+use Rattle.sys_calls.specs.Tables.{HoldsTables}
 use Rattle.sys_calls.proofs.Reading.{argument_is, if_false, if_true, int_argument_is, not_false, not_true, number_there, readable_at}
 use Rattle.sys_calls.proofs.futexes.may_wait.Goals as goal
 
@@ -35,7 +35,7 @@ returns-then-number_at-from-clause-refused c = λ h told read.
     ∙ if_true (not (eqb (number_at h (argument h t 0) 4) (int_argument h t 2))) _ _ (not_false _ (ne_eqb _ _ (λ e. c.if-number_at-from.true (word ∙ e ∙ sym wanted))))
 
 -- whether a signal can come
-signal_is : (h : Here) (k : Kernel) (t : ℕ) (o : Option ℕ) (b : Bool) → IsTold h k → o ≡ next_for t k.signals → is_some o ≡ b → is_some (next_for t h.kernel.signals) ≡ b
+signal_is : (h : Here) (k : Kernel) (t : ℕ) (o : Option ℕ) (b : Bool) → HoldsTables k h.kernel → o ≡ next_for t k.signals → is_some o ≡ b → is_some (next_for t h.kernel.signals) ≡ b
 signal_is h k t o b told is e = ap (λ (g : Signalling). is_some (next_for t g)) (sym told.signals) ∙ ap (λ (p : Option ℕ). is_some p) (sym is) ∙ e
 
 pub returns-then-is_some-clause-refused : goal.returns-then-is_some-clause-refused

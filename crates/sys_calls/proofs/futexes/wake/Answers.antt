@@ -4,7 +4,8 @@ use Rattle.mach_types.specs.Kernel.Threads.{longest_waiter}
 use Rattle.block_model.specs.Calls.Futexes.{wake}
 use Rattle.sys_calls.specs.declared.kernel.Kernel.{Kernel}
 use Rattle.sys_calls.specs.Woken.{IsOnward, IsWoken}
-use Rattle.sys_calls.proofs.Waking.{kernel_now, longest_waits, onward_more, onward_still, wake_nobody, waking_more, waking_none, woken_all}
+use Rattle.sys_calls.proofs.Laws.{record_with}
+use Rattle.sys_calls.proofs.Waking.{longest_waits, onward_more, onward_still, wake_nobody, waking_more, waking_none, woken_all}
 use Rattle.sys_calls.proofs.futexes.wake.Goals as goal
 
 pub loop-count-init : goal.loop-count-init
@@ -19,7 +20,7 @@ returns-in_default-clause-woken c = λ h told.
     let none : longest_waiter c.args.at k.threads.threads ≡ None = sym c.in_default.ensures.longest in
     subst (λ (k' : Kernel). IsWoken h c.args.kernel.now k' c.args.most c.args.at c.loop-count.count) (sym c.in_default.ensures.nobody)
     (woken_all h c.args.kernel.now k c.args.most c.args.at c.loop-count.count (c.loop-count.invariant.waking h told)
-    (wake_nobody (c.args.most - c.loop-count.count) c.args.at (kernel_now h k) none))
+    (wake_nobody (c.args.most - c.loop-count.count) c.args.at (record_with k h.kernel) none))
 
 pub returns-in_default-clause-onward : goal.returns-in_default-clause-onward
 returns-in_default-clause-onward c = subst (IsOnward c.args.kernel.now) (sym c.in_default.ensures.nobody) c.loop-count.invariant.onward
@@ -31,17 +32,17 @@ loop-count-preserved c =
     let some : longest_waiter c.args.at k.threads.threads ≡ Some u = sym c.in-Some.ensures.longest in
     record {
       onward = onward_more c.args.kernel.now k c.wake_one.new.kernel c.requires.tables.0 u c.requires.tables.1 c.loop-count.invariant.onward (longest_waits c.args.at k.threads.threads u some)
-          c.in-Some.ensures.threads c.in-Some.ensures.saved c.in-Some.ensures.ready c.wake_one.ensures.signals c.wake_one.ensures.areas;
+          c.in-Some.ensures.threads c.in-Some.ensures.saved c.in-Some.ensures.ready c.wake_one.ensures.others;
       waking = λ h told. waking_more h c.args.kernel.now k c.wake_one.new.kernel c.args.most c.args.at c.loop-count.count u c.loop-count-test.true (c.loop-count.invariant.waking h told) some
-          c.in-Some.ensures.threads c.in-Some.ensures.saved c.in-Some.ensures.ready c.wake_one.ensures.signals c.wake_one.ensures.areas c.wake_one.ensures.registered c.wake_one.ensures.console;
+          c.in-Some.ensures.threads c.in-Some.ensures.saved c.in-Some.ensures.ready c.wake_one.ensures.others;
     }
 
 pub returns-clause-woken : goal.returns-clause-woken
 returns-clause-woken c = λ h told.
     let k = c.loop-count.kernel in
     let all : c.loop-count.count ≡ c.args.most = omega arith in
-    let none : wake (c.args.most - c.loop-count.count) c.args.at (kernel_now h k) ≡ record { threads = []; kernel = kernel_now h k } =
-    ap (λ (n : ℕ). wake n c.args.at (kernel_now h k)) (let e : c.args.most - c.loop-count.count ≡ 0 = omega arith in e) in
+    let none : wake (c.args.most - c.loop-count.count) c.args.at (record_with k h.kernel) ≡ record { threads = []; kernel = record_with k h.kernel } =
+    ap (λ (n : ℕ). wake n c.args.at (record_with k h.kernel)) (let e : c.args.most - c.loop-count.count ≡ 0 = omega arith in e) in
     subst (λ (n : ℕ). IsWoken h c.args.kernel.now k c.args.most c.args.at n) all
     (woken_all h c.args.kernel.now k c.args.most c.args.at c.loop-count.count (c.loop-count.invariant.waking h told) none)
 

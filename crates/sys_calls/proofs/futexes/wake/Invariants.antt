@@ -1,6 +1,6 @@
 -- Of the threads that wait some were woken, and what is left to wake is woken behind them.
 use Rattle.block_model.specs.Here.{Here}
-use Rattle.sys_calls.specs.Answered.{IsTold}
+use Rattle.sys_calls.specs.Tables.{HoldsTables}
 use Rattle.sys_calls.specs.Woken.{IsOnward}
 use Rattle.sys_calls.proofs.Waking.{IsWaking}
 use Rattle.sys_calls.proofs.futexes.wake.Given as goal
@@ -8,5 +8,5 @@ use Rattle.sys_calls.proofs.futexes.wake.Given as goal
 abbrev pub invariant-loop-count : goal.invariant-loop-count
 invariant-loop-count l = record {
   onward : IsOnward l.fn.kernel l.kernel;
-  waking : (h : Here) → IsTold h l.fn.kernel → IsWaking h l.fn.kernel l.kernel l.most l.at l.count;
+  waking : (h : Here) → HoldsTables l.fn.kernel h.kernel → IsWaking h l.fn.kernel l.kernel l.most l.at l.count;
 }

@@ -10,14 +10,13 @@ use Rattle.mach_types.specs.declared.user_memory.Write.{Write}
 use Rattle.block_model.specs.Here.{Here, is_writable}
 use Rattle.block_model.specs.Ids.{id_of}
 use Rattle.block_model.specs.Calls.Answers.{CallDone}
-use Rattle.block_model.specs.Tables.{AreOfLive}
 use Rattle.sys_calls.specs.Answered.{IsEntered}
 use Rattle.sys_calls.specs.Made.{IsMade}
 use Rattle.sys_calls.specs.Registered.{areas_by_number}
 use Rattle.sys_calls.specs.declared.areas.RegisteredArea.{RegisteredArea}
 use Rattle.sys_calls.specs.declared.calling.CallEnd.TheVariants as over
 use Rattle.sys_calls.specs.declared.kernel.Kernel.{Kernel}
-use Rattle.sys_calls.proofs.Registering.{area_added, room_left}
+use Rattle.sys_calls.proofs.Registering.{room_left}
 use Rattle.sys_calls.proofs.Saying.{made_answered}
 use Rattle.sys_calls.proofs.Sequencing.{answered_area, made_killed, registered_done, registers_killed, registers_made, words_can}
 use Rattle.sys_calls.proofs.Tables.{caller_lives}
@@ -64,14 +63,6 @@ add_area-requires c =
     let same : length (areas_by_number k.areas.items) ≡ length k.areas.items = length-map k.areas.items (λ (entry : RegisteredArea). (entry.tid.0, entry.area)) in
     record { room = omega (arith, few, same) }
 
-pub returns-clause-areas : goal.returns-clause-areas
-returns-clause-areas c = λ holds.
-    let k = c.args.kernel.now in
-    let t = c.args.tid.0 in
-    let ts = k.threads.threads in
-    subst (λ (areas : List (ℕ × Area)). AreOfLive ts areas) (sym c.add_area.ensures)
-    (area_added t ts (areas_by_number k.areas.items) holds (caller_lives k c.args.here.0 t c.requires.caller) c.requires.none c.args.area)
-
 pub returns-clause-told : goal.returns-clause-told
 returns-clause-told c = λ h hart read id.
     let m = c.args.pages.now in
@@ -92,7 +83,7 @@ returns-clause-made c = λ h hart told has read id.
     let m' = c.write_words.new.pages in
     let saved = c.args.saved.now in
     let ws = words_written area (words_on h.hart (id_of t h.kernel.ids)) in
-    let k' : Kernel = record { threads = k.threads; signals = k.signals; ready = k.ready; areas = c.add_area.new.registered; registered = k.registered; console = k.console } in
+    let k' : Kernel = record k { areas = c.add_area.new.registered } in
     let can : are_words_writable (is_writable h) area ≡ true =
     sym (words_can h m t saved read area) ∙ sym c.write_words.ensures.answer ∙ c.if-not-write_words.false in
     let writes : c.write_words.new.written.items ≡ ws =

@@ -5,6 +5,7 @@ use Rattle.mach_types.specs.Registers.{register}
 use Rattle.mach_types.specs.declared.threads.Saved.{Saved}
 use Rattle.block_model.specs.Calls.Answers.{CallDone, int_argument}
 use Rattle.block_model.specs.Calls.Sequences.{rseq, unregisters_or_refused}
+use Rattle.sys_calls.specs.Answered.{AreTables}
 use Rattle.sys_calls.specs.Made.{IsMade}
 use Rattle.sys_calls.specs.Registered.{unregistration_asked}
 use Rattle.sys_calls.proofs.Reading.{if_true}
@@ -26,6 +27,6 @@ returns-then-asks_to_unregister-clause-made c = λ h hart told has read id.
     if_true (eqb (int_argument h t 2 % 2) 1) _ _ asks ∙ ap (λ (f : Saved). unregisters_or_refused h t (unregistration_asked f (area_of t h.kernel.areas))) (sym read.file) in
     let made = made_answered h t c.args.here.0 k k' m m' saved c.go_on.new.saved c.unregister_area-outcome.new.written.items c.unregister_area-outcome.result c.go_on.result call
     hart told has read.file c.requires.caller (c.unregister_area-outcome.ensures.answered h told read)
-    (c.requires.caller.tables.0, c.unregister_area-outcome.ensures.tables c.requires.caller.tables.0 c.requires.caller.tables.1)
+    (subst AreTables (sym c.unregister_area-outcome.ensures.others) c.requires.caller.tables)
     c.go_on.ensures.saved c.go_on.ensures.stays c.go_on.ensures.runs_on c.go_on.ensures.waits_in_none c.go_on.ensures.ends c.go_on.ensures.answer in
     subst (λ (d : CallDone). IsMade h t k m k' m' c.go_on.new.saved c.go_on.result d) (sym is) made

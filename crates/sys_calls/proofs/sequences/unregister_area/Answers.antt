@@ -9,17 +9,16 @@ use Rattle.mach_types.specs.declared.user_memory.Write.{Write}
 use Rattle.block_model.specs.Here.{Here, is_writable}
 use Rattle.block_model.specs.Calls.Answers.{CallDone, refused}
 use Rattle.block_model.specs.Calls.Sequences.{unregisters, unregisters_or_refused}
-use Rattle.block_model.specs.Tables.{AreOfLive}
-use Rattle.sys_calls.specs.Answered.{IsAnswered, IsEntered, IsTold}
+use Rattle.sys_calls.specs.Answered.{IsAnswered, IsEntered}
+use Rattle.sys_calls.specs.Tables.{HoldsTables}
 use Rattle.sys_calls.specs.Registered.{areas_by_number, unregistration_asked}
 use Rattle.sys_calls.specs.declared.kernel.Kernel.{Kernel}
-use Rattle.sys_calls.proofs.Registering.{area_gone}
 use Rattle.sys_calls.proofs.Saying.{answered_wrote}
 use Rattle.sys_calls.proofs.Sequencing.{answered_area, unregistered_done, unregisters_made, unregisters_refused, words_can}
 use Rattle.sys_calls.proofs.sequences.unregister_area.Goals as goal
 
 -- the call that isn't refused, of a thread that has this area
-not_refused : (h : Here) (t : ℕ) (k : Kernel) (saved : Saved) (area : Area) (unit : Unit {0}) → IsTold h k → unregistration_asked saved (area_of t (areas_by_number k.areas.items)) ≡ Ok unit
+not_refused : (h : Here) (t : ℕ) (k : Kernel) (saved : Saved) (area : Area) (unit : Unit {0}) → HoldsTables k h.kernel → unregistration_asked saved (area_of t (areas_by_number k.areas.items)) ≡ Ok unit
     → area_of t (areas_by_number k.areas.items) ≡ Some area → unregisters_or_refused h t (unregistration_asked saved (area_of t h.kernel.areas)) ≡ unregisters h t (Some area)
 not_refused h t k saved area unit told may is =
     ap (λ (areas : List (ℕ × Area)). unregisters_or_refused h t (unregistration_asked saved (area_of t areas))) (sym told.areas)
@@ -46,13 +45,6 @@ returns-then-not-write_words-clause-answered c = λ h told read.
     subst (λ (w : List Write). IsAnswered h t k m k m' w (Err EFAULT) call) (sym none)
     (subst (λ (d : CallDone). IsAnswered h t k m k m' [] (Err EFAULT) d) (sym is) done)
 
-pub returns-clause-areas : goal.returns-clause-areas
-returns-clause-areas c = λ holds.
-    let k = c.args.kernel.now in
-    let ts = k.threads.threads in
-    subst (λ (areas : List (ℕ × Area)). AreOfLive ts areas) (sym c.remove_area.ensures)
-    (area_gone c.args.tid.0 ts ts (areas_by_number k.areas.items) (λ u other live. live) holds)
-
 pub returns-clause-answered : goal.returns-clause-answered
 returns-clause-answered c = λ h told read.
     let t = c.args.tid.0 in
@@ -63,7 +55,7 @@ returns-clause-answered c = λ h told read.
     let saved = c.args.saved.now in
     let call = unregisters_or_refused h t (unregistration_asked saved (area_of t h.kernel.areas)) in
     let ws = words_written area words_unregistered in
-    let k' : Kernel = record { threads = k.threads; signals = k.signals; ready = k.ready; areas = c.remove_area.new.registered; registered = k.registered; console = k.console } in
+    let k' : Kernel = record k { areas = c.remove_area.new.registered } in
     let can : are_words_writable (is_writable h) area ≡ true =
     sym (words_can h m t saved read area) ∙ sym c.write_words.ensures.answer ∙ c.if-not-write_words.false in
     let writes : c.write_words.new.written.items ≡ ws =

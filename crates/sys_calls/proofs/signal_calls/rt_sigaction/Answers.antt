@@ -14,7 +14,6 @@ use Rattle.sys_calls.specs.Answered.{IsAnswered, IsEntered}
 use Rattle.sys_calls.specs.Signalled.{pass_action}
 use Rattle.sys_calls.proofs.Posted.{answered_signalled}
 use Rattle.sys_calls.proofs.Reading.{argument_is, int_argument_is}
-use Rattle.sys_calls.proofs.Signalling.{signals_turn, tids_acted}
 use Rattle.sys_calls.proofs.signal_calls.rt_sigaction.Goals as goal
 
 -- a number that isn't refused is one of a signal
@@ -43,16 +42,10 @@ pub write_action_unless_zero-requires-clause-usable : goal.write_action_unless_z
 write_action_unless_zero-requires-clause-usable c =
     ap (λ (a : ℕ). eqb a 0 || pass_action (can_write_in c.args.pages.now) a) c.argument.ensures ∙ c.in_ok-new.ensures.usable
 
-pub returns-clause-signals : goal.returns-clause-signals
-returns-clause-signals c =
-    let k = c.args.kernel.now in
-    let k' : Kernel = record { threads = k.threads; signals = c.act.new.self; ready = k.ready; areas = k.areas; registered = k.registered; console = k.console } in
-    signals_turn k k' (acted c.signal_number-sig.result c.in_ok-new.new k.signals) refl c.in-Ok.ensures.ok (tids_acted c.signal_number-sig.result c.in_ok-new.new k.signals)
-
 pub returns-clause-answered : goal.returns-clause-answered
 returns-clause-answered c = λ h t told read.
     let k = c.args.kernel.now in
-    let k' : Kernel = record { threads = k.threads; signals = c.act.new.self; ready = k.ready; areas = k.areas; registered = k.registered; console = k.console } in
+    let k' : Kernel = record k { signals = c.act.new.self } in
     let m = c.args.pages.now in
     let m' = c.write_action_unless_zero.new.pages in
     let new = c.in_ok-new.new in
@@ -64,6 +57,6 @@ returns-clause-answered c = λ h t told read.
     writes_are h t c.argument.result c.signal_number-sig.result c.in-Ok.old k.signals old sig c.in-Ok.ensures.old told.signals in
     let signals : k'.signals ≡ acted (int_argument h t 0) new g =
     c.in-Ok.ensures.ok ∙ ap (λ (n : ℕ). acted n new k.signals) sig ∙ ap (acted (int_argument h t 0) new) told.signals in
-    let done = answered_signalled h t k k' m m' ws c.write_action_unless_zero.new.written.items (Ok 0) (acted (int_argument h t 0) new g) told refl signals refl refl refl refl
+    let done = answered_signalled h t k m m' ws c.write_action_unless_zero.new.written.items (Ok 0) c.act.new.self (acted (int_argument h t 0) new g) told signals
     (subst (IsEntered m m') same c.write_action_unless_zero.ensures.entered) (c.write_action_unless_zero.ensures.told ∙ same) in
     subst (λ (d : CallDone). IsAnswered h t k m k' m' c.write_action_unless_zero.new.written.items (Ok 0) d) (sym (c.in_ok-new.ensures.given h t read)) done

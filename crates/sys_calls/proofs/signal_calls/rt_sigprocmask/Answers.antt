@@ -1,5 +1,5 @@
 -- The mask is changed, and the old one is written where it is asked for.
-use Rattle.std.proofs.Common.{◌≡◌, ℕ, not, ◌&&◌, ◌||◌, cond, eqb, List, [], ◌∷◌, unwrap_or, refl, sym, ap, subst, ◌∙◌}
+use Rattle.std.proofs.Common.{◌≡◌, ℕ, not, ◌&&◌, ◌||◌, cond, eqb, List, [], ◌∷◌, unwrap_or, sym, ap, subst, ◌∙◌}
 use Rattle.std.specs.Prelude.{Ok}
 use Rattle.mach_types.specs.Bytes.{each_byte, word_at}
 use Rattle.mach_types.specs.Kernel.Signals.{Signalling, mask_of, refuses_how}
@@ -14,7 +14,6 @@ use Rattle.sys_calls.specs.Registered.{int_in}
 use Rattle.sys_calls.specs.Signalled.{mask_changed}
 use Rattle.sys_calls.proofs.Posted.{answered_signalled}
 use Rattle.sys_calls.proofs.Reading.{argument_is, int_argument_is, number_there}
-use Rattle.sys_calls.proofs.Signalling.{signals_turn, tids_changed}
 use Rattle.sys_calls.proofs.signal_calls.rt_sigprocmask.Goals as goal
 
 -- the write of the old mask
@@ -41,19 +40,11 @@ pub write_set_unless_zero-requires-clause-usable : goal.write_set_unless_zero-re
 write_set_unless_zero-requires-clause-usable c =
     ap (λ (a : ℕ). eqb a 0 || each_byte (can_write_in c.args.pages.now) a 8) c.argument-2.ensures ∙ c.in_ok-may_mask.ensures.usable
 
-pub returns-clause-signals : goal.returns-clause-signals
-returns-clause-signals c =
-    let k = c.args.kernel.now in
-    let k' : Kernel = record { threads = k.threads; signals = c.change_mask.new.signals; ready = k.ready; areas = k.areas; registered = k.registered; console = k.console } in
-    let set = unwrap_or (word_at (byte_in c.args.pages.now) c.argument.result 8) 0 in
-    signals_turn k k' (mask_changed c.args.tid.0 c.int_argument-how.result c.argument.result set k.signals) refl c.change_mask.ensures
-    (tids_changed c.args.tid.0 c.int_argument-how.result c.argument.result set k.signals)
-
 pub returns-clause-answered : goal.returns-clause-answered
 returns-clause-answered c = λ h told read.
     let t = c.args.tid.0 in
     let k = c.args.kernel.now in
-    let k' : Kernel = record { threads = k.threads; signals = c.change_mask.new.signals; ready = k.ready; areas = k.areas; registered = k.registered; console = k.console } in
+    let k' : Kernel = record k { signals = c.change_mask.new.signals } in
     let m = c.args.pages.now in
     let m' = c.write_set_unless_zero.new.pages in
     let how : c.int_argument-how.result ≡ int_argument h t 0 = c.int_argument-how.ensures ∙ int_argument_is h t c.args.saved.now read.file 0 in
@@ -66,6 +57,6 @@ returns-clause-answered c = λ h told read.
     let ws : List Write = cond (eqb (argument h t 2) 0) [] (double_written (argument h t 2) (mask_of t h.kernel.signals) ∷ []) in
     let same : cond (eqb c.argument-2.result 0) [] (double_written c.argument-2.result c.mask_of-old.result ∷ []) ≡ ws =
     writes_are h t c.argument-2.result c.mask_of-old.result k.signals old c.mask_of-old.ensures told.signals in
-    let done = answered_signalled h t k k' m m' ws c.write_set_unless_zero.new.written.items (Ok 0) (masked h t (int_argument h t 0) (argument h t 1)) told refl signals refl refl refl refl
+    let done = answered_signalled h t k m m' ws c.write_set_unless_zero.new.written.items (Ok 0) c.change_mask.new.signals (masked h t (int_argument h t 0) (argument h t 1)) told signals
     (subst (IsEntered m m') same c.write_set_unless_zero.ensures.entered) (c.write_set_unless_zero.ensures.told ∙ same) in
     subst (λ (d : CallDone). IsAnswered h t k m k' m' c.write_set_unless_zero.new.written.items (Ok 0) d) (sym (c.in_ok-may_mask.ensures.masks h t read)) done

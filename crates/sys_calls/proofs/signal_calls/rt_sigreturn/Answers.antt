@@ -12,32 +12,29 @@ use Rattle.block_model.specs.Here.{Here, memory}
 use Rattle.block_model.specs.Calls.Signals.{resumed}
 use Rattle.sys_calls.specs.declared.calling.CallEnd.TheVariants as over
 use Rattle.sys_calls.specs.declared.kernel.Kernel.{Kernel}
-use Rattle.sys_calls.specs.Answered.{IsCaller, IsRead, IsTold}
+use Rattle.sys_calls.specs.Answered.{IsCaller, IsRead}
+use Rattle.sys_calls.specs.Tables.{HoldsTables}
 use Rattle.sys_calls.specs.Made.{HasPages, IsMade}
+use Rattle.sys_calls.proofs.Laws.{holds_signals}
 use Rattle.sys_calls.proofs.Saying.{kept_own, own_first}
-use Rattle.sys_calls.proofs.Signalling.{caller_signalled, signals_turn, tids_returned}
+use Rattle.sys_calls.proofs.Signalling.{caller_signalled}
 use Rattle.sys_calls.proofs.Tables.{caller_runs}
 use Rattle.sys_calls.proofs.signal_calls.rt_sigreturn.Goals as goal
 
 -- the tables with other signals
 abbrev turned : Kernel → Signalling → Kernel
-turned k g = record { threads = k.threads; signals = g; ready = k.ready; areas = k.areas; registered = k.registered; console = k.console }
+turned k g = record k { signals = g }
 
 -- the words of the frame, as a rule reads them
 frame_there : (h : Here) (m : Map) (t : ℕ) (saved : Saved) → IsRead h m t saved → frame_read (byte_in m) saved ≡ frame_read (memory h) (h.file t)
 frame_there h m t saved read = ap (λ (byte : ℕ → Option ℕ). frame_read byte saved) read.bytes ∙ ap (frame_read (memory h)) read.file
 
-made_resumed : (h : Here) (t here : ℕ) (k : Kernel) (g : Signalling) (m : Map) (saved saved' : Saved) (o : Option (List ℕ)) → h.hart ≡ here → IsTold h k → HasPages h m → saved ≡ h.file t
+made_resumed : (h : Here) (t here : ℕ) (k : Kernel) (g : Signalling) (m : Map) (saved saved' : Saved) (o : Option (List ℕ)) → h.hart ≡ here → HoldsTables k h.kernel → HasPages h m → saved ≡ h.file t
     → IsCaller k here t → g ≡ returned t o k.signals → saved' ≡ saved_after_return o saved → is_some o ≡ true → IsMade h t k m (turned k g) m saved' over.Resume (resumed h t o)
 made_resumed h t here k g m saved saved' None hart told has file caller signals after some = absurd (false≢true some)
 made_resumed h t here k g m saved saved' (Some words) hart told has file caller signals after some = record {
-  threads = told.threads;
-  signals = signals ∙ ap (returned t (Some words)) told.signals;
-  scheduling = told.scheduling;
-  areas = told.areas;
-  barriers = told.barriers;
+  tables = holds_signals told g (returned t (Some words) h.kernel.signals) (signals ∙ ap (returned t (Some words)) told.signals);
   ids = refl;
-  console = told.console;
   kept = λ all. kept_own t (restored words) h.file [] k.threads caller.quiet all;
   own = after ∙ sym (own_first t (restored words) (h.file t) []);
   pages = has;
@@ -49,18 +46,13 @@ made_resumed h t here k g m saved saved' (Some words) hart told has file caller 
   answer = tt;
 }
 
-made_lost : (h : Here) (t here : ℕ) (k : Kernel) (g : Signalling) (m : Map) (saved saved' : Saved) (o : Option (List ℕ)) → h.hart ≡ here → IsTold h k → HasPages h m → saved ≡ h.file t
+made_lost : (h : Here) (t here : ℕ) (k : Kernel) (g : Signalling) (m : Map) (saved saved' : Saved) (o : Option (List ℕ)) → h.hart ≡ here → HoldsTables k h.kernel → HasPages h m → saved ≡ h.file t
     → IsCaller k here t → g ≡ returned t o k.signals → saved' ≡ saved_after_return o saved → is_some o ≡ false
     → IsMade h t k m (turned k g) m saved' (over.ProcessEnd (Killed SIGSEGV)) (resumed h t o)
 made_lost h t here k g m saved saved' (Some words) hart told has file caller signals after none = absurd (false≢true (sym none))
 made_lost h t here k g m saved saved' None hart told has file caller signals after none = record {
-  threads = told.threads;
-  signals = signals ∙ told.signals;
-  scheduling = told.scheduling;
-  areas = told.areas;
-  barriers = told.barriers;
+  tables = holds_signals told g h.kernel.signals (signals ∙ told.signals);
   ids = refl;
-  console = told.console;
   kept = λ all. all;
   own = after ∙ file;
   pages = has;
@@ -75,28 +67,26 @@ made_lost h t here k g m saved saved' None hart told has file caller signals aft
 pub pop_frame-requires : goal.pop_frame-requires
 pop_frame-requires c = record { held = caller_signalled c.args.kernel.now c.args.here.0 c.args.tid.0 c.requires }
 
-pub returns-then-pop_frame-clause-signals : goal.returns-then-pop_frame-clause-signals
-returns-then-pop_frame-clause-signals c =
-    let k = c.args.kernel.now in
-    let words = frame_read (byte_in c.args.pages.now) c.args.saved.now in
-    signals_turn k (turned k c.pop_frame.new.self) (returned c.args.tid.0 words k.signals) refl c.pop_frame.ensures.signals (tids_returned c.args.tid.0 words k.signals)
+pub returns-then-pop_frame : goal.returns-then-pop_frame
+returns-then-pop_frame c = record {
+  made = λ h hart told has read.
+      let t = c.args.tid.0 in
+      let k = c.args.kernel.now in
+      let m = c.args.pages.now in
+      let words = frame_read (byte_in m) c.args.saved.now in
+      subst (λ (o : Option (List ℕ)). IsMade h t k m (turned k c.pop_frame.new.self) m c.pop_frame.new.saved over.Resume (resumed h t o)) (frame_there h m t c.args.saved.now read)
+      (made_resumed h t c.args.here.0 k c.pop_frame.new.self m c.args.saved.now c.pop_frame.new.saved words hart told has read.file c.requires c.pop_frame.ensures.signals c.pop_frame.ensures.file
+      (sym c.pop_frame.ensures.answer ∙ c.if-pop_frame.true));
+}
 
-pub returns-then-pop_frame-clause-made : goal.returns-then-pop_frame-clause-made
-returns-then-pop_frame-clause-made c = λ h hart told has read.
-    let t = c.args.tid.0 in
-    let k = c.args.kernel.now in
-    let m = c.args.pages.now in
-    let words = frame_read (byte_in m) c.args.saved.now in
-    subst (λ (o : Option (List ℕ)). IsMade h t k m (turned k c.pop_frame.new.self) m c.pop_frame.new.saved over.Resume (resumed h t o)) (frame_there h m t c.args.saved.now read)
-    (made_resumed h t c.args.here.0 k c.pop_frame.new.self m c.args.saved.now c.pop_frame.new.saved words hart told has read.file c.requires c.pop_frame.ensures.signals c.pop_frame.ensures.file
-    (sym c.pop_frame.ensures.answer ∙ c.if-pop_frame.true))
-
-pub returns-else-pop_frame-clause-made : goal.returns-else-pop_frame-clause-made
-returns-else-pop_frame-clause-made c = λ h hart told has read.
-    let t = c.args.tid.0 in
-    let k = c.args.kernel.now in
-    let m = c.args.pages.now in
-    let words = frame_read (byte_in m) c.args.saved.now in
-    subst (λ (o : Option (List ℕ)). IsMade h t k m (turned k c.pop_frame.new.self) m c.pop_frame.new.saved (over.ProcessEnd (Killed SIGSEGV)) (resumed h t o)) (frame_there h m t c.args.saved.now read)
-    (made_lost h t c.args.here.0 k c.pop_frame.new.self m c.args.saved.now c.pop_frame.new.saved words hart told has read.file c.requires c.pop_frame.ensures.signals c.pop_frame.ensures.file
-    (sym c.pop_frame.ensures.answer ∙ c.if-pop_frame.false))
+pub returns-else-pop_frame : goal.returns-else-pop_frame
+returns-else-pop_frame c = record {
+  made = λ h hart told has read.
+      let t = c.args.tid.0 in
+      let k = c.args.kernel.now in
+      let m = c.args.pages.now in
+      let words = frame_read (byte_in m) c.args.saved.now in
+      subst (λ (o : Option (List ℕ)). IsMade h t k m (turned k c.pop_frame.new.self) m c.pop_frame.new.saved (over.ProcessEnd (Killed SIGSEGV)) (resumed h t o)) (frame_there h m t c.args.saved.now read)
+      (made_lost h t c.args.here.0 k c.pop_frame.new.self m c.args.saved.now c.pop_frame.new.saved words hart told has read.file c.requires c.pop_frame.ensures.signals c.pop_frame.ensures.file
+      (sym c.pop_frame.ensures.answer ∙ c.if-pop_frame.false));
+}

@@ -10,7 +10,6 @@ use Rattle.page_map.specs.Map.{Map, byte_in}
 use Rattle.block_model.specs.Here.{Here, memory}
 use Rattle.block_model.specs.Calls.Answers.{argument, are_readable}
 use Rattle.block_model.specs.Calls.Console.{Span, all_readable, bytes_from, bytes_of, is_elsewhere, room, total, write}
-use Rattle.sys_calls.specs.declared.kernel.Kernel.{Kernel}
 use Rattle.sys_calls.specs.Answered.{IsRead}
 use Rattle.sys_calls.proofs.Reading.{argument_is, if_false, readable_at}
 use Rattle.sys_calls.proofs.Saying.{answered_printed, answered_said}
@@ -57,7 +56,6 @@ returns-then-room-eq0-clause-answered c = λ h t told read.
 pub returns-clause-answered : goal.returns-clause-answered
 returns-clause-answered c = λ h t told read.
     let k = c.args.kernel.now in
-    let k' : Kernel = record { threads = k.threads; signals = k.signals; ready = k.ready; areas = k.areas; registered = k.registered; console = c.append_some.new.console } in
     let m = c.args.pages.now in
     let at : c.argument.result ≡ argument h t 1 = c.argument.ensures ∙ argument_is h t c.args.saved.now read.file 1 in
     let len : c.argument-2.result ≡ argument h t 2 = c.argument-2.ensures ∙ argument_is h t c.args.saved.now read.file 2 in
@@ -70,6 +68,6 @@ returns-clause-answered c = λ h t told read.
     ap (λ (n : ℕ). take (CONSOLE_ROOM - n) (bytes_from (byte_in m) c.argument.result c.argument-2.result)) held
     ∙ ap (take (room h)) (ap (λ (byte : ℕ → Option ℕ). bytes_from byte c.argument.result c.argument-2.result) read.bytes ∙ ap (λ (a : ℕ). bytes_from (memory h) a c.argument-2.result) at
     ∙ ap (bytes_from (memory h) (argument h t 1)) len ∙ sym (append-nil (bytes_from (memory h) (argument h t 1) (argument h t 2)))) in
-    answered_printed h t k k' m (Ok c.append_some.result) bytes (write h t) told refl refl refl refl refl
+    answered_printed h t k c.append_some.new.console m (Ok c.append_some.result) bytes (write h t) told
     (c.append_some.ensures.console ∙ ap (λ (bs : List ℕ). k.console ++ bs) same) (c.append_some.ensures.count ∙ ap (λ (bs : List ℕ). length bs) same)
     (if_false (is_elsewhere h t) _ _ here ∙ spans_wrote h t (one h t) (some_bytes h t c.argument-2.result len c.if-span-eq0.false) can free)

@@ -5,7 +5,6 @@ use Rattle.std.proofs.lemmas.Bool.{lt-leb}
 use Rattle.mach_types.specs.declared.kernel_words.TheConstants.{CONSOLE_ROOM}
 use Rattle.block_model.specs.Here.{memory}
 use Rattle.block_model.specs.Calls.Console.{Span, all_readable, bytes_of, room, spans_at, total}
-use Rattle.sys_calls.specs.declared.kernel.Kernel.{Kernel}
 use Rattle.sys_calls.specs.Joined.{write_joined}
 use Rattle.sys_calls.proofs.Reading.{if_false}
 use Rattle.sys_calls.proofs.Saying.{answered_printed}
@@ -15,7 +14,6 @@ use Rattle.sys_calls.proofs.writing.write_records.Goals as goal
 pub returns-clause-answered : goal.returns-clause-answered
 returns-clause-answered c = λ h t told same.
     let k = c.args.kernel.now in
-    let k' : Kernel = record { threads = k.threads; signals = k.signals; ready = k.ready; areas = k.areas; registered = k.registered; console = c.append_some.new.console } in
     let spans : List Span = spans_at h c.args.records.at c.args.records.count in
     let len : c.in-Some.length ≡ total spans = c.in-Some.ensures.some h same in
     let small = c.in-Some.ensures.small in
@@ -28,5 +26,5 @@ returns-clause-answered c = λ h t told same.
     c.append_some.ensures.console h same ∙ ap (λ (n : ℕ). k.console ++ take (CONSOLE_ROOM - n) (bytes_of (memory h) spans)) held in
     let size : length c.append_some.new.console ≡ length k.console + length bytes = ap length now ∙ length-append k.console bytes in
     let count : c.append_some.result ≡ length bytes = let sum = c.append_some.ensures.count in omega (arith, size, sum) in
-    answered_printed h t k k' c.args.pages.now (Ok c.append_some.result) bytes (write_joined h t spans) told refl refl refl refl refl now count
+    answered_printed h t k c.append_some.new.console c.args.pages.now (Ok c.append_some.result) bytes (write_joined h t spans) told now count
     (if_false (leb (2 ^ 31) (total spans)) _ _ few ∙ spans_wrote h t spans (λ none. c.if-length-eq0.false (len ∙ none)) can free)

@@ -8,20 +8,20 @@ pub tell-requires : goal.tell-requires
 tell-requires g c =
     due_is_told (g.S.Shelf.file c.args.shelf.now) (texts c.args.words.now) (g.S.Shelf.faults c.args.shelf.now)
     (g.S.Shelf.faults c.quiet_answer.new.shelf) (g.S.Shelf.last_trouble c.quiet_answer.new.shelf)
-    c.in_ok-answer.answer c.in_ok-answer.ensures.answer
+    c.in-Ok.answer c.in-Ok.ensures.answer
 
-pub returns-clause-explained : goal.returns-clause-explained
-returns-clause-explained g c =
-    explained_of _ _ c.in_ok-answer.answer c.tell.result
+pub returns-in-Ok-clause-explained : goal.returns-in-Ok-clause-explained
+returns-in-Ok-clause-explained g c =
+    explained_of _ _ c.in-Ok.answer c.tell.result
     (record {
       files = c.quiet_answer.ensures.files;
       shelf_counts = c.quiet_answer.ensures.counts;
       sink_counts = c.tell.ensures.counts;
     })
-    c.in_ok-answer.ensures.answer c.tell.ensures.told c.tell.ensures.explained
+    c.in-Ok.ensures.answer c.tell.ensures.told c.tell.ensures.explained
 
-pub returns-clause-run : goal.returns-clause-run
-returns-clause-run g c =
+pub returns-in-Ok-clause-run : goal.returns-in-Ok-clause-run
+returns-in-Ok-clause-run g c =
     λ is. subst (λ answer. IsToldFor (g.K.Sink.held c.args.sink.now) (g.K.Sink.held c.tell.new.sink)
     (g.K.Sink.faults c.args.sink.now) (g.K.Sink.faults c.tell.new.sink) answer c.tell.result.status)
-    (c.in_ok-answer.ensures.run is) c.tell.ensures.told
+    (c.in-Ok.ensures.run is) c.tell.ensures.told

@@ -3,35 +3,42 @@ use Rattle.std.proofs.Common.{◌≡◌, ap, subst, ◌∙◌}
 use Rattle.outside.specs.Counts.{NeverFalls, NoneFalls}
 use Rattle.outcomes.specs.Answers.{IsAnswerFor, IsToldFor}
 use Rattle.outcomes.specs.Delivery.{IsAsDue, due_for}
+use Rattle.command_words.specs.Kept.{said}
 use Rattle.command_words.specs.Words.{texts}
-use Rattle.top_call.proofs.Explaining.{due_is_told, explained_of}
+use Rattle.top_call.proofs.Explaining.{answer_for, due_is_told, explained_of}
 use Rattle.top_call.proofs.calls.rseq_explained.Goals as goal
 
 pub tell-requires : goal.tell-requires
 tell-requires g c =
     due_is_told (g.S.Shelf.file c.quiet_explained.new.shelf) (texts c.args.words.now)
-    (g.S.Shelf.faults c.quiet_explained.new.shelf) (g.S.Shelf.faults c.run_answer.new.shelf)
-    (g.S.Shelf.last_trouble c.run_answer.new.shelf) c.run_answer.result
-    c.run_answer.ensures.answer
+    (g.S.Shelf.faults c.quiet_explained.new.shelf) (g.S.Shelf.faults c.workers_text.new.shelf)
+    (g.S.Shelf.last_trouble c.workers_text.new.shelf) c.workers_text.result
+    (answer_for (g.S.Shelf.file c.quiet_explained.new.shelf) (texts c.args.words.now)
+    (g.S.Shelf.faults c.quiet_explained.new.shelf) (g.S.Shelf.faults c.workers_text.new.shelf)
+    (g.S.Shelf.last_trouble c.workers_text.new.shelf) (said c.in-Err.command) c.workers_text.result
+    c.in-Err.ensures.left c.workers_text.ensures.output c.workers_text.ensures.cause)
 
-pub returns-in-None-clause-explained : goal.returns-in-None-clause-explained
-returns-in-None-clause-explained g c =
-    let shelf : c.quiet_explained.new.shelf ≡ c.args.shelf.now = c.in-None.ensures.unused.0 in
-    let sink : c.quiet_explained.new.sink ≡ c.args.sink.now = c.in-None.ensures.unused.1 in
-    let after = c.run_answer.new.shelf in
+pub returns-in-Err-clause-explained : goal.returns-in-Err-clause-explained
+returns-in-Err-clause-explained g c =
+    let shelf : c.quiet_explained.new.shelf ≡ c.args.shelf.now = c.in-Err.ensures.unused.0 in
+    let sink : c.quiet_explained.new.sink ≡ c.args.sink.now = c.in-Err.ensures.unused.1 in
+    let after = c.workers_text.new.shelf in
     let told = c.tell.new.sink in
-    let answer = c.run_answer.result in
+    let answer = c.workers_text.result in
     explained_of _ _ answer c.tell.result
     (record {
-      files = c.run_answer.ensures.files ∙ ap g.S.Shelf.file shelf;
+      files = c.workers_text.ensures.files ∙ ap g.S.Shelf.file shelf;
       shelf_counts =
-          subst (λ x. NoneFalls (g.S.Shelf.faults x) (g.S.Shelf.faults after)) shelf c.run_answer.ensures.counts;
+          subst (λ x. NoneFalls (g.S.Shelf.faults x) (g.S.Shelf.faults after)) shelf c.workers_text.ensures.counts;
       sink_counts =
           subst (λ x. NeverFalls (g.K.Sink.faults x) (g.K.Sink.faults told)) sink c.tell.ensures.counts;
     })
     (subst (λ x. IsAnswerFor (g.S.Shelf.file x) (texts c.args.words.now) (g.S.Shelf.faults x) (g.S.Shelf.faults after)
     (g.S.Shelf.last_trouble after) answer)
-    shelf c.run_answer.ensures.answer)
+    shelf
+    (answer_for (g.S.Shelf.file c.quiet_explained.new.shelf) (texts c.args.words.now)
+    (g.S.Shelf.faults c.quiet_explained.new.shelf) (g.S.Shelf.faults after) (g.S.Shelf.last_trouble after)
+    (said c.in-Err.command) answer c.in-Err.ensures.left c.workers_text.ensures.output c.workers_text.ensures.cause))
     (subst (λ x. IsToldFor (g.K.Sink.held x) (g.K.Sink.held told) (g.K.Sink.faults x) (g.K.Sink.faults told) answer
     c.tell.result.status) sink c.tell.ensures.told)
     (subst (λ x. IsAsDue (g.K.Sink.faults x) (g.K.Sink.faults told) (g.K.Sink.last_trouble told) (due_for answer) c.tell.result) sink

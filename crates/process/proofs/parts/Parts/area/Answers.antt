@@ -17,4 +17,4 @@ returns-in-Some c s p tied lt =
     let t = c.in-Some.tid in
     let own = hart_tied s p c.args.self.now h x tied lt c.index.ensures in
     let at = thread_is (runs here) t (sym c.in-Some.is ∙ ap (λ (y : HartState). y.running) own) in
-    c.area_of.ensures ∙ ap (area_of t.0) tied.areas ∙ sym (ap (option_and_then (area_here here)) at)
+    c.area_of.ensures ∙ ap (area_of t.0) tied.tables.areas ∙ sym (ap (option_and_then (area_here here)) at)

@@ -65,14 +65,10 @@ returns-then-readied c = record {
       let m2 = c.take_up.new.self in
       let is : IsReadied (here_of v h.0) t.0 true c.readied.new.saved m m1 = record { lives = sym c.if-readied.true ∙ r.lives; file = r.file; pages = r.pages; harts = r.harts } in
       let its : c.next_id-id.result ≡ next_id (plain_seen v).kernel.ids = c.next_id-id.ensures ∙ ap lowest_cid (held_here v m h.0 place) in
-      let threads : m2.kernel.threads ≡ c.run-saved.new.self = c.take_up.ensures.threads ∙ ap (λ (k : Kernel). k.threads) c.readied.ensures.kernel in
-      begun_running v m h t place free m1 m2 c.readied.new.saved c.next_id-id.result is its c.take_up.ensures.harts c.take_up.ensures.pages
-      (ap (λ (x : Table). x.threads) threads ∙ c.run-saved.ensures.threads) (ap (λ (x : Table). x.saved) threads ∙ c.run-saved.ensures.saved) (rw threads c.run-saved.ensures.table)
-      (c.take_up.ensures.signals ∙ ap (λ (k : Kernel). k.signals) c.readied.ensures.kernel)
+      begun_running v m h t place free m1 m2 c.readied.new.saved c.next_id-id.result c.run-saved.new.self m2.kernel.ready is its c.take_up.ensures.harts c.take_up.ensures.pages
+      (c.take_up.ensures.others ∙ ap (λ (k : Kernel). record k { ready = m2.kernel.ready }) c.readied.ensures.kernel)
+      c.run-saved.ensures.threads c.run-saved.ensures.saved c.run-saved.ensures.table
       (c.take_up.ensures.ready ∙ ap (λ (k : Kernel). without_ready t.0 k.ready) c.readied.ensures.kernel)
-      (c.take_up.ensures.areas ∙ ap (λ (k : Kernel). k.areas) c.readied.ensures.kernel)
-      (c.take_up.ensures.registered ∙ ap (λ (k : Kernel). k.registered) c.readied.ensures.kernel)
-      (c.take_up.ensures.console ∙ ap (λ (k : Kernel). k.console) c.readied.ensures.kernel)
       (c.take_up.ensures.ended ∙ c.readied.ensures.ended);
 }
 
@@ -92,10 +88,6 @@ returns-else-readied c = record {
       begun_killed v m h t place free m1 m2 c.readied.new.saved m1.kernel.threads is c.kill.ensures.harts c.kill.ensures.pages
       (ap (λ (x : Table). x.threads) threads ∙ c.run-saved.ensures.threads) (ap (λ (x : Table). x.saved) threads ∙ c.run-saved.ensures.saved)
       c.kill.ensures.threads c.kill.ensures.saved c.kill.ensures.table
-      (c.kill.ensures.signals ∙ ap (λ (k : Kernel). k.signals) c.readied.ensures.kernel)
-      (c.kill.ensures.ready ∙ ap (λ (k : Kernel). k.ready) c.readied.ensures.kernel)
-      (c.kill.ensures.areas ∙ ap (λ (k : Kernel). k.areas) c.readied.ensures.kernel)
-      (c.kill.ensures.registered ∙ ap (λ (k : Kernel). k.registered) c.readied.ensures.kernel)
-      (c.kill.ensures.console ∙ ap (λ (k : Kernel). k.console) c.readied.ensures.kernel)
+      (c.kill.ensures.others ∙ ap (λ (k : Kernel). record k { threads = m2.kernel.threads }) c.readied.ensures.kernel)
       c.kill.ensures.ended;
 }

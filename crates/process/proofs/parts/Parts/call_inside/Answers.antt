@@ -30,13 +30,8 @@ returns c = record {
         harts = none_beside h (by_call here (killed_in_call here)) _ (record { none_begun = refl; none_taken = refl }) refl;
         pages = place.tied.pages;
         readable = place.tied.readable;
-        threads = place.tied.threads;
-        signals = place.tied.signals;
-        scheduling = place.tied.scheduling;
-        areas = place.tied.areas;
+        tables = place.tied.tables;
         ids = λ k u ne runs. refl;
-        registered = place.tied.registered;
-        console = place.tied.console;
         table = place.tied.table;
         saved = place.tied.saved;
         ended = refl;

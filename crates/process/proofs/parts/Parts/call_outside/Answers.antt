@@ -36,7 +36,7 @@ make_call-done-requires-clause-runs c =
     let v = c.requires.plan.seen in
     let m = c.args.self.now in
     let is = calling v m c.args.hart c.busy_harts-running.result c.len-harts.result c.index_mut-state.result.now c.entry_of-entry.result c.requires.plan.place c.requires.plan.plan c.requires.outside c.busy_harts-running.ensures (c.len-harts.ensures ∙ m.harts.ok.0) c.index_mut-state.ensures.value c.entry_of-entry.ensures in
-    ap (running_on c.args.hart.0) c.requires.plan.place.tied.threads ∙ is.runs
+    ap (running_on c.args.hart.0) c.requires.plan.place.tied.tables.threads ∙ is.runs
 
 pub make_call-done-requires-clause-signals : goal.make_call-done-requires-clause-signals
 make_call-done-requires-clause-signals c = signals_found c.requires.plan.seen c.args.self.now c.args.hart.0 c.requires.plan.place
@@ -77,16 +77,11 @@ returns c = record {
             ∙ ap (option_map (asked_by k h d.barrier)) (c.lose.ensures.harts k ∙ ap (λ ws. option_map (lost_unless (eqb k h) ws) (slice_get (set m.harts.items h y) k)) (c.as_slice.ensures.value ∙ c.make_call-done.ensures.written here is.at)));
         pages = rw (c.ask.ensures.pages, c.lose.ensures.pages) made.pages;
         readable = rw (c.ask.ensures.pages, c.lose.ensures.pages) (λ n may. (c.keeps.ensures.writable n may).0);
-        threads = rw same made.threads;
-        signals = rw same made.signals;
-        scheduling = rw same made.scheduling;
-        areas = rw same made.areas;
+        tables = rw same made.tables;
         ids = ids_kept v.setting.limits.harts h t (gives_up c.make_call-done.result.end) (plain_seen v) d (tables_at v m h place) is.runs made.ids;
-        registered = rw same made.barriers;
-        console = rw same made.console;
         table = rw same c.make_call-done.ensures.table;
         saved = rw same (made.kept place.tied.saved);
         ended = ended_after c.make_call-done.result.end d c.end_after-self.result (is_stuck c.ask.new.self.kernel.threads.threads) made.ended
-            (ap (λ (k : Kernel). is_stuck k.threads.threads) same ∙ ap is_stuck made.threads) c.end_after-self.ensures;
+            (ap (λ (k : Kernel). is_stuck k.threads.threads) same ∙ ap is_stuck made.tables.threads) c.end_after-self.ensures;
       });
 }

@@ -54,11 +54,7 @@ returns c = record {
         changed = c.go_on.ensures.harts;
         same_pages = c.go_on.ensures.pages;
         same_kernel = c.go_on.ensures.kernel;
-        threads = c.handled-killer.ensures.threads;
-        order = c.handled-killer.ensures.ready;
-        areas = c.handled-killer.ensures.areas;
-        registered = c.handled-killer.ensures.registered;
-        console = c.handled-killer.ensures.console;
+        others = c.handled-killer.ensures.others;
         ended = c.go_on.ensures.ended ∙ ap (ended_unless c.handled-killer.result) c.handled-killer.ensures.ended;
       });
 }

@@ -45,13 +45,8 @@ returns-in-Some c = record {
         harts = quietly h (done_drain_of here (w ∷ is.later)) (set m.harts.items h y) c.enter.new.self.harts.items (record { none_begun = refl; none_taken = refl }) c.enter.ensures.harts;
         pages = pages_written p.kernel.pages v.setting.program.break_at p.byte (Stored w ∷ []) m.pages c.enter.new.self.pages place.tied.pages c.enter.ensures.pages;
         readable = readable_written (Stored w ∷ []) m.pages c.enter.new.self.pages place.tied.readable c.enter.ensures.pages;
-        threads = rw c.enter.ensures.kernel place.tied.threads;
-        signals = rw c.enter.ensures.kernel place.tied.signals;
-        scheduling = rw c.enter.ensures.kernel place.tied.scheduling;
-        areas = rw c.enter.ensures.kernel place.tied.areas;
+        tables = rw c.enter.ensures.kernel place.tied.tables;
         ids = λ k u ne runs. refl;
-        registered = rw c.enter.ensures.kernel place.tied.registered;
-        console = rw c.enter.ensures.kernel place.tied.console;
         table = rw c.enter.ensures.kernel place.tied.table;
         saved = rw c.enter.ensures.kernel place.tied.saved;
         ended = c.enter.ensures.ended ∙ is.ended;

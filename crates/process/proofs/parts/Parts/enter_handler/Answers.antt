@@ -1,5 +1,5 @@
 -- A handler is entered.
-use Rattle.std.proofs.Common.{◌≡◌, length, true, sym, ap, ◌∙◌, eqb, ◌∷◌, [], slice_get}
+use Rattle.std.proofs.Common.{◌≡◌, length, true, refl, sym, ap, ◌∙◌, eqb, ◌∷◌, [], slice_get}
 use Rattle.std.specs.Option.{option_map}
 use Rattle.std.proofs.lemmas.Bool.{OnTrue_at}
 use Rattle.mach_types.specs.Kernel.SignalFrames.{after_frame, can_write_frame, frame_writes, stack_pointer}
@@ -36,3 +36,6 @@ returns-clause-entered c =
           ∙ frame_is_lost (eqb k c.args.hart.0) s (action_of s g) x mask (stack_pointer c.push_frame.new.saved) (slice_get m.harts.items k) long (ap stack_pointer file);
       signals = c.drop_if_ignored.ensures ∙ ap (dropped_if_ignored s) (ap (λ (k : Kernel). k.signals) c.lose.ensures.kernel ∙ OnTrue_at made c.push_frame.ensures.signals);
     }
+
+pub returns-clause-others : goal.returns-clause-others
+returns-clause-others c = rw c.lose.ensures.kernel refl

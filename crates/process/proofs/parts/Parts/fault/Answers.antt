@@ -6,6 +6,7 @@ use Rattle.mach_types.specs.declared.events.Kind.TheVariants.{Exec}
 use Rattle.block_model.specs.Events.Exec.{has_handler}
 use Rattle.block_model.specs.Kernel.{signalled}
 use Rattle.block_model.specs.Plain.{here_of, plain_seen}
+use Rattle.sys_calls.proofs.Laws.{holds_signals}
 use Rattle.process.specs.Delivering.{has_handler_in}
 use Rattle.process.proofs.Entries.{changed_as, entry_exec}
 use Rattle.process.proofs.Events.{none_beside}
@@ -64,19 +65,15 @@ returns-then-has_handler c effect = record {
       let has : has_handler_in e.tid.0 s m.kernel.signals ≡ true = sym c.has_handler.ensures ∙ c.if-has_handler.true in
       let handler = (and_parts (not (has_signal (mask_of e.tid.0 m.kernel.signals) s)) (is_handler (action_of s m.kernel.signals)) has).1 in
       let has_here : has_handler here t s ≡ true =
-      sym (ap (λ n. has_handler_in n s m.kernel.signals) its ∙ ap (has_handler_in t s) place.tied.signals) ∙ has in
+      sym (ap (λ n. has_handler_in n s m.kernel.signals) its ∙ ap (has_handler_in t s) place.tied.tables.signals) ∙ has in
       changed_as v h asked.Exec (fault_pending here t s) m _ _ place plan.free (done_pending here t s plan.at (sym plan.fault) has_here) (record {
         own = pending_own _ v.setting (plain_seen v) h t s x _ (hart_is v m h x place c.index_mut-state.ensures.value) refl;
         harts = none_beside h (fault_pending here t s) _ (record { none_begun = refl; none_taken = refl }) refl;
         pages = place.tied.pages;
         readable = place.tied.readable;
-        threads = place.tied.threads;
-        signals = c.post.ensures ∙ posted_handler e.tid.0 s m.kernel.signals handler ∙ ap (λ n. with_pending n s m.kernel.signals) its ∙ ap (with_pending t s) place.tied.signals;
-        scheduling = place.tied.scheduling;
-        areas = place.tied.areas;
+        tables = holds_signals place.tied.tables c.post.new.self (with_pending t s (plain_seen v).kernel.signals)
+            (c.post.ensures ∙ posted_handler e.tid.0 s m.kernel.signals handler ∙ ap (λ n. with_pending n s m.kernel.signals) its ∙ ap (with_pending t s) place.tied.tables.signals);
         ids = λ k u ne runs. refl;
-        registered = place.tied.registered;
-        console = place.tied.console;
         table = place.tied.table;
         saved = place.tied.saved;
         ended = goes_on v m h (signalled (with_pending t s (plain_seen v).kernel.signals) (plain_seen v).kernel) place (was_not_stuck v m h place);
@@ -96,19 +93,14 @@ returns-else-has_handler c effect = record {
       let e = c.entry_of-entry.result in
       let its = entry_runs v m c.args.hart Exec t x e place plan.at c.index_mut-state.ensures.value c.entry_of-entry.ensures in
       let lacks_here : has_handler here t s ≡ false =
-      sym (c.has_handler.ensures ∙ ap (λ n. has_handler_in n s m.kernel.signals) its ∙ ap (has_handler_in t s) place.tied.signals) ∙ c.if-has_handler.false in
+      sym (c.has_handler.ensures ∙ ap (λ n. has_handler_in n s m.kernel.signals) its ∙ ap (has_handler_in t s) place.tied.tables.signals) ∙ c.if-has_handler.false in
       changed_as v h asked.Exec (fault_killing here s) m _ _ place plan.free (done_killing here t s plan.at (sym plan.fault) lacks_here) (record {
         own = killing_own _ v.setting (plain_seen v) h s x _ (hart_is v m h x place c.index_mut-state.ensures.value) refl;
         harts = none_beside h (fault_killing here s) _ (record { none_begun = refl; none_taken = refl }) refl;
         pages = place.tied.pages;
         readable = place.tied.readable;
-        threads = place.tied.threads;
-        signals = place.tied.signals;
-        scheduling = place.tied.scheduling;
-        areas = place.tied.areas;
+        tables = place.tied.tables;
         ids = λ k u ne runs. refl;
-        registered = place.tied.registered;
-        console = place.tied.console;
         table = place.tied.table;
         saved = place.tied.saved;
         ended = refl;

@@ -38,10 +38,7 @@ returns-in-Nothing c =
           } in
           delivered_by h c.args.tid.0 c.args.hart.0 c.args.signal o x x1 c.enter_unless_killed.new.saved c.area_of-area.result m m1 c.enter_unless_killed.new.self half
           c.enter_unless_killed.result goes c.enter_unless_killed.ensures.killer (fun_ext c.interrupted-outcome.ensures.writable) c.enter_unless_killed.ensures.entered;
-      threads = c.enter_unless_killed.ensures.threads ∙ ap (λ (k : Kernel). k.threads) c.interrupted-outcome.ensures.kernel;
-      ready = c.enter_unless_killed.ensures.ready ∙ ap (λ (k : Kernel). k.ready) c.interrupted-outcome.ensures.kernel;
-      areas = c.enter_unless_killed.ensures.areas ∙ ap (λ (k : Kernel). k.areas) c.interrupted-outcome.ensures.kernel;
-      registered = c.enter_unless_killed.ensures.registered ∙ ap (λ (k : Kernel). k.registered) c.interrupted-outcome.ensures.kernel;
-      console = c.enter_unless_killed.ensures.console ∙ ap (λ (k : Kernel). k.console) c.interrupted-outcome.ensures.kernel;
+      others = c.enter_unless_killed.ensures.others
+          ∙ ap (λ (k : Kernel). record k { signals = c.enter_unless_killed.new.self.kernel.signals }) c.interrupted-outcome.ensures.kernel;
       ended = c.enter_unless_killed.ensures.ended ∙ c.interrupted-outcome.ensures.ended;
     }

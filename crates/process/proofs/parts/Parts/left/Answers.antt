@@ -1,12 +1,11 @@
 use Rattle.std.proofs.Common.{◌≡◌, Some, ◌+◌, arith, refl, ap, ◌∙◌}
-use Rattle.mach_types.specs.Kernel.Scheduling.{with_ready}
-use Rattle.mach_types.specs.Kernel.Threads.{with_state}
 use Rattle.mach_types.specs.declared.events.Choice.TheVariants as asked
 use Rattle.mach_types.specs.declared.threads.ThreadState.TheVariants.{Ready}
 use Rattle.hart_state.specs.declared.hart.HartState.{HartState}
 use Rattle.block_model.specs.Kernel.{left}
 use Rattle.block_model.specs.Events.Preempt.{done_preempt_by}
 use Rattle.block_model.specs.Plain.{here_of, plain_seen}
+use Rattle.sys_calls.proofs.Laws.{holds_left}
 use Rattle.process.proofs.Entries.{changed_as, entry_preempt}
 use Rattle.process.proofs.Events.{none_beside}
 use Rattle.process.proofs.HartEvents.{preempt_own}
@@ -52,13 +51,8 @@ returns c = record {
         harts = none_beside h (done_preempt_by (here_of v h) (Some t)) _ (record { none_begun = refl; none_taken = refl }) refl;
         pages = place.tied.pages;
         readable = place.tied.readable;
-        threads = c.leave.ensures.threads ∙ ap (with_state t Ready) place.tied.threads;
-        signals = place.tied.signals;
-        scheduling = c.push.ensures ∙ ap (with_ready t) place.tied.scheduling;
-        areas = place.tied.areas;
+        tables = holds_left place.tied.tables t c.leave.new.self c.push.new.self c.leave.ensures.threads c.push.ensures;
         ids = λ k u ne runs. id_without_other t u p.kernel.ids (others_apart v.setting.limits.harts h k t u p.kernel.threads p.kernel.scheduling (tables_at v m h place) is.at runs ne);
-        registered = place.tied.registered;
-        console = place.tied.console;
         table = c.leave.ensures.table;
         saved = saved_left p.file t c.leave-saved.result m.kernel.threads c.leave.new.self c.leave.ensures.saved (c.leave-saved.ensures.file ∙ is.file) place.tied.saved;
         ended = goes_on v m h (left t p.kernel) place (not_stuck t Ready p.kernel.threads refl is.live);

@@ -59,13 +59,8 @@ returns-in-Some c = record {
         pages = subst (λ (ws : List Store). HoldsPages p.kernel.pages v.setting.program.break_at (λ a. written (all_stored ws) a (p.byte a)) c.enter.new.self.pages) (sym entered)
             (pages_written p.kernel.pages v.setting.program.break_at p.byte (Stored w ∷ []) m.pages c.enter.new.self.pages place.tied.pages c.enter.ensures.pages);
         readable = readable_written (Stored w ∷ []) m.pages c.enter.new.self.pages place.tied.readable c.enter.ensures.pages;
-        threads = rw c.enter.ensures.kernel place.tied.threads;
-        signals = rw c.enter.ensures.kernel place.tied.signals;
-        scheduling = rw c.enter.ensures.kernel place.tied.scheduling;
-        areas = rw c.enter.ensures.kernel place.tied.areas;
+        tables = rw c.enter.ensures.kernel place.tied.tables;
         ids = λ k u ne runs. refl;
-        registered = rw c.enter.ensures.kernel place.tied.registered;
-        console = rw c.enter.ensures.kernel place.tied.console;
         saved = rw c.enter.ensures.kernel (saved_plain p.file t (record { file = is.outcome.regs; pc = is.outcome.pc }) c.args.hart m.kernel.threads place.tied.table (runs_there v m c.args.hart t place plan.at) place.tied.saved);
         table = rw c.enter.ensures.kernel place.tied.table;
         ended = c.enter.ensures.ended ∙ is.ended;
@@ -90,13 +85,8 @@ returns-in_default c = record {
         harts = none_beside h (by_outcome here t is.outcome) _ (record { none_begun = refl; none_taken = refl }) (ap all_stored entered);
         pages = subst (λ (ws : List Store). HoldsPages p.kernel.pages v.setting.program.break_at (λ a. written (all_stored ws) a (p.byte a)) m.pages) (sym entered) place.tied.pages;
         readable = place.tied.readable;
-        threads = place.tied.threads;
-        signals = place.tied.signals;
-        scheduling = place.tied.scheduling;
-        areas = place.tied.areas;
+        tables = place.tied.tables;
         ids = λ k u ne runs. refl;
-        registered = place.tied.registered;
-        console = place.tied.console;
         saved = saved_plain p.file t (record { file = is.outcome.regs; pc = is.outcome.pc }) c.args.hart m.kernel.threads place.tied.table (runs_there v m c.args.hart t place plan.at) place.tied.saved;
         table = place.tied.table;
         ended = is.ended;

@@ -20,5 +20,5 @@ returns-clause-restarted c v place =
     let at : runs here ≡ Some t.0 = thread_is (runs here) t (sym c.in-Some.is ∙ ap (λ (y : HartState). y.running) own) in
     let asks : here.restart ≡ true = sym (ap (λ (y : HartState). y.restart) own) ∙ c.if-not-state.false in
     restarted here t.0 c.interrupted.result c.area_of-area.result x.pc m c.interrupted.new.self asks at (bytes_at v m h place) (writable_at v m h place)
-    (c.area_of-area.ensures ∙ ap (area_of t.0) place.tied.areas) (ap (λ (y : HartState). y.pc) own ∙ ap (λ o. (file_on here o).pc) at)
+    (c.area_of-area.ensures ∙ ap (area_of t.0) place.tied.tables.areas) (ap (λ (y : HartState). y.pc) own ∙ ap (λ o. (file_on here o).pc) at)
     c.interrupted.ensures.outcome c.interrupted.ensures.pages c.interrupted.ensures.harts

@@ -34,13 +34,8 @@ returns c = record {
         harts = none_beside h d _ (record { none_begun = refl; none_taken = refl }) refl;
         pages = place.tied.pages;
         readable = place.tied.readable;
-        threads = place.tied.threads;
-        signals = place.tied.signals;
-        scheduling = place.tied.scheduling;
-        areas = place.tied.areas;
+        tables = place.tied.tables;
         ids = λ k u ne runs. refl;
-        registered = place.tied.registered;
-        console = place.tied.console;
         table = place.tied.table;
         saved = kept_running p.file (λ u. file_among d.files u (p.file u)) t c.args.hart m.kernel.threads place.tied.table (runs_there v m c.args.hart t place is.1)
             (λ u other. file_apart here t u other) place.tied.saved;

@@ -21,7 +21,7 @@ invariant_of-self g c =
     let taken : c.take-was_ready.new.self ≡ without_ready c.args.tid sc =
     OnTrue_at (c.take-was_ready.ensures.ready ∙ (ready_listed 2 c.args.tid ts sc tables ∙ ready)) c.take-was_ready.ensures.taken in
     let k = c.args.self.now.kernel in
-    let k' : Kernel = record { threads = c.run-saved.new.self; signals = k.signals; ready = c.take-was_ready.new.self; areas = k.areas; registered = k.registered; console = k.console } in
+    let k' : Kernel = record k { threads = c.run-saved.new.self; ready = c.take-was_ready.new.self } in
     let areas = keeps_same k k' (with_state c.args.tid (Running (record { 0 = c.args.hart })) ts) refl c.run-saved.ensures.threads
     (λ u. live_changed c.args.tid u (Running (record { 0 = c.args.hart })) ts) c.args.self.now.areas in
     let signals = signals_stay k k' (with_state c.args.tid (Running (record { 0 = c.args.hart })) ts) c.run-saved.ensures.threads refl

@@ -1,6 +1,6 @@
 use Rattle.top_call.proofs.Causes.{passed_up, program_beside, unplayed, unread_script}
-use Rattle.top_call.proofs.Wholes.{played_of}
-use Rattle.top_call.proofs.texts.play_files.Goals as goal
+use Rattle.top_call.proofs.Wholes.{run_by_script}
+use Rattle.top_call.proofs.texts.script_run.Goals as goal
 
 pub returns-in_err-image-clause-cause : goal.returns-in_err-image-clause-cause
 returns-in_err-image-clause-cause g c =
@@ -33,9 +33,9 @@ returns-in_err-machine-clause-cause g c =
     (record { read = c.in_ok-lines.ensures.read; fits = c.in_ok-lines.ensures.fits })
     c.in_err-machine.ensures.cause)
 
-pub returns-clause-played : goal.returns-clause-played
-returns-clause-played g c =
-    played_of (g.S.Shelf.file c.args.shelf.now) (g.S.Shelf.file c.taken.new.shelf) c.args.program.now
+pub returns-clause-run : goal.returns-clause-run
+returns-clause-run g c =
+    run_by_script (g.S.Shelf.file c.args.shelf.now) (g.S.Shelf.file c.taken.new.shelf) c.args.program.now
     c.args.script.now c.in_ok-lines.lines.items c.deref.result.now c.args.limits c.in_ok-image.image
     c.in_ok-machine.machine c.taken.ensures.files c.deref.ensures.value c.in_ok-image.ensures.taken
     (record { read = c.in_ok-lines.ensures.read; fits = c.in_ok-lines.ensures.fits })

@@ -1,0 +1,39 @@
+//! What is shown of a run.
+
+ghost use Rattle.std.specs.Prelude.{◌≡◌, IfOk};
+ghost use Rattle.mach_types.specs.Limits.{InRange};
+ghost use Rattle.elf_load.specs.Images.{IsBootable};
+ghost use Rattle.block_model.specs.Run.{IsBlockRun};
+ghost use Rattle.command_words.specs.Commands.{ShowsItsText};
+ghost use Rattle.command_words.specs.Kept.{said};
+ghost use Rattle.outcomes.specs.Outputs.{setting_for, shown_text};
+
+use crate::output::output_text;
+use crate::summary::summary_text;
+use command_words::{Command, Shown};
+use elf_load::Image;
+use machine_core::Machine;
+use place_text::place_text;
+use std::alloc::{AllocError, Global};
+
+/// What a command shows of a run of its program, at whose end a machine is.
+pub fn shown_text(
+    alloc: Global,
+    command: &Command,
+    image: &Image,
+    machine: &Machine,
+) -> Result<Vec<u8>, AllocError>
+    requires image { IsBootable command.now.limits.frames image.now }
+    requires limits { InRange command.now.limits }
+    requires shown { ShowsItsText (said command.now) }
+    requires setting { machine.now.setting ≡ setting_for (said command.now) image.now }
+    requires run { IsBlockRun machine.now.setting machine.now.log }
+    ensures { IfOk result
+        (λ text. text.items ≡ shown_text command.now.shown machine.now.setting machine.now.log) }
+{
+    match command.shown {
+        Shown::Output => output_text(alloc, machine),
+        Shown::Summary => summary_text(alloc, image, &command.limits, machine),
+        Shown::Place => place_text(alloc, machine),
+    }
+}

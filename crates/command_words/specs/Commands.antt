@@ -1,0 +1,47 @@
+-- What can be asked for: to run a program, and to show something of the run (own). The names are those of files.
+use Rattle.std.specs.Prelude.{ℕ, ◌≡◌, Bool, true, false, List, Option, Some, None}
+use Rattle.mach_types.specs.declared.limits.Limits.{Limits}
+use Rattle.command_words.specs.declared.table.Shown.{Shown}
+use Rattle.command_words.specs.declared.table.Shown.TheVariants.{Output}
+
+-- how the log of the run comes about: on one hart by the fixed rule; by the events of a script; or by workers, one
+-- for each hart, that choose by a seed
+pub data Source : Type 0 where
+  Rule : Source
+  Script : (name : List ℕ) → Source
+  Workers : (seed : ℕ) → Source
+
+pub record Command : Type 0 where
+  pub program : List ℕ
+  pub source : Source
+  pub shown : Shown
+  pub limits : Limits
+
+-- whether the log comes about by workers
+abbrev pub is_by_workers : Source → Bool
+is_by_workers Rule = false
+is_by_workers (Script name) = false
+is_by_workers (Workers seed) = true
+
+-- whether the words ask for a run by workers
+abbrev pub is_run : Option Command → Bool
+is_run None = false
+is_run (Some command) = is_by_workers command.source
+
+-- the fixed rule runs on one hart
+abbrev pub HasHartsOf : Source → Limits → Type 0
+HasHartsOf Rule limits = limits.harts ≡ 1
+HasHartsOf (Script name) limits = Unit {0}
+HasHartsOf (Workers seed) limits = Unit {0}
+
+abbrev pub HasItsHarts : Command → Type 0
+HasItsHarts command = HasHartsOf command.source command.limits
+
+-- of a run by workers its output is shown
+abbrev pub ShowsTextOf : Source → Shown → Type 0
+ShowsTextOf Rule shown = Unit {0}
+ShowsTextOf (Script name) shown = Unit {0}
+ShowsTextOf (Workers seed) shown = shown ≡ Output
+
+abbrev pub ShowsItsText : Command → Type 0
+ShowsItsText command = ShowsTextOf command.source command.shown

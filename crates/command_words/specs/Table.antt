@@ -1,0 +1,22 @@
+-- The commands (own): of each its word, how the log of its run comes about, and what is shown of it.
+use Rattle.std.specs.Prelude.{ℕ, List, Option, Some, None, if◌then◌else◌, codes}
+use Rattle.std.specs.Str.{bytes_eq}
+use Rattle.command_words.specs.declared.table.CommandKind.{CommandKind}
+use Rattle.command_words.specs.declared.table.Shown.{Shown}
+use Rattle.command_words.specs.declared.table.Shown.TheVariants.{Output, Summary, Place}
+use Rattle.command_words.specs.declared.table.SourceKind.{SourceKind}
+use Rattle.command_words.specs.declared.table.SourceKind.TheVariants.{ByRule, ByScript, ByWorkers}
+
+-- a row: how the log comes about, and what is shown
+abbrev pub row : SourceKind → Shown → Option CommandKind
+row source shown = Some (record { source = source; shown = shown })
+
+-- what the command of a word is, if a command has the word
+abbrev pub command_kind : List ℕ → Option CommandKind
+command_kind word =
+    if bytes_eq word (codes "solo") then row ByRule Output
+    else if bytes_eq word (codes "play") then row ByScript Output
+    else if bytes_eq word (codes "blocks") then row ByScript Summary
+    else if bytes_eq word (codes "inspect") then row ByScript Place
+    else if bytes_eq word (codes "run") then row ByWorkers Output
+    else None

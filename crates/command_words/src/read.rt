@@ -1,0 +1,46 @@
+//! Reading the words of a command line.
+
+ghost use Rattle.std.specs.Prelude.{◌≡◌, IfErr, IfOk, Some};
+ghost use Rattle.mach_types.specs.Limits.{InRange};
+ghost use Rattle.command_words.specs.Commands.{HasItsHarts, ShowsItsText};
+ghost use Rattle.command_words.specs.Kept.{said};
+ghost use Rattle.command_words.specs.WordErrors.{IsErrorOf};
+ghost use Rattle.command_words.specs.Words.{command_of, texts};
+
+use crate::commands::{Command, command_of};
+use crate::faults::{WordsFault, words_fault};
+use crate::theorems::words_are_wrong_or_name_a_command;
+use std::alloc::Global;
+
+/// Why words give no command.
+#[derive(Clone, Copy, Debug, PartialEq, Eq, Drop)]
+pub enum WordsError {
+    /// They are no command: this is what is wrong with them.
+    Wrong(WordsFault),
+    /// Memory ran out.
+    NoMemory,
+}
+
+/// What the words ask for. What is wrong with them is found first, and takes no memory: only words of the grammar
+/// may want it.
+///
+/// The first word is the command: `solo FILE`, with `--frames` and `--steps`; `play FILE SCRIPT` and the other
+/// commands on the events of a script, with `--harts` too; or `run FILE`, with `--harts` and `--seed` too. Each limit
+/// is in its range.
+pub fn read_words<'a>(alloc: Global, words: &'a [String]) -> Result<Command<'a>, WordsError>
+    ensures command { IfOk result (λ command. command_of (texts words.now) ≡ Some (said command)) }
+    ensures limits { IfOk result (λ command. InRange command.limits) }
+    ensures harts { IfOk result (λ command. HasItsHarts (said command)) }
+    ensures shown { IfOk result (λ command. ShowsItsText (said command)) }
+    ensures error { IfErr result (IsErrorOf (texts words.now)) }
+{
+    words_are_wrong_or_name_a_command();
+    if let Some(fault) = words_fault(words) {
+        return Err(WordsError::Wrong(fault));
+    }
+    match command_of(alloc, words) {
+        Ok(Some(command)) => Ok(command),
+        Ok(None) => unreachable!(),
+        Err(_) => Err(WordsError::NoMemory),
+    }
+}
