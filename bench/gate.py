@@ -8,7 +8,7 @@ standard error. On standard output comes a table for docs/PERFORMANCE.md: for ea
 seconds its proof took, how many wrong bodies it has and what their tries took (with the check that they all begin with), and how many
 tests it has and what proving them took; below it all together, the clock, and what the system counted of all processes of the run.
 
-The seconds by crate are those of the provers, which are looked at ten times a second: what one does after its last look isn't seen, so
+The seconds by crate are those of the provers, which are looked at five times a second: what one does after its last look isn't seen, so
 their sum is a little below what the system counted. `taskset -c 0,1 bench/gate.py` times the gate on two processors.
 """
 import os
@@ -32,22 +32,33 @@ def kind_of(words, folder):
     return TESTS if '--test' in words else PROOF
 
 
-def look(process, session):
-    """Of a prover of this session: when it started, its crate, what it does there, and its processor seconds so far; else None."""
-    counts = (process / 'stat').read_text().rpartition(')')[2].split()
+def below(process):
+    """The processes that one started, and those that these started."""
+    try:
+        numbers = [it for task in process.glob('task/*/children') for it in task.read_text().split()]
+    except OSError:
+        return  # it ended meanwhile
+    for number in numbers:
+        yield pathlib.Path('/proc', number)
+        yield from below(pathlib.Path('/proc', number))
+
+
+def look(process):
+    """Of a prover: when it started, its crate, what it does there, and its processor seconds so far; of another process None."""
     words = (process / 'cmdline').read_bytes().decode(errors='replace').split('\0')
-    if int(counts[3]) != session or os.path.basename(words[0]) != 'rattle' or '--crate-name' not in words:
+    if os.path.basename(words[0]) != 'rattle' or '--crate-name' not in words:
         return None
+    counts = (process / 'stat').read_text().rpartition(')')[2].split()
     crate = words[words.index('--crate-name') + 1]
     return counts[19], crate, kind_of(words, os.readlink(process / 'cwd')), (int(counts[11]) + int(counts[12])) / TICK
 
 
-def watch(session, ended, seen):
-    """Notes of each prover of a session what it was seen to have taken last, until the run has ended."""
-    while not ended.wait(0.1):
-        for process in pathlib.Path('/proc').glob('[0-9]*'):
+def watch(gate, ended, seen):
+    """Notes of each prover of the gate what it was seen to have taken last, until the run has ended."""
+    while not ended.wait(0.2):
+        for process in below(pathlib.Path('/proc', str(gate))):
             try:
-                found = look(process, session)
+                found = look(process)
                 if found:
                     seen[process.name, found[0]] = found[1:]
             except (OSError, ValueError, IndexError):
