@@ -67,10 +67,17 @@ impl Chooser {
 
     /// What a hart of which this is seen does next, None exactly where it has nothing to do now.
     ///
-    /// The hart is below 8. Only where the hart could as well execute, drain or leave does its generator give a
-    /// word.
+    /// The hart is below 8. Only where the hart could as well execute, drain or leave does its generator give
+    /// a word.
     #[inline]
-    #[tactic(auto, unfolding(crate::specs::Cases::pick, crate::specs::Generators::word, crate::specs::Generators::next_generator))]
+    #[tactic(
+        auto,
+        unfolding(
+            crate::specs::Cases::pick,
+            crate::specs::Generators::word,
+            crate::specs::Generators::next_generator,
+        )
+    )]
     pub fn next(&mut self, hart: Hart, sight: &Sight) -> Option<Pick>
         requires { hart.0 < 8 }
         ensures pick { result ≡ pick sight.now (word (generator_in self.old hart.0)) }
@@ -84,7 +91,14 @@ impl Chooser {
 
     /// What [`Chooser::next`] would answer. No word is taken.
     #[inline]
-    #[tactic(auto, unfolding(crate::specs::Cases::pick, crate::specs::Generators::word, crate::specs::Generators::next_generator))]
+    #[tactic(
+        auto,
+        unfolding(
+            crate::specs::Cases::pick,
+            crate::specs::Generators::word,
+            crate::specs::Generators::next_generator,
+        )
+    )]
     pub fn peek(&self, hart: Hart, sight: &Sight) -> Option<Pick>
         requires { hart.0 < 8 }
         ensures { result ≡ pick sight.now (word (generator_in self.now hart.0)) }

@@ -99,8 +99,8 @@ fn lowest_signal_that_is_not_masked_is_next(rt: HostRuntime) -> Result<(), Fail>
     Ok(())
 }
 
-/// Whether a signal is pending once it was posted twice to thread 1, whose action of it is given or the default; taken
-/// once, it isn't.
+/// Whether a signal is pending once it was posted twice to thread 1, whose action of it is given or the
+/// default; taken once, it isn't.
 fn expect_posted(rt: &impl Abort, sig: u8, action: Option<Action>, pending: bool)
     requires lowest { 1 ≤ sig }
     requires highest { sig ≤ 31 }
