@@ -9,8 +9,6 @@ mod harts;
 mod place;
 mod registers;
 mod sequences;
-#[cfg(test)]
-mod tests;
 mod threads;
 
 pub use ends::{push_end, push_number_line};
