@@ -16,5 +16,3 @@ pub use theorems::{
     thread_is_saved_while_it_does_not_run,
 };
 
-#[cfg(test)]
-mod tests;

@@ -19,5 +19,3 @@ pub use theorems::{
     thread_has_its_signals,
 };
 
-#[cfg(test)]
-mod tests;
