@@ -70,14 +70,7 @@ impl Chooser {
     /// The hart is below 8. Only where the hart could as well execute, drain or leave does its generator give
     /// a word.
     #[inline]
-    #[tactic(
-        auto,
-        unfolding(
-            crate::specs::Cases::pick,
-            crate::specs::Generators::word,
-            crate::specs::Generators::next_generator,
-        )
-    )]
+    #[tactic(auto, unfolding(crate::specs::Cases::pick, crate::specs::Generators::word, crate::specs::Generators::next_generator))]
     pub fn next(&mut self, hart: Hart, sight: &Sight) -> Option<Pick>
         requires { hart.0 < 8 }
         ensures pick { result ≡ pick sight.now (word (generator_in self.old hart.0)) }
@@ -91,14 +84,7 @@ impl Chooser {
 
     /// What [`Chooser::next`] would answer. No word is taken.
     #[inline]
-    #[tactic(
-        auto,
-        unfolding(
-            crate::specs::Cases::pick,
-            crate::specs::Generators::word,
-            crate::specs::Generators::next_generator,
-        )
-    )]
+    #[tactic(auto, unfolding(crate::specs::Cases::pick, crate::specs::Generators::word, crate::specs::Generators::next_generator))]
     pub fn peek(&self, hart: Hart, sight: &Sight) -> Option<Pick>
         requires { hart.0 < 8 }
         ensures { result ≡ pick sight.now (word (generator_in self.now hart.0)) }

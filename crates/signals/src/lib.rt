@@ -18,4 +18,3 @@ pub use theorems::{
     others_keep_their_signals, sets_have_their_signals, signalling_stays_whole,
     thread_has_its_signals,
 };
-

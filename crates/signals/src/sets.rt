@@ -58,15 +58,7 @@ fn can_come(pending: u64, mask: u64, sig: u8) -> bool
 }
 
 /// The lowest signal that is pending and not masked; None exactly where there is none.
-#[tactic(
-    auto,
-    using(
-        crate::proofs::Lowest::from_the_first,
-        crate::proofs::Lowest::found_here,
-        crate::proofs::Lowest::found_later,
-        crate::proofs::Lowest::none_left,
-    )
-)]
+#[tactic(auto, using(crate::proofs::Lowest::from_the_first, crate::proofs::Lowest::found_here, crate::proofs::Lowest::found_later, crate::proofs::Lowest::none_left))]
 pub fn lowest_deliverable(pending: u64, mask: u64) -> Option<u8>
     ensures { result ≡ find (can_come pending mask) spec.all_signals }
 {
