@@ -1,7 +1,7 @@
 -- Barriers on harts: which harts run threads, and the harts beside one that asks, or that takes its requests.
 use Rattle.std.proofs.Common.{◌≡◌, ◌≢◌, ℕ, zero, suc, ◌+◌, ◌-◌, ◌<◌, ◌≤◌, ◌^◌, List, set, refl, sym, ap, ◌∙◌, subst, arith, Bool, true, false, cond, eqb, eq-eqb, ◌||◌, Option, Some, None, is_some, slice_get, inl, inr}
 use Rattle.std.specs.Option.{option_map, option_map_or}
-use Rattle.std.proofs.lemmas.Bool.{cases_eq, ne_eqb}
+use Rattle.std.proofs.lemmas.Bool.{ne_eqb}
 use Rattle.std.proofs.lemmas.Option.{slice_get_past}
 use Rattle.mach_types.specs.Kernel.Barriers.{harts_that}
 use Rattle.mach_types.specs.Kernel.Scheduling.{has_hart}
@@ -20,7 +20,7 @@ use Rattle.process.specs.Losing.{lost_unless}
 use Rattle.process.specs.Tied.{IsPlace}
 use Rattle.process.specs.declared.parts.Parts.{Parts}
 use Rattle.process.proofs.Events.{AreBeside}
-use Rattle.process.proofs.HartTies.{beside_unless, get_set_other, get_set_same}
+use Rattle.process.proofs.HartTies.{beside_unless, get_set_other, get_set_same, of_each}
 
 -- two tests that agree on the first so many harts give one set
 same_harts : (f g : ℕ → Bool) (n : ℕ) → ((k : ℕ) → k < n → f k ≡ g k) → harts_that f n ≡ harts_that g n
@@ -69,16 +69,15 @@ asked_beside here h k c x ne = rw (ne_eqb h k (λ e. ne (sym e))) refl
 pub call_beside : (here : Here) (h : ℕ) (c : CallDone) (xs ys : List HartState) (x y : HartState) → slice_get xs h ≡ Some x
     → ((k : ℕ) → slice_get ys k ≡ option_map (asked_by k h c.barrier) (option_map (lost_unless (eqb k h) c.entered) (slice_get (set xs h y) k)))
     → AreBeside h (by_call here c) (set xs h (asked_by h h c.barrier y)) ys
-call_beside here h c xs ys x y at is k = is k ∙ (elim (cases_eq k h) [
-  | inl same ↦ subst (λ j. option_map (asked_by j h c.barrier) (option_map (lost_unless (eqb j h) c.entered) (slice_get (set xs h y) j))
-      ≡ option_map (beside_unless (eqb j h) j h (by_call here c)) (slice_get (set xs h (asked_by h h c.barrier y)) j)) (sym same) own
-  | inr ne ↦
-      ap (λ b. option_map (asked_by k h c.barrier) (option_map (lost_unless b c.entered) (slice_get (set xs h y) k))) (ne_eqb k h ne)
-      ∙ ap (λ o. option_map (asked_by k h c.barrier) (option_map (lost_unless false c.entered) o)) (get_set_other xs h k y ne)
-      ∙ other ne (slice_get xs k)
-      ∙ ap (option_map (beside_unless false k h (by_call here c))) (sym (get_set_other xs h k (asked_by h h c.barrier y) ne))
-      ∙ ap (λ b. option_map (beside_unless b k h (by_call here c)) (slice_get (set xs h (asked_by h h c.barrier y)) k)) (sym (ne_eqb k h ne))
-])
+call_beside here h c xs ys x y at is k = is k ∙ of_each
+    (λ j. option_map (asked_by j h c.barrier) (option_map (lost_unless (eqb j h) c.entered) (slice_get (set xs h y) j))
+      ≡ option_map (beside_unless (eqb j h) j h (by_call here c)) (slice_get (set xs h (asked_by h h c.barrier y)) j)) h k own
+    (λ ne.
+        ap (λ b. option_map (asked_by k h c.barrier) (option_map (lost_unless b c.entered) (slice_get (set xs h y) k))) (ne_eqb k h ne)
+        ∙ ap (λ o. option_map (asked_by k h c.barrier) (option_map (lost_unless false c.entered) o)) (get_set_other xs h k y ne)
+        ∙ other ne (slice_get xs k)
+        ∙ ap (option_map (beside_unless false k h (by_call here c))) (sym (get_set_other xs h k (asked_by h h c.barrier y) ne))
+        ∙ ap (λ b. option_map (beside_unless b k h (by_call here c)) (slice_get (set xs h (asked_by h h c.barrier y)) k)) (sym (ne_eqb k h ne)))
   where
     own : option_map (asked_by h h c.barrier) (option_map (lost_unless (eqb h h) c.entered) (slice_get (set xs h y) h))
         ≡ option_map (beside_unless (eqb h h) h h (by_call here c)) (slice_get (set xs h (asked_by h h c.barrier y)) h)

@@ -39,7 +39,7 @@ use Rattle.process.specs.Tied.{IsPlace}
 use Rattle.process.specs.declared.next.Next.{Next}
 use Rattle.process.specs.declared.parts.Parts.{Parts}
 use Rattle.process.proofs.Asking.{running_here}
-use Rattle.process.proofs.Entries.{entry_exec}
+use Rattle.process.proofs.Entries.{entry_here}
 use Rattle.process.proofs.Executed.{done_call}
 use Rattle.process.proofs.Ids.{id_without_other, others_apart}
 use Rattle.process.proofs.HartTies.{own_after}
@@ -105,7 +105,7 @@ pub calling : (v : Seen) (m : Parts) (h : Hart) (running harts : ℕ) (x : HartS
     → running ≡ harts_that (is_busy m.harts.items) 8 → harts ≡ length m.harts.items → x ≡ get_or m.harts.items h.0 x → e ≡ entry_from h kind.Exec x.running x.pc → IsCalling v m h running harts x e
 calling v m h running harts x e place plan outside set all value is =
     let own = hart_is v m h.0 x place value in
-    let named : e.tid.0 ≡ number_of (runs (here_of v h.0)) = ap (λ (z : Entry). z.tid.0) (is ∙ entry_exec _ v.setting (plain_seen v) h x own) in
+    let named : e.tid.0 ≡ number_of (runs (here_of v h.0)) = ap (λ (z : Entry). z.tid.0) (is ∙ entry_here v m h kind.Exec x place value) in
     let its : plan.thread ≡ e.tid.0 = sym (named ∙ ap number_of plan.at) in
     let at : runs (here_of v h.0) ≡ Some e.tid.0 = plan.at ∙ ap Some its in
     record {

@@ -1,7 +1,8 @@
 -- The harts after an event: the own one is as the event left it, and the others as it leaves those beside it.
-use Rattle.std.proofs.Common.{◌≡◌, ◌≢◌, ℕ, ◌+◌, ◌<◌, List, [], ◌∷◌, ◌++◌, drop, refl, sym, ap, ◌∙◌, subst, Bool, true, false, cond, eqb, ◌||◌, Option, Some, None, slice_get, eq-eqb, set, ◌⊎◌, inl, inr, zero, suc}
+use Rattle.std.proofs.Common.{◌≡◌, ◌≢◌, ℕ, ◌+◌, ◌<◌, List, [], ◌∷◌, ◌++◌, drop, get_or, length, refl, sym, ap, ◌∙◌, subst, arith, Bool, true, false, cond, eqb, ◌||◌, Option, Some, None, slice_get, eq-eqb, set, ◌⊎◌, inl, inr, zero, suc}
 use Rattle.std.specs.Option.{option_map, option_map_or}
 use Rattle.std.proofs.lemmas.Bool.{ne_eqb, cases_eq}
+use Rattle.std.proofs.lemmas.Option.{same_Some, slice_get-get_or}
 use Rattle.mach_types.specs.Kernel.Threads.{running_on}
 use Rattle.mach_types.specs.declared.threads.Saved.{Saved}
 use Rattle.hart_state.specs.declared.hart.HartState.{HartState}
@@ -14,6 +15,26 @@ use Rattle.block_model.specs.Requests.{awaits_after, awaits_of_own, is_about, re
 use Rattle.block_model.specs.Sights.{thread}
 use Rattle.block_model.proofs.Laws.{IsFit}
 use Rattle.process.specs.Harts.{credit_of, file_on, hart_at, hart_in, id_on}
+use Rattle.process.specs.Tied.{IsTied}
+use Rattle.process.specs.declared.parts.Parts.{Parts}
+
+-- a hart in the list is the plain machine's
+pub hart_there : (s : Setting) (p : Plain) (m : Parts) (h : ℕ) (x : HartState) → IsTied s p m → h < s.limits.harts → slice_get m.harts.items h ≡ Some x → x ≡ hart_at s p h (credit_of m.harts.items h)
+hart_there s p m h x tied lt at = same_Some x (hart_at s p h (credit_of m.harts.items h)) (sym at ∙ tied.harts h lt)
+
+pub hart_tied : (s : Setting) (p : Plain) (m : Parts) (h : ℕ) (x : HartState) → IsTied s p m → h < s.limits.harts → x ≡ get_or m.harts.items h x → x ≡ hart_at s p h (credit_of m.harts.items h)
+hart_tied s p m h x tied lt value =
+    let all = tied.all_harts in
+    let in_list : h < length m.harts.items = omega (arith, all, lt) in
+    hart_there s p m h x tied lt (slice_get-get_or m.harts.items h x in_list ∙ ap Some (sym value))
+
+-- what holds of one hart, and of each other, holds of all
+pub of_each : (P : ℕ → Type 0) (h k : ℕ) → P h → (k ≢ h → P k) → P k
+of_each P h k own other = go (cases_eq k h)
+  where
+    go : (k ≡ h) ⊎ (k ≢ h) → P k
+    go (inl same) = subst P (sym same) own
+    go (inr ne) = other ne
 
 -- the own hart
 abbrev pub own_after : Setting → Plain → ℕ → Done → ℕ → HartState
@@ -112,7 +133,9 @@ credits_kept h d xs ys y same lose k =
 pub harts_tied : (s : Setting) (p : Plain) (h : ℕ) (d : Done) (xs ys : List HartState) (y : HartState) → AreHarts s p xs → h < s.limits.harts → IsFit (here_in_plain s p h) d → KeepsIds p h d → y ≡ own_after s p h d (credit_of xs h) →
     ((k : ℕ) → slice_get ys k ≡ option_map (beside_unless (eqb k h) k h d) (slice_get (set xs h y) k)) → AreHarts s (apply h d p) ys
 harts_tied s p h d xs ys y tied lt fit ids own lose k below =
-    go (cases_eq k h) ∙ ap (λ n. Some (hart_at s (apply h d p) k n)) (sym (credits_kept h d xs ys y (ap (λ (x : HartState). x.credit) own) lose k))
+    of_each (λ j. slice_get ys j ≡ Some (hart_at s (apply h d p) j (credit_of xs j))) h k
+    (lose h ∙ own_stays ∙ ap Some (own ∙ sym (hart_own s p h d (credit_of xs h))))
+    (λ ne. lose k ∙ other_is ne ∙ ap Some (sym (hart_other s p h k d (credit_of xs k) ne fit ids))) ∙ ap (λ n. Some (hart_at s (apply h d p) k n)) (sym (credits_kept h d xs ys y (ap (λ (x : HartState). x.credit) own) lose k))
   where
     own_stays : option_map (beside_unless (eqb h h) h h d) (slice_get (set xs h y) h) ≡ Some y
     own_stays = rw (eq-eqb h h refl, get_set_same xs h (hart_at s p h (credit_of xs h)) y (tied h lt)) refl
@@ -121,7 +144,3 @@ harts_tied s p h d xs ys y tied lt fit ids own lose k below =
     other_is ne =
         ap (λ b. option_map (beside_unless b k h d) (slice_get (set xs h y) k)) (ne_eqb k h ne)
         ∙ ap (option_map (beside k h d)) (get_set_other xs h k y ne ∙ tied k below)
-
-    go : (k ≡ h) ⊎ (k ≢ h) → slice_get ys k ≡ Some (hart_at s (apply h d p) k (credit_of xs k))
-    go (inl same) = subst (λ j. slice_get ys j ≡ Some (hart_at s (apply h d p) j (credit_of xs j))) (sym same) (lose h ∙ own_stays ∙ ap Some (own ∙ sym (hart_own s p h d (credit_of xs h))))
-    go (inr ne) = lose k ∙ other_is ne ∙ ap Some (sym (hart_other s p h k d (credit_of xs k) ne fit ids))

@@ -7,7 +7,7 @@ use Rattle.std.proofs.lemmas.Bool.{cases_eq}
 use Rattle.std.proofs.lemmas.Bool.Decides.{nat_tests}
 use Rattle.std.proofs.Math.Seq.{take-length}
 use Rattle.std.proofs.lemmas.List.Folds.{Any-from_list_any, list_any-from_Any, list_any_more}
-use Rattle.std.proofs.lemmas.Option.{same_Some, slice_get-get_or}
+use Rattle.std.proofs.lemmas.Option.{slice_get-get_or}
 use Rattle.mach_types.proofs.Laws.{each_byte-same}
 use Rattle.mach_types.specs.Bytes.{covers, each_byte}
 use Rattle.mach_types.specs.Kernel.Pages.{PageRun, is_in}
@@ -26,11 +26,12 @@ use Rattle.block_model.specs.Plain.{Plain, here_in_plain}
 use Rattle.block_model.specs.Setting.{Setting}
 use Rattle.sys_calls.specs.Remapped.{has_page}
 use Rattle.sys_calls.specs.declared.memory_calls.PageSpan.{PageSpan}
-use Rattle.process.specs.Harts.{credit_of, hart_at}
+use Rattle.process.specs.Harts.{hart_at}
 use Rattle.process.specs.Holding.{IsNextAt, lies_in}
 use Rattle.process.specs.Tied.{IsTied}
 use Rattle.process.specs.declared.next.Next.{Next}
 use Rattle.process.specs.declared.parts.Parts.{Parts}
+use Rattle.process.proofs.HartTies.{hart_there}
 
 -- a store has a byte on one of the pages where a buffer finds it there
 has_page-tells : (pages : PageSpan) (n : ℕ) → has_page pages n ≡ true → (pages.first ≤ n) × (n < pages.first + pages.count)
@@ -148,15 +149,7 @@ module _ (pages : PageSpan) (r : PageRun) (waiting : ℕ → List Store) (xs : L
 buffer_of : (s : Setting) (p : Plain) (m : Parts) (k : ℕ) (some : HartState) → IsTied s p m → k < length m.harts.items → (get_or m.harts.items k some).buffer ≡ p.waiting k
 buffer_of s p m k some tied lt =
     let all = tied.all_harts in
-    let at : get_or m.harts.items k some ≡ hart_at s p k (credit_of m.harts.items k) =
-    same_Some (get_or m.harts.items k some) (hart_at s p k (credit_of m.harts.items k)) (sym (slice_get-get_or m.harts.items k some lt) ∙ tied.harts k (omega arith)) in
-    ap (λ (x : HartState). x.buffer) at
-
--- a hart in the list is the plain machine's
-pub hart_tied : (s : Setting) (p : Plain) (m : Parts) (h : ℕ) (x : HartState) → IsTied s p m → h < s.limits.harts → x ≡ get_or m.harts.items h x → x ≡ hart_at s p h (credit_of m.harts.items h)
-hart_tied s p m h x tied lt value =
-    let all = tied.all_harts in
-    same_Some x (hart_at s p h (credit_of m.harts.items h)) (sym (slice_get-get_or m.harts.items h x (omega arith) ∙ ap Some (sym value)) ∙ tied.harts h lt)
+    ap (λ (x : HartState). x.buffer) (hart_there s p m k (get_or m.harts.items k some) tied (omega (arith, all, lt)) (slice_get-get_or m.harts.items k some lt))
 
 -- whether a store waits on one of them
 pub held_is : (s : Setting) (p : Plain) (m : Parts) (pages : PageSpan) (r : PageRun) (some : HartState) → IsTied s p m → ((n : ℕ) → has_page pages n ≡ is_in r n)

@@ -6,7 +6,7 @@ use Rattle.std.specs.Option.{option_map, option_map_or}
 use Rattle.std.proofs.Math.Path.{fun_ext}
 use Rattle.std.proofs.Math.Seq.{take-length}
 use Rattle.std.proofs.lemmas.List.Folds.{list_any_more}
-use Rattle.std.proofs.lemmas.Option.{same_Some, slice_get-get_or}
+use Rattle.std.proofs.lemmas.Option.{slice_get-get_or}
 use Rattle.mach_types.proofs.Laws.{eqb_other, eqb_same, filtered_other, found_at_end, harts_that-fits, not_at_end}
 use Rattle.mach_types.specs.Kernel.Barriers.{harts_that}
 use Rattle.mach_types.specs.Kernel.Scheduling.{Scheduling}
@@ -24,6 +24,7 @@ use Rattle.process.specs.Harts.{credit_of, hart_at, id_on}
 use Rattle.process.specs.Sequences.{holds}
 use Rattle.process.specs.Tied.{IsPlace, IsTied}
 use Rattle.process.specs.declared.parts.Parts.{Parts}
+use Rattle.process.proofs.HartTies.{hart_there}
 
 -- the ids of other threads stay
 abbrev of_pair : Option (ℕ × ℕ) → ℕ
@@ -84,8 +85,7 @@ first_hold s p m id some tied (suc n) few =
     let lt : n < length xs = omega arith in
     let all = tied.all_harts in
     let more : n + 1 ≡ suc n = omega arith in
-    let at : get_or xs n some ≡ hart_at s p n (credit_of xs n) =
-    same_Some (get_or xs n some) (hart_at s p n (credit_of xs n)) (sym (slice_get-get_or xs n some lt) ∙ tied.harts n (omega arith)) in
+    let at = hart_there s p m n (get_or xs n some) tied (omega (arith, all, lt)) (slice_get-get_or xs n some lt) in
     ap (λ k. list_any (holds id) (take k xs)) (sym more)
     ∙ list_any_more (holds id) xs n some lt
     ∙ ap (λ b. b || holds id (get_or xs n some)) (first_hold s p m id some tied n (omega arith))

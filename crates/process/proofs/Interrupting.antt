@@ -29,25 +29,25 @@ use Rattle.process.specs.Losing.{lost_unless}
 use Rattle.process.specs.Stored.{IsWritten}
 use Rattle.process.specs.declared.parts.Parts.{Parts}
 use Rattle.process.proofs.Events.{AreBeside, HaveLost, IsQuiet, quietly}
-use Rattle.process.proofs.HartTies.{get_set_other, get_set_same}
+use Rattle.process.proofs.HartTies.{get_set_other, get_set_same, of_each}
+use Rattle.process.proofs.Losing.{lost_app}
 
 -- HARTS
 
 -- one hart of a list changed
 pub changed_set : (h : ℕ) (xs : List HartState) (x y : HartState) (f : HartState → HartState) → slice_get xs h ≡ Some x → y ≡ f x → IsChanged h f xs (set xs h y)
-changed_set h xs x y f at is k = go (cases_eq k h)
+changed_set h xs x y f at is k =
+    of_each (λ j. slice_get (set xs h y) j ≡ cond (eqb j h) (option_map f (slice_get xs j)) (slice_get xs j)) h k own
+    (λ ne. get_set_other xs h k y ne ∙ sym (rw (ne_eqb k h ne) refl))
   where
     own : slice_get (set xs h y) h ≡ cond (eqb h h) (option_map f (slice_get xs h)) (slice_get xs h)
     own = get_set_same xs h x y at ∙ ap Some is ∙ sym (rw (eq-eqb h h refl, at) refl)
 
-    go : (k ≡ h) ⊎ (k ≢ h) → slice_get (set xs h y) k ≡ cond (eqb k h) (option_map f (slice_get xs k)) (slice_get xs k)
-    go (inl same) = subst (λ j. slice_get (set xs h y) j ≡ cond (eqb j h) (option_map f (slice_get xs j)) (slice_get xs j)) (sym same) own
-    go (inr ne) = get_set_other xs h k y ne ∙ sym (rw (ne_eqb k h ne) refl)
-
 -- a hart that changed after the others lost what was written
 begun_lost : (h : ℕ) (d : Done) (xs ys zs : List HartState) (x : HartState) (f : HartState → HartState) → slice_get xs h ≡ Some x
     → ((k : ℕ) → slice_get ys k ≡ option_map (lost_unless (eqb k h) d.entered) (slice_get xs k)) → IsChanged h f ys zs → HaveLost h d (set xs h (f x)) zs
-begun_lost h d xs ys zs x f at lost changed k = go (cases_eq k h)
+begun_lost h d xs ys zs x f at lost changed k =
+    of_each (λ j. slice_get zs j ≡ option_map (lost_unless (eqb j h) d.entered) (slice_get (set xs h (f x)) j)) h k own other
   where
     own : slice_get zs h ≡ option_map (lost_unless (eqb h h) d.entered) (slice_get (set xs h (f x)) h)
     own =
@@ -61,18 +61,9 @@ begun_lost h d xs ys zs x f at lost changed k = go (cases_eq k h)
         let after : slice_get zs k ≡ slice_get ys k = changed k ∙ rw (ne_eqb k h ne) refl in
         after ∙ lost k ∙ ap (option_map (lost_unless (eqb k h) d.entered)) (sym (get_set_other xs h k (f x) ne))
 
-    go : (k ≡ h) ⊎ (k ≢ h) → slice_get zs k ≡ option_map (lost_unless (eqb k h) d.entered) (slice_get (set xs h (f x)) k)
-    go (inl same) = subst (λ j. slice_get zs j ≡ option_map (lost_unless (eqb j h) d.entered) (slice_get (set xs h (f x)) j)) (sym same) own
-    go (inr ne) = other ne
-
 pub begun_beside : (h : ℕ) (d : Done) (xs ys zs : List HartState) (x : HartState) (f : HartState → HartState) → IsQuiet d → slice_get xs h ≡ Some x
     → ((k : ℕ) → slice_get ys k ≡ option_map (lost_unless (eqb k h) d.entered) (slice_get xs k)) → IsChanged h f ys zs → AreBeside h d (set xs h (f x)) zs
 begun_beside h d xs ys zs x f quiet at lost changed = quietly h d (set xs h (f x)) zs quiet (begun_lost h d xs ys zs x f at lost changed)
-
--- reservations that are lost to some writes and to others behind them
-lost_app : (ws vs : List Write) (r : Option ℕ) → lost_after vs (lost_after ws r) ≡ lost_after (ws ++ vs) r
-lost_app [] vs r = refl
-lost_app (w ∷ ws) vs r = lost_app ws vs (lost_to w r)
 
 lost_both : (b : Bool) (ws vs : List Write) (x : HartState) → lost_unless b vs (lost_unless b ws x) ≡ lost_unless b (ws ++ vs) x
 lost_both true ws vs x = refl

@@ -20,7 +20,7 @@ use Rattle.process.specs.Deeds.{entry_from}
 use Rattle.process.specs.Harts.{credit_of, file_on, hart_at}
 use Rattle.process.specs.Tied.{IsPlace}
 use Rattle.process.specs.declared.parts.Parts.{Parts}
-use Rattle.process.proofs.Entries.{entry_preempt, leaver}
+use Rattle.process.proofs.Entries.{entry_here, leaver}
 use Rattle.process.proofs.NotStuck.{live_with}
 use Rattle.process.proofs.Places.{hart_is, tables_at}
 
@@ -38,7 +38,7 @@ pub leaving : (v : Seen) (m : Parts) (h : Hart) (x : HartState) (e : Entry) → 
 leaving v m h x e place free value is =
     let own = hart_is v m h.0 x place value in
     let some = leaver (here_of v h.0) free in
-    let named : e.tid.0 ≡ number_of (runs (here_of v h.0)) = ap (λ (z : Entry). z.tid.0) (is ∙ entry_preempt _ v.setting (plain_seen v) h x own) in
+    let named : e.tid.0 ≡ number_of (runs (here_of v h.0)) = ap (λ (z : Entry). z.tid.0) (is ∙ entry_here v m h kind.Preempt x place value) in
     let its : e.tid.0 ≡ some.0 = named ∙ ap number_of some.1 in
     let at : runs (here_of v h.0) ≡ Some e.tid.0 = some.1 ∙ ap Some (sym its) in
     let harts = v.setting.limits.harts in

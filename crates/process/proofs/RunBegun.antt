@@ -41,8 +41,8 @@ use Rattle.block_model.specs.Kernel.{ran}
 use Rattle.block_model.specs.Plain.{here_of, plain_seen}
 use Rattle.block_model.specs.Sequences.{files_interrupted, interruption_here}
 use Rattle.block_model.specs.Setting.{Seen}
-use Rattle.block_model.proofs.Laws.{events_few, id_is_free, ids_apart_at, ready_listed, run_ready}
-use Rattle.process.specs.Beginning.{HasEvent, IsChanged, IsReadied, IsWaiting, begun_with, begun_without}
+use Rattle.block_model.proofs.Laws.{id_is_free, ids_apart_at, ready_listed, run_ready}
+use Rattle.process.specs.Beginning.{IsChanged, IsReadied, IsWaiting, begun_with, begun_without}
 use Rattle.process.specs.Harts.{credit_of, hart_at}
 use Rattle.process.specs.Losing.{lost_unless}
 use Rattle.process.specs.Sequences.{holds}
@@ -172,13 +172,13 @@ module _ (v : Seen) (m : Parts) (h : Hart) (t : Tid) (place : IsPlace v m h.0) (
   pub some_free : harts_that (λ id. list_any (holds id) m.harts.items) 8 ≢ 255
   some_free all = (id_is_free v h.0 t.0 place.run place.limits.eight_harts place.lt free).some (sym (held_here v m h.0 place) ∙ all)
 
-  -- a further event of its hart can be counted
-  pub counted : (m1 : Parts) (alive : Bool) (x : Saved) → IsReadied here t.0 alive x m m1 → HasEvent m1.harts.items h.0
-  counted m1 alive x is =
-      let few = events_few v h.0 place.run in
-      let room = place.room in
-      let steps = place.limits.most_steps in
-      (own_hart, is.harts h.0 ∙ rw (eq-eqb h.0 h.0 refl, place.tied.harts h.0 place.lt) refl, omega (arith, few, room, steps))
+  -- what it comes to
+  pub readied : (k : Kernel) (a : Option Area) (n : ℕ) (x y : Saved) (alive : Bool) (m1 : Parts) → a ≡ area_of t.0 (areas_by_number m.kernel.areas.items)
+      → n ≡ lowest_cid (harts_that (λ id. list_any (holds id) m.harts.items) 8) → Some x ≡ saved_of t.0 m.kernel.threads.saved
+      → (IsWaiting here t.0 h.0 m.pages a x n → IsReadied here t.0 alive y (record m { kernel = k }) m1) → IsReadied here t.0 alive y m m1
+  readied k a n x y alive m1 has its kept made =
+      let is = made (waiting a n x has its kept) in
+      record { lives = is.lives; file = is.file; pages = is.pages; harts = is.harts }
 
   -- it is in the ready list, and runs once it was taken to
   pub listed : is_listed t.0 m.kernel.ready ≡ true

@@ -32,8 +32,7 @@ use Rattle.block_model.specs.Plain.{Plain, here_in_plain, here_of, plain_seen}
 use Rattle.block_model.specs.Sequences.{interruption_here}
 use Rattle.block_model.specs.Setting.{Seen, Setting}
 use Rattle.block_model.specs.Sights.{thread}
-use Rattle.block_model.proofs.Laws.{events_few}
-use Rattle.process.specs.Beginning.{HasEvent, IsChanged}
+use Rattle.process.specs.Beginning.{IsChanged}
 use Rattle.process.specs.Delivering.{IsDelivered, IsInterrupted, done_here, ended_unless, gone_on_with, next_on}
 use Rattle.process.specs.Harts.{credit_of, file_on, hart_at, hart_in}
 use Rattle.process.specs.Losing.{lost_unless}
@@ -99,32 +98,6 @@ refusal_as here x n k credit idle o own is next = by_thread (runs here) refl (is
         rw off (by_barrier here.awaits (refusal_delivery here (next_for t here.kernel.signals))
         ∙ ap (λ a. cond (is_some a) (Some InBarrier) (refusal_delivery here (next_for t here.kernel.signals))) (sym (ap (λ (y : HartState). y.waits) own))
         ∙ ap (cond (is_some x.waits) (Some InBarrier)) (by_signal t (next_for t here.kernel.signals) same))
-
-pub refusal_idle : (here : Here) (x : HartState) (n k credit : ℕ) (idle : Bool) → x ≡ hart_in here n k credit → idle ≡ not (is_some x.running) → idle ≡ true
-    → refusal_of asked.Signal here ≡ Some Idle
-refusal_idle here x n k credit idle own is on = go (runs here) (sym on ∙ is ∙ ap (λ (y : HartState). not (is_some y.running)) own)
-  where
-    go : (r : Option ℕ) → true ≡ not (is_some (option_map thread r)) → refusal_signal_by here r ≡ Some Idle
-    go None e = refl
-    go (Some t) e = cc
-
-abbrev refusal_in : Here → Option ℕ → Option ℕ → Option Why
-refusal_in here None a = Some Idle
-refusal_in here (Some t) a = unless_in_barrier a (refusal_delivery here (next_for t here.kernel.signals))
-
-pub refusal_in_barrier : (here : Here) (x : HartState) (n k credit : ℕ) (idle : Bool) → x ≡ hart_in here n k credit → idle ≡ not (is_some x.running) → idle ≡ false
-    → is_some x.waits ≡ true → refusal_of asked.Signal here ≡ Some InBarrier
-refusal_in_barrier here x n k credit idle own is off waits =
-    split (runs here) ∙ by_thread (runs here) (sym off ∙ is ∙ ap (λ (y : HartState). not (is_some y.running)) own) here.awaits (sym (ap (λ (y : HartState). is_some y.waits) own) ∙ waits)
-  where
-    split : (r : Option ℕ) → refusal_signal_by here r ≡ refusal_in here r here.awaits
-    split None = refl
-    split (Some t) = refl
-
-    by_thread : (r : Option ℕ) → false ≡ not (is_some (option_map thread r)) → (a : Option ℕ) → is_some a ≡ true → refusal_in here r a ≡ Some InBarrier
-    by_thread None e a waits = cc
-    by_thread (Some t) e None waits = cc
-    by_thread (Some t) e (Some left) waits = refl
 
 pub no_store : (ws : List Store) → length ws ≡ 0 → unless_waiting ws ≡ None
 no_store [] none = refl
@@ -197,14 +170,6 @@ module _ (v : Seen) (m : Parts) (h : Hart) (place : IsPlace v m h.0) (free : ref
     signals = place.tied.tables.signals;
     file = ap (λ (y : HartState). record { file = y.file; pc = y.pc }) own ∙ ap (file_on here) is.at ∙ ap (λ n. here.file n) (sym named);
   }
-
-  -- a further event of its hart can be counted
-  pub counted : (t s : ℕ) → t ≡ is.thread → s ≡ is.signal → (m1 : Parts) (killer : Option ℕ) (x : Saved) → IsDelivered here t s killer x m m1 → HasEvent m1.harts.items h.0
-  counted t s named same m1 killer x made =
-      let few = events_few v h.0 place.run in
-      let room = place.room in
-      let steps = place.limits.most_steps in
-      (own_hart, made.harts h.0 ∙ rw (eq-eqb h.0 h.0 refl, place.tied.harts h.0 place.lt) refl, omega (arith, few, room, steps))
 
   same_done : (killer : Option ℕ) → killer ≡ kills here is.thread is.signal comes → done_here here is.thread is.signal ≡ done_with killer
   same_done killer dies = ap (handled_unless_killed here is.thread is.signal comes) (sym dies)

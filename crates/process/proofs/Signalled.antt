@@ -2,7 +2,6 @@
 use Rattle.std.proofs.Common.{◌≡◌, ℕ, ◌≤◌, ◌<◌, List, [], ◌∷◌, map, find, refl, sym, ap, ◌∙◌, arith, Bool, true, false, not, cond, eqb, ◌&&◌, ◌||◌, Option, Some, None, is_some, get_or, subst, ◌%◌}
 use Rattle.std.specs.List.{list_any}
 use Rattle.std.specs.Option.{option_map}
-use Rattle.std.proofs.lemmas.Option.{same_Some}
 use Rattle.mach_types.specs.declared.events.Entry.{Entry}
 use Rattle.mach_types.specs.declared.events.Hart.{Hart}
 use Rattle.mach_types.specs.declared.events.Kind.{Kind}
@@ -30,11 +29,11 @@ use Rattle.block_model.specs.Tables.{AreSignalsOfLive}
 use Rattle.block_model.proofs.Laws.{live_signals, place_good, running_is}
 use Rattle.process.specs.Deeds.{entry_from}
 use Rattle.process.specs.Delivering.{HasSignals}
-use Rattle.process.specs.Harts.{credit_of, hart_at}
 use Rattle.process.specs.Planned.{IsPlanned}
 use Rattle.process.specs.Tied.{IsPlace, IsTied}
 use Rattle.process.specs.declared.next.Next.{Next}
 use Rattle.process.specs.declared.parts.Parts.{Parts}
+use Rattle.process.proofs.HartTies.{hart_there}
 use Rattle.process.proofs.Places.{hart_is, thread_is}
 use Rattle.process.proofs.NotStuck.{live_with}
 
@@ -69,7 +68,7 @@ held_at v m h t place at = held_where_run v m h t place.run place.tied place.lt 
 
 pub has_signals : (v : Seen) (m : Parts) (h : ℕ) → IsBlockRun v.setting v.log → IsTied v.setting (plain_seen v) m → h < v.setting.limits.harts → HasSignals m h
 has_signals v m h run tied lt x t at busy =
-    let own : x ≡ hart_at v.setting (plain_seen v) h (credit_of m.harts.items h) = same_Some x (hart_at v.setting (plain_seen v) h (credit_of m.harts.items h)) (sym at ∙ tied.harts h lt) in
+    let own = hart_there v.setting (plain_seen v) m h x tied lt at in
     held_where_run v m h t.0 run tied lt (thread_is (runs (here_of v h)) t (sym busy ∙ ap (λ (y : HartState). y.running) own))
 
 -- the thread that an entry of a hart's event names is the one that runs there
@@ -78,6 +77,11 @@ pub entry_runs : (v : Seen) (m : Parts) (h : Hart) (k : Kind) (t : ℕ) (x : Har
 entry_runs v m h k t x e place at value is =
     let busy : x.running ≡ Some (thread t) = ap (λ (y : HartState). y.running) (hart_is v m h.0 x place value) ∙ ap (option_map thread) at in
     ap (λ (z : Entry). z.tid.0) (is ∙ ap (λ o. entry_from h k o x.pc) busy)
+
+-- so signals are kept of it
+pub held_named : (v : Seen) (m : Parts) (h : Hart) (k : Kind) (t : ℕ) (x : HartState) (e : Entry) → IsPlace v m h.0 → runs (here_of v h.0) ≡ Some t → x ≡ get_or m.harts.items h.0 x
+    → e ≡ entry_from h k x.running x.pc → is_held e.tid.0 m.kernel.signals ≡ true
+held_named v m h k t x e place at value is = ap (λ n. is_held n m.kernel.signals) (entry_runs v m h k t x e place at value is) ∙ held_at v m h.0 t place at
 
 -- FAULTS
 

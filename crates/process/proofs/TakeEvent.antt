@@ -1,7 +1,7 @@
 -- The event take: what the interruption of the hart's thread comes to, if it is to restart, and the parts after it.
 use Rattle.std.proofs.Common.{◌≡◌, ◌≢◌, ℕ, ◌+◌, List, [], append-nil, refl, sym, ap, ◌∙◌, subst, arith, Bool, true, false, cond, eqb, eq-eqb, Option, Some, None, slice_get, set, inl, inr}
 use Rattle.std.specs.Option.{option_and_then, option_map, option_or}
-use Rattle.std.proofs.lemmas.Bool.{cases_eq, ne_eqb}
+use Rattle.std.proofs.lemmas.Bool.{ne_eqb}
 use Rattle.mach_types.specs.Kernel.Areas.{interruption, pc_after, writes_of}
 use Rattle.mach_types.specs.declared.events.Choice.TheVariants as asked
 use Rattle.mach_types.specs.declared.events.Hart.{Hart}
@@ -22,9 +22,7 @@ use Rattle.block_model.specs.History.{file_among}
 use Rattle.block_model.specs.Plain.{Plain, here_in_plain, here_of, plain_seen}
 use Rattle.block_model.specs.Sequences.{area_here, files_interrupted, interruption_here}
 use Rattle.block_model.specs.Setting.{Seen, Setting}
-use Rattle.block_model.proofs.Laws.{events_few}
 use Rattle.process.specs.Barriers.{IsRestarted, ended_by, noticed, restart_here, taken_or_noticed, taken_with}
-use Rattle.process.specs.Beginning.{HasEvent}
 use Rattle.process.specs.Harts.{credit_of, file_on, hart_at, hart_in}
 use Rattle.process.specs.Losing.{lost_unless}
 use Rattle.process.specs.Stored.{IsWritten}
@@ -33,7 +31,7 @@ use Rattle.process.specs.declared.parts.Parts.{Parts}
 use Rattle.process.proofs.Entries.{changed_as}
 use Rattle.process.proofs.Events.{AreBeside}
 use Rattle.process.proofs.HartEvents.{zero_more}
-use Rattle.process.proofs.HartTies.{beside, beside_unless, get_set_other, get_set_same, own_after}
+use Rattle.process.proofs.HartTies.{beside, beside_unless, get_set_other, get_set_same, of_each, own_after}
 use Rattle.process.proofs.Interrupting.{file_is, lost_nothing, none_written}
 use Rattle.process.proofs.MemoryTies.{pages_written, readable_written}
 use Rattle.process.proofs.Places.{goes_on, runs_there, was_not_stuck}
@@ -121,15 +119,14 @@ take_beside : (here : Here) (h : ℕ) (files : List (ℕ × Saved)) (ws : List W
     → ((k : ℕ) → slice_get ys k ≡ option_map (lost_unless (eqb k h) ws) (slice_get xs k))
     → ((k : ℕ) → slice_get zs k ≡ option_map (taken_or_noticed (eqb k h) h came) (slice_get ys k))
     → AreBeside h (done_so here files ws comes ended) (set xs h (taken_with came x)) zs
-take_beside here h files ws comes came ended xs ys zs x at lost took k = took k ∙ ap (option_map (taken_or_noticed (eqb k h) h came)) (lost k) ∙ (elim (cases_eq k h) [
-  | inl same ↦ subst (λ j. option_map (taken_or_noticed (eqb j h) h came) (option_map (lost_unless (eqb j h) ws) (slice_get xs j))
-      ≡ option_map (beside_unless (eqb j h) j h (done_so here files ws comes ended)) (slice_get (set xs h (taken_with came x)) j)) (sym same) own
-  | inr ne ↦
-      ap (λ b. option_map (taken_or_noticed b h came) (option_map (lost_unless b ws) (slice_get xs k))) (ne_eqb k h ne)
-      ∙ other ne (slice_get xs k)
-      ∙ ap (option_map (beside k h (done_so here files ws comes ended))) (sym (get_set_other xs h k (taken_with came x) ne))
-      ∙ ap (λ b. option_map (beside_unless b k h (done_so here files ws comes ended)) (slice_get (set xs h (taken_with came x)) k)) (sym (ne_eqb k h ne))
-])
+take_beside here h files ws comes came ended xs ys zs x at lost took k = took k ∙ ap (option_map (taken_or_noticed (eqb k h) h came)) (lost k) ∙ of_each
+    (λ j. option_map (taken_or_noticed (eqb j h) h came) (option_map (lost_unless (eqb j h) ws) (slice_get xs j))
+      ≡ option_map (beside_unless (eqb j h) j h (done_so here files ws comes ended)) (slice_get (set xs h (taken_with came x)) j)) h k own
+    (λ ne.
+        ap (λ b. option_map (taken_or_noticed b h came) (option_map (lost_unless b ws) (slice_get xs k))) (ne_eqb k h ne)
+        ∙ other ne (slice_get xs k)
+        ∙ ap (option_map (beside k h (done_so here files ws comes ended))) (sym (get_set_other xs h k (taken_with came x) ne))
+        ∙ ap (λ b. option_map (beside_unless b k h (done_so here files ws comes ended)) (slice_get (set xs h (taken_with came x)) k)) (sym (ne_eqb k h ne)))
   where
     own : option_map (taken_or_noticed (eqb h h) h came) (option_map (lost_unless (eqb h h) ws) (slice_get xs h))
         ≡ option_map (beside_unless (eqb h h) h h (done_so here files ws comes ended)) (slice_get (set xs h (taken_with came x)) h)
@@ -180,14 +177,6 @@ module _ (v : Seen) (m : Parts) (h : Hart) (place : IsPlace v m h.0) (free : ref
 
   abbrev own_hart : HartState
   own_hart = hart_at v.setting (plain_seen v) h.0 (credit_of m.harts.items h.0)
-
-  -- a further event of its hart can be counted
-  pub counted : (m1 : Parts) (came : Option Outcome) → IsRestarted here came m m1 → HasEvent m1.harts.items h.0
-  counted m1 came made =
-      let few = events_few v h.0 place.run in
-      let room = place.room in
-      let steps = place.limits.most_steps in
-      (own_hart, made.harts h.0 ∙ rw (eq-eqb h.0 h.0 refl, place.tied.harts h.0 place.lt) refl, omega (arith, few, room, steps))
 
   event_so : (files : List (ℕ × Saved)) (ws : List Write) (comes came : Option Outcome) (e : Option End) (m1 m2 : Parts) → done_of asked.Take here ≡ done_so here files ws comes e → IsTaken here h.0 came m m1 m2
       → e ≡ option_and_then killed_by came → taken_with came own_hart ≡ own_after v.setting (plain_seen v) h.0 (done_so here files ws comes e) (credit_of m.harts.items h.0)

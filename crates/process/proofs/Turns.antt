@@ -4,19 +4,7 @@ use Rattle.std.specs.Option.{option_map}
 use Rattle.std.proofs.lemmas.Bool.{cases_eq, cases_lt, lt-ltb, le-ltb}
 use Rattle.std.proofs.lemmas.Option.{slice_get-get_or, slice_get_past}
 use Rattle.hart_state.specs.declared.hart.HartState.{HartState}
-
--- an element that is replaced, seen by `slice_get`
-slice_get-set_same : {X : Type 0} (xs : List X) (i : ℕ) (y : X) → i < length xs → slice_get (set xs i y) i ≡ Some y
-slice_get-set_same [] i y h = absurd (omega arith)
-slice_get-set_same (x ∷ xs) zero y h = refl
-slice_get-set_same (x ∷ xs) (suc i) y h = slice_get-set_same xs i y (omega arith)
-
-slice_get-set_other : {X : Type 0} (xs : List X) (i k : ℕ) (y : X) → k ≢ i → slice_get (set xs i y) k ≡ slice_get xs k
-slice_get-set_other [] i k y h = refl
-slice_get-set_other (x ∷ xs) zero zero y h = absurd (h refl)
-slice_get-set_other (x ∷ xs) zero (suc k) y h = refl
-slice_get-set_other (x ∷ xs) (suc i) zero y h = refl
-slice_get-set_other (x ∷ xs) (suc i) (suc k) y h = slice_get-set_other xs i k y (λ e. h (ap suc e))
+use Rattle.process.proofs.HartTies.{get_set_other, get_set_same}
 
 -- a hart at place j, where those at places before n have changed
 abbrev pub changed_before : (ℕ → HartState → HartState) → ℕ → ℕ → HartState → HartState
@@ -49,10 +37,10 @@ one_through f n was now x y lt here y-is each j = elim (cases_eq j n) [
   | inl same ↦
       let at : slice_get now n ≡ Some x = slice_get-get_or now n x lt ∙ ap Some (sym here) in
       let before : slice_get was n ≡ Some x = sym (not_yet f n n (slice_get was n) (omega arith)) ∙ sym (each n) ∙ at in
-      ap (slice_get (set now n y)) same ∙ slice_get-set_same now n y lt ∙ ap Some y-is
+      ap (slice_get (set now n y)) same ∙ get_set_same now n x y at ∙ ap Some y-is
       ∙ ap (λ o. option_map (f n) o) (sym before)
       ∙ sym (all_changed f (n + 1) n (slice_get was n) (omega arith)) ∙ ap (λ i. option_map (changed_before f (n + 1) i) (slice_get was i)) (sym same)
-  | inr ne ↦ slice_get-set_other now n j y ne ∙ each j ∙ (elim (cases_lt j n) [
+  | inr ne ↦ get_set_other now n j y ne ∙ each j ∙ (elim (cases_lt j n) [
     | inl less ↦ all_changed f n j (slice_get was j) less ∙ sym (all_changed f (n + 1) j (slice_get was j) (omega arith))
     | inr more ↦ not_yet f n j (slice_get was j) more ∙ sym (not_yet f (n + 1) j (slice_get was j) (omega arith))
   ])

@@ -74,9 +74,7 @@ impl Parts {
         let made = state.execute(&self.pages, effect);
         state.ran += 1;
         state.events += 1;
-        if let Some(store) = made {
-            self.enter(hart, store);
-        }
+        self.enter_made(hart, made);
         entry
     }
 

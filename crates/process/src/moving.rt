@@ -1,8 +1,9 @@
 //! Events by which stores enter memory, and threads begin to run and leave.
 
-ghost use Rattle.std.specs.Prelude.{◌≡◌, ℕ, [], ◌∷◌, None, true, IfOk, OnErr, nat_eq, slice_get};
+ghost use Rattle.std.specs.Prelude.{◌≡◌, ℕ, [], ◌∷◌, None, true, IfOk, IfSome, OnErr, nat_eq, slice_get};
 ghost use Rattle.std.specs.Option.{option_map};
-ghost use Rattle.mach_types.specs.Bytes.{IsAccessSize, each_byte};
+ghost use Rattle.mach_types.specs.Bytes.{IsAccessSize, all_stored, each_byte};
+ghost use Rattle.hart_state.specs.State.{stores};
 ghost use Rattle.page_map.specs.Map.{can_write_in};
 ghost use Rattle.block_model.specs.Setting.{Seen};
 ghost use Rattle.block_model.specs.Events.{done_of, refusal_of};
@@ -42,7 +43,7 @@ impl Parts {
 
     /// A store of a hart, whose bytes can be written, enters memory: the other harts lose their reservations of its bytes.
     #[inline]
-    pub(crate) fn enter(&mut self, hart: Hart, store: Store)
+    fn enter(&mut self, hart: Hart, store: Store)
         requires size { IsAccessSize store.size }
         requires writable { each_byte (can_write_in self.old.pages) store.at store.size ≡ true }
         ensures pages { IsWritten (Write.Stored store ∷ []) self.old.pages self.new.pages }
@@ -55,6 +56,22 @@ impl Parts {
         self.lose(hart, &[Write::Stored(store)]);
     }
 
+    /// A store that a hart made, or that leaves its buffer, enters memory, where there is one.
+    #[inline]
+    pub(crate) fn enter_made(&mut self, hart: Hart, made: Option<Store>)
+        requires size { IfSome made (λ s. IsAccessSize s.size) }
+        requires writable { IfSome made (λ s. each_byte (can_write_in self.old.pages) s.at s.size ≡ true) }
+        ensures pages { IsWritten (all_stored (stores made)) self.old.pages self.new.pages }
+        ensures harts { (k : ℕ) → slice_get self.new.harts.items k
+            ≡ option_map (lost_unless (nat_eq k hart.0) (all_stored (stores made))) (slice_get self.old.harts.items k) }
+        ensures kernel { self.new.kernel ≡ self.old.kernel }
+        ensures ended { self.new.ended ≡ self.old.ended }
+    {
+        if let Some(store) = made {
+            self.enter(hart, store);
+        }
+    }
+
     /// The oldest waiting store of a hart enters memory.
     fn drained(&mut self, hart: Hart) -> Entry
         requires { MayMake self.old hart.0 Choice.Drain }
@@ -64,9 +81,7 @@ impl Parts {
         let entry = entry_of(hart, Kind::Drain, state);
         let oldest = state.buffer.pop();
         state.events += 1;
-        if let Some(store) = oldest {
-            self.enter(hart, store);
-        }
+        self.enter_made(hart, oldest);
         entry
     }
 

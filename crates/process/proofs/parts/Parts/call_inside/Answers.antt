@@ -1,9 +1,10 @@
 use Rattle.std.proofs.Common.{arith, refl, sym, ◌∙◌}
 use Rattle.mach_types.specs.declared.events.Choice.TheVariants as asked
+use Rattle.mach_types.specs.declared.events.Kind.TheVariants as kind
 use Rattle.block_model.specs.Calls.Answers.{killed_in_call}
 use Rattle.block_model.specs.Events.Exec.{by_call}
 use Rattle.block_model.specs.Plain.{here_of, plain_seen}
-use Rattle.process.proofs.Entries.{changed_as, entry_exec}
+use Rattle.process.proofs.Entries.{changed_as, entry_here}
 use Rattle.process.proofs.Events.{none_beside}
 use Rattle.process.proofs.Executed.{done_inside}
 use Rattle.process.proofs.HartEvents.{inside_own}
@@ -18,7 +19,7 @@ overflow_add-state-2 c = let plan = c.requires.plan in let few = events_fit plan
 
 pub returns : goal.returns
 returns c = record {
-  entry = λ v place plan. c.entry_of-entry.ensures ∙ entry_exec _ v.setting (plain_seen v) c.args.hart c.index_mut-state.result.now (hart_is v c.args.self.now c.args.hart.0 c.index_mut-state.result.now place c.index_mut-state.ensures.value);
+  entry = λ v place plan. c.entry_of-entry.ensures ∙ entry_here v c.args.self.now c.args.hart kind.Exec c.index_mut-state.result.now place c.index_mut-state.ensures.value;
   after = λ v place plan.
       let h = c.args.hart.0 in
       let m = c.args.self.now in

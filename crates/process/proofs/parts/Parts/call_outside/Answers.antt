@@ -2,6 +2,7 @@ use Rattle.std.proofs.Common.{◌≡◌, set, eqb, arith, ap, ◌∙◌, slice_g
 use Rattle.std.specs.Option.{option_map}
 use Rattle.mach_types.specs.Kernel.Threads.{is_stuck, running_on}
 use Rattle.mach_types.specs.declared.events.Choice.TheVariants as asked
+use Rattle.mach_types.specs.declared.events.Kind.TheVariants as kind
 use Rattle.hart_state.specs.declared.hart.HartState.{HartState}
 use Rattle.block_model.specs.Calls.{called}
 use Rattle.block_model.specs.Events.Exec.{by_call}
@@ -14,8 +15,8 @@ use Rattle.process.specs.Losing.{lost_unless}
 use Rattle.process.specs.declared.parts.Parts.{Parts}
 use Rattle.process.proofs.Asking.{call_beside, eighth}
 use Rattle.process.proofs.Calling.{areas_found, call_own, calling, ended_after, ids_kept, numbers_left, running_found, counted, same_events, same_ran, signals_found, tables_found}
-use Rattle.process.proofs.Entries.{changed_as, entry_exec}
-use Rattle.process.proofs.Places.{events_fit, hart_is, ran_fits, tables_at}
+use Rattle.process.proofs.Entries.{changed_as, entry_here}
+use Rattle.process.proofs.Places.{events_fit, ran_fits, tables_at}
 use Rattle.process.proofs.parts.Parts.call_outside.Goals as goal
 
 pub make_call-done-requires-clause-numbers : goal.make_call-done-requires-clause-numbers
@@ -56,7 +57,7 @@ overflow_add-state-2 c =
 
 pub returns : goal.returns
 returns c = record {
-  entry = λ v place plan. c.entry_of-entry.ensures ∙ entry_exec _ v.setting (plain_seen v) c.args.hart c.index_mut-state.result.now (hart_is v c.args.self.now c.args.hart.0 c.index_mut-state.result.now place c.index_mut-state.ensures.value);
+  entry = λ v place plan. c.entry_of-entry.ensures ∙ entry_here v c.args.self.now c.args.hart kind.Exec c.index_mut-state.result.now place c.index_mut-state.ensures.value;
   after = λ v place plan.
       let h = c.args.hart.0 in
       let m = c.args.self.now in

@@ -1,19 +1,20 @@
 use Rattle.std.proofs.Common.{◌≡◌, Some, ◌+◌, arith, refl, ap, ◌∙◌}
 use Rattle.mach_types.specs.declared.events.Choice.TheVariants as asked
+use Rattle.mach_types.specs.declared.events.Kind.TheVariants as kind
 use Rattle.mach_types.specs.declared.threads.ThreadState.TheVariants.{Ready}
 use Rattle.hart_state.specs.declared.hart.HartState.{HartState}
 use Rattle.block_model.specs.Kernel.{left}
 use Rattle.block_model.specs.Events.Preempt.{done_preempt_by}
 use Rattle.block_model.specs.Plain.{here_of, plain_seen}
 use Rattle.sys_calls.proofs.Laws.{holds_left}
-use Rattle.process.proofs.Entries.{changed_as, entry_preempt}
+use Rattle.process.proofs.Entries.{changed_as, entry_here}
 use Rattle.process.proofs.Events.{none_beside}
 use Rattle.process.proofs.HartEvents.{preempt_own}
 use Rattle.process.proofs.Ids.{id_without_other, others_apart}
 use Rattle.process.proofs.KernelTies.{saved_left}
 use Rattle.process.proofs.Leaving.{leaving}
 use Rattle.process.proofs.NotStuck.{not_stuck}
-use Rattle.process.proofs.Places.{events_fit, goes_on, hart_is, tables_at}
+use Rattle.process.proofs.Places.{events_fit, goes_on, tables_at}
 use Rattle.process.proofs.parts.Parts.left.Goals as goal
 
 pub overflow_add-state : goal.overflow_add-state
@@ -38,7 +39,7 @@ push-requires-clause-not_ready c =
 
 pub returns : goal.returns
 returns c = record {
-  entry = λ v place free. c.entry_of-entry.ensures ∙ entry_preempt _ v.setting (plain_seen v) c.args.hart c.index_mut-state.result.now (hart_is v c.args.self.now c.args.hart.0 c.index_mut-state.result.now place c.index_mut-state.ensures.value);
+  entry = λ v place free. c.entry_of-entry.ensures ∙ entry_here v c.args.self.now c.args.hart kind.Preempt c.index_mut-state.result.now place c.index_mut-state.ensures.value;
   after = λ v place free.
       let h = c.args.hart.0 in
       let p = plain_seen v in

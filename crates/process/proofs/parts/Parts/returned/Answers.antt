@@ -1,12 +1,13 @@
 -- The barrier of a thread returns.
 use Rattle.std.proofs.Common.{◌+◌, Some, None, arith, refl, ap, ◌∙◌}
 use Rattle.mach_types.specs.declared.events.Choice.TheVariants as asked
+use Rattle.mach_types.specs.declared.events.Kind.TheVariants as kind
 use Rattle.hart_state.specs.declared.hart.HartState.{HartState}
 use Rattle.block_model.specs.Events.Finish.{done_done_by}
 use Rattle.block_model.specs.History.{file_among}
 use Rattle.block_model.specs.Plain.{here_of, plain_seen}
 use Rattle.process.proofs.DoneEvent.{file_apart, returned_own, returner}
-use Rattle.process.proofs.Entries.{changed_as, entry_done}
+use Rattle.process.proofs.Entries.{changed_as, entry_here}
 use Rattle.process.proofs.Events.{none_beside}
 use Rattle.process.proofs.Places.{events_fit, goes_on, hart_is, runs_there, was_not_stuck}
 use Rattle.process.proofs.SignalEvent.{kept_running}
@@ -18,7 +19,7 @@ overflow_add-state c =
 
 pub returns : goal.returns
 returns c = record {
-  entry = λ v place free. c.entry_of-entry.ensures ∙ entry_done _ v.setting (plain_seen v) c.args.hart c.index_mut-state.result.now (hart_is v c.args.self.now c.args.hart.0 c.index_mut-state.result.now place c.index_mut-state.ensures.value);
+  entry = λ v place free. c.entry_of-entry.ensures ∙ entry_here v c.args.self.now c.args.hart kind.Done c.index_mut-state.result.now place c.index_mut-state.ensures.value;
   after = λ v place free.
       let h = c.args.hart.0 in
       let m = c.args.self.now in
