@@ -71,13 +71,13 @@ pub call_beside : (here : Here) (h : ℕ) (c : CallDone) (xs ys : List HartState
     → AreBeside h (by_call here c) (set xs h (asked_by h h c.barrier y)) ys
 call_beside here h c xs ys x y at is k = is k ∙ of_each
     (λ j. option_map (asked_by j h c.barrier) (option_map (lost_unless (eqb j h) c.entered) (slice_get (set xs h y) j))
-      ≡ option_map (beside_unless (eqb j h) j h (by_call here c)) (slice_get (set xs h (asked_by h h c.barrier y)) j)) h k own
+    ≡ option_map (beside_unless (eqb j h) j h (by_call here c)) (slice_get (set xs h (asked_by h h c.barrier y)) j)) h k own
     (λ ne.
-        ap (λ b. option_map (asked_by k h c.barrier) (option_map (lost_unless b c.entered) (slice_get (set xs h y) k))) (ne_eqb k h ne)
-        ∙ ap (λ o. option_map (asked_by k h c.barrier) (option_map (lost_unless false c.entered) o)) (get_set_other xs h k y ne)
-        ∙ other ne (slice_get xs k)
-        ∙ ap (option_map (beside_unless false k h (by_call here c))) (sym (get_set_other xs h k (asked_by h h c.barrier y) ne))
-        ∙ ap (λ b. option_map (beside_unless b k h (by_call here c)) (slice_get (set xs h (asked_by h h c.barrier y)) k)) (sym (ne_eqb k h ne)))
+    ap (λ b. option_map (asked_by k h c.barrier) (option_map (lost_unless b c.entered) (slice_get (set xs h y) k))) (ne_eqb k h ne)
+    ∙ ap (λ o. option_map (asked_by k h c.barrier) (option_map (lost_unless false c.entered) o)) (get_set_other xs h k y ne)
+    ∙ other ne (slice_get xs k)
+    ∙ ap (option_map (beside_unless false k h (by_call here c))) (sym (get_set_other xs h k (asked_by h h c.barrier y) ne))
+    ∙ ap (λ b. option_map (beside_unless b k h (by_call here c)) (slice_get (set xs h (asked_by h h c.barrier y)) k)) (sym (ne_eqb k h ne)))
   where
     own : option_map (asked_by h h c.barrier) (option_map (lost_unless (eqb h h) c.entered) (slice_get (set xs h y) h))
         ≡ option_map (beside_unless (eqb h h) h h (by_call here c)) (slice_get (set xs h (asked_by h h c.barrier y)) h)

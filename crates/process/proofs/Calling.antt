@@ -45,14 +45,15 @@ use Rattle.process.proofs.Ids.{id_without_other, others_apart}
 use Rattle.process.proofs.HartTies.{own_after}
 use Rattle.process.proofs.Places.{hart_is, tables_at}
 
--- a hart after a call that leaves its barriers so, counted
+-- a hart after a call that leaves its barriers so, with its counts
 abbrev after_call : Bool → Option ℕ → Saved → HartState → HartState
 after_call b waits saved x =
     let z : HartState = cond b (record x { file = no_registers; pc = 0; running = None; reserved = None; cid = 0 }) (record x { file = saved.file; pc = saved.pc; waits = waits; reserved = None }) in
     record z { ran = z.ran + 1; events = z.events + 1 }
 
-abbrev pub counted : HartState → HartState
-counted x = record x { ran = x.ran + 1; events = x.events + 1 }
+-- the counts alone
+abbrev pub executed : HartState → HartState
+executed x = record x { ran = x.ran + 1; events = x.events + 1 }
 
 -- who gives up a hart began no barrier
 no_barrier : (end : CallEnd) → gives_up end ≡ true → barrier_of end ≡ None
@@ -70,9 +71,9 @@ targets_of barrier waits = option_or (option_map (λ (b : Barrier). b.targets) b
 -- the hart of the thread after its call
 pub call_own : (credit : ℕ) (s : Setting) (p : Plain) (h t : ℕ) (end : CallEnd) (saved : Saved) (c : CallDone) (x y : HartState) → x ≡ hart_at s p h credit → runs (here_in_plain s p h) ≡ Some t →
     running_on h c.kernel.threads ≡ cond (gives_up end) None (Some t) → c.kernel.ids ≡ cond (gives_up end) (without_id t p.kernel.ids) p.kernel.ids → saved ≡ file_among c.files t (p.file t) → barrier_of end ≡ c.barrier →
-    y ≡ counted (hart_after_call end saved x) → asked_by h h c.barrier y ≡ own_after s p h (by_call (here_in_plain s p h) c) credit
+    y ≡ executed (hart_after_call end saved x) → asked_by h h c.barrier y ≡ own_after s p h (by_call (here_in_plain s p h) c) credit
 call_own credit s p h t end saved c x y at its hart ids own told is =
-    ap (asked_by h h c.barrier) (is ∙ ap (λ z. counted (hart_after_call end saved z)) at ∙ ap (λ o. after_call (gives_up end) (targets_of o (p.awaits h)) saved (hart_at s p h credit)) told)
+    ap (asked_by h h c.barrier) (is ∙ ap (λ z. executed (hart_after_call end saved z)) at ∙ ap (λ o. after_call (gives_up end) (targets_of o (p.awaits h)) saved (hart_at s p h credit)) told)
     ∙ rw append-nil (go (gives_up end) (λ gives. sym told ∙ no_barrier end gives) hart ids)
   where
     go : (b : Bool) → (b ≡ true → c.barrier ≡ None) → running_on h c.kernel.threads ≡ cond b None (Some t) → c.kernel.ids ≡ cond b (without_id t p.kernel.ids) p.kernel.ids
@@ -143,13 +144,6 @@ pub same_ran : (end : CallEnd) (saved : Saved) (x : HartState) → (hart_after_c
 same_ran end saved x = go (gives_up end)
   where
     go : (b : Bool) → (cond b (record x { file = no_registers; pc = 0; running = None; reserved = None; cid = 0 }) (record x { file = saved.file; pc = saved.pc; waits = waits_after end x.waits; reserved = None })).ran ≡ x.ran
-    go true = refl
-    go false = refl
-
-pub same_events : (end : CallEnd) (saved : Saved) (x : HartState) → (hart_after_call end saved x).events ≡ x.events
-same_events end saved x = go (gives_up end)
-  where
-    go : (b : Bool) → (cond b (record x { file = no_registers; pc = 0; running = None; reserved = None; cid = 0 }) (record x { file = saved.file; pc = saved.pc; waits = waits_after end x.waits; reserved = None })).events ≡ x.events
     go true = refl
     go false = refl
 

@@ -18,10 +18,10 @@ use Rattle.block_model.specs.Plain.{Plain, here_in_plain, here_of}
 use Rattle.block_model.specs.Sights.{thread}
 use Rattle.block_model.proofs.Laws.{IsFit}
 use Rattle.process.specs.Deeds.{entry_from}
-use Rattle.process.specs.Harts.{file_on, hart_at}
-use Rattle.process.specs.Tied.{IsPlace, IsAfter}
+use Rattle.process.specs.Harts.{counted, file_on, hart_at}
+use Rattle.process.specs.Tied.{IsAfter, IsPlace, IsUncounted}
 use Rattle.process.specs.declared.parts.Parts.{Parts}
-use Rattle.process.proofs.Events.{IsChange, changed}
+use Rattle.process.proofs.Events.{IsChange, IsMade, changed, uncounted}
 use Rattle.process.proofs.Places.{fit_at, hart_is}
 
 -- the entry of a hart's thread
@@ -60,3 +60,8 @@ oldest here free = go (waiting_here here) refl free
 pub changed_as : (v : Seen) (h : ℕ) (c : Choice) (d : Done) (m m' : Parts) (y : HartState) → IsPlace v m h → refusal_of c (here_of v h) ≡ None → done_of c (here_of v h) ≡ d → IsChange v h d m m' y → IsAfter v h (done_of c (here_of v h)) m m'
 changed_as v h c d m m' y place free same is =
     subst (λ e. IsAfter v h e m m') (sym same) (changed v h d m m' y place (subst (IsFit (here_of v h)) same (fit_at v m h c place free)) is)
+
+pub uncounted_as : (v : Seen) (h : ℕ) (c : Choice) (d : Done) (m m' : Parts) (z : HartState) → IsPlace v m h → refusal_of c (here_of v h) ≡ None → done_of c (here_of v h) ≡ d
+    → IsMade v h d m m' (counted z) z → IsUncounted v h (done_of c (here_of v h)) m m'
+uncounted_as v h c d m m' z place free same is =
+    subst (λ e. IsUncounted v h e m m') (sym same) (uncounted v h d m m' z place (subst (IsFit (here_of v h)) same (fit_at v m h c place free)) is)

@@ -22,6 +22,7 @@ use Rattle.mach_types.specs.declared.threads.Saved.{Saved}
 use Rattle.mach_types.specs.declared.threads.ThreadState.{ThreadState}
 use Rattle.mach_types.specs.declared.threads.ThreadState.TheVariants.{Ready, Running}
 use Rattle.mach_types.specs.declared.user_memory.Write.{Write}
+use Rattle.hart_state.specs.State.{entered}
 use Rattle.hart_state.specs.declared.hart.HartState.{HartState}
 use Rattle.scheduler.specs.Holding.{is_ready as is_listed}
 use Rattle.kernel_threads.specs.Table.{IsTable, Table, saved_of, with_saved}
@@ -42,14 +43,14 @@ use Rattle.block_model.specs.Plain.{here_of, plain_seen}
 use Rattle.block_model.specs.Sequences.{files_interrupted, interruption_here}
 use Rattle.block_model.specs.Setting.{Seen}
 use Rattle.block_model.proofs.Laws.{id_is_free, ids_apart_at, ready_listed, run_ready}
-use Rattle.process.specs.Beginning.{IsChanged, IsReadied, IsWaiting, begun_with, begun_without}
-use Rattle.process.specs.Harts.{credit_of, hart_at}
+use Rattle.process.specs.Beginning.{IsChanged, IsReadied, IsWaiting, begun_without}
+use Rattle.process.specs.Harts.{counted, credit_of, hart_at}
 use Rattle.process.specs.Losing.{lost_unless}
 use Rattle.process.specs.Sequences.{holds}
 use Rattle.process.specs.Stored.{IsWritten}
-use Rattle.process.specs.Tied.{IsAfter, IsPlace}
+use Rattle.process.specs.Tied.{IsPlace, IsUncounted}
 use Rattle.process.specs.declared.parts.Parts.{Parts}
-use Rattle.process.proofs.Entries.{changed_as}
+use Rattle.process.proofs.Entries.{uncounted_as}
 use Rattle.process.proofs.HartEvents.{killed_own, run_own}
 use Rattle.process.proofs.Ids.{held_here, id_with_other, id_with_same, ready_apart}
 use Rattle.process.proofs.Interrupting.{begun_beside}
@@ -191,10 +192,10 @@ module _ (v : Seen) (m : Parts) (h : Hart) (t : Tid) (place : IsPlace v m h.0) (
 
   -- it runs
   pub begun_running : (m1 m2 : Parts) (x : Saved) (id : ℕ) (file : Table) (order : Scheduling) → IsReadied here t.0 true x m m1 → id ≡ next_id (plain_seen v).kernel.ids
-      → IsChanged h.0 (begun_with t x id) m1.harts.items m2.harts.items → m2.pages ≡ m1.pages
+      → IsChanged h.0 (entered t x id) m1.harts.items m2.harts.items → m2.pages ≡ m1.pages
       → m2.kernel ≡ record m.kernel { threads = file; ready = order } → file.threads ≡ with_state t.0 (Running h) m.kernel.threads.threads
       → file.saved ≡ with_saved t.0 None m.kernel.threads.saved → IsTable file → order ≡ without_ready t.0 m.kernel.ready → m2.ended ≡ m.ended
-      → IsAfter v h.0 (done_run here t.0) m m2
+      → IsUncounted v h.0 (done_run here t.0) m m2
   begun_running m1 m2 x id file order is its changed pages kernel threads saved table taken ended =
       let p = plain_seen v in
       let tables = tables_at v m h.0 place in
@@ -204,10 +205,10 @@ module _ (v : Seen) (m : Parts) (h : Hart) (t : Tid) (place : IsPlace v m h.0) (
       let wrote : IsWritten d.entered m.pages m2.pages =
       subst (λ (ws : List Write). IsWritten ws m.pages m2.pages) (ap (λ (e : Done). e.entered) same)
       (subst (λ (n : Map). IsWritten (done_run here t.0).entered m.pages n) (sym pages) is.pages) in
-      changed_as v h.0 (asked.Run t) d m m2 (begun_with t x id own_hart) place free same (record {
-        own = run_own (credit_of m.harts.items h.0) v.setting p h.0 t.0 comes x id own_hart (begun_with t x id own_hart) refl tables ready (run_ready here t.0 free).0 place.lt
+      uncounted_as v h.0 (asked.Run t) d m m2 (entered t x id own_hart) place free same (record {
+        own = run_own (credit_of m.harts.items h.0) v.setting p h.0 t.0 comes x id own_hart (counted (entered t x id own_hart)) refl tables ready (run_ready here t.0 free).0 place.lt
             (is.file ∙ ap (λ (e : Done). file_among e.files t.0 (p.file t.0)) same) (its ∙ sym its_next) refl;
-        harts = begun_beside h.0 d m.harts.items m1.harts.items m2.harts.items own_hart (begun_with t x id) (record { none_begun = refl; none_taken = refl }) (place.tied.harts h.0 place.lt)
+        harts = begun_beside h.0 d m.harts.items m1.harts.items m2.harts.items own_hart (entered t x id) (record { none_begun = refl; none_taken = refl }) (place.tied.harts h.0 place.lt)
             (λ k. is.harts k ∙ ap (λ (e : Done). option_map (lost_unless (eqb k h.0) e.entered) (slice_get m.harts.items k)) same) changed;
         pages = pages_written p.kernel.pages v.setting.program.break_at p.byte d.entered m.pages m2.pages place.tied.pages wrote;
         readable = readable_written d.entered m.pages m2.pages place.tied.readable wrote;
@@ -226,7 +227,7 @@ module _ (v : Seen) (m : Parts) (h : Hart) (t : Tid) (place : IsPlace v m h.0) (
       → mid.threads ≡ with_state t.0 (Running h) m.kernel.threads.threads → mid.saved ≡ with_saved t.0 None m.kernel.threads.saved
       → m2.kernel.threads.threads ≡ with_state t.0 Ready mid.threads → m2.kernel.threads.saved ≡ with_saved t.0 (Some x) mid.saved → IsTable m2.kernel.threads
       → m2.kernel ≡ record m.kernel { threads = m2.kernel.threads } → m2.ended ≡ Some (Killed SIGSEGV)
-      → IsAfter v h.0 (done_run here t.0) m m2
+      → IsUncounted v h.0 (done_run here t.0) m m2
   begun_killed m1 m2 x mid is changed pages ran_threads ran_saved threads saved table others ended =
       let p = plain_seen v in
       let tables = tables_at v m h.0 place in
@@ -237,8 +238,8 @@ module _ (v : Seen) (m : Parts) (h : Hart) (t : Tid) (place : IsPlace v m h.0) (
       subst (λ (ws : List Write). IsWritten ws m.pages m2.pages) (ap (λ (e : Done). e.entered) same)
       (subst (λ (n : Map). IsWritten (done_run here t.0).entered m.pages n) (sym pages) is.pages) in
       let back : with_state t.0 Ready (with_state t.0 (Running h) p.kernel.threads) ≡ p.kernel.threads = put_back t.0 h p.kernel.threads tables.threads.rising (state_ready t.0 p.kernel.threads ready) in
-      changed_as v h.0 (asked.Run t) d m m2 (begun_without own_hart) place free same (record {
-        own = killed_own (credit_of m.harts.items h.0) v.setting p h.0 t.0 comes own_hart (begun_without own_hart) refl (run_ready here t.0 free).0 refl;
+      uncounted_as v h.0 (asked.Run t) d m m2 (begun_without own_hart) place free same (record {
+        own = killed_own (credit_of m.harts.items h.0) v.setting p h.0 t.0 comes own_hart (counted (begun_without own_hart)) refl (run_ready here t.0 free).0 refl;
         harts = begun_beside h.0 d m.harts.items m1.harts.items m2.harts.items own_hart begun_without (record { none_begun = refl; none_taken = refl }) (place.tied.harts h.0 place.lt)
             (λ k. is.harts k ∙ ap (λ (e : Done). option_map (lost_unless (eqb k h.0) e.entered) (slice_get m.harts.items k)) same) changed;
         pages = pages_written p.kernel.pages v.setting.program.break_at p.byte d.entered m.pages m2.pages place.tied.pages wrote;

@@ -34,12 +34,12 @@ use Rattle.block_model.specs.Setting.{Seen, Setting}
 use Rattle.block_model.specs.Sights.{thread}
 use Rattle.process.specs.Beginning.{IsChanged}
 use Rattle.process.specs.Delivering.{IsDelivered, IsInterrupted, done_here, ended_unless, gone_on_with, next_on}
-use Rattle.process.specs.Harts.{credit_of, file_on, hart_at, hart_in}
+use Rattle.process.specs.Harts.{counted, credit_of, file_on, hart_at, hart_in}
 use Rattle.process.specs.Losing.{lost_unless}
 use Rattle.process.specs.Stored.{IsWritten}
-use Rattle.process.specs.Tied.{IsAfter, IsPlace}
+use Rattle.process.specs.Tied.{IsPlace, IsUncounted}
 use Rattle.process.specs.declared.parts.Parts.{Parts}
-use Rattle.process.proofs.Entries.{changed_as}
+use Rattle.process.proofs.Entries.{uncounted_as}
 use Rattle.process.proofs.HartEvents.{zero_more}
 use Rattle.process.proofs.HartTies.{own_after}
 use Rattle.process.proofs.Interrupting.{begun_beside}
@@ -110,7 +110,7 @@ some_store (w ∷ ws) some = refl
 -- THE OWN HART
 
 delivered_own : (credit : ℕ) (s : Setting) (p : Plain) (h t signal : ℕ) (o : Outcome) (killer : Option ℕ) (saved : Saved) (x y : HartState) → x ≡ hart_at s p h credit → runs (here_in_plain s p h) ≡ Some t
-    → saved ≡ file_among (handled_unless_killed (here_in_plain s p h) t signal o killer).files t (p.file t) → y ≡ gone_on_with saved x
+    → saved ≡ file_among (handled_unless_killed (here_in_plain s p h) t signal o killer).files t (p.file t) → y ≡ counted (gone_on_with saved x)
     → y ≡ own_after s p h (handled_unless_killed (here_in_plain s p h) t signal o killer) credit
 delivered_own credit s p h t signal o None saved x y at runs kept is = is ∙ rw (at, append-nil, zero_more (p.ran h), runs, kept) refl
 delivered_own credit s p h t signal o (Some killer) saved x y at runs kept is = is ∙ rw (at, append-nil, zero_more (p.ran h), runs, kept) refl
@@ -191,13 +191,13 @@ module _ (v : Seen) (m : Parts) (h : Hart) (place : IsPlace v m h.0) (free : ref
       (λ u other. file_apart here is.thread is.signal u comes killer (p.file u) other) place.tied.saved in
       rw (over.same_kernel, over.others) before
 
-  event_by : (killer : Option ℕ) (x : Saved) (m1 m2 : Parts) → IsOver here h.0 is.thread is.signal killer x m m1 m2 → IsAfter v h.0 (done_of asked.Signal here) m m2
+  event_by : (killer : Option ℕ) (x : Saved) (m1 m2 : Parts) → IsOver here h.0 is.thread is.signal killer x m m1 m2 → IsUncounted v h.0 (done_of asked.Signal here) m m2
   event_by None x m1 m2 over =
       let p = plain_seen v in
       let d = done_with None in
       let same = same_done None over.made.dies in
-      changed_as v h.0 asked.Signal d m m2 (gone_on_with x own_hart) place free (is.done ∙ same) (record {
-        own = delivered_own (credit_of m.harts.items h.0) v.setting p h.0 is.thread is.signal comes None x own_hart (gone_on_with x own_hart) refl is.at (own_file None x m1 m2 over) refl;
+      uncounted_as v h.0 asked.Signal d m m2 (gone_on_with x own_hart) place free (is.done ∙ same) (record {
+        own = delivered_own (credit_of m.harts.items h.0) v.setting p h.0 is.thread is.signal comes None x own_hart (counted (gone_on_with x own_hart)) refl is.at (own_file None x m1 m2 over) refl;
         harts = begun_beside h.0 d m.harts.items m1.harts.items m2.harts.items own_hart (gone_on_with x) (record { none_begun = refl; none_taken = refl }) (place.tied.harts h.0 place.lt)
             (λ k. over.made.harts k ∙ ap (λ (e : Done). option_map (lost_unless (eqb k h.0) e.entered) (slice_get m.harts.items k)) same) over.changed;
         pages = pages_written p.kernel.pages v.setting.program.break_at p.byte d.entered m.pages m2.pages place.tied.pages (wrote None x m1 m2 over);
@@ -213,8 +213,8 @@ module _ (v : Seen) (m : Parts) (h : Hart) (place : IsPlace v m h.0) (free : ref
       let p = plain_seen v in
       let d = done_with (Some killer) in
       let same = same_done (Some killer) over.made.dies in
-      changed_as v h.0 asked.Signal d m m2 (gone_on_with x own_hart) place free (is.done ∙ same) (record {
-        own = delivered_own (credit_of m.harts.items h.0) v.setting p h.0 is.thread is.signal comes (Some killer) x own_hart (gone_on_with x own_hart) refl is.at (own_file (Some killer) x m1 m2 over) refl;
+      uncounted_as v h.0 asked.Signal d m m2 (gone_on_with x own_hart) place free (is.done ∙ same) (record {
+        own = delivered_own (credit_of m.harts.items h.0) v.setting p h.0 is.thread is.signal comes (Some killer) x own_hart (counted (gone_on_with x own_hart)) refl is.at (own_file (Some killer) x m1 m2 over) refl;
         harts = begun_beside h.0 d m.harts.items m1.harts.items m2.harts.items own_hart (gone_on_with x) (record { none_begun = refl; none_taken = refl }) (place.tied.harts h.0 place.lt)
             (λ k. over.made.harts k ∙ ap (λ (e : Done). option_map (lost_unless (eqb k h.0) e.entered) (slice_get m.harts.items k)) same) over.changed;
         pages = pages_written p.kernel.pages v.setting.program.break_at p.byte d.entered m.pages m2.pages place.tied.pages (wrote (Some killer) x m1 m2 over);
@@ -228,6 +228,6 @@ module _ (v : Seen) (m : Parts) (h : Hart) (place : IsPlace v m h.0) (free : ref
       })
 
   pub delivered_event : (t s : ℕ) → t ≡ is.thread → s ≡ is.signal → (killer : Option ℕ) (x : Saved) (m1 m2 : Parts) → IsOver here h.0 t s killer x m m1 m2
-      → IsAfter v h.0 (done_of asked.Signal here) m m2
+      → IsUncounted v h.0 (done_of asked.Signal here) m m2
   delivered_event t s named same killer x m1 m2 over =
       event_by killer x m1 m2 (subst (λ n. IsOver here h.0 n is.signal killer x m m1 m2) named (subst (λ n. IsOver here h.0 t n killer x m m1 m2) same over))

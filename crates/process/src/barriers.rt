@@ -1,16 +1,16 @@
 //! `take` and `done`: a hart takes the requests of barriers that are pending there, and the barrier of a thread returns
 //! (membarrier(2)).
 
-ghost use Rattle.std.specs.Prelude.{◌≡◌, ◌<◌, ◌==◌, ℕ, IfOk, OnErr, slice_get};
+ghost use Rattle.std.specs.Prelude.{◌≡◌, ◌<◌, ◌==◌, ℕ, slice_get};
 ghost use Rattle.std.specs.Option.{option_map};
 ghost use Rattle.mach_types.specs.Kernel.Barriers.{harts_that};
 ghost use Rattle.block_model.specs.Setting.{Seen};
-ghost use Rattle.block_model.specs.Events.{done_of, refusal_of};
+ghost use Rattle.block_model.specs.Events.{refusal_of};
 ghost use Rattle.block_model.specs.Plain.{here_of};
 ghost use Rattle.sys_calls.specs.Made.{barrier_of};
 ghost use Rattle.process.specs.Barriers.{IsRestarted, asked_by, ended_by, is_busy, taken_or_noticed};
-ghost use Rattle.process.specs.Beginning.{HasEvent};
-ghost use Rattle.process.specs.Tied.{HasPlace, IsAfter, IsEvent, IsPlace, MayMake, answer_to};
+ghost use Rattle.process.specs.Beginning.{HasHart};
+ghost use Rattle.process.specs.Tied.{HasPlace, IsEvent, IsPlace, MayMake};
 
 use crate::parts::{Parts, entry_of};
 use crate::requests::{ask_all, notice_all, running_harts, take_requests};
@@ -78,7 +78,7 @@ impl Parts {
     /// A hart has no requests any more, and barriers of other harts wait for it no longer. Its thread was interrupted where there is
     /// what that came to, by which the process may be killed.
     fn end_take(&mut self, hart: Hart, came: Option<Outcome>)
-        requires counted { HasEvent self.old.harts.items hart.0 }
+        requires listed { HasHart self.old.harts.items hart.0 }
         requires eight { hart.0 < 8 }
         ensures harts { (k : ℕ) → slice_get self.new.harts.items k
             ≡ option_map (taken_or_noticed (k == hart.0) hart.0 came) (slice_get self.old.harts.items k) }
@@ -94,7 +94,7 @@ impl Parts {
     }
 
     /// A hart takes its requests.
-    fn taken(&mut self, hart: Hart) -> Entry
+    pub(crate) fn taken(&mut self, hart: Hart) -> Entry
         requires { MayMake self.old hart.0 Choice.Take }
         ensures { IsEvent self.old hart.0 Choice.Take result self.new }
     {
@@ -102,19 +102,6 @@ impl Parts {
         let came = self.restarted(hart);
         self.end_take(hart, came);
         entry
-    }
-
-    /// `take`.
-    pub(crate) fn take(&mut self, hart: Hart) -> Result<Entry, Why>
-        requires { HasPlace self.old hart.0 }
-        ensures answer { (v : Seen) → IsPlace v self.old hart.0 → result ≡ answer_to v hart.0 Choice.Take }
-        ensures after { (v : Seen) → IsPlace v self.old hart.0 → IfOk result (λ e. IsAfter v hart.0 (done_of Choice.Take (here_of v hart.0)) self.old self.new) }
-        ensures err { OnErr result (self.new ≡ self.old) }
-    {
-        match self.refusal_take(hart) {
-            Some(why) => Err(why),
-            None => Ok(self.taken(hart)),
-        }
     }
 
     /// Why no barrier of the thread on a hart can return.
@@ -132,7 +119,7 @@ impl Parts {
     }
 
     /// The barrier of the thread on a hart returns.
-    fn returned(&mut self, hart: Hart) -> Entry
+    pub(crate) fn returned(&mut self, hart: Hart) -> Entry
         requires { MayMake self.old hart.0 Choice.Done }
         ensures { IsEvent self.old hart.0 Choice.Done result self.new }
     {
@@ -141,20 +128,6 @@ impl Parts {
         state.file.set(A0, 0);
         state.waits = None;
         state.reserved = None;
-        state.events += 1;
         entry
-    }
-
-    /// `done`.
-    pub(crate) fn done(&mut self, hart: Hart) -> Result<Entry, Why>
-        requires { HasPlace self.old hart.0 }
-        ensures answer { (v : Seen) → IsPlace v self.old hart.0 → result ≡ answer_to v hart.0 Choice.Done }
-        ensures after { (v : Seen) → IsPlace v self.old hart.0 → IfOk result (λ e. IsAfter v hart.0 (done_of Choice.Done (here_of v hart.0)) self.old self.new) }
-        ensures err { OnErr result (self.new ≡ self.old) }
-    {
-        match self.refusal_done(hart) {
-            Some(why) => Err(why),
-            None => Ok(self.returned(hart)),
-        }
     }
 }

@@ -12,11 +12,12 @@ ghost use Rattle.mach_types.specs.Kernel.Threads.{runs, with_state};
 ghost use Rattle.mach_types.specs.declared.sequences.TheConstants.{MM_CID, RSEQ_CS};
 ghost use Rattle.mach_types.specs.declared.signals.TheConstants.{SIGSEGV};
 ghost use Rattle.mach_types.specs.declared.threads.ThreadState.{ThreadState};
+ghost use Rattle.hart_state.specs.State.{entered};
 ghost use Rattle.kernel_threads.specs.Table.{IsTable, with_saved};
 ghost use Rattle.page_map.specs.Map.{byte_in, can_write_in};
 ghost use Rattle.block_model.specs.Here.{Here, is_writable};
 ghost use Rattle.block_model.specs.Sequences.{can_write_words, words_to};
-ghost use Rattle.process.specs.Beginning.{HasEvent, IsChanged, IsReadied, IsWaiting, begun_with, begun_without};
+ghost use Rattle.process.specs.Beginning.{HasHart, IsChanged, IsReadied, IsWaiting, begun_without};
 ghost use Rattle.process.specs.Losing.{lost_unless};
 ghost use Rattle.process.specs.Sequences.{holds};
 ghost use Rattle.process.specs.Stored.{IsWritten};
@@ -192,9 +193,9 @@ impl Parts {
 
     /// A thread that was readied begins to run on a hart, and holds an id.
     fn take_up(&mut self, hart: Hart, tid: Tid, saved: Saved, id: u8)
-        requires counted { HasEvent self.old.harts.items hart.0 }
+        requires listed { HasHart self.old.harts.items hart.0 }
         requires ready { is_ready tid.0 self.old.kernel.ready ≡ true }
-        ensures harts { IsChanged hart.0 (begun_with tid saved id) self.old.harts.items self.new.harts.items }
+        ensures harts { IsChanged hart.0 (entered tid saved id) self.old.harts.items self.new.harts.items }
         ensures ready { self.new.kernel.ready ≡ without_ready tid.0 self.old.kernel.ready }
         ensures others { self.new.kernel ≡ record self.old.kernel { ready = self.new.kernel.ready } }
         ensures pages { self.new.pages ≡ self.old.pages }
@@ -203,12 +204,11 @@ impl Parts {
         let _ready = self.kernel.ready.take(tid);
         let state = &mut self.harts[hart.0 as usize];
         state.enter(tid, saved, id);
-        state.events += 1;
     }
 
     /// The process is killed before a thread begins to run on a hart: the thread stays ready, as it was interrupted.
     fn kill(&mut self, hart: Hart, tid: Tid, saved: Saved)
-        requires counted { HasEvent self.old.harts.items hart.0 }
+        requires listed { HasHart self.old.harts.items hart.0 }
         requires runs { runs self.old.kernel.threads.threads tid.0 }
         ensures harts { IsChanged hart.0 begun_without self.old.harts.items self.new.harts.items }
         ensures threads { self.new.kernel.threads.threads ≡ with_state tid.0 ThreadState.Ready self.old.kernel.threads.threads }
@@ -222,7 +222,6 @@ impl Parts {
         let state = &mut self.harts[hart.0 as usize];
         state.reserved = None;
         state.ran = 0;
-        state.events += 1;
         self.ended = Some(End::Killed(SIGSEGV));
     }
 

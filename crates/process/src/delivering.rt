@@ -1,19 +1,19 @@
 //! `signal`: the lowest signal that can be delivered to the thread on a hart is (signal(7)). The thread is interrupted (rseq(2)),
 //! and then enters the handler (sigaction(2)), or the process is killed.
 
-ghost use Rattle.std.specs.Prelude.{◌≡◌, ◌<◌, ◌≤◌, ℕ, true, false, Some, IfOk, IsTrue, OnErr, length};
+ghost use Rattle.std.specs.Prelude.{◌≡◌, ◌<◌, ◌≤◌, ℕ, true, false, Some, IsTrue, length};
 ghost use Rattle.mach_types.specs.Registers.{register};
 ghost use Rattle.mach_types.specs.Kernel.Signals.{action_of, is_handler, is_held, is_ignored, refuses_action};
 ghost use Rattle.mach_types.specs.declared.signals.TheConstants.{LAST_SIGNAL, SIGNAL_FRAME_SIZE};
 ghost use Rattle.page_map.specs.Map.{can_write_in};
-ghost use Rattle.block_model.specs.Events.{done_of, refusal_of};
+ghost use Rattle.block_model.specs.Events.{refusal_of};
 ghost use Rattle.block_model.specs.Events.Signal.{dropped_if_ignored};
 ghost use Rattle.block_model.specs.Here.{Here};
 ghost use Rattle.block_model.specs.Plain.{Plain, here_in_plain, here_of};
 ghost use Rattle.block_model.specs.Setting.{Seen, Setting};
-ghost use Rattle.process.specs.Beginning.{HasEvent, IsChanged};
+ghost use Rattle.process.specs.Beginning.{HasHart, IsChanged};
 ghost use Rattle.process.specs.Delivering.{HasSignals, IsDelivered, IsEntered, IsInterrupted, ended_unless, gone_on_with, killer_of, next_on};
-ghost use Rattle.process.specs.Tied.{HasPlace, IsAfter, IsEvent, IsPlace, IsTied, MayMake, answer_to};
+ghost use Rattle.process.specs.Tied.{HasPlace, IsEvent, IsPlace, IsTied, MayMake};
 
 use crate::beginning::pc_after;
 use crate::handlers::is_handler;
@@ -163,7 +163,7 @@ impl Parts {
 
     /// The thread on a hart goes on with this file after a signal was delivered to it, or the process is killed.
     fn go_on(&mut self, hart: Hart, saved: Saved, killer: Option<u8>)
-        requires { HasEvent self.old.harts.items hart.0 }
+        requires { HasHart self.old.harts.items hart.0 }
         ensures harts { IsChanged hart.0 (gone_on_with saved) self.old.harts.items self.new.harts.items }
         ensures pages { self.new.pages ≡ self.old.pages }
         ensures kernel { self.new.kernel ≡ self.old.kernel }
@@ -173,14 +173,13 @@ impl Parts {
         state.file = saved.file;
         state.pc = saved.pc;
         state.reserved = None;
-        state.events += 1;
         if let Some(signal) = killer {
             self.ended = Some(End::Killed(signal));
         }
     }
 
     /// The signal that can be delivered to the thread on a hart is.
-    fn delivered(&mut self, hart: Hart) -> Entry
+    pub(crate) fn delivered(&mut self, hart: Hart) -> Entry
         requires { MayMake self.old hart.0 Choice.Signal }
         ensures { IsEvent self.old hart.0 Choice.Signal result self.new }
     {
@@ -197,18 +196,5 @@ impl Parts {
         let killer = self.handled(hart, entry.tid, signal, &mut saved);
         self.go_on(hart, saved, killer);
         entry
-    }
-
-    /// `signal`.
-    pub(crate) fn signal(&mut self, hart: Hart) -> Result<Entry, Why>
-        requires { HasPlace self.old hart.0 }
-        ensures answer { (v : Seen) → IsPlace v self.old hart.0 → result ≡ answer_to v hart.0 Choice.Signal }
-        ensures after { (v : Seen) → IsPlace v self.old hart.0 → IfOk result (λ e. IsAfter v hart.0 (done_of Choice.Signal (here_of v hart.0)) self.old self.new) }
-        ensures err { OnErr result (self.new ≡ self.old) }
-    {
-        match self.refusal_signal(hart) {
-            Some(why) => Err(why),
-            None => Ok(self.delivered(hart)),
-        }
     }
 }

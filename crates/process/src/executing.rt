@@ -8,7 +8,7 @@ ghost use Rattle.block_model.specs.Plain.{here_of};
 ghost use Rattle.sys_calls.specs.Made.{process_end};
 ghost use Rattle.process.specs.Deeds.{hart_after_call, over_after};
 ghost use Rattle.process.specs.Planned.{IsPlanned, IsInside, HasPlan, IsExecuted};
-ghost use Rattle.process.specs.Tied.{IsPlace, HasCode, IsAfter, answer_to};
+ghost use Rattle.process.specs.Tied.{IsPlace, HasCode, IsUncounted, answer_to};
 
 use crate::code::Code;
 use crate::handlers::has_handler;
@@ -54,7 +54,6 @@ impl Parts {
         let state = &mut self.harts[hart.0 as usize];
         let entry = entry_of(hart, Kind::Exec, state);
         state.ran += 1;
-        state.events += 1;
         if has_handler(&self.kernel.signals, entry.tid, signal) {
             self.kernel.signals.post(entry.tid, signal);
         } else {
@@ -73,7 +72,6 @@ impl Parts {
         let entry = entry_of(hart, Kind::Exec, state);
         let made = state.execute(&self.pages, effect);
         state.ran += 1;
-        state.events += 1;
         self.enter_made(hart, made);
         entry
     }
@@ -99,7 +97,6 @@ impl Parts {
         let entry = entry_of(hart, Kind::Exec, state);
         state.reserved = None;
         state.ran += 1;
-        state.events += 1;
         self.ended = Some(End::Killed(SIGSEGV));
         entry
     }
@@ -130,7 +127,6 @@ impl Parts {
         );
         end_call(state, done.end, saved);
         state.ran += 1;
-        state.events += 1;
         self.pages.keeps();
         self.lose(hart, done.written.as_slice());
         self.ask(hart, done.end);
@@ -164,12 +160,12 @@ impl Parts {
         }
     }
 
-    /// `exec`.
+    /// `exec`, but for the count of its event.
     pub(crate) fn exec(&mut self, code: &Code, hart: Hart) -> Result<Entry, Why>
         requires { HasCode code.now self.old hart.0 }
         ensures answer { (v : Seen) → IsPlace v self.old hart.0 → code.now ≡ v.setting.program.pages → result ≡ answer_to v hart.0 Choice.Exec }
-        ensures after { (v : Seen) → IsPlace v self.old hart.0 → code.now ≡ v.setting.program.pages
-            → IfOk result (λ e. IsAfter v hart.0 (done_of Choice.Exec (here_of v hart.0)) self.old self.new) }
+        ensures made { (v : Seen) → IsPlace v self.old hart.0 → code.now ≡ v.setting.program.pages
+            → IfOk result (λ e. IsUncounted v hart.0 (done_of Choice.Exec (here_of v hart.0)) self.old self.new) }
         ensures err { OnErr result (self.new ≡ self.old) }
     {
         match self.planned(code, hart) {

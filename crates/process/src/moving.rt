@@ -1,16 +1,16 @@
 //! Events by which stores enter memory, and threads begin to run and leave.
 
-ghost use Rattle.std.specs.Prelude.{◌≡◌, ℕ, [], ◌∷◌, None, true, IfOk, IfSome, OnErr, nat_eq, slice_get};
+ghost use Rattle.std.specs.Prelude.{◌≡◌, ℕ, [], ◌∷◌, None, true, IfSome, nat_eq, slice_get};
 ghost use Rattle.std.specs.Option.{option_map};
 ghost use Rattle.mach_types.specs.Bytes.{IsAccessSize, all_stored, each_byte};
 ghost use Rattle.hart_state.specs.State.{stores};
 ghost use Rattle.page_map.specs.Map.{can_write_in};
 ghost use Rattle.block_model.specs.Setting.{Seen};
-ghost use Rattle.block_model.specs.Events.{done_of, refusal_of};
+ghost use Rattle.block_model.specs.Events.{refusal_of};
 ghost use Rattle.block_model.specs.Plain.{here_of};
 ghost use Rattle.process.specs.Losing.{lost_unless};
 ghost use Rattle.process.specs.Stored.{IsWritten};
-ghost use Rattle.process.specs.Tied.{IsPlace, HasPlace, MayMake, IsAfter, IsEvent, answer_to};
+ghost use Rattle.process.specs.Tied.{HasPlace, IsEvent, IsPlace, MayMake};
 
 use crate::parts::{Parts, entry_of};
 use crate::reservations::lose_others;
@@ -73,29 +73,15 @@ impl Parts {
     }
 
     /// The oldest waiting store of a hart enters memory.
-    fn drained(&mut self, hart: Hart) -> Entry
+    pub(crate) fn drained(&mut self, hart: Hart) -> Entry
         requires { MayMake self.old hart.0 Choice.Drain }
         ensures { IsEvent self.old hart.0 Choice.Drain result self.new }
     {
         let state = &mut self.harts[hart.0 as usize];
         let entry = entry_of(hart, Kind::Drain, state);
         let oldest = state.buffer.pop();
-        state.events += 1;
         self.enter_made(hart, oldest);
         entry
-    }
-
-    /// `drain`.
-    pub(crate) fn drain(&mut self, hart: Hart) -> Result<Entry, Why>
-        requires { HasPlace self.old hart.0 }
-        ensures answer { (v : Seen) → IsPlace v self.old hart.0 → result ≡ answer_to v hart.0 Choice.Drain }
-        ensures after { (v : Seen) → IsPlace v self.old hart.0 → IfOk result (λ e. IsAfter v hart.0 (done_of Choice.Drain (here_of v hart.0)) self.old self.new) }
-        ensures err { OnErr result (self.new ≡ self.old) }
-    {
-        match self.refusal_drain(hart) {
-            Some(why) => Err(why),
-            None => Ok(self.drained(hart)),
-        }
     }
 
     /// Why the thread on a hart can't leave it.
@@ -116,30 +102,16 @@ impl Parts {
     }
 
     /// The thread on a hart leaves it, and is the last ready one.
-    fn left(&mut self, hart: Hart) -> Entry
+    pub(crate) fn left(&mut self, hart: Hart) -> Entry
         requires { MayMake self.old hart.0 Choice.Preempt }
         ensures { IsEvent self.old hart.0 Choice.Preempt result self.new }
     {
         let state = &mut self.harts[hart.0 as usize];
         let entry = entry_of(hart, Kind::Preempt, state);
         let saved = state.leave();
-        state.events += 1;
         self.kernel.threads.leave(entry.tid, saved);
         self.kernel.ready.push(entry.tid);
         entry
-    }
-
-    /// `preempt`.
-    pub(crate) fn preempt(&mut self, hart: Hart) -> Result<Entry, Why>
-        requires { HasPlace self.old hart.0 }
-        ensures answer { (v : Seen) → IsPlace v self.old hart.0 → result ≡ answer_to v hart.0 Choice.Preempt }
-        ensures after { (v : Seen) → IsPlace v self.old hart.0 → IfOk result (λ e. IsAfter v hart.0 (done_of Choice.Preempt (here_of v hart.0)) self.old self.new) }
-        ensures err { OnErr result (self.new ≡ self.old) }
-    {
-        match self.refusal_preempt(hart) {
-            Some(why) => Err(why),
-            None => Ok(self.left(hart)),
-        }
     }
 
     /// Why a thread can't begin to run on a hart.
@@ -155,19 +127,6 @@ impl Parts {
             Some(Why::NotAllowed)
         } else {
             None
-        }
-    }
-
-    /// `run`.
-    pub(crate) fn run(&mut self, hart: Hart, tid: Tid) -> Result<Entry, Why>
-        requires { HasPlace self.old hart.0 }
-        ensures answer { (v : Seen) → IsPlace v self.old hart.0 → result ≡ answer_to v hart.0 (Choice.Run tid) }
-        ensures after { (v : Seen) → IsPlace v self.old hart.0 → IfOk result (λ e. IsAfter v hart.0 (done_of (Choice.Run tid) (here_of v hart.0)) self.old self.new) }
-        ensures err { OnErr result (self.new ≡ self.old) }
-    {
-        match self.refusal_run(hart, tid) {
-            Some(why) => Err(why),
-            None => Ok(self.begun(hart, tid)),
         }
     }
 }

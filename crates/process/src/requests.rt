@@ -1,6 +1,6 @@
 //! Requests of barriers, as each hart keeps them (membarrier(2)). A set of harts has a bit for each of 8.
 
-ghost use Rattle.std.specs.Prelude.{◌≡◌, ◌<◌, ◌+◌, ◌^◌, ◌==◌, ◌||◌, ℕ, Some, if◌then◌else◌, slice_get};
+ghost use Rattle.std.specs.Prelude.{◌≡◌, ◌<◌, ◌==◌, ◌||◌, ℕ, Some, if◌then◌else◌, slice_get};
 ghost use Rattle.std.specs.Option.{option_map};
 ghost use Rattle.mach_types.specs.Kernel.Barriers.{harts_that};
 ghost use Rattle.mach_types.specs.Kernel.Scheduling.{has_hart};
@@ -126,7 +126,6 @@ pub fn notice_all(harts: &mut [HartState], hart: Hart)
 
 /// A hart takes its requests. Where its thread was interrupted it goes on where that says.
 pub fn take_requests(state: &mut HartState, came: Option<Outcome>)
-    requires { state.old.events + 1 < 2 ^ 32 }
     ensures { state.new ≡ taken_with came state.old }
 {
     if let Some(outcome) = came {
@@ -135,7 +134,6 @@ pub fn take_requests(state: &mut HartState, came: Option<Outcome>)
     state.requests = 0;
     state.restart = false;
     state.reserved = None;
-    state.events += 1;
 }
 
 /// Whether the thread on a hart waits in a barrier that waits for no hart any more.

@@ -10,32 +10,32 @@ use Rattle.block_model.specs.Ids.{next_id}
 use Rattle.block_model.specs.Plain.{here_of, plain_seen}
 use Rattle.process.specs.Beginning.{IsReadied}
 use Rattle.process.proofs.Ids.{held_here}
-use Rattle.process.proofs.Places.{counted}
+use Rattle.process.proofs.Places.{still_there}
 use Rattle.process.proofs.RunBegun.{begun_killed, begun_running, listed, readied, runs_then, some_free}
 use Rattle.process.proofs.parts.Parts.begun.Goals as goal
 
 pub next_id-id-requires : goal.next_id-id-requires
 next_id-id-requires c = some_free c.requires.seen c.args.self.now c.args.hart c.args.tid c.requires.place c.requires.free
 
-pub take_up-requires-clause-counted : goal.take_up-requires-clause-counted
-take_up-requires-clause-counted c =
+pub take_up-requires-clause-listed : goal.take_up-requires-clause-listed
+take_up-requires-clause-listed c =
     let v = c.requires.seen in
     let m = c.args.self.now in
     let h = c.args.hart in
     let t = c.args.tid in
     let m1 = c.readied.new.self in
-    counted v m h.0 (done_run (here_of v h.0) t.0).entered m1.harts.items c.requires.place
+    still_there v m h.0 (done_run (here_of v h.0) t.0).entered m1.harts.items c.requires.place
     (readied v m h t c.requires.place c.requires.free _ c.area_of-area.result c.next_id-id.result c.run-saved.result c.readied.new.saved c.readied.result m1
     c.area_of-area.ensures c.next_id-id.ensures c.run-saved.ensures.answer (c.readied.ensures.readied (here_of v h.0) t.0)).harts
 
-pub kill-requires-clause-counted : goal.kill-requires-clause-counted
-kill-requires-clause-counted c =
+pub kill-requires-clause-listed : goal.kill-requires-clause-listed
+kill-requires-clause-listed c =
     let v = c.requires.seen in
     let m = c.args.self.now in
     let h = c.args.hart in
     let t = c.args.tid in
     let m1 = c.readied.new.self in
-    counted v m h.0 (done_run (here_of v h.0) t.0).entered m1.harts.items c.requires.place
+    still_there v m h.0 (done_run (here_of v h.0) t.0).entered m1.harts.items c.requires.place
     (readied v m h t c.requires.place c.requires.free _ c.area_of-area.result c.next_id-id.result c.run-saved.result c.readied.new.saved c.readied.result m1
     c.area_of-area.ensures c.next_id-id.ensures c.run-saved.ensures.answer (c.readied.ensures.readied (here_of v h.0) t.0)).harts
 

@@ -4,7 +4,7 @@ use Rattle.mach_types.specs.declared.events.Kind.TheVariants as kind
 use Rattle.block_model.specs.Plain.{here_of, plain_seen}
 use Rattle.process.specs.Delivering.{done_here, ended_unless}
 use Rattle.process.proofs.Entries.{entry_here}
-use Rattle.process.proofs.Places.{counted, hart_is}
+use Rattle.process.proofs.Places.{hart_is, still_there}
 use Rattle.process.proofs.SignalEvent.{delivered_event, interrupted_there, receiving, same_signal}
 use Rattle.process.proofs.Signalled.{entry_runs, has_signals, held_named}
 use Rattle.process.proofs.parts.Parts.delivered.Goals as goal
@@ -31,7 +31,7 @@ go_on-requires c =
     let place = c.requires.place in
     let is = receiving (here_of v h.0) c.requires.free in
     let named = entry_runs v m h kind.Signal is.thread x c.entry_of-entry.result place is.at c.index-state.ensures c.entry_of-entry.ensures in
-    counted v m h.0 (done_here (here_of v h.0) c.entry_of-entry.result.tid.0 c.in-Some.signal).entered c.handled-killer.new.self.harts.items place
+    still_there v m h.0 (done_here (here_of v h.0) c.entry_of-entry.result.tid.0 c.in-Some.signal).entered c.handled-killer.new.self.harts.items place
     (c.handled-killer.ensures.delivered (here_of v h.0) (interrupted_there v m h place c.requires.free is x c.entry_of-entry.result.tid.0 named (hart_is v m h.0 x place c.index-state.ensures))).harts
 
 pub returns : goal.returns

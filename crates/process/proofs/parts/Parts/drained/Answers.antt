@@ -9,19 +9,16 @@ use Rattle.hart_state.specs.State.{stores}
 use Rattle.hart_state.specs.declared.hart.HartState.{HartState}
 use Rattle.block_model.specs.Events.Drain.{done_drain_of}
 use Rattle.block_model.specs.Plain.{here_of, plain_seen}
+use Rattle.process.specs.Harts.{counted}
 use Rattle.process.specs.Losing.{lost_unless}
 use Rattle.process.specs.Stored.{IsWritten}
 use Rattle.process.proofs.Draining.{can_enter}
-use Rattle.process.proofs.Entries.{changed_as, entry_here, oldest}
+use Rattle.process.proofs.Entries.{uncounted_as, entry_here, oldest}
 use Rattle.process.proofs.Events.{quietly}
 use Rattle.process.proofs.HartEvents.{drain_own}
 use Rattle.process.proofs.MemoryTies.{pages_written, readable_written}
-use Rattle.process.proofs.Places.{events_fit, goes_on, hart_is, was_not_stuck}
+use Rattle.process.proofs.Places.{goes_on, hart_is, was_not_stuck}
 use Rattle.process.proofs.parts.Parts.drained.Goals as goal
-
-pub overflow_add-state : goal.overflow_add-state
-overflow_add-state c =
-    let few = events_fit c.requires.seen c.args.self.now c.args.hart.0 c.index_mut-state.result.now c.requires.place c.index_mut-state.ensures.value in omega (arith, few)
 
 pub enter_made-requires-clause-writable : goal.enter_made-requires-clause-writable
 enter_made-requires-clause-writable c =
@@ -42,9 +39,9 @@ returns c = record {
       let w = first.0 in
       let made : stores c.pop-oldest.result ≡ w ∷ [] = ap stores (c.pop-oldest.ensures.oldest ∙ ap (λ (z : HartState). slice_get z.buffer 0) own ∙ ap (λ (ws : List Store). slice_get ws 0) first.1.1) in
       let wrote : IsWritten (Stored w ∷ []) m.pages m'.pages = subst (λ (ws : List Store). IsWritten (all_stored ws) m.pages m'.pages) made c.enter_made.ensures.pages in
-      let y : HartState = record x { buffer = c.pop-oldest.new.self; events = x.events + 1 } in
-      changed_as v h asked.Drain (done_drain_of here (w ∷ first.1.0)) m m' y place free (ap (done_drain_of here) first.1.1) (record {
-        own = drain_own _ v.setting p h w first.1.0 x y own (ap (λ (ws : List Store). let z : HartState = record x { buffer = ws; events = x.events + 1 } in z) c.pop-oldest.ensures.rest);
+      let y : HartState = record x { buffer = c.pop-oldest.new.self } in
+      uncounted_as v h asked.Drain (done_drain_of here (w ∷ first.1.0)) m m' y place free (ap (done_drain_of here) first.1.1) (record {
+        own = drain_own _ v.setting p h w first.1.0 x (counted y) own (ap (λ (ws : List Store). let z : HartState = record x { buffer = ws; events = x.events + 1 } in z) c.pop-oldest.ensures.rest);
         harts = quietly h (done_drain_of here (w ∷ first.1.0)) (set m.harts.items h y) m'.harts.items (record { none_begun = refl; none_taken = refl })
             (λ k. c.enter_made.ensures.harts k ∙ ap (λ (ws : List Store). option_map (lost_unless (eqb k h) (all_stored ws)) (slice_get (set m.harts.items h y) k)) made);
         pages = pages_written p.kernel.pages v.setting.program.break_at p.byte (Stored w ∷ []) m.pages m'.pages place.tied.pages wrote;

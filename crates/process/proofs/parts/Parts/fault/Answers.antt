@@ -1,26 +1,25 @@
-use Rattle.std.proofs.Common.{◌≡◌, true, false, not, arith, refl, sym, ap, ◌∙◌}
+use Rattle.std.proofs.Common.{◌+◌, ◌≡◌, true, false, not, arith, refl, sym, ap, ◌∙◌}
 use Rattle.std.proofs.lemmas.Bool.{and_parts}
 use Rattle.mach_types.specs.Kernel.Signals.{action_of, has_signal, is_handler, mask_of, with_pending}
 use Rattle.mach_types.specs.declared.events.Choice.TheVariants as asked
 use Rattle.mach_types.specs.declared.events.Kind.TheVariants as kind
+use Rattle.hart_state.specs.declared.hart.HartState.{HartState}
 use Rattle.block_model.specs.Events.Exec.{has_handler}
 use Rattle.block_model.specs.Kernel.{signalled}
 use Rattle.block_model.specs.Plain.{here_of, plain_seen}
 use Rattle.sys_calls.proofs.Laws.{holds_signals}
+use Rattle.process.specs.Harts.{counted}
 use Rattle.process.specs.Delivering.{has_handler_in}
-use Rattle.process.proofs.Entries.{changed_as, entry_here}
+use Rattle.process.proofs.Entries.{uncounted_as, entry_here}
 use Rattle.process.proofs.Events.{none_beside}
 use Rattle.process.proofs.Executed.{done_killing, done_pending, fault_killing, fault_pending}
 use Rattle.process.proofs.HartEvents.{killing_own, pending_own}
-use Rattle.process.proofs.Places.{events_fit, goes_on, hart_is, ran_fits, was_not_stuck}
+use Rattle.process.proofs.Places.{goes_on, hart_is, ran_fits, was_not_stuck}
 use Rattle.process.proofs.Signalled.{entry_runs, held_named, planned_fault, posted_handler}
 use Rattle.process.proofs.parts.Parts.fault.Goals as goal
 
 pub overflow_add-state : goal.overflow_add-state
 overflow_add-state c = let plan = c.requires.1 in let few = ran_fits plan.seen c.args.self.now c.args.hart.0 c.index_mut-state.result.now plan.place c.index_mut-state.ensures.value in omega (arith, few)
-
-pub overflow_add-state-2 : goal.overflow_add-state-2
-overflow_add-state-2 c = let plan = c.requires.1 in let few = events_fit plan.seen c.args.self.now c.args.hart.0 c.index_mut-state.result.now plan.place c.index_mut-state.ensures.value in omega (arith, few)
 
 pub has_handler-requires-clause-held : goal.has_handler-requires-clause-held
 has_handler-requires-clause-held c =
@@ -52,6 +51,7 @@ returns-then-has_handler c effect = record {
       let m = c.args.self.now in
       let x = c.index_mut-state.result.now in
       let s = c.args.signal in
+      let z : HartState = record x { ran = x.ran + 1 } in
       let t = plan.thread in
       let here = here_of v h in
       let e = c.entry_of-entry.result in
@@ -60,8 +60,8 @@ returns-then-has_handler c effect = record {
       let handler = (and_parts (not (has_signal (mask_of e.tid.0 m.kernel.signals) s)) (is_handler (action_of s m.kernel.signals)) has).1 in
       let has_here : has_handler here t s ≡ true =
       sym (ap (λ n. has_handler_in n s m.kernel.signals) its ∙ ap (has_handler_in t s) place.tied.tables.signals) ∙ has in
-      changed_as v h asked.Exec (fault_pending here t s) m _ _ place plan.free (done_pending here t s plan.at (sym plan.fault) has_here) (record {
-        own = pending_own _ v.setting (plain_seen v) h t s x _ (hart_is v m h x place c.index_mut-state.ensures.value) refl;
+      uncounted_as v h asked.Exec (fault_pending here t s) m _ z place plan.free (done_pending here t s plan.at (sym plan.fault) has_here) (record {
+        own = pending_own _ v.setting (plain_seen v) h t s x (counted z) (hart_is v m h x place c.index_mut-state.ensures.value) refl;
         harts = none_beside h (fault_pending here t s) _ (record { none_begun = refl; none_taken = refl }) refl;
         pages = place.tied.pages;
         readable = place.tied.readable;
@@ -82,14 +82,15 @@ returns-else-has_handler c effect = record {
       let m = c.args.self.now in
       let x = c.index_mut-state.result.now in
       let s = c.args.signal in
+      let z : HartState = record x { ran = x.ran + 1 } in
       let t = plan.thread in
       let here = here_of v h in
       let e = c.entry_of-entry.result in
       let its = entry_runs v m c.args.hart kind.Exec t x e place plan.at c.index_mut-state.ensures.value c.entry_of-entry.ensures in
       let lacks_here : has_handler here t s ≡ false =
       sym (c.has_handler.ensures ∙ ap (λ n. has_handler_in n s m.kernel.signals) its ∙ ap (has_handler_in t s) place.tied.tables.signals) ∙ c.if-has_handler.false in
-      changed_as v h asked.Exec (fault_killing here s) m _ _ place plan.free (done_killing here t s plan.at (sym plan.fault) lacks_here) (record {
-        own = killing_own _ v.setting (plain_seen v) h s x _ (hart_is v m h x place c.index_mut-state.ensures.value) refl;
+      uncounted_as v h asked.Exec (fault_killing here s) m _ z place plan.free (done_killing here t s plan.at (sym plan.fault) lacks_here) (record {
+        own = killing_own _ v.setting (plain_seen v) h s x (counted z) (hart_is v m h x place c.index_mut-state.ensures.value) refl;
         harts = none_beside h (fault_killing here s) _ (record { none_begun = refl; none_taken = refl }) refl;
         pages = place.tied.pages;
         readable = place.tied.readable;

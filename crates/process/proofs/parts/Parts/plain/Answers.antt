@@ -9,15 +9,16 @@ use Rattle.hart_state.specs.State.{hart_after, stores}
 use Rattle.hart_state.specs.declared.hart.HartState.{HartState}
 use Rattle.block_model.specs.Events.Exec.{by_outcome}
 use Rattle.block_model.specs.Plain.{here_of, plain_seen}
+use Rattle.process.specs.Harts.{counted}
 use Rattle.process.specs.Losing.{lost_unless}
 use Rattle.process.specs.Stored.{IsWritten}
-use Rattle.process.proofs.Entries.{changed_as, entry_here}
+use Rattle.process.proofs.Entries.{uncounted_as, entry_here}
 use Rattle.process.proofs.Events.{quietly}
 use Rattle.process.proofs.HartEvents.{plain_own}
 use Rattle.process.proofs.KernelTies.{saved_plain}
 use Rattle.process.proofs.MemoryTies.{pages_written, readable_written}
 use Rattle.process.proofs.Performing.{may_perform, performing}
-use Rattle.process.proofs.Places.{events_fit, ran_fits, runs_there}
+use Rattle.process.proofs.Places.{ran_fits, runs_there}
 use Rattle.process.proofs.parts.Parts.plain.Goals as goal
 
 pub execute-made-requires-clause-no_fault : goal.execute-made-requires-clause-no_fault
@@ -30,12 +31,6 @@ overflow_add-state c =
     let plan = c.requires.plan in
     let few = ran_fits plan.seen c.args.self.now c.args.hart.0 c.index_mut-state.result.now plan.place c.index_mut-state.ensures.value in
     let same : c.execute-made.new.self.ran ≡ c.index_mut-state.result.now.ran = ap (λ (z : HartState). z.ran) c.execute-made.ensures.hart in omega (arith, few, same)
-
-pub overflow_add-state-2 : goal.overflow_add-state-2
-overflow_add-state-2 c =
-    let plan = c.requires.plan in
-    let few = events_fit plan.seen c.args.self.now c.args.hart.0 c.index_mut-state.result.now plan.place c.index_mut-state.ensures.value in
-    let same : c.execute-made.new.self.events ≡ c.index_mut-state.result.now.events = ap (λ (z : HartState). z.events) c.execute-made.ensures.hart in omega (arith, few, same)
 
 pub returns : goal.returns
 returns c = record {
@@ -52,9 +47,9 @@ returns c = record {
       let ws = all_stored is.outcome.entered in
       let made : stores c.execute-made.result ≡ is.outcome.entered = sym c.execute-made.ensures.entered ∙ ap (λ (o : Outcome). o.entered) is.same in
       let wrote : IsWritten ws m.pages m'.pages = subst (λ (ss : List Store). IsWritten (all_stored ss) m.pages m'.pages) made c.enter_made.ensures.pages in
-      let y : HartState = record c.execute-made.new.self { ran = c.execute-made.new.self.ran + 1; events = c.execute-made.new.self.events + 1 } in
-      changed_as v h asked.Exec (by_outcome here t is.outcome) m m' y place plan.free is.done (record {
-        own = plain_own _ v.setting p h t is.outcome x y is.own plan.at (ap (λ (z : HartState). record z { ran = z.ran + 1; events = z.events + 1 }) (c.execute-made.ensures.hart ∙ ap (hart_after x) is.same));
+      let y : HartState = record c.execute-made.new.self { ran = c.execute-made.new.self.ran + 1 } in
+      uncounted_as v h asked.Exec (by_outcome here t is.outcome) m m' y place plan.free is.done (record {
+        own = plain_own _ v.setting p h t is.outcome x (counted y) is.own plan.at (ap (λ (z : HartState). record z { ran = z.ran + 1; events = z.events + 1 }) (c.execute-made.ensures.hart ∙ ap (hart_after x) is.same));
         harts = quietly h (by_outcome here t is.outcome) (set m.harts.items h y) m'.harts.items (record { none_begun = refl; none_taken = refl })
             (λ k. c.enter_made.ensures.harts k ∙ ap (λ (ss : List Store). option_map (lost_unless (eqb k h) (all_stored ss)) (slice_get (set m.harts.items h y) k)) made);
         pages = pages_written p.kernel.pages v.setting.program.break_at p.byte ws m.pages m'.pages place.tied.pages wrote;

@@ -5,15 +5,15 @@ use Rattle.block_model.specs.Events.Take.{done_take}
 use Rattle.block_model.specs.Plain.{here_of}
 use Rattle.process.specs.Barriers.{ended_by}
 use Rattle.process.proofs.Entries.{entry_here}
-use Rattle.process.proofs.Places.{counted}
+use Rattle.process.proofs.Places.{still_there}
 use Rattle.process.proofs.TakeEvent.{taken_event}
 use Rattle.process.proofs.parts.Parts.taken.Goals as goal
 
-pub end_take-requires-clause-counted : goal.end_take-requires-clause-counted
-end_take-requires-clause-counted c =
+pub end_take-requires-clause-listed : goal.end_take-requires-clause-listed
+end_take-requires-clause-listed c =
     let v = c.requires.seen in
     let place = c.requires.place in
-    counted v c.args.self.now c.args.hart.0 (done_take (here_of v c.args.hart.0)).entered c.restarted-came.new.self.harts.items place (c.restarted-came.ensures.restarted v place).harts
+    still_there v c.args.self.now c.args.hart.0 (done_take (here_of v c.args.hart.0)).entered c.restarted-came.new.self.harts.items place (c.restarted-came.ensures.restarted v place).harts
 
 pub returns : goal.returns
 returns c = record {
