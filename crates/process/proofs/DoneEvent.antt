@@ -17,7 +17,7 @@ use Rattle.block_model.specs.Sights.{thread}
 use Rattle.process.specs.Barriers.{gone_on}
 use Rattle.process.specs.Harts.{counted, hart_at, hart_in}
 use Rattle.process.proofs.HartEvents.{zero_more}
-use Rattle.process.proofs.HartTies.{own_after}
+use Rattle.process.proofs.HartStates.{own_after}
 
 -- why none does, as the hart tells it
 abbrev refused_as : Option Tid → Option ℕ → Option Why

@@ -21,7 +21,7 @@ use Rattle.process.specs.Losing.{lost_by_all, lost_unless}
 use Rattle.process.specs.Harts.{counted, credit_of, hart_at}
 use Rattle.process.specs.Tied.{IsAfter, IsCounted, IsPlace, IsReadable, IsTied, IsUncounted}
 use Rattle.process.specs.declared.parts.Parts.{Parts}
-use Rattle.process.proofs.HartTies.{KeepsIds, beside, beside_unless, credits_kept, get_set_other, get_set_same, harts_tied, of_each, own_after}
+use Rattle.process.proofs.HartStates.{KeepsIds, beside, beside_unless, credits_kept, get_set_other, get_set_same, harts_tied, of_each, own_after}
 
 -- lists with the same places filled are equally long
 pub same_length : (xs ys : List HartState) → ((k : ℕ) → is_some (slice_get ys k) ≡ is_some (slice_get xs k)) → length ys ≡ length xs

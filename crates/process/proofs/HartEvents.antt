@@ -25,8 +25,8 @@ use Rattle.block_model.specs.Sequences.{files_interrupted}
 use Rattle.block_model.proofs.Laws.{left_idle, ran_runs}
 use Rattle.process.specs.Beginning.{begun_without}
 use Rattle.process.specs.Harts.{counted, file_on, hart_at, id_on}
-use Rattle.process.proofs.Executed.{fault_killing, fault_pending}
-use Rattle.process.proofs.HartTies.{own_after}
+use Rattle.process.proofs.ExecEvent.{fault_killing, fault_pending}
+use Rattle.process.proofs.HartStates.{own_after}
 
 pub zero_more : (n : ℕ) → n + 0 ≡ n
 zero_more n = omega arith

@@ -25,8 +25,8 @@ use Rattle.process.specs.Harts.{credit_of, hart_at}
 use Rattle.process.specs.Losing.{lost_unless}
 use Rattle.process.specs.Tied.{IsPlace}
 use Rattle.process.specs.declared.parts.Parts.{Parts}
-use Rattle.process.proofs.HartTies.{hart_tied}
-use Rattle.process.proofs.MemoryTies.{bytes_held, writable_held}
+use Rattle.process.proofs.HartStates.{hart_tied}
+use Rattle.process.proofs.Memory.{bytes_held, writable_held}
 
 -- the hart of a place is in the list
 pub in_list : (v : Seen) (m : Parts) (h : ℕ) → IsPlace v m h → h < length m.harts.items

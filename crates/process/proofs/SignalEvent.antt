@@ -1,5 +1,5 @@
 -- The event of a signal: who receives it, and the parts after it.
-use Rattle.std.proofs.Common.{◌≡◌, ◌≢◌, ℕ, List, [], ◌∷◌, append-nil, refl, sym, ap, ◌∙◌, subst, arith, Bool, true, false, cond, eqb, eq-eqb, not, is_some, length, Option, Some, None, slice_get, ◌⊎◌, inl, inr}
+use Rattle.std.proofs.Common.{◌≡◌, ◌≢◌, ℕ, List, [], ◌∷◌, append-nil, refl, sym, ap, ◌∙◌, subst, Bool, cond, eqb, not, is_some, length, Option, Some, None, slice_get, ◌⊎◌, inl, inr}
 use Rattle.std.specs.Option.{option_and_then, option_map}
 use Rattle.std.proofs.lemmas.Bool.{cases_eq, ne_eqb}
 use Rattle.std.proofs.lemmas.Option.{same_Some}
@@ -41,11 +41,11 @@ use Rattle.process.specs.Tied.{IsPlace, IsUncounted}
 use Rattle.process.specs.declared.parts.Parts.{Parts}
 use Rattle.process.proofs.Entries.{uncounted_as}
 use Rattle.process.proofs.HartEvents.{zero_more}
-use Rattle.process.proofs.HartTies.{own_after}
-use Rattle.process.proofs.Interrupting.{begun_beside}
-use Rattle.process.proofs.MemoryTies.{pages_written, readable_written}
+use Rattle.process.proofs.HartStates.{own_after}
+use Rattle.process.proofs.Interruptions.{begun_beside}
+use Rattle.process.proofs.Memory.{pages_written, readable_written}
 use Rattle.process.proofs.Places.{bytes_at, goes_on, runs_there, was_not_stuck, writable_at}
-use Rattle.process.proofs.RunBegun.{file_other}
+use Rattle.process.proofs.RunEvent.{file_other}
 
 -- WHO RECEIVES IT
 

@@ -1,5 +1,5 @@
 -- The event take: what the interruption of the hart's thread comes to, if it is to restart, and the parts after it.
-use Rattle.std.proofs.Common.{◌≡◌, ◌≢◌, ℕ, ◌+◌, List, [], append-nil, refl, sym, ap, ◌∙◌, subst, arith, Bool, true, false, cond, eqb, eq-eqb, Option, Some, None, slice_get, set, inl, inr}
+use Rattle.std.proofs.Common.{◌≡◌, ◌≢◌, ℕ, ◌+◌, List, [], append-nil, refl, sym, ap, ◌∙◌, subst, Bool, true, false, cond, eqb, eq-eqb, Option, Some, None, slice_get, set}
 use Rattle.std.specs.Option.{option_and_then, option_map, option_or}
 use Rattle.std.proofs.lemmas.Bool.{ne_eqb}
 use Rattle.mach_types.specs.Kernel.Areas.{interruption, pc_after, writes_of}
@@ -31,11 +31,11 @@ use Rattle.process.specs.declared.parts.Parts.{Parts}
 use Rattle.process.proofs.Entries.{uncounted_as}
 use Rattle.process.proofs.Events.{AreBeside}
 use Rattle.process.proofs.HartEvents.{zero_more}
-use Rattle.process.proofs.HartTies.{beside, beside_unless, get_set_other, get_set_same, of_each, own_after}
-use Rattle.process.proofs.Interrupting.{file_is, lost_nothing, none_written}
-use Rattle.process.proofs.MemoryTies.{pages_written, readable_written}
+use Rattle.process.proofs.HartStates.{beside, beside_unless, get_set_other, get_set_same, of_each, own_after}
+use Rattle.process.proofs.Interruptions.{file_is, lost_nothing, none_written}
+use Rattle.process.proofs.Memory.{pages_written, readable_written}
 use Rattle.process.proofs.Places.{goes_on, runs_there, was_not_stuck}
-use Rattle.process.proofs.RunBegun.{file_other}
+use Rattle.process.proofs.RunEvent.{file_other}
 use Rattle.process.proofs.SignalEvent.{kept_running}
 
 -- WHY A HART CAN'T

@@ -66,7 +66,8 @@ impl Parts {
     #[inline]
     pub fn make(&mut self, code: &Code, hart: Hart, choice: Choice) -> Result<Entry, Why>
         requires { HasCode code.now self.old hart.0 }
-        ensures answer { (v : Seen) → IsPlace v self.old hart.0 → code.now ≡ v.setting.program.pages → result ≡ answer_to v hart.0 choice }
+        ensures answer { (v : Seen) → IsPlace v self.old hart.0 → code.now ≡ v.setting.program.pages
+            → result ≡ answer_to v hart.0 choice }
         ensures after { (v : Seen) → IsPlace v self.old hart.0 → code.now ≡ v.setting.program.pages
             → IfOk result (λ e. IsAfter v hart.0 (done_of choice (here_of v hart.0)) self.old self.new) }
         ensures err { OnErr result (self.new ≡ self.old) }
@@ -81,6 +82,7 @@ impl Parts {
     }
 
     /// Counts an event of a hart.
+    #[inline]
     fn count(&mut self, hart: Hart)
         requires { HasEvent self.old.harts.items hart.0 }
         ensures harts { IsChanged hart.0 counted self.old.harts.items self.new.harts.items }
@@ -93,9 +95,11 @@ impl Parts {
     }
 
     /// [`Parts::make`], but for the count of the event.
+    #[inline]
     fn made(&mut self, code: &Code, hart: Hart, choice: Choice) -> Result<Entry, Why>
         requires { HasCode code.now self.old hart.0 }
-        ensures answer { (v : Seen) → IsPlace v self.old hart.0 → code.now ≡ v.setting.program.pages → result ≡ answer_to v hart.0 choice }
+        ensures answer { (v : Seen) → IsPlace v self.old hart.0 → code.now ≡ v.setting.program.pages
+            → result ≡ answer_to v hart.0 choice }
         ensures made { (v : Seen) → IsPlace v self.old hart.0 → code.now ≡ v.setting.program.pages
             → IfOk result (λ e. IsUncounted v hart.0 (done_of choice (here_of v hart.0)) self.old self.new) }
         ensures err { OnErr result (self.new ≡ self.old) }
@@ -129,7 +133,8 @@ impl Parts {
     /// The first condition of a choice on a hart that fails; None exactly where the choice is allowed.
     pub(crate) fn refusal(&self, code: &Code, hart: Hart, choice: Choice) -> Option<Why>
         requires { HasCode code.now self.now hart.0 }
-        ensures { (v : Seen) → IsPlace v self.now hart.0 → code.now ≡ v.setting.program.pages → result ≡ refusal_of choice (here_of v hart.0) }
+        ensures { (v : Seen) → IsPlace v self.now hart.0 → code.now ≡ v.setting.program.pages
+            → result ≡ refusal_of choice (here_of v hart.0) }
     {
         match choice {
             Choice::Exec => self.refusal_exec(code, hart),
@@ -145,7 +150,8 @@ impl Parts {
     /// The entry of a ready thread that may begin to run on a hart.
     fn entry_of_run(&self, hart: Hart, tid: Tid) -> Entry
         requires { MayMake self.now hart.0 (Choice.Run tid) }
-        ensures { (v : Seen) → IsPlace v self.now hart.0 → result ≡ entry_in (Choice.Run tid) (here_of v hart.0) }
+        ensures { (v : Seen) → IsPlace v self.now hart.0
+            → result ≡ entry_in (Choice.Run tid) (here_of v hart.0) }
     {
         let Some(saved) = self.kernel.threads.saved(tid) else {
             unreachable!()
@@ -173,7 +179,8 @@ impl Parts {
     /// condition that fails. Nothing changes.
     pub fn answer(&self, code: &Code, hart: Hart, choice: Choice) -> Result<Entry, Why>
         requires { HasCode code.now self.now hart.0 }
-        ensures { (v : Seen) → IsPlace v self.now hart.0 → code.now ≡ v.setting.program.pages → result ≡ answer_to v hart.0 choice }
+        ensures { (v : Seen) → IsPlace v self.now hart.0 → code.now ≡ v.setting.program.pages
+            → result ≡ answer_to v hart.0 choice }
     {
         match self.refusal(code, hart, choice) {
             Some(why) => Err(why),

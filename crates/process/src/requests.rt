@@ -9,7 +9,7 @@ ghost use Rattle.block_model.specs.Sights.{is_all_taken};
 ghost use Rattle.sys_calls.specs.Made.{barrier_of};
 ghost use Rattle.process.specs.Barriers.{asked_by, is_busy, noticed, noticed_unless, taken_with};
 
-use crate::beginning::pc_after;
+use crate::interrupt::pc_after;
 use hart_state::HartState;
 use mach_types::{Hart, Outcome};
 use sys_calls::CallEnd;
@@ -87,7 +87,8 @@ fn ask_each(harts: &mut [HartState], hart: Hart, targets: u8, restart: bool)
 /// Where the call of the thread on a hart ended as a barrier, each hart that it is about has a request of it.
 pub fn ask_all(harts: &mut [HartState], hart: Hart, end: CallEnd)
     requires { hart.0 < 8 }
-    ensures { (k : ℕ) → slice_get harts.new k ≡ option_map (asked_by k hart.0 (barrier_of end)) (slice_get harts.old k) }
+    ensures { (k : ℕ) → slice_get harts.new k
+        ≡ option_map (asked_by k hart.0 (barrier_of end)) (slice_get harts.old k) }
 {
     if let CallEnd::Barrier { targets, restart } = end {
         ask_each(harts, hart, targets, restart);
@@ -117,7 +118,8 @@ fn notice_unless(state: &mut HartState, is_own: bool, hart: Hart)
 /// The barriers of threads on other harts wait for this one no longer.
 pub fn notice_all(harts: &mut [HartState], hart: Hart)
     requires { hart.0 < 8 }
-    ensures { (k : ℕ) → slice_get harts.new k ≡ option_map (noticed_unless (k == hart.0) hart.0) (slice_get harts.old k) }
+    ensures { (k : ℕ) → slice_get harts.new k
+        ≡ option_map (noticed_unless (k == hart.0) hart.0) (slice_get harts.old k) }
 {
     for (k, state) in harts.iter_mut().enumerate() {
         notice_unless(state, k == hart.0 as usize, hart);

@@ -9,9 +9,9 @@ use Rattle.block_model.specs.Events.Run.{done_run}
 use Rattle.block_model.specs.Ids.{next_id}
 use Rattle.block_model.specs.Plain.{here_of, plain_seen}
 use Rattle.process.specs.Beginning.{IsReadied}
-use Rattle.process.proofs.Ids.{held_here}
+use Rattle.process.proofs.ConcurrencyIds.{held_here}
 use Rattle.process.proofs.Places.{still_there}
-use Rattle.process.proofs.RunBegun.{begun_killed, begun_running, listed, readied, runs_then, some_free}
+use Rattle.process.proofs.RunEvent.{begun_killed, begun_running, listed, readied, runs_then, some_free}
 use Rattle.process.proofs.parts.Parts.begun.Goals as goal
 
 pub next_id-id-requires : goal.next_id-id-requires

@@ -8,7 +8,7 @@ use Rattle.block_model.specs.Plain.{here_of, plain_seen}
 use Rattle.process.specs.Harts.{counted}
 use Rattle.process.proofs.Entries.{uncounted_as, entry_here}
 use Rattle.process.proofs.Events.{none_beside}
-use Rattle.process.proofs.Executed.{done_inside}
+use Rattle.process.proofs.ExecEvent.{done_inside}
 use Rattle.process.proofs.HartEvents.{inside_own}
 use Rattle.process.proofs.Places.{hart_is, ran_fits}
 use Rattle.process.proofs.parts.Parts.call_inside.Goals as goal

@@ -13,8 +13,8 @@ use Rattle.process.specs.Barriers.{asked_by}
 use Rattle.process.specs.Harts.{counted, credit_of, hart_at}
 use Rattle.process.specs.Losing.{lost_unless}
 use Rattle.process.specs.declared.parts.Parts.{Parts}
-use Rattle.process.proofs.Asking.{call_beside, eighth}
-use Rattle.process.proofs.Calling.{areas_found, call_own, calling, ended_after, executed, ids_kept, numbers_left, running_found, same_ran, signals_found, tables_found}
+use Rattle.process.proofs.Membarriers.{call_beside, eighth}
+use Rattle.process.proofs.SystemCalls.{areas_found, call_own, calling, ended_after, executed, ids_kept, numbers_left, running_found, same_ran, signals_found, tables_found}
 use Rattle.process.proofs.Entries.{uncounted_as, entry_here}
 use Rattle.process.proofs.Places.{ran_fits, tables_at}
 use Rattle.process.proofs.parts.Parts.call_outside.Goals as goal

@@ -6,7 +6,7 @@ use Rattle.process.specs.Delivering.{done_here, ended_unless}
 use Rattle.process.proofs.Entries.{entry_here}
 use Rattle.process.proofs.Places.{hart_is, still_there}
 use Rattle.process.proofs.SignalEvent.{delivered_event, interrupted_there, receiving, same_signal}
-use Rattle.process.proofs.Signalled.{entry_runs, has_signals, held_named}
+use Rattle.process.proofs.SignalsOfHarts.{entry_runs, has_signals, held_named}
 use Rattle.process.proofs.parts.Parts.delivered.Goals as goal
 
 pub deliverable-requires-clause-held : goal.deliverable-requires-clause-held

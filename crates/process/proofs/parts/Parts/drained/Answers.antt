@@ -1,4 +1,4 @@
-use Rattle.std.proofs.Common.{◌≡◌, refl, [], ◌+◌, List, ◌∷◌, arith, eqb, set, slice_get, ap, ◌∙◌, subst}
+use Rattle.std.proofs.Common.{◌≡◌, refl, [], ◌+◌, List, ◌∷◌, eqb, set, slice_get, ap, ◌∙◌, subst}
 use Rattle.std.specs.Option.{option_map}
 use Rattle.mach_types.specs.Bytes.{all_stored}
 use Rattle.mach_types.specs.declared.events.Choice.TheVariants as asked
@@ -12,11 +12,11 @@ use Rattle.block_model.specs.Plain.{here_of, plain_seen}
 use Rattle.process.specs.Harts.{counted}
 use Rattle.process.specs.Losing.{lost_unless}
 use Rattle.process.specs.Stored.{IsWritten}
-use Rattle.process.proofs.Draining.{can_enter}
+use Rattle.process.proofs.DrainEvent.{can_enter}
 use Rattle.process.proofs.Entries.{uncounted_as, entry_here, oldest}
 use Rattle.process.proofs.Events.{quietly}
 use Rattle.process.proofs.HartEvents.{drain_own}
-use Rattle.process.proofs.MemoryTies.{pages_written, readable_written}
+use Rattle.process.proofs.Memory.{pages_written, readable_written}
 use Rattle.process.proofs.Places.{goes_on, hart_is, was_not_stuck}
 use Rattle.process.proofs.parts.Parts.drained.Goals as goal
 

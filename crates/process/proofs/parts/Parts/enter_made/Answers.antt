@@ -1,5 +1,5 @@
 use Rattle.std.proofs.Common.{slice_get, eqb}
-use Rattle.process.proofs.Interrupting.{lost_nothing, none_written}
+use Rattle.process.proofs.Interruptions.{lost_nothing, none_written}
 use Rattle.process.proofs.parts.Parts.enter_made.Goals as goal
 
 pub returns-in_default-clause-pages : goal.returns-in_default-clause-pages

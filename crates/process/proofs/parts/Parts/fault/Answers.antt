@@ -12,10 +12,10 @@ use Rattle.process.specs.Harts.{counted}
 use Rattle.process.specs.Delivering.{has_handler_in}
 use Rattle.process.proofs.Entries.{uncounted_as, entry_here}
 use Rattle.process.proofs.Events.{none_beside}
-use Rattle.process.proofs.Executed.{done_killing, done_pending, fault_killing, fault_pending}
+use Rattle.process.proofs.ExecEvent.{done_killing, done_pending, fault_killing, fault_pending}
 use Rattle.process.proofs.HartEvents.{killing_own, pending_own}
 use Rattle.process.proofs.Places.{goes_on, hart_is, ran_fits, was_not_stuck}
-use Rattle.process.proofs.Signalled.{entry_runs, held_named, planned_fault, posted_handler}
+use Rattle.process.proofs.SignalsOfHarts.{entry_runs, held_named, planned_fault, posted_handler}
 use Rattle.process.proofs.parts.Parts.fault.Goals as goal
 
 pub overflow_add-state : goal.overflow_add-state

@@ -1,4 +1,4 @@
-use Rattle.std.proofs.Common.{◌≡◌, Some, ◌+◌, arith, refl, ap, ◌∙◌}
+use Rattle.std.proofs.Common.{Some, ◌+◌, refl, ap, ◌∙◌}
 use Rattle.mach_types.specs.declared.events.Choice.TheVariants as asked
 use Rattle.mach_types.specs.declared.events.Kind.TheVariants as kind
 use Rattle.mach_types.specs.declared.threads.ThreadState.TheVariants.{Ready}
@@ -11,10 +11,10 @@ use Rattle.process.specs.Harts.{counted}
 use Rattle.process.proofs.Entries.{uncounted_as, entry_here}
 use Rattle.process.proofs.Events.{none_beside}
 use Rattle.process.proofs.HartEvents.{preempt_own}
-use Rattle.process.proofs.Ids.{id_without_other, others_apart}
-use Rattle.process.proofs.KernelTies.{saved_left}
-use Rattle.process.proofs.Leaving.{leaving}
-use Rattle.process.proofs.NotStuck.{not_stuck}
+use Rattle.process.proofs.ConcurrencyIds.{id_without_other, others_apart}
+use Rattle.process.proofs.SavedFiles.{saved_left}
+use Rattle.process.proofs.PreemptEvent.{leaving}
+use Rattle.process.proofs.StuckProcess.{not_stuck}
 use Rattle.process.proofs.Places.{goes_on, tables_at}
 use Rattle.process.proofs.parts.Parts.left.Goals as goal
 

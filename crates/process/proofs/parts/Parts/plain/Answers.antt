@@ -15,9 +15,9 @@ use Rattle.process.specs.Stored.{IsWritten}
 use Rattle.process.proofs.Entries.{uncounted_as, entry_here}
 use Rattle.process.proofs.Events.{quietly}
 use Rattle.process.proofs.HartEvents.{plain_own}
-use Rattle.process.proofs.KernelTies.{saved_plain}
-use Rattle.process.proofs.MemoryTies.{pages_written, readable_written}
-use Rattle.process.proofs.Performing.{may_perform, performing}
+use Rattle.process.proofs.SavedFiles.{saved_plain}
+use Rattle.process.proofs.Memory.{pages_written, readable_written}
+use Rattle.process.proofs.PlainInstructions.{may_perform, performing}
 use Rattle.process.proofs.Places.{ran_fits, runs_there}
 use Rattle.process.proofs.parts.Parts.plain.Goals as goal
 

@@ -4,7 +4,7 @@ use Rattle.block_model.specs.Plain.{here_of, plain_seen}
 use Rattle.process.specs.Delivering.{next_on}
 use Rattle.process.proofs.Places.{hart_is}
 use Rattle.process.proofs.SignalEvent.{no_store, refusal_as, some_store}
-use Rattle.process.proofs.Signalled.{has_signals}
+use Rattle.process.proofs.SignalsOfHarts.{has_signals}
 use Rattle.process.proofs.parts.Parts.refusal_signal.Goals as goal
 
 pub deliverable-requires-clause-held : goal.deliverable-requires-clause-held

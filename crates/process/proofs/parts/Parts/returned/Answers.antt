@@ -1,5 +1,5 @@
 -- The barrier of a thread returns.
-use Rattle.std.proofs.Common.{◌+◌, Some, None, arith, refl, ap, ◌∙◌}
+use Rattle.std.proofs.Common.{◌+◌, Some, None, refl, ap, ◌∙◌}
 use Rattle.mach_types.specs.declared.events.Choice.TheVariants as asked
 use Rattle.mach_types.specs.declared.events.Kind.TheVariants as kind
 use Rattle.hart_state.specs.declared.hart.HartState.{HartState}
