@@ -119,15 +119,23 @@ impl Machine {
     /// affinities, the areas, the registrations for barriers and the console. The threads that have signals and affinities are those
     /// that are live.
     pub fn kernel(&self) -> &Kernel
-        ensures threads { result.now.threads.threads ≡ (kernel self.now.setting (history self.now.setting self.now.log)).threads }
+        ensures threads { result.now.threads.threads
+            ≡ (kernel self.now.setting (history self.now.setting self.now.log)).threads }
         ensures saved { AreSaved (λ t. file self.now.setting t (history self.now.setting self.now.log)) result.now.threads }
-        ensures signals { result.now.signals ≡ (kernel self.now.setting (history self.now.setting self.now.log)).signals }
-        ensures signals_held { (t : ℕ) → signals.is_held t result.now.signals ≡ is_live t result.now.threads.threads }
-        ensures scheduling { result.now.ready ≡ (kernel self.now.setting (history self.now.setting self.now.log)).scheduling }
-        ensures scheduling_held { (t : ℕ) → scheduling.is_held t result.now.ready ≡ is_live t result.now.threads.threads }
-        ensures areas { areas_by_number result.now.areas.items ≡ (kernel self.now.setting (history self.now.setting self.now.log)).areas }
-        ensures registered { result.now.registered ≡ (kernel self.now.setting (history self.now.setting self.now.log)).barriers }
-        ensures console { result.now.console ≡ (kernel self.now.setting (history self.now.setting self.now.log)).console }
+        ensures signals { result.now.signals
+            ≡ (kernel self.now.setting (history self.now.setting self.now.log)).signals }
+        ensures signals_held { (t : ℕ)
+            → signals.is_held t result.now.signals ≡ is_live t result.now.threads.threads }
+        ensures scheduling { result.now.ready
+            ≡ (kernel self.now.setting (history self.now.setting self.now.log)).scheduling }
+        ensures scheduling_held { (t : ℕ)
+            → scheduling.is_held t result.now.ready ≡ is_live t result.now.threads.threads }
+        ensures areas { areas_by_number result.now.areas.items
+            ≡ (kernel self.now.setting (history self.now.setting self.now.log)).areas }
+        ensures registered { result.now.registered
+            ≡ (kernel self.now.setting (history self.now.setting self.now.log)).barriers }
+        ensures console { result.now.console
+            ≡ (kernel self.now.setting (history self.now.setting self.now.log)).console }
     {
         &self.parts.kernel
     }

@@ -24,10 +24,10 @@ use Rattle.machine_core.specs.Machines.{IsMachine, generator_at, past_of, seen, 
 use Rattle.machine_core.specs.declared.machine.Machine.TheInside.{Inside}
 use Rattle.process.specs.declared.parts.Parts.{Parts}
 use Rattle.machine_core.specs.Credits.{seen_if}
-use Rattle.machine_core.proofs.Chosen.{IsFollowing, chosen_after, credit_after, generator_after}
+use Rattle.machine_core.proofs.ChoiceCredits.{IsFollowing, chosen_after, credit_after, generator_after}
 use Rattle.process.proofs.Laws.{same_length}
 use Rattle.machine_core.proofs.Readings.{over_read}
-use Rattle.machine_core.proofs.Stepping.{IsStep}
+use Rattle.machine_core.proofs.Steps.{IsStep}
 
 -- a run that goes on, with room for one more entry, hasn't ended
 pub not_ended : (s : Setting) (before : History) → over_at s before ≡ None → length before < s.limits.steps → has_ended s before ≡ false

@@ -22,15 +22,17 @@ use Rattle.block_model.specs.Stretches.{IsStretchOf, Stretch, advanced, appended
 use Rattle.block_model.proofs.Laws.{HasStayed, Steps, events_few, is_lent, length-history, ran_few, stays, steps_of, worked_keeps}
 use Rattle.elf_load.specs.declared.image.ImagePage.{ImagePage}
 use Rattle.process.specs.Harts.{credit_of, file_of, file_on, hart_at}
+use Rattle.process.specs.Tied.{IsPlace}
 use Rattle.machine_core.specs.Stretches.{executed, taken_in}
 use Rattle.machine_core.specs.Machines.{IsMachine, past_of, seen, setting_of}
 use Rattle.process.specs.declared.parts.Parts.{Parts}
 use Rattle.machine_core.specs.declared.machine.Machine.TheInside.{Inside}
-use Rattle.machine_core.proofs.Advanced.{all_of}
-use Rattle.machine_core.proofs.Appending.{AreAllOn, IsOnWay, all_on, own_is, settled_alike}
-use Rattle.machine_core.proofs.Chosen.{credit_read}
+use Rattle.machine_core.proofs.AdvanceAnswers.{all_of}
+use Rattle.machine_core.proofs.StretchSteps.{AreAllOn, IsOnWay, all_on, own_is, settled_alike}
+use Rattle.machine_core.proofs.ChoiceCredits.{credit_read}
 use Rattle.machine_core.proofs.Readings.{hart_read, here_read, over_read}
-use Rattle.machine_core.proofs.Settled.{IsSettled, machine_settled}
+use Rattle.machine_core.proofs.MachineCredits.{IsSettled, machine_settled}
+use Rattle.machine_core.proofs.Steps.{place_of}
 
 -- the hart of a stretch is one of the machine's
 pub of_machine : (m : Inside) (h : Hart) (l : Stretch) → IsStretchOf (setting_of m) h.0 m.log.items l → h.0 < m.limits.harts
@@ -181,3 +183,7 @@ makes m h l n machine chosen fits goes same within room =
 pub appended_is : (s : Setting) (h : ℕ) (before : History) (l : Stretch) → eqb (length l.pcs) 0 ≡ false → has_ended s before ≡ false → events h before ≡ l.events
     → appended s h before l ≡ min (length l.pcs) (s.limits.steps - length before)
 appended_is s h before l some goes same = rw (some, goes, eq-eqb (events h before) l.events same) refl
+
+-- the place of a machine whose run hasn't ended
+pub place_open : (m : Inside) (h : ℕ) → IsMachine m → has_ended (setting_of m) (past_of m) ≡ false → h < m.limits.harts → IsPlace (seen m) m.parts h
+place_open m h machine goes lt = place_of m h machine (goes_on m machine goes) (has_room m goes) lt

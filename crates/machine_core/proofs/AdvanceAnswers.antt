@@ -25,7 +25,7 @@ use Rattle.machine_core.specs.Credits.{is_picked}
 use Rattle.process.specs.Tied.{answered}
 use Rattle.machine_core.specs.Machines.{IsMachine, past_of, seen, setting_of}
 use Rattle.machine_core.specs.declared.machine.Machine.TheInside.{Inside}
-use Rattle.machine_core.proofs.Chosen.{choice_where, pick_read}
+use Rattle.machine_core.proofs.ChoiceCredits.{choice_where, pick_read}
 use Rattle.machine_core.proofs.Readings.{over_read}
 
 -- whether a log is one of choices, as it is said and as it is computed

@@ -20,7 +20,7 @@ use Rattle.block_model.proofs.Laws.{next_is_none}
 use Rattle.machine_core.specs.Advancing.{made_in}
 use Rattle.process.specs.Harts.{file_on, hart_in, id_on}
 use Rattle.machine_core.specs.Stretches.{stretch_on}
-use Rattle.machine_core.proofs.Sighted.{next_local}
+use Rattle.machine_core.proofs.Sights.{next_local}
 
 -- nothing is lent where the run has ended, or of a hart that the machine hasn't
 pub ended_lends_none : (s : Setting) (h : ℕ) (before : History) → has_ended s before ≡ true → None ≡ lent s h before

@@ -53,11 +53,11 @@ use Rattle.process.specs.declared.parts.Parts.{Parts}
 use Rattle.machine_core.specs.Credits.{credited, followed, generators_after, is_followed, is_picked}
 use Rattle.process.specs.Deeds.{entry_from}
 use Rattle.process.specs.Planned.{IsPlanned}
-use Rattle.machine_core.proofs.Chosen.{choice_where, pick_read}
+use Rattle.machine_core.proofs.ChoiceCredits.{choice_where, pick_read}
 use Rattle.process.proofs.Laws.{changed_as, entry_exec, get_set_other, get_set_same, in_list, none_beside, performing, plain_next, plain_own, runs_there, saved_plain, thread_is}
-use Rattle.machine_core.proofs.Settled.{IsSettled, mapped_itself, not_ended, settled_next, tied_with}
-use Rattle.machine_core.proofs.Sighted.{next_local}
-use Rattle.machine_core.proofs.Stepping.{stepped as stepped_by}
+use Rattle.machine_core.proofs.MachineCredits.{IsSettled, mapped_itself, not_ended, settled_next, tied_with}
+use Rattle.machine_core.proofs.Sights.{next_local}
+use Rattle.machine_core.proofs.Steps.{stepped as stepped_by}
 
 -- an instruction that sets a register and the pc, and does nothing else
 pub record IsLocal (pages : List ImagePage) (f : Saved) : Type 0 where
