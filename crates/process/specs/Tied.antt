@@ -86,7 +86,6 @@ pub record IsUncounted (v : Seen) (h : ℕ) (d : Done) (m m' : Parts) : Type 0 w
   pub room : HasEvent m'.harts.items h
   pub after : (m'' : Parts) → IsCounted h m' m'' → IsAfter v h d m m''
 
--- at each place where the choice is allowed this is its entry, and the parts are those after its event, which is yet to be counted
-pub record IsEvent (m : Parts) (h : ℕ) (c : Choice) (made : Entry) (m' : Parts) : Type 0 where
-  pub entry : (v : Seen) → IsPlace v m h → refusal_of c (here_of v h) ≡ None → made ≡ entry_in c (here_of v h)
-  pub after : (v : Seen) → IsPlace v m h → refusal_of c (here_of v h) ≡ None → IsUncounted v h (done_of c (here_of v h)) m m'
+-- at each place where the choice is allowed the parts are those after its event, which is yet to be counted
+abbrev pub IsEvent : Parts → ℕ → Choice → Parts → Type 0
+IsEvent m h c m' = (v : Seen) → IsPlace v m h → refusal_of c (here_of v h) ≡ None → IsUncounted v h (done_of c (here_of v h)) m m'

@@ -12,9 +12,9 @@ ghost use Rattle.process.specs.Losing.{lost_unless};
 ghost use Rattle.process.specs.Stored.{IsWritten};
 ghost use Rattle.process.specs.Tied.{HasPlace, IsEvent, IsPlace, MayMake};
 
-use crate::parts::{Parts, entry_of};
+use crate::parts::Parts;
 use crate::reservations::lose_others;
-use mach_types::{Choice, Entry, Hart, Kind, Store, UserMem, Why, Write};
+use mach_types::{Choice, Hart, Store, UserMem, Why, Write};
 
 impl Parts {
     /// Why no store of a hart can enter memory.
@@ -74,14 +74,12 @@ impl Parts {
     }
 
     /// The oldest waiting store of a hart enters memory.
-    pub(crate) fn drained(&mut self, hart: Hart) -> Entry
+    pub(crate) fn drained(&mut self, hart: Hart)
         requires { MayMake self.old hart.0 Choice.Drain }
-        ensures { IsEvent self.old hart.0 Choice.Drain result self.new }
+        ensures { IsEvent self.old hart.0 Choice.Drain self.new }
     {
         let state = &mut self.harts[hart.0 as usize];
-        let entry = entry_of(hart, Kind::Drain, state);
         let oldest = state.buffer.pop();
         self.enter_made(hart, oldest);
-        entry
     }
 }

@@ -49,10 +49,10 @@ impl Parts {
     }
 
     /// A fault: its signal becomes pending for the thread where it has a handler, and else the process is killed by it.
-    fn fault(&mut self, hart: Hart, signal: u8) -> Entry
+    fn fault(&mut self, hart: Hart, signal: u8)
         requires { (effect : Option Effect) × HasPlan self.old hart.0 (record { effect = effect; fault = Some signal }) }
         ensures { (effect : Option Effect)
-            → IsExecuted self.old hart.0 (record { effect = effect; fault = Some signal }) result self.new }
+            → IsExecuted self.old hart.0 (record { effect = effect; fault = Some signal }) self.new }
     {
         let state = &mut self.harts[hart.0 as usize];
         let entry = entry_of(hart, Kind::Exec, state);
@@ -62,21 +62,18 @@ impl Parts {
         } else {
             self.ended = Some(End::Killed(signal));
         }
-        entry
     }
 
     /// An instruction other than a call.
-    fn plain(&mut self, hart: Hart, effect: &Effect) -> Entry
+    fn plain(&mut self, hart: Hart, effect: &Effect)
         requires plan { HasPlan self.old hart.0 (record { effect = Some effect.now; fault = None }) }
         requires no_call { is_call effect.now ≡ false }
-        ensures { IsExecuted self.old hart.0 (record { effect = Some effect.now; fault = None }) result self.new }
+        ensures { IsExecuted self.old hart.0 (record { effect = Some effect.now; fault = None }) self.new }
     {
         let state = &mut self.harts[hart.0 as usize];
-        let entry = entry_of(hart, Kind::Exec, state);
         let made = state.execute(&self.pages, effect);
         state.ran += 1;
         self.enter_made(hart, made);
-        entry
     }
 
     /// How the run has ended after a call: the call ended the process, or a thread is live and none can go on.
@@ -91,24 +88,22 @@ impl Parts {
     }
 
     /// A call inside a restartable sequence: the process is killed, and the hart's reservation ends.
-    fn call_inside(&mut self, hart: Hart) -> Entry
+    fn call_inside(&mut self, hart: Hart)
         requires plan { HasPlan self.old hart.0 (record { effect = Some Effect.Call; fault = None }) }
         requires inside { IsInside true self.old hart.0 }
-        ensures { IsExecuted self.old hart.0 (record { effect = Some Effect.Call; fault = None }) result self.new }
+        ensures { IsExecuted self.old hart.0 (record { effect = Some Effect.Call; fault = None }) self.new }
     {
         let state = &mut self.harts[hart.0 as usize];
-        let entry = entry_of(hart, Kind::Exec, state);
         state.reserved = None;
         state.ran += 1;
         self.ended = Some(End::Killed(SIGSEGV));
-        entry
     }
 
     /// A call outside.
-    fn call_outside(&mut self, hart: Hart) -> Entry
+    fn call_outside(&mut self, hart: Hart)
         requires plan { HasPlan self.old hart.0 (record { effect = Some Effect.Call; fault = None }) }
         requires outside { IsInside false self.old hart.0 }
-        ensures { IsExecuted self.old hart.0 (record { effect = Some Effect.Call; fault = None }) result self.new }
+        ensures { IsExecuted self.old hart.0 (record { effect = Some Effect.Call; fault = None }) self.new }
     {
         let harts = self.harts.len() as u8;
         let running = self.busy_harts();
@@ -134,14 +129,13 @@ impl Parts {
         self.lose(hart, done.written.as_slice());
         self.ask(hart, done.end);
         self.ended = self.end_after(done.end);
-        entry
     }
 
     /// A call.
     #[inline(never)]
-    fn call(&mut self, hart: Hart) -> Entry
+    fn call(&mut self, hart: Hart)
         requires { HasPlan self.old hart.0 (record { effect = Some Effect.Call; fault = None }) }
-        ensures { IsExecuted self.old hart.0 (record { effect = Some Effect.Call; fault = None }) result self.new }
+        ensures { IsExecuted self.old hart.0 (record { effect = Some Effect.Call; fault = None }) self.new }
     {
         if self.is_inside(hart) {
             self.call_inside(hart)
@@ -151,9 +145,9 @@ impl Parts {
     }
 
     /// The next instruction of the thread on a hart.
-    fn execute(&mut self, hart: Hart, next: Next) -> Entry
+    fn execute(&mut self, hart: Hart, next: Next)
         requires { HasPlan self.old hart.0 next }
-        ensures { IsExecuted self.old hart.0 next result self.new }
+        ensures { IsExecuted self.old hart.0 next self.new }
     {
         match (next.fault, next.effect) {
             (Some(signal), _) => self.fault(hart, signal),
@@ -173,7 +167,11 @@ impl Parts {
         ensures err { OnErr result (self.new ≡ self.old) }
     {
         match self.planned(code, hart) {
-            Ok(next) => Ok(self.execute(hart, next)),
+            Ok(next) => {
+                let made = self.entry(hart, Choice::Exec);
+                self.execute(hart, next);
+                Ok(made)
+            }
             Err(why) => Err(why),
         }
     }

@@ -12,10 +12,10 @@ ghost use Rattle.process.specs.Barriers.{IsRestarted, asked_by, ended_by, is_bus
 ghost use Rattle.process.specs.Beginning.{HasHart};
 ghost use Rattle.process.specs.Tied.{HasPlace, IsEvent, IsPlace, MayMake};
 
-use crate::parts::{Parts, entry_of};
+use crate::parts::Parts;
 use crate::requests::{ask_all, notice_all, running_harts, take_requests};
 use mach_types::signals::SIGSEGV;
-use mach_types::{Choice, End, Entry, Hart, Kind, Outcome, Why};
+use mach_types::{Choice, End, Hart, Outcome, Why};
 use sys_calls::{CallEnd, area_of};
 
 /// The register of a call's answer.
@@ -96,14 +96,12 @@ impl Parts {
     }
 
     /// A hart takes its requests.
-    pub(crate) fn taken(&mut self, hart: Hart) -> Entry
+    pub(crate) fn taken(&mut self, hart: Hart)
         requires { MayMake self.old hart.0 Choice.Take }
-        ensures { IsEvent self.old hart.0 Choice.Take result self.new }
+        ensures { IsEvent self.old hart.0 Choice.Take self.new }
     {
-        let entry = entry_of(hart, Kind::Take, &self.harts[hart.0 as usize]);
         let came = self.restarted(hart);
         self.end_take(hart, came);
-        entry
     }
 
     /// Why no barrier of the thread on a hart can return.
@@ -122,15 +120,13 @@ impl Parts {
     }
 
     /// The barrier of the thread on a hart returns.
-    pub(crate) fn returned(&mut self, hart: Hart) -> Entry
+    pub(crate) fn returned(&mut self, hart: Hart)
         requires { MayMake self.old hart.0 Choice.Done }
-        ensures { IsEvent self.old hart.0 Choice.Done result self.new }
+        ensures { IsEvent self.old hart.0 Choice.Done self.new }
     {
         let state = &mut self.harts[hart.0 as usize];
-        let entry = entry_of(hart, Kind::Done, state);
         state.file.set(A0, 0);
         state.waits = None;
         state.reserved = None;
-        entry
     }
 }

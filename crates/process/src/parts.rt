@@ -109,15 +109,19 @@ impl Parts {
         }
         match self.refusal(code, hart, choice) {
             Some(why) => Err(why),
-            None => Ok(self.event(hart, choice)),
+            None => {
+                let made = self.entry(hart, choice);
+                self.event(hart, choice);
+                Ok(made)
+            }
         }
     }
 
     /// The event of a choice other than `exec` that is allowed on a hart, but for its count.
-    fn event(&mut self, hart: Hart, choice: Choice) -> Entry
+    fn event(&mut self, hart: Hart, choice: Choice)
         requires free { MayMake self.old hart.0 choice }
         requires other { choice ≢ Choice.Exec }
-        ensures { IsEvent self.old hart.0 choice result self.new }
+        ensures { IsEvent self.old hart.0 choice self.new }
     {
         match choice {
             Choice::Exec => unreachable!(),
@@ -165,7 +169,7 @@ impl Parts {
     }
 
     /// The entry of a choice on a hart that is allowed.
-    fn entry(&self, hart: Hart, choice: Choice) -> Entry
+    pub(crate) fn entry(&self, hart: Hart, choice: Choice) -> Entry
         requires { MayMake self.now hart.0 choice }
         ensures { (v : Seen) → IsPlace v self.now hart.0 → result ≡ entry_in choice (here_of v hart.0) }
     {

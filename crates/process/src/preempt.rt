@@ -7,7 +7,7 @@ ghost use Rattle.block_model.specs.Plain.{here_of};
 ghost use Rattle.process.specs.Tied.{HasPlace, IsEvent, IsPlace, MayMake};
 
 use crate::parts::{Parts, entry_of};
-use mach_types::{Choice, Entry, Hart, Kind, Why};
+use mach_types::{Choice, Hart, Kind, Why};
 
 impl Parts {
     /// Why the thread on a hart can't leave it.
@@ -29,15 +29,14 @@ impl Parts {
     }
 
     /// The thread on a hart leaves it, and is the last ready one.
-    pub(crate) fn left(&mut self, hart: Hart) -> Entry
+    pub(crate) fn left(&mut self, hart: Hart)
         requires { MayMake self.old hart.0 Choice.Preempt }
-        ensures { IsEvent self.old hart.0 Choice.Preempt result self.new }
+        ensures { IsEvent self.old hart.0 Choice.Preempt self.new }
     {
         let state = &mut self.harts[hart.0 as usize];
         let entry = entry_of(hart, Kind::Preempt, state);
         let saved = state.leave();
         self.kernel.threads.leave(entry.tid, saved);
         self.kernel.ready.push(entry.tid);
-        entry
     }
 }

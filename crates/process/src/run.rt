@@ -31,7 +31,7 @@ use crate::parts::Parts;
 use hart_state::HartState;
 use mach_types::sequences::{CPU_ID, MM_CID, NODE_ID};
 use mach_types::signals::SIGSEGV;
-use mach_types::{Area, Choice, End, Entry, Hart, Kind, Outcome, Saved, Store, Tid, Why, Write};
+use mach_types::{Area, Choice, End, Hart, Outcome, Saved, Store, Tid, Why, Write};
 use rseq_area::{lowest_cid, set_cpu};
 use sys_calls::area_of;
 
@@ -196,24 +196,17 @@ impl Parts {
     }
 
     /// A ready thread begins to run on an idle hart.
-    pub(crate) fn begun(&mut self, hart: Hart, tid: Tid) -> Entry
+    pub(crate) fn begun(&mut self, hart: Hart, tid: Tid)
         requires { MayMake self.old hart.0 (Choice.Run tid) }
-        ensures { IsEvent self.old hart.0 (Choice.Run tid) result self.new }
+        ensures { IsEvent self.old hart.0 (Choice.Run tid) self.new }
     {
         let area = area_of(&self.kernel, tid);
         let id = self.next_id();
         let mut saved = self.kernel.threads.run(tid, hart);
-        let entry = Entry {
-            hart,
-            kind: Kind::Run,
-            tid,
-            pc: saved.pc,
-        };
         if self.readied(hart, area, &mut saved, id) {
             self.take_up(hart, tid, saved, id);
         } else {
             self.kill(hart, tid, saved);
         }
-        entry
     }
 }

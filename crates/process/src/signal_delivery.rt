@@ -19,7 +19,7 @@ use crate::handlers::is_handler;
 use crate::interrupt::pc_after;
 use crate::parts::{Parts, entry_of};
 use mach_types::signals::{SIGNAL_FRAME_SIZE, SIGSEGV};
-use mach_types::{Choice, End, Entry, Hart, Kind, Outcome, Saved, Tid, Why, Write};
+use mach_types::{Choice, End, Hart, Kind, Outcome, Saved, Tid, Why, Write};
 use signals::{Signals, next_signal_is_the_lowest};
 use sys_calls::area_of;
 
@@ -183,9 +183,9 @@ impl Parts {
     }
 
     /// The signal that can be delivered to the thread on a hart is.
-    pub(crate) fn delivered(&mut self, hart: Hart) -> Entry
+    pub(crate) fn delivered(&mut self, hart: Hart)
         requires { MayMake self.old hart.0 Choice.Signal }
-        ensures { IsEvent self.old hart.0 Choice.Signal result self.new }
+        ensures { IsEvent self.old hart.0 Choice.Signal self.new }
     {
         next_signal_is_the_lowest();
         let state = &self.harts[hart.0 as usize];
@@ -199,6 +199,5 @@ impl Parts {
         };
         let killer = self.handled(hart, entry.tid, signal, &mut saved);
         self.go_on(hart, saved, killer);
-        entry
     }
 }

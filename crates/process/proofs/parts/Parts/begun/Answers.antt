@@ -1,4 +1,4 @@
-use Rattle.std.proofs.Common.{◌≡◌, refl, sym, ap, ◌∙◌, subst}
+use Rattle.std.proofs.Common.{◌≡◌, ap, ◌∙◌, subst}
 use Rattle.mach_types.specs.Kernel.Areas.{lowest_cid}
 use Rattle.mach_types.specs.Kernel.Scheduling.{without_ready}
 use Rattle.mach_types.specs.Kernel.Threads.{state_of}
@@ -53,41 +53,35 @@ kill-requires-clause-runs c =
     )
 
 pub returns-then-readied : goal.returns-then-readied
-returns-then-readied c = record {
-  entry = λ v place free. rw (place.tied.saved c.args.tid.0 c.run-saved.result (sym c.run-saved.ensures.answer)) refl;
-  after = λ v place free.
-      let m = c.args.self.now in
-      let h = c.args.hart in
-      let t = c.args.tid in
-      let m1 = c.readied.new.self in
-      let m2 = c.take_up.new.self in
-      let is = subst (λ b. IsReadied (here_of v h.0) t.0 b c.readied.new.saved m m1) c.if-readied.true
-      (readied v m h t place free _ c.area_of-area.result c.next_id-id.result c.run-saved.result c.readied.new.saved c.readied.result m1
-      c.area_of-area.ensures c.next_id-id.ensures c.run-saved.ensures.answer (c.readied.ensures.readied (here_of v h.0) t.0)) in
-      let its : c.next_id-id.result ≡ next_id (plain_seen v).kernel.ids = c.next_id-id.ensures ∙ ap lowest_cid (held_here v m h.0 place) in
-      begun_running v m h t place free m1 m2 c.readied.new.saved c.next_id-id.result c.run-saved.new.self m2.kernel.ready is its c.take_up.ensures.harts c.take_up.ensures.pages
-      (c.take_up.ensures.others ∙ ap (λ (k : Kernel). record k { ready = m2.kernel.ready }) c.readied.ensures.kernel)
-      c.run-saved.ensures.threads c.run-saved.ensures.saved c.run-saved.ensures.table
-      (c.take_up.ensures.ready ∙ ap (λ (k : Kernel). without_ready t.0 k.ready) c.readied.ensures.kernel)
-      (c.take_up.ensures.ended ∙ c.readied.ensures.ended);
-}
+returns-then-readied c v place free =
+    let m = c.args.self.now in
+    let h = c.args.hart in
+    let t = c.args.tid in
+    let m1 = c.readied.new.self in
+    let m2 = c.take_up.new.self in
+    let is = subst (λ b. IsReadied (here_of v h.0) t.0 b c.readied.new.saved m m1) c.if-readied.true
+    (readied v m h t place free _ c.area_of-area.result c.next_id-id.result c.run-saved.result c.readied.new.saved c.readied.result m1
+    c.area_of-area.ensures c.next_id-id.ensures c.run-saved.ensures.answer (c.readied.ensures.readied (here_of v h.0) t.0)) in
+    let its : c.next_id-id.result ≡ next_id (plain_seen v).kernel.ids = c.next_id-id.ensures ∙ ap lowest_cid (held_here v m h.0 place) in
+    begun_running v m h t place free m1 m2 c.readied.new.saved c.next_id-id.result c.run-saved.new.self m2.kernel.ready is its c.take_up.ensures.harts c.take_up.ensures.pages
+    (c.take_up.ensures.others ∙ ap (λ (k : Kernel). record k { ready = m2.kernel.ready }) c.readied.ensures.kernel)
+    c.run-saved.ensures.threads c.run-saved.ensures.saved c.run-saved.ensures.table
+    (c.take_up.ensures.ready ∙ ap (λ (k : Kernel). without_ready t.0 k.ready) c.readied.ensures.kernel)
+    (c.take_up.ensures.ended ∙ c.readied.ensures.ended)
 
 pub returns-else-readied : goal.returns-else-readied
-returns-else-readied c = record {
-  entry = λ v place free. rw (place.tied.saved c.args.tid.0 c.run-saved.result (sym c.run-saved.ensures.answer)) refl;
-  after = λ v place free.
-      let m = c.args.self.now in
-      let h = c.args.hart in
-      let t = c.args.tid in
-      let m1 = c.readied.new.self in
-      let m2 = c.kill.new.self in
-      let is = subst (λ b. IsReadied (here_of v h.0) t.0 b c.readied.new.saved m m1) c.if-readied.false
-      (readied v m h t place free _ c.area_of-area.result c.next_id-id.result c.run-saved.result c.readied.new.saved c.readied.result m1
-      c.area_of-area.ensures c.next_id-id.ensures c.run-saved.ensures.answer (c.readied.ensures.readied (here_of v h.0) t.0)) in
-      let threads : m1.kernel.threads ≡ c.run-saved.new.self = ap (λ (k : Kernel). k.threads) c.readied.ensures.kernel in
-      begun_killed v m h t place free m1 m2 c.readied.new.saved m1.kernel.threads is c.kill.ensures.harts c.kill.ensures.pages
-      (ap (λ (x : Table). x.threads) threads ∙ c.run-saved.ensures.threads) (ap (λ (x : Table). x.saved) threads ∙ c.run-saved.ensures.saved)
-      c.kill.ensures.threads c.kill.ensures.saved c.kill.ensures.table
-      (c.kill.ensures.others ∙ ap (λ (k : Kernel). record k { threads = m2.kernel.threads }) c.readied.ensures.kernel)
-      c.kill.ensures.ended;
-}
+returns-else-readied c v place free =
+    let m = c.args.self.now in
+    let h = c.args.hart in
+    let t = c.args.tid in
+    let m1 = c.readied.new.self in
+    let m2 = c.kill.new.self in
+    let is = subst (λ b. IsReadied (here_of v h.0) t.0 b c.readied.new.saved m m1) c.if-readied.false
+    (readied v m h t place free _ c.area_of-area.result c.next_id-id.result c.run-saved.result c.readied.new.saved c.readied.result m1
+    c.area_of-area.ensures c.next_id-id.ensures c.run-saved.ensures.answer (c.readied.ensures.readied (here_of v h.0) t.0)) in
+    let threads : m1.kernel.threads ≡ c.run-saved.new.self = ap (λ (k : Kernel). k.threads) c.readied.ensures.kernel in
+    begun_killed v m h t place free m1 m2 c.readied.new.saved m1.kernel.threads is c.kill.ensures.harts c.kill.ensures.pages
+    (ap (λ (x : Table). x.threads) threads ∙ c.run-saved.ensures.threads) (ap (λ (x : Table). x.saved) threads ∙ c.run-saved.ensures.saved)
+    c.kill.ensures.threads c.kill.ensures.saved c.kill.ensures.table
+    (c.kill.ensures.others ∙ ap (λ (k : Kernel). record k { threads = m2.kernel.threads }) c.readied.ensures.kernel)
+    c.kill.ensures.ended

@@ -3,7 +3,6 @@ use Rattle.std.proofs.Common.{ap, ◌∙◌}
 use Rattle.mach_types.specs.declared.events.Kind.TheVariants as kind
 use Rattle.block_model.specs.Plain.{here_of, plain_seen}
 use Rattle.process.specs.Delivering.{done_here, ended_unless}
-use Rattle.process.proofs.Entries.{entry_here}
 use Rattle.process.proofs.Places.{hart_is, still_there}
 use Rattle.process.proofs.SignalEvent.{delivered_event, interrupted_there, receiving, same_signal}
 use Rattle.process.proofs.SignalsOfHarts.{entry_runs, has_signals, held_named}
@@ -35,23 +34,20 @@ go_on-requires c =
     (c.handled-killer.ensures.delivered (here_of v h.0) (interrupted_there v m h place c.requires.free is x c.entry_of-entry.result.tid.0 named (hart_is v m h.0 x place c.index-state.ensures))).harts
 
 pub returns : goal.returns
-returns c = record {
-  entry = λ v place free. c.entry_of-entry.ensures ∙ entry_here v c.args.self.now c.args.hart kind.Signal c.index-state.result.now place c.index-state.ensures;
-  after = λ v place free.
-      let m = c.args.self.now in
-      let h = c.args.hart in
-      let x = c.index-state.result.now in
-      let is = receiving (here_of v h.0) free in
-      let t = c.entry_of-entry.result.tid.0 in
-      let named = entry_runs v m h kind.Signal is.thread x c.entry_of-entry.result place is.at c.index-state.ensures c.entry_of-entry.ensures in
-      let same = same_signal v m h place free is c.deliverable.result c.in-Some.signal (c.deliverable.ensures v.setting (plain_seen v) place.tied place.lt) c.in-Some.is in
-      let made = c.handled-killer.ensures.delivered (here_of v h.0) (interrupted_there v m h place free is x t named (hart_is v m h.0 x place c.index-state.ensures)) in
-      delivered_event v m h place free is t c.in-Some.signal named same c.handled-killer.result c.handled-killer.new.saved c.handled-killer.new.self c.go_on.new.self (record {
-        made = made;
-        changed = c.go_on.ensures.harts;
-        same_pages = c.go_on.ensures.pages;
-        same_kernel = c.go_on.ensures.kernel;
-        others = c.handled-killer.ensures.others;
-        ended = c.go_on.ensures.ended ∙ ap (ended_unless c.handled-killer.result) c.handled-killer.ensures.ended;
-      });
-}
+returns c v place free =
+    let m = c.args.self.now in
+    let h = c.args.hart in
+    let x = c.index-state.result.now in
+    let is = receiving (here_of v h.0) free in
+    let t = c.entry_of-entry.result.tid.0 in
+    let named = entry_runs v m h kind.Signal is.thread x c.entry_of-entry.result place is.at c.index-state.ensures c.entry_of-entry.ensures in
+    let same = same_signal v m h place free is c.deliverable.result c.in-Some.signal (c.deliverable.ensures v.setting (plain_seen v) place.tied place.lt) c.in-Some.is in
+    let made = c.handled-killer.ensures.delivered (here_of v h.0) (interrupted_there v m h place free is x t named (hart_is v m h.0 x place c.index-state.ensures)) in
+    delivered_event v m h place free is t c.in-Some.signal named same c.handled-killer.result c.handled-killer.new.saved c.handled-killer.new.self c.go_on.new.self (record {
+      made = made;
+      changed = c.go_on.ensures.harts;
+      same_pages = c.go_on.ensures.pages;
+      same_kernel = c.go_on.ensures.kernel;
+      others = c.handled-killer.ensures.others;
+      ended = c.go_on.ensures.ended ∙ ap (ended_unless c.handled-killer.result) c.handled-killer.ensures.ended;
+    })

@@ -2,7 +2,6 @@ use Rattle.std.proofs.Common.{◌≡◌, refl, [], ◌+◌, List, ◌∷◌, eqb
 use Rattle.std.specs.Option.{option_map}
 use Rattle.mach_types.specs.Bytes.{all_stored}
 use Rattle.mach_types.specs.declared.events.Choice.TheVariants as asked
-use Rattle.mach_types.specs.declared.events.Kind.TheVariants as kind
 use Rattle.mach_types.specs.declared.user_memory.Store.{Store}
 use Rattle.mach_types.specs.declared.user_memory.Write.TheVariants.{Stored}
 use Rattle.hart_state.specs.State.{stores}
@@ -13,7 +12,7 @@ use Rattle.process.specs.Harts.{counted}
 use Rattle.process.specs.Losing.{lost_unless}
 use Rattle.process.specs.Stored.{IsWritten}
 use Rattle.process.proofs.DrainEvent.{can_enter}
-use Rattle.process.proofs.Entries.{uncounted_as, entry_here, oldest}
+use Rattle.process.proofs.Entries.{uncounted_as, oldest}
 use Rattle.process.proofs.Events.{quietly}
 use Rattle.process.proofs.HartEvents.{drain_own}
 use Rattle.process.proofs.Memory.{pages_written, readable_written}
@@ -25,31 +24,28 @@ enter_made-requires-clause-writable c =
     can_enter c.requires.seen c.args.self.now c.args.hart.0 c.index_mut-state.result.now c.pop-oldest.result c.requires.place c.index_mut-state.ensures.value c.pop-oldest.ensures.oldest
 
 pub returns : goal.returns
-returns c = record {
-  entry = λ v place free. c.entry_of-entry.ensures ∙ entry_here v c.args.self.now c.args.hart kind.Drain c.index_mut-state.result.now place c.index_mut-state.ensures.value;
-  after = λ v place free.
-      let h = c.args.hart.0 in
-      let m = c.args.self.now in
-      let x = c.index_mut-state.result.now in
-      let here = here_of v h in
-      let p = plain_seen v in
-      let m' = c.enter_made.new.self in
-      let own = hart_is v m h x place c.index_mut-state.ensures.value in
-      let first = oldest here free in
-      let w = first.0 in
-      let made : stores c.pop-oldest.result ≡ w ∷ [] = ap stores (c.pop-oldest.ensures.oldest ∙ ap (λ (z : HartState). slice_get z.buffer 0) own ∙ ap (λ (ws : List Store). slice_get ws 0) first.1.1) in
-      let wrote : IsWritten (Stored w ∷ []) m.pages m'.pages = subst (λ (ws : List Store). IsWritten (all_stored ws) m.pages m'.pages) made c.enter_made.ensures.pages in
-      let y : HartState = record x { buffer = c.pop-oldest.new.self } in
-      uncounted_as v h asked.Drain (done_drain_of here (w ∷ first.1.0)) m m' y place free (ap (done_drain_of here) first.1.1) (record {
-        own = drain_own _ v.setting p h w first.1.0 x (counted y) own (ap (λ (ws : List Store). let z : HartState = record x { buffer = ws; events = x.events + 1 } in z) c.pop-oldest.ensures.rest);
-        harts = quietly h (done_drain_of here (w ∷ first.1.0)) (set m.harts.items h y) m'.harts.items (record { none_begun = refl; none_taken = refl })
-            (λ k. c.enter_made.ensures.harts k ∙ ap (λ (ws : List Store). option_map (lost_unless (eqb k h) (all_stored ws)) (slice_get (set m.harts.items h y) k)) made);
-        pages = pages_written p.kernel.pages v.setting.program.break_at p.byte (Stored w ∷ []) m.pages m'.pages place.tied.pages wrote;
-        readable = readable_written (Stored w ∷ []) m.pages m'.pages place.tied.readable wrote;
-        tables = rw c.enter_made.ensures.kernel place.tied.tables;
-        ids = λ k u ne runs. refl;
-        table = rw c.enter_made.ensures.kernel place.tied.table;
-        saved = rw c.enter_made.ensures.kernel place.tied.saved;
-        ended = c.enter_made.ensures.ended ∙ goes_on v m h p.kernel place (was_not_stuck v m h place);
-      });
-}
+returns c v place free =
+    let h = c.args.hart.0 in
+    let m = c.args.self.now in
+    let x = c.index_mut-state.result.now in
+    let here = here_of v h in
+    let p = plain_seen v in
+    let m' = c.enter_made.new.self in
+    let own = hart_is v m h x place c.index_mut-state.ensures.value in
+    let first = oldest here free in
+    let w = first.0 in
+    let made : stores c.pop-oldest.result ≡ w ∷ [] = ap stores (c.pop-oldest.ensures.oldest ∙ ap (λ (z : HartState). slice_get z.buffer 0) own ∙ ap (λ (ws : List Store). slice_get ws 0) first.1.1) in
+    let wrote : IsWritten (Stored w ∷ []) m.pages m'.pages = subst (λ (ws : List Store). IsWritten (all_stored ws) m.pages m'.pages) made c.enter_made.ensures.pages in
+    let y : HartState = record x { buffer = c.pop-oldest.new.self } in
+    uncounted_as v h asked.Drain (done_drain_of here (w ∷ first.1.0)) m m' y place free (ap (done_drain_of here) first.1.1) (record {
+      own = drain_own _ v.setting p h w first.1.0 x (counted y) own (ap (λ (ws : List Store). let z : HartState = record x { buffer = ws; events = x.events + 1 } in z) c.pop-oldest.ensures.rest);
+      harts = quietly h (done_drain_of here (w ∷ first.1.0)) (set m.harts.items h y) m'.harts.items (record { none_begun = refl; none_taken = refl })
+          (λ k. c.enter_made.ensures.harts k ∙ ap (λ (ws : List Store). option_map (lost_unless (eqb k h) (all_stored ws)) (slice_get (set m.harts.items h y) k)) made);
+      pages = pages_written p.kernel.pages v.setting.program.break_at p.byte (Stored w ∷ []) m.pages m'.pages place.tied.pages wrote;
+      readable = readable_written (Stored w ∷ []) m.pages m'.pages place.tied.readable wrote;
+      tables = rw c.enter_made.ensures.kernel place.tied.tables;
+      ids = λ k u ne runs. refl;
+      table = rw c.enter_made.ensures.kernel place.tied.table;
+      saved = rw c.enter_made.ensures.kernel place.tied.saved;
+      ended = c.enter_made.ensures.ended ∙ goes_on v m h p.kernel place (was_not_stuck v m h place);
+    })

@@ -1,10 +1,8 @@
 -- A hart takes its requests.
 use Rattle.std.proofs.Common.{ap, ◌∙◌}
-use Rattle.mach_types.specs.declared.events.Kind.TheVariants as kind
 use Rattle.block_model.specs.Events.Take.{done_take}
 use Rattle.block_model.specs.Plain.{here_of}
 use Rattle.process.specs.Barriers.{ended_by}
-use Rattle.process.proofs.Entries.{entry_here}
 use Rattle.process.proofs.Places.{still_there}
 use Rattle.process.proofs.TakeEvent.{taken_event}
 use Rattle.process.proofs.parts.Parts.taken.Goals as goal
@@ -16,13 +14,10 @@ end_take-requires-clause-listed c =
     still_there v c.args.self.now c.args.hart.0 (done_take (here_of v c.args.hart.0)).entered c.restarted-came.new.self.harts.items place (c.restarted-came.ensures.restarted v place).harts
 
 pub returns : goal.returns
-returns c = record {
-  entry = λ v place free. c.entry_of-entry.ensures ∙ entry_here v c.args.self.now c.args.hart kind.Take c.index.result.now place c.index.ensures;
-  after = λ v place free. taken_event v c.args.self.now c.args.hart place free c.restarted-came.result c.restarted-came.new.self c.end_take.new.self (record {
-    restarted = c.restarted-came.ensures.restarted v place;
-    harts = c.end_take.ensures.harts;
-    same_pages = c.end_take.ensures.pages;
-    same_kernel = c.end_take.ensures.kernel ∙ c.restarted-came.ensures.kernel;
-    ended = c.end_take.ensures.ended ∙ ap (ended_by c.restarted-came.result) c.restarted-came.ensures.ended;
-  });
-}
+returns c v place free = taken_event v c.args.self.now c.args.hart place free c.restarted-came.result c.restarted-came.new.self c.end_take.new.self (record {
+  restarted = c.restarted-came.ensures.restarted v place;
+  harts = c.end_take.ensures.harts;
+  same_pages = c.end_take.ensures.pages;
+  same_kernel = c.end_take.ensures.kernel ∙ c.restarted-came.ensures.kernel;
+  ended = c.end_take.ensures.ended ∙ ap (ended_by c.restarted-came.result) c.restarted-came.ensures.ended;
+})
