@@ -4,18 +4,16 @@ use Rattle.std.proofs.Common.{◌≡◌, ◌≢◌, ℕ, ◌+◌, ◌&&◌, Bool
 use Rattle.std.proofs.lemmas.Bool.{cases_eq, eqb-true, false≢true, ne_eqb}
 use Rattle.std.specs.Option.{option_map, option_map_or}
 use Rattle.mach_types.proofs.Laws.{state_of-with_child_other, state_of-with_child_same, state_of-with_clear, state_of-without_other, state_of-without_same}
-use Rattle.mach_types.specs.Kernel.Scheduling.{Scheduling}
 use Rattle.mach_types.specs.Kernel.SignalFrames.{entered_action, handler_mask, restored_mask, returned}
 use Rattle.mach_types.specs.Kernel.Signals.{Signalling, acted, action_of, all_signals, dropped, forget, has_signal, is_ignored, is_of, joined, less, mask_of, new_thread, next_for, only, posted, set_action, with_mask, with_pending, with_thread, without_pending, without_signal}
-use Rattle.mach_types.specs.Kernel.Threads.{IsThreads, Threads, is_waiting_state, running_on, state_of, waits, with_child, with_clear, with_state, without}
+use Rattle.mach_types.specs.Kernel.Threads.{IsThreads, Threads, is_waiting_state, state_of, waits, with_child, with_clear, with_state, without}
 use Rattle.mach_types.specs.declared.signal_words.Action.{Action}
 use Rattle.mach_types.specs.declared.signal_words.ThreadSignals.{ThreadSignals}
 use Rattle.mach_types.specs.declared.threads.ThreadState.{ThreadState}
 use Rattle.mach_types.specs.declared.threads.ThreadState.TheVariants.{Ready, Waiting}
 use Rattle.block_model.specs.Events.Signal.{signals_handled}
-use Rattle.block_model.specs.Tables.{IsTables, on}
 use Rattle.block_model.proofs.Heeded.{less_before}
-use Rattle.block_model.proofs.KernelTables.{running_is, state_moved}
+use Rattle.block_model.proofs.KernelTables.{state_moved}
 
 abbrev pub AreCalm : Threads → Signalling → Type 0
 AreCalm ts g = (u : ℕ) → waits ts u → next_for u g ≡ None
@@ -59,13 +57,6 @@ waited_beside u ts threads is = elim (cases_eq u (ts.given + 1)) [
       absurd cc
   | inr other ↦ (other, (is.0, sym (state_of-with_child_other u ts other) ∙ is.1))
 ]
-
--- who waits doesn't run
-pub waits_elsewhere : (harts h t u : ℕ) (ts : Threads) (sc : Scheduling) → IsTables harts ts sc → running_on h ts ≡ Some t → waits ts u → u ≢ t
-waits_elsewhere harts h t u ts sc tables runs is same =
-    let run : state_of t ts ≡ Some (on h) = running_is harts h t ts sc tables runs in
-    let no : Some (on h) ≡ Some (Waiting is.0) = sym run ∙ ap (λ n. state_of n ts) (sym same) ∙ is.1 in
-    cc
 
 -- WHAT CAN BE DELIVERED
 

@@ -21,10 +21,11 @@ use Rattle.block_model.specs.Setting.{Setting}
 use Rattle.block_model.specs.Tables.{IsTables}
 use Rattle.block_model.proofs.CallDeeds.{Answers, Bears, Breaks, CallDeed, Clears, Exits, Leaves, MovesOff, Resumes, Signalled, TableStep, Waits, Wakes}
 use Rattle.block_model.proofs.CallDeeds.Table.{deed_called}
-use Rattle.block_model.proofs.Calm.{AreCalm, next_born, next_gone, next_handled, next_pending, next_returned, next_taken, waited_before, waited_beside, waited_or_own, waited_other, waited_uncleared, waited_with, waits_elsewhere}
+use Rattle.block_model.proofs.Calm.{AreCalm, next_born, next_gone, next_handled, next_pending, next_returned, next_taken, waited_before, waited_beside, waited_or_own, waited_other, waited_uncleared, waited_with}
 use Rattle.block_model.proofs.EventDeeds.{Calls, EventDeed, Faults, Handles, Preempts, Runs, SignalKills, deed_of}
 use Rattle.block_model.proofs.Goods.Calls.Futexes.{wake_keeps}
 use Rattle.block_model.proofs.Runs.{settled}
+use Rattle.block_model.proofs.KernelTables.{waits_elsewhere}
 
 abbrev pub IsCalm : Kernel → Type 0
 IsCalm k = AreCalm k.threads k.signals

@@ -3,15 +3,15 @@
 use Rattle.std.proofs.Common.{ℕ, ◌+◌, ◌<◌, ◌≤◌, ◌≡◌, ◌≢◌, ◌||◌, ◌⊎◌, Bool, true, false, not, cond, eqb, List, [], ◌∷◌, ◌++◌, length, map, filter, find, Option, Some, None, is_some, refl, sym, ap, ◌∙◌, inl, inr, arith}
 use Rattle.std.specs.List.{list_any}
 use Rattle.std.specs.Option.{option_map}
-use Rattle.std.proofs.lemmas.Bool.{eqb-true, false≢true}
+use Rattle.std.proofs.lemmas.Bool.{eqb-true, false≢true, cases_lt}
 use Rattle.std.proofs.lemmas.Bool.Decides.{eqb_tells}
-use Rattle.std.proofs.lemmas.List.{map_push}
+use Rattle.std.proofs.lemmas.List.{map_push, length-map}
 use Rattle.mach_types.proofs.Laws.{map_filters, next_is_new, same_clear_numbers, same_numbers, state_of-with_child_other, state_of-with_child_same, state_of-with_clear, state_of-with_state_other, state_of-with_state_same, state_of-without_other, state_of-without_same, times_cons, times_push}
 use Rattle.mach_types.specs.Kernel.Areas.{area_of, is_area_of, with_area, without_area}
 use Rattle.mach_types.specs.Kernel.Pages.{Pages}
 use Rattle.mach_types.specs.Kernel.Signals as signals
 use Rattle.mach_types.specs.Kernel.Signals.{Signalling, mask_of}
-use Rattle.mach_types.specs.Kernel.Threads.{IsThreads, Thread, Threads, is_live, is_running_state, new_thread, state_of, thread_of, times, waits, with_child, with_state, without}
+use Rattle.mach_types.specs.Kernel.Threads.{IsThreads, Thread, Threads, is_live, is_running_state, new_thread, state_of, thread_of, times, waits, with_child, with_state, without, numbers}
 use Rattle.mach_types.specs.declared.barriers.Registered.{Registered}
 use Rattle.mach_types.specs.declared.sequences.Area.{Area}
 use Rattle.mach_types.specs.declared.signal_words.ThreadSignals.{ThreadSignals}
@@ -22,9 +22,10 @@ use Rattle.block_model.specs.Record.{Kernel}
 use Rattle.block_model.specs.Setting.{Setting}
 use Rattle.block_model.specs.Tables.{AreOfLive, AreSignalsOfLive, on}
 use Rattle.block_model.specs.Ids.{AreIdsApart}
-use Rattle.block_model.proofs.KernelTables.{once}
+use Rattle.block_model.proofs.KernelTables.{once, any_of}
 use Rattle.block_model.proofs.SignalSteps.{KeepsThreads}
-use Rattle.block_model.proofs.Ids.{filtered_less, ids_ran, ids_same, ids_start, ids_stopped, is_run, its_run}
+use Rattle.block_model.proofs.Ids.{filtered_less, ids_ran, ids_same, ids_start, ids_stopped, is_run, its_run, fits, numbered}
+use Rattle.block_model.proofs.KernelCalls.{any_from_times}
 
 -- a thread is live where it has a state
 abbrev pub has_state : ℕ → Threads → Bool
@@ -91,8 +92,14 @@ state_follows : (t : ℕ) (st : ThreadState) (ts : Threads) → LiveOn ts (with_
 state_follows t st ts u live = state_stays t u st ts ∙ live
 
 -- the live threads keep their numbers, and so their signals
-signals_stay : (t : ℕ) (st : ThreadState) (ts : Threads) (g : Signalling) → AreSignalsOfLive ts g → AreSignalsOfLive (with_state t st ts) g
+pub signals_stay : (t : ℕ) (st : ThreadState) (ts : Threads) (g : Signalling) → AreSignalsOfLive ts g → AreSignalsOfLive (with_state t st ts) g
 signals_stay t st ts g is = is ∙ sym (same_numbers t st ts.live)
+
+pub live_changed : (t u : ℕ) (st : ThreadState) (ts : Threads) → is_live u (with_state t st ts) ≡ is_live u ts
+live_changed t u st ts = sym (lives u (with_state t st ts)) ∙ state_stays t u st ts ∙ lives u ts
+
+pub areas_changed : (t : ℕ) (st : ThreadState) (ts : Threads) (areas : List (ℕ × Area)) → AreOfLive ts areas → AreOfLive (with_state t st ts) areas
+areas_changed t st ts areas is = areas_stay ts (with_state t st ts) areas (state_follows t st ts) is
 
 -- STEPS OF THREADS
 
@@ -110,7 +117,7 @@ held_restricted harts t set k is = record { ids = is.ids; areas = is.areas; sign
 pub held_left : (harts : ℕ) → (t : ℕ) (k : Kernel) → IsHeld harts k → IsHeld harts (left t k)
 held_left harts t k is = record {
   ids = λ small. ids_stopped t k.threads (left t k).threads k.ids (λ u other. run_stays t u Ready k.threads other) (run_stops t Ready k.threads refl) (is.ids small);
-  areas = areas_stay k.threads (left t k).threads k.areas (state_follows t Ready k.threads) is.areas;
+  areas = areas_changed t Ready k.threads k.areas is.areas;
   signals = signals_stay t Ready k.threads k.signals is.signals;
 }
 
@@ -185,7 +192,7 @@ held_ran harts t h k ready few is =
     let now = state_of-with_state_same t (on h) k.threads ∙ ap (λ (o : Option ThreadState). option_map (λ old. on h) o) ready in
     record {
       ids = λ small. ids_ran t k.threads (ran t h k).threads k.ids (λ u other. run_stays t u (on h) k.threads other) (ap its_run ready) (ap its_run now) (few small (is.ids small)) (is.ids small);
-      areas = areas_stay k.threads (ran t h k).threads k.areas (state_follows t (on h) k.threads) is.areas;
+      areas = areas_changed t (on h) k.threads k.areas is.areas;
       signals = signals_stay t (on h) k.threads k.signals is.signals;
     }
 
@@ -291,29 +298,54 @@ held_gone harts t k is = record {
         ∙ sym (map_filters (λ (th : Thread). th.tid) (λ u. not (eqb u t)) k.threads.live)
 
 -- a live thread that has no area gets one; and a thread has none any more
-pub held_registered : (harts : ℕ) → (t : ℕ) (area : Area) (k : Kernel) → has_state t k.threads ≡ true → area_of t k.areas ≡ None → IsHeld harts k
-    → IsHeld harts (registered t area k)
-held_registered harts t area k alive none is = record { ids = is.ids; areas = record { live = live; one = one }; signals = is.signals }
+pub registered_areas : (t : ℕ) (area : Area) (ts : Threads) (areas : List (ℕ × Area)) → is_live t ts ≡ true → area_of t areas ≡ None
+    → AreOfLive ts areas → AreOfLive ts (with_area t area areas)
+registered_areas t area ts areas alive none is = record { live = live; one = one }
   where
-    live : (u : ℕ) → list_any (is_area_of u) (with_area t area k.areas) ≡ true → is_live u k.threads ≡ true
-    live u has = elim (at_end (is_area_of u) k.areas (t, area) has) [
-      | inl old ↦ is.areas.live u old
-      | inr new ↦ ap (λ n. is_live n k.threads) (sym (eqb-true t u new)) ∙ sym (lives t k.threads) ∙ alive
+    live : (u : ℕ) → list_any (is_area_of u) (with_area t area areas) ≡ true → is_live u ts ≡ true
+    live u has = elim (at_end (is_area_of u) areas (t, area) has) [
+      | inl old ↦ is.live u old
+      | inr new ↦ ap (λ n. is_live n ts) (sym (eqb-true t u new)) ∙ alive
     ]
 
-    one : (u : ℕ) → times u (owners (with_area t area k.areas)) ≤ 1
+    one : (u : ℕ) → times u (owners (with_area t area areas)) ≤ 1
     one u =
-        let pushed = ap (times u) (map_push (λ (pair : ℕ × Area). pair.0) k.areas (t, area)) in
-        let split = times_push u (owners k.areas) t in
+        let pushed = ap (times u) (map_push (λ (pair : ℕ × Area). pair.0) areas (t, area)) in
+        let split = times_push u (owners areas) t in
         let its = times_cons u t [] in
-        let most = is.areas.one u in
+        let most = is.one u in
         elim (eqb_tells t u) [
           | inl p ↦
-              let no : times u (owners k.areas) ≡ 0 = ap (λ n. times n (owners k.areas)) (sym p.1) ∙ not_owned t k.areas none in
+              let no : times u (owners areas) ≡ 0 = ap (λ n. times n (owners areas)) (sym p.1) ∙ not_owned t areas none in
               let same = ap once p.0 in
               omega (arith, pushed, split, its, no, same)
           | inr q ↦ let other = ap once q.0 in omega (arith, pushed, split, its, most, other)
         ]
+
+pub held_registered : (harts : ℕ) → (t : ℕ) (area : Area) (k : Kernel) → has_state t k.threads ≡ true → area_of t k.areas ≡ None → IsHeld harts k
+    → IsHeld harts (registered t area k)
+held_registered harts t area k alive none is =
+    record { ids = is.ids; areas = registered_areas t area k.threads k.areas (sym (lives t k.threads) ∙ alive) none is.areas; signals = is.signals }
+
+-- the threads that have areas are live ones, so they are no more than those
+pub areas_fit : (ts : Threads) (areas : List (ℕ × Area)) → AreOfLive ts areas → length areas ≤ length ts.live
+areas_fit ts areas are =
+    let few = fits (owners areas) (numbers ts.live) are.one (λ u. within u (list_any (is_area_of u) areas) refl) in
+    omega (arith, few, length-map areas (λ pair. pair.0), length-map ts.live (λ (th : Thread). th.tid))
+  where
+    within : (u : ℕ) (b : Bool) → list_any (is_area_of u) areas ≡ b → times u (owners areas) ≤ times u (numbers ts.live)
+    within u true has =
+        let most = are.one u in
+        let live = ap once (are.live u has) in
+        let there = numbered u ts.live in
+        omega (arith, most, live, there)
+    within u false none = elim (cases_lt 0 (times u (owners areas))) [
+      | inl some ↦
+          let most = are.one u in
+          let one : times u (owners areas) ≡ 1 = omega (arith, some, most) in
+          absurd (false≢true (sym none ∙ any_of u areas ∙ any_from_times u (owners areas) true one))
+      | inr least ↦ omega arith
+    ]
 
 pub held_unregistered : (harts : ℕ) → (t : ℕ) (k : Kernel) → IsHeld harts k → IsHeld harts (unregistered t k)
 held_unregistered harts t k is = record {

@@ -69,7 +69,9 @@ pub use Rattle.block_model.proofs.HartSets.{harts_fit, same_sets, some_hart, wit
 pub use Rattle.block_model.proofs.KernelCalls.{as_many_held, child_not_held, child_same, ended_idle, order_has, tables_allowed, tables_child, tables_ended, tables_waited, tables_woken, waited_idle, woken_same}
 pub use Rattle.block_model.proofs.IdsOnHarts.{IsHeldOnHart, has_hart-set, is_held_below, is_held_by}
 pub use Rattle.block_model.proofs.Stretches.{HasStayed, HasSteps, IsLent, Steps, is_lent, stays, steps_of, worked_keeps}
-pub use Rattle.block_model.proofs.KernelTables.{cleared_same, left_idle, running_is, state_now, tables_cleared, tables_left, tables_ran, tables_start}
+pub use Rattle.block_model.proofs.Held.{areas_changed, areas_fit, live_changed, registered_areas, signals_stay}
+pub use Rattle.block_model.proofs.Goods.Calls.Futexes.{longest_waits, wake_by, wake_keeps}
+pub use Rattle.block_model.proofs.KernelTables.{any_live, cleared_same, left_idle, running_idle, running_is, running_there, waits_elsewhere, state_now, tables_cleared, tables_left, tables_ran, tables_start}
 
 -- a log of which every entry is allowed is a block run
 pub block_run : (s : Setting) (log : List Entry) → IsAllowedLog s log → IsBlockRun s log

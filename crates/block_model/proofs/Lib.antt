@@ -24,6 +24,7 @@ mod EventDeeds
 mod Entries
 mod ErrorCalls
 mod ErrorEvents
+mod ExamplePrograms
 mod Examples
 mod Good
 mod Goods

@@ -1,5 +1,5 @@
 -- Where the thread of a sequence is: it runs on the sequence's hart from the place before the first event on.
-use Rattle.std.proofs.Common.{◌≡◌, ◌≢◌, ℕ, [], ◌∷◌, refl, sym, ap, ◌∙◌, subst, true, false, Option, Some, None}
+use Rattle.std.proofs.Common.{◌≡◌, ◌≢◌, ℕ, ◌∷◌, refl, sym, ap, ◌∙◌, subst, true, false, Option, Some, None}
 use Rattle.std.specs.Option.{option_map_or}
 use Rattle.std.proofs.lemmas.Bool.{eqb-false, false≢true}
 use Rattle.mach_types.specs.Events.{choice_of, choice_with}
@@ -21,7 +21,7 @@ use Rattle.block_model.specs.Whole.{RunsThroughout}
 use Rattle.block_model.proofs.Allowed.{allowed_at}
 use Rattle.block_model.proofs.EventDeeds.{Calls, EventDeed, Preempts, Runs, deed_of}
 use Rattle.block_model.proofs.Runs.{fit_at}
-use Rattle.block_model.proofs.SequenceSteps.{Begins, Elsewhere, IsOf, Own, SequenceStep, TakesIn, is_taken, sequence_step}
+use Rattle.block_model.proofs.SequenceSteps.{Begins, Elsewhere, IsOf, Own, SequenceStep, TakesIn, is_taken, by_sequence}
 use Rattle.block_model.proofs.SignalEvents.{OnlySignals}
 
 -- WHAT A SEQUENCE TAKES IN KEEPS THE RECORD, BUT FOR ITS SIGNALS
@@ -90,6 +90,5 @@ module _ (s : Setting) (e : Event) (before : History) (h : ℕ) (run : IsRunHist
 
 pub runs_throughout : (s : Setting) (before : History) (h : ℕ) (q : Sequence) → IsRunHistory s before → sequence_on s h before ≡ Some q
     → RunsThroughout s before h q
-runs_throughout s [] h q run is = absurd cc
-runs_throughout s (e ∷ before) h q run is =
-    runs_by s e before h run (λ r was. runs_throughout s before h r run.0 was) (sequence_step s e before h q is)
+runs_throughout s before h =
+    by_sequence s h (λ b r. RunsThroughout s b h r) (λ e b r run rest is step. runs_by s e b h run rest step) before

@@ -1,5 +1,5 @@
 -- What an event makes of the newest sequence of a hart, and of one that hangs.
-use Rattle.std.proofs.Common.{◌≡◌, ◌≢◌, ℕ, ◌∷◌, refl, sym, ◌∙◌, subst, Bool, true, false, not, cond, eqb, Option, Some, None}
+use Rattle.std.proofs.Common.{◌≡◌, ◌≢◌, ℕ, ◌∷◌, refl, sym, ◌∙◌, subst, Bool, true, false, not, cond, eqb, Option, Some, None, []}
 use Rattle.std.proofs.lemmas.Bool.{eqb-true, eqb-false, false≢true}
 use Rattle.mach_types.specs.declared.events.Kind.{Kind}
 use Rattle.mach_types.specs.declared.events.Kind.TheVariants as kind
@@ -7,6 +7,7 @@ use Rattle.mach_types.specs.declared.sequences.Outcome.{Outcome}
 use Rattle.block_model.specs.Acts.{Sequence, begun_with, hanging, hanging_after, is_inside_at, is_instruction, is_taken_in, sequence_on, taken_up, with_event}
 use Rattle.block_model.specs.History.{Event, History, is_of_hart}
 use Rattle.block_model.specs.Setting.{Setting}
+use Rattle.block_model.specs.Run.{IsRunHistory}
 
 -- a sequence begins with an instruction, which it takes in
 pub instruction_taken : (k : Kind) (o : Option Outcome) → is_instruction k ≡ true → is_taken_in k o ≡ true
@@ -71,6 +72,15 @@ module _ (s : Setting) (e : Event) (before : History) (h : ℕ) (q : Sequence) w
 
   pub sequence_step : sequence_on s h (e ∷ before) ≡ Some q → SequenceStep s e before h q
   sequence_step is = step_by (is_of_hart h e) refl is
+
+-- what each event keeps of the newest sequence of a hart holds of it at each place of a run
+pub by_sequence : (s : Setting) (h : ℕ) (P : History → Sequence → Type 0)
+    → ((e : Event) (before : History) (q : Sequence) → IsRunHistory s (e ∷ before) → ((r : Sequence) → sequence_on s h before ≡ Some r → P before r)
+    → sequence_on s h (e ∷ before) ≡ Some q → SequenceStep s e before h q → P (e ∷ before) q)
+    → (before : History) (q : Sequence) → IsRunHistory s before → sequence_on s h before ≡ Some q → P before q
+by_sequence s h P step [] q run is = absurd cc
+by_sequence s h P step (e ∷ before) q run is =
+    step e before q run (λ r was. by_sequence s h P step before r run.0 was) is (sequence_step s e before h q is)
 
 -- A SEQUENCE THAT HANGS
 

@@ -1,6 +1,6 @@
 -- A hart whose thread waits in a barrier is in no sequence: the call of the barrier is outside, and no instruction is executed until the
 -- barrier returns.
-use Rattle.std.proofs.Common.{◌≡◌, ℕ, [], ◌∷◌, refl, sym, ap, ◌∙◌, Bool, true, false, cond, eq-eqb, Option, Some, None}
+use Rattle.std.proofs.Common.{◌≡◌, ℕ, ◌∷◌, refl, sym, ap, ◌∙◌, Bool, true, false, cond, eq-eqb, Option, Some, None}
 use Rattle.std.specs.Option.{option_map, option_map_or, option_or}
 use Rattle.std.proofs.lemmas.Bool.{false≢true}
 use Rattle.mach_types.specs.Events.{choice_with}
@@ -18,7 +18,7 @@ use Rattle.block_model.specs.Run.{IsRunHistory}
 use Rattle.block_model.specs.Sequences.{is_inside_here}
 use Rattle.block_model.specs.Setting.{Setting}
 use Rattle.block_model.proofs.Goods.Preempt.{out_of_barrier}
-use Rattle.block_model.proofs.SequenceSteps.{Begins, Elsewhere, IsOf, Own, SequenceStep, TakesIn, is_taken, sequence_step}
+use Rattle.block_model.proofs.SequenceSteps.{Begins, Elsewhere, IsOf, Own, SequenceStep, TakesIn, is_taken, by_sequence}
 use Rattle.block_model.proofs.WholeEvents.{did, is_free, place}
 use Rattle.block_model.proofs.EventDeeds.{Calls, EventDeed, deed_of}
 
@@ -82,6 +82,5 @@ module _ (s : Setting) (e : Event) (before : History) (h : ℕ) (run : IsRunHist
 
 pub in_no_barrier : (s : Setting) (before : History) (h : ℕ) (q : Sequence) → IsRunHistory s before → sequence_on s h before ≡ Some q
     → awaits h before ≡ None
-in_no_barrier s [] h q run is = refl
-in_no_barrier s (e ∷ before) h q run is =
-    is_out s e before h run (λ r was. in_no_barrier s before h r run.0 was) q (sequence_step s e before h q is)
+in_no_barrier s before h =
+    by_sequence s h (λ b r. awaits h b ≡ None) (λ e b r run rest is step. is_out s e b h run rest r step) before

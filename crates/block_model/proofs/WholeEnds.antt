@@ -34,7 +34,7 @@ use Rattle.block_model.proofs.SequencePlaces.{runs_throughout}
 use Rattle.block_model.proofs.Touched.{dropped_is_touched}
 use Rattle.block_model.proofs.WholeBarriers.{in_no_barrier}
 use Rattle.block_model.proofs.WholeEvents.{did, is_free, its_thread, not_over, place}
-use Rattle.block_model.proofs.SequenceSteps.{Elsewhere, Own, SequenceStep, is_reached, sequence_step}
+use Rattle.block_model.proofs.SequenceSteps.{Elsewhere, Own, SequenceStep, is_reached, by_sequence}
 
 -- NOTHING HAD ENDED
 
@@ -47,9 +47,10 @@ module _ (s : Setting) (e : Event) (before : History) (h : ℕ) (q : Sequence) w
       ∙ ap (λ (o : Option End). is_some o) (neither e.done.ended (ended before) none).0
   alive_by (Elsewhere other is) none rest = rest (neither e.done.ended (ended before) none).1 is
 
-pub alive : (s : Setting) (before : History) (h : ℕ) (q : Sequence) → ended before ≡ None → sequence_on s h before ≡ Some q → has_died q ≡ false
-alive s [] h q none is = absurd cc
-alive s (e ∷ before) h q none is = alive_by s e before h q (sequence_step s e before h q is) none (λ n was. alive s before h q n was)
+pub alive : (s : Setting) (before : History) (h : ℕ) (q : Sequence) → IsRunHistory s before → sequence_on s h before ≡ Some q → ended before ≡ None → has_died q ≡ false
+alive s before h =
+    by_sequence s h (λ b r. ended b ≡ None → has_died r ≡ false)
+    (λ e b r run rest is step none. alive_by s e b h r step none (λ goes was. rest r was goes)) before
 
 -- NOTHING INTERRUPTS
 
@@ -208,7 +209,7 @@ pub ends_whole_uninterrupted : (s : Setting) (e : Event) (before : History) (q :
     → sequence_on s e.entry.hart.0 (e ∷ before) ≡ None → EndsWhole s e before q
 ends_whole_uninterrupted s e before q run isnt none is over =
     let never : is_some e.done.interrupted ≡ true → ⊥ = λ some. false≢true (sym (ap (λ (o : Option Outcome). is_some o) none) ∙ some) in
-    let lives = alive s before e.entry.hart.0 q (neither (ended before) _ (not_over s e before run)).0 is in
+    let lives = alive s before e.entry.hart.0 q run.0 is (neither (ended before) _ (not_over s e before run)).0 in
     let so : end_before s q e before ≡ left_or_dropped s q (is_inside_at s q.hart before) =
     plain_end (has_died q) (has_killed e) (moved_out s q) (is_inside_at s q.hart before) e.done.interrupted _ lives none in
     let hart = (runs_throughout s before e.entry.hart.0 q run.0 is).hart in

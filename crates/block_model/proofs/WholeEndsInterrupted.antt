@@ -117,7 +117,7 @@ module _ (s : Setting) (e : Event) (before : History) (q : Sequence) (run : IsRu
       ∙ inside_is here t its.none_waits
 
   lives : has_died q ≡ false
-  lives = alive s before e.entry.hart.0 q (neither (ended before) _ (not_over s e before run)).0 newest
+  lives = alive s before e.entry.hart.0 q run.0 newest (neither (ended before) _ (not_over s e before run)).0
 
   end_is : (killed inside : Bool) → has_killed e ≡ killed → is_inside_waiting here t ≡ inside
       → end_before s q e before ≡ ending s q false killed (moved_out s q) inside (Some outcome)

@@ -99,14 +99,7 @@ low_number v n is = sym (of_z-to_z w32 (v % 2 ^ 32) (mod-lt v (omega arith))) �
 
 number_low : (c : BarrierCommand) → number_of c < 2 ^ 10
 number_low Query = omega arith
-number_low Global = omega arith
-number_low GlobalExpedited = omega arith
-number_low RegisterGlobalExpedited = omega arith
-number_low PrivateExpedited = omega arith
-number_low RegisterPrivateExpedited = omega arith
-number_low PrivateExpeditedRseq = omega arith
-number_low RegisterPrivateExpeditedRseq = omega arith
-number_low GetRegistrations = omega arith
+number_low c = omega arith
 
 -- so where a barrier begins, a0 is no error: the low 32 bits of an error are more than each command
 error_low : (errno : ℕ) → 1 ≤ errno → errno ≤ 4095 → negative errno % 2 ^ 32 ≡ 2 ^ 32 - errno

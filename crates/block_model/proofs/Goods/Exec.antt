@@ -99,17 +99,8 @@ plain here t e good at out is room = record {
 
 -- a call wants no store to wait
 call_wants_empty : (e : Effect) → is_call e ≡ true → wants_empty e ≡ true
-call_wants_empty (effect.Next rd value to) is = cc
-call_wants_empty (effect.Load at size is_signed rd) is = cc
-call_wants_empty (effect.Store at size value) is = cc
-call_wants_empty (effect.Amo op at size value rd) is = cc
-call_wants_empty (effect.Lr at size rd) is = cc
-call_wants_empty (effect.Sc at size value rd) is = cc
-call_wants_empty (effect.Fence full) is = cc
-call_wants_empty effect.FenceI is = cc
 call_wants_empty effect.Call is = refl
-call_wants_empty effect.Break is = cc
-call_wants_empty effect.Misaligned is = cc
+call_wants_empty e is = cc
 
 -- a call is made where no store waits
 gate_waiting : (n : ℕ) (a b c : Bool) → a ≡ true → b ≡ true → cond (a && (false || b)) (Some Waiting) (cond c (Some FullBuffer) None) ≡ None → ⊥

@@ -1,5 +1,5 @@
 -- futex(2).
-use Rattle.std.proofs.Common.{◌≡◌, ◌≢◌, ℕ, [], map, refl, sym, ap, ◌∙◌, true, Option, Some, None, zero, suc}
+use Rattle.std.proofs.Common.{◌≡◌, ℕ, [], map, refl, ◌∙◌, true, Option, Some, None, zero, suc}
 use Rattle.std.specs.Option.{option_map_or}
 use Rattle.std.proofs.lemmas.Bool.{ne_eqb, false≢true}
 use Rattle.mach_types.specs.declared.threads.Saved.{Saved}
@@ -8,12 +8,11 @@ use Rattle.mach_types.specs.declared.threads.ThreadState.TheVariants.{Ready, Run
 use Rattle.block_model.specs.Record.{Kernel}
 use Rattle.mach_types.specs.Kernel.Threads.{Threads, is_waiting_at, longest_waiter, running_on, state_of, waits}
 use Rattle.block_model.specs.Setting.{Setting}
-use Rattle.block_model.specs.Here.{Here, runs}
+use Rattle.block_model.specs.Here.{Here}
 use Rattle.block_model.specs.History.{file_among}
 use Rattle.block_model.specs.Kernel.{woken}
 use Rattle.block_model.specs.Calls.Futexes.{Woken, answered_wait, wake, woken_first}
-use Rattle.block_model.specs.Tables.{on}
-use Rattle.block_model.proofs.KernelTables.{running_is, found_passes}
+use Rattle.block_model.proofs.KernelTables.{found_passes, waits_elsewhere}
 use Rattle.block_model.proofs.Good.{IsGoodHere, IsSound}
 use Rattle.block_model.proofs.Goods.Calls.Said.{IsApart}
 use Rattle.block_model.proofs.Goods.Calls.Steps.{IsKept, kept_still, kept_twice, kept_woken}
@@ -30,15 +29,6 @@ pub longest_waits : (at : ℕ) (ts : Threads) (t : ℕ) → longest_waiter at ts
 longest_waits at ts t e =
     let there = found_passes (λ u. is_waiting_at at (state_of u ts)) ts.waiters t e in
     waits_there at ts t (state_of t ts) refl there
-
--- who waits doesn't run
-pub waits_apart : (s : Setting) (h t u : ℕ) (k : Kernel) → IsSound s k → waits k.threads t
-    → running_on h k.threads ≡ Some u → t ≢ u
-waits_apart s h t u k sound waiting runs same =
-    let run = running_is s.limits.harts h u k.threads k.scheduling sound.tables runs in
-    let wait = ap (λ n. state_of n k.threads) (sym same) ∙ waiting.1 in
-    let states : Some (on h) ≡ Some (Waiting waiting.0) = sym run ∙ wait in
-    cc
 
 -- waking, one thread after another: what holds of none holds of all, where each that is woken keeps it
 abbrev none_woken : Kernel → Woken
@@ -80,7 +70,7 @@ answered_apart s here h u f =
     wake_by (λ n k done. IsSound s k → running_on h k.threads ≡ Some u → answered here done u f ≡ f)
     (λ n k sound runs. refl) (λ v n k rest waiting is sound runs.
     let kept = kept_woken s v k sound waiting in
-    rw (ne_eqb v u (waits_apart s h v u k sound waiting runs)) (is kept.sound (kept.running h ∙ runs)))
+    rw (ne_eqb v u (waits_elsewhere s.limits.harts h u v k.threads k.scheduling sound.tables runs waiting)) (is kept.sound (kept.running h ∙ runs)))
 
 pub apart_woken : (here : Here) (n at : ℕ) → IsGoodHere here
     → IsApart here (map (answered_wait here) (wake n at here.kernel).threads)

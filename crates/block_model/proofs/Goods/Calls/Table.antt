@@ -4,10 +4,8 @@ use Rattle.std.proofs.lemmas.Bool.{ne_eqb}
 use Rattle.mach_types.specs.Kernel.Pages.{PageRun}
 use Rattle.mach_types.specs.Kernel.SignalFrames as frame
 use Rattle.mach_types.specs.Kernel.Threads.{clear_of, waits}
-use Rattle.mach_types.specs.declared.sequences.Area.{Area}
 use Rattle.mach_types.specs.declared.threads.ThreadState.{ThreadState}
 use Rattle.mach_types.specs.declared.user_memory.Write.{Write}
-use Rattle.mach_types.specs.Kernel.Areas.{with_area, without_area}
 use Rattle.rv_inst.specs.Words.{sum_64}
 use Rattle.block_model.specs.Calls.{called}
 use Rattle.block_model.specs.Calls.Answers.{CallDone, call_number, returned, said}
@@ -16,32 +14,21 @@ use Rattle.block_model.specs.Calls.Futexes.{answered_wait, wake}
 use Rattle.block_model.specs.Calls.Memory.{taken_by}
 use Rattle.block_model.specs.Calls.Signals.{broken_wait}
 use Rattle.block_model.specs.Here.{Here, runs}
-use Rattle.block_model.specs.Kernel.{gone, left, restricted, signalled, woken}
+use Rattle.block_model.specs.Kernel.{gone, left, restricted, signalled, woken, registered, unregistered}
 use Rattle.block_model.specs.Record.{Kernel}
 use Rattle.block_model.specs.Setting.{Setting}
 use Rattle.block_model.proofs.BarrierSteps.{IsAtOthers}
 use Rattle.block_model.proofs.CallDeeds.{Answers, Bears, Begins, Breaks, CallDeed, Clears, Ends, EnrolsFor, Exits, Leaves, MovesOff, Prints, Registers, Remaps, Resumes, Same, Says, Signalled, Stays, TableStep, Unregisters, Waits, Wakes}
 use Rattle.block_model.proofs.CallDeeds.Table.{deed_called}
-use Rattle.block_model.proofs.Good.{IsGoodHere, IsSound}
+use Rattle.block_model.proofs.Good.{IsGoodHere}
 use Rattle.block_model.proofs.Goods.Calls.Cloning.{fit_child}
 use Rattle.block_model.proofs.Goods.Calls.Fit.{IsFitTaking, takes_none}
-use Rattle.block_model.proofs.Goods.Calls.Futexes.{apart_woken, kept_wake, waits_apart}
+use Rattle.block_model.proofs.Goods.Calls.Futexes.{apart_woken, kept_wake}
 use Rattle.block_model.proofs.Goods.Calls.Said.{IsApart, apart_none, apart_one, apart_own, fit_kept, fit_moved}
-use Rattle.block_model.proofs.Goods.Calls.Steps.{IsKept, IsMoved, kept_cleared, kept_for_barriers, kept_moved, kept_printed, kept_restricted, kept_signalled, kept_still, kept_twice, kept_woken, moved_after, moved_gone, moved_left, moved_waited}
-use Rattle.block_model.proofs.Held.{IsHeld, has_state, held_paged, held_registered, held_unregistered}
-use Rattle.block_model.proofs.KernelTables.{running_is}
+use Rattle.block_model.proofs.Goods.Calls.Steps.{IsKept, IsMoved, kept_cleared, kept_for_barriers, kept_moved, kept_printed, kept_restricted, kept_signalled, kept_still, kept_twice, kept_woken, moved_after, moved_gone, moved_left, moved_waited, kept_tables}
+use Rattle.block_model.proofs.Held.{has_state, held_paged, held_registered, held_unregistered}
+use Rattle.block_model.proofs.KernelTables.{running_is, waits_elsewhere}
 use Rattle.block_model.proofs.SignalSteps.{returned_keeps}
-
--- other areas change nothing else
-kept_areas : (s : Setting) (areas : List (ℕ × Area)) (k : Kernel) → IsSound s k → (IsHeld s.limits.harts k → IsHeld s.limits.harts (record k { areas = areas }))
-    → IsKept s k (record k { areas = areas })
-kept_areas s areas k sound held = record {
-  running = λ h. refl;
-  pages = refl;
-  given = refl;
-  sound = record { tables = sound.tables; allowed = sound.allowed; console = sound.console };
-  held = held;
-}
 
 -- a thread that runs is live
 running_lives : (here : Here) (t : ℕ) → IsGoodHere here → runs here ≡ Some t → has_state t here.kernel.threads ≡ true
@@ -50,7 +37,7 @@ running_lives here t good at =
     (running_is here.setting.limits.harts here.hart t here.kernel.threads here.kernel.scheduling good.kernel.tables at)
 
 apart_broken : (here : Here) (u : ℕ) → IsGoodHere here → waits here.kernel.threads u → IsApart here (broken_wait here u ∷ [])
-apart_broken here u good waiting k v f ne run = rw (ne_eqb u v (waits_apart here.setting k u v here.kernel good.kernel waiting run)) refl
+apart_broken here u good waiting k v f ne run = rw (ne_eqb u v (waits_elsewhere here.setting.limits.harts k v u here.kernel.threads here.kernel.scheduling good.kernel.tables run waiting)) refl
 
 module _ (here : Here) (t number : ℕ) (good : IsGoodHere here) (at : runs here ≡ Some t) where
   abbrev s : Setting
@@ -84,8 +71,8 @@ module _ (here : Here) (t number : ℕ) (good : IsGoodHere here) (at : runs here
       let kept = kept_restricted s t set now good.kernel below some in
       moving n entered _ (moved_after s h now k (left t k) kept (moved_left s h t k kept.sound (kept.running h ∙ at)))
   fit_step n entered (Registers area none) =
-      keeping n entered _ (kept_areas s (with_area t area now.areas) now good.kernel (held_registered s.limits.harts t area now (running_lives here t good at) none))
-  fit_step n entered Unregisters = keeping n entered _ (kept_areas s (without_area t now.areas) now good.kernel (held_unregistered s.limits.harts t now))
+      keeping n entered _ (kept_tables s now (registered t area now) good.kernel refl refl refl refl (held_registered s.limits.harts t area now (running_lives here t good at) none))
+  fit_step n entered Unregisters = keeping n entered _ (kept_tables s now (unregistered t now) good.kernel refl refl refl refl (held_unregistered s.limits.harts t now))
   fit_step n entered (Signalled g keeps stand heeds calm) = keeping n entered _ (kept_signalled s g now good.kernel keeps)
   fit_step n entered (EnrolsFor r) = keeping n entered _ (kept_for_barriers s r now good.kernel)
   fit_step n entered (Remaps pages stays paged) = record {
