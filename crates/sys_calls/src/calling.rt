@@ -12,9 +12,9 @@ ghost use Rattle.sys_calls.specs.Made.{IsAt, IsMade};
 ghost use Rattle.sys_calls.specs.Registered.{HoldAreas, areas_by_number};
 
 use crate::affinity::{sched_setaffinity, sched_yield};
-use crate::answering::answered;
 use crate::arguments::{call_number, go_on};
 use crate::barrier_call::membarrier;
+use crate::call_answers::answered;
 use crate::ending::{exit, exit_group};
 use crate::futexes::futex;
 use crate::kernel::Kernel;

@@ -12,11 +12,11 @@ ghost use Rattle.sys_calls.specs.Tables.{HoldsTables};
 ghost use Rattle.sys_calls.specs.Made.{HasPages, IsMade};
 ghost use Rattle.sys_calls.specs.Registered.{HoldAreas, areas_by_number, area_asked, unregistration_asked};
 
-use crate::areas::{add_area, area_of, remove_area};
 use crate::arguments::{argument, go_on, int_argument};
 use crate::calling::CallEnd;
 use crate::kernel::Kernel;
 use crate::memory::{Written, tell_word};
+use crate::rseq_areas::{add_area, area_of, remove_area};
 use mach_types::errors::EFAULT;
 use mach_types::sequences::{CPU_ID, MM_CID, NODE_ID};
 use mach_types::signals::SIGSEGV;
