@@ -47,15 +47,13 @@ use Rattle.block_model.specs.Instruction.{fault_by, fetched, instruction_of}
 use Rattle.block_model.specs.Run.{IsAllowedLog, IsRunHistory}
 use Rattle.block_model.specs.Setting.{Setting}
 use Rattle.block_model.specs.Sights.{first_ready, is_all_taken, is_deliverable_on, is_local_on, sight_in, thread}
-use Rattle.block_model.proofs.Allowed.{decided_is}
-use Rattle.block_model.proofs.Applied.{plain_of}
-use Rattle.block_model.proofs.Ends.{some_live}
-use Rattle.block_model.proofs.Good.{IsGoodHere, IsSound, good_here}
+use Rattle.block_model.proofs.Runs.{decided_is, IsAllowedLog-append, history-append, history-nil, settled}
+use Rattle.block_model.proofs.PlainEvents.{plain_of}
+use Rattle.block_model.proofs.RunEnds.{some_live, IsOpen, decide-open}
+use Rattle.block_model.proofs.PlaceInvariant.{IsGoodHere, IsSound, good_here}
 use Rattle.block_model.proofs.HartSets.{some_hart, some_in}
 use Rattle.block_model.proofs.KernelTables.{found_passes, found_sorted, running_there}
-use Rattle.block_model.proofs.Open.{IsOpen, decide-open}
-use Rattle.block_model.proofs.Rules.{ended_parts, allowed_where_none_waits, in_no_barrier, found_where, found_where_any, goes_somewhere, run_free, signal_free}
-use Rattle.block_model.proofs.Runs.{IsAllowedLog-append, history-append, history-nil, settled}
+use Rattle.block_model.proofs.FixedRule.{ended_parts, allowed_where_none_waits, in_no_barrier, found_where, found_where_any, goes_somewhere, run_free, signal_free}
 
 -- what is picked isn't refused
 

@@ -22,13 +22,12 @@ use Rattle.block_model.specs.Record.{Kernel}
 use Rattle.block_model.specs.Run.{IsRunHistory}
 use Rattle.block_model.specs.Setting.{Setting}
 use Rattle.block_model.specs.Whole.{Bytes, before_last, touched_in, touches}
-use Rattle.block_model.proofs.Goods.Calls.Fit.{runs_apart}
-use Rattle.block_model.proofs.NamedStays.{Agree}
+use Rattle.block_model.proofs.Invariants.Calls.Conditions.{runs_apart}
+use Rattle.block_model.proofs.NamedSequences.{Agree}
 use Rattle.block_model.proofs.ReadyFiles.{area_stays}
 use Rattle.block_model.proofs.Runs.{fit_at, settled}
-use Rattle.block_model.proofs.SequencePlaces.{runs_throughout, taken_keeps}
-use Rattle.block_model.proofs.SequenceSteps.{Begins, Elsewhere, IsOf, Own, SequenceStep, TakesIn, is_reached, is_taken, by_sequence}
-use Rattle.block_model.proofs.SignalEvents.{OnlySignals}
+use Rattle.block_model.proofs.Sequences.{runs_throughout, taken_keeps, Begins, Elsewhere, IsOf, Own, SequenceStep, TakesIn, is_reached, is_taken, by_sequence}
+use Rattle.block_model.proofs.SignalTables.{OnlySignals}
 use Rattle.block_model.proofs.TouchedBytes.{neither, view_stays}
 
 -- WHAT THE EVENTS OF A SEQUENCE LEAVE
