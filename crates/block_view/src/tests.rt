@@ -59,7 +59,7 @@ fn expect_acts(rt: &impl Abort, acts: &Acts, wanted: &[(u8, Form)]) {
 #[test]
 fn each_event_outside_sequences_is_an_act(rt: HostRuntime) -> Result<(), Fail> {
     let image = load(rt.alloc(), &EXITS, &LIMITS)?;
-    let seen = acts(rt.alloc(), &image, &LIMITS, &moved())?;
+    let seen = acts(rt.alloc(), &image, &LIMITS, 0, &moved())?;
     assert_eq!(rt; seen.list.len(), 5);
     let wanted = [
         (0, Form::Kernel),
@@ -88,7 +88,7 @@ fn first_entry_that_cannot_come_is_named(rt: HostRuntime) -> Result<(), Fail> {
     for (number, other) in wrong {
         let mut log = moved();
         log[number as usize - 1] = other;
-        let refused = acts(rt.alloc(), &image, &LIMITS, &log);
+        let refused = acts(rt.alloc(), &image, &LIMITS, 0, &log);
         assert_eq!(rt; refused.err(), Some(ViewFault::NotARun(number)));
     }
     Ok(())

@@ -90,7 +90,8 @@ impl Chronicle for Shared {
 
     #[tactic(auto, unfolding(block_model::specs::Choosing::IsChosen))]
     fn lend(&self, hart: Hart) -> Option<Stretch>
-        ensures fits { IfSome result (λ stretch. IsStretchOf (setting_in self.now) hart.0 (log_in self.now) (stretch_of stretch)) }
+        ensures fits { IfSome result
+            (λ stretch. IsStretchOf (setting_in self.now) hart.0 (log_in self.now) (stretch_of stretch)) }
         ensures exact { option_map stretch_of result ≡ lent (setting_in self.now) hart.0
             (history (setting_in self.now) (log_in self.now)) }
     {
@@ -105,7 +106,8 @@ impl Chronicle for Shared {
     fn append(&mut self, hart: Hart, stretch: Stretch) -> u32
         requires fits { IsStretchOf (setting_in self.old) hart.0 (log_in self.old) (stretch_of stretch) }
         ensures setting { setting_in self.new ≡ setting_in self.old }
-        ensures appended { Adds (next_in (setting_in self.old)) hart result (log_in self.old) (log_in self.new) }
+        ensures appended { Adds (next_in (setting_in self.old)) hart result
+            (log_in self.old) (log_in self.new) }
         ensures count { result ≡ appended (setting_in self.old) hart.0
             (history (setting_in self.old) (log_in self.old)) (stretch_of stretch) }
     {

@@ -182,7 +182,8 @@ impl Reader {
     /// Takes the next word for a name.
     fn read_name(&mut self) -> Result<(), WordsFault>
         ensures fault { result_err result ≡ name_fault (so_far self.old) }
-        ensures read { OnOk result (so_far self.new ≡ record (so_far self.old) { names = self.old.names + 1 }) }
+        ensures read { OnOk result
+            (so_far self.new ≡ record (so_far self.old) { names = self.old.names + 1 }) }
         ensures next { self.new.next ≡ self.old.next }
     {
         if self.names < self.takes.names {

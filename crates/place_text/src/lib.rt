@@ -4,7 +4,7 @@
 
 mod choices;
 mod ends;
-mod fields;
+pub mod fields;
 mod harts;
 mod place;
 mod registers;

@@ -43,7 +43,8 @@ fn push_all_choices(
 /// each hart and of each live thread; and for each hart what it may do next, or why it may not. It isn't the whole state: memory, the
 /// console and the registers of threads that run on no hart, for example, aren't shown.
 pub fn place_text(alloc: Global, machine: &Machine) -> Result<Vec<u8>, AllocError>
-    ensures { IfOk result (λ text. text.items ≡ spec.place_text machine.now.setting (history machine.now.setting machine.now.log)) }
+    ensures { IfOk result (λ text. text.items
+        ≡ spec.place_text machine.now.setting (history machine.now.setting machine.now.log)) }
 {
     let kernel = machine.kernel();
     let live = live_threads(alloc, &kernel.threads)?;
