@@ -7,7 +7,7 @@ ghost use Rattle.block_model.specs.Run.{IsBlockRun};
 ghost use Rattle.command_words.specs.Kept.{said};
 ghost use Rattle.outcomes.specs.Outputs.{setting_for, shown_text};
 
-use crate::acts::acts_of_run;
+use crate::acts::{acts_of_run, acts_text};
 use crate::output::output_text;
 use crate::summary::summary_text;
 use command_words::{Command, Shown};
@@ -37,5 +37,6 @@ pub fn shown_text(
             summary_text(alloc, &acts, machine)
         }
         Shown::Place => place_text(alloc, machine),
+        Shown::Acts => acts_text(alloc, &acts_of_run(alloc, command, image, machine)?),
     }
 }

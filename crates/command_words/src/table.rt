@@ -34,6 +34,8 @@ pub enum Shown {
     Summary,
     /// The place that it comes to.
     Place,
+    /// Its acts, a line each.
+    Acts,
 }
 
 impl Shown {
@@ -43,6 +45,7 @@ impl Shown {
             Shown::Output => "prints its console, its log and its end",
             Shown::Summary => "prints how many acts of each form each hart made",
             Shown::Place => "prints the place that they come to",
+            Shown::Acts => "prints a line for each act",
         }
     }
 }
@@ -57,7 +60,7 @@ pub struct CommandKind {
 }
 
 /// The words of the commands.
-pub const COMMANDS: [&str; 5] = ["solo", "play", "blocks", "inspect", "run"];
+pub const COMMANDS: [&str; 6] = ["solo", "play", "blocks", "inspect", "acts", "run"];
 
 /// What the command of a word is; None where no command has the word.
 pub fn command_kind(word: &str) -> Option<CommandKind>
@@ -68,6 +71,7 @@ pub fn command_kind(word: &str) -> Option<CommandKind>
         "play" => (SourceKind::ByScript, Shown::Output),
         "blocks" => (SourceKind::ByScript, Shown::Summary),
         "inspect" => (SourceKind::ByScript, Shown::Place),
+        "acts" => (SourceKind::ByScript, Shown::Acts),
         "run" => (SourceKind::ByWorkers, Shown::Output),
         _ => return None,
     };

@@ -1,5 +1,6 @@
 -- The output of a command: what it shows of a whole run of its program.
 use Rattle.std.specs.Prelude.{ℕ, ◌≡◌, List, Option, Some, None, Ok, map}
+use Rattle.std.specs.List.{flat_map}
 use Rattle.mach_types.specs.declared.events.Entry.{Entry}
 use Rattle.mach_types.specs.declared.limits.End.{End}
 use Rattle.mach_types.specs.declared.limits.Limits.{Limits}
@@ -17,7 +18,7 @@ use Rattle.command_words.specs.Commands.{Command, Source, Rule, Script, Workers}
 use Rattle.command_words.specs.Words.{command_of}
 use Rattle.outcomes.specs.Programs.{Files, IsProgram, IsScript, asks_of}
 use Rattle.outcomes.specs.Runs.{IsChosenRun, IsSoloRun, IsPlayedRun}
-use Rattle.outcomes.specs.Summary.{summary_text}
+use Rattle.outcomes.specs.Summary.{act_line, summary_text}
 use Rattle.outcomes.specs.Text.{output_text}
 
 -- the output text of a log: its lines, and the console and the end that it comes to
@@ -33,6 +34,7 @@ abbrev pub text_of : Shown → Setting → List ℕ → List Entry → End → L
 text_of shows.Output s bytes log end = output_text bytes log end
 text_of shows.Summary s bytes log end = summary_text s.limits.harts (acts_of s log) log end
 text_of shows.Place s bytes log end = place_text s (history s log)
+text_of shows.Acts s bytes log end = flat_map act_line (acts_of s log)
 
 -- of a log, with the console and the end that it comes to
 abbrev pub shown_text : Shown → Setting → List Entry → List ℕ

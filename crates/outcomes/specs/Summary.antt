@@ -1,19 +1,20 @@
 -- The texts of a run's acts (own). Numbers are decimal.
 use Rattle.std.specs.Prelude.{ℕ, ◌++◌, ◌∷◌, Bool, true, false, List, [], zero, suc, codes, count_by}
 use Rattle.std.specs.Fmt.{decimal}
+use Rattle.std.specs.Option.{option_map, option_to_list}
 use Rattle.mach_types.specs.declared.events.Entry.{Entry}
 use Rattle.mach_types.specs.declared.events.Kind.{Kind}
 use Rattle.mach_types.specs.declared.events.Kind.TheVariants as kind
 use Rattle.mach_types.specs.declared.limits.End.{End}
 use Rattle.block_model.specs.declared.acts.SeqEnd.TheVariants as ends
 use Rattle.block_view.specs.Counting.{counts_of}
-use Rattle.block_view.specs.Forms.{form_word}
+use Rattle.block_view.specs.Forms.{cut_at, form_word}
 use Rattle.block_view.specs.declared.forms.Act.{Act}
 use Rattle.block_view.specs.declared.forms.Form.{Form}
 use Rattle.block_view.specs.declared.forms.Form.TheVariants.{Step, Kernel, Sequence}
 use Rattle.block_view.specs.declared.tally.Counts.{Counts}
 use Rattle.place_text.specs.Ends.{end_line, number_line}
-use Rattle.place_text.specs.Fields.{behind}
+use Rattle.place_text.specs.Fields.{behind, line, value_text}
 use Rattle.step_log.specs.Text.{newline, space}
 
 -- the fields of a count: the word of a form, and how many acts have it
@@ -55,6 +56,13 @@ barriers_in log = count_by (λ (e : Entry). is_return e.kind) log
 
 abbrev pub barriers_line : List Entry → List ℕ
 barriers_line log = number_line (codes "barriers") (barriers_in log)
+
+-- `HART FIRST LAST TID FORM`: an act's hart, its first and its last entry, its thread and its form; behind `cut` where the
+-- thread goes on
+abbrev pub act_line : Act → List ℕ
+act_line act = line (decimal act.hart.0)
+    (decimal act.first ∷ decimal act.last ∷ decimal act.tid.0 ∷ form_word act.form
+    ∷ option_to_list (option_map value_text (cut_at act.form)))
 
 -- the summary of a run on so many harts: of its acts, its log and its end
 unfoldable pub summary_text : ℕ → List Act → List Entry → End → List ℕ

@@ -17,6 +17,7 @@ usage: rseq_run solo FILE [--frames N] [--steps N]
        rseq_run play FILE SCRIPT [--harts N] [--frames N] [--steps N]
        rseq_run blocks FILE SCRIPT [--harts N] [--frames N] [--steps N]
        rseq_run inspect FILE SCRIPT [--harts N] [--frames N] [--steps N]
+       rseq_run acts FILE SCRIPT [--harts N] [--frames N] [--steps N]
        rseq_run run FILE [--harts N] [--frames N] [--steps N] [--seed N]
   --harts N   how many harts there are: 1 to 8; 2 where it isn't given
   --frames N  how many frames of memory there are: 128 to 16384; 4096
@@ -30,6 +31,7 @@ solo: runs FILE on one hart by the fixed rule; prints its console, its log and i
 play: runs FILE on the events of SCRIPT; prints its console, its log and its end
 blocks: runs FILE on the events of SCRIPT; prints how many acts of each form each hart made
 inspect: runs FILE on the events of SCRIPT; prints the place that they come to
+acts: runs FILE on the events of SCRIPT; prints a line for each act
 run: runs FILE by workers, one for each hart; prints its console, its log and its end
 for example: rseq_run solo FILE > OUTPUT
 rseq_run 0.1

@@ -52,7 +52,7 @@ fn run(harts: u8, seed: u64) -> Option<Command<'static>> {
 
 #[test]
 fn words_of_the_grammar_name_a_command(rt: HostRuntime) -> Result<(), Fail> {
-    let table: [(&[&str], Option<Command>); 23] = [
+    let table: [(&[&str], Option<Command>); 24] = [
         (&["solo", "F"], solo("F", 4_096, 200_000)),
         (&["solo", "--steps=1", "F"], solo("F", 4_096, 1)),
         (&["solo", "F", "--steps", "1"], solo("F", 4_096, 1)),
@@ -92,6 +92,10 @@ fn words_of_the_grammar_name_a_command(rt: HostRuntime) -> Result<(), Fail> {
         (
             &["inspect", "F", "--steps=3", "S", "--harts", "1"],
             scripted(Shown::Place, 1, 4_096, 3),
+        ),
+        (
+            &["acts", "F", "S", "--harts=3"],
+            scripted(Shown::Acts, 3, 4_096, 200_000),
         ),
         (&["run", "F"], run(2, 1)),
         (&["run", "F", "--harts", "8", "--seed", "7"], run(8, 7)),
