@@ -27,7 +27,8 @@ For each example NAME:
 
 For each worked run crates/worked_runs/data/GROUP/NAME, each line of its file `words`, given to the program in that folder, gives its
 `status` and its `stdout` (but for the number of the hart, where a file `any-hart` is there and all log lines are of one hart); or a
-text that begins with its `begins` and ends with its `ends`. Those whose devices fail (a file `fails`) only crates/worked_runs can make.
+text that begins with its `begins` and ends with its `ends`. Standard error says what its `stderr` has, or begins with the line of its
+`told` at the place of the command line. Those whose devices fail (a file `fails`) only crates/worked_runs can make.
 
 In each call standard error is empty exactly where the status is 0.
 """
@@ -47,7 +48,7 @@ STEPS = '1000000'
 SEEDS = range(1, 11)
 HARTS = ('1', '2', '4', '8')
 SECONDS = 120
-DONE, SCRIPT_REFUSED = 0, 4
+DONE, SCRIPT_REFUSED, UNREAD = 0, 4, 5
 TAKE_SCRIPT = r"sed -n '/^log /{h;d;};$!H;${g;s/^log [0-9]*\n//p;}'"
 LOOKS_LIKE_A_LOG = b'console 54\nlog 1\n\x00\xfflog 2\nlog 1\n0 run 1 00000000000100b0\nend open\n\nlog 1\n1 run 1 00000000000100b0\nend open\n'
 
@@ -90,13 +91,19 @@ class Output:
 
 def run(program, *words, folder=None):
     """The status and the standard output of the program on these words, in this folder."""
+    status, text, _ = run_whole(program, *words, folder=folder)
+    return status, text
+
+
+def run_whole(program, *words, folder=None):
+    """The status, the standard output and the standard error of the program on these words, in this folder."""
     try:
         ran = subprocess.run([program, *words], cwd=folder, stdin=subprocess.DEVNULL, capture_output=True, timeout=SECONDS)
     except subprocess.TimeoutExpired:
         raise Difference(f'{" ".join(map(str, words))}: it had not ended after {SECONDS} seconds') from None
     if (ran.returncode == DONE) != (not ran.stderr):
         raise Difference(f'{" ".join(map(str, words))}: its status is {ran.returncode}, and standard error is {ran.stderr[:60]!r}')
-    return ran.returncode, ran.stdout
+    return ran.returncode, ran.stdout, ran.stderr
 
 
 def first_difference(found, wanted):
@@ -279,10 +286,30 @@ def on_hart_0(text):
     return text[:len(text) - len(b''.join(log)) - len(end)] + b''.join(b'0' + line[1:] for line in log) + end
 
 
-def check_line(program, folder, line):
-    """A command line of a worked run gives the status and the text that stand beside it."""
-    status, text = run(program, *line.split(), folder=folder)
+def words_of(line):
+    """The words of a command line: between spaces, or, where it has a tab, between tabs."""
+    return line.split('\t') if '\t' in line else line.split()
+
+
+def check_said(folder, place, status, said):
+    """What standard error says of the command line at this place is what stands beside it. Of a file that can't be read the system
+    says more than a shelf in memory does."""
+    if (folder / 'stderr').is_file():
+        due, is_whole = (folder / 'stderr').read_bytes(), True
+    elif (folder / 'told').is_file():
+        due, is_whole = (folder / 'told').read_bytes().splitlines(keepends=True)[place], False
+    else:
+        return
+    if status == UNREAD:
+        due, is_whole = due.rstrip(b'\n'), False
+    want('standard error', said if is_whole else said[:len(due)], due)
+
+
+def check_line(program, folder, place, line):
+    """The command line of a worked run at this place gives the status and the texts that stand beside it."""
+    status, text, said = run_whole(program, *words_of(line), folder=folder)
     want('its status', status, int((folder / 'status').read_text()))
+    check_said(folder, place, status, said)
     if not (folder / 'stdout').is_file():
         begins, ends = (folder / 'begins').read_bytes(), (folder / 'ends').read_bytes()
         want('its beginning', text[:len(begins)], begins)
@@ -297,9 +324,9 @@ def check_line(program, folder, line):
 def row_passes(program, folder):
     """Whether each command line of a worked run passes; says which doesn't."""
     is_well = True
-    for line in (folder / 'words').read_text().splitlines():
+    for place, line in enumerate((folder / 'words').read_text().splitlines()):
         try:
-            check_line(program, folder, line)
+            check_line(program, folder, place, line)
         except Difference as difference:
             is_well = False
             print(f'{folder.parent.name}/{folder.name}: {line}: {difference}')

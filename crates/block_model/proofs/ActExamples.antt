@@ -2,7 +2,6 @@
 use Rattle.std.proofs.Common.{◌≡◌, ℕ, ◌*◌, ◌/◌, ◌%◌, Bool, true, false, List, [], ◌∷◌, ◌++◌, replicate, length, ◌-◌, refl, Option, Some, None, Result, Ok, Err}
 use Rattle.std.specs.Option.{option_map}
 use Rattle.mach_types.specs.Bytes.{word_at}
-use Rattle.mach_types.specs.declared.events.Choice.{Choice}
 use Rattle.mach_types.specs.declared.events.Choice.TheVariants as asked
 use Rattle.mach_types.specs.declared.events.Entry.{Entry}
 use Rattle.mach_types.specs.declared.limits.End.TheVariants.{Killed}
@@ -23,6 +22,7 @@ use Rattle.block_model.specs.History.{History, ended, file, here_in_history}
 use Rattle.block_model.specs.Replay.{Ask, played}
 use Rattle.block_model.specs.Setting.{Setting}
 use Rattle.block_model.specs.Whole.{before_last, touched_in, watched_at}
+use Rattle.block_model.proofs.ExamplePrograms.{code_and_page, line_of as line, within_frames}
 
 -- PROGRAMS
 
@@ -57,17 +57,7 @@ descriptor start abort =
     ∷ (abort % 256) ∷ (abort / 256) ∷ 1 ∷ 0 ∷ 0 ∷ 0 ∷ 0 ∷ 0 ∷ []
 
 abbrev program_with : List ℕ → List ℕ → Setting
-program_with code data_bytes = record {
-  program = record {
-    pages = record { number = 0x10; perm = 5; bytes = replicate 0xB0 0 ++ code } ∷ record { number = 0x20; perm = 6; bytes = area ++ data_bytes } ∷ [];
-    entry = 0x100B0;
-    phdr = 0x10040;
-    phnum = 2;
-    break_at = 0x21000;
-  };
-  limits = record { harts = 2; frames = 128; steps = 200000 };
-  seed = 0;
-}
+program_with code data_bytes = within_frames 128 (code_and_page code (area ++ data_bytes))
 
 abbrev program : Setting
 program = program_with (registration ++ sequence_of puts_two) (descriptor 0xCC 0xDC)
@@ -119,9 +109,6 @@ abbrev unhandling : Setting
 unhandling = program_with (posts 15 ++ registration ++ sequence_of puts_two) (descriptor 0xDC 0xEC)
 
 -- SCRIPTS
-
-abbrev line : ℕ → Choice → Ask
-line h choice = record { hart = record { 0 = h }; choice = choice; check = None }
 
 abbrev runs : ℕ → ℕ → Ask
 runs h t = line h (asked.Run (record { 0 = t }))
@@ -223,17 +210,12 @@ goes_on_behind = refl
 -- UNENDED
 
 -- the log ends between both instructions, or where the thread was preempted there
-unended : read (end_of_log program) one_inside ≡ Ok (Some ends.Unended)
+between_both :
+    (read (end_of_log program) one_inside ≡ Ok (Some ends.Unended))  -- unended
+    × (read (last_end program) preempted ≡ Ok (Some ends.Unended))  -- not ended yet
+    × (read hanging_thread preempted ≡ Ok (Some 1))  -- hangs
 unfolding played decide history done meaning row_of rows lui_rows auipc_rows jal_rows jalr_rows branch_rows load_rows store_rows op_imm_rows op_imm_32_rows op_rows op_32_rows misc_mem_rows amo_rows system_rows are_readable number_at
-unended = refl
-
-not_ended_yet : read (last_end program) preempted ≡ Ok (Some ends.Unended)
-unfolding played decide history done meaning row_of rows lui_rows auipc_rows jal_rows jalr_rows branch_rows load_rows store_rows op_imm_rows op_imm_32_rows op_rows op_32_rows misc_mem_rows amo_rows system_rows are_readable number_at
-not_ended_yet = refl
-
-hangs : read hanging_thread preempted ≡ Ok (Some 1)
-unfolding played decide history done meaning row_of rows lui_rows auipc_rows jal_rows jalr_rows branch_rows load_rows store_rows op_imm_rows op_imm_32_rows op_rows op_32_rows misc_mem_rows amo_rows system_rows are_readable number_at
-hangs = refl
+between_both = (refl, refl, refl)
 
 -- CUT
 
@@ -247,17 +229,12 @@ unfolding played decide history done meaning row_of rows lui_rows auipc_rows jal
 goes_on_at_handler = refl
 
 -- its register has what the one instruction put there; it isn't inside any more, and nothing hangs
-keeps : read (λ before. register (file program 1 before).file 5) moved ≡ Ok 1
+after_its_abort :
+    (read (λ before. register (file program 1 before).file 5) moved ≡ Ok 1)  -- keeps
+    × (read (is_inside_at program 1) moved ≡ Ok false)  -- isnt inside
+    × (read hanging_thread moved ≡ Ok None)  -- hangs no more
 unfolding played decide history done meaning row_of rows lui_rows auipc_rows jal_rows jalr_rows branch_rows load_rows store_rows op_imm_rows op_imm_32_rows op_rows op_32_rows misc_mem_rows amo_rows system_rows are_readable number_at
-keeps = refl
-
-isnt_inside : read (is_inside_at program 1) moved ≡ Ok false
-unfolding played decide history done meaning row_of rows lui_rows auipc_rows jal_rows jalr_rows branch_rows load_rows store_rows op_imm_rows op_imm_32_rows op_rows op_32_rows misc_mem_rows amo_rows system_rows are_readable number_at
-isnt_inside = refl
-
-hangs_no_more : read hanging_thread moved ≡ Ok None
-unfolding played decide history done meaning row_of rows lui_rows auipc_rows jal_rows jalr_rows branch_rows load_rows store_rows op_imm_rows op_imm_32_rows op_rows op_32_rows misc_mem_rows amo_rows system_rows are_readable number_at
-hangs_no_more = refl
+after_its_abort = (refl, refl, refl)
 
 -- a signal is delivered between both instructions: the handler is entered, and returns to the abort handler, which is the first word of
 -- its frame; the thread isn't inside any more
@@ -299,34 +276,21 @@ unfolding all_signals can_write_frame played decide history done meaning row_of 
 aborts_at_its_start = refl
 
 -- hart 0 takes the request of a barrier that asks for a restart between both instructions: the thread goes on at its abort handler
-cut_by_barrier : read_of restarting (last_end restarting) (played restarting (fenced_after 13)) ≡ Ok (Some (ends.Cut 0x100F0))
+restarted_inside :
+    (read_of restarting (last_end restarting) (played restarting (fenced_after 13)) ≡ Ok (Some (ends.Cut 0x100F0)))  -- cut by barrier
+    × (read_of restarting (λ before. (file restarting 1 before).pc) (played restarting (fenced_after 13)) ≡ Ok 0x100F0)  -- goes on at handler then
+    × (read_of restarting (is_inside_at restarting 0) (played restarting (fenced_after 13)) ≡ Ok false)  -- cut is outside
 unfolding barriers.asked played decide history done meaning row_of rows lui_rows auipc_rows jal_rows jalr_rows branch_rows load_rows store_rows op_imm_rows op_imm_32_rows op_rows op_32_rows misc_mem_rows amo_rows system_rows are_readable number_at
-cut_by_barrier = refl
-
-goes_on_at_handler_then : read_of restarting (λ before. (file restarting 1 before).pc) (played restarting (fenced_after 13)) ≡ Ok 0x100F0
-unfolding barriers.asked played decide history done meaning row_of rows lui_rows auipc_rows jal_rows jalr_rows branch_rows load_rows store_rows op_imm_rows op_imm_32_rows op_rows op_32_rows misc_mem_rows amo_rows system_rows are_readable number_at
-goes_on_at_handler_then = refl
-
-cut_is_outside : read_of restarting (is_inside_at restarting 0) (played restarting (fenced_after 13)) ≡ Ok false
-unfolding barriers.asked played decide history done meaning row_of rows lui_rows auipc_rows jal_rows jalr_rows branch_rows load_rows store_rows op_imm_rows op_imm_32_rows op_rows op_32_rows misc_mem_rows amo_rows system_rows are_readable number_at
-cut_is_outside = refl
+restarted_inside = (refl, refl, refl)
 
 -- behind both instructions it cuts nothing; where none was executed inside yet no sequence ends, and the thread goes on there too
-left_before_barrier : read_of restarting (last_end restarting) (played restarting (fenced_after 14)) ≡ Ok (Some ends.Left)
+restarted_outside :
+    (read_of restarting (last_end restarting) (played restarting (fenced_after 14)) ≡ Ok (Some ends.Left))  -- left before barrier
+    × (read_of restarting (λ before. (file restarting 1 before).pc) (played restarting (fenced_after 14)) ≡ Ok 0x100E8)  -- stays behind
+    × (read_of restarting (last_end restarting) (played restarting (fenced_after 12)) ≡ Ok None)  -- none ends by barrier
+    × (read_of restarting (λ before. (file restarting 1 before).pc) (played restarting (fenced_after 12)) ≡ Ok 0x100F0)  -- aborts at its start too
 unfolding barriers.asked played decide history done meaning row_of rows lui_rows auipc_rows jal_rows jalr_rows branch_rows load_rows store_rows op_imm_rows op_imm_32_rows op_rows op_32_rows misc_mem_rows amo_rows system_rows are_readable number_at
-left_before_barrier = refl
-
-stays_behind : read_of restarting (λ before. (file restarting 1 before).pc) (played restarting (fenced_after 14)) ≡ Ok 0x100E8
-unfolding barriers.asked played decide history done meaning row_of rows lui_rows auipc_rows jal_rows jalr_rows branch_rows load_rows store_rows op_imm_rows op_imm_32_rows op_rows op_32_rows misc_mem_rows amo_rows system_rows are_readable number_at
-stays_behind = refl
-
-none_ends_by_barrier : read_of restarting (last_end restarting) (played restarting (fenced_after 12)) ≡ Ok None
-unfolding barriers.asked played decide history done meaning row_of rows lui_rows auipc_rows jal_rows jalr_rows branch_rows load_rows store_rows op_imm_rows op_imm_32_rows op_rows op_32_rows misc_mem_rows amo_rows system_rows are_readable number_at
-none_ends_by_barrier = refl
-
-aborts_at_its_start_too : read_of restarting (λ before. (file restarting 1 before).pc) (played restarting (fenced_after 12)) ≡ Ok 0x100F0
-unfolding barriers.asked played decide history done meaning row_of rows lui_rows auipc_rows jal_rows jalr_rows branch_rows load_rows store_rows op_imm_rows op_imm_32_rows op_rows op_32_rows misc_mem_rows amo_rows system_rows are_readable number_at
-aborts_at_its_start_too = refl
+restarted_outside = (refl, refl, refl, refl)
 
 -- one that asks for no restart cuts nothing: the thread is inside still
 not_cut_by_barrier : read_of fencing (end_of_log fencing) (played fencing (fenced_after 13)) ≡ Ok (Some ends.Unended)

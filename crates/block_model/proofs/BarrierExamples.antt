@@ -12,7 +12,6 @@ use Rattle.mach_types.specs.declared.errors.TheConstants.{EINVAL, EPERM}
 use Rattle.mach_types.specs.declared.events.Choice.{Choice}
 use Rattle.mach_types.specs.declared.events.Choice.TheVariants as asked
 use Rattle.mach_types.specs.declared.events.Entry.{Entry}
-use Rattle.mach_types.specs.declared.events.Kind.{Kind}
 use Rattle.mach_types.specs.declared.events.Kind.TheVariants as kind
 use Rattle.mach_types.specs.declared.events.Why.{Why}
 use Rattle.mach_types.specs.declared.events.Why.TheVariants.{Idle, InBarrier, NoRequest, NotInBarrier, Targets, Waiting}
@@ -45,6 +44,7 @@ use Rattle.block_model.specs.Walks.{IsWalk, answers, computed}
 use Rattle.block_model.specs.declared.refusals.Refused.{Refused}
 use Rattle.block_model.specs.declared.refusals.Refused.TheVariants.{NotEnabled}
 use Rattle.block_model.proofs.SequenceExamples.{pcs, program}
+use Rattle.block_model.proofs.ExamplePrograms.{entry_of as entry, line_of as line}
 
 -- WHO IS ASKED
 
@@ -159,17 +159,12 @@ unfolding barriers.asked
 about_each_without_flag = refl
 
 -- where a barrier begins a0 stays and the pc goes on, and the record stays; one that is about no hart answers 0 at once
-begins : (called (asks for_all 8 0 0) 1).files ≡ (1, record { file = call_registers 8 0 0; pc = 0x10084 }) ∷ []
+begun_barrier :
+    ((called (asks for_all 8 0 0) 1).files ≡ (1, record { file = call_registers 8 0 0; pc = 0x10084 }) ∷ [])  -- begins
+    × ((called (asks for_all 8 0 0) 1).kernel ≡ (asks for_all 8 0 0).kernel)  -- record stays
+    × (map (λ cmd. answer_and_barrier (asks_alone cmd)) (1 ∷ 2 ∷ 8 ∷ 128 ∷ []) ≡ replicate 4 (0, None))  -- over at once
 unfolding barriers.asked
-begins = refl
-
-record_stays : (called (asks for_all 8 0 0) 1).kernel ≡ (asks for_all 8 0 0).kernel
-unfolding barriers.asked
-record_stays = refl
-
-over_at_once : map (λ cmd. answer_and_barrier (asks_alone cmd)) (1 ∷ 2 ∷ 8 ∷ 128 ∷ []) ≡ replicate 4 (0, None)
-unfolding barriers.asked
-over_at_once = refl
+begun_barrier = (refl, refl, refl)
 
 -- REQUESTS
 
@@ -237,14 +232,11 @@ nothing_else = refl
 abbrev left_hart : Here
 left_hart = record (has_requests 5 []) { hart = 2; waiting = λ h. []; restart = true }
 
-idle_takes : refusal_take left_hart ≡ None
-idle_takes = refl
-
-idle_restarts_none : rest_of (done_take left_hart) ≡ (None, 0, [], None)
-idle_restarts_none = refl
-
-idle_took : requests_after 2 2 (done_take left_hart) 5 ≡ 0
-idle_took = refl
+idle_take :
+    (refusal_take left_hart ≡ None)  -- idle takes
+    × (rest_of (done_take left_hart) ≡ (None, 0, [], None))  -- idle restarts none
+    × (requests_after 2 2 (done_take left_hart) 5 ≡ 0)  -- idle took
+idle_take = (refl, refl, refl)
 
 -- A THREAD IN A BARRIER
 
@@ -273,14 +265,11 @@ idle_returns_from_none : refusal_of asked.Done (record (waits_for None) { hart =
 idle_returns_from_none = refl
 
 -- where it returns a0 becomes 0 and the pc stays; its thread waits no more; and what is pending at its hart stays
-returns_zero : (done_done (waits_for (Some 0))).files ≡ (1, record { file = with_register (call_registers 8 0 0) 10 0; pc = 0x10084 }) ∷ []
-returns_zero = refl
-
-waits_no_more : map (λ k. awaits_after k 0 (done_done (waits_for (Some 0))) (Some 0)) (0 ∷ 1 ∷ []) ≡ None ∷ Some 0 ∷ []
-waits_no_more = refl
-
-pending_stays : requests_after 0 0 (done_done (waits_for (Some 0))) 2 ≡ 2
-pending_stays = refl
+returned_barrier :
+    ((done_done (waits_for (Some 0))).files ≡ (1, record { file = with_register (call_registers 8 0 0) 10 0; pc = 0x10084 }) ∷ [])  -- returns zero
+    × (map (λ k. awaits_after k 0 (done_done (waits_for (Some 0))) (Some 0)) (0 ∷ 1 ∷ []) ≡ None ∷ Some 0 ∷ [])  -- waits no more
+    × (requests_after 0 0 (done_done (waits_for (Some 0))) 2 ≡ 2)  -- pending stays
+returned_barrier = (refl, refl, refl)
 
 -- SEQUENCES
 
@@ -356,15 +345,9 @@ fences = record program {
   };
 }
 
-abbrev line : ℕ → Choice → Ask
-line h choice = record { hart = record { 0 = h }; choice = choice; check = None }
-
 abbrev begun : List Ask
 begun = line 0 (asked.Run (record { 0 = 1 })) ∷ replicate 5 (line 0 asked.Exec) ++ line 1 (asked.Run (record { 0 = 2 })) ∷ replicate 2 (line 1 asked.Exec)
     ++ replicate 6 (line 0 asked.Exec)
-
-abbrev entry : ℕ → Kind → ℕ → ℕ → Entry
-entry h k t pc = record { hart = record { 0 = h }; kind = k; tid = record { 0 = t }; pc = pc }
 
 abbrev stored_log : List Entry
 stored_log = entry 0 kind.Run 1 0x100B0 ∷ map (entry 0 kind.Exec 1) (0x100B0 ∷ 0x100B4 ∷ 0x100B8 ∷ 0x100BC ∷ 0x100C0 ∷ [])

@@ -47,15 +47,13 @@ use Rattle.block_model.specs.Instruction.{fault_by, fetched, instruction_of}
 use Rattle.block_model.specs.Run.{IsAllowedLog, IsRunHistory}
 use Rattle.block_model.specs.Setting.{Setting}
 use Rattle.block_model.specs.Sights.{first_ready, is_all_taken, is_deliverable_on, is_local_on, sight_in, thread}
-use Rattle.block_model.proofs.Allowed.{decided_is}
-use Rattle.block_model.proofs.Applied.{plain_of}
-use Rattle.block_model.proofs.Ends.{some_live}
-use Rattle.block_model.proofs.Good.{IsGoodHere, IsSound, good_here}
+use Rattle.block_model.proofs.Runs.{decided_is, IsAllowedLog-append, history-append, history-nil, settled}
+use Rattle.block_model.proofs.PlainEvents.{plain_of}
+use Rattle.block_model.proofs.RunEnds.{some_live, IsOpen, decide-open}
+use Rattle.block_model.proofs.PlaceInvariant.{IsGoodHere, IsSound, good_here}
 use Rattle.block_model.proofs.HartSets.{some_hart, some_in}
 use Rattle.block_model.proofs.KernelTables.{found_passes, found_sorted, running_there}
-use Rattle.block_model.proofs.Open.{IsOpen, decide-open}
-use Rattle.block_model.proofs.Rules.{ended_parts, allowed_where_none_waits, in_no_barrier, found_where, found_where_any, goes_somewhere, run_free, signal_free}
-use Rattle.block_model.proofs.Runs.{IsAllowedLog-append, history-append, history-nil, settled}
+use Rattle.block_model.proofs.FixedRule.{ended_parts, allowed_where_none_waits, in_no_barrier, found_where, found_where_any, goes_somewhere, run_free, signal_free}
 
 -- what is picked isn't refused
 
@@ -75,16 +73,7 @@ free_gate false false = refl
 free_effect : (waiting : ℕ) (byte : ℕ → Option ℕ) (writable : ℕ → Bool) (e : Effect) → sets_register e ≡ true
     → instruction_gate waiting (Some e) (is_some (fault_in byte writable e)) ≡ None
 free_effect waiting byte writable (effect.Next rd value pc) sets = free_gate (ltb 0 waiting) _
-free_effect waiting byte writable (effect.Load at size is_signed rd) sets = absurd (false≢true sets)
-free_effect waiting byte writable (effect.Store at size value) sets = absurd (false≢true sets)
-free_effect waiting byte writable (effect.Amo op at size value rd) sets = absurd (false≢true sets)
-free_effect waiting byte writable (effect.Lr at size rd) sets = absurd (false≢true sets)
-free_effect waiting byte writable (effect.Sc at size value rd) sets = absurd (false≢true sets)
-free_effect waiting byte writable (effect.Fence full) sets = absurd (false≢true sets)
-free_effect waiting byte writable effect.FenceI sets = absurd (false≢true sets)
-free_effect waiting byte writable effect.Call sets = absurd (false≢true sets)
-free_effect waiting byte writable effect.Break sets = absurd (false≢true sets)
-free_effect waiting byte writable effect.Misaligned sets = absurd (false≢true sets)
+free_effect waiting byte writable e sets = absurd (false≢true sets)
 
 -- so may one that touches registers alone and doesn't fault
 free_row : (waiting : ℕ) (byte : ℕ → Option ℕ) (writable : ℕ → Bool) (fetched_word : Option ℕ) (f : Saved) (o : Option Inst)
@@ -97,17 +86,8 @@ free_row waiting byte writable fetched_word f (Some i) is =
 
 -- it is no call
 pub no_call_held : (held : Bool) (e : Effect) → sets_register e ≡ true → others_gate held (Some e) ≡ None
-no_call_held held (effect.Next rd value pc) sets = refl
-no_call_held held (effect.Load at size is_signed rd) sets = refl
-no_call_held held (effect.Store at size value) sets = refl
-no_call_held held (effect.Amo op at size value rd) sets = refl
-no_call_held held (effect.Lr at size rd) sets = refl
-no_call_held held (effect.Sc at size value rd) sets = refl
-no_call_held held (effect.Fence full) sets = refl
-no_call_held held effect.FenceI sets = refl
 no_call_held held effect.Call sets = absurd (false≢true sets)
-no_call_held held effect.Break sets = refl
-no_call_held held effect.Misaligned sets = refl
+no_call_held held e sets = refl
 
 free_others : (held : Bool) (byte : ℕ → Option ℕ) (writable : ℕ → Bool) (fetched_word : Option ℕ) (f : Saved) (o : Option Inst)
     → (option_map_or is_register_only o false && is_none (fault_by byte writable f.pc fetched_word (option_map (λ i. meaning i f.file f.pc) o))) ≡ true

@@ -18,16 +18,15 @@ use Rattle.block_model.specs.Events.{refusal_of}
 use Rattle.block_model.specs.History.{Event, History, byte, file, file_among, here_in_history, kernel}
 use Rattle.block_model.specs.Deciding.{event, history, number_of, pc_in, thread_in}
 use Rattle.block_model.specs.Run.{IsRunHistory, IsAllowedLog}
-use Rattle.block_model.proofs.Allowed.{allowed_at}
-use Rattle.block_model.proofs.BytesOfMemory.{HaveBytes, start_small, written_small}
-use Rattle.block_model.proofs.Ends.{proper_at}
-use Rattle.block_model.proofs.Good.{IsSound}
-use Rattle.block_model.proofs.Goods.Run.{run_ready}
+use Rattle.block_model.proofs.Runs.{allowed_at, length-history, settled}
+use Rattle.block_model.proofs.Images.{HaveBytes, start_small, written_small}
+use Rattle.block_model.proofs.RunEnds.{proper_at}
+use Rattle.block_model.proofs.PlaceInvariant.{IsSound}
+use Rattle.block_model.proofs.Invariants.Events.{run_ready}
 use Rattle.block_model.proofs.KernelTables.{ready_state, running_is}
 use Rattle.block_model.proofs.Pcs.{StandsIn}
-use Rattle.block_model.proofs.ProperCalls.{AllStand, FilesStand}
-use Rattle.block_model.proofs.Runs.{length-history, settled}
-use Rattle.block_model.proofs.SignalSteps.{start_stand}
+use Rattle.block_model.proofs.AddressesOfCalls.{AllStand, FilesStand}
+use Rattle.block_model.proofs.SignalTables.{start_stand}
 
 -- P holds of the entry of each event
 abbrev AllEntries : (Entry → Type 0) → History → Type 0

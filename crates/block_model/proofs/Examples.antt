@@ -3,7 +3,6 @@ use Rattle.std.proofs.Common.{◌≡◌, ℕ, ◌-◌, ◌^◌, List, [], ◌∷
 use Rattle.mach_types.specs.declared.events.Choice.{Choice}
 use Rattle.mach_types.specs.declared.events.Choice.TheVariants as asked
 use Rattle.mach_types.specs.declared.events.Entry.{Entry}
-use Rattle.mach_types.specs.declared.events.Kind.{Kind}
 use Rattle.mach_types.specs.declared.events.Kind.TheVariants as kind
 use Rattle.mach_types.specs.declared.events.Sight.{Sight}
 use Rattle.mach_types.specs.declared.events.Why.TheVariants.{Busy, Idle, NoHart, NotAllowed, NotReady, NoRequest, NotInBarrier, NoSignal, NoStore}
@@ -26,7 +25,7 @@ use Rattle.block_model.specs.Calls.Answers.{CallDone}
 use Rattle.block_model.specs.Deciding.{history, decide, done, end_of, entry_in, final}
 use Rattle.block_model.specs.Events.Run.{refusal_run}
 use Rattle.block_model.specs.Here.{Here, memory, view, nothing}
-use Rattle.block_model.specs.History.{History, byte, can_be_written, console, events, file, here_in_history, kernel, lost_after, ran, reservation, running}
+use Rattle.block_model.specs.History.{History, byte, can_be_written, events, file, here_in_history, kernel, lost_after, ran, reservation, running}
 use Rattle.block_model.specs.Instruction.{next_fault}
 use Rattle.block_model.specs.Kernel.{left}
 use Rattle.block_model.specs.Plain.{PlainRun, plain_after, plain_decide, plain_run, plain_solo, plain_end}
@@ -36,11 +35,11 @@ use Rattle.block_model.specs.Sights.{effect_here, first_ready, is_local_on, sigh
 use Rattle.block_model.specs.Solo.{IsSolo, solo_choice, solo_rule}
 use Rattle.block_model.specs.declared.refusals.Refused.{Refused}
 use Rattle.block_model.specs.declared.refusals.Refused.TheVariants.{Ended, NotEnabled}
+use Rattle.block_model.proofs.ExamplePrograms.{code_and_data, entry, line, outcome}
 
--- a program of one segment that is read and executed, its code at 0x10078; and one of two, its code at 0x100B0, and a
--- page that is read and written at 0x20000
+-- a program of one segment that is read and executed, its code at 0x10078
 abbrev code_alone : List ℕ → Setting
-code_alone code = record {
+code_alone code = record (code_and_data code) {
   program = record {
     pages = record { number = 0x10; perm = 5; bytes = replicate 0x78 0 ++ code } ∷ [];
     entry = 0x10078;
@@ -48,25 +47,9 @@ code_alone code = record {
     phnum = 1;
     break_at = 0x11000;
   };
-  limits = record { harts = 2; frames = 4096; steps = 200000 };
-  seed = 1;
-}
-
-abbrev code_and_data : List ℕ → Setting
-code_and_data code = record (code_alone code) {
-  program = record {
-    pages = record { number = 0x10; perm = 5; bytes = replicate 0xB0 0 ++ code } ∷ record { number = 0x20; perm = 6; bytes = [] } ∷ [];
-    entry = 0x100B0;
-    phdr = 0x10040;
-    phnum = 2;
-    break_at = 0x21000;
-  };
 }
 
 -- lines of hart 0: it runs thread 1, executes so many instructions, drains so many stores
-abbrev line : Choice → Ask
-line choice = record { hart = record { 0 = 0 }; choice = choice; check = None }
-
 abbrev starts : Ask
 starts = line (asked.Run (record { 0 = 1 }))
 
@@ -76,15 +59,7 @@ execs n = replicate n (line asked.Exec)
 abbrev drains : ℕ → List Ask
 drains n = replicate n (line asked.Drain)
 
--- entries of hart 0 and thread 1
-abbrev entry : Kind → ℕ → Entry
-entry k pc = record { hart = record { 0 = 0 }; kind = k; tid = record { 0 = 1 }; pc = pc }
-
--- what was written and how it ended, after a script and by the plain machine
-abbrev outcome : Setting → Result (List Entry) ℕ → Result (List ℕ × End) ℕ
-outcome s (Ok log) = Ok (console s (history s log), end_of s (history s log))
-outcome s (Err n) = Err n
-
+-- what was written and how it ended by the plain machine
 abbrev plain_outcome : Setting → Result PlainRun ℕ → Result (List ℕ × End) ℕ
 plain_outcome s (Ok run) = Ok (run.machine.kernel.console, plain_end s run.machine)
 plain_outcome s (Err n) = Err n
@@ -147,17 +122,12 @@ no_line = refl
 abbrev starts_at : ℕ → ℕ → Ask
 starts_at t pc = record starts { check = Some (record { 0 = t }, pc) }
 
-right_check : played exits (starts_at 1 0x10078 ∷ []) ≡ Ok (entry kind.Run 0x10078 ∷ [])
+checked_lines :
+    (played exits (starts_at 1 0x10078 ∷ []) ≡ Ok (entry kind.Run 0x10078 ∷ []))  -- right check
+    × (played exits (starts_at 2 0x10078 ∷ []) ≡ Err 1)  -- wrong thread
+    × (played exits (starts_at 1 0x1007C ∷ []) ≡ Err 1)  -- wrong pc
 unfolding played decide history done
-right_check = refl
-
-wrong_thread : played exits (starts_at 2 0x10078 ∷ []) ≡ Err 1
-unfolding played decide history done
-wrong_thread = refl
-
-wrong_pc : played exits (starts_at 1 0x1007C ∷ []) ≡ Err 1
-unfolding played decide history done
-wrong_pc = refl
+checked_lines = (refl, refl, refl)
 
 -- a line that can't be read is refused, and with its number
 unread_line : played_read exits (Some starts ∷ None ∷ Some starts ∷ []) ≡ Err 2
@@ -176,57 +146,22 @@ begun = entry kind.Run 0x10078 ∷ []
 abbrev first : Choice
 first = asked.Run (record { 0 = 1 })
 
-idle_executes : answer [] 0 asked.Exec ≡ Err (NotEnabled Idle)
+refused_choices :
+    (answer [] 0 asked.Exec ≡ Err (NotEnabled Idle))  -- idle executes
+    × (answer [] 0 asked.Preempt ≡ Err (NotEnabled Idle))  -- idle leaves
+    × (answer [] 0 asked.Take ≡ Err (NotEnabled NoRequest))  -- idle takes
+    × (answer [] 0 asked.Done ≡ Err (NotEnabled Idle))  -- idle returns
+    × (answer [] 0 asked.Signal ≡ Err (NotEnabled Idle))  -- idle signal
+    × (answer [] 2 first ≡ Err (NotEnabled NoHart))  -- third hart
+    × (answer [] 0 (asked.Run (record { 0 = 0 })) ≡ Err (NotEnabled NotReady))  -- no thread 0
+    × (answer [] 0 (asked.Run (record { 0 = 2 })) ≡ Err (NotEnabled NotReady))  -- no second thread
+    × (answer begun 0 first ≡ Err (NotEnabled Busy))  -- busy
+    × (answer begun 1 first ≡ Err (NotEnabled NotReady))  -- runs elsewhere
+    × (answer begun 0 asked.Drain ≡ Err (NotEnabled NoStore))  -- nothing to drain
+    × (answer begun 0 asked.Take ≡ Err (NotEnabled NoRequest))  -- no request
+    × (answer begun 0 asked.Done ≡ Err (NotEnabled NotInBarrier))  -- no barrier
 unfolding decide history done
-idle_executes = refl
-
-idle_leaves : answer [] 0 asked.Preempt ≡ Err (NotEnabled Idle)
-unfolding decide history done
-idle_leaves = refl
-
-idle_takes : answer [] 0 asked.Take ≡ Err (NotEnabled NoRequest)
-unfolding decide history done
-idle_takes = refl
-
-idle_returns : answer [] 0 asked.Done ≡ Err (NotEnabled Idle)
-unfolding decide history done
-idle_returns = refl
-
-idle_signal : answer [] 0 asked.Signal ≡ Err (NotEnabled Idle)
-unfolding decide history done
-idle_signal = refl
-
-third_hart : answer [] 2 first ≡ Err (NotEnabled NoHart)
-unfolding decide history done
-third_hart = refl
-
-no_thread_0 : answer [] 0 (asked.Run (record { 0 = 0 })) ≡ Err (NotEnabled NotReady)
-unfolding decide history done
-no_thread_0 = refl
-
-no_second_thread : answer [] 0 (asked.Run (record { 0 = 2 })) ≡ Err (NotEnabled NotReady)
-unfolding decide history done
-no_second_thread = refl
-
-busy : answer begun 0 first ≡ Err (NotEnabled Busy)
-unfolding decide history done
-busy = refl
-
-runs_elsewhere : answer begun 1 first ≡ Err (NotEnabled NotReady)
-unfolding decide history done
-runs_elsewhere = refl
-
-nothing_to_drain : answer begun 0 asked.Drain ≡ Err (NotEnabled NoStore)
-unfolding decide history done
-nothing_to_drain = refl
-
-no_request : answer begun 0 asked.Take ≡ Err (NotEnabled NoRequest)
-unfolding decide history done
-no_request = refl
-
-no_barrier : answer begun 0 asked.Done ≡ Err (NotEnabled NotInBarrier)
-unfolding decide history done
-no_barrier = refl
+refused_choices = (refl, refl, refl, refl, refl, refl, refl, refl, refl, refl, refl, refl, refl)
 
 no_signal : answer begun 0 asked.Signal ≡ Err (NotEnabled NoSignal)
 unfolding all_signals decide history done
@@ -243,17 +178,12 @@ on_hart_1 =
     let here = here_in_history exits [] 0 in
     record here { kernel = record (kernel exits []) { scheduling = record { order = 1 ∷ []; affinities = (1, 2) ∷ [] } } }
 
-not_allowed : refusal_run on_hart_1 1 ≡ Some NotAllowed
-not_allowed = refl
-
-allowed : refusal_run (record on_hart_1 { hart = 1 }) 1 ≡ None
-allowed = refl
-
-none_for_hart_0 : first_ready on_hart_1 ≡ None
-none_for_hart_0 = refl
-
-one_for_hart_1 : first_ready (record on_hart_1 { hart = 1 }) ≡ Some (record { 0 = 1 })
-one_for_hart_1 = refl
+by_affinity :
+    (refusal_run on_hart_1 1 ≡ Some NotAllowed)  -- not allowed
+    × (refusal_run (record on_hart_1 { hart = 1 }) 1 ≡ None)  -- allowed
+    × (first_ready on_hart_1 ≡ None)  -- none for hart 0
+    × (first_ready (record on_hart_1 { hart = 1 }) ≡ Some (record { 0 = 1 }))  -- one for hart 1
+by_affinity = (refl, refl, refl, refl)
 
 -- a run and a preempt move the thread's state and the ready list; the hart counts its events, and instructions from the run on
 abbrev left_log : List Entry
@@ -282,25 +212,14 @@ runs_not_on_1 : running exits 1 (history exits begun) ≡ None
 unfolding history done
 runs_not_on_1 = refl
 
-runs_no_more : running exits 0 (history exits left_log) ≡ None
+counts_when_left :
+    (running exits 0 (history exits left_log) ≡ None)  -- runs no more
+    × (events 0 (history exits left_log) ≡ 3)  -- counted events
+    × (ran 0 (history exits left_log) ≡ 1)  -- counted instructions
+    × (ran 0 (history exits (left_log ++ entry kind.Run 0x1007C ∷ [])) ≡ 0)  -- counted again
+    × ((file exits 1 (history exits left_log)).pc ≡ 0x1007C)  -- kept pc
 unfolding history done meaning row_of rows lui_rows auipc_rows jal_rows jalr_rows branch_rows load_rows store_rows op_imm_rows op_imm_32_rows op_rows op_32_rows misc_mem_rows amo_rows system_rows
-runs_no_more = refl
-
-counted_events : events 0 (history exits left_log) ≡ 3
-unfolding history done meaning row_of rows lui_rows auipc_rows jal_rows jalr_rows branch_rows load_rows store_rows op_imm_rows op_imm_32_rows op_rows op_32_rows misc_mem_rows amo_rows system_rows
-counted_events = refl
-
-counted_instructions : ran 0 (history exits left_log) ≡ 1
-unfolding history done meaning row_of rows lui_rows auipc_rows jal_rows jalr_rows branch_rows load_rows store_rows op_imm_rows op_imm_32_rows op_rows op_32_rows misc_mem_rows amo_rows system_rows
-counted_instructions = refl
-
-counted_again : ran 0 (history exits (left_log ++ entry kind.Run 0x1007C ∷ [])) ≡ 0
-unfolding history done meaning row_of rows lui_rows auipc_rows jal_rows jalr_rows branch_rows load_rows store_rows op_imm_rows op_imm_32_rows op_rows op_32_rows misc_mem_rows amo_rows system_rows
-counted_again = refl
-
-kept_pc : (file exits 1 (history exits left_log)).pc ≡ 0x1007C
-unfolding history done meaning row_of rows lui_rows auipc_rows jal_rows jalr_rows branch_rows load_rows store_rows op_imm_rows op_imm_32_rows op_rows op_32_rows misc_mem_rows amo_rows system_rows
-kept_pc = refl
+counts_when_left = (refl, refl, refl, refl, refl)
 
 -- a thread that leaves is the last ready one
 last_ready : (left 1 (record (kernel exits []) { scheduling = record { order = 2 ∷ 3 ∷ []; affinities = [] } })).scheduling.order ≡ 2 ∷ 3 ∷ 1 ∷ []
@@ -320,17 +239,12 @@ fault_at pc =
     let here = here_in_history illegal [] 0 in
     next_fault illegal.program.pages (memory here) (λ a. true) (record { file = no_registers; pc = pc })
 
-not_executable : fault_at 0x20000 ≡ Some 11
+fetch_faults :
+    (fault_at 0x20000 ≡ Some 11)  -- not executable
+    × (fault_at 0x1007A ≡ Some 7)  -- not aligned
+    × (fault_at 0x20002 ≡ Some 7)  -- not aligned first
 unfolding meaning row_of rows lui_rows auipc_rows jal_rows jalr_rows branch_rows load_rows store_rows op_imm_rows op_imm_32_rows op_rows op_32_rows misc_mem_rows amo_rows system_rows
-not_executable = refl
-
-not_aligned : fault_at 0x1007A ≡ Some 7
-unfolding meaning row_of rows lui_rows auipc_rows jal_rows jalr_rows branch_rows load_rows store_rows op_imm_rows op_imm_32_rows op_rows op_32_rows misc_mem_rows amo_rows system_rows
-not_aligned = refl
-
-not_aligned_first : fault_at 0x20002 ≡ Some 7
-unfolding meaning row_of rows lui_rows auipc_rows jal_rows jalr_rows branch_rows load_rows store_rows op_imm_rows op_imm_32_rows op_rows op_32_rows misc_mem_rows amo_rows system_rows
-not_aligned_first = refl
+fetch_faults = (refl, refl, refl)
 
 -- a jump to an address that isn't a multiple of 4 is a fault of the jump, which isn't local then
 abbrev jumps : Setting
@@ -348,20 +262,13 @@ jump_is_not_local = refl
 abbrev reads : ℕ → Option ℕ
 reads a = memory (here_in_history exits [] 0) a
 
-code_is_read : reads 0x1007A ≡ Some 0x70
-code_is_read = refl
-
-unmapped_is_not_read : reads 0x20000 ≡ None
-unmapped_is_not_read = refl
-
-code_is_not_written : can_be_written exits [] 0x10078 ≡ false
-code_is_not_written = refl
-
-stack_is_written : can_be_written exits [] 0x3FFFF3FFF8 ≡ true
-stack_is_written = refl
-
-unmapped_is_not_written : can_be_written exits [] 0x20000 ≡ false
-unmapped_is_not_written = refl
+page_permissions :
+    (reads 0x1007A ≡ Some 0x70)  -- code is read
+    × (reads 0x20000 ≡ None)  -- unmapped is not read
+    × (can_be_written exits [] 0x10078 ≡ false)  -- code is not written
+    × (can_be_written exits [] 0x3FFFF3FFF8 ≡ true)  -- stack is written
+    × (can_be_written exits [] 0x20000 ≡ false)  -- unmapped is not written
+page_permissions = (refl, refl, refl, refl, refl)
 
 -- `lui x8, 0x20` and nine stores to 0x20000: the ninth is refused where eight wait
 abbrev stores_nine : Setting
@@ -480,17 +387,12 @@ abbrev at_0x20000 : Result (List Entry) ℕ → Option ℕ
 at_0x20000 (Ok log) = Some (byte stores_twice (history stores_twice log) 0x20000)
 at_0x20000 (Err n) = None
 
-before_drains : at_0x20000 (played stores_twice (starts ∷ (execs 5 ++ drains 0))) ≡ Some 0
+drained_in_order :
+    (at_0x20000 (played stores_twice (starts ∷ (execs 5 ++ drains 0))) ≡ Some 0)  -- before drains
+    × (at_0x20000 (played stores_twice (starts ∷ (execs 5 ++ drains 1))) ≡ Some 7)  -- after one
+    × (at_0x20000 (played stores_twice (starts ∷ (execs 5 ++ drains 2))) ≡ Some 8)  -- after both
 unfolding played decide history done meaning row_of rows lui_rows auipc_rows jal_rows jalr_rows branch_rows load_rows store_rows op_imm_rows op_imm_32_rows op_rows op_32_rows misc_mem_rows amo_rows system_rows
-before_drains = refl
-
-after_one : at_0x20000 (played stores_twice (starts ∷ (execs 5 ++ drains 1))) ≡ Some 7
-unfolding played decide history done meaning row_of rows lui_rows auipc_rows jal_rows jalr_rows branch_rows load_rows store_rows op_imm_rows op_imm_32_rows op_rows op_32_rows misc_mem_rows amo_rows system_rows
-after_one = refl
-
-after_both : at_0x20000 (played stores_twice (starts ∷ (execs 5 ++ drains 2))) ≡ Some 8
-unfolding played decide history done meaning row_of rows lui_rows auipc_rows jal_rows jalr_rows branch_rows load_rows store_rows op_imm_rows op_imm_32_rows op_rows op_32_rows misc_mem_rows amo_rows system_rows
-after_both = refl
+drained_in_order = (refl, refl, refl)
 
 -- `amoadd.w` of 0x20000 waits until the store of 7 has entered, and then answers 7
 abbrev adds : Setting
@@ -511,23 +413,14 @@ after w = lost_after (w ∷ []) (Some 0x20000)
 abbrev stored : ℕ → ℕ → Write
 stored at size = Stored (record { at = at; size = size; value = 7 })
 
-write_inside : after (stored 0x20007 1) ≡ None
-write_inside = refl
-
-write_across : after (stored 0x1FFFF 2) ≡ None
-write_across = refl
-
-write_before : after (stored 0x1FFF8 8) ≡ Some 0x20000
-write_before = refl
-
-write_behind : after (stored 0x20008 8) ≡ Some 0x20000
-write_behind = refl
-
-page_of_zeros : after (Zeroed 0x20000 4096) ≡ None
-page_of_zeros = refl
-
-no_zeros : after (Zeroed 0x20000 0) ≡ Some 0x20000
-no_zeros = refl
+reservation_after_writes :
+    (after (stored 0x20007 1) ≡ None)  -- write inside
+    × (after (stored 0x1FFFF 2) ≡ None)  -- write across
+    × (after (stored 0x1FFF8 8) ≡ Some 0x20000)  -- write before
+    × (after (stored 0x20008 8) ≡ Some 0x20000)  -- write behind
+    × (after (Zeroed 0x20000 4096) ≡ None)  -- page of zeros
+    × (after (Zeroed 0x20000 0) ≡ Some 0x20000)  -- no zeros
+reservation_after_writes = (refl, refl, refl, refl, refl, refl)
 
 -- the same in a history: hart 0 has reserved these bytes, and then hart 1 writes
 abbrev reserved_then : Write → History
@@ -549,17 +442,12 @@ waits ws = record (here_in_history stores_nine [] 0) { waiting = λ k. ws }
 abbrev store : ℕ → ℕ → ℕ → Store
 store at size value = record { at = at; size = size; value = value }
 
-youngest : view (waits (store 0x20000 4 7 ∷ store 0x20000 1 8 ∷ [])) 0x20000 ≡ Some 8
-youngest = refl
-
-older_beside_it : view (waits (store 0x20000 4 0x700 ∷ store 0x20000 1 8 ∷ [])) 0x20001 ≡ Some 7
-older_beside_it = refl
-
-memory_below : view (waits (store 0x20000 4 7 ∷ [])) 0x20004 ≡ Some 0
-memory_below = refl
-
-not_seen : view (waits (store 0x30000 1 7 ∷ [])) 0x30000 ≡ None
-not_seen = refl
+seen_of_waiting_stores :
+    (view (waits (store 0x20000 4 7 ∷ store 0x20000 1 8 ∷ [])) 0x20000 ≡ Some 8)  -- youngest
+    × (view (waits (store 0x20000 4 0x700 ∷ store 0x20000 1 8 ∷ [])) 0x20001 ≡ Some 7)  -- older beside it
+    × (view (waits (store 0x20000 4 7 ∷ [])) 0x20004 ≡ Some 0)  -- memory below
+    × (view (waits (store 0x30000 1 7 ∷ [])) 0x30000 ≡ None)  -- not seen
+seen_of_waiting_stores = (refl, refl, refl, refl)
 
 -- calls of thread 3 with a number and three arguments, of a process in which bytes stand on the console: the threads whose files
 -- they set, with their a0 and pc
@@ -577,57 +465,39 @@ answered c = map (λ p. (p.0, register p.1.file 10, p.1.pc)) c.files
 abbrev negative : ℕ → ℕ
 negative n = 2 ^ 64 - n
 
-process_number : answered (called (asks 0 172 5 0 0) 3) ≡ (3, 1, 0x10084) ∷ []
-process_number = refl
-
-thread_number : answered (called (asks 0 178 5 0 0) 3) ≡ (3, 3, 0x10084) ∷ []
-thread_number = refl
-
-unknown_call : answered (called (asks 0 1000 5 0 0) 3) ≡ (3, negative 38, 0x10084) ∷ []
-unknown_call = refl
+answers_alone :
+    (answered (called (asks 0 172 5 0 0) 3) ≡ (3, 1, 0x10084) ∷ [])  -- process number
+    × (answered (called (asks 0 178 5 0 0) 3) ≡ (3, 3, 0x10084) ∷ [])  -- thread number
+    × (answered (called (asks 0 1000 5 0 0) 3) ≡ (3, negative 38, 0x10084) ∷ [])  -- unknown call
+answers_alone = (refl, refl, refl)
 
 -- `set_tid_address` answers the thread's number, and sets the address that its exit clears
-clear_answer : answered (called (asks 0 96 0x20000 0 0) 3) ≡ (3, 3, 0x10084) ∷ []
-clear_answer = refl
-
-clear_address : clear_of 1 (called (asks 0 96 0x20000 0 0) 1).kernel.threads ≡ 0x20000
-clear_address = refl
-
-clear_of_another : clear_of 1 (called (asks 0 96 0x20000 0 0) 3).kernel.threads ≡ 0
-clear_of_another = refl
+clear_addresses :
+    (answered (called (asks 0 96 0x20000 0 0) 3) ≡ (3, 3, 0x10084) ∷ [])  -- clear answer
+    × (clear_of 1 (called (asks 0 96 0x20000 0 0) 1).kernel.threads ≡ 0x20000)  -- clear address
+    × (clear_of 1 (called (asks 0 96 0x20000 0 0) 3).kernel.threads ≡ 0)  -- clear of another
+clear_addresses = (refl, refl, refl)
 
 -- what `write` does: three bytes of the code come to the console, behind what stands there
-wrote_three : (called (asks 1 64 1 0x10078 3) 3).kernel.console ≡ 0x2E ∷ 0x13 ∷ 0x05 ∷ 0x70 ∷ []
-wrote_three = refl
-
-answers_three : answered (called (asks 1 64 1 0x10078 3) 3) ≡ (3, 3, 0x10084) ∷ []
-answers_three = refl
-
-to_standard_error : answered (called (asks 0 64 2 0x10078 3) 3) ≡ (3, 3, 0x10084) ∷ []
-to_standard_error = refl
+written_bytes :
+    ((called (asks 1 64 1 0x10078 3) 3).kernel.console ≡ 0x2E ∷ 0x13 ∷ 0x05 ∷ 0x70 ∷ [])  -- wrote three
+    × (answered (called (asks 1 64 1 0x10078 3) 3) ≡ (3, 3, 0x10084) ∷ [])  -- answers three
+    × (answered (called (asks 0 64 2 0x10078 3) 3) ≡ (3, 3, 0x10084) ∷ [])  -- to standard error
+written_bytes = (refl, refl, refl)
 
 -- a descriptor is the low 32 bits of its register
 low_32_bits : answered (called (asks 0 64 0x100000001 0x10078 3) 3) ≡ (3, 3, 0x10084) ∷ []
 low_32_bits = refl
 
 -- what it tests, in order: the descriptor, the length, the address, and the room
-bad_descriptor : answered (called (asks 65536 64 3 0x30000 0) 3) ≡ (3, negative 9, 0x10084) ∷ []
-bad_descriptor = refl
-
-nothing_to_write : answered (called (asks 65536 64 2 0x30000 0) 3) ≡ (3, 0, 0x10084) ∷ []
-nothing_to_write = refl
-
-bad_address : answered (called (asks 65536 64 1 0x30000 1) 3) ≡ (3, negative 14, 0x10084) ∷ []
-bad_address = refl
-
-bad_last_byte : answered (called (asks 0 64 1 0x10FFF 2) 3) ≡ (3, negative 14, 0x10084) ∷ []
-bad_last_byte = refl
-
-no_room : answered (called (asks 65536 64 1 0x10078 1) 3) ≡ (3, negative 28, 0x10084) ∷ []
-no_room = refl
-
-cut_to_room : answered (called (asks 65530 64 1 0x10078 10) 3) ≡ (3, 6, 0x10084) ∷ []
-cut_to_room = refl
+write_tests :
+    (answered (called (asks 65536 64 3 0x30000 0) 3) ≡ (3, negative 9, 0x10084) ∷ [])  -- bad descriptor
+    × (answered (called (asks 65536 64 2 0x30000 0) 3) ≡ (3, 0, 0x10084) ∷ [])  -- nothing to write
+    × (answered (called (asks 65536 64 1 0x30000 1) 3) ≡ (3, negative 14, 0x10084) ∷ [])  -- bad address
+    × (answered (called (asks 0 64 1 0x10FFF 2) 3) ≡ (3, negative 14, 0x10084) ∷ [])  -- bad last byte
+    × (answered (called (asks 65536 64 1 0x10078 1) 3) ≡ (3, negative 28, 0x10084) ∷ [])  -- no room
+    × (answered (called (asks 65530 64 1 0x10078 10) 3) ≡ (3, 6, 0x10084) ∷ [])  -- cut to room
+write_tests = (refl, refl, refl, refl, refl, refl)
 
 -- an exit's code is its low 8 bits; it sets no file
 low_byte : (called (asks 0 93 0x107 0 0) 3).ended ≡ Some (over.Exit 7)
@@ -641,23 +511,14 @@ no_file_set = refl
 abbrev waiting_threads : Threads
 waiting_threads = with_state 1 (state.Waiting 0x20000) start_threads
 
-only_waiter : is_stuck waiting_threads ≡ true
-only_waiter = refl
-
-ready_thread : is_stuck start_threads ≡ false
-ready_thread = refl
-
-running_thread : is_stuck (with_state 1 (state.Running (record { 0 = 1 })) start_threads) ≡ false
-running_thread = refl
-
-no_thread : is_stuck (record start_threads { live = [] }) ≡ false
-no_thread = refl
-
-stuck_ends : final None (record (kernel exits []) { threads = waiting_threads }) ≡ Some over.Stuck
-stuck_ends = refl
-
-event_ends_first : final (Some (over.Exit 7)) (record (kernel exits []) { threads = waiting_threads }) ≡ Some (over.Exit 7)
-event_ends_first = refl
+stuck_processes :
+    (is_stuck waiting_threads ≡ true)  -- only waiter
+    × (is_stuck start_threads ≡ false)  -- ready thread
+    × (is_stuck (with_state 1 (state.Running (record { 0 = 1 })) start_threads) ≡ false)  -- running thread
+    × (is_stuck (record start_threads { live = [] }) ≡ false)  -- no thread
+    × (final None (record (kernel exits []) { threads = waiting_threads }) ≡ Some over.Stuck)  -- stuck ends
+    × (final (Some (over.Exit 7)) (record (kernel exits []) { threads = waiting_threads }) ≡ Some (over.Exit 7))  -- event ends first
+stuck_processes = (refl, refl, refl, refl, refl, refl)
 
 -- an entry of a hart that runs no thread has no thread and no pc
 no_thread_no_pc : entry_in asked.Drain (here_in_history exits [] 1) ≡ record { hart = record { 0 = 1 }; kind = kind.Drain; tid = record { 0 = 0 }; pc = 0 }
@@ -717,23 +578,14 @@ sight_of_two = refl
 
 -- the fixed rule: it executes where it may, and drains where it may not; a signal waits for the drains; an idle hart runs the first
 -- ready thread, and has no choice where none is ready
-rule_executes : solo_rule two_wait ≡ Some asked.Exec
-rule_executes = refl
-
-rule_drains : solo_rule (record two_wait { exec_enabled = false }) ≡ Some asked.Drain
-rule_drains = refl
-
-rule_drains_for_signal : solo_rule (record two_wait { deliverable = true }) ≡ Some asked.Drain
-rule_drains_for_signal = refl
-
-rule_delivers : solo_rule (record two_wait { deliverable = true; stores = 0 }) ≡ Some asked.Signal
-rule_delivers = refl
-
-rule_runs : solo_rule (record two_wait { idle = true; first_ready = Some (record { 0 = 5 }) }) ≡ Some (asked.Run (record { 0 = 5 }))
-rule_runs = refl
-
-rule_has_none : solo_rule (record two_wait { idle = true }) ≡ None
-rule_has_none = refl
+fixed_rule :
+    (solo_rule two_wait ≡ Some asked.Exec)  -- rule executes
+    × (solo_rule (record two_wait { exec_enabled = false }) ≡ Some asked.Drain)  -- rule drains
+    × (solo_rule (record two_wait { deliverable = true }) ≡ Some asked.Drain)  -- rule drains for signal
+    × (solo_rule (record two_wait { deliverable = true; stores = 0 }) ≡ Some asked.Signal)  -- rule delivers
+    × (solo_rule (record two_wait { idle = true; first_ready = Some (record { 0 = 5 }) }) ≡ Some (asked.Run (record { 0 = 5 })))  -- rule runs
+    × (solo_rule (record two_wait { idle = true }) ≡ None)  -- rule has none
+fixed_rule = (refl, refl, refl, refl, refl, refl)
 
 rule_begins : solo_choice exits (history exits []) ≡ Some first
 unfolding history

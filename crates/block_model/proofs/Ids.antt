@@ -298,7 +298,7 @@ pub once_most : (b : Bool) → once b ≤ 1
 once_most true = omega arith
 once_most false = omega arith
 
-numbered : (u : ℕ) (live : List Thread) → once (is_some (find (is_thread u) live)) ≤ times u (numbers live)
+pub numbered : (u : ℕ) (live : List Thread) → once (is_some (find (is_thread u) live)) ≤ times u (numbers live)
 numbered u [] = omega arith
 numbered u (th ∷ live) =
     elim (eqb th.tid u) as (λ b. once (is_some (cond b (Some th) (find (is_thread u) live)))

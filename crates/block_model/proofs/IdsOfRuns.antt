@@ -19,12 +19,11 @@ use Rattle.block_model.specs.Ids.{AreIdsApart, IsLeastFree, id_of, next_id}
 use Rattle.block_model.specs.Run.{IsAllowedLog, IsRunHistory}
 use Rattle.block_model.specs.Sequences.{interruption_here}
 use Rattle.block_model.specs.Setting.{Setting}
-use Rattle.block_model.proofs.Allowed.{allowed_at}
-use Rattle.block_model.proofs.Goods.Run.{run_ready}
-use Rattle.block_model.proofs.Held.{IsHeld, held_start}
+use Rattle.block_model.proofs.Runs.{allowed_at, fit_at, history-append, settled}
+use Rattle.block_model.proofs.Invariants.Events.{run_ready}
+use Rattle.block_model.proofs.ThreadRecords.{IsHeld, held_start}
 use Rattle.block_model.proofs.Ids.{fewer_than_harts, fewer_than_live, id_now, its_run, next_is, next_low}
 use Rattle.block_model.proofs.KernelTables.{ready_state}
-use Rattle.block_model.proofs.Runs.{fit_at, history-append, settled}
 
 pub held_in : (s : Setting) (before : History) → IsRunHistory s before → IsHeld s.limits.harts (kernel s before)
 held_in s [] run = held_start s.limits.harts s

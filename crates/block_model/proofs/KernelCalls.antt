@@ -6,7 +6,7 @@ use Rattle.std.proofs.lemmas.Bool.Decides.{eqb_tells, Decides-eqb}
 use Rattle.std.proofs.lemmas.List.{length-map, map_push}
 use Rattle.mach_types.proofs.Laws.{map_stays, map_filters, IsThreads-child, IsThreads-without, IsThreads-woken, IsThreads-waiter, same_numbers, state_of-with_state_other, state_of-without_same, state_of-without_other, state_of-with_child_same, state_of-with_child_other, next_is_new}
 use Rattle.block_model.specs.Tables.{IsTables, on}
-use Rattle.block_model.proofs.KernelTables.{once, its_ready, held_from_alike, joined, running_is, stopped_idle, stopped_others, runs_once, not_running, state_now}
+use Rattle.block_model.proofs.KernelTables.{once, its_ready, held_from_alike, joined, running_is, stopped_idle, stopped_others, runs_once, not_running, state_now, tables_stopped}
 use Rattle.mach_types.specs.Kernel.Threads.{Thread, Threads, new_thread, state_of, is_full, with_child, without, with_waiter, with_woken, waits, numbers, is_ready, running_on, times}
 use Rattle.mach_types.specs.Kernel.Scheduling.{Scheduling, is_of, affinity_of, with_ready, with_thread, forget, with_affinity, set_if}
 use Rattle.mach_types.specs.declared.events.Hart.{Hart}
@@ -48,20 +48,13 @@ module _ (harts parent : ℕ) (ts : Threads) (sc : Scheduling) (holds : IsTables
 
   pub tables_child : IsTables harts (with_child ts) (with_ready (ts.given + 1) (with_thread parent (ts.given + 1) sc))
   tables_child =
-      let t = ts.given + 1 in
       let pair : ℕ × ℕ = (ts.given + 1, affinity_of parent sc) in
-      let alike : map (λ pair. pair.0) (sc.affinities ++ pair ∷ []) ≡ numbers (with_child ts).live =
-      map_push (λ (pair : ℕ × ℕ). pair.0) sc.affinities pair ∙ ap (λ (ks : List ℕ). ks ++ (ts.given + 1) ∷ []) holds.alike
-      ∙ sym (map_push (λ (th : Thread). th.tid) ts.live (new_thread (ts.given + 1))) in
-      record {
-        threads = IsThreads-child ts holds.threads free;
-        one = λ k u v p q. holds.one k u v (child_back u (record { 0 = k }) p).1 (child_back v (record { 0 = k }) q).1;
-        below = λ u k p. holds.below u k (child_back u k p).1;
-        ready = joined (ts.given + 1) sc.order (λ u. is_ready u ts) (λ u. is_ready u (with_child ts)) holds.ready
-            (λ u other. ap its_ready (state_of-with_child_other u ts other)) (ap its_ready child_was) (ap its_ready (state_of-with_child_same ts holds.threads));
-        held = held_from_alike (with_child ts) (with_ready (ts.given + 1) (with_thread parent (ts.given + 1) sc)) alike;
-        alike = alike;
-      }
+      tables_stopped harts (ts.given + 1) ts (with_child ts) sc (with_ready (ts.given + 1) (with_thread parent (ts.given + 1) sc)) holds
+      (IsThreads-child ts holds.threads free) child_back
+      (joined (ts.given + 1) sc.order (λ u. is_ready u ts) (λ u. is_ready u (with_child ts)) holds.ready
+      (λ u other. ap its_ready (state_of-with_child_other u ts other)) (ap its_ready child_was) (ap its_ready (state_of-with_child_same ts holds.threads)))
+      (map_push (λ (pair : ℕ × ℕ). pair.0) sc.affinities pair ∙ ap (λ (ks : List ℕ). ks ++ (ts.given + 1) ∷ []) holds.alike
+      ∙ sym (map_push (λ (th : Thread). th.tid) ts.live (new_thread (ts.given + 1))))
 
   pub child_same : (k : ℕ) → running_on k (with_child ts) ≡ running_on k ts
   child_same k =
@@ -93,15 +86,8 @@ module _ (harts h t at : ℕ) (ts : Threads) (sc : Scheduling) (holds : IsTables
 
   pub tables_waited : IsTables harts (with_waiter t at ts) sc
   tables_waited =
-      let alike : map (λ pair. pair.0) sc.affinities ≡ numbers (with_waiter t at ts).live = holds.alike ∙ sym (same_numbers t (Waiting at) ts.live) in
-      record {
-        threads = IsThreads-waiter t at ts (record { 0 = h }) holds.threads waited_was;
-        one = λ k u v p q. holds.one k u v (waited_back u (record { 0 = k }) p).1 (waited_back v (record { 0 = k }) q).1;
-        below = λ u k p. holds.below u k (waited_back u k p).1;
-        ready = λ u. holds.ready u ∙ sym (ap once (waited_ready u));
-        held = held_from_alike (with_waiter t at ts) sc alike;
-        alike = alike;
-      }
+      tables_stopped harts t ts (with_waiter t at ts) sc sc holds (IsThreads-waiter t at ts (record { 0 = h }) holds.threads waited_was) waited_back
+      (λ u. holds.ready u ∙ sym (ap once (waited_ready u))) (holds.alike ∙ sym (same_numbers t (Waiting at) ts.live))
 
   pub waited_idle : running_on h (with_waiter t at ts) ≡ None
   waited_idle = stopped_idle harts t ts (with_waiter t at ts) sc sc holds tables_waited waited_forth waited_back h waited_was
@@ -120,16 +106,10 @@ module _ (harts t : ℕ) (ts : Threads) (sc : Scheduling) (holds : IsTables hart
 
   pub tables_woken : IsTables harts (with_woken t ts) (with_ready t sc)
   tables_woken =
-      let alike : map (λ pair. pair.0) sc.affinities ≡ numbers (with_woken t ts).live = holds.alike ∙ sym (same_numbers t Ready ts.live) in
-      record {
-        threads = IsThreads-woken t ts holds.threads;
-        one = λ k u v p q. holds.one k u v (woken_back u (record { 0 = k }) p).1 (woken_back v (record { 0 = k }) q).1;
-        below = λ u k p. holds.below u k (woken_back u k p).1;
-        ready = joined t sc.order (λ u. is_ready u ts) (λ u. is_ready u (with_woken t ts)) holds.ready
-            (λ u other. ap its_ready (woken_forth u other)) (ap its_ready waiting.1) (ap its_ready (state_now t Ready (Waiting waiting.0) ts waiting.1));
-        held = held_from_alike (with_woken t ts) (with_ready t sc) alike;
-        alike = alike;
-      }
+      tables_stopped harts t ts (with_woken t ts) sc (with_ready t sc) holds (IsThreads-woken t ts holds.threads) woken_back
+      (joined t sc.order (λ u. is_ready u ts) (λ u. is_ready u (with_woken t ts)) holds.ready
+      (λ u other. ap its_ready (woken_forth u other)) (ap its_ready waiting.1) (ap its_ready (state_now t Ready (Waiting waiting.0) ts waiting.1)))
+      (holds.alike ∙ sym (same_numbers t Ready ts.live))
 
   pub woken_same : (k : ℕ) → running_on k (with_woken t ts) ≡ running_on k ts
   woken_same k =
@@ -160,17 +140,10 @@ module _ (harts h t : ℕ) (ts : Threads) (sc : Scheduling) (holds : IsTables ha
 
   pub tables_ended : IsTables harts (without t ts) (forget t sc)
   tables_ended =
-      let alike : map (λ pair. pair.0) (filter (λ pair. not (is_of t pair)) sc.affinities) ≡ numbers (without t ts).live =
-      map_filters (λ (pair : ℕ × ℕ). pair.0) (λ k. not (eqb k t)) sc.affinities ∙ ap (λ (ks : List ℕ). filter (λ k. not (eqb k t)) ks) holds.alike
-      ∙ sym (map_filters (λ (th : Thread). th.tid) (λ k. not (eqb k t)) ts.live) in
-      record {
-        threads = IsThreads-without t ts holds.threads;
-        one = λ k u v p q. holds.one k u v (ended_back u (record { 0 = k }) p).1 (ended_back v (record { 0 = k }) q).1;
-        below = λ u k p. holds.below u k (ended_back u k p).1;
-        ready = λ u. holds.ready u ∙ sym (ap once (ended_ready u));
-        held = held_from_alike (without t ts) (forget t sc) alike;
-        alike = alike;
-      }
+      tables_stopped harts t ts (without t ts) sc (forget t sc) holds (IsThreads-without t ts holds.threads) ended_back
+      (λ u. holds.ready u ∙ sym (ap once (ended_ready u)))
+      (map_filters (λ (pair : ℕ × ℕ). pair.0) (λ k. not (eqb k t)) sc.affinities ∙ ap (λ (ks : List ℕ). filter (λ k. not (eqb k t)) ks) holds.alike
+      ∙ sym (map_filters (λ (th : Thread). th.tid) (λ k. not (eqb k t)) ts.live))
 
   pub ended_idle : running_on h (without t ts) ≡ None
   ended_idle =

@@ -8,7 +8,7 @@ use Rattle.std.proofs.lemmas.Bool.{false≢true}
 use Rattle.std.proofs.lemmas.Bool.Decides.{nat_tests, eqb_tells, Decides-eqb}
 use Rattle.std.proofs.lemmas.Map.Keys.{sorted_from_strictly_increasing}
 use Rattle.mach_types.proofs.Laws.{times_push, times_one, times_one_other, times_filtered_same, times_filtered_other, eqb_same, IsThreads-start, IsThreads-with_state, IsThreads-with_clear, same_numbers, same_clear_numbers, state_of-with_state_same, state_of-with_state_other, state_of-with_clear}
-use Rattle.mach_types.specs.Kernel.Threads.{Thread, Threads, IsThreads, start_threads, is_thread, thread_of, state_of, is_live, with_state, with_clear, numbers, is_ready, is_ready_state, is_waiting_state, is_running_state, is_running_on, is_on, running_on, times}
+use Rattle.mach_types.specs.Kernel.Threads.{Thread, Threads, IsThreads, start_threads, is_thread, thread_of, state_of, is_live, with_state, with_clear, numbers, is_ready, is_ready_state, is_waiting_state, is_running_state, is_running_on, is_on, running_on, times, waits}
 use Rattle.mach_types.specs.Kernel.Scheduling.{Scheduling, start_scheduling, is_of, with_ready, without_ready}
 use Rattle.block_model.specs.Tables.{IsTables, on}
 use Rattle.mach_types.specs.declared.events.Hart.{Hart}
@@ -25,11 +25,12 @@ abbrev pub its_ready : Option ThreadState → Bool
 its_ready o = option_map_or is_ready_state o false
 
 -- the threads that have an affinity, by their numbers
-pub any_of : (t : ℕ) (pairs : List (ℕ × ℕ)) → list_any (is_of t) pairs ≡ list_any (λ k. eqb k t) (map (λ pair. pair.0) pairs)
+pub any_of : {X : Type 0} (t : ℕ) (pairs : List (ℕ × X)) → list_any (λ (pair : ℕ × X). eqb pair.0 t) pairs
+    ≡ list_any (λ k. eqb k t) (map (λ (pair : ℕ × X). pair.0) pairs)
 any_of t [] = refl
 any_of t (p ∷ ps) = ap (λ b. eqb p.0 t || b) (any_of t ps)
 
-any_live : (t : ℕ) (live : List Thread) → is_some (find (is_thread t) live) ≡ list_any (λ k. eqb k t) (numbers live)
+pub any_live : (t : ℕ) (live : List Thread) → is_some (find (is_thread t) live) ≡ list_any (λ k. eqb k t) (numbers live)
 any_live t [] = refl
 any_live t (th ∷ live) =
     elim (eqb th.tid t) as (λ b. is_some (cond b (Some th) (find (is_thread t) live)) ≡ (b || list_any (λ k. eqb k t) (numbers live)))
@@ -145,6 +146,13 @@ idle_step harts h ts sc holds none (Some u) e = absurd (none u (running_is harts
 pub running_idle : (harts h : ℕ) (ts : Threads) (sc : Scheduling) → IsTables harts ts sc → ((t : ℕ) → state_of t ts ≡ Some (on h) → ⊥) → running_on h ts ≡ None
 running_idle harts h ts sc holds none = idle_step harts h ts sc holds none (running_on h ts) refl
 
+-- who waits doesn't run
+pub waits_elsewhere : (harts h t u : ℕ) (ts : Threads) (sc : Scheduling) → IsTables harts ts sc → running_on h ts ≡ Some t → waits ts u → u ≢ t
+waits_elsewhere harts h t u ts sc tables runs is same =
+    let run : state_of t ts ≡ Some (on h) = running_is harts h t ts sc tables runs in
+    let no : Some (on h) ≡ Some (Waiting is.0) = sym run ∙ ap (λ n. state_of n ts) (sym same) ∙ is.1 in
+    cc
+
 -- a hart on which the same threads run as before runs the thread that it ran
 module _ (harts k : ℕ) (ts us : Threads) (sc sd : Scheduling) (before : IsTables harts ts sc) (after : IsTables harts us sd)
     (forth : (t : ℕ) → state_of t ts ≡ Some (on k) → state_of t us ≡ Some (on k)) (back : (t : ℕ) → state_of t us ≡ Some (on k) → state_of t ts ≡ Some (on k)) where
@@ -249,6 +257,19 @@ not_running t u st k ts isnt e =
       | inr q ↦ q
     ]
 
+-- the tables agree where one thread runs no more, or didn't run, the ready list has those that are ready, and the numbers are alike
+pub tables_stopped : (harts t : ℕ) (ts us : Threads) (sc sd : Scheduling) → IsTables harts ts sc → IsThreads us
+    → ((u : ℕ) (k : Hart) → state_of u us ≡ Some (Running k) → (u ≢ t) × (state_of u ts ≡ Some (Running k)))
+    → ((u : ℕ) → times u sd.order ≡ once (is_ready u us)) → map (λ (pair : ℕ × ℕ). pair.0) sd.affinities ≡ numbers us.live → IsTables harts us sd
+tables_stopped harts t ts us sc sd holds threads back ready alike = record {
+  threads = threads;
+  one = λ k u v p q. holds.one k u v (back u (record { 0 = k }) p).1 (back v (record { 0 = k }) q).1;
+  below = λ u k p. holds.below u k (back u k p).1;
+  ready = ready;
+  held = held_from_alike us sd alike;
+  alike = alike;
+}
+
 -- a thread leaves its hart, and is the last ready one
 module _ (harts h t : ℕ) (ts : Threads) (sc : Scheduling) (holds : IsTables harts ts sc) (runs : running_on h ts ≡ Some t) where
   left_was : state_of t ts ≡ Some (on h)
@@ -262,16 +283,11 @@ module _ (harts h t : ℕ) (ts : Threads) (sc : Scheduling) (holds : IsTables ha
 
   pub tables_left : IsTables harts (with_state t Ready ts) (with_ready t sc)
   tables_left =
-      let alike : map (λ pair. pair.0) sc.affinities ≡ numbers (with_state t Ready ts).live = holds.alike ∙ sym (same_numbers t Ready ts.live) in
-      record {
-        threads = IsThreads-with_state t Ready ts holds.threads refl (ap (λ (o : Option ThreadState). option_map_or is_waiting_state o false) left_was);
-        one = λ k u v p q. holds.one k u v (left_back u (record { 0 = k }) p).1 (left_back v (record { 0 = k }) q).1;
-        below = λ u k p. holds.below u k (left_back u k p).1;
-        ready = joined t sc.order (λ u. is_ready u ts) (λ u. is_ready u (with_state t Ready ts)) holds.ready
-            (λ u other. ap its_ready (left_forth u other)) (ap its_ready left_was) (ap its_ready (state_now t Ready (on h) ts left_was));
-        held = held_from_alike (with_state t Ready ts) (with_ready t sc) alike;
-        alike = alike;
-      }
+      tables_stopped harts t ts (with_state t Ready ts) sc (with_ready t sc) holds
+      (IsThreads-with_state t Ready ts holds.threads refl (ap (λ (o : Option ThreadState). option_map_or is_waiting_state o false) left_was)) left_back
+      (joined t sc.order (λ u. is_ready u ts) (λ u. is_ready u (with_state t Ready ts)) holds.ready
+      (λ u other. ap its_ready (left_forth u other)) (ap its_ready left_was) (ap its_ready (state_now t Ready (on h) ts left_was)))
+      (holds.alike ∙ sym (same_numbers t Ready ts.live))
 
   pub left_idle : running_on h (with_state t Ready ts) ≡ None
   left_idle = stopped_idle harts t ts (with_state t Ready ts) sc (with_ready t sc) holds tables_left left_forth left_back h left_was

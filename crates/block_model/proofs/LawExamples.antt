@@ -1,10 +1,9 @@
 -- Worked examples of the laws' words: a call that gives an error, an exit that doesn't, a walk, and the choices of `run`.
-use Rattle.std.proofs.Common.{◌≡◌, ◌≢◌, ℕ, ◌-◌, ◌^◌, List, [], ◌∷◌, ◌++◌, ◌&&◌, Bool, true, false, replicate, take, refl, ap, ◌∙◌, arith, Option, Some, None, inl, inr}
+use Rattle.std.proofs.Common.{◌≡◌, ◌≢◌, ℕ, ◌-◌, ◌^◌, List, [], ◌∷◌, ◌++◌, ◌&&◌, Bool, true, false, take, refl, ap, ◌∙◌, arith, Option, Some, None, inl, inr}
 use Rattle.std.specs.Option.{option_map}
 use Rattle.mach_types.specs.declared.events.Choice.{Choice}
 use Rattle.mach_types.specs.declared.events.Choice.TheVariants as asked
 use Rattle.mach_types.specs.declared.events.Entry.{Entry}
-use Rattle.mach_types.specs.declared.events.Kind.{Kind}
 use Rattle.mach_types.specs.declared.events.Kind.TheVariants as kind
 use Rattle.mach_types.specs.Kernel.Signals.{all_signals}
 use Rattle.mach_types.specs.Registers.{register}
@@ -20,29 +19,11 @@ use Rattle.block_model.specs.ErrorCalls.{GivesError}
 use Rattle.block_model.specs.History.{History, file, here_in_history}
 use Rattle.block_model.specs.Setting.{Setting}
 use Rattle.block_model.specs.Walks.{IsWalk, answers, computed}
-
--- a program of code at 0x100B0, and a page that is read and written at 0x20000
-abbrev program_of : List ℕ → Setting
-program_of code = record {
-  program = record {
-    pages = record { number = 0x10; perm = 5; bytes = replicate 0xB0 0 ++ code }
-        ∷ record { number = 0x20; perm = 6; bytes = [] } ∷ [];
-    entry = 0x100B0;
-    phdr = 0x10040;
-    phnum = 2;
-    break_at = 0x21000;
-  };
-  limits = record { harts = 2; frames = 4096; steps = 200000 };
-  seed = 1;
-}
-
--- entries of hart 0 and thread 1
-abbrev entry : Kind → ℕ → Entry
-entry k pc = record { hart = record { 0 = 0 }; kind = k; tid = record { 0 = 1 }; pc = pc }
+use Rattle.block_model.proofs.ExamplePrograms.{code_and_data, entry}
 
 -- `addi x17, x0, 1000`, `ecall`: a call that isn't there
 abbrev asks_unknown : Setting
-asks_unknown = program_of (0x93 ∷ 0x08 ∷ 0x80 ∷ 0x3E ∷ 0x73 ∷ 0x00 ∷ 0x00 ∷ 0x00 ∷ [])
+asks_unknown = code_and_data (0x93 ∷ 0x08 ∷ 0x80 ∷ 0x3E ∷ 0x73 ∷ 0x00 ∷ 0x00 ∷ 0x00 ∷ [])
 
 abbrev before_call : List Entry
 before_call = entry kind.Run 0x100B0 ∷ entry kind.Exec 0x100B0 ∷ []
@@ -59,7 +40,7 @@ unknown_gives_error = record {
 
 -- `addi x10, x0, -1`, `addi x17, x0, 93`, `ecall`: the process ends with a0 at -1, which isn't an error of the call
 abbrev exits : Setting
-exits = program_of (0x13 ∷ 0x05 ∷ 0xF0 ∷ 0xFF ∷ 0x93 ∷ 0x08 ∷ 0xD0 ∷ 0x05 ∷ 0x73 ∷ 0x00 ∷ 0x00 ∷ 0x00 ∷ [])
+exits = code_and_data (0x13 ∷ 0x05 ∷ 0xF0 ∷ 0xFF ∷ 0x93 ∷ 0x08 ∷ 0xD0 ∷ 0x05 ∷ 0x73 ∷ 0x00 ∷ 0x00 ∷ 0x00 ∷ [])
 
 abbrev before_exit : List Entry
 before_exit = entry kind.Run 0x100B0 ∷ entry kind.Exec 0x100B0 ∷ entry kind.Exec 0x100B4 ∷ []
@@ -74,7 +55,7 @@ exit_ends is = absurd cc
 
 -- `lui x5, 0x20`, `addi x6, x0, 9`, `sw x6, 0(x5)`, `lw x7, 0(x5)`: a walk, in which the store enters memory last
 abbrev stores : Setting
-stores = program_of (0xB7 ∷ 0x02 ∷ 0x02 ∷ 0x00 ∷ 0x13 ∷ 0x03 ∷ 0x90 ∷ 0x00 ∷ 0x23 ∷ 0xA0 ∷ 0x62 ∷ 0x00
+stores = code_and_data (0xB7 ∷ 0x02 ∷ 0x02 ∷ 0x00 ∷ 0x13 ∷ 0x03 ∷ 0x90 ∷ 0x00 ∷ 0x23 ∷ 0xA0 ∷ 0x62 ∷ 0x00
     ∷ 0x83 ∷ 0xA3 ∷ 0x02 ∷ 0x00 ∷ [])
 
 abbrev before_walk : List Entry
@@ -109,17 +90,12 @@ unfolding history done meaning row_of rows lui_rows auipc_rows jal_rows jalr_row
 loaded = refl
 
 -- the choices of `run`: at the start each hart of the machine would run thread 1; once hart 0 runs it, hart 1 has none
-chooses_first : next_entry stores 0 (history stores []) ≡ Some (entry kind.Run 0x100B0)
+choices_at_start :
+    (next_entry stores 0 (history stores []) ≡ Some (entry kind.Run 0x100B0))  -- chooses first
+    × (choice_at stores 1 (history stores []) ≡ Some (asked.Run (record { 0 = 1 })))  -- chooses at hart 1
+    × (choice_at stores 1 (history stores before_walk) ≡ None)  -- none for hart 1
 unfolding history done is_register_only has_ended choice_at next_entry pick meaning row_of rows lui_rows auipc_rows jal_rows jalr_rows branch_rows load_rows store_rows op_imm_rows op_imm_32_rows op_rows op_32_rows misc_mem_rows amo_rows system_rows
-chooses_first = refl
-
-chooses_at_hart_1 : choice_at stores 1 (history stores []) ≡ Some (asked.Run (record { 0 = 1 }))
-unfolding history done is_register_only has_ended choice_at next_entry pick meaning row_of rows lui_rows auipc_rows jal_rows jalr_rows branch_rows load_rows store_rows op_imm_rows op_imm_32_rows op_rows op_32_rows misc_mem_rows amo_rows system_rows
-chooses_at_hart_1 = refl
-
-none_for_hart_1 : choice_at stores 1 (history stores before_walk) ≡ None
-unfolding history done is_register_only has_ended choice_at next_entry pick meaning row_of rows lui_rows auipc_rows jal_rows jalr_rows branch_rows load_rows store_rows op_imm_rows op_imm_32_rows op_rows op_32_rows misc_mem_rows amo_rows system_rows
-none_for_hart_1 = refl
+choices_at_start = (refl, refl, refl)
 
 -- no word is drawn for a thread that begins to run
 none_drawn : luck stores 0 (history stores before_walk) ≡ record { drawn = 0; credit = 0 }

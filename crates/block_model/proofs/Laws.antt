@@ -33,43 +33,41 @@ use Rattle.block_model.specs.Solo.{IsSolo, solo_choice, solo_rule}
 use Rattle.block_model.specs.Plain.{Plain, apply, here_of, plain_after, plain_end, plain_over, plain_seen, plain_solo, plain_start}
 use Rattle.block_model.specs.PlainOf.{plain_of}
 use Rattle.block_model.specs.PlainSays.{MakesLog, SaysOf}
-use Rattle.block_model.proofs.Agreement as agrees
-use Rattle.block_model.proofs.Agreement.{agreement_decide, agreement_end, agreement_here, good_after, plain-append, plain-made}
-use Rattle.block_model.proofs.Allowed.{IsAllowed, allowed}
-use Rattle.block_model.proofs.Allowed as decisions
-use Rattle.block_model.proofs.BarriersReturn.{have_returned}
+use Rattle.block_model.proofs.PlainAgreement as agrees
+use Rattle.block_model.proofs.PlainAgreement.{agreement_decide, agreement_end, agreement_here, good_after, plain-append, plain-made}
+use Rattle.block_model.proofs.Runs.{IsAllowed, allowed, good_of}
+use Rattle.block_model.proofs.Barriers.Return.{have_returned}
 use Rattle.block_model.proofs.Choosing as choices
 use Rattle.block_model.proofs.Counts as counts
-use Rattle.block_model.proofs.Goods.Run as run_laws_of
+use Rattle.block_model.proofs.Invariants.Events as run_laws_of
 use Rattle.block_model.proofs.KernelCalls as call_laws
 use Rattle.block_model.proofs.KernelTables as tables_laws
-use Rattle.block_model.proofs.Ends as ends
+use Rattle.block_model.proofs.RunEnds as ends
 use Rattle.block_model.proofs.Entries as entries
-use Rattle.block_model.proofs.Good.{good_here}
-use Rattle.block_model.proofs.Held.{IsHeld}
+use Rattle.block_model.proofs.PlaceInvariant.{good_here}
+use Rattle.block_model.proofs.ThreadRecords.{IsHeld}
 use Rattle.block_model.proofs.Ids as ids
 use Rattle.block_model.proofs.IdsOfRuns as run_ids
 use Rattle.block_model.proofs.IdsOnHarts as on_harts
-use Rattle.block_model.proofs.OneImage as one_image
-use Rattle.block_model.proofs.Open as opens
-use Rattle.block_model.proofs.PlainRuns as plain_runs
-use Rattle.block_model.proofs.PlainSolo as solo_runs
+use Rattle.block_model.proofs.Images as one_image
+use Rattle.block_model.proofs.PlainMachine as plain_runs
 use Rattle.block_model.proofs.Replay as replay
-use Rattle.block_model.proofs.Rules as rules
+use Rattle.block_model.proofs.FixedRule as rules
 use Rattle.block_model.proofs.Runs as run_laws
-use Rattle.block_model.proofs.Runs.{good_of}
 use Rattle.block_model.proofs.Whole.{allowed_is_whole}
-pub use Rattle.block_model.proofs.AgreedCalls.{IsAgreed, agreed_called}
-pub use Rattle.block_model.proofs.Awaited.{IsAwaited, IsAwaitedBy, alone_awaits, alone_requests, asked_below}
-pub use Rattle.block_model.proofs.BarrierSteps.{IsAtOthers, IsBegun, IsFitBarriers, IsStill}
-pub use Rattle.block_model.proofs.BytesOfMemory.{HaveBytes, image_bytes}
+pub use Rattle.block_model.proofs.TablesOfCalls.{IsAgreed, agreed_called}
+pub use Rattle.block_model.proofs.Barriers.Requests.{IsAwaited, IsAwaitedBy, alone_awaits, alone_requests, asked_below}
+pub use Rattle.block_model.proofs.Barriers.Events.{IsAtOthers, IsBegun, IsFitBarriers, IsStill}
+pub use Rattle.block_model.proofs.Images.{HaveBytes, image_bytes}
 pub use Rattle.block_model.proofs.Choosing.{no_call_held, none_of_both}
-pub use Rattle.block_model.proofs.Good.{IsFit, IsGood, IsGoodHere, IsSound, MayEnter}
+pub use Rattle.block_model.proofs.PlaceInvariant.{IsFit, IsGood, IsGoodHere, IsSound, MayEnter}
 pub use Rattle.block_model.proofs.HartSets.{harts_fit, same_sets, some_hart, with_hart-fits, with_hart-itself, with_hart-or, with_hart-other, without_hart-and, without_hart-fits, without_hart-has, without_hart-itself, without_hart-other}
 pub use Rattle.block_model.proofs.KernelCalls.{as_many_held, child_not_held, child_same, ended_idle, order_has, tables_allowed, tables_child, tables_ended, tables_waited, tables_woken, waited_idle, woken_same}
 pub use Rattle.block_model.proofs.IdsOnHarts.{IsHeldOnHart, has_hart-set, is_held_below, is_held_by}
 pub use Rattle.block_model.proofs.Stretches.{HasStayed, HasSteps, IsLent, Steps, is_lent, stays, steps_of, worked_keeps}
-pub use Rattle.block_model.proofs.KernelTables.{cleared_same, left_idle, running_is, state_now, tables_cleared, tables_left, tables_ran, tables_start}
+pub use Rattle.block_model.proofs.ThreadRecords.{areas_changed, areas_fit, live_changed, registered_areas, signals_stay}
+pub use Rattle.block_model.proofs.Invariants.Calls.Futexes.{longest_waits, wake_by, wake_keeps}
+pub use Rattle.block_model.proofs.KernelTables.{any_live, cleared_same, left_idle, running_idle, running_is, running_there, waits_elsewhere, state_now, tables_cleared, tables_left, tables_ran, tables_start}
 
 -- a log of which every entry is allowed is a block run
 pub block_run : (s : Setting) (log : List Entry) → IsAllowedLog s log → IsBlockRun s log
@@ -162,11 +160,11 @@ length-history s log = run_laws.length-history s log
 
 -- what is decided is of the hart and the choice that were asked
 pub decided_is : (s : Setting) (before : History) (h : ℕ) (c : Choice) (e : Entry) → decide s before h c ≡ Ok e → (e.hart.0 ≡ h) × (choice_of e ≡ c)
-decided_is s before h c e is = decisions.decided_is s before h c e is
+decided_is s before h c e is = run_laws.decided_is s before h c e is
 
 -- a run by the fixed rule that goes on by the rule is one
 pub IsSolo-append : (s : Setting) (log : List Entry) (e : Entry) → IsSolo s log → e.hart.0 ≡ 0 → solo_choice s (history s log) ≡ Some (choice_of e) → IsSolo s (log ++ e ∷ [])
-IsSolo-append s log e solo first chosen = solo_runs.IsSolo-append s log e solo first chosen
+IsSolo-append s log e solo first chosen = plain_runs.IsSolo-append s log e solo first chosen
 
 -- a run has no more entries than the step limit
 pub within_limit : (s : Setting) (log : List Entry) → IsBlockRun s log → length log ≤ s.limits.steps
@@ -188,17 +186,17 @@ all_addresses s log start bytes run = entries.all_addresses s log start bytes ru
 
 -- the end of a run that was ended; of one whose log is full; and of one that is open
 pub end_of-ended : (s : Setting) (before : History) (e : End) → over_at s before ≡ Some e → end_of s before ≡ e
-end_of-ended s before e is = opens.end_of-ended s before e is
+end_of-ended s before e is = ends.end_of-ended s before e is
 
 pub end_of-limit : (s : Setting) (before : History) → over_at s before ≡ None → s.limits.steps ≤ length before → end_of s before ≡ Limit
-end_of-limit s before goes full = opens.end_of-limit s before goes full
+end_of-limit s before goes full = ends.end_of-limit s before goes full
 
 pub end_of-open : (s : Setting) (before : History) → over_at s before ≡ None → length before < s.limits.steps → end_of s before ≡ Unended
-end_of-open s before goes room = opens.end_of-open s before (record { goes = goes; room = room })
+end_of-open s before goes room = ends.end_of-open s before (record { goes = goes; room = room })
 
 -- a run that ends as a script does is open: nothing ended it, and its log has room
 pub is_open : (s : Setting) (before : History) → IsRunHistory s before → end_of s before ≡ Unended → (over_at s before ≡ None) × (length before < s.limits.steps)
-is_open s before run end = let x = opens.is_open s before run end in (x.goes, x.room)
+is_open s before run end = let x = ends.is_open s before run end in (x.goes, x.room)
 
 -- scripts
 
@@ -249,10 +247,10 @@ pub plain_makes : (s : Setting) (lines : List Ask) (log : List Entry) → played
 plain_makes s lines log is = plain_runs.plain_makes s lines log is
 
 pub plain_solo_log : (s : Setting) (log : List Entry) → IsBlockRun s log → IsSolo s log → end_of s (history s log) ≢ Unended → (plain_solo s s.limits.steps).log ≡ log
-plain_solo_log s log run solo over = solo_runs.plain_solo_log s log run.allowed solo over
+plain_solo_log s log run solo over = plain_runs.plain_solo_log s log run.allowed solo over
 
 pub plain_solo_says : (s : Setting) (log : List Entry) → IsBlockRun s log → IsSolo s log → end_of s (history s log) ≢ Unended → SaysOf s log (plain_solo s s.limits.steps).machine
-plain_solo_says s log run solo over = solo_runs.plain_solo_says s log run.allowed solo over
+plain_solo_says s log run solo over = plain_runs.plain_solo_says s log run.allowed solo over
 
 -- the fixed rule
 
@@ -265,7 +263,7 @@ executes_when_allowed s log e made none = rules.executes_when_allowed s log e ma
 
 -- an empty log is a run by the rule
 pub start_solo : (s : Setting) → IsSolo s []
-start_solo s = solo_runs.IsSolo-nil s
+start_solo s = plain_runs.IsSolo-nil s
 
 -- where the machine has one hart and the rule has no choice, the run is over
 pub rule_stops : (s : Setting) (log : List Entry) → s.limits.harts ≡ 1 → IsBlockRun s log → solo_choice s (history s log) ≡ None → end_of s (history s log) ≢ Unended

@@ -1,11 +1,8 @@
 -- Worked examples, proved by computation: calls that map, remove and protect pages, and what holds them up.
-use Rattle.std.proofs.Common.{◌≡◌, ℕ, ◌-◌, ◌^◌, List, [], ◌∷◌, ◌++◌, replicate, refl, cond, eqb, Option, Some, None, Result, Ok, Err}
-use Rattle.mach_types.specs.declared.events.Choice.{Choice}
+use Rattle.std.proofs.Common.{◌≡◌, ℕ, ◌-◌, ◌^◌, List, [], ◌∷◌, ◌++◌, replicate, refl, cond, eqb, Option, Some, None, Ok}
 use Rattle.mach_types.specs.declared.events.Choice.TheVariants as asked
-use Rattle.mach_types.specs.declared.events.Entry.{Entry}
 use Rattle.mach_types.specs.declared.events.Why.{Why}
 use Rattle.mach_types.specs.declared.events.Why.TheVariants.{Others}
-use Rattle.mach_types.specs.declared.limits.End.{End}
 use Rattle.mach_types.specs.declared.limits.End.TheVariants as over
 use Rattle.mach_types.specs.declared.threads.Saved.{Saved}
 use Rattle.mach_types.specs.declared.user_memory.Write.TheVariants.{Zeroed}
@@ -20,29 +17,16 @@ use Rattle.block_model.specs.Deciding.{decide, done, end_of, history}
 use Rattle.block_model.specs.Events.Exec.{is_held, others_gate}
 use Rattle.block_model.specs.Here.{Here}
 use Rattle.block_model.specs.Kernel.{paged}
-use Rattle.block_model.specs.History.{console, here_in_history}
+use Rattle.block_model.specs.History.{here_in_history}
 use Rattle.block_model.specs.Replay.{Ask, played}
 use Rattle.block_model.specs.Setting.{Setting}
-
--- a program with a page of code and a page of data, and so many frames, of which 67 are taken at the start
-abbrev program_of_frames : ℕ → List ℕ → Setting
-program_of_frames frames code = record {
-  program = record {
-    pages = record { number = 0x10; perm = 5; bytes = replicate 0xB0 0 ++ code } ∷ record { number = 0x20; perm = 6; bytes = [] } ∷ [];
-    entry = 0x100B0;
-    phdr = 0x10040;
-    phnum = 2;
-    break_at = 0x21000;
-  };
-  limits = record { harts = 2; frames = frames; steps = 200000 };
-  seed = 0;
-}
+use Rattle.block_model.proofs.ExamplePrograms.{code_and_data, line, outcome, within_frames}
 
 -- with 61 free frames the program maps 249,856 bytes, which are 61 pages, at 0x2000000000, and can't map 4,096 more; it stores 0xFF
 -- there, and once that has entered memory it removes the pages, maps 4,096 bytes at the same place, and finds 0 there. It exits with
 -- 0 where all this is so
 abbrev frames_run_out : Setting
-frames_run_out = program_of_frames 128 (
+frames_run_out = within_frames 128 (code_and_data (
     0x13 ∷ 0x05 ∷ 0x00 ∷ 0x00 ∷ 0xB7 ∷ 0xD5 ∷ 0x03 ∷ 0x00 ∷ 0x13 ∷ 0x06 ∷ 0x30 ∷ 0x00 ∷ 0x93 ∷ 0x06 ∷ 0x20 ∷ 0x02 ∷
     0x13 ∷ 0x07 ∷ 0xF0 ∷ 0xFF ∷ 0x93 ∷ 0x07 ∷ 0x00 ∷ 0x00 ∷ 0x93 ∷ 0x08 ∷ 0xE0 ∷ 0x0D ∷ 0x73 ∷ 0x00 ∷ 0x00 ∷ 0x00 ∷
     0xB7 ∷ 0x02 ∷ 0x00 ∷ 0x02 ∷ 0x93 ∷ 0x92 ∷ 0xC2 ∷ 0x00 ∷ 0x63 ∷ 0x06 ∷ 0x55 ∷ 0x00 ∷ 0x13 ∷ 0x05 ∷ 0x10 ∷ 0x00 ∷
@@ -58,14 +42,7 @@ frames_run_out = program_of_frames 128 (
     0x63 ∷ 0x06 ∷ 0x55 ∷ 0x00 ∷ 0x13 ∷ 0x05 ∷ 0x40 ∷ 0x00 ∷ 0x6F ∷ 0x00 ∷ 0x40 ∷ 0x02 ∷ 0x37 ∷ 0x04 ∷ 0x00 ∷ 0x02 ∷
     0x13 ∷ 0x14 ∷ 0xC4 ∷ 0x00 ∷ 0x03 ∷ 0x45 ∷ 0x04 ∷ 0x00 ∷ 0x93 ∷ 0x02 ∷ 0x00 ∷ 0x00 ∷ 0x63 ∷ 0x06 ∷ 0x55 ∷ 0x00 ∷
     0x13 ∷ 0x05 ∷ 0x50 ∷ 0x00 ∷ 0x6F ∷ 0x00 ∷ 0x80 ∷ 0x00 ∷ 0x13 ∷ 0x05 ∷ 0x00 ∷ 0x00 ∷ 0x93 ∷ 0x08 ∷ 0xE0 ∷ 0x05 ∷
-    0x73 ∷ 0x00 ∷ 0x00 ∷ 0x00 ∷ [])
-
-abbrev line : Choice → Ask
-line choice = record { hart = record { 0 = 0 }; choice = choice; check = None }
-
-abbrev outcome : Setting → Result (List Entry) ℕ → Result (List ℕ × End) ℕ
-outcome s (Ok log) = Ok (console s (history s log), end_of s (history s log))
-outcome s (Err n) = Err n
+    0x73 ∷ 0x00 ∷ 0x00 ∷ 0x00 ∷ []))
 
 abbrev script : List Ask
 script = line (asked.Run (record { 0 = 1 })) ∷ (replicate 29 (line asked.Exec) ++ (line asked.Drain ∷ replicate 22 (line asked.Exec)))
@@ -76,7 +53,7 @@ frames_run_out_played = refl
 
 -- a call of thread 1 at the start, with a number and arguments
 abbrev calls : ℕ → ℕ → ℕ → ℕ → ℕ → Here
-calls number a0 a1 a2 a3 = record (here_in_history (program_of_frames 128 []) [] 0) {
+calls number a0 a1 a2 a3 = record (here_in_history (within_frames 128 (code_and_data [])) [] 0) {
   file = λ t. record {
     file = with_register (with_register (with_register (with_register (with_register no_registers 17 number) 10 a0) 11 a1) 12 a2) 13 a3;
     pc = 0x10080;
@@ -109,17 +86,12 @@ mmap_knows_no_fixed : answer (calls 222 0 4096 3 0x32) ≡ error 22
 mmap_knows_no_fixed = refl
 
 -- a bad flag comes before pages that could be executed, and those before a want of frames
-mmap_flags_first : answer (calls 222 0 4096 4 0) ≡ error 22
-mmap_flags_first = refl
-
-mmap_flags_before_frames : answer (calls 222 0 0x40000000 3 0) ≡ error 22
-mmap_flags_before_frames = refl
-
-mmap_no_code : answer (calls 222 0 0x40000000 4 0x22) ≡ error 13
-mmap_no_code = refl
-
-mmap_lacks_frames : answer (calls 222 0 0x3E000 3 0x22) ≡ error 12
-mmap_lacks_frames = refl
+mmap_tests :
+    (answer (calls 222 0 4096 4 0) ≡ error 22)  -- mmap flags first
+    × (answer (calls 222 0 0x40000000 3 0) ≡ error 22)  -- mmap flags before frames
+    × (answer (calls 222 0 0x40000000 4 0x22) ≡ error 13)  -- mmap no code
+    × (answer (calls 222 0 0x3E000 3 0x22) ≡ error 12)  -- mmap lacks frames
+mmap_tests = (refl, refl, refl, refl)
 
 -- the pages that are mapped are written as one run of zeros
 mmap_writes_zeros : (called (calls 222 0 4097 3 0x22) 1).entered ≡ Zeroed 0x2000000000 0x2000 ∷ []
@@ -127,62 +99,28 @@ unfolding lowest_hole first_page each_page count_pages
 mmap_writes_zeros = refl
 
 -- brk always answers the break: a growth by a byte maps a page of zeros; nothing is below the program's own break
-brk_grows : answer (calls 214 0x21001 0 0 0) ≡ 0x21001
+brk_answers :
+    (answer (calls 214 0x21001 0 0 0) ≡ 0x21001)  -- brk grows
+    × ((called (calls 214 0x21001 0 0 0) 1).entered ≡ Zeroed 0x21000 0x1000 ∷ [])  -- brk writes zeros
+    × (answer (calls 214 0 0 0 0) ≡ 0x21000)  -- brk stays
+    × ((called (calls 214 0 0 0 0) 1).entered ≡ [])  -- brk writes nothing
+    × (answer (calls 214 0x5E001 0 0 0) ≡ 0x21000)  -- brk lacks frames
 unfolding lowest_hole first_page each_page count_pages
-brk_grows = refl
-
-brk_writes_zeros : (called (calls 214 0x21001 0 0 0) 1).entered ≡ Zeroed 0x21000 0x1000 ∷ []
-unfolding lowest_hole first_page each_page count_pages
-brk_writes_zeros = refl
-
-brk_stays : answer (calls 214 0 0 0 0) ≡ 0x21000
-unfolding lowest_hole first_page each_page count_pages
-brk_stays = refl
-
-brk_writes_nothing : (called (calls 214 0 0 0 0) 1).entered ≡ []
-unfolding lowest_hole first_page each_page count_pages
-brk_writes_nothing = refl
-
-brk_lacks_frames : answer (calls 214 0x5E001 0 0 0) ≡ 0x21000
-unfolding lowest_hole first_page each_page count_pages
-brk_lacks_frames = refl
+brk_answers = (refl, refl, refl, refl, refl)
 
 -- munmap and mprotect: the page of code stays; a page that isn't mapped may be removed, and can't be protected
-munmap_answers : answer (calls 215 0x20000 4096 0 0) ≡ 0
+munmap_and_mprotect :
+    (answer (calls 215 0x20000 4096 0 0) ≡ 0)  -- munmap answers
+    × (answer (calls 215 0x10000 4096 0 0) ≡ error 13)  -- munmap no code
+    × (answer (calls 215 0x30000 4096 0 0) ≡ 0)  -- munmap of a hole
+    × ((called (calls 215 0x20000 1 0 0) 1).kernel.pages.free ≡ 62)  -- munmap frees
+    × (answer (calls 226 0x20000 4096 1 0) ≡ 0)  -- mprotect answers
+    × (permission_at (called (calls 226 0x20000 4096 1 0) 1).kernel.pages 0x20FFF ≡ Some 4)  -- mprotect lets read
+    × (answer (calls 226 0x30000 4096 1 0) ≡ error 12)  -- mprotect of a hole
+    × (answer (calls 226 0x10000 4096 1 0) ≡ error 13)  -- mprotect no code
+    × (answer (calls 226 0x30000 0 99 0) ≡ 0)  -- mprotect of nothing
 unfolding lowest_hole first_page each_page count_pages
-munmap_answers = refl
-
-munmap_no_code : answer (calls 215 0x10000 4096 0 0) ≡ error 13
-unfolding lowest_hole first_page each_page count_pages
-munmap_no_code = refl
-
-munmap_of_a_hole : answer (calls 215 0x30000 4096 0 0) ≡ 0
-unfolding lowest_hole first_page each_page count_pages
-munmap_of_a_hole = refl
-
-munmap_frees : (called (calls 215 0x20000 1 0 0) 1).kernel.pages.free ≡ 62
-unfolding lowest_hole first_page each_page count_pages
-munmap_frees = refl
-
-mprotect_answers : answer (calls 226 0x20000 4096 1 0) ≡ 0
-unfolding lowest_hole first_page each_page count_pages
-mprotect_answers = refl
-
-mprotect_lets_read : permission_at (called (calls 226 0x20000 4096 1 0) 1).kernel.pages 0x20FFF ≡ Some 4
-unfolding lowest_hole first_page each_page count_pages
-mprotect_lets_read = refl
-
-mprotect_of_a_hole : answer (calls 226 0x30000 4096 1 0) ≡ error 12
-unfolding lowest_hole first_page each_page count_pages
-mprotect_of_a_hole = refl
-
-mprotect_no_code : answer (calls 226 0x10000 4096 1 0) ≡ error 13
-unfolding lowest_hole first_page each_page count_pages
-mprotect_no_code = refl
-
-mprotect_of_nothing : answer (calls 226 0x30000 0 99 0) ≡ 0
-unfolding lowest_hole first_page each_page count_pages
-mprotect_of_nothing = refl
+munmap_and_mprotect = (refl, refl, refl, refl, refl, refl, refl, refl, refl)
 
 -- where a store of 8 bytes to 0x20FF8 waits on hart 1, hart 0 may not remove or protect its page
 abbrev beside_store : Here → Here
@@ -225,14 +163,9 @@ abbrev held_grown : Here → Option Why
 held_grown here = others_gate (is_held (grown here) 1) (Some effect.Call)
 
 -- a break that falls below the page is held up; one that stays on it isn't, nor is one that would lie below the lowest
-brk_that_falls_is_held : held_grown (calls 214 0x21000 0 0 0) ≡ Some Others
+brk_held_up :
+    (held_grown (calls 214 0x21000 0 0 0) ≡ Some Others)  -- brk that falls is held
+    × (held_grown (calls 214 0x21008 0 0 0) ≡ None)  -- brk within the page is not held
+    × (held_grown (calls 214 0x20000 0 0 0) ≡ None)  -- refused brk is not held
 unfolding lowest_hole first_page each_page count_pages
-brk_that_falls_is_held = refl
-
-brk_within_the_page_is_not_held : held_grown (calls 214 0x21008 0 0 0) ≡ None
-unfolding lowest_hole first_page each_page count_pages
-brk_within_the_page_is_not_held = refl
-
-refused_brk_is_not_held : held_grown (calls 214 0x20000 0 0 0) ≡ None
-unfolding lowest_hole first_page each_page count_pages
-refused_brk_is_not_held = refl
+brk_held_up = (refl, refl, refl)

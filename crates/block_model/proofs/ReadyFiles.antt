@@ -15,15 +15,13 @@ use Rattle.block_model.specs.Run.{IsRunHistory}
 use Rattle.block_model.specs.Sequences.{files_interrupted, interruption_here}
 use Rattle.block_model.specs.Setting.{Setting}
 use Rattle.block_model.specs.Tables.{on}
-use Rattle.block_model.proofs.Allowed.{allowed_at}
-use Rattle.block_model.proofs.Applied.{plain_of}
-use Rattle.block_model.proofs.Aside.{beside_left, caller_apart}
-use Rattle.block_model.proofs.AsideCalls.{aside_called}
-use Rattle.block_model.proofs.EventDeeds.{Calls, EventDeed, Executes, Handles, Preempts, Restarts, Returns, RunKills, Runs, SignalKills, deed_of}
-use Rattle.block_model.proofs.Good.{IsGoodHere, good_here}
+use Rattle.block_model.proofs.Runs.{allowed_at, settled}
+use Rattle.block_model.proofs.PlainEvents.{plain_of}
+use Rattle.block_model.proofs.OtherThreads.{beside_left, caller_apart, aside_called}
+use Rattle.block_model.proofs.EventEffects.{Calls, EventDeed, Executes, Handles, Preempts, Restarts, Returns, RunKills, Runs, SignalKills, deed_of}
+use Rattle.block_model.proofs.PlaceInvariant.{IsGoodHere, good_here}
 use Rattle.block_model.proofs.KernelTables.{its_ready}
-use Rattle.block_model.proofs.Runs.{settled}
-use Rattle.block_model.proofs.SignalEvents.{interrupted_file}
+use Rattle.block_model.proofs.SignalTables.{interrupted_file}
 
 -- what an event leaves as it is of a thread, where that is ready
 pub record IsReadyKept (here : Here) (u : ℕ) (d : Done) : Type 0 where

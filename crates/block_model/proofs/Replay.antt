@@ -10,8 +10,7 @@ use Rattle.block_model.specs.Setting.{Setting}
 use Rattle.block_model.specs.Deciding.{decide, event, history}
 use Rattle.block_model.specs.Run.{IsRunHistory, IsAllowedLog}
 use Rattle.block_model.specs.Replay.{Ask, Answers, AllAnswer, IsFirstBad, IsFirstRefused, is_as_said, checked, made_by, extended, play_line, played, play_read_line, played_read, line_of, script_of}
-use Rattle.block_model.proofs.Allowed.{decided_is}
-use Rattle.block_model.proofs.Runs.{IsAllowedLog-append, IsAllowedLog-nil, run_before}
+use Rattle.block_model.proofs.Runs.{decided_is, IsAllowedLog-append, IsAllowedLog-nil, run_before}
 
 -- one more line
 pub played-append : (s : Setting) (lines : List Ask) (line : Ask) → played s (lines ++ line ∷ []) ≡ play_line s (played s lines) line

@@ -1,31 +1,77 @@
--- What is good at each place of a run, and that a run that goes on is a run.
-use Rattle.std.proofs.Common.{◌≡◌, ℕ, ◌+◌, List, [], ◌∷◌, ◌++◌, refl, sym, ap, ◌∙◌, arith, subst, None, Ok, length}
-use Rattle.std.specs.List.{fold}
-use Rattle.std.proofs.lemmas.List.Sums.{fold-append}
+-- What an entry that is decided tells, what is good at each place of a run, and that a run that goes on is a run; what holds of the harts
+-- and of the kernel's record at each place of a block run.
+use Rattle.std.proofs.Common.{◌≡◌, ℕ, ◌<◌, refl, ap, ◌∙◌, Bool, true, false, cond, Option, Some, None, Result, Ok, Err, length, leb, ◌+◌, List, [], ◌∷◌, ◌++◌, sym, arith, subst, ◌≢◌}
+use Rattle.std.proofs.lemmas.Bool.{leb-false}
 use Rattle.mach_types.specs.declared.events.Choice.{Choice}
 use Rattle.mach_types.specs.declared.events.Choice.TheVariants as asked
 use Rattle.mach_types.specs.declared.events.Entry.{Entry}
+use Rattle.mach_types.specs.declared.events.Why.{Why}
+use Rattle.mach_types.specs.declared.events.Why.TheVariants.{NoHart}
+use Rattle.mach_types.specs.declared.limits.End.{End}
 use Rattle.mach_types.specs.Events.{choice_of}
+use Rattle.block_model.specs.declared.refusals.Refused.{Refused}
+use Rattle.block_model.specs.declared.refusals.Refused.TheVariants.{Full, NotEnabled}
 use Rattle.block_model.specs.Setting.{Setting}
 use Rattle.block_model.specs.Here.{Here}
 use Rattle.block_model.specs.Events.{refusal_of, done_of}
-use Rattle.block_model.specs.History.{Event, History, here_in_history}
-use Rattle.block_model.specs.Deciding.{done, event, history, decide}
+use Rattle.block_model.specs.History.{History, here_in_history, Event, awaits, can_be_written, kernel, running, waiting}
+use Rattle.block_model.specs.Deciding.{decide, decide_in, entry_in, over_at, unless, done, event, history}
+use Rattle.std.specs.List.{fold, All}
+use Rattle.std.proofs.lemmas.List.Sums.{fold-append}
 use Rattle.block_model.specs.Run.{IsRunHistory, IsAllowedLog}
 use Rattle.block_model.specs.Plain.{plain_start, plain_next}
-use Rattle.block_model.proofs.Applied.{plain_of, IsCounted, counted_next, applied}
-use Rattle.block_model.proofs.Allowed.{allowed_at, decided_is}
-use Rattle.block_model.proofs.Allowances.{start_allowed}
-use Rattle.block_model.proofs.Awaited.{awaited_start}
-use Rattle.block_model.proofs.KernelTables.{tables_start}
-use Rattle.block_model.proofs.Good.{IsGood, IsGoodHere, IsFit, good_here, good_next}
-use Rattle.block_model.proofs.Goods.Exec.{good_exec}
-use Rattle.block_model.proofs.Goods.Drain.{good_drain}
-use Rattle.block_model.proofs.Goods.Finish.{good_done}
-use Rattle.block_model.proofs.Goods.Preempt.{good_preempt}
-use Rattle.block_model.proofs.Goods.Run.{good_run}
-use Rattle.block_model.proofs.Goods.Signal.{good_signal}
-use Rattle.block_model.proofs.Goods.Take.{good_take}
+use Rattle.block_model.proofs.PlainEvents.{plain_of, IsCounted, counted_next, applied}
+use Rattle.block_model.proofs.AllowedHarts.{start_allowed}
+use Rattle.block_model.proofs.Barriers.Requests.{awaited_start}
+use Rattle.block_model.proofs.KernelTables.{tables_start, running_is, same_hart}
+use Rattle.block_model.proofs.PlaceInvariant.{IsGood, IsGoodHere, IsFit, good_here, good_next, IsSound}
+use Rattle.block_model.proofs.Invariants.Instructions.{good_exec}
+use Rattle.block_model.proofs.Invariants.Events.{good_drain, good_done, good_preempt, good_run, good_signal, good_take}
+use Rattle.std.proofs.lemmas.List.Elements.{All-from_recursion}
+use Rattle.mach_types.specs.Bytes.{each_byte}
+use Rattle.mach_types.specs.declared.user_memory.Store.{Store}
+use Rattle.block_model.specs.Layouts.{IsLaidOut}
+use Rattle.block_model.proofs.Pages.{IsPaged, paged_start}
+use Rattle.block_model.specs.Tables.{on}
+
+-- an entry that is decided: the run goes on, the log has room, the hart is one of the machine, no condition fails, and it is the
+-- entry of its choice
+pub record IsAllowed (made : ℕ) (over : Option End) (c : Choice) (here : Here) (e : Entry) : Type 0 where
+  pub goes : over ≡ None
+  pub room : made < here.setting.limits.steps
+  pub lt : here.hart < here.setting.limits.harts
+  pub free : refusal_of c here ≡ None
+  pub is : e ≡ entry_in c here
+
+past : (b : Bool) (w : Refused) (r : Result Entry Refused) (e : Entry) → cond b (Err w) r ≡ Ok e → (b ≡ false) × (r ≡ Ok e)
+past true w r e h = cc
+past false w r e h = (refl, h)
+
+pub allowed : (made : ℕ) (over : Option End) (c : Choice) (here : Here) (e : Entry) → decide_in made over c here ≡ Ok e → IsAllowed made over c here e
+allowed made (Some x) c here e is = cc
+allowed made None c here e is =
+    let p = past (leb here.setting.limits.steps made) Full _ e is in
+    let q = past (leb here.setting.limits.harts here.hart) (NotEnabled NoHart) _ e p.1 in
+    go (refusal_of c here) refl (leb-false here.setting.limits.steps made p.0) (leb-false here.setting.limits.harts here.hart q.0) q.1
+  where
+    go : (o : Option Why) → refusal_of c here ≡ o → made < here.setting.limits.steps → here.hart < here.setting.limits.harts → unless (entry_in c here) o ≡ Ok e → IsAllowed made None c here e
+    go None free room lt d = record { goes = refl; room = room; lt = lt; free = free; is = cc }
+    go (Some why) free room lt d = cc
+
+pub allowed_at : (s : Setting) (before : History) (h : ℕ) (c : Choice) (e : Entry) → decide s before h c ≡ Ok e → IsAllowed (length before) (over_at s before) c (here_in_history s before h) e
+unfolding decide
+allowed_at s before h c e is = allowed (length before) (over_at s before) c (here_in_history s before h) e is
+
+-- the entry of a choice answers it
+pub choice_in : (c : Choice) (here : Here) → choice_of (entry_in c here) ≡ c
+choice_in (asked.Run t) here = refl
+choice_in c here = refl
+
+-- what is decided is of the hart and the choice that were asked
+pub decided_is : (s : Setting) (before : History) (h : ℕ) (c : Choice) (e : Entry) → decide s before h c ≡ Ok e → (e.hart.0 ≡ h) × (choice_of e ≡ c)
+decided_is s before h c e d =
+    let a = allowed_at s before h c e d in
+    (ap (λ (x : Entry). x.hart.0) a.is, ap choice_of a.is ∙ choice_in c (here_in_history s before h))
 
 -- the events by their kinds
 pub good_of : (c : Choice) (here : Here) → IsGoodHere here → refusal_of c here ≡ None → IsFit here (done_of c here)
@@ -118,3 +164,39 @@ IsAllowedLog-nil s = tt
 pub run_before : (s : Setting) (rest : List Entry) (before : History) → IsRunHistory s (fold (λ b e. event s b e ∷ b) before rest) → IsRunHistory s before
 run_before s [] before run = run
 run_before s (e ∷ rest) before run = (run_before s rest (event s before e ∷ before) run).0
+
+-- harts
+pub idle_harts : (s : Setting) (log : List Entry) (h : ℕ) → IsAllowedLog s log → running s h (history s log) ≡ None → waiting h (history s log) ≡ []
+idle_harts s log h run idle = (settled s (history s log) run).good.idle h idle
+
+pub one_hart : (s : Setting) (log : List Entry) (h k t : ℕ) → IsAllowedLog s log → running s h (history s log) ≡ Some t → running s k (history s log) ≡ Some t → h ≡ k
+one_hart s log h k t run here there =
+    let record_at = kernel s (history s log) in
+    let tables = (settled s (history s log) run).good.kernel.tables in
+    let states : Some (on h) ≡ Some (on k) =
+    sym (running_is s.limits.harts h t record_at.threads record_at.scheduling tables here) ∙ running_is s.limits.harts k t record_at.threads record_at.scheduling tables there in
+    let same : on h ≡ on k = cc in
+    same_hart h k same
+
+pub writable_stores : (s : Setting) (log : List Entry) (h : ℕ) → IsAllowedLog s log → All (λ (w : Store). each_byte (can_be_written s (history s log)) w.at w.size ≡ true) (waiting h (history s log))
+writable_stores s log h run =
+    All-from_recursion (λ (w : Store). each_byte (can_be_written s (history s log)) w.at w.size ≡ true) (waiting h (history s log)) ((settled s (history s log) run).good.within h)
+
+-- barriers: a thread that waits in one runs, and no store waits on its hart
+pub waiter_runs : (s : Setting) (before : History) (h left : ℕ) → IsRunHistory s before → awaits h before ≡ Some left → running s h before ≢ None
+waiter_runs s before h left run waits = (settled s before run).good.busy h left waits
+
+pub waiter_stores : (s : Setting) (before : History) (h left : ℕ) → IsRunHistory s before → awaits h before ≡ Some left → waiting h before ≡ []
+waiter_stores s before h left run waits = (settled s before run).good.empty h left waits
+
+-- the kernel's record
+pub sound_record : (s : Setting) (log : List Entry) → IsAllowedLog s log → IsSound s (kernel s (history s log))
+sound_record s log run = (settled s (history s log) run).good.kernel
+
+-- the pages
+paged_at : (s : Setting) (before : History) → IsLaidOut s.program → IsRunHistory s before → IsPaged s (kernel s before).pages
+paged_at s [] laid run = paged_start s laid
+paged_at s (e ∷ before) laid run = (fit_at s e before run).paged (paged_at s before laid run.0)
+
+pub paged_pages : (s : Setting) (log : List Entry) → IsLaidOut s.program → IsAllowedLog s log → IsPaged s (kernel s (history s log)).pages
+paged_pages s log laid run = paged_at s (history s log) laid run

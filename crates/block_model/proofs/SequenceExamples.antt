@@ -178,16 +178,13 @@ registers_none_then : (rseq (asks [] 0x21000 32 0 7) 1).kernel.areas ≡ []
 registers_none_then = refl
 
 -- unregistration, and each of its refusals: none registered, other flags, another area, another signature
-unregisters_it : (rseq (asks held 0x20000 32 1 7) 1).kernel.areas ≡ []
-unregisters_it = refl
-
-writes_no_processor : (rseq (asks held 0x20000 32 1 7) 1).entered
-    ≡ word_stored 0x20000 0 ∷ word_stored 0x20004 0xFFFFFFFF ∷ word_stored 0x20014 0 ∷ word_stored 0x20018 0 ∷ []
-writes_no_processor = refl
-
-refused_unregistration : map answer (asks [] 0x20000 32 1 7 ∷ asks held 0x20000 32 3 7 ∷ asks held 0x20020 32 1 7 ∷ asks held 0x20000 32 1 8 ∷ [])
-    ≡ negative EINVAL.0 ∷ negative EINVAL.0 ∷ negative EINVAL.0 ∷ negative EPERM.0 ∷ []
-refused_unregistration = refl
+unregistration :
+    ((rseq (asks held 0x20000 32 1 7) 1).kernel.areas ≡ [])  -- unregisters it
+    × ((rseq (asks held 0x20000 32 1 7) 1).entered
+    ≡ word_stored 0x20000 0 ∷ word_stored 0x20004 0xFFFFFFFF ∷ word_stored 0x20014 0 ∷ word_stored 0x20018 0 ∷ [])  -- writes no processor
+    × (map answer (asks [] 0x20000 32 1 7 ∷ asks held 0x20000 32 3 7 ∷ asks held 0x20020 32 1 7 ∷ asks held 0x20000 32 1 8 ∷ [])
+    ≡ negative EINVAL.0 ∷ negative EINVAL.0 ∷ negative EINVAL.0 ∷ negative EPERM.0 ∷ [])  -- refused unregistration
+unregistration = (refl, refl, refl)
 
 -- a call inside a sequence kills the process, and one outside doesn't
 call_inside : (called_here (stands_at 0x100B4) 1).ended ≡ Some (Killed SIGSEGV)

@@ -6,7 +6,6 @@ use Rattle.mach_types.specs.declared.errors.TheConstants.{EAGAIN, EFAULT, EINTR,
 use Rattle.mach_types.specs.declared.events.Choice.{Choice}
 use Rattle.mach_types.specs.declared.events.Choice.TheVariants as asked
 use Rattle.mach_types.specs.declared.events.Entry.{Entry}
-use Rattle.mach_types.specs.declared.events.Kind.{Kind}
 use Rattle.mach_types.specs.declared.events.Kind.TheVariants as kind
 use Rattle.mach_types.specs.declared.events.Why.TheVariants.{Idle, NoSignal, Waiting}
 use Rattle.mach_types.specs.declared.limits.End.{End}
@@ -21,8 +20,8 @@ use Rattle.mach_types.specs.declared.user_memory.Store.{Store}
 use Rattle.mach_types.specs.declared.user_memory.Write.{Write}
 use Rattle.mach_types.specs.Kernel.Areas.{are_readable, number_at}
 use Rattle.mach_types.specs.Kernel.SignalFrames.{can_write_frame, frame_read}
-use Rattle.mach_types.specs.Kernel.Signals.{Signalling, action_of, all_signals, mask_of, pending_of, start_signalling, with_action, with_mask, with_pending, with_thread}
-use Rattle.mach_types.specs.Kernel.Threads.{Threads, start_threads, state_of, with_child, with_state, with_waiter}
+use Rattle.mach_types.specs.Kernel.Signals.{Signalling, action_of, all_signals, mask_of, pending_of, start_signalling, with_action, with_mask, with_pending, with_thread, has_signal, is_ignored, next_for}
+use Rattle.mach_types.specs.Kernel.Threads.{Threads, start_threads, state_of, with_child, with_state, with_waiter, waits}
 use Rattle.mach_types.specs.Registers.{no_registers, register, with_register}
 use Rattle.chooser.specs.Cases.{pick}
 use Rattle.rv_inst.specs.Local.{is_register_only}
@@ -35,7 +34,7 @@ use Rattle.block_model.specs.Deciding.{decide, done, end_of, history}
 use Rattle.block_model.specs.Events.Exec.{done_exec}
 use Rattle.block_model.specs.Events.Signal.{done_signal, refusal_signal}
 use Rattle.block_model.specs.Here.{Done, Here}
-use Rattle.block_model.specs.History.{file_among, here_in_history}
+use Rattle.block_model.specs.History.{file_among, here_in_history, kernel}
 use Rattle.block_model.specs.Kernel.{gone, had_child}
 use Rattle.block_model.specs.Record.{Kernel}
 use Rattle.block_model.specs.Replay.{Ask, played}
@@ -44,6 +43,9 @@ use Rattle.block_model.specs.Sights.{sight_in}
 use Rattle.block_model.specs.Solo.{solo_choice}
 use Rattle.block_model.specs.declared.refusals.Refused.TheVariants.{NotEnabled}
 use Rattle.block_model.proofs.SequenceExamples.{pcs, program}
+use Rattle.block_model.proofs.ExamplePrograms.{entry, line, code_and_data}
+use Rattle.block_model.specs.Run.{IsBlockRun}
+use Rattle.block_model.proofs.Laws.{block_run}
 
 -- WHO IS ASKED
 
@@ -246,23 +248,18 @@ delivered flags = done_signal (record (runs_at (two_pending flags) 0x100B4) { re
 abbrev word : ℕ → ℕ → Write
 word n value = double_written (0x206F0 + 8 * n) value
 
-enters_its_handler : (delivered 0).files ≡ (
-  1,
-  record {
-    file = record { x = 0 ∷ 0x3FFFFF0000 ∷ 0x206F0 ∷ 0 ∷ 0 ∷ 55 ∷ 0 ∷ 0 ∷ 0 ∷ 0 ∷ 10 ∷ 0 ∷ 0x206F0 ∷ replicate 19 0 };
-    pc = 0x10100;
-  },
-) ∷ []
+handler_entered :
+    ((delivered 0).files ≡ (
+      1,
+      record {
+        file = record { x = 0 ∷ 0x3FFFFF0000 ∷ 0x206F0 ∷ 0 ∷ 0 ∷ 55 ∷ 0 ∷ 0 ∷ 0 ∷ 0 ∷ 10 ∷ 0 ∷ 0x206F0 ∷ replicate 19 0 };
+        pc = 0x10100;
+      },
+    ) ∷ [])  -- enters its handler
+    × (take 7 (delivered 0).entered ≡ word 0 0x100B4 ∷ word 1 0 ∷ word 2 0x20808 ∷ word 3 0 ∷ word 4 0 ∷ word 5 55 ∷ word 6 0 ∷ [])  -- frame begins
+    × (drop 31 (delivered 0).entered ≡ word 31 0 ∷ word 32 0x4 ∷ word 33 0 ∷ [])  -- frame ends
 unfolding all_signals can_write_frame
-enters_its_handler = refl
-
-frame_begins : take 7 (delivered 0).entered ≡ word 0 0x100B4 ∷ word 1 0 ∷ word 2 0x20808 ∷ word 3 0 ∷ word 4 0 ∷ word 5 55 ∷ word 6 0 ∷ []
-unfolding all_signals can_write_frame
-frame_begins = refl
-
-frame_ends : drop 31 (delivered 0).entered ≡ word 31 0 ∷ word 32 0x4 ∷ word 33 0 ∷ []
-unfolding all_signals can_write_frame
-frame_ends = refl
+handler_entered = (refl, refl, refl)
 
 -- it isn't pending any more, and the other one is; while the handler runs 2 and 10 are masked too; no reservation is left, no
 -- instruction was executed, and the process goes on
@@ -282,17 +279,12 @@ unfolding all_signals can_write_frame
 nothing_else = refl
 
 -- with SA_NODEFER 10 isn't masked; with SA_RESETHAND its action is the default then, and is as it was without
-not_deferred : mask_of 1 (delivered 0x40000000).kernel.signals ≡ 0x6
+by_action_flags :
+    (mask_of 1 (delivered 0x40000000).kernel.signals ≡ 0x6)  -- not deferred
+    × (action_of 10 (delivered 0x40000000).kernel.signals ≡ record { at = 0x10100; flags = 0x40000000; mask = 0x102 })  -- handler stays
+    × (action_of 10 (delivered 0x80000000).kernel.signals ≡ record { at = 0; flags = 0x80000000; mask = 0x102 })  -- handler is reset
 unfolding all_signals can_write_frame
-not_deferred = refl
-
-handler_stays : action_of 10 (delivered 0x40000000).kernel.signals ≡ record { at = 0x10100; flags = 0x40000000; mask = 0x102 }
-unfolding all_signals can_write_frame
-handler_stays = refl
-
-handler_is_reset : action_of 10 (delivered 0x80000000).kernel.signals ≡ record { at = 0; flags = 0x80000000; mask = 0x102 }
-unfolding all_signals can_write_frame
-handler_is_reset = refl
+by_action_flags = (refl, refl, refl)
 
 -- with SA_RESETHAND the default of SIGCHLD comes back, which ignores it: it is dropped for the other thread too
 abbrev resets_17 : ℕ → Signalling
@@ -385,21 +377,13 @@ fault_kills = refl
 abbrev would_wait : Signalling → ℕ → Here
 would_wait signals value = asks signals 98 0x20000 0 value 0
 
-breaks_off : answer (would_wait (with_pending 1 10 handles_10) 0) ≡ negative EINTR.0
+wait_with_a_signal :
+    (answer (would_wait (with_pending 1 10 handles_10) 0) ≡ negative EINTR.0)  -- breaks off
+    × (state_after 1 (would_wait (with_pending 1 10 handles_10) 0) ≡ Some (state.Running (record { 0 = 0 })))  -- still runs
+    × (answer (would_wait (with_pending 1 10 handles_10) 5) ≡ negative EAGAIN.0)  -- other value first
+    × (state_after 1 (would_wait (with_mask 1 0x200 (with_pending 1 10 handles_10)) 0) ≡ Some (state.Waiting 0x20000))  -- waits where masked
 unfolding all_signals
-breaks_off = refl
-
-still_runs : state_after 1 (would_wait (with_pending 1 10 handles_10) 0) ≡ Some (state.Running (record { 0 = 0 }))
-unfolding all_signals
-still_runs = refl
-
-other_value_first : answer (would_wait (with_pending 1 10 handles_10) 5) ≡ negative EAGAIN.0
-unfolding all_signals
-other_value_first = refl
-
-waits_where_masked : state_after 1 (would_wait (with_mask 1 0x200 (with_pending 1 10 handles_10)) 0) ≡ Some (state.Waiting 0x20000)
-unfolding all_signals
-waits_where_masked = refl
+wait_with_a_signal = (refl, refl, refl, refl)
 
 -- thread 2 waits at 0x20000, and thread 3 is ready. Thread 1 posts a signal to thread 2
 abbrev three : Threads
@@ -414,25 +398,14 @@ posts_to_waiter signals signal =
 abbrev answers : Here → List (ℕ × ℕ × ℕ)
 answers here = map (λ p. (p.0, register p.1.file 10, p.1.pc)) (called here 1).files
 
-wait_is_broken : answers (posts_to_waiter handles_10 10) ≡ (1, 0, 0x10084) ∷ (2, negative EINTR.0, 0x10080) ∷ []
+after_a_broken_wait :
+    (answers (posts_to_waiter handles_10 10) ≡ (1, 0, 0x10084) ∷ (2, negative EINTR.0, 0x10080) ∷ [])  -- wait is broken
+    × (state_after 2 (posts_to_waiter handles_10 10) ≡ Some state.Ready)  -- is ready then
+    × ((called (posts_to_waiter handles_10 10) 1).kernel.scheduling.order ≡ 3 ∷ 2 ∷ [])  -- last ready
+    × ((called (posts_to_waiter handles_10 10) 1).kernel.threads.waiters ≡ [])  -- no waiter is left
+    × (pending_of 2 (signals_after (posts_to_waiter handles_10 10)) ≡ 0x200)  -- is pending then
 unfolding all_signals
-wait_is_broken = refl
-
-is_ready_then : state_after 2 (posts_to_waiter handles_10 10) ≡ Some state.Ready
-unfolding all_signals
-is_ready_then = refl
-
-last_ready : (called (posts_to_waiter handles_10 10) 1).kernel.scheduling.order ≡ 3 ∷ 2 ∷ []
-unfolding all_signals
-last_ready = refl
-
-no_waiter_is_left : (called (posts_to_waiter handles_10 10) 1).kernel.threads.waiters ≡ []
-unfolding all_signals
-no_waiter_is_left = refl
-
-is_pending_then : pending_of 2 (signals_after (posts_to_waiter handles_10 10)) ≡ 0x200
-unfolding all_signals
-is_pending_then = refl
+after_a_broken_wait = (refl, refl, refl, refl, refl)
 
 -- one that would kill it breaks its wait too; one that it masks, or that is ignored, doesn't
 which_break : map (state_after 2) (posts_to_waiter start_signalling 15 ∷ posts_to_waiter (with_mask 1 0x200 handles_10) 10 ∷ posts_to_waiter start_signalling 17 ∷ [])
@@ -453,19 +426,14 @@ in_sequence pc = done_signal (with_area 0xF1401073 pc (with_pending 1 10 handles
 
 -- inside, the frame has the abort handler; before it, the pc. First the pointer of the area is cleared, and no other word of it is
 -- written
-aborts_first : map (λ pc. (in_sequence pc).interrupted) (0x100AC ∷ 0x100B0 ∷ 0x100BC ∷ 0x100C0 ∷ [])
-    ≡ Some comes_to.Cleared ∷ Some (comes_to.Aborted 0x20044) ∷ Some (comes_to.Aborted 0x20044) ∷ Some comes_to.Cleared ∷ []
+entered_inside :
+    (map (λ pc. (in_sequence pc).interrupted) (0x100AC ∷ 0x100B0 ∷ 0x100BC ∷ 0x100C0 ∷ [])
+    ≡ Some comes_to.Cleared ∷ Some (comes_to.Aborted 0x20044) ∷ Some (comes_to.Aborted 0x20044) ∷ Some comes_to.Cleared ∷ [])  -- aborts first
+    × (map (λ pc. take 2 (in_sequence pc).entered) (0x100AC ∷ 0x100B0 ∷ [])
+    ≡ (double_written 0x20008 0 ∷ word 0 0x100AC ∷ []) ∷ (double_written 0x20008 0 ∷ word 0 0x20044 ∷ []) ∷ [])  -- handler returns to
+    × (pcs (in_sequence 0x100B4).files ≡ (1, 0x10100) ∷ [])  -- enters from sequence
 unfolding all_signals can_write_frame are_readable number_at
-aborts_first = refl
-
-handler_returns_to : map (λ pc. take 2 (in_sequence pc).entered) (0x100AC ∷ 0x100B0 ∷ [])
-    ≡ (double_written 0x20008 0 ∷ word 0 0x100AC ∷ []) ∷ (double_written 0x20008 0 ∷ word 0 0x20044 ∷ []) ∷ []
-unfolding all_signals can_write_frame are_readable number_at
-handler_returns_to = refl
-
-enters_from_sequence : pcs (in_sequence 0x100B4).files ≡ (1, 0x10100) ∷ []
-unfolding all_signals can_write_frame are_readable number_at
-enters_from_sequence = refl
+entered_inside = (refl, refl, refl)
 
 -- the check comes before the default action, and what is bad kills by SIGSEGV
 killed_by_its_signature : map (λ sig. result (with_area sig 0x100B4 (with_pending 1 15 start_signalling))) (0xF1401072 ∷ 0xF1401073 ∷ [])
@@ -489,14 +457,8 @@ kills_itself = record program {
   };
 }
 
-abbrev line : Choice → Ask
-line choice = record { hart = record { 0 = 0 }; choice = choice; check = None }
-
 abbrev script : ℕ → List Choice → List Ask
 script executed more = line (asked.Run (record { 0 = 1 })) ∷ replicate executed (line asked.Exec) ++ map line more
-
-abbrev entry : Kind → ℕ → Entry
-entry k pc = record { hart = record { 0 = 0 }; kind = k; tid = record { 0 = 1 }; pc = pc }
 
 abbrev posted_log : List Entry
 posted_log = entry kind.Run 0x100B0 ∷ entry kind.Exec 0x100B0 ∷ entry kind.Exec 0x100B4 ∷ entry kind.Exec 0x100B8 ∷ entry kind.Exec 0x100BC ∷ []
@@ -541,3 +503,36 @@ begun_again = posted_log ++ entry kind.Preempt 0x100C0 ∷ entry kind.Run 0x100C
 run_delivers : next_entry kills_itself 0 (history kills_itself begun_again) ≡ Some (entry kind.Signal 0x100C0)
 unfolding all_signals has_ended choice_at next_entry pick is_register_only history done meaning row_of rows lui_rows auipc_rows jal_rows jalr_rows branch_rows load_rows store_rows op_imm_rows op_imm_32_rows op_rows op_32_rows misc_mem_rows amo_rows system_rows
 run_delivers = refl
+
+-- LAWS
+
+-- a signal that is pending isn't ignored: the log is a block run, 15 is pending at its end, and its action doesn't ignore it
+posted_run : IsBlockRun kills_itself posted_log
+unfolding all_signals decide history done meaning row_of rows lui_rows auipc_rows jal_rows jalr_rows branch_rows load_rows store_rows op_imm_rows op_imm_32_rows op_rows op_32_rows misc_mem_rows amo_rows system_rows
+posted_run = block_run kills_itself posted_log (((((tt, refl, refl), refl, refl), refl, refl), refl, refl), refl, refl)
+
+abbrev signals_posted : Signalling
+signals_posted = (kernel kills_itself (history kills_itself posted_log)).signals
+
+pending_is_heeded :
+    (has_signal (pending_of 1 signals_posted) 15 ≡ true)  -- the premise
+    × (is_ignored 15 (action_of 15 signals_posted) ≡ false)  -- the conclusion
+unfolding all_signals history done meaning row_of rows lui_rows auipc_rows jal_rows jalr_rows branch_rows load_rows store_rows op_imm_rows op_imm_32_rows op_rows op_32_rows misc_mem_rows amo_rows system_rows
+pending_is_heeded = (refl, refl)
+
+-- a thread that waits has no signal that can be delivered: after `lui x10, 0x20`, `addi x17, x0, 98`, `ecall` the only thread waits in
+-- futex(2) at 0x20000, where 0 stands
+abbrev waits_alone : Setting
+waits_alone = code_and_data (0x37 ∷ 0x05 ∷ 0x02 ∷ 0x00 ∷ 0x93 ∷ 0x08 ∷ 0x20 ∷ 0x06 ∷ 0x73 ∷ 0x00 ∷ 0x00 ∷ 0x00 ∷ [])
+
+abbrev waiting_log : List Entry
+waiting_log = entry kind.Run 0x100B0 ∷ entry kind.Exec 0x100B0 ∷ entry kind.Exec 0x100B4 ∷ entry kind.Exec 0x100B8 ∷ []
+
+waiting_run : IsBlockRun waits_alone waiting_log
+unfolding all_signals decide history done are_readable number_at meaning row_of rows lui_rows auipc_rows jal_rows jalr_rows branch_rows load_rows store_rows op_imm_rows op_imm_32_rows op_rows op_32_rows misc_mem_rows amo_rows system_rows
+waiting_run = block_run waits_alone waiting_log ((((tt, refl, refl), refl, refl), refl, refl), refl, refl)
+
+waits_without_signal : waits (kernel waits_alone (history waits_alone waiting_log)).threads 1
+    × (next_for 1 (kernel waits_alone (history waits_alone waiting_log)).signals ≡ None)
+unfolding all_signals history done are_readable number_at meaning row_of rows lui_rows auipc_rows jal_rows jalr_rows branch_rows load_rows store_rows op_imm_rows op_imm_32_rows op_rows op_32_rows misc_mem_rows amo_rows system_rows
+waits_without_signal = ((0x20000, refl), refl)

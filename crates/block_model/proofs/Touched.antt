@@ -15,8 +15,8 @@ use Rattle.block_model.specs.Run.{IsRunHistory}
 use Rattle.block_model.specs.Sequences.{is_inside_here, is_inside_waiting, named_here}
 use Rattle.block_model.specs.Setting.{Setting}
 use Rattle.block_model.specs.Whole.{Bytes, WasTouched, before_last, touched_in, watched_at, watched_of}
-use Rattle.block_model.proofs.NamedStays.{named_stays}
-use Rattle.block_model.proofs.SequencePlaces.{runs_throughout}
+use Rattle.block_model.proofs.NamedSequences.{named_stays}
+use Rattle.block_model.proofs.Sequences.{runs_throughout}
 use Rattle.block_model.proofs.TouchedBytes.{not_false}
 use Rattle.block_model.proofs.TouchedHanging.{IsHanging, hangs_since}
 use Rattle.block_model.proofs.TouchedPlaces.{AgreeAll, AreSmall, IsSince, agree_since, agree_twice, since_count, since_last}

@@ -17,9 +17,9 @@ use Rattle.block_model.specs.History.{Event, History, byte, drains, here_in_hist
 use Rattle.block_model.specs.Run.{IsRunHistory}
 use Rattle.block_model.specs.Setting.{Setting}
 use Rattle.block_model.specs.Whole.{Bytes, changed_page, is_same, meets, permission_changed, store_meets, touches, write_meets}
-use Rattle.block_model.proofs.Applied.{drop_more}
-use Rattle.block_model.proofs.EventDeeds.{Drains, EventDeed, deed_of}
-use Rattle.block_model.proofs.NamedStays.{Agree}
+use Rattle.block_model.proofs.PlainEvents.{drop_more}
+use Rattle.block_model.proofs.EventEffects.{Drains, EventDeed, deed_of}
+use Rattle.block_model.proofs.NamedSequences.{Agree}
 use Rattle.block_model.proofs.Runs.{settled}
 
 pub neither : (a b : Bool) → (a || b) ≡ false → (a ≡ false) × (b ≡ false)

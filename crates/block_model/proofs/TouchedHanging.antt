@@ -23,14 +23,11 @@ use Rattle.block_model.specs.Run.{IsRunHistory}
 use Rattle.block_model.specs.Setting.{Setting}
 use Rattle.block_model.specs.Tables.{on}
 use Rattle.block_model.specs.Whole.{Bytes, before_last, touched_in, touches}
-use Rattle.block_model.proofs.Allowed.{allowed_at}
-use Rattle.block_model.proofs.Goods.Preempt.{none_waits, out_of_barrier}
-use Rattle.block_model.proofs.Goods.Run.{ready_apart}
+use Rattle.block_model.proofs.Runs.{allowed_at, settled}
+use Rattle.block_model.proofs.Invariants.Events.{none_waits, out_of_barrier, ready_apart}
 use Rattle.block_model.proofs.KernelTables.{its_ready, running_is, state_now}
 use Rattle.block_model.proofs.ReadyFiles.{area_stays, ready_file_stays, ready_stays}
-use Rattle.block_model.proofs.Runs.{settled}
-use Rattle.block_model.proofs.SequencePlaces.{runs_throughout}
-use Rattle.block_model.proofs.SequenceSteps.{HangingStep, HangsOn, Preempted, hanging_step}
+use Rattle.block_model.proofs.Sequences.{runs_throughout, HangingStep, HangsOn, Preempted, hanging_step}
 use Rattle.block_model.proofs.TouchedBytes.{memory_stays, neither}
 use Rattle.block_model.proofs.TouchedPlaces.{AgreeAll, AreSmall, agree_twice, peeled, since_count, since_last}
 

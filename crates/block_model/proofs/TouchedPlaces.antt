@@ -22,13 +22,12 @@ use Rattle.block_model.specs.Record.{Kernel}
 use Rattle.block_model.specs.Run.{IsRunHistory}
 use Rattle.block_model.specs.Setting.{Setting}
 use Rattle.block_model.specs.Whole.{Bytes, before_last, touched_in, touches}
-use Rattle.block_model.proofs.Goods.Calls.Fit.{runs_apart}
-use Rattle.block_model.proofs.NamedStays.{Agree}
+use Rattle.block_model.proofs.Invariants.Calls.Conditions.{runs_apart}
+use Rattle.block_model.proofs.NamedSequences.{Agree}
 use Rattle.block_model.proofs.ReadyFiles.{area_stays}
 use Rattle.block_model.proofs.Runs.{fit_at, settled}
-use Rattle.block_model.proofs.SequencePlaces.{runs_throughout, taken_keeps}
-use Rattle.block_model.proofs.SequenceSteps.{Begins, Elsewhere, IsOf, Own, SequenceStep, TakesIn, is_reached, is_taken, sequence_step}
-use Rattle.block_model.proofs.SignalEvents.{OnlySignals}
+use Rattle.block_model.proofs.Sequences.{runs_throughout, taken_keeps, Begins, Elsewhere, IsOf, Own, SequenceStep, TakesIn, is_reached, is_taken, by_sequence}
+use Rattle.block_model.proofs.SignalTables.{OnlySignals}
 use Rattle.block_model.proofs.TouchedBytes.{neither, view_stays}
 
 -- WHAT THE EVENTS OF A SEQUENCE LEAVE
@@ -145,8 +144,8 @@ module _ (s : Setting) (e : Event) (before : History) (h : ℕ) (q : Sequence) (
   since_by is (Own own inside its) rest = since_own is own inside its
 
 pub since_last : (s : Setting) (before : History) (h : ℕ) (q : Sequence) → IsRunHistory s before → sequence_on s h before ≡ Some q → IsSince s before h q
-since_last s [] h q run is = absurd cc
-since_last s (e ∷ before) h q run is = since_by s e before h q run is (sequence_step s e before h q is) (λ was. since_last s before h q run.0 was)
+since_last s before h =
+    by_sequence s h (λ b r. IsSince s b h r) (λ e b r run rest is step. since_by s e b h r run is step (rest r)) before
 
 -- BYTES THAT NOTHING TOUCHED
 
@@ -214,6 +213,7 @@ module _ (s : Setting) (e : Event) (before : History) (h : ℕ) (q : Sequence) (
 pub agree_since : (s : Setting) (before : History) (h : ℕ) (q : Sequence) → IsRunHistory s before → sequence_on s h before ≡ Some q
     → (ws : List Bytes) → AreSmall ws → touched_in s (since_count q before) before ws ≡ false
     → AgreeAll (view (here_in_history s (before_last q) h)) (view (here_in_history s before h)) ws
-agree_since s [] h q run is ws small none = absurd cc
-agree_since s (e ∷ before) h q run is ws small none =
-    agree_by s e before h q run ws small (sequence_step s e before h q is) none (λ was clear. agree_since s before h q run.0 was ws small clear)
+agree_since s before h =
+    by_sequence s h (λ b r. (ws : List Bytes) → AreSmall ws → touched_in s (since_count r b) b ws ≡ false
+    → AgreeAll (view (here_in_history s (before_last r) h)) (view (here_in_history s b h)) ws)
+    (λ e b r run rest is step ws small none. agree_by s e b h r run ws small step none (λ was clear. rest r was ws small clear)) before

@@ -43,17 +43,8 @@ unless_call here t e false is other = refl
 unless_call here t e true is other = absurd (other (only_call e is))
   where
     only_call : (e : Effect) → is_call e ≡ true → e ≡ effect.Call
-    only_call (effect.Next rd value to) is = cc
-    only_call (effect.Load at size is_signed rd) is = cc
-    only_call (effect.Store at size value) is = cc
-    only_call (effect.Amo op at size value rd) is = cc
-    only_call (effect.Lr at size rd) is = cc
-    only_call (effect.Sc at size value rd) is = cc
-    only_call (effect.Fence full) is = cc
-    only_call effect.FenceI is = cc
     only_call effect.Call is = refl
-    only_call effect.Break is = cc
-    only_call effect.Misaligned is = cc
+    only_call e is = cc
 
 -- the file that an instruction leaves, and the record
 abbrev after_effect : Here → ℕ → Option Effect → Saved

@@ -20,15 +20,13 @@ use Rattle.block_model.specs.Run.{IsRunHistory}
 use Rattle.block_model.specs.Sequences.{is_inside_here}
 use Rattle.block_model.specs.Setting.{Setting}
 use Rattle.block_model.specs.Whole.{EndsWhole, IsFatalInstruction, IsWholeEvent, IsWholeHistory, IsWholePlace, TouchesNothing, faults_or_calls, signal_inside}
-use Rattle.block_model.proofs.EventDeeds.{CallKills, Calls, EventDeed, FaultKills, Restarts, RunKills, SignalKills, deed_of}
-use Rattle.block_model.proofs.SequencePlaces.{goes_on, runs_throughout}
-use Rattle.block_model.proofs.SequenceSteps.{Elsewhere, Own, SequenceStep, is_taken, sequence_step}
+use Rattle.block_model.proofs.EventEffects.{CallKills, Calls, EventDeed, FaultKills, Restarts, RunKills, SignalKills, deed_of}
+use Rattle.block_model.proofs.Sequences.{goes_on, runs_throughout, Elsewhere, Own, SequenceStep, is_taken, sequence_step}
 use Rattle.block_model.proofs.TouchedPlaces.{IsTakenIn}
-use Rattle.block_model.proofs.WholeEnds.{dropped_at, ends_whole_uninterrupted, quiet}
-use Rattle.block_model.proofs.WholeEvents.{did, place}
-use Rattle.block_model.proofs.WholeHangs.{hangs}
-use Rattle.block_model.proofs.WholeSignals.{ends_whole_delivered}
-use Rattle.block_model.proofs.WholeTakes.{ends_whole_restarted}
+use Rattle.block_model.proofs.SequenceEnds.{dropped_at, ends_whole_uninterrupted, quiet}
+use Rattle.block_model.proofs.WholeEvents.{did, place, hangs}
+use Rattle.block_model.proofs.SignalDeliveries.{ends_whole_delivered}
+use Rattle.block_model.proofs.Restarts.{ends_whole_restarted}
 use Rattle.block_model.proofs.WholeVerdicts.{ends_whole_at_verdict}
 
 -- AN EVENT OF A SEQUENCE

@@ -27,18 +27,16 @@ use Rattle.block_model.specs.Run.{IsRunHistory}
 use Rattle.block_model.specs.Sequences.{area_here, files_interrupted, interruption_here, is_inside_here, is_inside_waiting}
 use Rattle.block_model.specs.Setting.{Setting}
 use Rattle.block_model.specs.Whole.{EndsWholeAtVerdict, GoesOnWith, HasCause, IsCutProperly, IsDeadBy, IsLeftNull}
-use Rattle.block_model.proofs.Applied.{applied}
-use Rattle.block_model.proofs.Goods.Run.{run_ready}
+use Rattle.block_model.proofs.PlainEvents.{applied}
+use Rattle.block_model.proofs.Invariants.Events.{run_ready}
 use Rattle.block_model.proofs.KernelTables.{ran_runs}
-use Rattle.block_model.proofs.NamedStays.{number_agrees}
+use Rattle.block_model.proofs.NamedSequences.{number_agrees, good_signed, outside_where_null}
 use Rattle.block_model.proofs.Runs.{settled}
 use Rattle.block_model.proofs.Touched.{hanging_is_touched}
 use Rattle.block_model.proofs.TouchedHanging.{sees_memory}
 use Rattle.block_model.proofs.WholeCauses.{cause_of_death, dies_of, outside_files, outside_goes_on}
-use Rattle.block_model.proofs.WholeEvents.{among_own, below, did, is_free, place, tables_before}
-use Rattle.block_model.proofs.WholeHangs.{hangs}
-use Rattle.block_model.proofs.WholeInterruptions.{InsideOf, first_cleared, inside_of, memory_after, running_is_null, running_word}
-use Rattle.block_model.proofs.WholeNamed.{good_signed, outside_where_null}
+use Rattle.block_model.proofs.WholeEvents.{among_own, below, did, is_free, place, tables_before, hangs}
+use Rattle.block_model.proofs.Interruptions.{InsideOf, first_cleared, inside_of, memory_after, running_is_null, running_word}
 
 -- ENDS
 

@@ -9,7 +9,7 @@ use Rattle.rv_inst.specs.Meaning.{meaning}
 use Rattle.rv_inst.specs.Table.{row_of, rows, lui_rows, auipc_rows, jal_rows, jalr_rows, branch_rows, load_rows, store_rows, op_imm_rows, op_imm_32_rows, op_rows, op_32_rows, misc_mem_rows, amo_rows, system_rows}
 use Rattle.block_model.specs.declared.acts.SeqEnd.TheVariants as ends
 use Rattle.block_model.specs.Deciding.{decide, done, history}
-use Rattle.block_model.specs.Replay.{Ask, played}
+use Rattle.block_model.specs.Replay.{Ask, played, script_of}
 use Rattle.block_model.specs.Setting.{Setting}
 use Rattle.block_view.specs.Acts.{acts_of}
 use Rattle.block_view.specs.Counting.{counts_of}
@@ -17,6 +17,10 @@ use Rattle.block_view.specs.declared.forms.Act.{Act}
 use Rattle.block_view.specs.declared.forms.Form.{Form}
 use Rattle.block_view.specs.declared.forms.Form.TheVariants.{Step, Kernel, Sequence}
 use Rattle.block_view.specs.declared.tally.Counts.{Counts}
+use Rattle.block_model.specs.Run.{IsBlockRun}
+use Rattle.block_model.proofs.Laws.{block_run}
+use Rattle.mach_types.specs.declared.events.Kind.{Kind}
+use Rattle.mach_types.specs.declared.events.Kind.TheVariants as kind
 
 -- A PROGRAM
 
@@ -110,3 +114,24 @@ counted : map (λ h. counts_made h (acts_made (played program (preempted ++ runs
     ∷ Ok (record { step = 1; left = 0; cut = 0; dropped = 0; dead = 0; unended = 0; kernel = 1 }) ∷ []
 unfolding acts_of played decide history done meaning row_of rows lui_rows auipc_rows jal_rows jalr_rows branch_rows load_rows store_rows op_imm_rows op_imm_32_rows op_rows op_32_rows misc_mem_rows amo_rows system_rows are_readable number_at
 counted = refl
+
+-- THE LAW THAT BLOCK RUNS ARE VIEWED
+
+-- a log of two entries is a block run; none of its entries is refused, so it is viewed
+abbrev entry : Kind → ℕ → Entry
+entry k pc = record { hart = record { 0 = 0 }; kind = k; tid = record { 0 = 1 }; pc = pc }
+
+abbrev short_log : List Entry
+short_log = entry kind.Run 0x100B0 ∷ entry kind.Exec 0x100B0 ∷ []
+
+short_run : IsBlockRun program short_log
+unfolding decide history done meaning row_of rows lui_rows auipc_rows jal_rows jalr_rows branch_rows load_rows store_rows op_imm_rows op_imm_32_rows op_rows op_32_rows misc_mem_rows amo_rows system_rows are_readable number_at
+short_run = block_run program short_log ((tt, refl, refl), refl, refl)
+
+none_refused : played program (script_of short_log) ≡ Ok short_log
+unfolding played decide history done meaning row_of rows lui_rows auipc_rows jal_rows jalr_rows branch_rows load_rows store_rows op_imm_rows op_imm_32_rows op_rows op_32_rows misc_mem_rows amo_rows system_rows are_readable number_at
+none_refused = refl
+
+acts_of_short : acts_of program short_log ≡ act 0 1 1 Kernel ∷ act 0 2 2 Step ∷ []
+unfolding acts_of decide history done meaning row_of rows lui_rows auipc_rows jal_rows jalr_rows branch_rows load_rows store_rows op_imm_rows op_imm_32_rows op_rows op_32_rows misc_mem_rows amo_rows system_rows are_readable number_at
+acts_of_short = refl

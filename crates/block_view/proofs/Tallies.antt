@@ -48,7 +48,7 @@ abbrev added : Counts → (so : (Form → Bool) → Bool) → Counts
 added counts so = record {
   step = counts.step + once (so is_step);
   left = counts.left + once (so (is_ended is_left));
-  cut = counts.cut + once (so (is_ended is_cut));
+  cut = counts.cut + once (so is_cut);
   dropped = counts.dropped + once (so (is_ended is_dropped));
   dead = counts.dead + once (so (is_ended is_dead));
   unended = counts.unended + once (so (is_ended is_unended));
@@ -58,7 +58,7 @@ added counts so = record {
 -- an act at the end of a list adds 1 where it is of the hart and passes
 added_last : (list : List Act) (a : Act) (h : ℕ) → counts_of (list ++ a ∷ []) h ≡ added (counts_of list h) (λ so. eqb a.hart.0 h && so a.form)
 added_last list a h =
-    same_counts _ _ (at is_step) (at (is_ended is_left)) (at (is_ended is_cut)) (at (is_ended is_dropped)) (at (is_ended is_dead))
+    same_counts _ _ (at is_step) (at (is_ended is_left)) (at is_cut) (at (is_ended is_dropped)) (at (is_ended is_dead))
     (at (is_ended is_unended)) (at is_kernel)
   where
     at : (so : Form → Bool) → how_many h so (list ++ a ∷ []) ≡ how_many h so list + once (eqb a.hart.0 h && so a.form)
@@ -107,7 +107,7 @@ total_more (Sequence ends.Unended) counts = omega arith
 -- an act at the head of a list adds 1 where it is of the hart and passes
 added_first : (list : List Act) (a : Act) (h : ℕ) → counts_of (a ∷ list) h ≡ added (counts_of list h) (λ so. eqb a.hart.0 h && so a.form)
 added_first list a h =
-    same_counts _ _ (at is_step) (at (is_ended is_left)) (at (is_ended is_cut)) (at (is_ended is_dropped)) (at (is_ended is_dead))
+    same_counts _ _ (at is_step) (at (is_ended is_left)) (at is_cut) (at (is_ended is_dropped)) (at (is_ended is_dead))
     (at (is_ended is_unended)) (at is_kernel)
   where
     at : (so : Form → Bool) → how_many h so (a ∷ list) ≡ how_many h so list + once (eqb a.hart.0 h && so a.form)

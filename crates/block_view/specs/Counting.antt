@@ -1,7 +1,9 @@
 -- How many acts of each form a hart has (own).
 use Rattle.std.specs.Prelude.{ℕ, ◌+◌, ◌==◌, ◌&&◌, Bool, true, false, List, filter, length}
+use Rattle.std.specs.Option.{is_some}
 use Rattle.block_model.specs.declared.acts.SeqEnd.{SeqEnd}
 use Rattle.block_model.specs.declared.acts.SeqEnd.TheVariants as ends
+use Rattle.block_view.specs.Forms.{cut_at}
 use Rattle.block_view.specs.declared.forms.Act.{Act}
 use Rattle.block_view.specs.declared.forms.Form.{Form}
 use Rattle.block_view.specs.declared.forms.Form.TheVariants.{Step, Kernel, Sequence}
@@ -31,12 +33,8 @@ is_dead ends.Dropped = false
 is_dead ends.Unended = false
 
 -- at whichever abort handler it goes on
-abbrev pub is_cut : SeqEnd → Bool
-is_cut ends.Dead = false
-is_cut (ends.Cut at) = true
-is_cut ends.Left = false
-is_cut ends.Dropped = false
-is_cut ends.Unended = false
+abbrev pub is_cut : Form → Bool
+is_cut form = is_some (cut_at form)
 
 abbrev pub is_left : SeqEnd → Bool
 is_left ends.Dead = false
@@ -68,7 +66,7 @@ abbrev pub counts_of : List Act → ℕ → Counts
 counts_of list h = record {
   step = how_many h is_step list;
   left = how_many h (is_ended is_left) list;
-  cut = how_many h (is_ended is_cut) list;
+  cut = how_many h is_cut list;
   dropped = how_many h (is_ended is_dropped) list;
   dead = how_many h (is_ended is_dead) list;
   unended = how_many h (is_ended is_unended) list;

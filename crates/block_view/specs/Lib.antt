@@ -1,6 +1,7 @@
 pub mod Acts
 pub mod Counting
 pub mod Entries
+pub mod Forms
 pub mod Ledgers
 pub mod Passing
 pub mod Standing

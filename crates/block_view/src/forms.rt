@@ -1,5 +1,8 @@
 //! Acts, the events of a log grouped, by their forms.
 
+ghost use Rattle.std.specs.Prelude.{◌≡◌};
+ghost use Rattle.block_view.specs.Forms.{form_word};
+
 use block_model::SeqEnd;
 use mach_types::{Hart, Tid};
 
@@ -12,6 +15,21 @@ pub enum Form {
     Kernel,
     /// A restartable sequence (rseq(2)), and how it ended.
     Sequence(SeqEnd),
+}
+
+/// The word of a form (own).
+pub fn form_word(form: Form) -> &'static [u8]
+    ensures { result.now ≡ form_word form }
+{
+    match form {
+        Form::Step => b"step",
+        Form::Kernel => b"kernel",
+        Form::Sequence(SeqEnd::Dead) => b"dead",
+        Form::Sequence(SeqEnd::Cut(_)) => b"cut",
+        Form::Sequence(SeqEnd::Left) => b"left",
+        Form::Sequence(SeqEnd::Dropped) => b"dropped",
+        Form::Sequence(SeqEnd::Unended) => b"open",
+    }
 }
 
 /// An act of a hart: an event, or a restartable sequence with all its events.

@@ -7,6 +7,7 @@ ghost use Rattle.block_model.specs.Deciding.{history};
 ghost use Rattle.block_view.specs.Ledgers.{kept_in};
 ghost use Rattle.block_view.specs.Standing.{at_the_end, standings};
 ghost use Rattle.block_view.specs.Tied.{IsTied};
+ghost use Rattle.block_model.specs.Setting.{setting_of};
 ghost use Rattle.block_view.specs.Viewing.{AreActs, IsViewCause, viewed};
 
 use crate::forms::Acts;
@@ -43,8 +44,8 @@ impl From<AllocError> for ViewFault {
     }
 }
 
-/// The acts of a log of an image under limits, in the order of their first entries, with the way that each restartable sequence
-/// ended (rseq(2)). It takes time in proportion to the log.
+/// The acts of a log of an image under limits, in the order of their first entries, with the way that each restartable
+/// sequence ended (rseq(2)). It takes time in proportion to the log.
 ///
 /// Refused with the number of the first entry that isn't allowed at its place; else it errs only for want of memory.
 pub fn acts(alloc: Global, image: &Image, limits: &Limits, log: &[Entry]) -> Result<Acts, ViewFault>
@@ -53,7 +54,24 @@ pub fn acts(alloc: Global, image: &Image, limits: &Limits, log: &[Entry]) -> Res
     ensures acts { IfOk result (λ acts. AreActs (viewed image.now limits.now) log.now acts.list.items) }
     ensures cause { IfErr result (IsViewCause (viewed image.now limits.now) log.now) }
 {
-    let mut machine = Machine::boot(alloc, image, *limits, NO_SEED)?;
+    seeded_acts(alloc, image, limits, NO_SEED, log)
+}
+
+/// The same of harts that choose by a seed, as in `run`. No act depends on the seed.
+pub fn seeded_acts(
+    alloc: Global,
+    image: &Image,
+    limits: &Limits,
+    seed: u64,
+    log: &[Entry],
+) -> Result<Acts, ViewFault>
+    requires image { IsBootable limits.now.frames image.now }
+    requires limits { InRange limits.now }
+    ensures acts { IfOk result
+        (λ acts. AreActs (setting_of image.now limits.now seed) log.now acts.list.items) }
+    ensures cause { IfErr result (IsViewCause (setting_of image.now limits.now seed) log.now) }
+{
+    let mut machine = Machine::boot(alloc, image, *limits, seed)?;
     let mut ledger = Ledger::new(alloc, limits.harts)?;
     for entry in log {
         let number = machine.log().len() as u32 + 1;
@@ -69,8 +87,10 @@ pub fn acts(alloc: Global, image: &Image, limits: &Limits, log: &[Entry]) -> Res
 /// Ends what goes on where the log of a machine with so many harts ends.
 fn close(ledger: &mut Ledger, machine: &Machine, harts: u8)
     requires harts { harts ≡ machine.now.setting.limits.harts }
-    requires tied { IsTied machine.now.setting (history machine.now.setting machine.now.log) (kept_in ledger.old) }
-    ensures { let s = machine.now.setting in let all = history s machine.now.log in ledger.new.list.items ≡ map (at_the_end s all []) (standings s all) }
+    requires tied { IsTied machine.now.setting (history machine.now.setting machine.now.log)
+        (kept_in ledger.old) }
+    ensures { let s = machine.now.setting in let all = history s machine.now.log in
+        ledger.new.list.items ≡ map (at_the_end s all []) (standings s all) }
 {
     for hart in 0..harts {
         let hart = Hart(hart);

@@ -67,8 +67,8 @@ impl Chooser {
 
     /// What a hart of which this is seen does next, None exactly where it has nothing to do now.
     ///
-    /// The hart is below 8. Only where the hart could as well execute, drain or leave does its generator give a
-    /// word.
+    /// The hart is below 8. Only where the hart could as well execute, drain or leave does its generator give
+    /// a word.
     #[inline]
     #[tactic(auto, unfolding(crate::specs::Cases::pick, crate::specs::Generators::word, crate::specs::Generators::next_generator))]
     pub fn next(&mut self, hart: Hart, sight: &Sight) -> Option<Pick>

@@ -1,6 +1,7 @@
 //! How the run of each command comes about, on a machine of one hart or of several, and its text.
 #![tactic(auto)]
 
+mod acts;
 mod output;
 mod run;
 mod scripts;

@@ -15,7 +15,8 @@ pub(crate) struct Shared {
     machine: Box<Machine>,
     ghost few: { length machine.value.log ≤ machine.value.setting.limits.steps },
     ghost small: { machine.value.setting.limits.steps < 2 ^ 32 },
-    ghost chosen: { all_chosen machine.value.setting (history machine.value.setting machine.value.log) ≡ true },
+    ghost chosen: { all_chosen machine.value.setting (history machine.value.setting machine.value.log)
+        ≡ true },
 }
 
 impl Shared {
@@ -73,7 +74,8 @@ impl Chronicle for Shared {
 
     ghost serves = { λ code shared. IsCodeOf (setting_in shared) code };
 
-    ghost fits = { λ stretch shared hart log. IsStretchOf (setting_in shared) hart.0 log (stretch_of stretch) };
+    ghost fits = { λ stretch shared hart log. IsStretchOf (setting_in shared) hart.0 log
+        (stretch_of stretch) };
 
     #[tactic(auto, unfolding(block_model::specs::Choosing::IsChosen))]
     fn advance(&mut self, hart: Hart) -> Advance {
@@ -90,7 +92,8 @@ impl Chronicle for Shared {
 
     #[tactic(auto, unfolding(block_model::specs::Choosing::IsChosen))]
     fn lend(&self, hart: Hart) -> Option<Stretch>
-        ensures fits { IfSome result (λ stretch. IsStretchOf (setting_in self.now) hart.0 (log_in self.now) (stretch_of stretch)) }
+        ensures fits { IfSome result
+            (λ stretch. IsStretchOf (setting_in self.now) hart.0 (log_in self.now) (stretch_of stretch)) }
         ensures exact { option_map stretch_of result ≡ lent (setting_in self.now) hart.0
             (history (setting_in self.now) (log_in self.now)) }
     {
@@ -105,14 +108,16 @@ impl Chronicle for Shared {
     fn append(&mut self, hart: Hart, stretch: Stretch) -> u32
         requires fits { IsStretchOf (setting_in self.old) hart.0 (log_in self.old) (stretch_of stretch) }
         ensures setting { setting_in self.new ≡ setting_in self.old }
-        ensures appended { Adds (next_in (setting_in self.old)) hart result (log_in self.old) (log_in self.new) }
+        ensures appended { Adds (next_in (setting_in self.old)) hart result
+            (log_in self.old) (log_in self.new) }
         ensures count { result ≡ appended (setting_in self.old) hart.0
             (history (setting_in self.old) (log_in self.old)) (stretch_of stretch) }
     {
         self.machine.append_local(hart, stretch)
     }
 
-    ghost serves_by_setting = { λ code a b same serves. subst (λ (s : Setting). IsCodeOf s code) same serves };
+    ghost serves_by_setting = { λ code a b same serves. subst
+        (λ (s : Setting). IsCodeOf s code) same serves };
 
     ghost fits_by_setting = { λ stretch a b hart log same fits.
         subst (λ (s : Setting). IsStretchOf s hart.0 log (stretch_of stretch)) same fits };
@@ -121,7 +126,8 @@ impl Chronicle for Shared {
         record {
           lent_at = fits.lent_at;
           since = fits.since ++ more;
-          whole = sym (append_assoc fits.lent_at fits.since more) ∙ ap (λ (xs : List Entry). xs ++ more) fits.whole;
+          whole = sym (append_assoc fits.lent_at fits.since more)
+              ∙ ap (λ (xs : List Entry). xs ++ more) fits.whole;
           first = fits.first;
           began = fits.began;
           times = fits.times;

@@ -1,61 +1,34 @@
 //! The text of a summary: how many acts of each form each hart has.
 
 ghost use Rattle.std.specs.Prelude.{◌≡◌, ◌<◌, ◌^◌, ◌++◌, IfOk, OnOk, length};
-ghost use Rattle.mach_types.specs.Limits.{InRange};
-ghost use Rattle.elf_load.specs.Images.{IsBootable};
-ghost use Rattle.block_model.specs.Run.{IsBlockRun};
 ghost use Rattle.block_view.specs.Acts.{acts_of};
+ghost use Rattle.place_text.specs.Fields.{behind};
 ghost use Rattle.outcomes.specs.Outputs.{log_summary};
-ghost use Rattle.outcomes.specs.Programs.{start_of};
-ghost use Rattle.outcomes.specs.Summary.{barriers_line, hart_line, hart_lines, numbered};
+ghost use Rattle.outcomes.specs.Summary.{barriers_line, count_fields, counts_line, ends_text, hart_lines};
 
-use block_view::{Acts, Counts, ViewFault, acts, counts};
-use elf_load::Image;
-use mach_types::{Entry, Hart, Kind, Limits};
+use block_view::{Acts, Counts, Form, SeqEnd, counts, form_word};
+use mach_types::{Entry, Hart, Kind};
 use machine_core::Machine;
+use place_text::fields::{begin_line, push_named_number};
 use place_text::{push_end, push_number_line};
 use std::alloc::{AllocError, Global};
 
-/// The summary of a run of an image under limits: its acts, counted for each hart, its barriers, and its end.
+/// The summary of a run, at whose end a machine is: its acts, counted for each hart, its barriers, and its end.
 #[tactic(auto, unfolding(outcomes::specs::Summary::summary_text))]
 pub(crate) fn summary_text(
     alloc: Global,
-    image: &Image,
-    limits: &Limits,
+    acts: &Acts,
     machine: &Machine,
 ) -> Result<Vec<u8>, AllocError>
-    requires image { IsBootable limits.now.frames image.now }
-    requires limits { InRange limits.now }
-    requires setting { machine.now.setting ≡ start_of image.now limits.now }
-    requires run { IsBlockRun (start_of image.now limits.now) machine.now.log }
+    requires acts { acts.now.list.items ≡ acts_of machine.now.setting machine.now.log }
+    requires few { length acts.now.list.items < 2 ^ 32 }
     ensures { IfOk result (λ text. text.items ≡ log_summary machine.now.setting machine.now.log) }
 {
-    let acts = acts_of_run(alloc, image, limits, machine.log())?;
     let mut text = Vec::new(alloc);
-    push_hart_lines(&mut text, &acts, limits.harts)?;
+    push_hart_lines(&mut text, acts, machine.harts())?;
     push_barriers_line(&mut text, machine.log())?;
     push_end(&mut text, machine.end())?;
     Ok(text)
-}
-
-/// The acts of a log that a run of an image under limits made. It errs only for want of memory.
-fn acts_of_run(
-    alloc: Global,
-    image: &Image,
-    limits: &Limits,
-    log: &[Entry],
-) -> Result<Acts, AllocError>
-    requires image { IsBootable limits.now.frames image.now }
-    requires limits { InRange limits.now }
-    requires run { IsBlockRun (start_of image.now limits.now) log.now }
-    ensures acts { IfOk result (λ acts. acts.list.items ≡ acts_of (start_of image.now limits.now) log.now) }
-    ensures few { IfOk result (λ acts. length acts.list.items < 2 ^ 32) }
-{
-    match acts(alloc, image, limits, log) {
-        Ok(acts) => Ok(acts),
-        Err(ViewFault::NoMemory) => Err(AllocError),
-        Err(ViewFault::NotARun(_)) => unreachable!(),
-    }
 }
 
 /// Appends the lines of so many harts.
@@ -64,34 +37,39 @@ fn push_hart_lines(text: &mut Vec<u8>, acts: &Acts, harts: u8) -> Result<(), All
     ensures { OnOk result (text.new.items ≡ text.old.items ++ hart_lines acts.now.list.items harts) }
 {
     for hart in 0..harts {
-        push_hart_line(text, hart, &counts(acts, Hart(hart)))?;
+        push_counts_line(text, hart, &counts(acts, Hart(hart)))?;
     }
     Ok(())
 }
 
-/// Appends some words and a number.
-fn push_numbered(text: &mut Vec<u8>, words: &[u8], number: usize) -> Result<(), AllocError>
-    ensures { OnOk result (text.new.items ≡ text.old.items ++ numbered words.now number) }
+/// Appends the line of a hart.
+fn push_counts_line(text: &mut Vec<u8>, hart: u8, counts: &Counts) -> Result<(), AllocError>
+    ensures { OnOk result (text.new.items ≡ text.old.items ++ counts_line hart counts.now) }
 {
-    let mut digits = itoa::Buffer::new();
-    text.extend_from_slice(words)?;
-    text.push(b' ')?;
-    text.extend_from_slice(digits.format(number).as_bytes())?;
-    Ok(())
+    begin_line(text, b"hart", u64::from(hart))?;
+    push_count(text, Form::Step, counts.step)?;
+    push_ends(text, counts)?;
+    push_count(text, Form::Kernel, counts.kernel)?;
+    text.extend_from_slice(b"\n")
 }
 
-/// Appends the line of a hart.
-fn push_hart_line(text: &mut Vec<u8>, hart: u8, counts: &Counts) -> Result<(), AllocError>
-    ensures { OnOk result (text.new.items ≡ text.old.items ++ hart_line hart counts.now) }
+/// Appends how many sequences of a hart ended in each way.
+#[tactic(auto, unfolding(outcomes::specs::Summary::ends_text))]
+fn push_ends(text: &mut Vec<u8>, counts: &Counts) -> Result<(), AllocError>
+    ensures { OnOk result (text.new.items ≡ text.old.items ++ ends_text counts.now) }
 {
-    push_numbered(text, b"hart", usize::from(hart))?;
-    push_numbered(text, b" step", counts.step as usize)?;
-    push_numbered(text, b" left", counts.left as usize)?;
-    push_numbered(text, b" cut", counts.cut as usize)?;
-    push_numbered(text, b" dropped", counts.dropped as usize)?;
-    push_numbered(text, b" dead", counts.dead as usize)?;
-    push_numbered(text, b" open", counts.unended as usize)?;
-    push_number_line(text, b" kernel", counts.kernel as usize)
+    push_count(text, Form::Sequence(SeqEnd::Left), counts.left)?;
+    push_count(text, Form::Sequence(SeqEnd::Cut(0)), counts.cut)?;
+    push_count(text, Form::Sequence(SeqEnd::Dropped), counts.dropped)?;
+    push_count(text, Form::Sequence(SeqEnd::Dead), counts.dead)?;
+    push_count(text, Form::Sequence(SeqEnd::Unended), counts.unended)
+}
+
+/// Appends the word of a form, and how many acts have it.
+fn push_count(text: &mut Vec<u8>, form: Form, count: u32) -> Result<(), AllocError>
+    ensures { OnOk result (text.new.items ≡ text.old.items ++ behind (count_fields form count)) }
+{
+    push_named_number(text, form_word(form), u64::from(count))
 }
 
 /// Appends how many barriers returned.

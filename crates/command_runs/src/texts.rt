@@ -4,10 +4,10 @@ ghost use Rattle.std.specs.Prelude.{◌≡◌, IfOk};
 ghost use Rattle.mach_types.specs.Limits.{InRange};
 ghost use Rattle.elf_load.specs.Images.{IsBootable};
 ghost use Rattle.block_model.specs.Run.{IsBlockRun};
-ghost use Rattle.command_words.specs.Commands.{ShowsItsText};
 ghost use Rattle.command_words.specs.Kept.{said};
 ghost use Rattle.outcomes.specs.Outputs.{setting_for, shown_text};
 
+use crate::acts::{acts_of_run, acts_text};
 use crate::output::output_text;
 use crate::summary::summary_text;
 use command_words::{Command, Shown};
@@ -25,7 +25,6 @@ pub fn shown_text(
 ) -> Result<Vec<u8>, AllocError>
     requires image { IsBootable command.now.limits.frames image.now }
     requires limits { InRange command.now.limits }
-    requires shown { ShowsItsText (said command.now) }
     requires setting { machine.now.setting ≡ setting_for (said command.now) image.now }
     requires run { IsBlockRun machine.now.setting machine.now.log }
     ensures { IfOk result
@@ -33,7 +32,11 @@ pub fn shown_text(
 {
     match command.shown {
         Shown::Output => output_text(alloc, machine),
-        Shown::Summary => summary_text(alloc, image, &command.limits, machine),
+        Shown::Summary => {
+            let acts = acts_of_run(alloc, command, image, machine)?;
+            summary_text(alloc, &acts, machine)
+        }
         Shown::Place => place_text(alloc, machine),
+        Shown::Acts => acts_text(alloc, &acts_of_run(alloc, command, image, machine)?),
     }
 }

@@ -2,7 +2,6 @@
 use Rattle.std.specs.Prelude.{ℕ, ◌≡◌, Bool, true, false, List, Option, Some, None}
 use Rattle.mach_types.specs.declared.limits.Limits.{Limits}
 use Rattle.command_words.specs.declared.table.Shown.{Shown}
-use Rattle.command_words.specs.declared.table.Shown.TheVariants.{Output}
 
 -- how the log of the run comes about: on one hart by the fixed rule; by the events of a script; or by workers, one
 -- for each hart, that choose by a seed
@@ -36,12 +35,3 @@ HasHartsOf (Workers seed) limits = Unit {0}
 
 abbrev pub HasItsHarts : Command → Type 0
 HasItsHarts command = HasHartsOf command.source command.limits
-
--- of a run by workers its output is shown
-abbrev pub ShowsTextOf : Source → Shown → Type 0
-ShowsTextOf Rule shown = Unit {0}
-ShowsTextOf (Script name) shown = Unit {0}
-ShowsTextOf (Workers seed) shown = shown ≡ Output
-
-abbrev pub ShowsItsText : Command → Type 0
-ShowsItsText command = ShowsTextOf command.source command.shown

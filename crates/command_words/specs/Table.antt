@@ -3,7 +3,7 @@ use Rattle.std.specs.Prelude.{ℕ, List, Option, Some, None, if◌then◌else◌
 use Rattle.std.specs.Str.{bytes_eq}
 use Rattle.command_words.specs.declared.table.CommandKind.{CommandKind}
 use Rattle.command_words.specs.declared.table.Shown.{Shown}
-use Rattle.command_words.specs.declared.table.Shown.TheVariants.{Output, Summary, Place}
+use Rattle.command_words.specs.declared.table.Shown.TheVariants as shows
 use Rattle.command_words.specs.declared.table.SourceKind.{SourceKind}
 use Rattle.command_words.specs.declared.table.SourceKind.TheVariants.{ByRule, ByScript, ByWorkers}
 
@@ -14,9 +14,10 @@ row source shown = Some (record { source = source; shown = shown })
 -- what the command of a word is, if a command has the word
 abbrev pub command_kind : List ℕ → Option CommandKind
 command_kind word =
-    if bytes_eq word (codes "solo") then row ByRule Output
-    else if bytes_eq word (codes "play") then row ByScript Output
-    else if bytes_eq word (codes "blocks") then row ByScript Summary
-    else if bytes_eq word (codes "inspect") then row ByScript Place
-    else if bytes_eq word (codes "run") then row ByWorkers Output
+    if bytes_eq word (codes "solo") then row ByRule shows.Output
+    else if bytes_eq word (codes "play") then row ByScript shows.Output
+    else if bytes_eq word (codes "blocks") then row ByScript shows.Summary
+    else if bytes_eq word (codes "inspect") then row ByScript shows.Place
+    else if bytes_eq word (codes "acts") then row ByScript shows.Acts
+    else if bytes_eq word (codes "run") then row ByWorkers shows.Output
     else None

@@ -2,7 +2,7 @@
 
 ghost use Rattle.std.specs.Prelude.{◌≡◌, ◌≤◌, IfOk, IfSome, option_copied, option_map};
 ghost use Rattle.mach_types.specs.Limits.{InRange};
-ghost use Rattle.command_words.specs.Commands.{HasItsHarts, ShowsItsText};
+ghost use Rattle.command_words.specs.Commands.{HasItsHarts};
 ghost use Rattle.command_words.specs.Kept.{named, names_kept, said, source_said, stated};
 ghost use Rattle.command_words.specs.Grammar.{asked_by, asked_for, files_for, harts_for, number_for, one_name};
 ghost use Rattle.command_words.specs.Grammar.{two_names};
@@ -44,9 +44,9 @@ pub struct Command<'a> {
 
 /// What the words ask for; None exactly where they aren't of the grammar. It errs only for want of memory.
 ///
-/// The first word is the command: `solo FILE`, with `--frames` and `--steps`; `play FILE SCRIPT`,
-/// `blocks FILE SCRIPT` or `inspect FILE SCRIPT`, with `--harts` too; or `run FILE`, with `--harts` and `--seed`
-/// too. Each limit is in its range.
+/// The first word is the command: `solo FILE`, with `--frames` and `--steps`; `play FILE SCRIPT` and the other
+/// commands on a script, with `--harts` too; or `run FILE`, with `--harts` and `--seed` too. Each limit is in its
+/// range.
 #[tactic(auto, unfolding(crate::specs::Words::command_of))]
 pub(crate) fn command_of<'a>(
     alloc: Global,
@@ -55,7 +55,6 @@ pub(crate) fn command_of<'a>(
     ensures command { IfOk result (λ found. option_map said found ≡ command_of (texts words.now)) }
     ensures limits { IfOk result (λ found. IfSome found (λ command. InRange command.limits)) }
     ensures harts { IfOk result (λ found. IfSome found (λ command. HasItsHarts (said command))) }
-    ensures shown { IfOk result (λ found. IfSome found (λ command. ShowsItsText (said command))) }
 {
     let Some((command, rest)) = words.split_first() else {
         return Ok(None);
@@ -71,7 +70,6 @@ fn asked_by<'a>(command: &str, arguments: Arguments<'a>) -> Option<Command<'a>>
     ensures command { option_map said result ≡ asked_by command.now (stated arguments.entry) }
     ensures limits { IfSome result (λ command. InRange command.limits) }
     ensures harts { IfSome result (λ command. HasItsHarts (said command)) }
-    ensures shown { IfSome result (λ command. ShowsItsText (said command)) }
 {
     let kind = command_kind(command)?;
     asked_for(kind, arguments)
@@ -79,11 +77,9 @@ fn asked_by<'a>(command: &str, arguments: Arguments<'a>) -> Option<Command<'a>>
 
 /// What a command of this kind asks for with these arguments.
 fn asked_for<'a>(kind: CommandKind, arguments: Arguments<'a>) -> Option<Command<'a>>
-    requires { kind.source ≡ SourceKind.ByWorkers → kind.shown ≡ Shown.Output }
     ensures command { option_map said result ≡ asked_for kind (stated arguments.entry) }
     ensures limits { IfSome result (λ command. InRange command.limits) }
     ensures harts { IfSome result (λ command. HasItsHarts (said command)) }
-    ensures shown { IfSome result (λ command. ShowsItsText (said command)) }
 {
     let harts = number_for(kind.source, OptionName::Harts, arguments.harts)?;
     let frames = number_for(kind.source, OptionName::Frames, arguments.frames)?;
@@ -139,7 +135,8 @@ fn one_name<'a>(source: Source<'a>, names: FileNames<'a>) -> Option<(&'a str, So
 
 /// The program and the script that two names give; None where there aren't two.
 fn two_names(names: FileNames<'_>) -> Option<(&str, Source<'_>)>
-    ensures { option_map (λ files. (files.0.now, source_said files.1)) result ≡ two_names (names_kept names.entry) }
+    ensures { option_map (λ files. (files.0.now, source_said files.1)) result
+        ≡ two_names (names_kept names.entry) }
 {
     match names {
         FileNames::Two(program, script) => Some((program, Source::Script(script))),

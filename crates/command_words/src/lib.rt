@@ -9,8 +9,6 @@ mod read;
 mod reader;
 mod table;
 mod takes;
-#[cfg(test)]
-mod tests;
 mod theorems;
 
 pub use commands::{Command, Source};

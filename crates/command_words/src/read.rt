@@ -2,7 +2,7 @@
 
 ghost use Rattle.std.specs.Prelude.{◌≡◌, IfErr, IfOk, Some};
 ghost use Rattle.mach_types.specs.Limits.{InRange};
-ghost use Rattle.command_words.specs.Commands.{HasItsHarts, ShowsItsText};
+ghost use Rattle.command_words.specs.Commands.{HasItsHarts};
 ghost use Rattle.command_words.specs.Kept.{said};
 ghost use Rattle.command_words.specs.WordErrors.{IsErrorOf};
 ghost use Rattle.command_words.specs.Words.{command_of, texts};
@@ -31,7 +31,6 @@ pub fn read_words<'a>(alloc: Global, words: &'a [String]) -> Result<Command<'a>,
     ensures command { IfOk result (λ command. command_of (texts words.now) ≡ Some (said command)) }
     ensures limits { IfOk result (λ command. InRange command.limits) }
     ensures harts { IfOk result (λ command. HasItsHarts (said command)) }
-    ensures shown { IfOk result (λ command. ShowsItsText (said command)) }
     ensures error { IfErr result (IsErrorOf (texts words.now)) }
 {
     words_are_wrong_or_name_a_command();

@@ -114,7 +114,8 @@ impl Reader {
     fn read_option(&mut self, word: &str) -> Result<(), WordsFault>
         ensures fault { result_err result ≡ option_word_fault (so_far self.old) word.now }
         ensures read { OnOk result
-            (option_map (with_read (so_far self.old)) (option_read (option_named (before_first is_equals word.now))
+            (option_map (with_read (so_far self.old))
+            (option_read (option_named (before_first is_equals word.now))
             (behind_equals word.now)) ≡ Some (so_far self.new)) }
         ensures next { self.new.next ≡ self.old.next }
     {
@@ -148,7 +149,8 @@ impl Reader {
     fn read_next_value(&mut self, option: OptionName, word: &str) -> Result<(), WordsFault>
         requires { 2 ≤ self.old.next }
         ensures fault { result_err result ≡ fault_read (so_far self.old) (Value (named option)) word.now }
-        ensures read { OnOk result (option_map (with_read (so_far self.old)) (word_read (Value (named option)) word.now)
+        ensures read { OnOk result
+            (option_map (with_read (so_far self.old)) (word_read (Value (named option)) word.now)
             ≡ Some (so_far self.new)) }
         ensures next { self.new.next ≡ self.old.next }
     {
@@ -182,7 +184,8 @@ impl Reader {
     /// Takes the next word for a name.
     fn read_name(&mut self) -> Result<(), WordsFault>
         ensures fault { result_err result ≡ name_fault (so_far self.old) }
-        ensures read { OnOk result (so_far self.new ≡ record (so_far self.old) { names = self.old.names + 1 }) }
+        ensures read { OnOk result
+            (so_far self.new ≡ record (so_far self.old) { names = self.old.names + 1 }) }
         ensures next { self.new.next ≡ self.old.next }
     {
         if self.names < self.takes.names {

@@ -1,6 +1,6 @@
 //! The commands: of each its word, how the log of its run comes about, and what is shown of it.
 
-ghost use Rattle.std.specs.Prelude.{◌≡◌, IfSome};
+ghost use Rattle.std.specs.Prelude.{◌≡◌};
 ghost use Rattle.command_words.specs.Table.{command_kind};
 
 /// How the log of a run comes about.
@@ -14,6 +14,17 @@ pub enum SourceKind {
     ByWorkers,
 }
 
+impl SourceKind {
+    /// How the log comes about, for a person.
+    pub fn about(self) -> &'static str {
+        match self {
+            SourceKind::ByRule => "runs FILE on one hart by the fixed rule",
+            SourceKind::ByScript => "runs FILE on the events of SCRIPT",
+            SourceKind::ByWorkers => "runs FILE by workers, one for each hart",
+        }
+    }
+}
+
 /// What is shown of a run.
 #[derive(Clone, Copy, Debug, PartialEq, Eq, Drop)]
 pub enum Shown {
@@ -23,6 +34,20 @@ pub enum Shown {
     Summary,
     /// The place that it comes to.
     Place,
+    /// Its acts, a line each.
+    Acts,
+}
+
+impl Shown {
+    /// What is shown, for a person.
+    pub fn about(self) -> &'static str {
+        match self {
+            Shown::Output => "prints its console, its log and its end",
+            Shown::Summary => "prints how many acts of each form each hart made",
+            Shown::Place => "prints the place that they come to",
+            Shown::Acts => "prints a line for each act",
+        }
+    }
 }
 
 /// What a command is.
@@ -34,26 +59,19 @@ pub struct CommandKind {
     pub shown: Shown,
 }
 
-/// The words of the commands, and what each does, for a person.
-pub const COMMANDS: [(&str, &str); 5] = [
-    ("solo", "runs FILE on one hart by the fixed rule; prints its console, its log and its end"),
-    ("play", "runs FILE on the events of SCRIPT; prints its console, its log and its end"),
-    ("blocks", "runs FILE on the events of SCRIPT; prints how many acts of each form each hart made"),
-    ("inspect", "runs FILE on the events of SCRIPT; prints the place that they come to"),
-    ("run", "runs FILE by workers, one for each hart; prints its console, its log and its end"),
-];
+/// The words of the commands.
+pub const COMMANDS: [&str; 6] = ["solo", "play", "blocks", "inspect", "acts", "run"];
 
 /// What the command of a word is; None where no command has the word.
 pub fn command_kind(word: &str) -> Option<CommandKind>
-    ensures kind { result ≡ command_kind word.now }
-    ensures workers { IfSome result
-        (λ kind. kind.source ≡ SourceKind.ByWorkers → kind.shown ≡ Shown.Output) }
+    ensures { result ≡ command_kind word.now }
 {
     let (source, shown) = match word {
         "solo" => (SourceKind::ByRule, Shown::Output),
         "play" => (SourceKind::ByScript, Shown::Output),
         "blocks" => (SourceKind::ByScript, Shown::Summary),
         "inspect" => (SourceKind::ByScript, Shown::Place),
+        "acts" => (SourceKind::ByScript, Shown::Acts),
         "run" => (SourceKind::ByWorkers, Shown::Output),
         _ => return None,
     };

@@ -24,7 +24,8 @@ const E_ENTRY: usize = 24;
 /// of memory may be told in place of anything.
 pub fn load(alloc: Global, bytes: &[u8], limits: &Limits) -> Result<Image, ElfFault>
     // The fault is the first of the file, or memory ran out.
-    ensures fault { IfErr result (λ fault. (fault ≡ ElfFault.NoMemory) ⊎ (first_fault bytes.now limits.now.frames ≡ Some fault)) }
+    ensures fault { IfErr result
+        (λ fault. (fault ≡ ElfFault.NoMemory) ⊎ (first_fault bytes.now limits.now.frames ≡ Some fault)) }
 
     // A file without a fault gives its image.
     ensures no_fault { OnOk result (first_fault bytes.now limits.now.frames ≡ None) }

@@ -37,7 +37,10 @@ pub(crate) fn build_pages(
 /// The segment whose pages come first from page `from` on.
 fn next_segment(headers: &[ProgramHeader], from: u64) -> Option<ProgramHeader>
     ensures next { IfSome result (IsNext headers.now from) }
-    ensures last { IfNone result ((k : ℕ) (d : ProgramHeader) → k < length headers.now → has_pages (slice_index_or headers.now k d) ≡ true → first_page (slice_index_or headers.now k d) < from) }
+    ensures last { IfNone result
+        ((k : ℕ) (d : ProgramHeader) → k < length headers.now
+        → has_pages (slice_index_or headers.now k d) ≡ true
+        → first_page (slice_index_or headers.now k d) < from) }
 {
     let mut next = None;
     for header in headers {
@@ -66,7 +69,8 @@ fn push_segment(
 ) -> Result<(), AllocError>
     requires pages { has_pages header.now ≡ true }
     requires placed { is_misplaced (length file.now) header.now ≡ false }
-    ensures { OnOk result (AppendsPages file.now header.now (page_count header.now) pages.old.items pages.new.items) }
+    ensures { OnOk result
+        (AppendsPages file.now header.now (page_count header.now) pages.old.items pages.new.items) }
 {
     for number in header.first_page()..header.last_page() + 1 {
         pages.push(page_of(file, header, number))?;

@@ -26,7 +26,8 @@ pub(crate) fn place_from(end: u64, at: u64) -> u64
 pub(crate) fn placed(alloc: Global, parts: &[Part]) -> Result<Vec<ProgramHeader>, AllocError>
     requires few { length parts.now ≤ 64 }
     requires small { All (λ part. length part.bytes.items < 2 ^ 38) parts.now }
-    ensures headers { IfOk result (λ headers. headers.items ≡ placed_from (contents_start parts.now) parts.now) }
+    ensures headers { IfOk result
+        (λ headers. headers.items ≡ placed_from (contents_start parts.now) parts.now) }
     ensures flags { IfOk result (λ headers. All (λ h. h.flags < 256) headers.items) }
 {
     let mut headers = Vec::with_capacity(alloc, parts.len())?;

@@ -43,7 +43,8 @@ pub(crate) fn segments_of(alloc: Global, parts: &[Part]) -> Result<Vec<ProgramHe
 /// The index with which the parts are refused, if they are.
 pub(crate) fn bad_index(parts: &Parts, segments: &[ProgramHeader]) -> Option<usize>
     requires { segments.now ≡ segments_of parts.now }
-    ensures { result ≡ bad_index (first_bad_segment segments.now) (is_bad_whole parts.now.entry parts.now.flags segments.now) (length segments.now) }
+    ensures { result ≡ bad_index (first_bad_segment segments.now)
+        (is_bad_whole parts.now.entry parts.now.flags segments.now) (length segments.now) }
 {
     if let Some(k) = first_bad_segment(segments) {
         return Some(k);

@@ -30,13 +30,15 @@ const IDENTIFICATION: [u8; 16] = [0x7f, b'E', b'L', b'F', 2, 1, 1, 0, 0, 0, 0, 0
 
 /// The file of a program. It has no fault but the want of frames, and is loaded to just the parts.
 pub fn write_elf(alloc: Global, parts: &Parts) -> Result<Vec<u8>, MakeFault>
-    ensures refused { IfErr result (λ fault. (fault ≡ MakeFault.NoMemory) ⊎ (refusal parts.now ≡ Some fault)) }
+    ensures refused { IfErr result
+        (λ fault. (fault ≡ MakeFault.NoMemory) ⊎ (refusal parts.now ≡ Some fault)) }
     ensures taken { OnOk result (refusal parts.now ≡ None) }
     ensures bytes { IfOk result (λ file. file.items ≡ file_of parts.now) }
 
     // With frames enough the file has no fault, and its image is that of the parts.
     ensures frames { IfOk result (λ file. NeedsFrames file.items (frames_needed (segments_of parts.now))) }
-    ensures image { IfOk result (λ file. (image : Image) → IsImage file.items image → IsImageOf parts.now image) }
+    ensures image { IfOk result
+        (λ file. (image : Image) → IsImage file.items image → IsImageOf parts.now image) }
 {
     let segments = segments_of(alloc, &parts.segments)?;
     if let Some(k) = bad_index(parts, &segments) {
@@ -126,7 +128,8 @@ fn push_table_entry(file: &mut Vec<u8>, header: &ProgramHeader) -> Result<(), Al
 
 /// Appends the bytes of each part at its place, with zeros before it.
 fn push_contents(file: &mut Vec<u8>, parts: &[Part]) -> Result<(), AllocError>
-    ensures { OnOk result (file.new.items ≡ file.old.items ++ contents_from (length file.old.items) parts.now) }
+    ensures { OnOk result
+        (file.new.items ≡ file.old.items ++ contents_from (length file.old.items) parts.now) }
 {
     for part in parts {
         let place = place_from(file.len() as u64, part.at);

@@ -4,8 +4,8 @@ ghost use Rattle.std.specs.Prelude.{◌≡◌};
 
 use std::marker::Model;
 
-/// The right to use one frame of a pool, seen as the frame's number. It isn't copied, and it can't be dropped: its
-/// holder keeps it or gives it back.
+/// The right to use one frame of a pool, seen as the frame's number. It isn't copied, and it can't be
+/// dropped: its holder keeps it or gives it back.
 pub struct Frame {
     number: u32,
 }

@@ -1,7 +1,7 @@
 //! Guest memory as a pool of frames of 4,096 bytes, all in one region that is taken once.
 //!
-//! A frame is handed out with zero bytes, held by one holder, and given back. How frames are numbered, and which free
-//! frame is handed out, are own. Only [`FramePool::new`] takes memory.
+//! A frame is handed out with zero bytes, held by one holder, and given back. How frames are numbered, and
+//! which free frame is handed out, are own. Only [`FramePool::new`] takes memory.
 #![tactic(auto)]
 
 mod frame;

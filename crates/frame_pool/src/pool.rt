@@ -9,9 +9,11 @@ use crate::frame::Frame;
 use std::alloc::{AllocError, Global};
 use std::marker::Model;
 
-/// All frames of guest memory, by number: the bytes of each frame that is taken, and nothing for one that is free.
+/// All frames of guest memory, by number: the bytes of each frame that is taken, and nothing for one that is
+/// free.
 ///
-/// The region has the frames that were ever taken, so that a frame costs nothing before it is taken for the first time.
+/// The region has the frames that were ever taken, so that a frame costs nothing before it is taken for the
+/// first time.
 #[derive(Drop)]
 pub struct FramePool {
     region: Vec<[u8; 4096]>,
@@ -56,7 +58,8 @@ impl FramePool {
         never_taken + self.free.len() as u32
     }
 
-    /// A free frame, which has zero bytes and is now taken; None exactly where none is free. It takes no memory.
+    /// A free frame, which has zero bytes and is now taken; None exactly where none is free. It takes no
+    /// memory.
     pub fn take(&mut self) -> Option<Frame>
         ensures none { IsNone result ↔ (free_count self.old ≡ 0) }
         ensures unchanged { IfNone result (self.new ≡ self.old) }

@@ -35,7 +35,8 @@ pub fn writing_frees_none()
 
 /// A frame that was free is none of those that were taken.
 pub fn free_frame_is_not_held()
-    ensures { (pool : List (Option (List ℕ))) (n other : ℕ) → slice_get pool n ≡ Some None → IsTaken pool other → other ≢ n }
+    ensures { (pool : List (Option (List ℕ))) (n other : ℕ) → slice_get pool n ≡ Some None
+        → IsTaken pool other → other ≢ n }
 {}
 
 /// A taken frame stays taken whatever bytes any frame gets, and where another frame is given back.
@@ -46,16 +47,19 @@ pub fn taken_frame_stays_taken()
         → IsTaken (slice_set pool n None) other }
 {}
 
-/// A holder's frames stay its own: where it takes one more, where bytes are written to any, and where the last one of
-/// them, or one from among them, is given back.
+/// A holder's frames stay its own: where it takes one more, where bytes are written to any, and where the
+/// last one of them, or one from among them, is given back.
 pub fn held_frames_stay_held()
-    ensures more { (pool : List (Option (List ℕ))) (frames : List ℕ) (n : ℕ) (bytes : List ℕ) → AreHeld pool frames
+    ensures more { (pool : List (Option (List ℕ))) (frames : List ℕ) (n : ℕ) (bytes : List ℕ)
+        → AreHeld pool frames
         → slice_get pool n ≡ Some None → AreHeld (slice_set pool n (Some bytes)) (frames ++ n ∷ []) }
-    ensures written { (pool : List (Option (List ℕ))) (frames : List ℕ) (n : ℕ) (bytes : List ℕ) → AreHeld pool frames
+    ensures written { (pool : List (Option (List ℕ))) (frames : List ℕ) (n : ℕ) (bytes : List ℕ)
+        → AreHeld pool frames
         → AreHeld (slice_set pool n (Some bytes)) frames }
     ensures fewer { (pool : List (Option (List ℕ))) (rest : List ℕ) (n : ℕ) → AreHeld pool (rest ++ n ∷ [])
         → AreHeld (slice_set pool n None) rest }
-    ensures without { (pool : List (Option (List ℕ))) (before after : List ℕ) (n : ℕ) → AreHeld pool (before ++ n ∷ after)
+    ensures without { (pool : List (Option (List ℕ))) (before after : List ℕ) (n : ℕ)
+        → AreHeld pool (before ++ n ∷ after)
         → AreHeld (slice_set pool n None) (before ++ after) }
 {}
 

@@ -105,9 +105,9 @@ impl HartState {
         access_fault(mem, asked.access?)
     }
 
-    /// Executes an instruction with this effect, but for memory: the registers, the pc, the store buffer and the reservation of its
-    /// outcome. Answers the store that it makes at once, which the caller writes: that of an AMO, and that of an SC that succeeds;
-    /// None where there is none. A plain store waits.
+    /// Executes an instruction with this effect, but for memory: the registers, the pc, the store buffer and
+    /// the reservation of its outcome. Answers the store that it makes at once, which the caller writes: that
+    /// of an AMO, and that of an SC that succeeds; None where there is none. A plain store waits.
     #[inline]
     pub fn execute<M: UserMem>(&mut self, mem: &M, effect: &Effect) -> Option<Store>
         requires sizes { HasAccessSizes effect.now }
@@ -171,7 +171,8 @@ impl HartState {
         requires no_fault { execution.fault_in (M.byte mem.old) (M.can_write mem.old) effect.now ≡ None }
         requires no_call { effect.now ≢ Effect.Call }
         ensures hart { self.new ≡ hart_after self.old (outcome_on self.old (M.byte mem.old) effect.now) }
-        ensures bytes { (a : ℕ) → M.byte mem.new a ≡ option_map (overlay (outcome_on self.old (M.byte mem.old) effect.now).entered a) (M.byte mem.old a) }
+        ensures bytes { (a : ℕ) → M.byte mem.new a ≡ option_map
+            (overlay (outcome_on self.old (M.byte mem.old) effect.now).entered a) (M.byte mem.old a) }
         ensures permissions { (a : ℕ) → M.can_write mem.new a ≡ M.can_write mem.old a }
         ensures alike { M.IsAlike mem.old mem.new }
     {
@@ -185,7 +186,8 @@ impl HartState {
         requires { CanEnter (M.can_write mem.old) self.old.buffer }
         ensures oldest { result ≡ slice_get self.old.buffer 0 }
         ensures hart { self.new ≡ record self.old { buffer = drop 1 self.old.buffer } }
-        ensures bytes { (a : ℕ) → M.byte mem.new a ≡ option_map (overlay (take 1 self.old.buffer) a) (M.byte mem.old a) }
+        ensures bytes { (a : ℕ)
+            → M.byte mem.new a ≡ option_map (overlay (take 1 self.old.buffer) a) (M.byte mem.old a) }
         ensures permissions { (a : ℕ) → M.can_write mem.new a ≡ M.can_write mem.old a }
         ensures alike { M.IsAlike mem.old mem.new }
     {
@@ -211,8 +213,8 @@ impl HartState {
 
     /// Takes the thread that runs here, if one runs, from the hart, and answers its registers and its pc.
     ///
-    /// The hart is then idle, with no reservation and no concurrency id, its registers and its pc 0. What waits in its
-    /// buffer stays.
+    /// The hart is then idle, with no reservation and no concurrency id, its registers and its pc 0. What
+    /// waits in its buffer stays.
     pub fn leave(&mut self) -> Saved
         ensures file { result ≡ record { file = self.old.file; pc = self.old.pc } }
         ensures hart { self.new ≡ left self.old }
@@ -229,8 +231,8 @@ impl HartState {
         saved
     }
 
-    /// Lets a thread run on the hart, with these registers and this pc, which holds this concurrency id: it has no
-    /// reservation, and executed nothing here so far.
+    /// Lets a thread run on the hart, with these registers and this pc, which holds this concurrency id: it
+    /// has no reservation, and executed nothing here so far.
     pub fn enter(&mut self, tid: Tid, saved: Saved, cid: u8)
         ensures { self.new ≡ entered tid saved cid self.old }
     {
@@ -244,7 +246,8 @@ impl HartState {
 
     /// Goes on 4 bytes further, with a value in register `rd`.
     fn go_on(&mut self, rd: u8, value: u64)
-        ensures { self.new ≡ record self.old { file = with_register self.old.file rd value; pc = sum_64 self.old.pc 4 } }
+        ensures { self.new
+            ≡ record self.old { file = with_register self.old.file rd value; pc = sum_64 self.old.pc 4 } }
     {
         self.file.set(rd, value);
         self.pc = self.pc.wrapping_add(4);
@@ -253,7 +256,8 @@ impl HartState {
     /// A plain load: each byte comes from the youngest waiting store that has it, else from memory.
     fn load<M: UserMem>(&mut self, mem: &M, at: u64, size: u8, signed: bool, rd: u8)
         requires { IsAccessSize size }
-        ensures { self.new ≡ hart_after self.old (outcome_on self.old (M.byte mem.now) (Effect.Load at size signed rd)) }
+        ensures { self.new
+            ≡ hart_after self.old (outcome_on self.old (M.byte mem.now) (Effect.Load at size signed rd)) }
     {
         let raw = self.buffer.look(mem, at, size).unwrap_or(0);
         self.go_on(rd, finish_load(raw, size, signed));
@@ -263,18 +267,22 @@ impl HartState {
     fn store(&mut self, store: Store)
         requires size { IsAccessSize store.size }
         requires room { length self.old.buffer < STORE_BUFFER_CAPACITY }
-        ensures { self.new ≡ record self.old { pc = sum_64 self.old.pc 4; buffer = self.old.buffer ++ store ∷ [] } }
+        ensures { self.new
+            ≡ record self.old { pc = sum_64 self.old.pc 4; buffer = self.old.buffer ++ store ∷ [] } }
     {
         self.buffer.push(store);
         self.pc = self.pc.wrapping_add(4);
     }
 
-    /// An AMO reads memory, and answers the store that it makes at once. `given` has the value of the register.
+    /// An AMO reads memory, and answers the store that it makes at once. `given` has the value of the
+    /// register.
     fn amo<M: UserMem>(&mut self, mem: &M, op: AmoOp, given: Store, rd: u8) -> Store
         requires size { IsAccessSize given.size }
         requires empty { self.old.buffer ≡ [] }
-        ensures hart { self.new ≡ hart_after self.old (outcome_on self.old (M.byte mem.now) (Effect.Amo op given.at given.size given.value rd)) }
-        ensures entered { (outcome_on self.old (M.byte mem.now) (Effect.Amo op given.at given.size given.value rd)).entered ≡ result ∷ [] }
+        ensures hart { self.new ≡ hart_after self.old
+            (outcome_on self.old (M.byte mem.now) (Effect.Amo op given.at given.size given.value rd)) }
+        ensures entered { (outcome_on self.old (M.byte mem.now)
+            (Effect.Amo op given.at given.size given.value rd)).entered ≡ result ∷ [] }
         ensures at { result.at ≡ given.at }
         ensures size { result.size ≡ given.size }
     {
@@ -291,7 +299,8 @@ impl HartState {
     fn load_reserved<M: UserMem>(&mut self, mem: &M, at: u64, size: u8, rd: u8)
         requires size { IsAccessSize size }
         requires empty { self.old.buffer ≡ [] }
-        ensures { self.new ≡ hart_after self.old (outcome_on self.old (M.byte mem.now) (Effect.Lr at size rd)) }
+        ensures { self.new
+            ≡ hart_after self.old (outcome_on self.old (M.byte mem.now) (Effect.Lr at size rd)) }
     {
         let raw = mem.get(at, size).unwrap_or(0);
         self.reserved = Some(reserved_at(at));
@@ -303,7 +312,8 @@ impl HartState {
         ensures hart { (byte : ℕ → Option ℕ) → self.new
             ≡ hart_after self.old (outcome_on self.old byte (Effect.Sc store.at store.size store.value rd)) }
         ensures entered { (byte : ℕ → Option ℕ)
-            → (outcome_on self.old byte (Effect.Sc store.at store.size store.value rd)).entered ≡ stores result }
+            → (outcome_on self.old byte (Effect.Sc store.at store.size store.value rd)).entered
+            ≡ stores result }
         ensures same { IfSome result (λ made. made ≡ store) }
     {
         let succeeds = holds(self.reserved, store.at);

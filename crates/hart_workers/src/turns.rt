@@ -69,7 +69,8 @@ fn turn<R: Wait, M: Chronicle>(
     requires idle { pass.old.out ≡ false }
     requires fits { ForSome stretch.old (λ x. M.fits x (start_of lock.now) hart pass.old.seen) }
     ensures grew { Grew M.setting M.log M.next (origin_of lock.now) pass.old pass.new }
-    ensures went_on { WentOn (M.next (M.setting (start_of lock.now))) (M.ended (M.setting (start_of lock.now)))
+    ensures went_on { WentOn (M.next (M.setting (start_of lock.now)))
+        (M.ended (M.setting (start_of lock.now)))
         hart pass.old.seen pass.new.seen result }
     ensures ended { result ≡ Ended → M.ended (M.setting (start_of lock.now)) pass.new.seen ≡ true }
     ensures lent { ForSome stretch.new (λ x. M.fits x (start_of lock.now) hart pass.new.seen) }
@@ -84,7 +85,8 @@ fn turn<R: Wait, M: Chronicle>(
 /// Does the work of a stretch, if there is one.
 fn work_on<M: Chronicle>(code: &M::Code, stretch: &mut Option<M::Stretch>)
     ensures { (machine : M) (hart : Hart) (log : List Entry) → M.serves code.now machine
-        → ForSome stretch.old (λ x. M.fits x machine hart log) → ForSome stretch.new (λ x. M.fits x machine hart log) }
+        → ForSome stretch.old (λ x. M.fits x machine hart log)
+        → ForSome stretch.new (λ x. M.fits x machine hart log) }
 {
     if let Some(stretch) = stretch {
         M::work(code, stretch);

@@ -15,6 +15,3 @@ pub use theorems::{
     others_keep_what_they_were_saved_with, thread_has_what_it_was_saved_with,
     thread_is_saved_while_it_does_not_run,
 };
-
-#[cfg(test)]
-mod tests;

@@ -163,8 +163,8 @@ impl Threads {
         waiters::take_out(&mut self.slots.waiters, number);
     }
 
-    /// Makes the thread that waits longest at an address ready, its wait answering 0, and answers which it is;
-    /// None exactly where nobody waits there (futex(2)).
+    /// Makes the thread that waits longest at an address ready, its wait answering 0, and answers which it
+    /// is; None exactly where nobody waits there (futex(2)).
     pub fn wake_one(&mut self, at: u64) -> Option<Tid>
         ensures longest { option_map (λ t. t.0) result ≡ process.longest_waiter at self.old.threads }
         ensures nobody { IfNone result (self.new ≡ self.old) }
@@ -187,7 +187,8 @@ impl Threads {
         self.wake(tid.0, INTERRUPTED);
     }
 
-    /// The address of the word that the exit of a live thread clears, 0 where none is set (set_tid_address(2)).
+    /// The address of the word that the exit of a live thread clears, 0 where none is set
+    /// (set_tid_address(2)).
     pub fn clear_at(&self, tid: Tid) -> u64
         requires { IsTrue (process.is_live tid.0 self.now.threads) }
         ensures { result ≡ process.clear_of tid.0 self.now.threads }

@@ -1,7 +1,7 @@
 //! Words of membarrier(2) (uapi linux/membarrier.h).
 
-/// A command of membarrier(2) that is offered here: all of `enum membarrier_cmd` but those on the synchronization of
-/// cores (own).
+/// A command of membarrier(2) that is offered here: all of `enum membarrier_cmd` but those on the
+/// synchronization of cores (own).
 #[derive(Clone, Copy, Debug, PartialEq, Eq, Drop)]
 pub enum BarrierCommand {
     /// 0: which commands are offered.

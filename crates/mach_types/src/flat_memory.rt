@@ -74,7 +74,8 @@ impl FlatMemory {
     /// Writes one byte.
     fn put(&mut self, at: u64, byte: u8)
         requires { flat_can_write self.old at ≡ true }
-        ensures bytes { (a : ℕ) → flat_byte self.new a ≡ stored (record { at = at; size = 1; value = byte }) (flat_byte self.old) a }
+        ensures bytes { (a : ℕ) → flat_byte self.new a
+            ≡ stored (record { at = at; size = 1; value = byte }) (flat_byte self.old) a }
         ensures permissions { self.new.writable ≡ self.old.writable }
     {
         self.bytes[(at - FLAT_START) as usize] = byte;
@@ -83,7 +84,8 @@ impl FlatMemory {
     /// Writes the low bytes of a number, so many.
     fn write(&mut self, at: u64, count: u8, value: u64)
         requires { each_byte (flat_can_write self.old) at count ≡ true }
-        ensures bytes { (a : ℕ) → flat_byte self.new a ≡ stored (record { at = at; size = count; value = value }) (flat_byte self.old) a }
+        ensures bytes { (a : ℕ) → flat_byte self.new a
+            ≡ stored (record { at = at; size = count; value = value }) (flat_byte self.old) a }
         ensures permissions { self.new.writable ≡ self.old.writable }
     {
         if count > 0 {

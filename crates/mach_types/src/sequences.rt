@@ -14,7 +14,8 @@ pub struct Area {
 /// The bytes of a `struct rseq` of six fields, to a multiple of which it is aligned: the area of Linux 6.3.
 pub const AREA_SIZE: u32 = 32;
 
-/// Where `cpu_id` stands in a `struct rseq`, 4 bytes. Before it, at the area's address, stands `cpu_id_start`.
+/// Where `cpu_id` stands in a `struct rseq`, 4 bytes. Before it, at the area's address, stands
+/// `cpu_id_start`.
 pub const CPU_ID: u64 = 4;
 
 /// Where `rseq_cs` stands in a `struct rseq`, 8 bytes: the address of a descriptor, or 0.
@@ -75,7 +76,8 @@ impl Seq {
 /// What is wrong with an area, or with the descriptor that it names.
 #[derive(Clone, Copy, Debug, PartialEq, Eq, Drop)]
 pub enum BadWhy {
-    /// `rseq_cs` or `flags` of the area can't be read, or `rseq_cs` can't be written where it must be cleared.
+    /// `rseq_cs` or `flags` of the area can't be read, or `rseq_cs` can't be written where it must be
+    /// cleared.
     AreaBytes,
     /// The pointer is at or past the end of addresses.
     Pointer,

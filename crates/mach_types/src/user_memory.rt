@@ -56,7 +56,8 @@ pub trait UserMem {
     fn set(&mut self, at: u64, size: u8, value: u64) -> bool
         requires { IsAccessSize size }
         ensures answer { result ≡ each_byte (can_write self.old) at size }
-        ensures bytes { (a : ℕ) → byte self.new a ≡ after_write result (record { at = at; size = size; value = value }) (byte self.old) a }
+        ensures bytes { (a : ℕ) → byte self.new a
+            ≡ after_write result (record { at = at; size = size; value = value }) (byte self.old) a }
         ensures permissions { (a : ℕ) → can_write self.new a ≡ can_write self.old a }
         ensures alike { IsAlike self.old self.new };
 

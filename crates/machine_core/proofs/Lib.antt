@@ -1,13 +1,12 @@
-mod Advanced
-mod Answering
-mod Appending
-mod Chosen
+mod AdvanceAnswers
+mod Boot
+mod ChoiceCredits
 pub mod Laws
-mod Lending
+mod MachineCredits
 mod Readings
-mod Ready
-mod Settled
-mod Sighted
-mod Starting
-mod Stepping
-mod Worked
+mod Sights
+mod Steps
+mod StretchAppends
+mod StretchLending
+mod StretchSteps
+mod StretchWork

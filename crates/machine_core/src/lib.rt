@@ -6,8 +6,6 @@
 mod following;
 mod machine;
 mod stretches;
-#[cfg(test)]
-mod tests;
 mod theorems;
 
 pub use block_model::Refused;

@@ -179,8 +179,10 @@ impl Machine {
     /// the choice decides.
     #[inline(always)]
     fn common_refusal(&self, hart: Hart) -> Option<Refused>
-        ensures barred { IfSome result (λ why. (c : Choice) → decide self.now.setting (history self.now.setting self.now.log) hart.0 c ≡ Err why) }
-        ensures goes { IfNone result (has_ended self.now.setting (history self.now.setting self.now.log) ≡ false) }
+        ensures barred { IfSome result (λ why. (c : Choice)
+            → decide self.now.setting (history self.now.setting self.now.log) hart.0 c ≡ Err why) }
+        ensures goes { IfNone result (has_ended self.now.setting (history self.now.setting self.now.log)
+            ≡ false) }
         ensures hart { IfNone result (hart.0 < self.now.setting.limits.harts) }
     {
         if let Some(end) = self.parts.ended {
@@ -199,7 +201,8 @@ impl Machine {
     /// refusal that is due. A refused step changes nothing.
     #[inline(always)]
     pub fn step(&mut self, hart: Hart, choice: Choice) -> Result<Entry, Refused>
-        ensures answer { result ≡ decide self.old.setting (history self.old.setting self.old.log) hart.0 choice }
+        ensures answer { result
+            ≡ decide self.old.setting (history self.old.setting self.old.log) hart.0 choice }
         ensures of { IfOk result (λ e. (e.hart ≡ hart) × (choice_of e ≡ choice)) }
         ensures ok { IfOk result (λ e. self.new ≡ record self.old { log = self.old.log ++ e ∷ [] }) }
         ensures err { OnErr result (self.new ≡ self.old) }

@@ -50,7 +50,8 @@ pub trait Chronicle: Meaning {
     /// Makes the next entry of a hart, if the hart makes one and the run hasn't ended.
     fn advance(&mut self, hart: Hart) -> Advance
         ensures setting { Self.setting self.new ≡ Self.setting self.old }
-        ensures advanced { Advances (Self.next (Self.setting self.old)) (Self.ended (Self.setting self.old)) hart
+        ensures advanced { Advances (Self.next (Self.setting self.old))
+            (Self.ended (Self.setting self.old)) hart
             (Self.log self.old) (Self.log self.new) result };
 
     /// How many entries there are.

@@ -8,12 +8,12 @@ use crate::targets::{Call, targets};
 use mach_types::errors::{EINVAL, EPERM};
 use mach_types::{Answer, BarrierCommand, Errno, Hart, Registered};
 
-/// membarrier(2) with these arguments, of a thread on the hart `here`, where threads run on the harts `running` of a
-/// machine of `harts` harts.
+/// membarrier(2) with these arguments, of a thread on the hart `here`, where threads run on the harts
+/// `running` of a machine of `harts` harts.
 ///
-/// The answer is a value, or a barrier on harts, which aren't none. Its errors are, in this order: EINVAL where no
-/// offered command has this number or it doesn't take these flags; EPERM where the process isn't registered for it. A
-/// command that registers changes `regs`, and no other call does.
+/// The answer is a value, or a barrier on harts, which aren't none. Its errors are, in this order: EINVAL
+/// where no offered command has this number or it doesn't take these flags; EPERM where the process isn't
+/// registered for it. A command that registers changes `regs`, and no other call does.
 pub fn command(
     regs: &mut Registered,
     cmd: i32,

@@ -1,8 +1,8 @@
 //! The commands of membarrier(2).
 //!
-//! A barrier is about the harts that run a thread of the process: what each stored before must be in memory before the
-//! call returns. Here stands what a call answers at once, and else which harts have to acknowledge the barrier. Nothing
-//! here takes memory.
+//! A barrier is about the harts that run a thread of the process: what each stored before must be in memory
+//! before the call returns. Here stands what a call answers at once, and else which harts have to acknowledge
+//! the barrier. Nothing here takes memory.
 #![tactic(auto)]
 
 mod commands;

@@ -7,7 +7,8 @@ use mach_types::BarrierCommand;
 use mach_types::barriers::MEMBARRIER_CMD_FLAG_CPU;
 
 #[tactic(auto, unfolding(mach_types::specs::Kernel::Barriers::asked))]
-/// The offered command with a number that takes these flags: they must be 0, but 128 takes the flag of one processor.
+/// The offered command with a number that takes these flags: they must be 0, but 128 takes the flag of one
+/// processor.
 pub fn asked(cmd: i32, flags: u32) -> Option<BarrierCommand>
     ensures { result ≡ barriers.asked cmd flags }
 {

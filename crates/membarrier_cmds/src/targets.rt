@@ -16,8 +16,8 @@ pub struct Call {
     pub here: Hart,
 }
 
-/// Those of the first so many harts that have to acknowledge the barrier of a call, where threads run on the harts
-/// `running`: sets with a bit for each hart.
+/// Those of the first so many harts that have to acknowledge the barrier of a call, where threads run on the
+/// harts `running`: sets with a bit for each hart.
 pub fn targets(call: Call, running: u8, harts: u8) -> u8
     ensures { result ≡ barriers.targets call.flags call.cpu call.here.0 running harts }
 {
@@ -43,7 +43,8 @@ fn is_target(call: Call, running: u8, hart: u8) -> bool
     Hart(hart).is_in(running) && hart != call.here.0 && is_about(call, hart)
 }
 
-/// Whether a call is about a hart: about each, or under the flag with a processor of 0 or more about that one.
+/// Whether a call is about a hart: about each, or under the flag with a processor of 0 or more about that
+/// one.
 fn is_about(call: Call, hart: u8) -> bool
     ensures { result ≡ barriers.is_about call.flags call.cpu hart }
 {

@@ -10,7 +10,7 @@ use Rattle.block_view.specs.declared.forms.Act.{Act}
 use Rattle.block_view.specs.declared.forms.Form.{Form}
 use Rattle.block_view.specs.declared.forms.Form.TheVariants.{Step, Kernel, Sequence}
 use Rattle.outcomes.specs.declared.faults.Fault.TheVariants.{Usage, Elf, Guest, Script}
-use Rattle.outcomes.specs.Summary.{summary_text}
+use Rattle.outcomes.specs.Summary.{ends_text, summary_text}
 use Rattle.outcomes.specs.Text.{output_text, fault_line}
 
 usage_line : fault_line Usage ≡ codes "fault usage\n"
@@ -56,5 +56,5 @@ two_harts : summary_text 2
     (record { hart = record { 0 = 1 }; kind = Done; tid = record { 0 = 2 }; pc = 0x10108 } ∷ []) (Exit 1)
     ≡ codes "hart 0 step 1 left 0 cut 1 dropped 0 dead 0 open 0 kernel 0\n"
     ++ codes "hart 1 step 0 left 0 cut 0 dropped 0 dead 0 open 0 kernel 1\n" ++ codes "barriers 1\nend exit 1\n"
-unfolding summary_text digits
+unfolding summary_text ends_text digits
 two_harts = refl

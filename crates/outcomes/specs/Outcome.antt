@@ -27,6 +27,23 @@ pub record Call : Type 0 where
   pub write_faults : ℕ
   pub write_faults_after : ℕ
 
+-- the call on these words, by its shelf before and after it and its sink before and after it, where this is how the files
+-- and the faults of a shelf are seen, and what a sink holds and its faults
+abbrev pub call_between : {Shelf Sink : Type 0} (file : Shelf → Files) (read_faults : Shelf → List ℕ → ℕ)
+    (held : Sink → Option (List ℕ)) (write_faults : Sink → ℕ) (words : List (List ℕ)) (shelf shelf_after : Shelf)
+    (sink sink_after : Sink) → Call
+call_between file read_faults held write_faults words shelf shelf_after sink sink_after = record {
+  words = words;
+  files = file shelf;
+  files_after = file shelf_after;
+  read_faults = read_faults shelf;
+  read_faults_after = read_faults shelf_after;
+  held = held sink;
+  held_after = held sink_after;
+  write_faults = write_faults sink;
+  write_faults_after = write_faults sink_after;
+}
+
 -- the sink gained this text
 abbrev pub WroteText : Call → List ℕ → Type 0
 WroteText call text = Gained call.held call.held_after text

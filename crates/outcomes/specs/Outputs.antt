@@ -1,5 +1,6 @@
 -- The output of a command: what it shows of a whole run of its program.
 use Rattle.std.specs.Prelude.{ℕ, ◌≡◌, List, Option, Some, None, Ok, map}
+use Rattle.std.specs.List.{flat_map}
 use Rattle.mach_types.specs.declared.events.Entry.{Entry}
 use Rattle.mach_types.specs.declared.limits.End.{End}
 use Rattle.mach_types.specs.declared.limits.Limits.{Limits}
@@ -12,12 +13,12 @@ use Rattle.block_model.specs.Replay.{Ask, script_of}
 use Rattle.block_view.specs.Acts.{acts_of}
 use Rattle.place_text.specs.Place.{place_text}
 use Rattle.command_words.specs.declared.table.Shown.{Shown}
-use Rattle.command_words.specs.declared.table.Shown.TheVariants.{Output, Summary, Place}
+use Rattle.command_words.specs.declared.table.Shown.TheVariants as shows
 use Rattle.command_words.specs.Commands.{Command, Source, Rule, Script, Workers}
 use Rattle.command_words.specs.Words.{command_of}
 use Rattle.outcomes.specs.Programs.{Files, IsProgram, IsScript, asks_of}
 use Rattle.outcomes.specs.Runs.{IsChosenRun, IsSoloRun, IsPlayedRun}
-use Rattle.outcomes.specs.Summary.{summary_text}
+use Rattle.outcomes.specs.Summary.{act_line, summary_text}
 use Rattle.outcomes.specs.Text.{output_text}
 
 -- the output text of a log: its lines, and the console and the end that it comes to
@@ -30,9 +31,10 @@ log_summary s log = summary_text s.limits.harts (acts_of s log) log (end_of s (h
 
 -- what is shown of a log with this console and this end
 abbrev pub text_of : Shown → Setting → List ℕ → List Entry → End → List ℕ
-text_of Output s bytes log end = output_text bytes log end
-text_of Summary s bytes log end = summary_text s.limits.harts (acts_of s log) log end
-text_of Place s bytes log end = place_text s (history s log)
+text_of shows.Output s bytes log end = output_text bytes log end
+text_of shows.Summary s bytes log end = summary_text s.limits.harts (acts_of s log) log end
+text_of shows.Place s bytes log end = place_text s (history s log)
+text_of shows.Acts s bytes log end = flat_map act_line (acts_of s log)
 
 -- of a log, with the console and the end that it comes to
 abbrev pub shown_text : Shown → Setting → List Entry → List ℕ
@@ -89,7 +91,7 @@ IsOutput files words written = IsOutputOf files (command_of words) written
 -- the command `play` on a program and a script, and its output
 abbrev pub playing : List ℕ → List ℕ → Limits → Command
 playing program script limits =
-    record { program = program; source = Script script; shown = Output; limits = limits }
+    record { program = program; source = Script script; shown = shows.Output; limits = limits }
 
 abbrev pub IsPlayOutput : Files → List ℕ → List ℕ → Limits → List ℕ → Type 0
 IsPlayOutput files program script limits written = IsCommandOutput files (playing program script limits) written

@@ -1,33 +1,44 @@
--- The text of a summary (own): how many acts of each form each hart has, how many barriers returned, and how the run ended. Numbers
--- are decimal.
+-- The texts of a run's acts (own). Numbers are decimal.
 use Rattle.std.specs.Prelude.{ℕ, ◌++◌, ◌∷◌, Bool, true, false, List, [], zero, suc, codes, count_by}
 use Rattle.std.specs.Fmt.{decimal}
+use Rattle.std.specs.Option.{option_map, option_to_list}
 use Rattle.mach_types.specs.declared.events.Entry.{Entry}
 use Rattle.mach_types.specs.declared.events.Kind.{Kind}
 use Rattle.mach_types.specs.declared.events.Kind.TheVariants as kind
 use Rattle.mach_types.specs.declared.limits.End.{End}
+use Rattle.block_model.specs.declared.acts.SeqEnd.TheVariants as ends
 use Rattle.block_view.specs.Counting.{counts_of}
+use Rattle.block_view.specs.Forms.{cut_at, form_word}
 use Rattle.block_view.specs.declared.forms.Act.{Act}
+use Rattle.block_view.specs.declared.forms.Form.{Form}
+use Rattle.block_view.specs.declared.forms.Form.TheVariants.{Step, Kernel, Sequence}
 use Rattle.block_view.specs.declared.tally.Counts.{Counts}
-use Rattle.step_log.specs.Text.{space}
 use Rattle.place_text.specs.Ends.{end_line, number_line}
+use Rattle.place_text.specs.Fields.{behind, line, value_text}
+use Rattle.step_log.specs.Text.{newline, space}
 
--- some words and a number
-abbrev pub numbered : List ℕ → ℕ → List ℕ
-numbered words number = words ++ space ∷ decimal number
+-- the fields of a count: the word of a form, and how many acts have it
+abbrev pub count_fields : Form → ℕ → List (List ℕ)
+count_fields form count = form_word form ∷ decimal count ∷ []
 
--- the line of a hart: its number, and how many of its acts have each form
-abbrev pub hart_line : ℕ → Counts → List ℕ
-hart_line hart counts =
-    numbered (codes "hart") hart ++ numbered (codes " step") counts.step ++ numbered (codes " left") counts.left
-    ++ numbered (codes " cut") counts.cut ++ numbered (codes " dropped") counts.dropped
-    ++ numbered (codes " dead") counts.dead ++ numbered (codes " open") counts.unended
-    ++ number_line (codes " kernel") counts.kernel
+-- how many sequences of a hart ended in each way; of those that were cut, wherever their threads go on
+unfoldable pub ends_text : Counts → List ℕ
+ends_text counts =
+    behind (count_fields (Sequence ends.Left) counts.left) ++ behind (count_fields (Sequence (ends.Cut 0)) counts.cut)
+    ++ behind (count_fields (Sequence ends.Dropped) counts.dropped)
+    ++ behind (count_fields (Sequence ends.Dead) counts.dead)
+    ++ behind (count_fields (Sequence ends.Unended) counts.unended)
+
+-- `hart H step N left N cut N dropped N dead N open N kernel N`: how many of a hart's acts have each form
+abbrev pub counts_line : ℕ → Counts → List ℕ
+counts_line hart counts =
+    (codes "hart" ++ space ∷ decimal hart) ++ behind (count_fields Step counts.step) ++ ends_text counts
+    ++ behind (count_fields Kernel counts.kernel) ++ newline ∷ []
 
 -- the lines of the first harts, so many, in order
 abbrev pub hart_lines : List Act → ℕ → List ℕ
 hart_lines acts zero = []
-hart_lines acts (suc h) = hart_lines acts h ++ hart_line h (counts_of acts h)
+hart_lines acts (suc h) = hart_lines acts h ++ counts_line h (counts_of acts h)
 
 -- whether an event is the return of a barrier
 abbrev pub is_return : Kind → Bool
@@ -45,6 +56,13 @@ barriers_in log = count_by (λ (e : Entry). is_return e.kind) log
 
 abbrev pub barriers_line : List Entry → List ℕ
 barriers_line log = number_line (codes "barriers") (barriers_in log)
+
+-- `HART FIRST LAST TID FORM`: an act's hart, its first and its last entry, its thread and its form; behind `cut` where the
+-- thread goes on
+abbrev pub act_line : Act → List ℕ
+act_line act = line (decimal act.hart.0)
+    (decimal act.first ∷ decimal act.last ∷ decimal act.tid.0 ∷ form_word act.form
+    ∷ option_to_list (option_map value_text (cut_at act.form)))
 
 -- the summary of a run on so many harts: of its acts, its log and its end
 unfoldable pub summary_text : ℕ → List Act → List Entry → End → List ℕ

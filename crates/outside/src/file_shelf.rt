@@ -72,7 +72,8 @@ impl<R: Files> Shelf for FileShelf<R> {
     fn start(&mut self, name: &str) -> Result<(), StartFault>
         ensures ok { OnOk result (self.new ≡ record self.old { is_started = true; left = self.new.left }) }
         ensures failed { IsErrOf result StartFault.Failed
-            → self.new ≡ record self.new { is_started = false; left = None; faults = counted self.old.faults } }
+            → self.new
+            ≡ record self.new { is_started = false; left = None; faults = counted self.old.faults } }
         ensures told { IsErrOf result StartFault.Failed → IsSome self.new.trouble }
         ensures no_memory { IsErrOf result StartFault.NoMemory
             → self.new ≡ record self.old { is_started = false; left = None } }

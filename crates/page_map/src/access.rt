@@ -61,8 +61,8 @@ impl PageMap {
         Some(instruction(bytes, (at % PAGE_SIZE) as usize))
     }
 
-    /// Whether so many bytes from an address on can all be read. It costs time in pages, and stops at the first that
-    /// can't.
+    /// Whether so many bytes from an address on can all be read. It costs time in pages, and stops at the
+    /// first that can't.
     pub fn readable(&self, at: u64, len: u64) -> bool
         ensures { result ≡ each_byte (λ a. is_some (byte_in self.now a)) at len }
     {

@@ -48,8 +48,8 @@ fn return_bytes() -> [u8; 4096]
     bytes
 }
 
-/// The words that stand on the stack from the stack pointer on: the argument count, the arguments and the environment
-/// with their ends, and the auxiliary vector.
+/// The words that stand on the stack from the stack pointer on: the argument count, the arguments and the
+/// environment with their ends, and the auxiliary vector.
 fn stack_words(image: &Image) -> [u64; 22]
     ensures { result ≡ start_words (program_of image.now) }
 {
@@ -80,9 +80,9 @@ fn stack_words(image: &Image) -> [u64; 22]
 }
 
 impl PageMap {
-    /// The pages with which a loaded program starts: its own, the stack with what the kernel writes on it (System V
-    /// ABI, "Process Initialization"), and the page that signal handlers return to (own). The other frames of the pool
-    /// stay free. It has all the memory that it ever takes.
+    /// The pages with which a loaded program starts: its own, the stack with what the kernel writes on it
+    /// (System V ABI, "Process Initialization"), and the page that signal handlers return to (own). The other
+    /// frames of the pool stay free. It has all the memory that it ever takes.
     ///
     /// The image must be such as `elf_load`'s `load` gives: it has a page, its pages rise in number and lie
     /// below page 33,554,432 and none at address 0, each has 4,096 bytes and a permission by which it isn't

@@ -41,16 +41,19 @@ fn ends_past(at: u64, len: u64) -> bool
 }
 
 impl PageMap {
-    /// Maps the pages that so many bytes fill, all zero, at the lowest place where they fit, and answers its address. A
-    /// prot of PROT_WRITE lets read and write, PROT_READ lets read, and 0 lets nothing be done (mmap(2)).
+    /// Maps the pages that so many bytes fill, all zero, at the lowest place where they fit, and answers its
+    /// address. A prot of PROT_WRITE lets read and write, PROT_READ lets read, and 0 lets nothing be done
+    /// (mmap(2)).
     ///
-    /// Errors, in this order: EINVAL for no bytes and for a prot above 7 (own), EACCES for PROT_EXEC (own), ENOMEM where
-    /// fewer frames are free than pages are needed, or where they fit nowhere between 0x2000000000 and the stack.
+    /// Errors, in this order: EINVAL for no bytes and for a prot above 7 (own), EACCES for PROT_EXEC (own),
+    /// ENOMEM where fewer frames are free than pages are needed, or where they fit nowhere between
+    /// 0x2000000000 and the stack.
     pub fn map(&mut self, len: u64, perm: u8) -> Result<u64, Errno>
         ensures answer { result ≡ mmap_answer (permission_in self.old) (free_in self.old) len perm }
         ensures refused { IfErr result (λ _. self.new ≡ self.old) }
         ensures permissions { IfOk result (λ at. (n : ℕ) → permission_in self.new n
-            ≡ run_over (run (at / 4096) (pages_of len) (Some (permission_for perm))) (permission_in self.old) n) }
+            ≡ run_over (run (at / 4096) (pages_of len) (Some (permission_for perm)))
+            (permission_in self.old) n) }
         ensures held { IfOk result (λ at. (a : ℕ) → held_in self.new a
             ≡ held_over (run (at / 4096) (pages_of len) (Some (permission_for perm))) (held_in self.old) a) }
         ensures ends { IfOk result (λ at. at / 4096 + pages_of len ≤ FIRST_STACK_PAGE) }
@@ -91,11 +94,11 @@ impl PageMap {
         None
     }
 
-    /// Removes the pages that are mapped, of those that so many bytes from an address on fill. Their frames are free
-    /// again (munmap(2)).
+    /// Removes the pages that are mapped, of those that so many bytes from an address on fill. Their frames
+    /// are free again (munmap(2)).
     ///
-    /// Errors, in this order: EINVAL for an address within a page, for no bytes, and where they end past 2^38; EACCES
-    /// where one of the pages can be executed (own).
+    /// Errors, in this order: EINVAL for an address within a page, for no bytes, and where they end past
+    /// 2^38; EACCES where one of the pages can be executed (own).
     pub fn unmap(&mut self, at: u64, len: u64) -> Result<(), Errno>
         ensures answer { result ≡ answer_unless (munmap_refusal (permission_in self.old) at len) }
         ensures refused { IfErr result (λ _. self.new ≡ self.old) }
@@ -143,17 +146,18 @@ impl PageMap {
         None
     }
 
-    /// Gives the pages that so many bytes from an address on fill the permission of a prot, as in [`PageMap::map`]; their
-    /// bytes stay (mprotect(2)). No bytes change nothing.
+    /// Gives the pages that so many bytes from an address on fill the permission of a prot, as in
+    /// [`PageMap::map`]; their bytes stay (mprotect(2)). No bytes change nothing.
     ///
-    /// Errors, in this order: EINVAL for an address within a page; none for no bytes; EINVAL for a prot above 7 (own);
-    /// EACCES for PROT_EXEC (own); ENOMEM where they end past 2^38, or a page isn't mapped; EACCES where one of the pages
-    /// can be executed (own).
+    /// Errors, in this order: EINVAL for an address within a page; none for no bytes; EINVAL for a prot above
+    /// 7 (own); EACCES for PROT_EXEC (own); ENOMEM where they end past 2^38, or a page isn't mapped; EACCES
+    /// where one of the pages can be executed (own).
     pub fn protect(&mut self, at: u64, len: u64, perm: u8) -> Result<(), Errno>
         ensures answer { result ≡ answer_unless (mprotect_refusal (permission_in self.old) at len perm) }
         ensures refused { IfErr result (λ _. self.new ≡ self.old) }
         ensures permissions { IfOk result (λ _. (n : ℕ) → permission_in self.new n
-            ≡ run_over (run (at / 4096) (pages_of len) (Some (permission_for perm))) (permission_in self.old) n) }
+            ≡ run_over (run (at / 4096) (pages_of len) (Some (permission_for perm)))
+            (permission_in self.old) n) }
         ensures held { (a : ℕ) → held_in self.new a ≡ held_in self.old a }
         ensures free { free_in self.new ≡ free_in self.old }
         ensures code { (a : ℕ) → code_in self.new a ≡ code_in self.old a }
@@ -172,30 +176,39 @@ impl PageMap {
         Ok(())
     }
 
-    /// Whether the break may move to an address: from the lowest break to 0x2000000000, and, where it grows, only if a
-    /// frame is free for each page.
+    /// Whether the break may move to an address: from the lowest break to 0x2000000000, and, where it grows,
+    /// only if a frame is free for each page.
     pub fn may_move_break(&self, at: u64) -> bool
-        ensures { result ≡ may_move_break (break_start_in self.now) (free_in self.now) (break_in self.now) at }
+        ensures { result
+            ≡ may_move_break (break_start_in self.now) (free_in self.now) (break_in self.now) at }
     {
         let grows_by = pages_of(at).saturating_sub(pages_of(self.break_at()));
         self.break_start() <= at && at <= MAPPING_START && grows_by <= u64::from(self.free())
     }
 
-    /// Moves the break to an address, where it may be there, and answers the break (brk(2)). It may be from the lowest
-    /// break to 0x2000000000, and, where it grows, only if a frame is free for each page. Where it grows, whole pages
-    /// above that of the old break are mapped, zero, to be read and written; where it shrinks, those that are mapped
-    /// above that of the new one are removed.
+    /// Moves the break to an address, where it may be there, and answers the break (brk(2)). It may be from
+    /// the lowest break to 0x2000000000, and, where it grows, only if a frame is free for each page. Where it
+    /// grows, whole pages above that of the old break are mapped, zero, to be read and written; where it
+    /// shrinks, those that are mapped above that of the new one are removed.
     pub fn move_break(&mut self, at: u64) -> u64
         ensures answer { result ≡ break_in self.new }
         ensures break_at { break_in self.new
-            ≡ (if may_move_break (break_start_in self.old) (free_in self.old) (break_in self.old) at then at else break_in self.old) }
-        ensures refused { may_move_break (break_start_in self.old) (free_in self.old) (break_in self.old) at ≡ false → self.new ≡ self.old }
-        ensures permissions { may_move_break (break_start_in self.old) (free_in self.old) (break_in self.old) at ≡ true
-            → (n : ℕ) → permission_in self.new n ≡ run_over (break_run (break_in self.old) at) (permission_in self.old) n }
-        ensures held { may_move_break (break_start_in self.old) (free_in self.old) (break_in self.old) at ≡ true
-            → (a : ℕ) → held_in self.new a ≡ held_over (break_run (break_in self.old) at) (held_in self.old) a }
-        ensures free { may_move_break (break_start_in self.old) (free_in self.old) (break_in self.old) at ≡ true
-            → free_in self.new ≡ free_past (permission_in self.old) (free_in self.old) (break_in self.old) at }
+            ≡ (if may_move_break (break_start_in self.old) (free_in self.old) (break_in self.old) at then at
+            else break_in self.old) }
+        ensures refused { may_move_break (break_start_in self.old) (free_in self.old) (break_in self.old) at
+            ≡ false → self.new ≡ self.old }
+        ensures permissions { may_move_break (break_start_in self.old) (free_in self.old)
+            (break_in self.old) at ≡ true
+            → (n : ℕ) → permission_in self.new n
+            ≡ run_over (break_run (break_in self.old) at) (permission_in self.old) n }
+        ensures held { may_move_break (break_start_in self.old) (free_in self.old) (break_in self.old) at
+            ≡ true
+            → (a : ℕ)
+            → held_in self.new a ≡ held_over (break_run (break_in self.old) at) (held_in self.old) a }
+        ensures free { may_move_break (break_start_in self.old) (free_in self.old) (break_in self.old) at
+            ≡ true
+            → free_in self.new
+            ≡ free_past (permission_in self.old) (free_in self.old) (break_in self.old) at }
         ensures code { (a : ℕ) → code_in self.new a ≡ code_in self.old a }
         ensures break_start { break_start_in self.new ≡ break_start_in self.old }
     {
@@ -216,7 +229,9 @@ impl PageMap {
         requires to { at ≤ MAPPING_START }
         requires free { pages_of at - pages_of (break_in self.old) ≤ free_in self.old }
         ensures pages { (n : ℕ) → page_in self.new n
-            ≡ page_over (run (pages_of (break_in self.old)) (pages_of at - pages_of (break_in self.old)) (Some 6)) (page_in self.old) n }
+            ≡ page_over
+            (run (pages_of (break_in self.old)) (pages_of at - pages_of (break_in self.old)) (Some 6))
+            (page_in self.old) n }
         ensures free { free_in self.new ≡ free_in self.old - (pages_of at - pages_of (break_in self.old)) }
         ensures code { (a : ℕ) → code_in self.new a ≡ code_in self.old a }
         ensures break_at { break_in self.new ≡ at }
@@ -234,9 +249,11 @@ impl PageMap {
         requires from { break_start_in self.old ≤ at }
         requires to { at ≤ break_in self.old }
         ensures pages { (n : ℕ) → page_in self.new n
-            ≡ page_over (run (pages_of at) (pages_of (break_in self.old) - pages_of at) None) (page_in self.old) n }
+            ≡ page_over (run (pages_of at) (pages_of (break_in self.old) - pages_of at) None)
+            (page_in self.old) n }
         ensures free { free_in self.new
-            ≡ free_in self.old + mapped_count (permission_in self.old) (pages_of at) (pages_of (break_in self.old) - pages_of at) }
+            ≡ free_in self.old + mapped_count (permission_in self.old) (pages_of at)
+            (pages_of (break_in self.old) - pages_of at) }
         ensures code { (a : ℕ) → code_in self.new a ≡ code_in self.old a }
         ensures break_at { break_in self.new ≡ at }
         ensures break_start { break_start_in self.new ≡ break_start_in self.old }

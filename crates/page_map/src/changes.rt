@@ -1,5 +1,5 @@
-//! Pages one behind the other: whether they are mapped and whether one can be executed, and how they are mapped,
-//! protected and removed.
+//! Pages one behind the other: whether they are mapped and whether one can be executed, and how they are
+//! mapped, protected and removed.
 
 ghost use Rattle.std.specs.Prelude.{◌≡◌, ◌≤◌, ◌<◌, ◌+◌, ◌-◌, ◌&&◌, ℕ, Some, None, false, true, if◌then◌else◌, IsSome, is_some};
 ghost use Rattle.std.specs.Option.{option_map};
@@ -51,8 +51,8 @@ impl PageMap {
         true
     }
 
-    /// The lowest page at which so many pages can be mapped; None exactly where they fit nowhere. It changes only how
-    /// soon the next one is found.
+    /// The lowest page at which so many pages can be mapped; None exactly where they fit nowhere. It changes
+    /// only how soon the next one is found.
     pub(crate) fn lowest_hole(&mut self, count: u64) -> Option<u64>
         requires some { 0 < count }
         requires few { count < 4294967296 }
@@ -63,14 +63,15 @@ impl PageMap {
         self.hole_from(free, count)
     }
 
-    /// The lowest page at which so many pages can be mapped, looked for from one on before which each mapping page is
-    /// mapped; None exactly where they fit nowhere.
+    /// The lowest page at which so many pages can be mapped, looked for from one on before which each mapping
+    /// page is mapped; None exactly where they fit nowhere.
     fn hole_from(&self, free: u64, count: u64) -> Option<u64>
         requires some { 0 < count }
         requires few { count < 4294967296 }
         requires from { FIRST_MAPPING_PAGE ≤ free }
         requires end { free ≤ FIRST_STACK_PAGE }
-        requires filled { (n : ℕ) → FIRST_MAPPING_PAGE ≤ n → n < free → is_some (permission_in self.now n) ≡ true }
+        requires filled { (n : ℕ) → FIRST_MAPPING_PAGE ≤ n → n < free
+            → is_some (permission_in self.now n) ≡ true }
         ensures { result ≡ lowest_hole (permission_in self.now) count }
     {
         let mut first = free;
@@ -91,7 +92,8 @@ impl PageMap {
             → CanLie (break_start_in self.old) (break_in self.old) n permission }
         requires permission { IsPermission permission }
         requires free { count ≤ free_in self.old }
-        ensures pages { (n : ℕ) → page_in self.new n ≡ page_over (run first count (Some permission)) (page_in self.old) n }
+        ensures pages { (n : ℕ)
+            → page_in self.new n ≡ page_over (run first count (Some permission)) (page_in self.old) n }
         ensures free { free_in self.new ≡ free_in self.old - count }
         ensures break_at { break_in self.new ≡ break_in self.old }
         ensures break_start { break_start_in self.new ≡ break_start_in self.old }
@@ -106,7 +108,8 @@ impl PageMap {
     pub(crate) fn remove_pages(&mut self, first: u64, count: u64)
         requires { first + count ≤ 67108864 }
         ensures pages { (n : ℕ) → page_in self.new n ≡ page_over (run first count None) (page_in self.old) n }
-        ensures free { free_in self.new ≡ free_in self.old + mapped_count (permission_in self.old) first count }
+        ensures free { free_in self.new
+            ≡ free_in self.old + mapped_count (permission_in self.old) first count }
         ensures break_at { break_in self.new ≡ break_in self.old }
         ensures break_start { break_start_in self.new ≡ break_start_in self.old }
     {
@@ -117,14 +120,16 @@ impl PageMap {
         }
     }
 
-    /// Gives so many pages from one on, which are all mapped, another permission, by which they can't be executed.
+    /// Gives so many pages from one on, which are all mapped, another permission, by which they can't be
+    /// executed.
     pub(crate) fn protect_pages(&mut self, first: u64, count: u64, permission: u8)
         requires end { first + count ≤ 67108864 }
         requires mapped { (n : ℕ) → first ≤ n → n < first + count → IsSome (page_in self.old n) }
         requires permission { IsPermission permission }
         requires code { can_execute (Some permission) ≡ false }
         ensures pages { (n : ℕ) → page_in self.new n
-            ≡ (if is_in (run first count (Some permission)) n then option_map (protected_page permission) (page_in self.old n) else page_in self.old n) }
+            ≡ (if is_in (run first count (Some permission)) n
+            then option_map (protected_page permission) (page_in self.old n) else page_in self.old n) }
         ensures free { free_in self.new ≡ free_in self.old }
         ensures break_at { break_in self.new ≡ break_in self.old }
         ensures break_start { break_start_in self.new ≡ break_start_in self.old }

@@ -11,8 +11,6 @@ mod changes;
 mod map;
 mod mapped_page;
 mod table;
-#[cfg(test)]
-mod tests;
 mod theorems;
 
 pub use calls::pages_of;

@@ -28,11 +28,11 @@ pub(crate) const WRITE: u8 = 2;
 /// The bit of a permission to execute.
 pub(crate) const EXECUTE: u8 = 1;
 
-/// The pages of a process that are mapped, by number, and its break. It holds their frames, and all frames that are
-/// free.
+/// The pages of a process that are mapped, by number, and its break. It holds their frames, and all frames
+/// that are free.
 ///
-/// A page that can be written can be read and can't be executed, and no page lies between the stack and the page that
-/// signal handlers return to.
+/// A page that can be written can be read and can't be executed, and no page lies between the stack and the
+/// page that signal handlers return to.
 pub struct PageMap {
     pool: FramePool,
     mapped: Vec<MappedPage>,
@@ -48,9 +48,23 @@ impl Model for PageMap {
 
     ghost Value = { Map };
 
-    ghost view = { λ m. record { pool = m.pool; mapped = m.mapped.items; table = m.table; break_at = m.break_at; break_start = m.break_start } };
+    ghost view = { λ m.
+        record {
+          pool = m.pool;
+          mapped = m.mapped.items;
+          table = m.table;
+          break_at = m.break_at;
+          break_start = m.break_start;
+        } };
 
-    ghost invariant = { λ m. IsMap (record { pool = m.pool; mapped = m.mapped.items; table = m.table; break_at = m.break_at; break_start = m.break_start })
+    ghost invariant = { λ m. IsMap
+        (record {
+          pool = m.pool;
+          mapped = m.mapped.items;
+          table = m.table;
+          break_at = m.break_at;
+          break_start = m.break_start;
+        })
         (vec_capacity m.mapped) };
 }
 
@@ -78,7 +92,8 @@ fn give_all(mut pool: FramePool, mut mapped: Vec<MappedPage>)
 }
 
 impl PageMap {
-    /// No pages, over a pool, with this break, which is the lowest one. It has all the memory that it ever takes.
+    /// No pages, over a pool, with this break, which is the lowest one. It has all the memory that it ever
+    /// takes.
     pub(crate) fn empty(
         alloc: Global,
         pool: FramePool,
@@ -110,7 +125,8 @@ impl PageMap {
         requires free { 0 < free_in self.old }
         requires unmapped { page_in self.old number ≡ None }
         ensures pages { (n : ℕ) → page_in self.new n
-            ≡ (if n == number then Some (record { permission = permission; bytes = bytes.now }) else page_in self.old n) }
+            ≡ (if n == number then Some (record { permission = permission; bytes = bytes.now })
+            else page_in self.old n) }
         ensures free { free_in self.new + 1 ≡ free_in self.old }
         ensures break_at { break_in self.new ≡ break_in self.old }
         ensures break_start { break_start_in self.new ≡ break_start_in self.old }
@@ -155,7 +171,8 @@ impl PageMap {
         requires permission { IsPermission permission }
         requires code { can_execute (Some permission) ≡ false }
         ensures pages { (n : ℕ) → page_in self.new n
-            ≡ (if n == number then option_map (protected_page permission) (page_in self.old n) else page_in self.old n) }
+            ≡ (if n == number then option_map (protected_page permission) (page_in self.old n)
+            else page_in self.old n) }
         ensures free { free_in self.new ≡ free_in self.old }
         ensures break_at { break_in self.new ≡ break_in self.old }
         ensures break_start { break_start_in self.new ≡ break_start_in self.old }
@@ -187,13 +204,14 @@ impl PageMap {
         self.table.next(from, end)
     }
 
-    /// The first mapping page that isn't mapped, or the first page of the stack where each is. It changes only how soon
-    /// that page is found.
+    /// The first mapping page that isn't mapped, or the first page of the stack where each is. It changes
+    /// only how soon that page is found.
     pub(crate) fn first_unmapped(&mut self) -> u64
         ensures same { self.new ≡ self.old }
         ensures from { FIRST_MAPPING_PAGE ≤ result }
         ensures end { result ≤ FIRST_STACK_PAGE }
-        ensures filled { (n : ℕ) → FIRST_MAPPING_PAGE ≤ n → n < result → is_some (permission_in self.old n) ≡ true }
+        ensures filled { (n : ℕ) → FIRST_MAPPING_PAGE ≤ n → n < result
+            → is_some (permission_in self.old n) ≡ true }
         ensures free { result < FIRST_STACK_PAGE → permission_in self.old result ≡ None }
     {
         self.table.pass_filled().min(FIRST_STACK_PAGE)
@@ -216,7 +234,8 @@ impl PageMap {
         self.table.get(number).is_some()
     }
 
-    /// The permission of the page of an address: 4 to read, 2 to write, 1 to execute; None exactly where no page is.
+    /// The permission of the page of an address: 4 to read, 2 to write, 1 to execute; None exactly where no
+    /// page is.
     pub fn perm(&self, at: u64) -> Option<u8>
         ensures { result ≡ permission_in self.now (at / 4096) }
     {
@@ -268,9 +287,11 @@ impl PageMap {
     /// It does nothing; its clauses say what each page map keeps.
     pub fn keeps(&self)
         ensures writable { (n : ℕ) → can_write (permission_in self.now n) ≡ true
-            → (can_read (permission_in self.now n) ≡ true) × (can_execute (permission_in self.now n) ≡ false) }
+            → (can_read (permission_in self.now n) ≡ true)
+            × (can_execute (permission_in self.now n) ≡ false) }
         ensures gap { (n : ℕ) → IsGap n → permission_in self.now n ≡ None }
-        ensures past_break { (n : ℕ) → pages_of (break_in self.now) ≤ n → n < FIRST_MAPPING_PAGE → page_in self.now n ≡ None }
+        ensures past_break { (n : ℕ) → pages_of (break_in self.now) ≤ n → n < FIRST_MAPPING_PAGE
+            → page_in self.now n ≡ None }
         ensures data { (n : ℕ) → pages_of (break_start_in self.now) ≤ n → n < FIRST_MAPPING_PAGE
             → can_execute (permission_in self.now n) ≡ false }
         ensures break_from { break_start_in self.now ≤ break_in self.now }
@@ -336,7 +357,8 @@ fn write_frame(pool: &mut FramePool, frame: &Frame, at: usize, size: u8, value: 
     requires size { IsAccessSize size }
     requires within { at + size ≤ 4096 }
     ensures written { pool.new
-        ≡ slice_set pool.old frame.now (Some (with_word (frame_bytes (slice_get pool.old frame.now)) at size value)) }
+        ≡ slice_set pool.old frame.now
+        (Some (with_word (frame_bytes (slice_get pool.old frame.now)) at size value)) }
     ensures whole { length (frame_bytes (slice_get pool.old frame.now)) ≡ 4096 }
 {
     let _ = write_word(pool.bytes_mut(frame), at, size as usize, value);

@@ -24,8 +24,8 @@ const EMPTY_LEAF: u32 = 0;
 /// The places of the pages of a chunk.
 type Leaf = [Option<u32>; 512];
 
-/// A table from the numbers of pages, below 2^26, to places. A page is found in two look-ups, however many there
-/// are. Each mapping page before `filled_to` has a place, so that a hole is looked for from there on.
+/// A table from the numbers of pages, below 2^26, to places. A page is found in two look-ups, however many
+/// there are. Each mapping page before `filled_to` has a place, so that a hole is looked for from there on.
 #[derive(Drop)]
 pub struct PageTable {
     directory: Vec<u32>,
@@ -47,8 +47,8 @@ impl Model for PageTable {
 }
 
 impl PageTable {
-    /// A table without entries. It has all the memory that it ever takes: room for a leaf of each chunk, which costs
-    /// nothing until it is used.
+    /// A table without entries. It has all the memory that it ever takes: room for a leaf of each chunk,
+    /// which costs nothing until it is used.
     pub fn new(alloc: Global) -> Result<PageTable, AllocError>
         ensures empty { IfOk result (λ t. (n : ℕ) → place_in t n ≡ None) }
     {
@@ -92,7 +92,8 @@ impl PageTable {
     pub fn pass_filled(&mut self) -> u64
         ensures same { self.new ≡ self.old }
         ensures from { FIRST_MAPPING_PAGE ≤ result }
-        ensures filled { (n : ℕ) → FIRST_MAPPING_PAGE ≤ n → n < result → is_some (place_in self.old n) ≡ true }
+        ensures filled { (n : ℕ) → FIRST_MAPPING_PAGE ≤ n → n < result
+            → is_some (place_in self.old n) ≡ true }
         ensures free { place_in self.old result ≡ None }
     {
         self.filled_to = self.first_free();
@@ -102,7 +103,8 @@ impl PageTable {
     /// The first mapping page that has no place, which is `filled_to` or lies past it.
     fn first_free(&self) -> u64
         ensures from { FIRST_MAPPING_PAGE ≤ result }
-        ensures filled { (n : ℕ) → FIRST_MAPPING_PAGE ≤ n → n < result → is_some (place_in self.now n) ≡ true }
+        ensures filled { (n : ℕ) → FIRST_MAPPING_PAGE ≤ n → n < result
+            → is_some (place_in self.now n) ≡ true }
         ensures free { place_in self.now result ≡ None }
     {
         let mut page = self.filled_to;
@@ -112,8 +114,8 @@ impl PageTable {
         page
     }
 
-    /// The first page that has a place, from one page on and before another; None exactly where none has. A chunk that
-    /// never had a page is passed over in one step.
+    /// The first page that has a place, from one page on and before another; None exactly where none has. A
+    /// chunk that never had a page is passed over in one step.
     pub fn next(&self, from: u64, end: u64) -> Option<u64>
         requires { end ≤ PAGES }
         ensures { result ≡ first_page (λ n. is_some (place_in self.now n)) from (end - from) }

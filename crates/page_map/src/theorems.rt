@@ -28,12 +28,14 @@ pub fn code_is_bytes()
 
 /// A byte that can be read, or executed, is the one that its page holds.
 pub fn held_bytes_are_seen()
-    ensures bytes { (m : Map) (a : ℕ) → byte_in m a ≡ (if can_read (permission_in m (a / 4096)) then held_in m a else None) }
-    ensures code { (m : Map) (a : ℕ) → code_in m a ≡ (if can_execute (permission_in m (a / 4096)) then held_in m a else None) }
+    ensures bytes { (m : Map) (a : ℕ)
+        → byte_in m a ≡ (if can_read (permission_in m (a / 4096)) then held_in m a else None) }
+    ensures code { (m : Map) (a : ℕ)
+        → code_in m a ≡ (if can_execute (permission_in m (a / 4096)) then held_in m a else None) }
 {}
 
-/// A page map that is like another, and shows what some writes left, holds what they left: each byte that they write
-/// could be read. A byte that can be written is one.
+/// A page map that is like another, and shows what some writes left, holds what they left: each byte that
+/// they write could be read. A byte that can be written is one.
 pub fn alike_maps_hold_writes()
     ensures held { (m m' : Map) (ws : List Write) → IsAlike m m' → are_visible m ws ≡ true
         → ((a : ℕ) → byte_in m' a ≡ after_writes ws (byte_in m) a)
@@ -42,12 +44,16 @@ pub fn alike_maps_hold_writes()
         → each_byte (λ a. is_some (byte_in m a)) at n ≡ true }
 {}
 
-/// So many pages are mapped at the lowest place of the mappings where they fit, and nowhere exactly where they fit nowhere.
+/// So many pages are mapped at the lowest place of the mappings where they fit, and nowhere exactly where
+/// they fit nowhere.
 pub fn lowest_hole_is_lowest()
-    ensures from { (permission : ℕ → Option ℕ) (count n : ℕ) → lowest_hole permission count ≡ Some n → FIRST_MAPPING_PAGE ≤ n }
-    ensures fits { (permission : ℕ → Option ℕ) (count n : ℕ) → lowest_hole permission count ≡ Some n → fits_at permission count n ≡ true }
+    ensures from { (permission : ℕ → Option ℕ) (count n : ℕ) → lowest_hole permission count ≡ Some n
+        → FIRST_MAPPING_PAGE ≤ n }
+    ensures fits { (permission : ℕ → Option ℕ) (count n : ℕ) → lowest_hole permission count ≡ Some n
+        → fits_at permission count n ≡ true }
     ensures lowest { (permission : ℕ → Option ℕ) (count n : ℕ) → lowest_hole permission count ≡ Some n
         → (k : ℕ) → FIRST_MAPPING_PAGE ≤ k → k < n → fits_at permission count k ≡ false }
-    ensures nowhere { (permission : ℕ → Option ℕ) (count : ℕ) → 0 < count → lowest_hole permission count ≡ None
+    ensures nowhere { (permission : ℕ → Option ℕ) (count : ℕ) → 0 < count
+        → lowest_hole permission count ≡ None
         → (k : ℕ) → FIRST_MAPPING_PAGE ≤ k → fits_at permission count k ≡ false }
 {}

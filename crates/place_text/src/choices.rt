@@ -150,7 +150,9 @@ fn push_choice(
 
 /// Appends the lines of a hart's own choices.
 fn push_own_choices(text: &mut Vec<u8>, machine: &Machine, hart: Hart) -> Result<(), AllocError>
-    ensures { OnOk result (text.new.items ≡ text.old.items ++ spec.choice_lines machine.now.setting (past_of machine.now) hart.0 spec.own_choices) }
+    ensures { OnOk result
+        (text.new.items ≡ text.old.items
+        ++ spec.choice_lines machine.now.setting (past_of machine.now) hart.0 spec.own_choices) }
 {
     for choice in OWN_CHOICES {
         push_choice(text, machine, hart, choice)?;
@@ -165,7 +167,9 @@ fn push_run_choices(
     hart: Hart,
     live: &[LiveThread],
 ) -> Result<(), AllocError>
-    ensures { OnOk result (text.new.items ≡ text.old.items ++ spec.choice_lines machine.now.setting (past_of machine.now) hart.0 (map run_of live.now)) }
+    ensures { OnOk result
+        (text.new.items ≡ text.old.items
+        ++ spec.choice_lines machine.now.setting (past_of machine.now) hart.0 (map run_of live.now)) }
 {
     for thread in live {
         push_choice(text, machine, hart, Choice::Run(thread.tid))?;
@@ -181,7 +185,9 @@ pub fn push_choices(
     hart: Hart,
     live: &[LiveThread],
 ) -> Result<(), AllocError>
-    ensures { OnOk result (text.new.items ≡ text.old.items ++ spec.choices_text machine.now.setting (past_of machine.now) (map run_of live.now) hart.0) }
+    ensures { OnOk result
+        (text.new.items ≡ text.old.items
+        ++ spec.choices_text machine.now.setting (past_of machine.now) (map run_of live.now) hart.0) }
 {
     push_own_choices(text, machine, hart)?;
     push_run_choices(text, machine, hart, live)

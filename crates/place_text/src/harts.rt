@@ -37,7 +37,8 @@ fn push_thread(
     tid: Tid,
     state: &HartState,
 ) -> Result<(), AllocError>
-    ensures { OnOk result (text.new.items ≡ text.old.items ++ spec.thread_line hart.0 tid.0 state.now.pc state.now.cid) }
+    ensures { OnOk result
+        (text.new.items ≡ text.old.items ++ spec.thread_line hart.0 tid.0 state.now.pc state.now.cid) }
 {
     begin_line(text, b"hart", u64::from(hart.0))?;
     push_named_number(text, b"thread", u64::from(tid.0))?;
@@ -165,7 +166,8 @@ fn push_sequence(
     pc: u64,
 ) -> Result<(), AllocError>
     requires { hart.0 < machine.now.setting.limits.harts }
-    ensures { OnOk result (text.new.items ≡ text.old.items ++ (area_line hart.0 (area_on (here_of machine.now hart.0))
+    ensures { OnOk result
+        (text.new.items ≡ text.old.items ++ (area_line hart.0 (area_on (here_of machine.now hart.0))
         ++ names_line hart.0 (named_at machine.now.setting hart.0 (past_of machine.now)) pc)) }
 {
     push_area(text, hart, machine.area(hart))?;
@@ -181,7 +183,8 @@ fn push_running(
 ) -> Result<(), AllocError>
     requires hart { hart.0 < machine.now.setting.limits.harts }
     requires runs { runs (here_of machine.now hart.0) ≡ Some tid.0 }
-    ensures { OnOk result (text.new.items ≡ text.old.items ++ spec.running_text (here_of machine.now hart.0) tid.0) }
+    ensures { OnOk result
+        (text.new.items ≡ text.old.items ++ spec.running_text (here_of machine.now hart.0) tid.0) }
 {
     let state = machine.hart(hart);
     push_thread_state(text, hart, tid, state)?;

@@ -4,13 +4,11 @@
 
 mod choices;
 mod ends;
-mod fields;
+pub mod fields;
 mod harts;
 mod place;
 mod registers;
 mod sequences;
-#[cfg(test)]
-mod tests;
 mod threads;
 
 pub use ends::{push_end, push_number_line};

@@ -16,7 +16,8 @@ use std::alloc::{AllocError, Global};
 
 /// Appends the lines of each hart.
 fn push_all_harts(text: &mut Vec<u8>, machine: &Machine) -> Result<(), AllocError>
-    ensures { OnOk result (text.new.items ≡ text.old.items ++ spec.harts_text machine.now.setting (past_of machine.now)) }
+    ensures { OnOk result
+        (text.new.items ≡ text.old.items ++ spec.harts_text machine.now.setting (past_of machine.now)) }
 {
     for number in 0..machine.harts() {
         push_hart(text, machine, Hart(number))?;
@@ -43,7 +44,8 @@ fn push_all_choices(
 /// each hart and of each live thread; and for each hart what it may do next, or why it may not. It isn't the whole state: memory, the
 /// console and the registers of threads that run on no hart, for example, aren't shown.
 pub fn place_text(alloc: Global, machine: &Machine) -> Result<Vec<u8>, AllocError>
-    ensures { IfOk result (λ text. text.items ≡ spec.place_text machine.now.setting (history machine.now.setting machine.now.log)) }
+    ensures { IfOk result (λ text. text.items
+        ≡ spec.place_text machine.now.setting (history machine.now.setting machine.now.log)) }
 {
     let kernel = machine.kernel();
     let live = live_threads(alloc, &kernel.threads)?;

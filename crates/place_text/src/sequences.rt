@@ -37,7 +37,8 @@ fn inside_word(inside: bool) -> &'static [u8]
 
 /// Appends the signature of an area.
 fn push_signature(text: &mut Vec<u8>, signature: u32) -> Result<(), AllocError>
-    ensures { OnOk result (text.new.items ≡ text.old.items ++ behind (codes "signature" ∷ hex_text 8 signature ∷ [])) }
+    ensures { OnOk result
+        (text.new.items ≡ text.old.items ++ behind (codes "signature" ∷ hex_text 8 signature ∷ [])) }
 {
     push_word(text, b"signature")?;
     push_hex(text, SIGNATURE_DIGITS, u64::from(signature))
@@ -74,7 +75,8 @@ pub fn push_area(text: &mut Vec<u8>, hart: Hart, area: Option<Area>) -> Result<(
 
 /// Appends the fields of a sequence that can be used, and whether a pc is inside.
 fn push_good(text: &mut Vec<u8>, sequence: Seq, pc: u64) -> Result<(), AllocError>
-    ensures { OnOk result (text.new.items ≡ text.old.items ++ behind (names_fields (Named.Good sequence) pc)) }
+    ensures { OnOk result
+        (text.new.items ≡ text.old.items ++ behind (names_fields (Named.Good sequence) pc)) }
 {
     push_named_value(text, b"good", sequence.start)?;
     push_number(text, sequence.length)?;

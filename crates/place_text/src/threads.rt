@@ -70,7 +70,8 @@ fn push_signals(text: &mut Vec<u8>, tid: Tid, mask: u64, pending: u64) -> Result
 /// Appends the lines of a thread.
 fn push_thread(text: &mut Vec<u8>, signals: &Signals, thread: LiveThread) -> Result<(), AllocError>
     requires { IsTrue (is_held thread.tid.0 signals.now) }
-    ensures { OnOk result (text.new.items ≡ text.old.items ++ spec.thread_text signals.now thread.tid.0 thread.state) }
+    ensures { OnOk result
+        (text.new.items ≡ text.old.items ++ spec.thread_text signals.now thread.tid.0 thread.state) }
 {
     push_state(text, thread.tid, thread.state)?;
     let mask = signals.mask_of(thread.tid);
@@ -84,7 +85,8 @@ pub fn push_threads(
     live: &[LiveThread],
 ) -> Result<(), AllocError>
     requires { All (λ thread. is_held thread.tid.0 signals.now ≡ true) live.now }
-    ensures { OnOk result (text.new.items ≡ text.old.items ++ spec.told_text signals.now (map told live.now)) }
+    ensures { OnOk result
+        (text.new.items ≡ text.old.items ++ spec.told_text signals.now (map told live.now)) }
 {
     for thread in live {
         push_thread(text, signals, *thread)?;

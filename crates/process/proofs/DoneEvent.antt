@@ -15,9 +15,9 @@ use Rattle.block_model.specs.Plain.{Plain, here_in_plain}
 use Rattle.block_model.specs.Setting.{Setting}
 use Rattle.block_model.specs.Sights.{thread}
 use Rattle.process.specs.Barriers.{gone_on}
-use Rattle.process.specs.Harts.{hart_at, hart_in}
+use Rattle.process.specs.Harts.{counted, hart_at, hart_in}
 use Rattle.process.proofs.HartEvents.{zero_more}
-use Rattle.process.proofs.HartTies.{own_after}
+use Rattle.process.proofs.HartStates.{own_after}
 
 -- why none does, as the hart tells it
 abbrev refused_as : Option Tid → Option ℕ → Option Why
@@ -44,7 +44,7 @@ returner here free = go (runs here) refl free
     go (Some t) at e = (t, at)
 
 -- the own hart
-pub returned_own : (credit : ℕ) (s : Setting) (p : Plain) (h t : ℕ) (x y : HartState) → x ≡ hart_at s p h credit → runs (here_in_plain s p h) ≡ Some t → y ≡ gone_on x
+pub returned_own : (credit : ℕ) (s : Setting) (p : Plain) (h t : ℕ) (x y : HartState) → x ≡ hart_at s p h credit → runs (here_in_plain s p h) ≡ Some t → y ≡ counted (gone_on x)
     → y ≡ own_after s p h (done_done_by (here_in_plain s p h) (Some t)) credit
 returned_own credit s p h t x y at runs is = is ∙ rw (at, append-nil, zero_more (p.ran h), runs, eq-eqb t t refl) refl
 

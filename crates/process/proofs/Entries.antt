@@ -1,5 +1,5 @@
 -- The entry of an event, and an event that is known to have done this.
-use Rattle.std.proofs.Common.{◌≡◌, ℕ, List, [], ◌∷◌, refl, sym, ap, subst, Option, Some, None}
+use Rattle.std.proofs.Common.{◌≡◌, ℕ, List, [], ◌∷◌, get_or, refl, sym, ap, subst, Option, Some, None}
 use Rattle.std.specs.Option.{option_map}
 use Rattle.mach_types.specs.declared.events.Choice.{Choice}
 use Rattle.mach_types.specs.declared.events.Choice.TheVariants as asked
@@ -18,11 +18,11 @@ use Rattle.block_model.specs.Plain.{Plain, here_in_plain, here_of}
 use Rattle.block_model.specs.Sights.{thread}
 use Rattle.block_model.proofs.Laws.{IsFit}
 use Rattle.process.specs.Deeds.{entry_from}
-use Rattle.process.specs.Harts.{file_on, hart_at}
-use Rattle.process.specs.Tied.{IsPlace, IsAfter}
+use Rattle.process.specs.Harts.{counted, file_on, hart_at}
+use Rattle.process.specs.Tied.{IsAfter, IsPlace, IsUncounted}
 use Rattle.process.specs.declared.parts.Parts.{Parts}
-use Rattle.process.proofs.Events.{IsChange, changed}
-use Rattle.process.proofs.Places.{fit_at}
+use Rattle.process.proofs.Events.{IsChange, IsMade, changed, uncounted}
+use Rattle.process.proofs.Places.{fit_at, hart_is}
 
 -- the entry of a hart's thread
 entry_own : (here : Here) (h : Hart) (k : Kind) (o : Option ℕ) (x : HartState) → h.0 ≡ here.hart → x.running ≡ option_map thread o → x.pc ≡ (file_on here o).pc →
@@ -33,20 +33,12 @@ entry_own here h k (Some t) x hart running pc = rw (running, hart, pc) refl
 pub entry_exec : (credit : ℕ) (s : Setting) (p : Plain) (h : Hart) (x : HartState) → x ≡ hart_at s p h.0 credit → entry_from h kind.Exec x.running x.pc ≡ entry_in asked.Exec (here_in_plain s p h.0)
 entry_exec credit s p h x is = entry_own (here_in_plain s p h.0) h kind.Exec (runs (here_in_plain s p h.0)) x refl (ap (λ (y : HartState). y.running) is) (ap (λ (y : HartState). y.pc) is)
 
-pub entry_drain : (credit : ℕ) (s : Setting) (p : Plain) (h : Hart) (x : HartState) → x ≡ hart_at s p h.0 credit → entry_from h kind.Drain x.running x.pc ≡ entry_in asked.Drain (here_in_plain s p h.0)
-entry_drain credit s p h x is = entry_own (here_in_plain s p h.0) h kind.Drain (runs (here_in_plain s p h.0)) x refl (ap (λ (y : HartState). y.running) is) (ap (λ (y : HartState). y.pc) is)
-
-pub entry_preempt : (credit : ℕ) (s : Setting) (p : Plain) (h : Hart) (x : HartState) → x ≡ hart_at s p h.0 credit → entry_from h kind.Preempt x.running x.pc ≡ entry_in asked.Preempt (here_in_plain s p h.0)
-entry_preempt credit s p h x is = entry_own (here_in_plain s p h.0) h kind.Preempt (runs (here_in_plain s p h.0)) x refl (ap (λ (y : HartState). y.running) is) (ap (λ (y : HartState). y.pc) is)
-
-pub entry_signal : (credit : ℕ) (s : Setting) (p : Plain) (h : Hart) (x : HartState) → x ≡ hart_at s p h.0 credit → entry_from h kind.Signal x.running x.pc ≡ entry_in asked.Signal (here_in_plain s p h.0)
-entry_signal credit s p h x is = entry_own (here_in_plain s p h.0) h kind.Signal (runs (here_in_plain s p h.0)) x refl (ap (λ (y : HartState). y.running) is) (ap (λ (y : HartState). y.pc) is)
-
-pub entry_take : (credit : ℕ) (s : Setting) (p : Plain) (h : Hart) (x : HartState) → x ≡ hart_at s p h.0 credit → entry_from h kind.Take x.running x.pc ≡ entry_in asked.Take (here_in_plain s p h.0)
-entry_take credit s p h x is = entry_own (here_in_plain s p h.0) h kind.Take (runs (here_in_plain s p h.0)) x refl (ap (λ (y : HartState). y.running) is) (ap (λ (y : HartState). y.pc) is)
-
-pub entry_done : (credit : ℕ) (s : Setting) (p : Plain) (h : Hart) (x : HartState) → x ≡ hart_at s p h.0 credit → entry_from h kind.Done x.running x.pc ≡ entry_in asked.Done (here_in_plain s p h.0)
-entry_done credit s p h x is = entry_own (here_in_plain s p h.0) h kind.Done (runs (here_in_plain s p h.0)) x refl (ap (λ (y : HartState). y.running) is) (ap (λ (y : HartState). y.pc) is)
+-- the entry of a hart of a place
+pub entry_here : (v : Seen) (m : Parts) (h : Hart) (k : Kind) (x : HartState) → IsPlace v m h.0 → x ≡ get_or m.harts.items h.0 x
+    → entry_from h k x.running x.pc ≡ record { hart = record { 0 = h.0 }; kind = k; tid = record { 0 = number_of (runs (here_of v h.0)) }; pc = pc_in (here_of v h.0) (runs (here_of v h.0)) }
+entry_here v m h k x place value =
+    let own = hart_is v m h.0 x place value in
+    entry_own (here_of v h.0) h k (runs (here_of v h.0)) x refl (ap (λ (y : HartState). y.running) own) (ap (λ (y : HartState). y.pc) own)
 
 -- where a thread can leave a hart, one runs there
 pub leaver : (here : Here) → refusal_of asked.Preempt here ≡ None → (t : ℕ) × (runs here ≡ Some t)
@@ -68,3 +60,8 @@ oldest here free = go (waiting_here here) refl free
 pub changed_as : (v : Seen) (h : ℕ) (c : Choice) (d : Done) (m m' : Parts) (y : HartState) → IsPlace v m h → refusal_of c (here_of v h) ≡ None → done_of c (here_of v h) ≡ d → IsChange v h d m m' y → IsAfter v h (done_of c (here_of v h)) m m'
 changed_as v h c d m m' y place free same is =
     subst (λ e. IsAfter v h e m m') (sym same) (changed v h d m m' y place (subst (IsFit (here_of v h)) same (fit_at v m h c place free)) is)
+
+pub uncounted_as : (v : Seen) (h : ℕ) (c : Choice) (d : Done) (m m' : Parts) (z : HartState) → IsPlace v m h → refusal_of c (here_of v h) ≡ None → done_of c (here_of v h) ≡ d
+    → IsMade v h d m m' (counted z) z → IsUncounted v h (done_of c (here_of v h)) m m'
+uncounted_as v h c d m m' z place free same is =
+    subst (λ e. IsUncounted v h e m m') (sym same) (uncounted v h d m m' z place (subst (IsFit (here_of v h)) same (fit_at v m h c place free)) is)

@@ -1,5 +1,5 @@
 -- What ties the parts after an event, for every kind: what is to be shown of each part.
-use Rattle.std.proofs.Common.{◌≡◌, ℕ, List, [], ◌∷◌, length, refl, sym, ap, ◌∙◌, Bool, true, false, cond, eqb, Option, Some, None, slice_get, set, suc, is_some, ◌≢◌, eq-eqb, inl, inr}
+use Rattle.std.proofs.Common.{◌≡◌, ℕ, ◌+◌, ◌<◌, ◌^◌, arith, List, [], ◌∷◌, length, refl, sym, ap, ◌∙◌, Bool, true, false, cond, eqb, Option, Some, None, slice_get, set, suc, is_some, ◌≢◌, eq-eqb, inl, inr}
 use Rattle.std.specs.Option.{option_map, option_or}
 use Rattle.std.proofs.lemmas.Bool.{cases_eq, ne_eqb}
 use Rattle.std.proofs.lemmas.List.{length-set}
@@ -16,12 +16,12 @@ use Rattle.block_model.specs.Here.{Done}
 use Rattle.block_model.specs.History.{file_among}
 use Rattle.block_model.specs.Deciding.{final}
 use Rattle.block_model.specs.Plain.{Plain, apply, here_of, plain_seen}
-use Rattle.block_model.proofs.Laws.{IsFit}
+use Rattle.block_model.proofs.Laws.{IsFit, events_few}
 use Rattle.process.specs.Losing.{lost_by_all, lost_unless}
-use Rattle.process.specs.Harts.{credit_of}
-use Rattle.process.specs.Tied.{IsPlace, IsAfter, IsReadable, IsTied}
+use Rattle.process.specs.Harts.{counted, credit_of, hart_at}
+use Rattle.process.specs.Tied.{IsAfter, IsCounted, IsPlace, IsReadable, IsTied, IsUncounted}
 use Rattle.process.specs.declared.parts.Parts.{Parts}
-use Rattle.process.proofs.HartTies.{KeepsIds, beside, beside_unless, credits_kept, own_after, harts_tied}
+use Rattle.process.proofs.HartStates.{KeepsIds, beside, beside_unless, credits_kept, get_set_other, get_set_same, harts_tied, of_each, own_after}
 
 -- lists with the same places filled are equally long
 pub same_length : (xs ys : List HartState) → ((k : ℕ) → is_some (slice_get ys k) ≡ is_some (slice_get xs k)) → length ys ≡ length xs
@@ -76,10 +76,10 @@ quietly h d xs ys quiet lost k = lost k ∙ quiet_one k h d (slice_get xs k) qui
 pub none_beside : (h : ℕ) (d : Done) (xs : List HartState) → IsQuiet d → d.entered ≡ [] → AreBeside h d xs xs
 none_beside h d xs quiet none = quietly h d xs xs quiet (none_lost h d xs none)
 
--- the parts changed as an event does: its hart is y
-pub record IsChange (v : Seen) (h : ℕ) (d : Done) (m m' : Parts) (y : HartState) : Type 0 where
+-- the parts changed as an event does: its hart is to be y, and is z so far
+pub record IsMade (v : Seen) (h : ℕ) (d : Done) (m m' : Parts) (y z : HartState) : Type 0 where
   pub own : y ≡ own_after v.setting (plain_seen v) h d (credit_of m.harts.items h)
-  pub harts : AreBeside h d (set m.harts.items h y) m'.harts.items
+  pub harts : AreBeside h d (set m.harts.items h z) m'.harts.items
   pub pages : HoldsPages d.kernel.pages v.setting.program.break_at (λ a. written d.entered a ((plain_seen v).byte a)) m'.pages
   pub readable : IsReadable m'.pages
   pub tables : HoldsTables m'.kernel d.kernel
@@ -87,6 +87,9 @@ pub record IsChange (v : Seen) (h : ℕ) (d : Done) (m m' : Parts) (y : HartStat
   pub table : IsTable m'.kernel.threads
   pub saved : AreSaved (λ t. file_among d.files t ((plain_seen v).file t)) m'.kernel.threads
   pub ended : m'.ended ≡ final d.ended d.kernel
+
+abbrev pub IsChange : Seen → ℕ → Done → Parts → Parts → HartState → Type 0
+IsChange v h d m m' y = IsMade v h d m m' y y
 
 -- no event has ended the process where the run goes on
 pub open_process : (process : Option End) (rest : Option End) → option_or process rest ≡ None → process ≡ None
@@ -117,3 +120,44 @@ changed v h d m m' y place fit is = record { tied = tied; credits = credits_kept
       saved = is.saved;
       ended = is.ended ∙ ap (λ o. final o d.kernel) (sym (or_none d.ended p.ended (open_process p.ended (if_stuck (is_stuck p.kernel.threads)) place.goes)));
     }
+
+-- all of an event but its count
+pub uncounted : (v : Seen) (h : ℕ) (d : Done) (m m' : Parts) (z : HartState) → IsPlace v m h → IsFit (here_of v h) d → IsMade v h d m m' (counted z) z → IsUncounted v h d m m'
+uncounted v h d m m' z place fit is = record {
+  room = (z, there, few);
+  after = λ m'' then. changed v h d m m'' (counted z) place fit (record {
+    own = is.own;
+    harts = λ k. of_each (λ j. slice_get m''.harts.items j ≡ option_map (beside_unless (eqb j h) j h d) (slice_get (set m.harts.items h (counted z)) j)) h k (own m'' then) (other m'' then k);
+    pages = rw then.pages is.pages;
+    readable = rw then.pages is.readable;
+    tables = rw then.kernel is.tables;
+    ids = is.ids;
+    table = rw then.kernel is.table;
+    saved = rw then.kernel is.saved;
+    ended = then.ended ∙ is.ended;
+  });
+}
+  where
+    x : HartState
+    x = hart_at v.setting (plain_seen v) h (credit_of m.harts.items h)
+
+    there : slice_get m'.harts.items h ≡ Some z
+    there = is.harts h ∙ rw (eq-eqb h h refl, get_set_same m.harts.items h x z (place.tied.harts h place.lt)) refl
+
+    few : z.events + 1 < 2 ^ 32
+    few =
+        let made : z.events + 1 ≡ (plain_seen v).events h + 1 = ap (λ (y : HartState). y.events) is.own in
+        let most = events_few v h place.run in
+        let room = place.room in
+        let steps = place.limits.most_steps in
+        omega (arith, made, most, room, steps)
+
+    own : (m'' : Parts) → IsCounted h m' m'' → slice_get m''.harts.items h ≡ option_map (beside_unless (eqb h h) h h d) (slice_get (set m.harts.items h (counted z)) h)
+    own m'' then = then.harts h ∙ rw (eq-eqb h h refl, there, get_set_same m.harts.items h x (counted z) (place.tied.harts h place.lt)) refl
+
+    other : (m'' : Parts) → IsCounted h m' m'' → (k : ℕ) → k ≢ h → slice_get m''.harts.items k ≡ option_map (beside_unless (eqb k h) k h d) (slice_get (set m.harts.items h (counted z)) k)
+    other m'' then k ne =
+        then.harts k
+        ∙ ap (λ b. cond b (option_map counted (slice_get m'.harts.items k)) (slice_get m'.harts.items k)) (ne_eqb k h ne)
+        ∙ is.harts k
+        ∙ ap (option_map (beside_unless (eqb k h) k h d)) (get_set_other m.harts.items h k z ne ∙ sym (get_set_other m.harts.items h k (counted z) ne))

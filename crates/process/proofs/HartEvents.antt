@@ -7,7 +7,7 @@ use Rattle.mach_types.specs.declared.threads.Saved.{Saved}
 use Rattle.mach_types.specs.declared.user_memory.Store.{Store}
 use Rattle.mach_types.specs.Kernel.Threads.{is_ready}
 use Rattle.hart_state.specs.declared.hart.HartState.{HartState}
-use Rattle.hart_state.specs.State.{hart_after}
+use Rattle.hart_state.specs.State.{entered, hart_after}
 use Rattle.rv_inst.specs.Execution.{Outcome}
 use Rattle.block_model.specs.Setting.{Setting}
 use Rattle.block_model.specs.Here.{runs}
@@ -23,10 +23,10 @@ use Rattle.block_model.specs.History.{file_among}
 use Rattle.block_model.specs.Ids.{id_of, with_id}
 use Rattle.block_model.specs.Sequences.{files_interrupted}
 use Rattle.block_model.proofs.Laws.{left_idle, ran_runs}
-use Rattle.process.specs.Beginning.{begun_with, begun_without}
-use Rattle.process.specs.Harts.{file_on, hart_at, id_on}
-use Rattle.process.proofs.Executed.{fault_killing, fault_pending}
-use Rattle.process.proofs.HartTies.{own_after}
+use Rattle.process.specs.Beginning.{begun_without}
+use Rattle.process.specs.Harts.{counted, file_on, hart_at, id_on}
+use Rattle.process.proofs.ExecEvent.{fault_killing, fault_pending}
+use Rattle.process.proofs.HartStates.{own_after}
 
 pub zero_more : (n : ℕ) → n + 0 ≡ n
 zero_more n = omega arith
@@ -67,12 +67,12 @@ preempt_own credit s p h t x y at tables runs is =
 -- run, where the thread begins to run, and where the process is killed
 pub run_own : (credit : ℕ) (s : Setting) (p : Plain) (h t : ℕ) (o : Comes) (saved : Saved) (id : ℕ) (x y : HartState) → x ≡ hart_at s p h credit → IsTables s.limits.harts p.kernel.threads p.kernel.scheduling →
     is_ready t p.kernel.threads ≡ true → runs (here_in_plain s p h) ≡ None → h < s.limits.harts → saved ≡ file_among (files_interrupted (here_in_plain s p h) t o) t (p.file t) → id ≡ id_of t (with_id t p.kernel.ids) →
-    y ≡ begun_with (thread t) saved id x → y ≡ own_after s p h (done_running (here_in_plain s p h) t o) credit
+    y ≡ counted (entered (thread t) saved id x) → y ≡ own_after s p h (done_running (here_in_plain s p h) t o) credit
 run_own credit s p h t o saved id x y at tables ready idle lt kept its is =
     is ∙ rw (at, append-nil, ran_runs s.limits.harts h t p.kernel.threads p.kernel.scheduling tables ready idle lt, kept, its) refl
 
 pub killed_own : (credit : ℕ) (s : Setting) (p : Plain) (h t : ℕ) (o : Comes) (x y : HartState) → x ≡ hart_at s p h credit → runs (here_in_plain s p h) ≡ None →
-    y ≡ begun_without x → y ≡ own_after s p h (done_killed (here_in_plain s p h) t o) credit
+    y ≡ counted (begun_without x) → y ≡ own_after s p h (done_killed (here_in_plain s p h) t o) credit
 killed_own credit s p h t o x y at idle is = is ∙ rw (at, append-nil, idle) refl
 
 -- a fault, whether its thread has a handler or not

@@ -3,10 +3,10 @@ pub use Rattle.process.proofs.Codes.{code_enough}
 pub use Rattle.process.proofs.Entries.{changed_as, entry_exec}
 pub use Rattle.process.proofs.Events.{none_beside, same_length}
 pub use Rattle.process.proofs.HartEvents.{plain_own}
-pub use Rattle.process.proofs.HartTies.{get_set_other, get_set_same}
-pub use Rattle.process.proofs.KernelTies.{saved_plain}
-pub use Rattle.process.proofs.MemoryTies.{bytes_held, writable_held}
-pub use Rattle.process.proofs.Performing.{performing, plain_next}
+pub use Rattle.process.proofs.HartStates.{get_set_other, get_set_same}
+pub use Rattle.process.proofs.SavedFiles.{saved_plain}
+pub use Rattle.process.proofs.Memory.{bytes_held, writable_held}
+pub use Rattle.process.proofs.PlainInstructions.{performing, plain_next}
 pub use Rattle.process.proofs.Places.{in_list, runs_there, thread_is}
-pub use Rattle.process.proofs.Planning.{next_at}
-pub use Rattle.process.proofs.Signalled.{has_signals, held_as_live}
+pub use Rattle.process.proofs.NextInstruction.{next_at}
+pub use Rattle.process.proofs.SignalsOfHarts.{has_signals, held_as_live}

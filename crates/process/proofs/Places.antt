@@ -1,7 +1,6 @@
 -- What holds at a place: the state of its hart, counts that fit their words, and what an event that isn't a call leaves as it is.
-use Rattle.std.proofs.Common.{◌≡◌, ℕ, ◌+◌, ◌<◌, ◌^◌, length, refl, sym, ap, ◌∙◌, arith, Bool, true, false, cond, Option, Some, None, get_or}
+use Rattle.std.proofs.Common.{◌≡◌, ℕ, ◌+◌, ◌<◌, ◌^◌, length, refl, sym, ap, ◌∙◌, arith, Bool, true, false, cond, eqb, eq-eqb, List, Option, Some, None, get_or, slice_get}
 use Rattle.std.specs.Option.{option_map, option_or}
-use Rattle.std.proofs.lemmas.Option.{slice_get-get_or}
 use Rattle.mach_types.specs.declared.events.Choice.{Choice}
 use Rattle.mach_types.specs.declared.limits.End.{End}
 use Rattle.mach_types.specs.declared.limits.End.TheVariants as over
@@ -9,6 +8,7 @@ use Rattle.mach_types.specs.Kernel.Threads.{is_stuck, state_of}
 use Rattle.mach_types.specs.declared.events.Hart.{Hart}
 use Rattle.mach_types.specs.declared.events.Tid.{Tid}
 use Rattle.mach_types.specs.declared.threads.ThreadState.TheVariants.{Running}
+use Rattle.mach_types.specs.declared.user_memory.Write.{Write}
 use Rattle.block_model.specs.Here.{is_writable, memory, runs}
 use Rattle.block_model.specs.Record.{Kernel}
 use Rattle.hart_state.specs.declared.hart.HartState.{HartState}
@@ -19,11 +19,14 @@ use Rattle.block_model.specs.Events.{refusal_of, done_of}
 use Rattle.block_model.specs.Plain.{here_of, plain_seen}
 use Rattle.block_model.specs.Sights.{thread}
 use Rattle.block_model.specs.Tables.{IsTables}
-use Rattle.block_model.proofs.Laws.{IsFit, events_few, place_fit, place_good, ran_few, running_is}
+use Rattle.block_model.proofs.Laws.{IsFit, place_fit, place_good, ran_few, running_is}
+use Rattle.process.specs.Beginning.{HasHart}
 use Rattle.process.specs.Harts.{credit_of, hart_at}
+use Rattle.process.specs.Losing.{lost_unless}
 use Rattle.process.specs.Tied.{IsPlace}
 use Rattle.process.specs.declared.parts.Parts.{Parts}
-use Rattle.process.proofs.MemoryTies.{bytes_held, writable_held}
+use Rattle.process.proofs.HartStates.{hart_tied}
+use Rattle.process.proofs.Memory.{bytes_held, writable_held}
 
 -- the hart of a place is in the list
 pub in_list : (v : Seen) (m : Parts) (h : ℕ) → IsPlace v m h → h < length m.harts.items
@@ -31,21 +34,19 @@ in_list v m h place = let lt = place.lt in let all = place.tied.all_harts in ome
 
 -- and it is the plain machine's
 pub hart_is : (v : Seen) (m : Parts) (h : ℕ) (x : HartState) → IsPlace v m h → x ≡ get_or m.harts.items h x → x ≡ hart_at v.setting (plain_seen v) h (credit_of m.harts.items h)
-hart_is v m h x place value = got x (hart_at v.setting (plain_seen v) h (credit_of m.harts.items h)) (sym (slice_get-get_or m.harts.items h x (in_list v m h place) ∙ ap Some (sym value)) ∙ place.tied.harts h place.lt)
-  where
-    got : (a b : HartState) → Some a ≡ Some b → a ≡ b
-    got a b same = cc
+hart_is v m h x place value = hart_tied v.setting (plain_seen v) m h x place.tied place.lt value
 
--- a further event, and a further instruction, can be counted
-pub events_fit : (v : Seen) (m : Parts) (h : ℕ) (x : HartState) → IsPlace v m h → x ≡ get_or m.harts.items h x → x.events + 1 < 2 ^ 32
-events_fit v m h x place value =
-    let few = events_few v h place.run in let same : x.events ≡ (plain_seen v).events h = ap (λ (y : HartState). y.events) (hart_is v m h x place value) in
-    let room = place.room in let steps = place.limits.most_steps in omega arith
-
+-- a further instruction can be counted
 pub ran_fits : (v : Seen) (m : Parts) (h : ℕ) (x : HartState) → IsPlace v m h → x ≡ get_or m.harts.items h x → x.ran + 1 < 2 ^ 32
 ran_fits v m h x place value =
     let few = ran_few v h place.run in let same : x.ran ≡ (plain_seen v).ran h = ap (λ (y : HartState). y.ran) (hart_is v m h x place value) in
     let room = place.room in let steps = place.limits.most_steps in omega arith
+
+-- its hart is one of the list also once the others lost what was written
+pub still_there : (v : Seen) (m : Parts) (h : ℕ) (ws : List Write) (ys : List HartState) → IsPlace v m h
+    → ((k : ℕ) → slice_get ys k ≡ option_map (lost_unless (eqb k h) ws) (slice_get m.harts.items k)) → HasHart ys h
+still_there v m h ws ys place lost =
+    (hart_at v.setting (plain_seen v) h (credit_of m.harts.items h), lost h ∙ rw (eq-eqb h h refl, place.tied.harts h place.lt) refl)
 
 -- the tables of a place
 pub tables_at : (v : Seen) (m : Parts) (h : ℕ) → IsPlace v m h → IsTables v.setting.limits.harts (plain_seen v).kernel.threads (plain_seen v).kernel.scheduling

@@ -1,5 +1,5 @@
 -- The event of a signal: who receives it, and the parts after it.
-use Rattle.std.proofs.Common.{◌≡◌, ◌≢◌, ℕ, List, [], ◌∷◌, append-nil, refl, sym, ap, ◌∙◌, subst, arith, Bool, true, false, cond, eqb, eq-eqb, not, is_some, length, Option, Some, None, slice_get, ◌⊎◌, inl, inr}
+use Rattle.std.proofs.Common.{◌≡◌, ◌≢◌, ℕ, List, [], ◌∷◌, append-nil, refl, sym, ap, ◌∙◌, subst, Bool, cond, eqb, not, is_some, length, Option, Some, None, slice_get, ◌⊎◌, inl, inr}
 use Rattle.std.specs.Option.{option_and_then, option_map}
 use Rattle.std.proofs.lemmas.Bool.{cases_eq, ne_eqb}
 use Rattle.std.proofs.lemmas.Option.{same_Some}
@@ -32,21 +32,20 @@ use Rattle.block_model.specs.Plain.{Plain, here_in_plain, here_of, plain_seen}
 use Rattle.block_model.specs.Sequences.{interruption_here}
 use Rattle.block_model.specs.Setting.{Seen, Setting}
 use Rattle.block_model.specs.Sights.{thread}
-use Rattle.block_model.proofs.Laws.{events_few}
-use Rattle.process.specs.Beginning.{HasEvent, IsChanged}
+use Rattle.process.specs.Beginning.{IsChanged}
 use Rattle.process.specs.Delivering.{IsDelivered, IsInterrupted, done_here, ended_unless, gone_on_with, next_on}
-use Rattle.process.specs.Harts.{credit_of, file_on, hart_at, hart_in}
+use Rattle.process.specs.Harts.{counted, credit_of, file_on, hart_at, hart_in}
 use Rattle.process.specs.Losing.{lost_unless}
 use Rattle.process.specs.Stored.{IsWritten}
-use Rattle.process.specs.Tied.{IsAfter, IsPlace}
+use Rattle.process.specs.Tied.{IsPlace, IsUncounted}
 use Rattle.process.specs.declared.parts.Parts.{Parts}
-use Rattle.process.proofs.Entries.{changed_as}
+use Rattle.process.proofs.Entries.{uncounted_as}
 use Rattle.process.proofs.HartEvents.{zero_more}
-use Rattle.process.proofs.HartTies.{own_after}
-use Rattle.process.proofs.Interrupting.{begun_beside}
-use Rattle.process.proofs.MemoryTies.{pages_written, readable_written}
+use Rattle.process.proofs.HartStates.{own_after}
+use Rattle.process.proofs.Interruptions.{begun_beside}
+use Rattle.process.proofs.Memory.{pages_written, readable_written}
 use Rattle.process.proofs.Places.{bytes_at, goes_on, runs_there, was_not_stuck, writable_at}
-use Rattle.process.proofs.RunBegun.{file_other}
+use Rattle.process.proofs.RunEvent.{file_other}
 
 -- WHO RECEIVES IT
 
@@ -100,32 +99,6 @@ refusal_as here x n k credit idle o own is next = by_thread (runs here) refl (is
         ∙ ap (λ a. cond (is_some a) (Some InBarrier) (refusal_delivery here (next_for t here.kernel.signals))) (sym (ap (λ (y : HartState). y.waits) own))
         ∙ ap (cond (is_some x.waits) (Some InBarrier)) (by_signal t (next_for t here.kernel.signals) same))
 
-pub refusal_idle : (here : Here) (x : HartState) (n k credit : ℕ) (idle : Bool) → x ≡ hart_in here n k credit → idle ≡ not (is_some x.running) → idle ≡ true
-    → refusal_of asked.Signal here ≡ Some Idle
-refusal_idle here x n k credit idle own is on = go (runs here) (sym on ∙ is ∙ ap (λ (y : HartState). not (is_some y.running)) own)
-  where
-    go : (r : Option ℕ) → true ≡ not (is_some (option_map thread r)) → refusal_signal_by here r ≡ Some Idle
-    go None e = refl
-    go (Some t) e = cc
-
-abbrev refusal_in : Here → Option ℕ → Option ℕ → Option Why
-refusal_in here None a = Some Idle
-refusal_in here (Some t) a = unless_in_barrier a (refusal_delivery here (next_for t here.kernel.signals))
-
-pub refusal_in_barrier : (here : Here) (x : HartState) (n k credit : ℕ) (idle : Bool) → x ≡ hart_in here n k credit → idle ≡ not (is_some x.running) → idle ≡ false
-    → is_some x.waits ≡ true → refusal_of asked.Signal here ≡ Some InBarrier
-refusal_in_barrier here x n k credit idle own is off waits =
-    split (runs here) ∙ by_thread (runs here) (sym off ∙ is ∙ ap (λ (y : HartState). not (is_some y.running)) own) here.awaits (sym (ap (λ (y : HartState). is_some y.waits) own) ∙ waits)
-  where
-    split : (r : Option ℕ) → refusal_signal_by here r ≡ refusal_in here r here.awaits
-    split None = refl
-    split (Some t) = refl
-
-    by_thread : (r : Option ℕ) → false ≡ not (is_some (option_map thread r)) → (a : Option ℕ) → is_some a ≡ true → refusal_in here r a ≡ Some InBarrier
-    by_thread None e a waits = cc
-    by_thread (Some t) e None waits = cc
-    by_thread (Some t) e (Some left) waits = refl
-
 pub no_store : (ws : List Store) → length ws ≡ 0 → unless_waiting ws ≡ None
 no_store [] none = refl
 no_store (w ∷ ws) none = cc
@@ -137,7 +110,7 @@ some_store (w ∷ ws) some = refl
 -- THE OWN HART
 
 delivered_own : (credit : ℕ) (s : Setting) (p : Plain) (h t signal : ℕ) (o : Outcome) (killer : Option ℕ) (saved : Saved) (x y : HartState) → x ≡ hart_at s p h credit → runs (here_in_plain s p h) ≡ Some t
-    → saved ≡ file_among (handled_unless_killed (here_in_plain s p h) t signal o killer).files t (p.file t) → y ≡ gone_on_with saved x
+    → saved ≡ file_among (handled_unless_killed (here_in_plain s p h) t signal o killer).files t (p.file t) → y ≡ counted (gone_on_with saved x)
     → y ≡ own_after s p h (handled_unless_killed (here_in_plain s p h) t signal o killer) credit
 delivered_own credit s p h t signal o None saved x y at runs kept is = is ∙ rw (at, append-nil, zero_more (p.ran h), runs, kept) refl
 delivered_own credit s p h t signal o (Some killer) saved x y at runs kept is = is ∙ rw (at, append-nil, zero_more (p.ran h), runs, kept) refl
@@ -198,14 +171,6 @@ module _ (v : Seen) (m : Parts) (h : Hart) (place : IsPlace v m h.0) (free : ref
     file = ap (λ (y : HartState). record { file = y.file; pc = y.pc }) own ∙ ap (file_on here) is.at ∙ ap (λ n. here.file n) (sym named);
   }
 
-  -- a further event of its hart can be counted
-  pub counted : (t s : ℕ) → t ≡ is.thread → s ≡ is.signal → (m1 : Parts) (killer : Option ℕ) (x : Saved) → IsDelivered here t s killer x m m1 → HasEvent m1.harts.items h.0
-  counted t s named same m1 killer x made =
-      let few = events_few v h.0 place.run in
-      let room = place.room in
-      let steps = place.limits.most_steps in
-      (own_hart, made.harts h.0 ∙ rw (eq-eqb h.0 h.0 refl, place.tied.harts h.0 place.lt) refl, omega (arith, few, room, steps))
-
   same_done : (killer : Option ℕ) → killer ≡ kills here is.thread is.signal comes → done_here here is.thread is.signal ≡ done_with killer
   same_done killer dies = ap (handled_unless_killed here is.thread is.signal comes) (sym dies)
 
@@ -226,13 +191,13 @@ module _ (v : Seen) (m : Parts) (h : Hart) (place : IsPlace v m h.0) (free : ref
       (λ u other. file_apart here is.thread is.signal u comes killer (p.file u) other) place.tied.saved in
       rw (over.same_kernel, over.others) before
 
-  event_by : (killer : Option ℕ) (x : Saved) (m1 m2 : Parts) → IsOver here h.0 is.thread is.signal killer x m m1 m2 → IsAfter v h.0 (done_of asked.Signal here) m m2
+  event_by : (killer : Option ℕ) (x : Saved) (m1 m2 : Parts) → IsOver here h.0 is.thread is.signal killer x m m1 m2 → IsUncounted v h.0 (done_of asked.Signal here) m m2
   event_by None x m1 m2 over =
       let p = plain_seen v in
       let d = done_with None in
       let same = same_done None over.made.dies in
-      changed_as v h.0 asked.Signal d m m2 (gone_on_with x own_hart) place free (is.done ∙ same) (record {
-        own = delivered_own (credit_of m.harts.items h.0) v.setting p h.0 is.thread is.signal comes None x own_hart (gone_on_with x own_hart) refl is.at (own_file None x m1 m2 over) refl;
+      uncounted_as v h.0 asked.Signal d m m2 (gone_on_with x own_hart) place free (is.done ∙ same) (record {
+        own = delivered_own (credit_of m.harts.items h.0) v.setting p h.0 is.thread is.signal comes None x own_hart (counted (gone_on_with x own_hart)) refl is.at (own_file None x m1 m2 over) refl;
         harts = begun_beside h.0 d m.harts.items m1.harts.items m2.harts.items own_hart (gone_on_with x) (record { none_begun = refl; none_taken = refl }) (place.tied.harts h.0 place.lt)
             (λ k. over.made.harts k ∙ ap (λ (e : Done). option_map (lost_unless (eqb k h.0) e.entered) (slice_get m.harts.items k)) same) over.changed;
         pages = pages_written p.kernel.pages v.setting.program.break_at p.byte d.entered m.pages m2.pages place.tied.pages (wrote None x m1 m2 over);
@@ -248,8 +213,8 @@ module _ (v : Seen) (m : Parts) (h : Hart) (place : IsPlace v m h.0) (free : ref
       let p = plain_seen v in
       let d = done_with (Some killer) in
       let same = same_done (Some killer) over.made.dies in
-      changed_as v h.0 asked.Signal d m m2 (gone_on_with x own_hart) place free (is.done ∙ same) (record {
-        own = delivered_own (credit_of m.harts.items h.0) v.setting p h.0 is.thread is.signal comes (Some killer) x own_hart (gone_on_with x own_hart) refl is.at (own_file (Some killer) x m1 m2 over) refl;
+      uncounted_as v h.0 asked.Signal d m m2 (gone_on_with x own_hart) place free (is.done ∙ same) (record {
+        own = delivered_own (credit_of m.harts.items h.0) v.setting p h.0 is.thread is.signal comes (Some killer) x own_hart (counted (gone_on_with x own_hart)) refl is.at (own_file (Some killer) x m1 m2 over) refl;
         harts = begun_beside h.0 d m.harts.items m1.harts.items m2.harts.items own_hart (gone_on_with x) (record { none_begun = refl; none_taken = refl }) (place.tied.harts h.0 place.lt)
             (λ k. over.made.harts k ∙ ap (λ (e : Done). option_map (lost_unless (eqb k h.0) e.entered) (slice_get m.harts.items k)) same) over.changed;
         pages = pages_written p.kernel.pages v.setting.program.break_at p.byte d.entered m.pages m2.pages place.tied.pages (wrote (Some killer) x m1 m2 over);
@@ -263,6 +228,6 @@ module _ (v : Seen) (m : Parts) (h : Hart) (place : IsPlace v m h.0) (free : ref
       })
 
   pub delivered_event : (t s : ℕ) → t ≡ is.thread → s ≡ is.signal → (killer : Option ℕ) (x : Saved) (m1 m2 : Parts) → IsOver here h.0 t s killer x m m1 m2
-      → IsAfter v h.0 (done_of asked.Signal here) m m2
+      → IsUncounted v h.0 (done_of asked.Signal here) m m2
   delivered_event t s named same killer x m1 m2 over =
       event_by killer x m1 m2 (subst (λ n. IsOver here h.0 n is.signal killer x m m1 m2) named (subst (λ n. IsOver here h.0 t n killer x m m1 m2) same over))

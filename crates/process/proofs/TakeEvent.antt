@@ -1,7 +1,7 @@
 -- The event take: what the interruption of the hart's thread comes to, if it is to restart, and the parts after it.
-use Rattle.std.proofs.Common.{◌≡◌, ◌≢◌, ℕ, ◌+◌, List, [], append-nil, refl, sym, ap, ◌∙◌, subst, arith, Bool, true, false, cond, eqb, eq-eqb, Option, Some, None, slice_get, set, inl, inr}
+use Rattle.std.proofs.Common.{◌≡◌, ◌≢◌, ℕ, ◌+◌, List, [], append-nil, refl, sym, ap, ◌∙◌, subst, Bool, true, false, cond, eqb, eq-eqb, Option, Some, None, slice_get, set}
 use Rattle.std.specs.Option.{option_and_then, option_map, option_or}
-use Rattle.std.proofs.lemmas.Bool.{cases_eq, ne_eqb}
+use Rattle.std.proofs.lemmas.Bool.{ne_eqb}
 use Rattle.mach_types.specs.Kernel.Areas.{interruption, pc_after, writes_of}
 use Rattle.mach_types.specs.declared.events.Choice.TheVariants as asked
 use Rattle.mach_types.specs.declared.events.Hart.{Hart}
@@ -22,22 +22,20 @@ use Rattle.block_model.specs.History.{file_among}
 use Rattle.block_model.specs.Plain.{Plain, here_in_plain, here_of, plain_seen}
 use Rattle.block_model.specs.Sequences.{area_here, files_interrupted, interruption_here}
 use Rattle.block_model.specs.Setting.{Seen, Setting}
-use Rattle.block_model.proofs.Laws.{events_few}
 use Rattle.process.specs.Barriers.{IsRestarted, ended_by, noticed, restart_here, taken_or_noticed, taken_with}
-use Rattle.process.specs.Beginning.{HasEvent}
-use Rattle.process.specs.Harts.{credit_of, file_on, hart_at, hart_in}
+use Rattle.process.specs.Harts.{counted, credit_of, file_on, hart_at, hart_in}
 use Rattle.process.specs.Losing.{lost_unless}
 use Rattle.process.specs.Stored.{IsWritten}
-use Rattle.process.specs.Tied.{IsAfter, IsPlace}
+use Rattle.process.specs.Tied.{IsPlace, IsUncounted}
 use Rattle.process.specs.declared.parts.Parts.{Parts}
-use Rattle.process.proofs.Entries.{changed_as}
+use Rattle.process.proofs.Entries.{uncounted_as}
 use Rattle.process.proofs.Events.{AreBeside}
 use Rattle.process.proofs.HartEvents.{zero_more}
-use Rattle.process.proofs.HartTies.{beside, beside_unless, get_set_other, get_set_same, own_after}
-use Rattle.process.proofs.Interrupting.{file_is, lost_nothing, none_written}
-use Rattle.process.proofs.MemoryTies.{pages_written, readable_written}
+use Rattle.process.proofs.HartStates.{beside, beside_unless, get_set_other, get_set_same, of_each, own_after}
+use Rattle.process.proofs.Interruptions.{file_is, lost_nothing, none_written}
+use Rattle.process.proofs.Memory.{pages_written, readable_written}
 use Rattle.process.proofs.Places.{goes_on, runs_there, was_not_stuck}
-use Rattle.process.proofs.RunBegun.{file_other}
+use Rattle.process.proofs.RunEvent.{file_other}
 use Rattle.process.proofs.SignalEvent.{kept_running}
 
 -- WHY A HART CAN'T
@@ -121,15 +119,14 @@ take_beside : (here : Here) (h : ℕ) (files : List (ℕ × Saved)) (ws : List W
     → ((k : ℕ) → slice_get ys k ≡ option_map (lost_unless (eqb k h) ws) (slice_get xs k))
     → ((k : ℕ) → slice_get zs k ≡ option_map (taken_or_noticed (eqb k h) h came) (slice_get ys k))
     → AreBeside h (done_so here files ws comes ended) (set xs h (taken_with came x)) zs
-take_beside here h files ws comes came ended xs ys zs x at lost took k = took k ∙ ap (option_map (taken_or_noticed (eqb k h) h came)) (lost k) ∙ (elim (cases_eq k h) [
-  | inl same ↦ subst (λ j. option_map (taken_or_noticed (eqb j h) h came) (option_map (lost_unless (eqb j h) ws) (slice_get xs j))
-      ≡ option_map (beside_unless (eqb j h) j h (done_so here files ws comes ended)) (slice_get (set xs h (taken_with came x)) j)) (sym same) own
-  | inr ne ↦
-      ap (λ b. option_map (taken_or_noticed b h came) (option_map (lost_unless b ws) (slice_get xs k))) (ne_eqb k h ne)
-      ∙ other ne (slice_get xs k)
-      ∙ ap (option_map (beside k h (done_so here files ws comes ended))) (sym (get_set_other xs h k (taken_with came x) ne))
-      ∙ ap (λ b. option_map (beside_unless b k h (done_so here files ws comes ended)) (slice_get (set xs h (taken_with came x)) k)) (sym (ne_eqb k h ne))
-])
+take_beside here h files ws comes came ended xs ys zs x at lost took k = took k ∙ ap (option_map (taken_or_noticed (eqb k h) h came)) (lost k) ∙ of_each
+    (λ j. option_map (taken_or_noticed (eqb j h) h came) (option_map (lost_unless (eqb j h) ws) (slice_get xs j))
+    ≡ option_map (beside_unless (eqb j h) j h (done_so here files ws comes ended)) (slice_get (set xs h (taken_with came x)) j)) h k own
+    (λ ne.
+    ap (λ b. option_map (taken_or_noticed b h came) (option_map (lost_unless b ws) (slice_get xs k))) (ne_eqb k h ne)
+    ∙ other ne (slice_get xs k)
+    ∙ ap (option_map (beside k h (done_so here files ws comes ended))) (sym (get_set_other xs h k (taken_with came x) ne))
+    ∙ ap (λ b. option_map (beside_unless b k h (done_so here files ws comes ended)) (slice_get (set xs h (taken_with came x)) k)) (sym (ne_eqb k h ne)))
   where
     own : option_map (taken_or_noticed (eqb h h) h came) (option_map (lost_unless (eqb h h) ws) (slice_get xs h))
         ≡ option_map (beside_unless (eqb h h) h h (done_so here files ws comes ended)) (slice_get (set xs h (taken_with came x)) h)
@@ -141,7 +138,7 @@ take_beside here h files ws comes came ended xs ys zs x at lost took k = took k 
 
 -- the own hart: its thread, if one runs, goes on at this pc
 took_own : (credit : ℕ) (s : Setting) (p : Plain) (h : ℕ) (came : Option Outcome) (ended : Option End) (x : HartState) → x ≡ hart_at s p h credit
-    → taken_with None x ≡ own_after s p h (done_so (here_in_plain s p h) [] [] came ended) credit
+    → counted (taken_with None x) ≡ own_after s p h (done_so (here_in_plain s p h) [] [] came ended) credit
 took_own credit s p h came ended x at = rw (at, append-nil, zero_more (p.ran h)) (go (runs (here_in_plain s p h)))
   where
     state : Option ℕ → HartState
@@ -158,7 +155,7 @@ took_own credit s p h came ended x at = rw (at, append-nil, zero_more (p.ran h))
     go r = refl
 
 interrupted_own : (credit : ℕ) (s : Setting) (p : Plain) (h t : ℕ) (o : Outcome) (ended : Option End) (ws : List Write) (x : HartState) → x ≡ hart_at s p h credit → runs (here_in_plain s p h) ≡ Some t
-    → taken_with (Some o) x ≡ own_after s p h (done_so (here_in_plain s p h) (files_interrupted (here_in_plain s p h) t o) ws (Some o) ended) credit
+    → counted (taken_with (Some o) x) ≡ own_after s p h (done_so (here_in_plain s p h) (files_interrupted (here_in_plain s p h) t o) ws (Some o) ended) credit
 interrupted_own credit s p h t o ended ws x at runs =
     let file : record (p.file t) { pc = pc_after (p.file t).pc o } ≡ file_among (files_interrupted (here_in_plain s p h) t o) t (p.file t) =
     file_is (here_in_plain s p h) t o (p.file t) refl in
@@ -181,24 +178,16 @@ module _ (v : Seen) (m : Parts) (h : Hart) (place : IsPlace v m h.0) (free : ref
   abbrev own_hart : HartState
   own_hart = hart_at v.setting (plain_seen v) h.0 (credit_of m.harts.items h.0)
 
-  -- a further event of its hart can be counted
-  pub counted : (m1 : Parts) (came : Option Outcome) → IsRestarted here came m m1 → HasEvent m1.harts.items h.0
-  counted m1 came made =
-      let few = events_few v h.0 place.run in
-      let room = place.room in
-      let steps = place.limits.most_steps in
-      (own_hart, made.harts h.0 ∙ rw (eq-eqb h.0 h.0 refl, place.tied.harts h.0 place.lt) refl, omega (arith, few, room, steps))
-
   event_so : (files : List (ℕ × Saved)) (ws : List Write) (comes came : Option Outcome) (e : Option End) (m1 m2 : Parts) → done_of asked.Take here ≡ done_so here files ws comes e → IsTaken here h.0 came m m1 m2
-      → e ≡ option_and_then killed_by came → taken_with came own_hart ≡ own_after v.setting (plain_seen v) h.0 (done_so here files ws comes e) (credit_of m.harts.items h.0)
-      → AreSaved (λ u. file_among files u ((plain_seen v).file u)) m.kernel.threads → IsAfter v h.0 (done_of asked.Take here) m m2
+      → e ≡ option_and_then killed_by came → counted (taken_with came own_hart) ≡ own_after v.setting (plain_seen v) h.0 (done_so here files ws comes e) (credit_of m.harts.items h.0)
+      → AreSaved (λ u. file_among files u ((plain_seen v).file u)) m.kernel.threads → IsUncounted v h.0 (done_of asked.Take here) m m2
   event_so files ws comes came e m1 m2 same is over own kept =
       let p = plain_seen v in
       let d = done_so here files ws comes e in
       let its : (done_take here).entered ≡ ws = ap (λ (z : Done). z.entered) same in
       let wrote : IsWritten ws m.pages m2.pages =
       subst (λ (n : Map). IsWritten ws m.pages n) (sym is.same_pages) (subst (λ (vs : List Write). IsWritten vs m.pages m1.pages) its is.restarted.pages) in
-      changed_as v h.0 asked.Take d m m2 (taken_with came own_hart) place free same (record {
+      uncounted_as v h.0 asked.Take d m m2 (taken_with came own_hart) place free same (record {
         own = own;
         harts = take_beside here h.0 files ws comes came e m.harts.items m1.harts.items m2.harts.items own_hart (place.tied.harts h.0 place.lt)
             (λ k. is.restarted.harts k ∙ ap (λ vs. option_map (lost_unless (eqb k h.0) vs) (slice_get m.harts.items k)) its) is.harts;
@@ -212,7 +201,7 @@ module _ (v : Seen) (m : Parts) (h : Hart) (place : IsPlace v m h.0) (free : ref
       })
 
   by_outcome : (r : Option ℕ) (came : Option Outcome) (m1 m2 : Parts) → runs here ≡ r → done_of asked.Take here ≡ done_with here r came → came ≡ restart_here here
-      → IsTaken here h.0 came m m1 m2 → IsAfter v h.0 (done_of asked.Take here) m m2
+      → IsTaken here h.0 came m m1 m2 → IsUncounted v h.0 (done_of asked.Take here) m m2
   by_outcome None None m1 m2 at same comes is = event_so [] [] None None None m1 m2 same is refl (took_own _ v.setting (plain_seen v) h.0 None None own_hart refl) place.tied.saved
   by_outcome None (Some o) m1 m2 at same comes is = let bad : Some o ≡ None = comes ∙ none_runs here at in absurd (cc)
   by_outcome (Some t) None m1 m2 at same comes is = event_so [] [] None None None m1 m2 same is refl (took_own _ v.setting (plain_seen v) h.0 None None own_hart refl) place.tied.saved
@@ -222,6 +211,6 @@ module _ (v : Seen) (m : Parts) (h : Hart) (place : IsPlace v m h.0) (free : ref
       (kept_running (plain_seen v).file (λ u. file_among (files_interrupted here t o) u ((plain_seen v).file u)) t h m.kernel.threads place.tied.table (runs_there v m h t place at)
       (λ u other. file_other here t u o ((plain_seen v).file u) other) place.tied.saved)
 
-  pub taken_event : (came : Option Outcome) (m1 m2 : Parts) → IsTaken here h.0 came m m1 m2 → IsAfter v h.0 (done_of asked.Take here) m m2
+  pub taken_event : (came : Option Outcome) (m1 m2 : Parts) → IsTaken here h.0 came m m1 m2 → IsUncounted v h.0 (done_of asked.Take here) m m2
   taken_event came m1 m2 is =
       by_outcome (runs here) came m1 m2 refl (done_is here ∙ ap (done_with here (runs here)) (sym is.restarted.comes)) is.restarted.comes is

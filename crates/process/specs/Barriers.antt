@@ -1,6 +1,6 @@
 -- Barriers on harts (membarrier(2)): which harts run threads, what a barrier asks of a hart, and what a hart that takes its requests
 -- makes of itself and of the others.
-use Rattle.std.specs.Prelude.{ℕ, ◌≡◌, ◌+◌, ◌==◌, ◌||◌, Bool, false, List, if◌then◌else◌, Option, None, is_some, slice_get}
+use Rattle.std.specs.Prelude.{ℕ, ◌≡◌, ◌==◌, ◌||◌, Bool, false, List, if◌then◌else◌, Option, None, is_some, slice_get}
 use Rattle.std.specs.Option.{option_and_then, option_map, option_map_or, option_or}
 use Rattle.mach_types.specs.Kernel.Areas.{pc_after}
 use Rattle.mach_types.specs.Registers.{with_register}
@@ -37,7 +37,6 @@ taken_with came x = record x {
   requests = 0;
   restart = false;
   reserved = None;
-  events = x.events + 1;
 }
 
 -- hart k once hart h took its requests
@@ -65,4 +64,4 @@ pub record IsRestarted (here : Here) (came : Option Outcome) (m m' : Parts) : Ty
 
 -- a hart whose thread goes on after its barrier
 abbrev pub gone_on : HartState → HartState
-gone_on x = record x { file = with_register x.file 10 0; waits = None; reserved = None; events = x.events + 1 }
+gone_on x = record x { file = with_register x.file 10 0; waits = None; reserved = None }

@@ -1,10 +1,8 @@
 -- A thread that waited, and is interrupted before it begins to run.
 use Rattle.std.specs.Prelude.{ℕ, ◌≡◌, ◌+◌, ◌<◌, ◌^◌, ◌==◌, Bool, List, if◌then◌else◌, Option, Some, None, slice_get}
 use Rattle.std.specs.Option.{option_map}
-use Rattle.mach_types.specs.declared.events.Tid.{Tid}
 use Rattle.mach_types.specs.declared.sequences.Area.{Area}
 use Rattle.mach_types.specs.declared.threads.Saved.{Saved}
-use Rattle.hart_state.specs.State.{entered}
 use Rattle.hart_state.specs.declared.hart.HartState.{HartState}
 use Rattle.page_map.specs.Map.{Map, byte_in, can_write_in}
 use Rattle.block_model.specs.Events.Run.{done_run, lives_on}
@@ -34,7 +32,11 @@ pub record IsReadied (here : Here) (t : ℕ) (alive : Bool) (x : Saved) (m m' : 
   pub harts : (k : ℕ) → slice_get m'.harts.items k
       ≡ option_map (lost_unless (k == here.hart) (done_run here t).entered) (slice_get m.harts.items k)
 
--- the hart is one of these, and a further event of it can be counted
+-- the hart is one of these
+abbrev pub HasHart : List HartState → ℕ → Type 0
+HasHart xs h = (x : HartState) × (slice_get xs h ≡ Some x)
+
+-- and a further event of it can be counted
 abbrev pub HasEvent : List HartState → ℕ → Type 0
 HasEvent xs h = (x : HartState) × (slice_get xs h ≡ Some x) × (x.events + 1 < 2 ^ 32)
 
@@ -43,10 +45,6 @@ abbrev pub IsChanged : ℕ → (HartState → HartState) → List HartState → 
 IsChanged h change xs ys =
     (k : ℕ) → slice_get ys k ≡ (if k == h then option_map change (slice_get xs k) else slice_get xs k)
 
--- a hart on which a thread begins to run with a file and an id
-abbrev pub begun_with : Tid → Saved → ℕ → HartState → HartState
-begun_with t saved id x = record (entered t saved id x) { events = x.events + 1 }
-
--- one on which a thread would have begun to run, had the process not been killed
+-- a hart on which a thread would have begun to run, had the process not been killed
 abbrev pub begun_without : HartState → HartState
-begun_without x = record x { reserved = None; ran = 0; events = x.events + 1 }
+begun_without x = record x { reserved = None; ran = 0 }

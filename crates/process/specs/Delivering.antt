@@ -1,5 +1,5 @@
 -- A signal that is delivered to the thread on a hart.
-use Rattle.std.specs.Prelude.{ℕ, ◌≡◌, ◌+◌, ◌==◌, ◌&&◌, Bool, true, not, List, [], if◌then◌else◌, Option, Some, None, slice_get}
+use Rattle.std.specs.Prelude.{ℕ, ◌≡◌, ◌==◌, ◌&&◌, Bool, true, not, List, [], if◌then◌else◌, Option, Some, None, slice_get}
 use Rattle.std.specs.Option.{option_and_then, option_map}
 use Rattle.mach_types.specs.declared.events.Tid.{Tid}
 use Rattle.mach_types.specs.declared.limits.End.{End}
@@ -98,4 +98,4 @@ pub record IsDelivered (here : Here) (t signal : ℕ) (killer : Option ℕ) (x :
 
 -- a hart whose thread goes on with a file after a signal was delivered to it
 abbrev pub gone_on_with : Saved → HartState → HartState
-gone_on_with saved x = record x { file = saved.file; pc = saved.pc; reserved = None; events = x.events + 1 }
+gone_on_with saved x = record x { file = saved.file; pc = saved.pc; reserved = None }

@@ -1,5 +1,5 @@
 -- What is kept of one hart, as a rule may read it at a place.
-use Rattle.std.specs.Prelude.{ℕ, List, Option, Some, None, slice_get}
+use Rattle.std.specs.Prelude.{ℕ, ◌+◌, List, Option, Some, None, slice_get}
 use Rattle.std.specs.Option.{option_map, option_map_or}
 use Rattle.mach_types.specs.Registers.{no_registers}
 use Rattle.mach_types.specs.declared.threads.Saved.{Saved}
@@ -46,6 +46,10 @@ file_of x = record { file = x.file; pc = x.pc }
 -- the state of hart h of the plain machine, which knows no credit, with this one
 abbrev pub hart_at : Setting → Plain → ℕ → ℕ → HartState
 hart_at s p h credit = hart_in (here_in_plain s p h) (p.ran h) (p.events h) credit
+
+-- a hart that made one more event
+abbrev pub counted : HartState → HartState
+counted x = record x { events = x.events + 1 }
 
 -- the credit of hart h among harts
 abbrev pub credit_of : List HartState → ℕ → ℕ

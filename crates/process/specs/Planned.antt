@@ -1,16 +1,14 @@
 -- The next instruction of a thread that may be executed.
 use Rattle.std.specs.Prelude.{ℕ, ◌≡◌, Bool, Some, None, IfSome}
 use Rattle.mach_types.specs.declared.events.Choice.TheVariants as asked
-use Rattle.mach_types.specs.declared.events.Entry.{Entry}
 use Rattle.rv_inst.specs.Sizes.{HasAccessSizes}
 use Rattle.block_model.specs.Setting.{Seen}
 use Rattle.block_model.specs.Here.{runs}
 use Rattle.block_model.specs.Events.{refusal_of, done_of}
 use Rattle.block_model.specs.Events.Exec.{next_effect, next_fault}
-use Rattle.block_model.specs.Deciding.{entry_in}
 use Rattle.block_model.specs.Plain.{here_of}
 use Rattle.block_model.specs.Sequences.{is_inside_here}
-use Rattle.process.specs.Tied.{IsPlace, IsAfter}
+use Rattle.process.specs.Tied.{IsPlace, IsUncounted}
 use Rattle.process.specs.declared.next.Next.{Next}
 use Rattle.process.specs.declared.parts.Parts.{Parts}
 
@@ -34,7 +32,6 @@ abbrev pub IsInside : Bool → Parts → ℕ → Type 0
 IsInside inside m h =
     (v : Seen) (t : ℕ) → IsPlace v m h → runs (here_of v h) ≡ Some t → is_inside_here (here_of v h) t ≡ inside
 
--- at each place where this is planned the entry is that of the event, and the parts are those after it
-pub record IsExecuted (m : Parts) (h : ℕ) (next : Next) (made : Entry) (m' : Parts) : Type 0 where
-  pub entry : (v : Seen) → IsPlace v m h → IsPlanned v h next → made ≡ entry_in asked.Exec (here_of v h)
-  pub after : (v : Seen) → IsPlace v m h → IsPlanned v h next → IsAfter v h (done_of asked.Exec (here_of v h)) m m'
+-- at each place where this is planned the parts are those after its event, which is yet to be counted
+abbrev pub IsExecuted : Parts → ℕ → Next → Parts → Type 0
+IsExecuted m h next m' = (v : Seen) → IsPlace v m h → IsPlanned v h next → IsUncounted v h (done_of asked.Exec (here_of v h)) m m'

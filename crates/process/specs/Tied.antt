@@ -16,7 +16,8 @@ use Rattle.block_model.specs.Events.{refusal_of, done_of}
 use Rattle.block_model.specs.Plain.{Plain, apply, here_of, plain_over, plain_seen}
 use Rattle.block_model.specs.Deciding.{entry_in}
 use Rattle.block_model.specs.Run.{IsBlockRun}
-use Rattle.process.specs.Harts.{credit_of, hart_at}
+use Rattle.process.specs.Beginning.{HasEvent, IsChanged}
+use Rattle.process.specs.Harts.{counted, credit_of, hart_at}
 use Rattle.process.specs.declared.parts.Parts.{Parts}
 
 -- what can be written can be read
@@ -73,7 +74,18 @@ pub record IsAfter (v : Seen) (h : ℕ) (d : Done) (m m' : Parts) : Type 0 where
   pub tied : IsTied v.setting (apply h d (plain_seen v)) m'
   pub credits : (k : ℕ) → credit_of m'.harts.items k ≡ credit_of m.harts.items k
 
--- at each place where the choice is allowed this is its entry, and the parts are those after its event
-pub record IsEvent (m : Parts) (h : ℕ) (c : Choice) (made : Entry) (m' : Parts) : Type 0 where
-  pub entry : (v : Seen) → IsPlace v m h → refusal_of c (here_of v h) ≡ None → made ≡ entry_in c (here_of v h)
-  pub after : (v : Seen) → IsPlace v m h → refusal_of c (here_of v h) ≡ None → IsAfter v h (done_of c (here_of v h)) m m'
+-- an event of hart h was counted there, and nothing else changed
+pub record IsCounted (h : ℕ) (m m' : Parts) : Type 0 where
+  pub harts : IsChanged h counted m.harts.items m'.harts.items
+  pub pages : m'.pages ≡ m.pages
+  pub kernel : m'.kernel ≡ m.kernel
+  pub ended : m'.ended ≡ m.ended
+
+-- the parts after all of an event of hart h that did this but its count, for which there is room
+pub record IsUncounted (v : Seen) (h : ℕ) (d : Done) (m m' : Parts) : Type 0 where
+  pub room : HasEvent m'.harts.items h
+  pub after : (m'' : Parts) → IsCounted h m' m'' → IsAfter v h d m m''
+
+-- at each place where the choice is allowed the parts are those after its event, which is yet to be counted
+abbrev pub IsEvent : Parts → ℕ → Choice → Parts → Type 0
+IsEvent m h c m' = (v : Seen) → IsPlace v m h → refusal_of c (here_of v h) ≡ None → IsUncounted v h (done_of c (here_of v h)) m m'

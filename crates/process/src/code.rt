@@ -28,7 +28,8 @@ impl Model for Code {
 
     ghost view = { λ p. p.pages.items };
 
-    ghost invariant = { λ p. (p.numbers.items ≡ map (λ (q : ImagePage). q.number) p.pages.items) × IsStrictlyIncreasing (map (λ (q : ImagePage). q.number) p.pages.items) };
+    ghost invariant = { λ p. (p.numbers.items ≡ map (λ (q : ImagePage). q.number) p.pages.items)
+        × IsStrictlyIncreasing (map (λ (q : ImagePage). q.number) p.pages.items) };
 }
 
 impl Code {

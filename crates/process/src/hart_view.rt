@@ -42,7 +42,8 @@ impl UserMem for HartView<'_> {
 
     ghost alike_next = { λ a b c first then. then ∙ first };
 
-    ghost writable_is_readable = { λ v a may. none_writable (seen_byte v.buffer.now (byte_in v.pages.now)) a may };
+    ghost writable_is_readable = { λ v a may. none_writable
+        (seen_byte v.buffer.now (byte_in v.pages.now)) a may };
 
     ghost ends = { λ v a past. seen_ends v.pages.now v.buffer.now a past };
 

@@ -2,21 +2,23 @@
 //! them. It keeps no log: each contract is said at a place of one, for every log at which the parts may stand.
 #![tactic(auto)]
 
-mod barriers;
-mod beginning;
 mod code;
-mod delivering;
-mod executing;
+mod drain;
+mod exec;
+mod exec_gate;
 mod handlers;
 mod hart_view;
-mod holding;
-mod moving;
+mod interrupt;
+mod membarrier;
 mod next;
 mod parts;
+mod preempt;
 mod requests;
 mod reservations;
+mod rseq;
+mod run;
 mod search;
-mod sequences;
+mod signal_delivery;
 
 pub use code::Code;
 pub use next::{Next, effect_at, effect_of_next, is_local, next_of};

@@ -129,7 +129,8 @@ pub fn is_call(effect: Option<&Effect>) -> bool
 #[inline(always)]
 pub fn next_of(code: &Code, pages: &PageMap, state: &HartState) -> Next
     ensures effect { result.effect ≡ next_effect code.now (file_of state.now) }
-    ensures fault { result.fault ≡ next_fault code.now (byte_in pages.now) (can_write_in pages.now) (file_of state.now) }
+    ensures fault { result.fault
+        ≡ next_fault code.now (byte_in pages.now) (can_write_in pages.now) (file_of state.now) }
     ensures sizes { IfSome result.effect HasAccessSizes }
 {
     let instruction = instruction_at(code, &state.file, state.pc);

@@ -1,13 +1,15 @@
 //! The parts of a machine, without its log: one event of a hart, and which events are refused.
 
-ghost use Rattle.std.specs.Prelude.{◌≡◌, None, IfOk, OnErr};
+ghost use Rattle.std.specs.Prelude.{◌≡◌, ◌≢◌, None, IfOk, OnErr};
 ghost use Rattle.mach_types.specs.Kernel.Threads.{is_ready};
 ghost use Rattle.block_model.specs.Setting.{Seen};
 ghost use Rattle.block_model.specs.Deciding.{entry_in};
 ghost use Rattle.block_model.specs.Events.{done_of, refusal_of};
 ghost use Rattle.block_model.specs.Plain.{here_of};
+ghost use Rattle.process.specs.Beginning.{HasEvent, IsChanged};
 ghost use Rattle.process.specs.Deeds.{entry_from};
-ghost use Rattle.process.specs.Tied.{IsPlace, HasCode, IsAfter, MayMake, answer_to};
+ghost use Rattle.process.specs.Harts.{counted};
+ghost use Rattle.process.specs.Tied.{HasCode, IsAfter, IsEvent, IsPlace, IsUncounted, MayMake, answer_to};
 
 use crate::code::Code;
 use hart_state::HartState;
@@ -64,26 +66,79 @@ impl Parts {
     #[inline]
     pub fn make(&mut self, code: &Code, hart: Hart, choice: Choice) -> Result<Entry, Why>
         requires { HasCode code.now self.old hart.0 }
-        ensures answer { (v : Seen) → IsPlace v self.old hart.0 → code.now ≡ v.setting.program.pages → result ≡ answer_to v hart.0 choice }
+        ensures answer { (v : Seen) → IsPlace v self.old hart.0 → code.now ≡ v.setting.program.pages
+            → result ≡ answer_to v hart.0 choice }
         ensures after { (v : Seen) → IsPlace v self.old hart.0 → code.now ≡ v.setting.program.pages
             → IfOk result (λ e. IsAfter v hart.0 (done_of choice (here_of v hart.0)) self.old self.new) }
         ensures err { OnErr result (self.new ≡ self.old) }
     {
+        match self.made(code, hart, choice) {
+            Ok(entry) => {
+                self.count(hart);
+                Ok(entry)
+            }
+            Err(why) => Err(why),
+        }
+    }
+
+    /// Counts an event of a hart.
+    #[inline]
+    fn count(&mut self, hart: Hart)
+        requires { HasEvent self.old.harts.items hart.0 }
+        ensures harts { IsChanged hart.0 counted self.old.harts.items self.new.harts.items }
+        ensures pages { self.new.pages ≡ self.old.pages }
+        ensures kernel { self.new.kernel ≡ self.old.kernel }
+        ensures ended { self.new.ended ≡ self.old.ended }
+    {
+        let state = &mut self.harts[hart.0 as usize];
+        state.events += 1;
+    }
+
+    /// [`Parts::make`], but for the count of the event.
+    #[inline]
+    fn made(&mut self, code: &Code, hart: Hart, choice: Choice) -> Result<Entry, Why>
+        requires { HasCode code.now self.old hart.0 }
+        ensures answer { (v : Seen) → IsPlace v self.old hart.0 → code.now ≡ v.setting.program.pages
+            → result ≡ answer_to v hart.0 choice }
+        ensures made { (v : Seen) → IsPlace v self.old hart.0 → code.now ≡ v.setting.program.pages
+            → IfOk result (λ e. IsUncounted v hart.0 (done_of choice (here_of v hart.0)) self.old self.new) }
+        ensures err { OnErr result (self.new ≡ self.old) }
+    {
+        if let Choice::Exec = choice {
+            return self.exec(code, hart);
+        }
+        match self.refusal(code, hart, choice) {
+            Some(why) => Err(why),
+            None => {
+                let made = self.entry(hart, choice);
+                self.event(hart, choice);
+                Ok(made)
+            }
+        }
+    }
+
+    /// The event of a choice other than `exec` that is allowed on a hart, but for its count.
+    fn event(&mut self, hart: Hart, choice: Choice)
+        requires free { MayMake self.old hart.0 choice }
+        requires other { choice ≢ Choice.Exec }
+        ensures { IsEvent self.old hart.0 choice self.new }
+    {
         match choice {
-            Choice::Exec => self.exec(code, hart),
-            Choice::Drain => self.drain(hart),
-            Choice::Take => self.take(hart),
-            Choice::Done => self.done(hart),
-            Choice::Preempt => self.preempt(hart),
-            Choice::Run(tid) => self.run(hart, tid),
-            Choice::Signal => self.signal(hart),
+            Choice::Exec => unreachable!(),
+            Choice::Drain => self.drained(hart),
+            Choice::Take => self.taken(hart),
+            Choice::Done => self.returned(hart),
+            Choice::Preempt => self.left(hart),
+            Choice::Run(tid) => self.begun(hart, tid),
+            Choice::Signal => self.delivered(hart),
         }
     }
 
     /// The first condition of a choice on a hart that fails; None exactly where the choice is allowed.
     pub(crate) fn refusal(&self, code: &Code, hart: Hart, choice: Choice) -> Option<Why>
         requires { HasCode code.now self.now hart.0 }
-        ensures { (v : Seen) → IsPlace v self.now hart.0 → code.now ≡ v.setting.program.pages → result ≡ refusal_of choice (here_of v hart.0) }
+        ensures { (v : Seen) → IsPlace v self.now hart.0 → code.now ≡ v.setting.program.pages
+            → result ≡ refusal_of choice (here_of v hart.0) }
     {
         match choice {
             Choice::Exec => self.refusal_exec(code, hart),
@@ -99,7 +154,8 @@ impl Parts {
     /// The entry of a ready thread that may begin to run on a hart.
     fn entry_of_run(&self, hart: Hart, tid: Tid) -> Entry
         requires { MayMake self.now hart.0 (Choice.Run tid) }
-        ensures { (v : Seen) → IsPlace v self.now hart.0 → result ≡ entry_in (Choice.Run tid) (here_of v hart.0) }
+        ensures { (v : Seen) → IsPlace v self.now hart.0
+            → result ≡ entry_in (Choice.Run tid) (here_of v hart.0) }
     {
         let Some(saved) = self.kernel.threads.saved(tid) else {
             unreachable!()
@@ -113,7 +169,7 @@ impl Parts {
     }
 
     /// The entry of a choice on a hart that is allowed.
-    fn entry(&self, hart: Hart, choice: Choice) -> Entry
+    pub(crate) fn entry(&self, hart: Hart, choice: Choice) -> Entry
         requires { MayMake self.now hart.0 choice }
         ensures { (v : Seen) → IsPlace v self.now hart.0 → result ≡ entry_in choice (here_of v hart.0) }
     {
@@ -127,7 +183,8 @@ impl Parts {
     /// condition that fails. Nothing changes.
     pub fn answer(&self, code: &Code, hart: Hart, choice: Choice) -> Result<Entry, Why>
         requires { HasCode code.now self.now hart.0 }
-        ensures { (v : Seen) → IsPlace v self.now hart.0 → code.now ≡ v.setting.program.pages → result ≡ answer_to v hart.0 choice }
+        ensures { (v : Seen) → IsPlace v self.now hart.0 → code.now ≡ v.setting.program.pages
+            → result ≡ answer_to v hart.0 choice }
     {
         match self.refusal(code, hart, choice) {
             Some(why) => Err(why),

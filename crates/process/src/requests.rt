@@ -1,6 +1,6 @@
 //! Requests of barriers, as each hart keeps them (membarrier(2)). A set of harts has a bit for each of 8.
 
-ghost use Rattle.std.specs.Prelude.{◌≡◌, ◌<◌, ◌+◌, ◌^◌, ◌==◌, ◌||◌, ℕ, Some, if◌then◌else◌, slice_get};
+ghost use Rattle.std.specs.Prelude.{◌≡◌, ◌<◌, ◌==◌, ◌||◌, ℕ, Some, if◌then◌else◌, slice_get};
 ghost use Rattle.std.specs.Option.{option_map};
 ghost use Rattle.mach_types.specs.Kernel.Barriers.{harts_that};
 ghost use Rattle.mach_types.specs.Kernel.Scheduling.{has_hart};
@@ -9,7 +9,7 @@ ghost use Rattle.block_model.specs.Sights.{is_all_taken};
 ghost use Rattle.sys_calls.specs.Made.{barrier_of};
 ghost use Rattle.process.specs.Barriers.{asked_by, is_busy, noticed, noticed_unless, taken_with};
 
-use crate::beginning::pc_after;
+use crate::interrupt::pc_after;
 use hart_state::HartState;
 use mach_types::{Hart, Outcome};
 use sys_calls::CallEnd;
@@ -64,7 +64,10 @@ pub fn running_harts(harts: &[HartState]) -> u8
 fn ask(state: &mut HartState, is_about: bool, hart: Hart, restart: bool)
     requires { hart.0 < 8 }
     ensures { state.new ≡ (if is_about
-        then record state.old { requests = requests.with_hart hart.0 state.old.requests; restart = restart || state.old.restart }
+        then record state.old {
+          requests = requests.with_hart hart.0 state.old.requests;
+          restart = restart || state.old.restart;
+        }
         else state.old) }
 {
     if is_about {
@@ -77,7 +80,8 @@ fn ask(state: &mut HartState, is_about: bool, hart: Hart, restart: bool)
 fn ask_each(harts: &mut [HartState], hart: Hart, targets: u8, restart: bool)
     requires { hart.0 < 8 }
     ensures { (k : ℕ) → slice_get harts.new k
-        ≡ option_map (asked_by k hart.0 (Some (record { targets = targets; restart = restart }))) (slice_get harts.old k) }
+        ≡ option_map (asked_by k hart.0 (Some (record { targets = targets; restart = restart })))
+        (slice_get harts.old k) }
 {
     for (k, state) in harts.iter_mut().enumerate() {
         ask(state, has_hart(targets, k), hart, restart);
@@ -87,7 +91,8 @@ fn ask_each(harts: &mut [HartState], hart: Hart, targets: u8, restart: bool)
 /// Where the call of the thread on a hart ended as a barrier, each hart that it is about has a request of it.
 pub fn ask_all(harts: &mut [HartState], hart: Hart, end: CallEnd)
     requires { hart.0 < 8 }
-    ensures { (k : ℕ) → slice_get harts.new k ≡ option_map (asked_by k hart.0 (barrier_of end)) (slice_get harts.old k) }
+    ensures { (k : ℕ) → slice_get harts.new k
+        ≡ option_map (asked_by k hart.0 (barrier_of end)) (slice_get harts.old k) }
 {
     if let CallEnd::Barrier { targets, restart } = end {
         ask_each(harts, hart, targets, restart);
@@ -117,7 +122,8 @@ fn notice_unless(state: &mut HartState, is_own: bool, hart: Hart)
 /// The barriers of threads on other harts wait for this one no longer.
 pub fn notice_all(harts: &mut [HartState], hart: Hart)
     requires { hart.0 < 8 }
-    ensures { (k : ℕ) → slice_get harts.new k ≡ option_map (noticed_unless (k == hart.0) hart.0) (slice_get harts.old k) }
+    ensures { (k : ℕ) → slice_get harts.new k
+        ≡ option_map (noticed_unless (k == hart.0) hart.0) (slice_get harts.old k) }
 {
     for (k, state) in harts.iter_mut().enumerate() {
         notice_unless(state, k == hart.0 as usize, hart);
@@ -126,7 +132,6 @@ pub fn notice_all(harts: &mut [HartState], hart: Hart)
 
 /// A hart takes its requests. Where its thread was interrupted it goes on where that says.
 pub fn take_requests(state: &mut HartState, came: Option<Outcome>)
-    requires { state.old.events + 1 < 2 ^ 32 }
     ensures { state.new ≡ taken_with came state.old }
 {
     if let Some(outcome) = came {
@@ -135,7 +140,6 @@ pub fn take_requests(state: &mut HartState, came: Option<Outcome>)
     state.requests = 0;
     state.restart = false;
     state.reserved = None;
-    state.events += 1;
 }
 
 /// Whether the thread on a hart waits in a barrier that waits for no hart any more.

@@ -37,7 +37,8 @@ fn lose_unless(state: &mut HartState, is_own: bool, writes: &[Write])
 
 /// The harts other than one lose their reservations of bytes that were written.
 pub fn lose_others(harts: &mut [HartState], hart: Hart, writes: &[Write])
-    ensures { (k : ℕ) → slice_get harts.new k ≡ option_map (lost_unless (nat_eq k hart.0) writes.now) (slice_get harts.old k) }
+    ensures { (k : ℕ) → slice_get harts.new k
+        ≡ option_map (lost_unless (nat_eq k hart.0) writes.now) (slice_get harts.old k) }
 {
     for (k, state) in harts.iter_mut().enumerate() {
         lose_unless(state, k == hart.0 as usize, writes);

@@ -4,8 +4,6 @@
 mod conditions;
 mod keeping;
 mod messages;
-#[cfg(test)]
-mod tests;
 mod usage;
 
 pub use keeping::KeepingShelf;

@@ -11,11 +11,8 @@ const OPTIONS: &str = "  --harts N   how many harts there are: 1 to 8; 2 where i
   --seed N    where the generators of the harts begin: 0 to 18446744073709551615; 1
 ";
 
-/// An example, and the version.
-const EXAMPLE: &str = "\
-for example: rseq_run solo FILE > OUTPUT
-rseq_run 0.1
-";
+/// The version (own).
+const VERSION: &str = "0.1";
 
 /// What stands behind the word of a command whose log comes about in this way.
 fn words_behind(source: SourceKind) -> &'static str {
@@ -29,7 +26,7 @@ fn words_behind(source: SourceKind) -> &'static str {
 /// Appends the commands with their names and options, and what the options are.
 pub(crate) fn push_usage(text: &mut String) -> Result<(), AllocError> {
     let mut begin = "usage:";
-    for (word, _) in COMMANDS {
+    for word in COMMANDS {
         if let Some(kind) = command_kind(word) {
             let behind = words_behind(kind.source);
             writeln!(text, "{begin} rseq_run {word} {behind}")?;
@@ -41,10 +38,14 @@ pub(crate) fn push_usage(text: &mut String) -> Result<(), AllocError> {
 
 /// Appends what each command does, an example, and the version.
 pub(crate) fn push_help(text: &mut String) -> Result<(), AllocError> {
-    for (word, about) in COMMANDS {
-        writeln!(text, "{word}: {about}")?;
+    for word in COMMANDS {
+        if let Some(kind) = command_kind(word) {
+            let (runs, prints) = (kind.source.about(), kind.shown.about());
+            writeln!(text, "{word}: {runs}; {prints}")?;
+        }
     }
-    text.push_str(EXAMPLE)
+    writeln!(text, "for example: rseq_run solo FILE > OUTPUT")?;
+    writeln!(text, "rseq_run {VERSION}")
 }
 
 /// The usage of all commands.

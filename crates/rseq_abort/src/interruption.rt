@@ -10,10 +10,10 @@ use rseq_area::named;
 
 /// Interrupts a thread at a pc, with the area that is registered for it (rseq(2)).
 ///
-/// `Nothing` where it has no area or the area names nothing: nothing is written. `Killed` where what the area names is
-/// bad, or else its pointer can't be written: nothing is written, and the process is to be killed. Else the pointer
-/// becomes 0, with no other write; `Aborted` has the address at which a thread that was inside goes on, and `Cleared`
-/// says that it was outside and goes on at its pc.
+/// `Nothing` where it has no area or the area names nothing: nothing is written. `Killed` where what the area
+/// names is bad, or else its pointer can't be written: nothing is written, and the process is to be killed.
+/// Else the pointer becomes 0, with no other write; `Aborted` has the address at which a thread that was
+/// inside goes on, and `Cleared` says that it was outside and goes on at its pc.
 pub fn interrupt<M: UserMem>(mem: &mut M, area: Option<Area>, pc: u64) -> Outcome
     ensures outcome { result ≡ interruption (M.byte mem.old) (M.can_write mem.old) area pc }
     ensures bytes { (a : ℕ) → M.byte mem.new a ≡ after_writes (writes_of area result) (M.byte mem.old) a }
@@ -32,7 +32,8 @@ pub fn interrupt<M: UserMem>(mem: &mut M, area: Option<Area>, pc: u64) -> Outcom
 /// Interrupts a thread at a pc whose area names this.
 fn interrupt_named<M: UserMem>(mem: &mut M, area: &Area, pc: u64, found: Named) -> Outcome
     ensures outcome { result ≡ outcome_of (M.can_write mem.old) area.now pc found }
-    ensures bytes { (a : ℕ) → M.byte mem.new a ≡ after_writes (writes_of (Some area.now) result) (M.byte mem.old) a }
+    ensures bytes { (a : ℕ)
+        → M.byte mem.new a ≡ after_writes (writes_of (Some area.now) result) (M.byte mem.old) a }
     ensures permissions { (a : ℕ) → M.can_write mem.new a ≡ M.can_write mem.old a }
     ensures alike { M.IsAlike mem.old mem.new }
 {

@@ -13,7 +13,8 @@ const AREA: Area = Area {
 /// Where `rseq_cs` of the area stands.
 const POINTER: u64 = 0x1008;
 
-/// Where the descriptor stands, of the sequence of 12 bytes from 0x400000 on with its abort handler at 0x1050.
+/// Where the descriptor stands, of the sequence of 12 bytes from 0x400000 on with its abort handler at
+/// 0x1050.
 const DESCRIPTOR: u64 = 0x1020;
 
 /// Where the word stands whose upper half is the signature before the abort handler.

@@ -1,8 +1,9 @@
-//! The area that a thread registers for restartable sequences, and what it names (rseq(2); uapi linux/rseq.h).
+//! The area that a thread registers for restartable sequences, and what it names (rseq(2); uapi
+//! linux/rseq.h).
 //!
-//! A thread registers an area in its memory. The kernel keeps in it on which processor the thread runs; the thread
-//! puts into it the address of a descriptor, which says where a restartable sequence starts and ends and where its
-//! abort handler is. Nothing here takes memory.
+//! A thread registers an area in its memory. The kernel keeps in it on which processor the thread runs; the
+//! thread puts into it the address of a descriptor, which says where a restartable sequence starts and ends
+//! and where its abort handler is. Nothing here takes memory.
 #![tactic(auto)]
 
 mod fields;

@@ -9,10 +9,10 @@ use mach_types::{Area, BadWhy, Descriptor, Named, Seq, UserMem};
 
 /// What an area names for its thread at a pc (rseq(2); uapi linux/rseq.h).
 ///
-/// Nothing where the pointer is 0; else the sequence of the descriptor, or the first of these that is wrong: the area
-/// can't be read, the pointer is past the end of addresses, the descriptor can't be read, its version isn't 0, the
-/// sequence or its abort handler is past the end of addresses, the abort handler is inside, the signature isn't before
-/// it, a flag is set while the pc is inside.
+/// Nothing where the pointer is 0; else the sequence of the descriptor, or the first of these that is wrong:
+/// the area can't be read, the pointer is past the end of addresses, the descriptor can't be read, its
+/// version isn't 0, the sequence or its abort handler is past the end of addresses, the abort handler is
+/// inside, the signature isn't before it, a flag is set while the pc is inside.
 pub fn named<M: UserMem>(mem: &M, area: &Area, pc: u64) -> Named
     ensures { result ≡ areas.named (M.byte mem.now) area.now pc }
 {
@@ -93,7 +93,8 @@ fn is_signed<M: UserMem>(mem: &M, area: &Area, sequence: &Seq) -> bool
 
 /// Whether a word of 4 bytes can be read, and is this one.
 fn is_word<M: UserMem>(mem: &M, at: u64, word: u32) -> bool
-    ensures { result ≡ (areas.are_readable (M.byte mem.now) at 4 && (areas.number_at (M.byte mem.now) at 4 == word)) }
+    ensures { result
+        ≡ (areas.are_readable (M.byte mem.now) at 4 && (areas.number_at (M.byte mem.now) at 4 == word)) }
 {
     match read_word(mem, at) {
         Some(read) => read == word,

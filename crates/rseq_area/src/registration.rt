@@ -10,9 +10,9 @@ use mach_types::{Area, Errno};
 
 /// The answer of a call that registers, with these arguments, for a thread that has the area `old`.
 ///
-/// In this order (own): EINVAL where a flag is set; where the thread has an area, EINVAL for another address or
-/// length, EPERM for another signature, and else EBUSY; EINVAL where the length isn't 32 or the address is 0 or not a
-/// multiple of 32; EFAULT where the area ends past the end of addresses. Else the area.
+/// In this order (own): EINVAL where a flag is set; where the thread has an area, EINVAL for another address
+/// or length, EPERM for another signature, and else EBUSY; EINVAL where the length isn't 32 or the address is
+/// 0 or not a multiple of 32; EFAULT where the area ends past the end of addresses. Else the area.
 pub fn register(old: Option<Area>, at: u64, len: u32, flags: u32, sig: u32) -> Result<Area, Errno>
     ensures { result ≡ registration old at len flags sig }
 {
@@ -54,9 +54,9 @@ fn register_first(at: u64, len: u32, sig: u32) -> Result<Area, Errno>
 
 /// The answer of a call that unregisters, with these arguments, for a thread that has the area `old`.
 ///
-/// In this order (own): EINVAL where the flags aren't just the one that asks for it; EINVAL where the thread has no
-/// area or another one; EINVAL where the length isn't 32; EPERM for another signature. The EFAULT of an area that
-/// can't be written is [`set_cpu`](crate::set_cpu)'s.
+/// In this order (own): EINVAL where the flags aren't just the one that asks for it; EINVAL where the thread
+/// has no area or another one; EINVAL where the length isn't 32; EPERM for another signature. The EFAULT of
+/// an area that can't be written is [`set_cpu`](crate::set_cpu)'s.
 pub fn unregister(old: Option<Area>, at: u64, len: u32, flags: u32, sig: u32) -> Result<(), Errno>
     ensures { result ≡ unregistration old at len flags sig }
 {

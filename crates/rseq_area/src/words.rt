@@ -9,7 +9,8 @@ use mach_types::{Area, UserMem};
 
 /// Writes `cpu_id_start`, `cpu_id`, `node_id` and `mm_cid` of an area, in this order.
 ///
-/// False exactly where one of their bytes, 0 to 7 and 20 to 27 of the area, can't be written; then nothing changes.
+/// False exactly where one of their bytes, 0 to 7 and 20 to 27 of the area, can't be written; then nothing
+/// changes.
 pub fn set_cpu<M: UserMem>(
     mem: &mut M,
     area: &Area,

@@ -15,7 +15,8 @@ use rv_inst::Inst;
 use std::alloc::{AllocError, Global};
 use std::marker::Model;
 
-/// So many items no vector holds: at 8 bytes and more each, they pass the largest size that an allocation can have.
+/// So many items no vector holds: at 8 bytes and more each, they pass the largest size that an allocation can
+/// have.
 const TOO_MANY_ITEMS: usize = 1 << 60;
 
 /// An assembler (own): it takes in words, and branches to labels, and binds labels to places between them.
@@ -74,17 +75,20 @@ impl Asm {
 
     /// Appends a word. The error is want of memory alone, and the assembler is then as it was.
     pub fn push(&mut self, word: u32) -> Result<(), AllocError>
-        ensures ok { OnOk result (self.new ≡ record self.old { items = self.old.items ++ Item.Word word ∷ [] }) }
+        ensures ok { OnOk result
+            (self.new ≡ record self.old { items = self.old.items ++ Item.Word word ∷ [] }) }
         ensures err { OnErr result (self.new ≡ self.old) }
     {
         self.append(Item::Word(word))
     }
 
-    /// Binds label `n` to the place of the next word; false exactly where there is no such label or it is bound, and
-    /// then nothing changes. Takes no memory.
+    /// Binds label `n` to the place of the next word; false exactly where there is no such label or it is
+    /// bound, and then nothing changes. Takes no memory.
     pub fn label(&mut self, n: u32) -> bool
         ensures free { IsTrue result ↔ (slice_get self.old.labels n ≡ Some None) }
-        ensures bound { OnTrue result (self.new ≡ record self.old { labels = slice_set self.old.labels n (Some (length self.old.items)) }) }
+        ensures bound { OnTrue result
+            (self.new
+            ≡ record self.old { labels = slice_set self.old.labels n (Some (length self.old.items)) }) }
         ensures refused { OnFalse result (self.new ≡ self.old) }
     {
         if n >= self.labels() || self.labels[n as usize].is_some() {
@@ -94,15 +98,17 @@ impl Asm {
         true
     }
 
-    /// Appends a JAL or a branch with registers below 32, which is to be aimed at label `n`, whatever distance it has.
+    /// Appends a JAL or a branch with registers below 32, which is to be aimed at label `n`, whatever
+    /// distance it has.
     ///
-    /// `UnboundLabel(n)` exactly where there is no such label; else the error is want of memory alone. On an error
-    /// the assembler is as it was.
+    /// `UnboundLabel(n)` exactly where there is no such label; else the error is want of memory alone. On an
+    /// error the assembler is as it was.
     pub fn branch(&mut self, inst: Inst, n: u32) -> Result<(), AsmFault>
         requires { IsTrue (is_aimable inst) }
         ensures no_label { (result ≡ Err (AsmFault.UnboundLabel n)) ↔ (length self.old.labels ≤ n) }
         ensures memory { n < length self.old.labels → IsOkUnless result AsmFault.NoMemory }
-        ensures ok { OnOk result (self.new ≡ record self.old { items = self.old.items ++ Item.Aimed inst n ∷ [] }) }
+        ensures ok { OnOk result
+            (self.new ≡ record self.old { items = self.old.items ++ Item.Aimed inst n ∷ [] }) }
         ensures err { OnErr result (self.new ≡ self.old) }
     {
         if n >= self.labels() {
@@ -119,8 +125,8 @@ impl Asm {
         self.labels.len() as u32
     }
 
-    /// The address that label `n` is bound to; `None` exactly where there is no such label or it is unbound. Takes no
-    /// memory.
+    /// The address that label `n` is bound to; `None` exactly where there is no such label or it is unbound.
+    /// Takes no memory.
     pub fn place(&self, n: u32) -> Option<u64>
         ensures { result ≡ address_of self.now.at (index_of self.now.labels n) }
     {
@@ -132,11 +138,14 @@ impl Asm {
 
     /// The bytes of the words, the low byte of each first, with each branch aimed at its label.
     ///
-    /// `UnboundLabel(n)` exactly where n is the first used label that is unbound; else `TooFar(n)` exactly where n is
-    /// that of the first branch that doesn't reach its label.
+    /// `UnboundLabel(n)` exactly where n is the first used label that is unbound; else `TooFar(n)` exactly
+    /// where n is that of the first branch that doesn't reach its label.
     pub fn finish(self, alloc: Global) -> Result<Vec<u8>, AsmFault>
-        ensures unbound { (n : ℕ) → (result ≡ Err (AsmFault.UnboundLabel n)) ↔ (first_unbound self.labels self.items ≡ Some n) }
-        ensures too_far { (n : ℕ) → (result ≡ Err (AsmFault.TooFar n)) ↔ ((first_unbound self.labels self.items ≡ None) × (first_too_far self.labels 0 self.items ≡ Some n)) }
+        ensures unbound { (n : ℕ)
+            → (result ≡ Err (AsmFault.UnboundLabel n)) ↔ (first_unbound self.labels self.items ≡ Some n) }
+        ensures too_far { (n : ℕ) → (result ≡ Err (AsmFault.TooFar n))
+            ↔ ((first_unbound self.labels self.items ≡ None)
+            × (first_too_far self.labels 0 self.items ≡ Some n)) }
         ensures code { IfOk result (λ bytes. AreAssembled self.labels self.items bytes.items) }
     {
         if let Some(fault) = find_refusal(&self.items, &self.labels) {

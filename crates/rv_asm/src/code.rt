@@ -71,7 +71,8 @@ fn find_first_too_far(items: &[Item], labels: &[Option<usize>]) -> Option<u32>
 pub fn find_refusal(items: &[Item], labels: &[Option<usize>]) -> Option<AsmFault>
     requires few { length items.now ≤ 2 ^ 60 }
     requires within { AreWithin (2 ^ 60) labels.now }
-    ensures { result ≡ refused_by (first_unbound labels.now items.now) (first_too_far labels.now 0 items.now) }
+    ensures { result
+        ≡ refused_by (first_unbound labels.now items.now) (first_too_far labels.now 0 items.now) }
 {
     if let Some(label) = find_first_unbound(items, labels) {
         return Some(AsmFault::UnboundLabel(label));

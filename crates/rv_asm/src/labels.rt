@@ -16,7 +16,8 @@ pub fn unbound_labels(alloc: Global, count: u32) -> Result<Vec<Option<usize>>, A
     Ok(labels)
 }
 
-/// The index of the word that a label is bound to; `None` exactly where there is no such label or it is unbound.
+/// The index of the word that a label is bound to; `None` exactly where there is no such label or it is
+/// unbound.
 pub fn bound_index(labels: &[Option<usize>], label: u32) -> Option<usize>
     ensures { result ≡ index_of labels.now label }
 {

@@ -1,8 +1,8 @@
 //! From instructions to words, and from words and labels to code
 //! (RISC-V Unprivileged ISA, section "Base Instruction Formats").
 //!
-//! [`encode`] is the way back from `decode` of `rv_decode`. [`Asm`] collects words and branches to labels, and
-//! aims the branches once all labels are bound.
+//! [`encode`] is the way back from `decode` of `rv_decode`. [`Asm`] collects words and branches to labels,
+//! and aims the branches once all labels are bound.
 #![tactic(auto)]
 
 mod assembler;

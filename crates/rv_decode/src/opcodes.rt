@@ -1,4 +1,5 @@
-//! The major opcodes, bits 6..0 of a word (RISC-V Unprivileged ISA, chapter "RV32/64G Instruction Set Listings").
+//! The major opcodes, bits 6..0 of a word (RISC-V Unprivileged ISA, chapter "RV32/64G Instruction Set
+//! Listings").
 
 /// Loads.
 pub const LOAD: u32 = 0x03;

@@ -1,7 +1,8 @@
 //! The effects of RISC-V instructions: what each asks of its hart, as far as registers and pc decide it.
 //!
-//! [`effect`] decides what an instruction does, [`finish_load`] what a load makes of the bytes that it reads, and
-//! [`amo_value`] what an AMO writes. Each is total, takes no memory, and equals the meaning that `rv_inst` gives.
+//! [`effect`] decides what an instruction does, [`finish_load`] what a load makes of the bytes that it reads,
+//! and [`amo_value`] what an AMO writes. Each is total, takes no memory, and equals the meaning that
+//! `rv_inst` gives.
 #![tactic(auto)]
 
 mod control;

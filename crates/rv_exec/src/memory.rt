@@ -33,7 +33,8 @@ fn low_bytes(n: u64, size: u8) -> u64
     }
 }
 
-/// Extends a loaded value of `size` bytes, 1, 2, 4 or 8, to 64 bits: by its sign where `signed`, else by zeros.
+/// Extends a loaded value of `size` bytes, 1, 2, 4 or 8, to 64 bits: by its sign where `signed`, else by
+/// zeros.
 ///
 /// Only the low bytes of `raw` count; any other size counts as 8.
 pub fn finish_load(raw: u64, size: u8, signed: bool) -> u64

@@ -62,7 +62,8 @@ pub enum Effect {
         size: u8,
         rd: u8,
     },
-    /// Where the bytes at `at` are still reserved, they become `value` and `rd` becomes 0; else `rd` becomes 1.
+    /// Where the bytes at `at` are still reserved, they become `value` and `rd` becomes 0; else `rd` becomes
+    /// 1.
     Sc {
         at: u64,
         size: u8,

@@ -7,9 +7,9 @@ ghost use Rattle.rv_inst.specs.Local.{is_register_only};
 /// (RISC-V Unprivileged ISA, chapter "RV32/64G Instruction Set Listings").
 ///
 /// `rd`, `rs1` and `rs2` are numbers of registers, below 32. `imm` is the immediate as the signed number that
-/// it stands for: of LUI and AUIPC with its twelve low zeros, of jumps and branches as the distance from the pc
-/// in bytes. `shamt` is a distance of a shift in bits. The bits aq and rl of the A instructions are not kept,
-/// since each such instruction is ordered on both sides here.
+/// it stands for: of LUI and AUIPC with its twelve low zeros, of jumps and branches as the distance from the
+/// pc in bytes. `shamt` is a distance of a shift in bits. The bits aq and rl of the A instructions are not
+/// kept, since each such instruction is ordered on both sides here.
 #[derive(Clone, Copy, Debug, PartialEq, Eq, Drop)]
 pub enum Inst {
     // RV64I: upper immediates, jumps and branches.

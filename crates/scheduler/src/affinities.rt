@@ -14,7 +14,8 @@ use std::marker::Model;
 #[derive(Drop)]
 pub struct Affinities {
     entries: Entries,
-    /// Whether the numbers rise, as they do where each thread that comes has a higher one than all that are held.
+    /// Whether the numbers rise, as they do where each thread that comes has a higher one than all that are
+    /// held.
     rising: bool,
 }
 

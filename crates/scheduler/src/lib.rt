@@ -1,7 +1,7 @@
 //! The ready threads in order, and the harts that each thread may run on.
 //!
-//! A thread that becomes ready is the last one (own). Each live thread is held with a set of harts, one bit each:
-//! a new one has its parent's, and sched_setaffinity(2) changes it. Nothing here takes memory.
+//! A thread that becomes ready is the last one (own). Each live thread is held with a set of harts, one bit
+//! each: a new one has its parent's, and sched_setaffinity(2) changes it. Nothing here takes memory.
 #![tactic(auto)]
 
 mod affinities;

@@ -119,8 +119,8 @@ impl Ready {
         self.affinities.set_of(tid.0)
     }
 
-    /// Lets a thread run on those of the first `harts` harts, 1 to 8, that are in the set. EINVAL exactly where
-    /// there is none, and then nothing changes (sched_setaffinity(2)).
+    /// Lets a thread run on those of the first `harts` harts, 1 to 8, that are in the set. EINVAL exactly
+    /// where there is none, and then nothing changes (sched_setaffinity(2)).
     pub fn set_affinity(&mut self, tid: Tid, set: u8, harts: u8) -> Result<(), Errno>
         requires held { IsTrue (is_held tid.0 self.old) }
         requires some_hart { 1 ≤ harts }

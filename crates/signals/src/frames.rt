@@ -65,7 +65,8 @@ fn can_write_words<M: UserMem>(mem: &M, at: u64, count: u64) -> bool
 fn write_words<M: UserMem>(mem: &mut M, at: u64, words: &[u64])
     requires end { at + 8 * length words.now ≤ 2 ^ 64 }
     requires writable { can_write_words (M.can_write mem.old) at (length words.now) ≡ true }
-    ensures bytes { (a : ℕ) → M.byte mem.new a ≡ option_map (written (spec.words_stored at words.now) a) (M.byte mem.old a) }
+    ensures bytes { (a : ℕ)
+        → M.byte mem.new a ≡ option_map (written (spec.words_stored at words.now) a) (M.byte mem.old a) }
     ensures permissions { (a : ℕ) → M.can_write mem.new a ≡ M.can_write mem.old a }
     ensures alike { M.IsAlike mem.old mem.new }
 {
@@ -103,11 +104,12 @@ fn can_write<M: UserMem>(mem: &M, at: u64) -> bool
     can_write_words(mem, at, WORDS as u64)
 }
 
-/// Writes the frame of a thread with this file and this mask. False exactly where a byte of it can't be written, and
-/// then nothing changes.
+/// Writes the frame of a thread with this file and this mask. False exactly where a byte of it can't be
+/// written, and then nothing changes.
 pub fn write<M: UserMem>(mem: &mut M, saved: &Saved, mask: u64) -> bool
     ensures answer { result ≡ spec.can_write_frame (M.can_write mem.old) saved.now }
-    ensures bytes { (a : ℕ) → M.byte mem.new a ≡ spec.after_frame result (spec.frame_writes saved.now mask) (M.byte mem.old) a }
+    ensures bytes { (a : ℕ)
+        → M.byte mem.new a ≡ spec.after_frame result (spec.frame_writes saved.now mask) (M.byte mem.old) a }
     ensures permissions { (a : ℕ) → M.can_write mem.new a ≡ M.can_write mem.old a }
     ensures alike { M.IsAlike mem.old mem.new }
 {
@@ -135,8 +137,8 @@ pub fn read<M: UserMem>(mem: &M, saved: &Saved) -> Option<FrameWords>
     Some(words)
 }
 
-/// The file with which the handler of a signal starts: a0 is the signal, a1 0, a2 and sp the frame, and ra where the
-/// handler returns to.
+/// The file with which the handler of a signal starts: a0 is the signal, a1 0, a2 and sp the frame, and ra
+/// where the handler returns to.
 pub fn handler_file(sig: u8, action: Action, saved: &Saved) -> Saved
     ensures { result ≡ spec.handler_file sig action saved.now }
 {

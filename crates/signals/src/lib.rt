@@ -1,5 +1,5 @@
-//! The signals of a process: what is done when one comes, which a thread masks, which are pending, and the frame that
-//! a handler finds on its stack (sigaction(2), sigprocmask(2), tkill(2), signal(7), sigreturn(2)).
+//! The signals of a process: what is done when one comes, which a thread masks, which are pending, and the
+//! frame that a handler finds on its stack (sigaction(2), sigprocmask(2), tkill(2), signal(7), sigreturn(2)).
 //!
 //! Nothing here takes memory.
 #![tactic(auto)]
@@ -18,6 +18,3 @@ pub use theorems::{
     others_keep_their_signals, sets_have_their_signals, signalling_stays_whole,
     thread_has_its_signals,
 };
-
-#[cfg(test)]
-mod tests;

@@ -18,7 +18,8 @@ use mach_types::signals::{LAST_SIGNAL, SIG_BLOCK, SIG_SETMASK, SIG_UNBLOCK};
 use mach_types::{Action, Errno, Saved, ThreadSignals, Tid, UserMem};
 use std::marker::Model;
 
-/// The actions of the signals 1 to 31, and the mask and the pending signals of each thread that is held, at most 64.
+/// The actions of the signals 1 to 31, and the mask and the pending signals of each thread that is held, at
+/// most 64.
 #[derive(Drop)]
 pub struct Signals {
     actions: [Action; SIGNALS],
@@ -35,7 +36,8 @@ impl Model for Signals {
 
     ghost view = { λ s. record { actions = s.actions; threads = s.threads.items } };
 
-    ghost invariant = { λ s. IsKept s.may_be_pending (record { actions = s.actions; threads = s.threads.items }) };
+    ghost invariant = { λ s. IsKept s.may_be_pending
+        (record { actions = s.actions; threads = s.threads.items }) };
 }
 
 /// The mask that sigprocmask(2) makes of a mask, by `how`; None exactly where `how` isn't one of three.
@@ -117,11 +119,11 @@ impl Signals {
         actions::action_of(&self.actions, sig)
     }
 
-    /// Answers the action of a signal, and sets a new one where one is given; a new one that ignores the signal drops
-    /// it for all threads (sigaction(2)).
+    /// Answers the action of a signal, and sets a new one where one is given; a new one that ignores the
+    /// signal drops it for all threads (sigaction(2)).
     ///
-    /// EINVAL exactly where the signal isn't 1 to 31, or a new action is given for SIGKILL or SIGSTOP; then nothing
-    /// changes.
+    /// EINVAL exactly where the signal isn't 1 to 31, or a new action is given for SIGKILL or SIGSTOP; then
+    /// nothing changes.
     pub fn act(&mut self, sig: u8, new: Option<Action>) -> Result<Action, Errno>
         ensures refused { IsErr result ↔ IsTrue (spec.refuses_action sig new) }
         ensures errno { IfErr result (λ e. e ≡ EINVAL) }
@@ -152,8 +154,8 @@ impl Signals {
         }
     }
 
-    /// Answers what a thread masks, and changes it: by `how`, signals are added (0), taken away (1), or are the mask (2).
-    /// SIGKILL and SIGSTOP are never masked (sigprocmask(2)).
+    /// Answers what a thread masks, and changes it: by `how`, signals are added (0), taken away (1), or are
+    /// the mask (2). SIGKILL and SIGSTOP are never masked (sigprocmask(2)).
     ///
     /// EINVAL exactly where `how` is another number; then nothing changes.
     pub fn mask(&mut self, tid: Tid, how: u32, set: u64) -> Result<u64, Errno>
@@ -162,7 +164,8 @@ impl Signals {
         ensures errno { IfErr result (λ e. e ≡ EINVAL) }
         ensures old { IfOk result (λ m. m ≡ spec.mask_of tid.0 self.old) }
         ensures ok { OnOk result (
-            self.new ≡ spec.with_mask tid.0 (spec.changed_mask how set (spec.mask_of tid.0 self.old)) self.old) }
+            self.new
+            ≡ spec.with_mask tid.0 (spec.changed_mask how set (spec.mask_of tid.0 self.old)) self.old) }
         ensures err { OnErr result (self.new ≡ self.old) }
     {
         let old = self.mask_of(tid);
@@ -173,7 +176,8 @@ impl Signals {
         Ok(old)
     }
 
-    /// Posts a signal, 1 to 31, to a thread: it is pending, or dropped where its action ignores it (tkill(2)).
+    /// Posts a signal, 1 to 31, to a thread: it is pending, or dropped where its action ignores it
+    /// (tkill(2)).
     pub fn post(&mut self, tid: Tid, sig: u8)
         requires held { IsTrue (spec.is_held tid.0 self.old) }
         requires lowest { 1 ≤ sig }
@@ -186,7 +190,8 @@ impl Signals {
         }
     }
 
-    /// The lowest signal that is pending for a thread and that it doesn't mask; None exactly where there is none.
+    /// The lowest signal that is pending for a thread and that it doesn't mask; None exactly where there is
+    /// none.
     pub fn next_for(&self, tid: Tid) -> Option<u8>
         requires { IsTrue (spec.is_held tid.0 self.now) }
         ensures { result ≡ spec.next_for tid.0 self.now }
@@ -210,9 +215,9 @@ impl Signals {
         self.may_be_pending = threads::is_any_pending(&self.threads);
     }
 
-    /// Enters the handler of a signal, 1 to 31, in a thread with this file: the frame is written below its stack, the
-    /// file becomes that with which the handler starts, the signal and those of the action are masked, and with
-    /// SA_RESETHAND the action becomes the default. What is pending stays (sigaction(2)).
+    /// Enters the handler of a signal, 1 to 31, in a thread with this file: the frame is written below its
+    /// stack, the file becomes that with which the handler starts, the signal and those of the action are
+    /// masked, and with SA_RESETHAND the action becomes the default. What is pending stays (sigaction(2)).
     ///
     /// False exactly where the frame can't be written, and then nothing changes.
     pub fn push_frame<M: UserMem>(
@@ -229,10 +234,12 @@ impl Signals {
         ensures answer { result ≡ frame.can_write_frame (M.can_write mem.old) saved.old }
         ensures signals { OnTrue result (self.new ≡ frame.entered tid.0 sig self.old) }
         ensures same_signals { OnFalse result (self.new ≡ self.old) }
-        ensures file { OnTrue result (saved.new ≡ frame.handler_file sig (spec.action_of sig self.old) saved.old) }
+        ensures file { OnTrue result
+            (saved.new ≡ frame.handler_file sig (spec.action_of sig self.old) saved.old) }
         ensures same_file { OnFalse result (saved.new ≡ saved.old) }
         ensures bytes { (a : ℕ) → M.byte mem.new a
-            ≡ frame.after_frame result (frame.frame_writes saved.old (spec.mask_of tid.0 self.old)) (M.byte mem.old) a }
+            ≡ frame.after_frame result (frame.frame_writes saved.old (spec.mask_of tid.0 self.old))
+            (M.byte mem.old) a }
         ensures permissions { (a : ℕ) → M.can_write mem.new a ≡ M.can_write mem.old a }
         ensures alike { M.IsAlike mem.old mem.new }
     {
@@ -254,8 +261,10 @@ impl Signals {
     pub fn pop_frame<M: UserMem>(&mut self, mem: &M, tid: Tid, saved: &mut Saved) -> bool
         requires held { IsTrue (spec.is_held tid.0 self.old) }
         ensures answer { result ≡ is_some (frame.frame_read (M.byte mem.now) saved.old) }
-        ensures signals { self.new ≡ frame.returned tid.0 (frame.frame_read (M.byte mem.now) saved.old) self.old }
-        ensures file { saved.new ≡ frame.saved_after_return (frame.frame_read (M.byte mem.now) saved.old) saved.old }
+        ensures signals { self.new
+            ≡ frame.returned tid.0 (frame.frame_read (M.byte mem.now) saved.old) self.old }
+        ensures file { saved.new
+            ≡ frame.saved_after_return (frame.frame_read (M.byte mem.now) saved.old) saved.old }
     {
         let Some(words) = frames::read(mem, saved) else {
             return false;

@@ -10,33 +10,36 @@ ghost use Rattle.mach_types.specs.declared.threads.Saved.{Saved};
 ghost use Rattle.signals.specs.Frames.{CanReadFrame, IsFile, IsWord};
 ghost use Rattle.signals.specs.Holding.{IsMask, IsSignalling};
 
-/// SIGKILL and SIGSTOP are in no mask that sigprocmask(2) makes, that a handler runs with, or that it returns to.
+/// SIGKILL and SIGSTOP are in no mask that sigprocmask(2) makes, that a handler runs with, or that it returns
+/// to.
 pub fn kill_and_stop_are_never_masked()
     ensures maskable { (signals : ℕ) → IsMask (maskable signals) }
     ensures changed { (how signals mask : ℕ) → IsMask (changed_mask how signals mask) }
     ensures entered { (s mask : ℕ) (a : Action) → IsMask (frame.handler_mask s a mask) }
 {}
 
-/// What holds of the signals of a process holds at the start, and after each call where it held before: each signal has
-/// an action, a thread is held once, and no mask has SIGKILL or SIGSTOP.
+/// What holds of the signals of a process holds at the start, and after each call where it held before: each
+/// signal has an action, a thread is held once, and no mask has SIGKILL or SIGSTOP.
 pub fn signalling_stays_whole()
     ensures start { IsSignalling start_signalling }
     ensures add { (parent t : ℕ) (g : Signalling) → IsSignalling g
         → is_held t g ≡ false → length g.threads < MOST_THREADS → IsSignalling (with_thread parent t g) }
     ensures remove { (t : ℕ) (g : Signalling) → IsSignalling g → IsSignalling (forget t g) }
-    ensures act { (s : ℕ) (new : Option Action) (g : Signalling) → IsSignalling g → IsSignalling (acted s new g) }
+    ensures act { (s : ℕ) (new : Option Action) (g : Signalling) → IsSignalling g
+        → IsSignalling (acted s new g) }
     ensures mask { (t how signals : ℕ) (g : Signalling) → IsSignalling g
         → IsSignalling (with_mask t (changed_mask how signals (mask_of t g)) g) }
     ensures post { (t s : ℕ) (g : Signalling) → IsSignalling g → IsSignalling (posted t s g) }
-    ensures take_pending { (t s : ℕ) (g : Signalling) → IsSignalling g → IsSignalling (without_pending t s g) }
+    ensures take_pending { (t s : ℕ) (g : Signalling) → IsSignalling g
+        → IsSignalling (without_pending t s g) }
     ensures push_frame { (t s : ℕ) (g : Signalling) → IsSignalling g → IsSignalling (frame.entered t s g) }
     ensures pop_frame { (t : ℕ) (words : Option (List ℕ)) (g : Signalling) → IsSignalling g
         → IsSignalling (frame.returned t words g) }
     ensures mask_of { (t : ℕ) (g : Signalling) → IsSignalling g → IsMask (mask_of t g) }
 {}
 
-/// The signal that comes next to a thread is one from 1 to 31 that is pending and that it doesn't mask, and no lower one
-/// is; where none comes, none is.
+/// The signal that comes next to a thread is one from 1 to 31 that is pending and that it doesn't mask, and
+/// no lower one is; where none comes, none is.
 pub fn next_signal_is_the_lowest()
     ensures comes { (t s : ℕ) (g : Signalling) → next_for t g ≡ Some s → is_deliverable t g s ≡ true }
     ensures lowest { (t s : ℕ) (g : Signalling) → next_for t g ≡ Some s → 1 ≤ s }
@@ -53,7 +56,8 @@ pub fn others_keep_their_signals()
     ensures post { (t u s : ℕ) (g : Signalling) → u ≢ t → pending_of u (posted t s g) ≡ pending_of u g }
     ensures take_pending { (t u s : ℕ) (g : Signalling) → u ≢ t
         → pending_of u (without_pending t s g) ≡ pending_of u g }
-    ensures add_mask { (parent t u : ℕ) (g : Signalling) → u ≢ t → mask_of u (with_thread parent t g) ≡ mask_of u g }
+    ensures add_mask { (parent t u : ℕ) (g : Signalling) → u ≢ t
+        → mask_of u (with_thread parent t g) ≡ mask_of u g }
     ensures add_pending { (parent t u : ℕ) (g : Signalling) → u ≢ t
         → pending_of u (with_thread parent t g) ≡ pending_of u g }
     ensures remove_mask { (t u : ℕ) (g : Signalling) → u ≢ t → mask_of u (forget t g) ≡ mask_of u g }
@@ -62,7 +66,8 @@ pub fn others_keep_their_signals()
 
 /// What a thread masks, and what is pending for it, after what is done with its signals.
 pub fn thread_has_its_signals()
-    ensures mask { (t mask : ℕ) (g : Signalling) → is_held t g ≡ true → mask_of t (with_mask t mask g) ≡ mask }
+    ensures mask { (t mask : ℕ) (g : Signalling) → is_held t g ≡ true
+        → mask_of t (with_mask t mask g) ≡ mask }
     ensures post { (t s : ℕ) (g : Signalling) → is_held t g ≡ true → is_ignored s (action_of s g) ≡ false
         → pending_of t (posted t s g) ≡ joined (pending_of t g) (only s) }
     ensures take_pending { (t s : ℕ) (g : Signalling) → is_held t g ≡ true
@@ -73,14 +78,17 @@ pub fn thread_has_its_signals()
         → pending_of t (with_thread parent t g) ≡ 0 }
 {}
 
-/// A handler that returns while its frame stands as it was written goes on where it was interrupted: its frame is read
-/// as it was written, and has the thread's file and mask.
+/// A handler that returns while its frame stands as it was written goes on where it was interrupted: its
+/// frame is read as it was written, and has the thread's file and mask.
 pub fn handler_returns_to_where_it_was()
-    ensures frame { (byte : ℕ → Option ℕ) (s mask : ℕ) (a : Action) (saved : Saved) → IsFile saved → IsWord mask
+    ensures frame { (byte : ℕ → Option ℕ) (s mask : ℕ) (a : Action) (saved : Saved) → IsFile saved
+        → IsWord mask
         → CanReadFrame byte saved
-        → frame.frame_read (frame.after_frame true (frame.frame_writes saved mask) byte) (frame.handler_file s a saved)
+        → frame.frame_read (frame.after_frame true (frame.frame_writes saved mask) byte)
+        (frame.handler_file s a saved)
         ≡ Some (frame.frame_words saved mask) }
-    ensures file { (mask : ℕ) (saved : Saved) → IsFile saved → frame.restored (frame.frame_words saved mask) ≡ saved }
+    ensures file { (mask : ℕ) (saved : Saved) → IsFile saved
+        → frame.restored (frame.frame_words saved mask) ≡ saved }
     ensures mask { (mask : ℕ) (saved : Saved) → IsFile saved
         → frame.restored_mask (frame.frame_words saved mask) ≡ maskable mask }
 {}

@@ -86,7 +86,8 @@ fn is_plain_decimal(text: &[u8]) -> bool
 /// The number that decimal digits write, where it is below 2^32.
 fn decimal_value(digits: &[u8]) -> Option<u32>
     requires { list_all is_ascii_digit digits.now ≡ true }
-    ensures { result ≡ (if nat_lt (digits_value 10 digits.now) (2 ^ 32) then Some (digits_value 10 digits.now) else None) }
+    ensures { result
+        ≡ (if nat_lt (digits_value 10 digits.now) (2 ^ 32) then Some (digits_value 10 digits.now) else None) }
 {
     let mut number = 0u32;
     for byte in digits {

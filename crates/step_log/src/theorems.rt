@@ -15,7 +15,8 @@ pub fn printed_entry_is_read()
 
 /// The lines of a printed log are those of its entries, in order, and each says what its entry says.
 pub fn printed_log_is_read()
-    ensures lines { (log : List Entry) → AllByRecursion IsPrintable log → lines_of (log_text log) ≡ map entry_line log }
+    ensures lines { (log : List Entry) → AllByRecursion IsPrintable log
+        → lines_of (log_text log) ≡ map entry_line log }
     ensures meanings { (log : List Entry) → AllByRecursion IsPrintable log
         → map line_meaning (lines_of (log_text log)) ≡ map (λ e. Some (whole_line e)) log }
 {}

@@ -88,8 +88,8 @@ impl StoreBuffer {
         self.ring.pop_front()
     }
 
-    /// The little-endian number of `size` bytes as the hart sees them: each byte is that of the youngest waiting
-    /// store that has it, else memory's. None exactly where memory can't be read there.
+    /// The little-endian number of `size` bytes as the hart sees them: each byte is that of the youngest
+    /// waiting store that has it, else memory's. None exactly where memory can't be read there.
     pub fn look<M: UserMem>(&self, mem: &M, at: u64, size: u8) -> Option<u64>
         requires { IsAccessSize size }
         ensures seen { result ≡ word_at (seen self.now (M.byte mem.now)) at size }
@@ -111,8 +111,8 @@ impl StoreBuffer {
         self.touches_any(page, 1)
     }
 
-    /// Whether some byte of a waiting store lies in one of `count` pages, from the page with number `first` on. Takes the time of
-    /// the stores alone, however many pages they are.
+    /// Whether some byte of a waiting store lies in one of `count` pages, from the page with number `first`
+    /// on. Takes the time of the stores alone, however many pages they are.
     pub fn touches_any(&self, first: u64, count: u64) -> bool
         ensures { IsTrue result ↔ Any (HasByteAmong first count) self.now }
     {

@@ -6,7 +6,8 @@ use mach_types::UserMem;
 use std::process::Abort;
 use std::test::Fail;
 
-/// Memory that can be read from `first` to `last`, and not written: the byte at an address is the address's lowest byte.
+/// Memory that can be read from `first` to `last`, and not written: the byte at an address is the address's
+/// lowest byte.
 #[derive(Clone, Copy)]
 struct Ramp {
     first: u64,
@@ -16,7 +17,8 @@ struct Ramp {
 impl UserMem for Ramp {
     ghost use Rattle.std.specs.Prelude.{◌%◌, ◌^◌, ◌&&◌, false, nat_le, nat_lt, if◌then◌else◌, Some, None};
 
-    ghost byte = { λ m a. if nat_lt a (2 ^ 64) && (nat_le m.first a && nat_le a m.last) then Some (a % 256) else None };
+    ghost byte = { λ m a. if nat_lt a (2 ^ 64) && (nat_le m.first a && nat_le a m.last) then Some (a % 256)
+        else None };
 
     ghost can_write = { λ m a. false };
 

@@ -9,17 +9,10 @@ use Rattle.block_model.specs.Calls.Answers.{are_readable, are_writable}
 use Rattle.block_model.specs.Calls.Signals.{action_size}
 use Rattle.sys_calls.specs.Answered.{IsRead}
 use Rattle.sys_calls.specs.Signalled.{pass_action}
-use Rattle.sys_calls.proofs.Reading.{readable_is, writable_is}
+use Rattle.sys_calls.proofs.GuestMemory.{readable_is, writable_is}
 use Rattle.sys_calls.proofs.Spans.{readable_end}
 use Rattle.page_map.specs.MapLaws.{byte_in-ends, byte_in-readable}
-
-left_of : (b c : Bool) → (b && c) ≡ true → b ≡ true
-left_of true c e = refl
-left_of false c e = cc
-
-right_of : (b c : Bool) → (b && c) ≡ true → c ≡ true
-right_of true c e = e
-right_of false c e = cc
+use Rattle.std.proofs.lemmas.Bool.{and_parts}
 
 -- the words by a test of a byte
 pub three_words : (test : ℕ → Bool) (at : ℕ) → pass_action test at ≡ ((each_byte test at 8 && each_byte test (at + 8) 8) && each_byte test (at + 16) 8)
@@ -34,13 +27,9 @@ pub record PassThree (test : ℕ → Bool) (at : ℕ) : Type 0 where
 
 pub pass_three : (test : ℕ → Bool) (at : ℕ) → pass_action test at ≡ true → PassThree test at
 pass_three test at all =
-    let words : ((each_byte test at 8 && each_byte test (at + 8) 8) && each_byte test (at + 16) 8) ≡ true = sym (three_words test at) ∙ all in
-    let front = left_of (each_byte test at 8 && each_byte test (at + 8) 8) (each_byte test (at + 16) 8) words in
-    record {
-      first = left_of (each_byte test at 8) (each_byte test (at + 8) 8) front;
-      second = right_of (each_byte test at 8) (each_byte test (at + 8) 8) front;
-      third = right_of (each_byte test at 8 && each_byte test (at + 8) 8) (each_byte test (at + 16) 8) words;
-    }
+    let words = and_parts (each_byte test at 8 && each_byte test (at + 8) 8) (each_byte test (at + 16) 8) (sym (three_words test at) ∙ all) in
+    let front = and_parts (each_byte test at 8) (each_byte test (at + 8) 8) words.0 in
+    record { first = front.0; second = front.1; third = words.1 }
 
 -- none of them can be written where the last one begins at 2^64 or later
 and_false : (b c : Bool) → c ≡ false → (b && c) ≡ false

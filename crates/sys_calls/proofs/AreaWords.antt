@@ -1,6 +1,6 @@
 -- The four words of an area: where they can be written they can be read, and they lie below 2^64.
-use Rattle.std.proofs.Common.{◌≡◌, ℕ, suc, ◌+◌, ◌<◌, ◌^◌, Bool, true, false, ◌&&◌, refl, sym, ap, ◌∙◌, inl, inr, arith}
-use Rattle.std.proofs.lemmas.Bool.{cases_lt, false≢true}
+use Rattle.std.proofs.Common.{◌≡◌, ℕ, suc, ◌+◌, ◌<◌, ◌^◌, Bool, true, refl, sym, ap, ◌∙◌, inl, inr, arith}
+use Rattle.std.proofs.lemmas.Bool.{cases_lt, false≢true, and_parts}
 use Rattle.mach_types.proofs.Laws.{each_byte-past, each_byte-split}
 use Rattle.mach_types.specs.Bytes.{after_writes, each_byte}
 use Rattle.mach_types.specs.Kernel.Areas.{Words, are_words_writable, words_written}
@@ -9,14 +9,6 @@ use Rattle.page_map.proofs.Laws.{alike_holds, writable_is_visible}
 use Rattle.page_map.specs.Map.{IsAlike, Map, are_visible, byte_in, can_write_in}
 use Rattle.page_map.specs.MapLaws.{byte_in-ends, byte_in-readable}
 use Rattle.sys_calls.specs.Answered.{IsEntered}
-
-left_of : (b c : Bool) → (b && c) ≡ true → b ≡ true
-left_of true c e = refl
-left_of false c e = cc
-
-right_of : (b c : Bool) → (b && c) ≡ true → c ≡ true
-right_of true c e = e
-right_of false c e = cc
 
 -- each of the words passes a test
 pub record PassEach (test : ℕ → Bool) (at : ℕ) : Type 0 where
@@ -27,17 +19,11 @@ pub record PassEach (test : ℕ → Bool) (at : ℕ) : Type 0 where
 
 pub pass_each : (test : ℕ → Bool) (area : Area) → are_words_writable test area ≡ true → PassEach test area.at
 pass_each test area all =
-    let first = left_of (each_byte test area.at 8) (each_byte test (area.at + 20) 8) all in
-    let second = right_of (each_byte test area.at 8) (each_byte test (area.at + 20) 8) all in
-    let low : (each_byte test area.at 4 && each_byte test (area.at + 4) 4) ≡ true = sym (each_byte-split test area.at 4 4) ∙ first in
-    let high : (each_byte test (area.at + 20) 4 && each_byte test (area.at + 20 + 4) 4) ≡ true = sym (each_byte-split test (area.at + 20) 4 4) ∙ second in
+    let halves = and_parts (each_byte test area.at 8) (each_byte test (area.at + 20) 8) all in
+    let low = and_parts (each_byte test area.at 4) (each_byte test (area.at + 4) 4) (sym (each_byte-split test area.at 4 4) ∙ halves.0) in
+    let high = and_parts (each_byte test (area.at + 20) 4) (each_byte test (area.at + 20 + 4) 4) (sym (each_byte-split test (area.at + 20) 4 4) ∙ halves.1) in
     let place : area.at + 24 ≡ area.at + 20 + 4 = omega arith in
-    record {
-      start = left_of (each_byte test area.at 4) (each_byte test (area.at + 4) 4) low;
-      id = right_of (each_byte test area.at 4) (each_byte test (area.at + 4) 4) low;
-      node = left_of (each_byte test (area.at + 20) 4) (each_byte test (area.at + 20 + 4) 4) high;
-      cid = ap (λ a. each_byte test a 4) place ∙ right_of (each_byte test (area.at + 20) 4) (each_byte test (area.at + 20 + 4) 4) high;
-    }
+    record { start = low.0; id = low.1; node = high.0; cid = ap (λ a. each_byte test a 4) place ∙ high.1 }
 
 -- bytes that can be written lie below 2^64
 pub writable_below : (m : Map) (at n : ℕ) → each_byte (can_write_in m) at (suc n) ≡ true → at < 2 ^ 64
@@ -46,15 +32,15 @@ writable_below m at n all = elim (cases_lt at (2 ^ 64)) [
   | inr past ↦ absurd (false≢true (sym (each_byte-past (byte_in m) (can_write_in m) (byte_in-readable m) (byte_in-ends m) at n past) ∙ all))
 ]
 
-both : (b c : Bool) → b ≡ true → c ≡ true → (b && c) ≡ true
-both true c p q = q
-both false c p q = cc
-
 pub words_visible : (m : Map) (area : Area) (words : Words) → are_words_writable (can_write_in m) area ≡ true → are_visible m (words_written area words) ≡ true
 words_visible m area words all =
     let each = pass_each (can_write_in m) area all in
-    both _ _ (writable_is_visible m area.at 4 each.start) (both _ _ (writable_is_visible m (area.at + 4) 4 each.id)
-    (both _ _ (writable_is_visible m (area.at + 20) 4 each.node) (both _ _ (writable_is_visible m (area.at + 24) 4 each.cid) refl)))
+    rw (
+      writable_is_visible m area.at 4 each.start,
+      writable_is_visible m (area.at + 4) 4 each.id,
+      writable_is_visible m (area.at + 20) 4 each.node,
+      writable_is_visible m (area.at + 24) 4 each.cid,
+    ) refl
 
 -- they enter memory
 pub words_enter : (m m' : Map) (area : Area) (words : Words) → are_words_writable (can_write_in m) area ≡ true → IsAlike m m'

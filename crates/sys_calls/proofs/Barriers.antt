@@ -26,10 +26,10 @@ use Rattle.sys_calls.specs.declared.kernel.Kernel.{Kernel}
 use Rattle.sys_calls.specs.Answered.{IsCaller, IsEntered}
 use Rattle.sys_calls.specs.Tables.{HoldsTables}
 use Rattle.sys_calls.specs.Made.{AreSaved, HasPages, IsAnswer, IsMade, StandsSo, barrier_of, gives_up, process_end}
-use Rattle.sys_calls.proofs.Entering.{entered_none, pages_kept}
+use Rattle.sys_calls.proofs.KernelWrites.{entered_none, pages_kept}
 use Rattle.sys_calls.proofs.Laws.{holds_barriers}
-use Rattle.sys_calls.proofs.Saying.{kept_own}
-use Rattle.sys_calls.proofs.Tables.{caller_runs}
+use Rattle.sys_calls.proofs.CallAnswers.{kept_own}
+use Rattle.sys_calls.proofs.CallerTables.{caller_runs}
 
 -- a command that begins a barrier registers nothing
 begins_only : (r : Registered) (harts targets : ℕ) (restart : Bool) (o : Option BarrierCommand) → option_map_or (answer_of r harts) o (refusal EINVAL) ≡ Begin targets restart

@@ -18,7 +18,7 @@ use Rattle.block_model.proofs.Laws.{child_not_held, child_same, ready_listed}
 use Rattle.sys_calls.specs.declared.kernel.Kernel.{Kernel}
 use Rattle.sys_calls.specs.Answered.{AreTables}
 use Rattle.sys_calls.specs.Made.{AreSaved}
-use Rattle.sys_calls.proofs.Tables.{cleared_runs, live_in}
+use Rattle.sys_calls.proofs.CallerTables.{cleared_runs, live_in}
 
 -- the next number isn't held, nor ready
 pub next_not_held : (parent u : ℕ) (k : Kernel) → AreTables k → is_full k.threads.threads ≡ false → u ≡ k.threads.threads.given + 1 → list_any (is_of u) k.ready.affinities ≡ false

@@ -11,136 +11,77 @@ use Rattle.mach_types.specs.declared.barriers.Registered.{Registered}
 use Rattle.mach_types.specs.declared.sequences.Area.{Area}
 use Rattle.mach_types.specs.declared.threads.ThreadState.TheVariants.{Ready}
 use Rattle.kernel_threads.specs.Table.{Table}
-use Rattle.block_model.specs.Kernel.{cleared, gone, had_child, left, next_number, woken}
+use Rattle.block_model.specs.Kernel.{cleared, gone, had_child, left, woken}
 use Rattle.block_model.specs.Record as model_of
 use Rattle.sys_calls.specs.Registered.{areas_by_number}
 use Rattle.sys_calls.specs.Tables.{HoldsTables}
-use Rattle.sys_calls.specs.declared.areas.RegisteredArea.{RegisteredArea}
+use Rattle.sys_calls.specs.declared.rseq_areas.RegisteredArea.{RegisteredArea}
 use Rattle.sys_calls.specs.declared.kernel.Kernel.{Kernel}
+
+-- the six equations together
+tables_hold : {k : Kernel} {r : model_of.Kernel} → k.threads.threads ≡ r.threads → k.signals ≡ r.signals → k.ready ≡ r.scheduling
+    → areas_by_number k.areas.items ≡ r.areas → k.registered ≡ r.barriers → k.console ≡ r.console → HoldsTables k r
+tables_hold threads signalling ready areas barriers console = record {
+  threads = threads;
+  signals = signalling;
+  scheduling = ready;
+  areas = areas;
+  barriers = barriers;
+  console = console;
+}
 
 module _ {k : Kernel} {r : model_of.Kernel} (held : HoldsTables k r) where
   -- the concurrency ids and the pages are in no table
   pub holds_past_ids : (ids : List (ℕ × ℕ)) → HoldsTables k (record r { ids = ids })
-  holds_past_ids ids = record {
-    threads = held.threads;
-    signals = held.signals;
-    scheduling = held.scheduling;
-    areas = held.areas;
-    barriers = held.barriers;
-    console = held.console;
-  }
+  holds_past_ids ids = tables_hold held.threads held.signals held.scheduling held.areas held.barriers held.console
 
   pub holds_past_pages : (pages : Pages) → HoldsTables k (record r { pages = pages })
-  holds_past_pages pages = record {
-    threads = held.threads;
-    signals = held.signals;
-    scheduling = held.scheduling;
-    areas = held.areas;
-    barriers = held.barriers;
-    console = held.console;
-  }
+  holds_past_pages pages = tables_hold held.threads held.signals held.scheduling held.areas held.barriers held.console
 
   -- one table changes
   pub holds_threads : (table : Table) (ts : Threads) → table.threads ≡ ts
       → HoldsTables (record k { threads = table }) (record r { threads = ts })
-  holds_threads table ts is = record {
-    threads = is;
-    signals = held.signals;
-    scheduling = held.scheduling;
-    areas = held.areas;
-    barriers = held.barriers;
-    console = held.console;
-  }
+  holds_threads table ts is = tables_hold is held.signals held.scheduling held.areas held.barriers held.console
 
   pub holds_signals : (g g' : Signalling) → g ≡ g' → HoldsTables (record k { signals = g }) (record r { signals = g' })
-  holds_signals g g' is = record {
-    threads = held.threads;
-    signals = is;
-    scheduling = held.scheduling;
-    areas = held.areas;
-    barriers = held.barriers;
-    console = held.console;
-  }
+  holds_signals g g' is = tables_hold held.threads is held.scheduling held.areas held.barriers held.console
 
   pub holds_scheduling : (s s' : Scheduling) → s ≡ s' → HoldsTables (record k { ready = s }) (record r { scheduling = s' })
-  holds_scheduling s s' is = record {
-    threads = held.threads;
-    signals = held.signals;
-    scheduling = is;
-    areas = held.areas;
-    barriers = held.barriers;
-    console = held.console;
-  }
+  holds_scheduling s s' is = tables_hold held.threads held.signals is held.areas held.barriers held.console
 
   pub holds_areas : (xs : Items RegisteredArea) (ys : List (ℕ × Area)) → areas_by_number xs.items ≡ ys
       → HoldsTables (record k { areas = xs }) (record r { areas = ys })
-  holds_areas xs ys is = record {
-    threads = held.threads;
-    signals = held.signals;
-    scheduling = held.scheduling;
-    areas = is;
-    barriers = held.barriers;
-    console = held.console;
-  }
+  holds_areas xs ys is = tables_hold held.threads held.signals held.scheduling is held.barriers held.console
 
   pub holds_barriers : (b : Registered) → HoldsTables (record k { registered = b }) (record r { barriers = b })
-  holds_barriers b = record {
-    threads = held.threads;
-    signals = held.signals;
-    scheduling = held.scheduling;
-    areas = held.areas;
-    barriers = refl;
-    console = held.console;
-  }
+  holds_barriers b = tables_hold held.threads held.signals held.scheduling held.areas refl held.console
 
   pub holds_console : (c c' : List ℕ) → c ≡ c' → HoldsTables (record k { console = c }) (record r { console = c' })
-  holds_console c c' is = record {
-    threads = held.threads;
-    signals = held.signals;
-    scheduling = held.scheduling;
-    areas = held.areas;
-    barriers = held.barriers;
-    console = is;
-  }
+  holds_console c c' is = tables_hold held.threads held.signals held.scheduling held.areas held.barriers is
 
   -- a thread left its hart, and one that waited was woken
   pub holds_left : (t : ℕ) (table : Table) (s : Scheduling) → table.threads ≡ with_state t Ready k.threads.threads
       → s ≡ with_ready t k.ready
       → HoldsTables (record k { threads = table; ready = s }) (left t r)
-  holds_left t table s threads ready = record {
-    threads = threads ∙ ap (with_state t Ready) held.threads;
-    signals = held.signals;
-    scheduling = ready ∙ ap (with_ready t) held.scheduling;
-    areas = held.areas;
-    barriers = held.barriers;
-    console = held.console;
-  }
+  holds_left t table s threads ready =
+      tables_hold (threads ∙ ap (with_state t Ready) held.threads) held.signals (ready ∙ ap (with_ready t) held.scheduling)
+      held.areas held.barriers held.console
 
   pub holds_woken : (t : ℕ) (table : Table) (s : Scheduling) → table.threads ≡ with_woken t k.threads.threads
       → s ≡ with_ready t k.ready
       → HoldsTables (record k { threads = table; ready = s }) (woken t r)
-  holds_woken t table s threads ready = record {
-    threads = threads ∙ ap (with_woken t) held.threads;
-    signals = held.signals;
-    scheduling = ready ∙ ap (with_ready t) held.scheduling;
-    areas = held.areas;
-    barriers = held.barriers;
-    console = held.console;
-  }
+  holds_woken t table s threads ready =
+      tables_hold (threads ∙ ap (with_woken t) held.threads) held.signals (ready ∙ ap (with_ready t) held.scheduling)
+      held.areas held.barriers held.console
 
   -- a thread is gone
   pub holds_gone : (t : ℕ) (table : Table) (g : Signalling) (s : Scheduling) (xs : Items RegisteredArea)
       → table.threads ≡ without t k.threads.threads → g ≡ signals.forget t k.signals → s ≡ forget t k.ready
       → areas_by_number xs.items ≡ without_area t (areas_by_number k.areas.items)
       → HoldsTables (record k { threads = table; signals = g; ready = s; areas = xs }) (gone t r)
-  holds_gone t table g s xs threads signalling ready areas = record {
-    threads = threads ∙ ap (without t) held.threads;
-    signals = signalling ∙ ap (signals.forget t) held.signals;
-    scheduling = ready ∙ ap (forget t) held.scheduling;
-    areas = areas ∙ ap (without_area t) held.areas;
-    barriers = held.barriers;
-    console = held.console;
-  }
+  holds_gone t table g s xs threads signalling ready areas =
+      tables_hold (threads ∙ ap (without t) held.threads) (signalling ∙ ap (signals.forget t) held.signals)
+      (ready ∙ ap (forget t) held.scheduling) (areas ∙ ap (without_area t) held.areas) held.barriers held.console
 
   -- a thread has a child
   pub holds_child : (t : ℕ) (table : Table) (g : Signalling) (s : Scheduling) → table.threads ≡ with_child k.threads.threads
@@ -148,17 +89,10 @@ module _ {k : Kernel} {r : model_of.Kernel} (held : HoldsTables k r) where
       → s ≡ with_ready (k.threads.threads.given + 1) (with_thread t (k.threads.threads.given + 1) k.ready)
       → HoldsTables (record k { threads = table; signals = g; ready = s }) (had_child t r)
   holds_child t table g s threads signalling ready =
-      let same : k.threads.threads.given + 1 ≡ next_number r = ap (λ (ts : Threads). ts.given + 1) held.threads in
-      let last : Scheduling → Scheduling = λ sc. with_ready (next_number r) (with_thread t (next_number r) sc) in
-      record {
-        threads = threads ∙ ap with_child held.threads;
-        signals = signalling ∙ ap (λ (n : ℕ). signals.with_thread t n k.signals) same
-            ∙ ap (signals.with_thread t (next_number r)) held.signals;
-        scheduling = ready ∙ ap (λ (n : ℕ). with_ready n (with_thread t n k.ready)) same ∙ ap last held.scheduling;
-        areas = held.areas;
-        barriers = held.barriers;
-        console = held.console;
-      }
+      tables_hold (threads ∙ ap with_child held.threads)
+      (signalling ∙ (λ i. signals.with_thread t ((held.threads i).given + 1) (held.signals i)))
+      (ready ∙ (λ i. with_ready ((held.threads i).given + 1) (with_thread t ((held.threads i).given + 1) (held.scheduling i))))
+      held.areas held.barriers held.console
 
   -- a thread has another address that its exit clears, where that is asked
   pub holds_cleared : (t at : ℕ) (table : Table) (b : Bool)
@@ -179,14 +113,7 @@ record_with k r = record r {
 }
 
 pub holds_itself : (k : Kernel) (r : model_of.Kernel) → HoldsTables k (record_with k r)
-holds_itself k r = record {
-  threads = refl;
-  signals = refl;
-  scheduling = refl;
-  areas = refl;
-  barriers = refl;
-  console = refl;
-}
+holds_itself k r = tables_hold refl refl refl refl refl refl
 
 pub held_is : (k : Kernel) (r : model_of.Kernel) → HoldsTables k r → record_with k r ≡ r
 held_is k r held = rw (held.threads, held.signals, held.scheduling, held.areas, held.barriers, held.console) refl

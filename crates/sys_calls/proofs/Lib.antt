@@ -1,22 +1,19 @@
 pub mod ActionWords
+mod AreaRegistration
 mod AreaWords
 pub mod Barriers
+pub mod CallAnswers
+pub mod CallNumbers
+pub mod CallerTables
 pub mod Children
-pub mod Dispatched
-pub mod Entering
+pub mod ConsoleWrites
+pub mod FutexWakes
+pub mod GuestMemory
+pub mod KernelWrites
 pub mod Laws
-mod Leaving
-mod PagesAnswered
-pub mod Posted
-pub mod Reading
-pub mod Registering
-pub mod Remapping
-mod Running
-pub mod Saying
-mod Sequencing
-pub mod Signalling
+pub mod PageCalls
+mod RunningThreads
+pub mod SignalPosting
 pub mod Spans
-pub mod Standing
-pub mod Tables
-pub mod Waking
-pub mod Written
+pub mod TablesAfterCalls
+pub mod ThreadSignals

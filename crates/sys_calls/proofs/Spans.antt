@@ -1,6 +1,6 @@
 -- The spans of bytes that records name, one after the other.
-use Rattle.std.proofs.Common.{◌≡◌, ℕ, zero, suc, ◌+◌, ◌-◌, ◌*◌, ◌<◌, ◌≤◌, ◌^◌, min, Bool, true, false, ◌&&◌, List, [], ◌∷◌, ◌++◌, length, take, Option, is_some, unwrap_or, refl, ap, ◌∙◌, arith, inl, inr, add-one}
-use Rattle.std.proofs.lemmas.Bool.{cases_lt}
+use Rattle.std.proofs.Common.{◌≡◌, ℕ, zero, suc, ◌+◌, ◌-◌, ◌*◌, ◌<◌, ◌≤◌, ◌^◌, min, true, false, List, [], ◌∷◌, ◌++◌, length, take, Option, is_some, unwrap_or, refl, ap, ◌∙◌, arith, inl, inr, add-one}
+use Rattle.std.proofs.lemmas.Bool.{cases_lt, and_parts}
 use Rattle.mach_types.specs.Bytes.{each_byte}
 use Rattle.block_model.specs.Here.{Here}
 use Rattle.block_model.specs.Calls.Answers.{number_at}
@@ -54,14 +54,6 @@ take-joined (suc r) (x ∷ a) b =
     ap (λ (bs : List ℕ). x ∷ bs) (take-joined r a b ∙ ap (λ (n : ℕ). take r a ++ take n b) e)
 
 -- bytes that can be read end at 2^64
-true_left : (b c : Bool) → (b && c) ≡ true → b ≡ true
-true_left true c e = refl
-true_left false c e = cc
-
-true_right : (b c : Bool) → (b && c) ≡ true → c ≡ true
-true_right true c e = e
-true_right false c e = cc
-
 below_end : (m : Map) (a : ℕ) → is_some (byte_in m a) ≡ true → a < 2 ^ 64
 below_end m a some = elim (cases_lt a (2 ^ 64)) [
   | inl lt ↦ lt
@@ -72,7 +64,7 @@ pub readable_end : (m : Map) (at n : ℕ) → at < 2 ^ 64 → each_byte (λ a. i
 readable_end m at zero lt all = omega arith
 readable_end m at (suc zero) lt all = omega arith
 readable_end m at (suc (suc n)) lt all =
-    let rest = true_right (is_some (byte_in m at)) _ all in
-    let next = below_end m (at + 1) (true_left (is_some (byte_in m (at + 1))) _ rest) in
+    let rest = (and_parts (is_some (byte_in m at)) _ all).1 in
+    let next = below_end m (at + 1) (and_parts (is_some (byte_in m (at + 1))) _ rest).0 in
     let le = readable_end m (at + 1) (suc n) next rest in
     omega (arith, le)

@@ -6,7 +6,7 @@ use Rattle.mach_types.specs.declared.errors.Errno.{Errno}
 use Rattle.mach_types.specs.declared.sequences.Area.{Area}
 use Rattle.mach_types.specs.declared.threads.Saved.{Saved}
 use Rattle.block_model.specs.Tables.{AreOfLive}
-use Rattle.sys_calls.specs.declared.areas.RegisteredArea.{RegisteredArea}
+use Rattle.sys_calls.specs.declared.rseq_areas.RegisteredArea.{RegisteredArea}
 use Rattle.sys_calls.specs.declared.kernel.Kernel.{Kernel}
 
 -- each area with the number of its thread

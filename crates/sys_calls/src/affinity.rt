@@ -51,9 +51,11 @@ fn set_at(pages: &PageMap, at: u64, len: u32) -> u8
 /// another one (own), in this order.
 fn asked_set(kernel: &Kernel, pages: &PageMap, tid: Tid, saved: &Saved) -> Result<u8, Errno>
     ensures errno { IfErr result (λ e. 1 ≤ e.0) }
-    ensures refused { IfErr result (λ e. (h : Here) → HoldsTables kernel.now h.kernel → IsRead h pages.now tid.0 saved.now
+    ensures refused { IfErr result
+        (λ e. (h : Here) → HoldsTables kernel.now h.kernel → IsRead h pages.now tid.0 saved.now
         → sched_setaffinity h tid.0 ≡ refused h tid.0 e) }
-    ensures set { IfOk result (λ set. (h : Here) → HoldsTables kernel.now h.kernel → IsRead h pages.now tid.0 saved.now
+    ensures set { IfOk result
+        (λ set. (h : Here) → HoldsTables kernel.now h.kernel → IsRead h pages.now tid.0 saved.now
         → sched_setaffinity h tid.0 ≡ setaffinity_with h tid.0 set) }
 {
     let named = int_argument(saved, 0);
@@ -78,7 +80,8 @@ fn leave(kernel: &mut Kernel, here: Hart, tid: Tid, saved: &mut Saved) -> CallEn
     ensures threads { kernel.new.threads.threads ≡ with_state tid.0 state.Ready kernel.old.threads.threads }
     ensures kept { kernel.new.threads.saved ≡ with_saved tid.0 (Some saved.new) kernel.old.threads.saved }
     ensures ready { kernel.new.ready ≡ with_ready tid.0 kernel.old.ready }
-    ensures others { kernel.new ≡ record kernel.old { threads = kernel.new.threads; ready = kernel.new.ready } }
+    ensures others { kernel.new
+        ≡ record kernel.old { threads = kernel.new.threads; ready = kernel.new.ready } }
     ensures end { result ≡ over.Leave (pos 0) }
     ensures a0 { register saved.new.file 10 ≡ 0 }
 {
@@ -101,8 +104,11 @@ pub fn sched_setaffinity(
     requires some_hart { 1 ≤ harts }
     requires eight_harts { harts ≤ 8 }
     requires caller { IsCaller kernel.old here.0 tid.0 }
-    ensures made { (h : Here) → h.hart ≡ here.0 → h.setting.limits.harts ≡ harts → HoldsTables kernel.old h.kernel → HasPages h pages.now
-        → IsRead h pages.now tid.0 saved.old → IsMade h tid.0 kernel.old pages.now kernel.new pages.now saved.new result (sched_setaffinity h tid.0) }
+    ensures made { (h : Here) → h.hart ≡ here.0 → h.setting.limits.harts ≡ harts
+        → HoldsTables kernel.old h.kernel → HasPages h pages.now
+        → IsRead h pages.now tid.0 saved.old
+        → IsMade h tid.0 kernel.old pages.now kernel.new pages.now saved.new result
+        (sched_setaffinity h tid.0) }
 {
     match asked_set(kernel, pages, tid, saved) {
         Ok(set) => restrict(kernel, here, harts, tid, saved, set),
@@ -122,8 +128,10 @@ fn restrict(
     requires some_hart { 1 ≤ harts }
     requires eight_harts { harts ≤ 8 }
     requires caller { IsCaller kernel.old here.0 tid.0 }
-    ensures made { (h : Here) (m : Map) → h.hart ≡ here.0 → h.setting.limits.harts ≡ harts → HoldsTables kernel.old h.kernel → HasPages h m
-        → saved.old ≡ h.file tid.0 → IsMade h tid.0 kernel.old m kernel.new m saved.new result (setaffinity_with h tid.0 set) }
+    ensures made { (h : Here) (m : Map) → h.hart ≡ here.0 → h.setting.limits.harts ≡ harts
+        → HoldsTables kernel.old h.kernel → HasPages h m
+        → saved.old ≡ h.file tid.0
+        → IsMade h tid.0 kernel.old m kernel.new m saved.new result (setaffinity_with h tid.0 set) }
 {
     if let Err(errno) = kernel.ready.set_affinity(tid, set, harts) {
         return go_on(saved, Err(errno));
@@ -137,7 +145,8 @@ fn restrict(
 /// sched_yield(): the thread leaves its hart, and is ready.
 pub fn sched_yield(kernel: &mut Kernel, here: Hart, tid: Tid, saved: &mut Saved) -> CallEnd
     requires { IsCaller kernel.old here.0 tid.0 }
-    ensures made { (h : Here) (m : Map) → h.hart ≡ here.0 → HoldsTables kernel.old h.kernel → HasPages h m → saved.old ≡ h.file tid.0
+    ensures made { (h : Here) (m : Map) → h.hart ≡ here.0 → HoldsTables kernel.old h.kernel → HasPages h m
+        → saved.old ≡ h.file tid.0
         → IsMade h tid.0 kernel.old m kernel.new m saved.new result (sched_yield h tid.0) }
 {
     leave(kernel, here, tid, saved)
@@ -171,7 +180,8 @@ pub fn sched_getaffinity(
     requires live { IsTrue (is_live tid.0 kernel.now.threads.threads) }
     ensures errno { IfErr result (λ e. 1 ≤ e.0) }
     ensures answered { (h : Here) → HoldsTables kernel.now h.kernel → IsRead h pages.old tid.0 saved.now
-        → IsAnswered h tid.0 kernel.now pages.old kernel.now pages.new written.new.items result (sched_getaffinity h tid.0) }
+        → IsAnswered h tid.0 kernel.now pages.old kernel.now pages.new written.new.items result
+        (sched_getaffinity h tid.0) }
 {
     let named = int_argument(saved, 0);
     let len = int_argument(saved, 1);
@@ -199,7 +209,9 @@ fn is_usable(pages: &PageMap, at: u64) -> bool
 
 /// Whether each of two pointers is 0, or its word can be written.
 fn are_usable(pages: &PageMap, cpu: u64, node: u64) -> bool
-    ensures { result ≡ (((cpu == 0) || each_byte (can_write_in pages.now) cpu 4) && ((node == 0) || each_byte (can_write_in pages.now) node 4)) }
+    ensures { result
+        ≡ (((cpu == 0) || each_byte (can_write_in pages.now) cpu 4)
+        && ((node == 0) || each_byte (can_write_in pages.now) node 4)) }
 {
     is_usable(pages, cpu) && is_usable(pages, node)
 }
@@ -226,7 +238,8 @@ pub fn getcpu(
 ) -> Result<u32, Errno>
     requires { written.old.items ≡ [] }
     ensures errno { IfErr result (λ e. 1 ≤ e.0) }
-    ensures answered { (h : Here) (k : Tables) (t : ℕ) → h.hart ≡ here.0 → HoldsTables k h.kernel → IsRead h pages.old t saved.now
+    ensures answered { (h : Here) (k : Tables) (t : ℕ) → h.hart ≡ here.0 → HoldsTables k h.kernel
+        → IsRead h pages.old t saved.now
         → IsAnswered h t k pages.old k pages.new written.new.items result (getcpu h t) }
 {
     let cpu = argument(saved, 0);

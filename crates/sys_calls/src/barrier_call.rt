@@ -18,7 +18,8 @@ use membarrier_cmds::command;
 
 /// A thread whose command came to this: it goes on with a value, or it waits in a barrier, with the pc past the call and a0 as it is.
 fn end_with(saved: &mut Saved, outcome: Answer) -> CallEnd
-    ensures saved { (h : Here) (t : ℕ) → saved.old ≡ h.file t → saved.new ≡ file_among (answers h t outcome).files t (h.file t) }
+    ensures saved { (h : Here) (t : ℕ) → saved.old ≡ h.file t
+        → saved.new ≡ file_among (answers h t outcome).files t (h.file t) }
     ensures barrier { (h : Here) (t : ℕ) → barrier_of result ≡ (answers h t outcome).barrier }
     ensures answer { IsAnswer result saved.new }
     ensures stays { gives_up result ≡ false }
@@ -42,7 +43,8 @@ fn end_with(saved: &mut Saved, outcome: Answer) -> CallEnd
 pub fn membarrier(kernel: &mut Kernel, caller: Caller, saved: &mut Saved) -> CallEnd
     requires { IsCaller kernel.old caller.here.0 caller.tid.0 }
     ensures made { (h : Here) (m : Map) → h.hart ≡ caller.here.0 → h.setting.limits.harts ≡ caller.harts
-        → running_harts h.kernel.threads h.setting.limits.harts ≡ caller.running → HoldsTables kernel.old h.kernel → HasPages h m
+        → running_harts h.kernel.threads h.setting.limits.harts ≡ caller.running
+        → HoldsTables kernel.old h.kernel → HasPages h m
         → saved.old ≡ h.file caller.tid.0
         → IsMade h caller.tid.0 kernel.old m kernel.new m saved.new result (membarrier h caller.tid.0) }
 {

@@ -12,9 +12,9 @@ ghost use Rattle.sys_calls.specs.Made.{IsAt, IsMade};
 ghost use Rattle.sys_calls.specs.Registered.{HoldAreas, areas_by_number};
 
 use crate::affinity::{sched_setaffinity, sched_yield};
-use crate::answering::answered;
 use crate::arguments::{call_number, go_on};
 use crate::barrier_call::membarrier;
+use crate::call_answers::answered;
 use crate::ending::{exit, exit_group};
 use crate::futexes::futex;
 use crate::kernel::Kernel;
@@ -112,7 +112,8 @@ pub fn make_call(
     ensures tables { IsTables harts kernel.new.threads.threads kernel.new.ready }
     ensures signals { AreSignalsOfLive kernel.new.threads.threads kernel.new.signals }
     ensures areas { AreOfLive kernel.new.threads.threads (areas_by_number kernel.new.areas.items) }
-    ensures written { (h : Here) → IsAt h kernel.old pages.old here running harts tid saved.old cid → result.written.items ≡ (call_done h tid.0).entered }
+    ensures written { (h : Here) → IsAt h kernel.old pages.old here running harts tid saved.old cid
+        → result.written.items ≡ (call_done h tid.0).entered }
 {
     has_nothing_saved(&kernel.threads, tid);
     let mut written = ArrayVec::new();
@@ -150,9 +151,13 @@ fn dispatch(
     requires areas { HoldAreas kernel.old }
     requires numbers { kernel.old.threads.threads.given < 2 ^ 31 - 1 }
     requires fresh { written.old.items ≡ [] }
-    ensures made { (h : Here) → IsAt h kernel.old pages.old caller.here caller.running caller.harts caller.tid saved.old caller.cid
-        → IsMade h caller.tid.0 kernel.old pages.old kernel.new pages.new saved.new result (call_done h caller.tid.0) }
-    ensures told { (h : Here) → IsAt h kernel.old pages.old caller.here caller.running caller.harts caller.tid saved.old caller.cid → written.new.items ≡ (call_done h caller.tid.0).entered }
+    ensures made { (h : Here)
+        → IsAt h kernel.old pages.old caller.here caller.running caller.harts caller.tid saved.old caller.cid
+        → IsMade h caller.tid.0 kernel.old pages.old kernel.new pages.new saved.new result
+        (call_done h caller.tid.0) }
+    ensures told { (h : Here)
+        → IsAt h kernel.old pages.old caller.here caller.running caller.harts caller.tid saved.old caller.cid
+        → written.new.items ≡ (call_done h caller.tid.0).entered }
 {
     shows_pages(pages);
     match call_number(saved) {

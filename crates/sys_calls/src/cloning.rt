@@ -104,9 +104,12 @@ fn child_file(saved: &Saved) -> Saved
 /// written, in this order.
 fn may_clone(kernel: &Kernel, pages: &PageMap, saved: &Saved) -> Result<(), Errno>
     ensures errno { IfErr result (λ e. 1 ≤ e.0) }
-    ensures refused { IfErr result (λ e. (h : Here) (t : ℕ) → HoldsTables kernel.now h.kernel → IsRead h pages.now t saved.now
+    ensures refused { IfErr result
+        (λ e. (h : Here) (t : ℕ) → HoldsTables kernel.now h.kernel → IsRead h pages.now t saved.now
         → clone h t ≡ refused h t e) }
-    ensures made { OnOk result ((h : Here) (t : ℕ) → HoldsTables kernel.now h.kernel → IsRead h pages.now t saved.now → clone h t ≡ cloned h t) }
+    ensures made { OnOk result
+        ((h : Here) (t : ℕ) → HoldsTables kernel.now h.kernel → IsRead h pages.now t saved.now
+        → clone h t ≡ cloned h t) }
     ensures room { OnOk result (is_full kernel.now.threads.threads ≡ false) }
     ensures words { OnOk result (CanWriteNumbers pages.now saved.now) }
     ensures table { IsTable kernel.now.threads }
@@ -143,10 +146,18 @@ fn add_child(kernel: &mut Kernel, tid: Tid, start: Saved) -> Result<Tid, Errno>
     ensures child { IsOk result }
     ensures number { IfOk result (λ t. t.0 ≡ kernel.old.threads.threads.given + 1) }
     ensures threads { kernel.new.threads.threads ≡ with_child kernel.old.threads.threads }
-    ensures saved { kernel.new.threads.saved ≡ with_start (kernel.old.threads.threads.given + 1) start kernel.old.threads.saved }
-    ensures ready { kernel.new.ready ≡ with_ready (kernel.old.threads.threads.given + 1) (with_thread tid.0 (kernel.old.threads.threads.given + 1) kernel.old.ready) }
-    ensures signals { kernel.new.signals ≡ signals.with_thread tid.0 (kernel.old.threads.threads.given + 1) kernel.old.signals }
-    ensures others { kernel.new ≡ record kernel.old { threads = kernel.new.threads; ready = kernel.new.ready; signals = kernel.new.signals } }
+    ensures saved { kernel.new.threads.saved
+        ≡ with_start (kernel.old.threads.threads.given + 1) start kernel.old.threads.saved }
+    ensures ready { kernel.new.ready ≡ with_ready (kernel.old.threads.threads.given + 1)
+        (with_thread tid.0 (kernel.old.threads.threads.given + 1) kernel.old.ready) }
+    ensures signals { kernel.new.signals
+        ≡ signals.with_thread tid.0 (kernel.old.threads.threads.given + 1) kernel.old.signals }
+    ensures others { kernel.new
+        ≡ record kernel.old {
+          threads = kernel.new.threads;
+          ready = kernel.new.ready;
+          signals = kernel.new.signals;
+        } }
 {
     let child = kernel.threads.clone_thread(tid, start)?;
     kernel.ready.add(tid, child);
@@ -175,7 +186,8 @@ fn make_child(kernel: &mut Kernel, tid: Tid, saved: &Saved) -> Result<Tid, Errno
     requires room { is_full kernel.old.threads.threads ≡ false }
     ensures child { IsOk result }
     ensures number { IfOk result (λ t. t.0 ≡ kernel.old.threads.threads.given + 1) }
-    ensures made { (h : Here) → HoldsTables kernel.old h.kernel → saved.now ≡ h.file tid.0 → HasChild h tid.0 kernel.old kernel.new }
+    ensures made { (h : Here) → HoldsTables kernel.old h.kernel → saved.now ≡ h.file tid.0
+        → HasChild h tid.0 kernel.old kernel.new }
 {
     let child = add_child(kernel, tid, child_file(saved))?;
     set_clear_if(&mut kernel.threads, child, saved);
@@ -187,7 +199,8 @@ fn write_numbers(pages: &mut PageMap, written: &mut Written, saved: &Saved, numb
     requires words { CanWriteNumbers pages.old saved.now }
     requires fresh { written.old.items ≡ [] }
     ensures entered { IsEntered pages.old pages.new written.new.items }
-    ensures told { (h : Here) (t : ℕ) → saved.now ≡ h.file t → written.new.items ≡ numbers_written h t number }
+    ensures told { (h : Here) (t : ℕ) → saved.now ≡ h.file t
+        → written.new.items ≡ numbers_written h t number }
 {
     let flags = argument(saved, 0);
     write_if(
@@ -224,7 +237,8 @@ pub fn clone(
     requires numbers { kernel.old.threads.threads.given < 2 ^ 31 - 1 }
     ensures errno { IfErr result (λ e. 1 ≤ e.0) }
     ensures answered { (h : Here) → HoldsTables kernel.old h.kernel → IsRead h pages.old tid.0 saved.now
-        → IsAnswered h tid.0 kernel.old pages.old kernel.new pages.new written.new.items result (clone h tid.0) }
+        → IsAnswered h tid.0 kernel.old pages.old kernel.new pages.new written.new.items result
+        (clone h tid.0) }
 {
     may_clone(kernel, pages, saved)?;
     let child = make_child(kernel, tid, saved)?;

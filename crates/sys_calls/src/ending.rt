@@ -13,12 +13,12 @@ ghost use Rattle.sys_calls.specs.Ended.{IsGone};
 ghost use Rattle.sys_calls.specs.Made.{HasPages, IsMade};
 ghost use Rattle.sys_calls.specs.declared.calling.CallEnd.TheVariants as over;
 
-use crate::areas::remove_area;
 use crate::arguments::argument;
 use crate::calling::CallEnd;
 use crate::futexes::wake;
 use crate::kernel::Kernel;
 use crate::memory::{Written, write_word};
+use crate::rseq_areas::remove_area;
 use mach_types::{End, Hart, Saved, Tid, UserMem};
 use page_map::PageMap;
 
@@ -46,7 +46,8 @@ fn clear_word(pages: &mut PageMap, written: &mut Written, at: u64) -> bool
 /// Wakes at most so many waiters at an address, and then the thread is gone, and with it its signals and its area.
 fn go(kernel: &mut Kernel, here: Hart, tid: Tid, at: u64, most: u32)
     requires { IsCaller kernel.old here.0 tid.0 }
-    ensures gone { (h : Here) → HoldsTables kernel.old h.kernel → IsGone h kernel.old kernel.new tid.0 most at here.0 }
+    ensures gone { (h : Here) → HoldsTables kernel.old h.kernel
+        → IsGone h kernel.old kernel.new tid.0 most at here.0 }
 {
     let _ = wake(kernel, at, most);
     kernel.threads.exit(tid);
@@ -67,8 +68,10 @@ pub fn exit(
 ) -> CallEnd
     requires caller { IsCaller kernel.old here.0 tid.0 }
     requires fresh { written.old.items ≡ [] }
-    ensures told { (h : Here) → HoldsTables kernel.old h.kernel → IsRead h pages.old tid.0 saved.now → written.new.items ≡ (exit h tid.0).entered }
-    ensures made { (h : Here) → h.hart ≡ here.0 → HoldsTables kernel.old h.kernel → HasPages h pages.old → IsRead h pages.old tid.0 saved.now
+    ensures told { (h : Here) → HoldsTables kernel.old h.kernel → IsRead h pages.old tid.0 saved.now
+        → written.new.items ≡ (exit h tid.0).entered }
+    ensures made { (h : Here) → h.hart ≡ here.0 → HoldsTables kernel.old h.kernel → HasPages h pages.old
+        → IsRead h pages.old tid.0 saved.now
         → IsMade h tid.0 kernel.old pages.old kernel.new pages.new saved.now result (exit h tid.0) }
 {
     let at = kernel.threads.clear_at(tid);

@@ -44,10 +44,13 @@ fn wake_one(kernel: &mut Kernel, at: u64) -> Option<Tid>
     requires tables { AreTables kernel.old }
     ensures longest { option_map (λ t. t.0) result ≡ longest_waiter at kernel.old.threads.threads }
     ensures nobody { IfNone result (kernel.new ≡ kernel.old) }
-    ensures threads { IfSome result (λ t. kernel.new.threads.threads ≡ with_woken t.0 kernel.old.threads.threads) }
-    ensures saved { IfSome result (λ t. kernel.new.threads.saved ≡ with_answer t.0 0 kernel.old.threads.saved) }
+    ensures threads { IfSome result
+        (λ t. kernel.new.threads.threads ≡ with_woken t.0 kernel.old.threads.threads) }
+    ensures saved { IfSome result
+        (λ t. kernel.new.threads.saved ≡ with_answer t.0 0 kernel.old.threads.saved) }
     ensures ready { IfSome result (λ t. kernel.new.ready ≡ with_ready t.0 kernel.old.ready) }
-    ensures others { kernel.new ≡ record kernel.old { threads = kernel.new.threads; ready = kernel.new.ready } }
+    ensures others { kernel.new
+        ≡ record kernel.old { threads = kernel.new.threads; ready = kernel.new.ready } }
 {
     let tid = kernel.threads.wake_one(at)?;
     kernel.ready.push(tid);
@@ -57,7 +60,8 @@ fn wake_one(kernel: &mut Kernel, at: u64) -> Option<Tid>
 /// Wakes at most so many of the threads that wait at an address, the longest waiting first, and answers how many.
 pub fn wake(kernel: &mut Kernel, at: u64, most: u32) -> u32
     requires tables { AreTables kernel.old }
-    ensures woken { (h : Here) → HoldsTables kernel.old h.kernel → IsWoken h kernel.old kernel.new most at result }
+    ensures woken { (h : Here) → HoldsTables kernel.old h.kernel
+        → IsWoken h kernel.old kernel.new most at result }
     ensures onward { IsOnward kernel.old kernel.new }
 {
     for count in 0..most {
@@ -79,8 +83,10 @@ fn plain_operation(op: u32) -> u32
 /// process, in this order.
 fn asked(saved: &Saved) -> Result<Operation, Errno>
     ensures errno { IfErr result (λ e. 1 ≤ e.0) }
-    ensures refused { IfErr result (λ e. (h : Here) (t : ℕ) → saved.now ≡ h.file t → futex h t ≡ refused h t e) }
-    ensures asked { IfOk result (λ op. (h : Here) (t : ℕ) → saved.now ≡ h.file t → futex h t ≡ futex_of op h t) }
+    ensures refused { IfErr result
+        (λ e. (h : Here) (t : ℕ) → saved.now ≡ h.file t → futex h t ≡ refused h t e) }
+    ensures asked { IfOk result
+        (λ op. (h : Here) (t : ℕ) → saved.now ≡ h.file t → futex h t ≡ futex_of op h t) }
 {
     let op = plain_operation(int_argument(saved, 1));
     let at = argument(saved, 0);
@@ -105,10 +111,13 @@ fn asked(saved: &Saved) -> Result<Operation, Errno>
 fn may_wait(kernel: &Kernel, pages: &PageMap, tid: Tid, saved: &Saved) -> Result<(), Errno>
     requires held { IsTrue (is_held tid.0 kernel.now.signals) }
     ensures errno { IfErr result (λ e. 1 ≤ e.0) }
-    ensures refused { IfErr result (λ e. (h : Here) → HoldsTables kernel.now h.kernel → IsRead h pages.now tid.0 saved.now
+    ensures refused { IfErr result
+        (λ e. (h : Here) → HoldsTables kernel.now h.kernel → IsRead h pages.now tid.0 saved.now
         → futex_wait h tid.0 ≡ refused h tid.0 e) }
-    ensures waits { OnOk result ((h : Here) → HoldsTables kernel.now h.kernel → IsRead h pages.now tid.0 saved.now
-        → futex_wait h tid.0 ≡ record (said h tid.0 0) { kernel = waited tid.0 (argument_of h tid.0 0) h.kernel }) }
+    ensures waits { OnOk result
+        ((h : Here) → HoldsTables kernel.now h.kernel → IsRead h pages.now tid.0 saved.now
+        → futex_wait h tid.0
+        ≡ record (said h tid.0 0) { kernel = waited tid.0 (argument_of h tid.0 0) h.kernel }) }
 {
     let at = argument(saved, 0);
     if argument(saved, 3) != 0 {
@@ -129,7 +138,8 @@ fn may_wait(kernel: &Kernel, pages: &PageMap, tid: Tid, saved: &Saved) -> Result
 /// The thread leaves its hart and waits, unless it is refused.
 fn wait(kernel: &mut Kernel, pages: &PageMap, here: Hart, tid: Tid, saved: &mut Saved) -> CallEnd
     requires { IsCaller kernel.old here.0 tid.0 }
-    ensures made { (h : Here) → h.hart ≡ here.0 → HoldsTables kernel.old h.kernel → HasPages h pages.now → IsRead h pages.now tid.0 saved.old
+    ensures made { (h : Here) → h.hart ≡ here.0 → HoldsTables kernel.old h.kernel → HasPages h pages.now
+        → IsRead h pages.now tid.0 saved.old
         → IsMade h tid.0 kernel.old pages.now kernel.new pages.now saved.new result (futex_wait h tid.0) }
 {
     match may_wait(kernel, pages, tid, saved) {
@@ -152,7 +162,8 @@ pub fn futex(
     saved: &mut Saved,
 ) -> CallEnd
     requires { IsCaller kernel.old here.0 tid.0 }
-    ensures made { (h : Here) → h.hart ≡ here.0 → HoldsTables kernel.old h.kernel → HasPages h pages.now → IsRead h pages.now tid.0 saved.old
+    ensures made { (h : Here) → h.hart ≡ here.0 → HoldsTables kernel.old h.kernel → HasPages h pages.now
+        → IsRead h pages.now tid.0 saved.old
         → IsMade h tid.0 kernel.old pages.now kernel.new pages.now saved.new result (futex h tid.0) }
 {
     match asked(saved) {

@@ -1,7 +1,7 @@
 //! The kernel's tables.
 
-use crate::areas::Areas;
 use crate::console::Console;
+use crate::rseq_areas::Areas;
 use kernel_threads::Threads;
 use mach_types::Registered;
 use scheduler::Ready;

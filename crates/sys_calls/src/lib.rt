@@ -4,10 +4,9 @@
 #![tactic(auto)]
 
 mod affinity;
-mod answering;
-mod areas;
 mod arguments;
 mod barrier_call;
+mod call_answers;
 mod calling;
 mod cloning;
 mod console;
@@ -17,15 +16,16 @@ mod kernel;
 mod memory;
 mod memory_calls;
 mod numbers;
-mod posting;
+mod rseq_areas;
 mod sequences;
 mod signal_calls;
+mod signal_posting;
 #[cfg(test)]
 mod tests;
 mod writing;
 
-pub use areas::{Areas, MOST_AREAS, RegisteredArea, area_of};
 pub use calling::{CallEnd, Called, call, make_call};
 pub use console::Console;
 pub use kernel::Kernel;
 pub use memory_calls::{PageSpan, pages_taken};
+pub use rseq_areas::{Areas, MOST_AREAS, RegisteredArea, area_of};

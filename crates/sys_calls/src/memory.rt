@@ -79,7 +79,8 @@ pub fn write_double(pages: &mut PageMap, written: &mut Written, at: u64, value: 
 
 /// It does nothing; where the page map has the pages of the process, a rule reads of them what the page map shows.
 pub fn shows_pages(pages: &PageMap)
-    ensures { (h : Here) (t : ℕ) (saved : File) → HasPages h pages.now → saved ≡ h.file t → IsRead h pages.now t saved }
+    ensures { (h : Here) (t : ℕ) (saved : File) → HasPages h pages.now → saved ≡ h.file t
+        → IsRead h pages.now t saved }
 {
     held_bytes_are_seen();
     pages.keeps();

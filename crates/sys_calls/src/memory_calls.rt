@@ -150,7 +150,8 @@ pub fn mprotect(pages: &mut PageMap, saved: &Saved) -> Result<u64, Errno>
 
 /// The pages that so many bytes from an address on fill, unless a call over them is refused.
 fn unless_refused(refusal: Option<Errno>, at: u64, len: u64) -> PageSpan
-    ensures { (permission : Option ℕ) (n : ℕ) → has_page result n ≡ is_in (unless_refused refusal (run (at / 4096) (pages_of len) permission)) n }
+    ensures { (permission : Option ℕ) (n : ℕ)
+        → has_page result n ≡ is_in (unless_refused refusal (run (at / 4096) (pages_of len) permission)) n }
 {
     match refusal {
         Some(_) => NO_PAGES,
@@ -164,7 +165,9 @@ fn unless_refused(refusal: Option<Errno>, at: u64, len: u64) -> PageSpan
 /// The pages that are removed where the break falls to an address; none where it doesn't fall there.
 fn below_break(pages: &PageMap, at: u64) -> PageSpan
     ensures { (n : ℕ) → has_page result n
-        ≡ is_in (if may_move_break (break_start_in pages.now) (free_in pages.now) (break_in pages.now) at && nat_lt at (break_in pages.now)
+        ≡ is_in
+        (if may_move_break (break_start_in pages.now) (free_in pages.now) (break_in pages.now) at
+        && nat_lt at (break_in pages.now)
         then break_run (break_in pages.now) at else no_pages) n }
 {
     if !pages.may_move_break(at) || pages.break_at() <= at {

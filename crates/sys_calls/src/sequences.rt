@@ -12,11 +12,11 @@ ghost use Rattle.sys_calls.specs.Tables.{HoldsTables};
 ghost use Rattle.sys_calls.specs.Made.{HasPages, IsMade};
 ghost use Rattle.sys_calls.specs.Registered.{HoldAreas, areas_by_number, area_asked, unregistration_asked};
 
-use crate::areas::{add_area, area_of, remove_area};
 use crate::arguments::{argument, go_on, int_argument};
 use crate::calling::CallEnd;
 use crate::kernel::Kernel;
 use crate::memory::{Written, tell_word};
+use crate::rseq_areas::{add_area, area_of, remove_area};
 use mach_types::errors::EFAULT;
 use mach_types::sequences::{CPU_ID, MM_CID, NODE_ID};
 use mach_types::signals::SIGSEGV;
@@ -42,7 +42,8 @@ fn write_words(
     requires fresh { written.old.items ≡ [] }
     ensures answer { result ≡ areas.are_words_writable (can_write_in pages.old) area.now }
     ensures entered { IsEntered pages.old pages.new written.new.items }
-    ensures told { let words : areas.Words = record { cpu_id_start = start; cpu_id = id; node_id = 0; mm_cid = cid } in
+    ensures told { let words : areas.Words
+        = record { cpu_id_start = start; cpu_id = id; node_id = 0; mm_cid = cid } in
         written.new.items ≡ areas.words_entered result area.now words }
 {
     if !set_cpu(pages, area, start, id, NODE, cid) {
@@ -57,7 +58,8 @@ fn write_words(
 
 /// The area that the call asks to register, as [`register`] answers.
 fn asked_area(kernel: &Kernel, tid: Tid, saved: &Saved) -> Result<Area, Errno>
-    ensures answer { result ≡ area_asked saved.now (areas.area_of tid.0 (areas_by_number kernel.now.areas.items)) }
+    ensures answer { result
+        ≡ area_asked saved.now (areas.area_of tid.0 (areas_by_number kernel.now.areas.items)) }
     ensures errno { IfErr result (λ e. 1 ≤ e.0) }
     ensures none { IfOk result (λ area. areas.area_of tid.0 (areas_by_number kernel.now.areas.items) ≡ None) }
 {
@@ -72,7 +74,8 @@ fn asked_area(kernel: &Kernel, tid: Tid, saved: &Saved) -> Result<Area, Errno>
 
 /// Whether the call may unregister, as [`unregister`] answers.
 fn may_unregister(kernel: &Kernel, tid: Tid, saved: &Saved) -> Result<(), Errno>
-    ensures answer { result ≡ unregistration_asked saved.now (areas.area_of tid.0 (areas_by_number kernel.now.areas.items)) }
+    ensures answer { result
+        ≡ unregistration_asked saved.now (areas.area_of tid.0 (areas_by_number kernel.now.areas.items)) }
     ensures errno { IfErr result (λ e. 1 ≤ e.0) }
 {
     unregister(
@@ -100,9 +103,11 @@ fn register_area(
     requires areas { HoldAreas kernel.old }
     requires none { areas.area_of tid.0 (areas_by_number kernel.old.areas.items) ≡ None }
     requires fresh { written.old.items ≡ [] }
-    ensures told { (h : Here) → h.hart ≡ here.0 → IsRead h pages.old tid.0 saved.old → id_of tid.0 h.kernel.ids ≡ cid
+    ensures told { (h : Here) → h.hart ≡ here.0 → IsRead h pages.old tid.0 saved.old
+        → id_of tid.0 h.kernel.ids ≡ cid
         → written.new.items ≡ (registers h tid.0 area).entered }
-    ensures made { (h : Here) → h.hart ≡ here.0 → HoldsTables kernel.old h.kernel → HasPages h pages.old → IsRead h pages.old tid.0 saved.old
+    ensures made { (h : Here) → h.hart ≡ here.0 → HoldsTables kernel.old h.kernel → HasPages h pages.old
+        → IsRead h pages.old tid.0 saved.old
         → id_of tid.0 h.kernel.ids ≡ cid
         → IsMade h tid.0 kernel.old pages.old kernel.new pages.new saved.new result (registers h tid.0 area) }
 {
@@ -127,10 +132,14 @@ fn register_asked(
     requires caller { IsCaller kernel.old here.0 tid.0 }
     requires areas { HoldAreas kernel.old }
     requires fresh { written.old.items ≡ [] }
-    ensures told { (h : Here) → h.hart ≡ here.0 → HoldsTables kernel.old h.kernel → IsRead h pages.old tid.0 saved.old → id_of tid.0 h.kernel.ids ≡ cid
-        → written.new.items ≡ (registers_or_refused h tid.0 (area_asked saved.old (areas.area_of tid.0 h.kernel.areas))).entered }
-    ensures made { (h : Here) → h.hart ≡ here.0 → HoldsTables kernel.old h.kernel → HasPages h pages.old → IsRead h pages.old tid.0 saved.old
-        → id_of tid.0 h.kernel.ids ≡ cid → IsMade h tid.0 kernel.old pages.old kernel.new pages.new saved.new result
+    ensures told { (h : Here) → h.hart ≡ here.0 → HoldsTables kernel.old h.kernel
+        → IsRead h pages.old tid.0 saved.old → id_of tid.0 h.kernel.ids ≡ cid
+        → written.new.items
+        ≡ (registers_or_refused h tid.0 (area_asked saved.old (areas.area_of tid.0 h.kernel.areas))).entered }
+    ensures made { (h : Here) → h.hart ≡ here.0 → HoldsTables kernel.old h.kernel → HasPages h pages.old
+        → IsRead h pages.old tid.0 saved.old
+        → id_of tid.0 h.kernel.ids ≡ cid
+        → IsMade h tid.0 kernel.old pages.old kernel.new pages.new saved.new result
         (registers_or_refused h tid.0 (area_asked saved.old (areas.area_of tid.0 h.kernel.areas))) }
 {
     match asked_area(kernel, tid, saved) {
@@ -153,7 +162,8 @@ fn unregister_area(
     ensures others { kernel.new ≡ record kernel.old { areas = kernel.new.areas } }
     ensures answered { (h : Here) → HoldsTables kernel.old h.kernel → IsRead h pages.old tid.0 saved.now
         → IsAnswered h tid.0 kernel.old pages.old kernel.new pages.new written.new.items result
-        (unregisters_or_refused h tid.0 (unregistration_asked saved.now (areas.area_of tid.0 h.kernel.areas))) }
+        (unregisters_or_refused h tid.0
+        (unregistration_asked saved.now (areas.area_of tid.0 h.kernel.areas))) }
 {
     may_unregister(kernel, tid, saved)?;
     let Some(area) = area_of(kernel, tid) else {
@@ -189,9 +199,11 @@ pub fn rseq(
     requires caller { IsCaller kernel.old here.0 tid.0 }
     requires areas { HoldAreas kernel.old }
     requires fresh { written.old.items ≡ [] }
-    ensures told { (h : Here) → h.hart ≡ here.0 → HoldsTables kernel.old h.kernel → IsRead h pages.old tid.0 saved.old → id_of tid.0 h.kernel.ids ≡ cid
+    ensures told { (h : Here) → h.hart ≡ here.0 → HoldsTables kernel.old h.kernel
+        → IsRead h pages.old tid.0 saved.old → id_of tid.0 h.kernel.ids ≡ cid
         → written.new.items ≡ (rseq_of h tid.0).entered }
-    ensures made { (h : Here) → h.hart ≡ here.0 → HoldsTables kernel.old h.kernel → HasPages h pages.old → IsRead h pages.old tid.0 saved.old
+    ensures made { (h : Here) → h.hart ≡ here.0 → HoldsTables kernel.old h.kernel → HasPages h pages.old
+        → IsRead h pages.old tid.0 saved.old
         → id_of tid.0 h.kernel.ids ≡ cid
         → IsMade h tid.0 kernel.old pages.old kernel.new pages.new saved.new result (rseq_of h tid.0) }
 {

@@ -63,7 +63,8 @@ fn action_at(pages: &PageMap, at: u64) -> Action
 /// The action that is given; None where the pointer is 0.
 fn action_given(pages: &PageMap, at: u64) -> Option<Action>
     requires readable { IsTrue ((at == 0) || pass_action (λ a. is_some (byte_in pages.now a)) at) }
-    ensures { (h : Here) (t : ℕ) (saved : File) → IsRead h pages.now t saved → result ≡ call.action_given h at }
+    ensures { (h : Here) (t : ℕ) (saved : File) → IsRead h pages.now t saved
+        → result ≡ call.action_given h at }
 {
     if at == 0 {
         None
@@ -119,7 +120,8 @@ fn write_action(pages: &mut PageMap, written: &mut Written, at: u64, action: &Ac
 fn write_action_unless_zero(pages: &mut PageMap, written: &mut Written, at: u64, action: &Action)
     requires usable { IsTrue ((at == 0) || pass_action (can_write_in pages.old) at) }
     requires fresh { written.old.items ≡ [] }
-    ensures entered { IsEntered pages.old pages.new (if at == 0 then [] else call.action_written at action.now) }
+    ensures entered { IsEntered pages.old pages.new
+        (if at == 0 then [] else call.action_written at action.now) }
     ensures told { written.new.items ≡ (if at == 0 then [] else call.action_written at action.now) }
 {
     if at != 0 {
@@ -178,7 +180,8 @@ pub fn rt_sigaction(
     requires fresh { written.old.items ≡ [] }
     ensures errno { IfErr result (λ e. 1 ≤ e.0) }
     ensures answered { (h : Here) (t : ℕ) → HoldsTables kernel.old h.kernel → IsRead h pages.old t saved.now
-        → IsAnswered h t kernel.old pages.old kernel.new pages.new written.new.items result (call.rt_sigaction h t) }
+        → IsAnswered h t kernel.old pages.old kernel.new pages.new written.new.items result
+        (call.rt_sigaction h t) }
 {
     let new = asked_action(pages, saved)?;
     let sig = signal_number(int_argument(saved, 0));
@@ -237,7 +240,8 @@ fn may_mask(pages: &PageMap, saved: &Saved) -> Result<(), Errno>
         → call.rt_sigprocmask h t ≡ refused h t e) }
     ensures masks { OnOk result ((h : Here) (t : ℕ) → IsRead h pages.now t saved.now
         → call.rt_sigprocmask h t ≡ sigprocmask_done h t) }
-    ensures how { OnOk result ((not (register saved.now.file 11 == 0) && spec.refuses_how (int_in saved.now 0)) ≡ false) }
+    ensures how { OnOk result
+        ((not (register saved.now.file 11 == 0) && spec.refuses_how (int_in saved.now 0)) ≡ false) }
     ensures usable { OnOk result (IsTrue ((register saved.now.file 12 == 0)
         || each_byte (can_write_in pages.now) (register saved.now.file 12) 8)) }
 {
@@ -261,7 +265,8 @@ fn may_mask(pages: &PageMap, saved: &Saved) -> Result<(), Errno>
 fn change_mask(signals: &mut Signals, pages: &PageMap, tid: Tid, how: u32, at: u64)
     requires held { IsTrue (spec.is_held tid.0 signals.old) }
     requires how { (not (at == 0) && spec.refuses_how how) ≡ false }
-    ensures { signals.new ≡ mask_changed tid.0 how at (unwrap_or (word_at (byte_in pages.now) at 8) 0) signals.old }
+    ensures { signals.new
+        ≡ mask_changed tid.0 how at (unwrap_or (word_at (byte_in pages.now) at 8) 0) signals.old }
 {
     if at != 0 {
         let set = number_at(pages, at, 8);
@@ -284,7 +289,8 @@ pub fn rt_sigprocmask(
     requires held { IsTrue (spec.is_held tid.0 kernel.old.signals) }
     ensures errno { IfErr result (λ e. 1 ≤ e.0) }
     ensures answered { (h : Here) → HoldsTables kernel.old h.kernel → IsRead h pages.old tid.0 saved.now
-        → IsAnswered h tid.0 kernel.old pages.old kernel.new pages.new written.new.items result (call.rt_sigprocmask h tid.0) }
+        → IsAnswered h tid.0 kernel.old pages.old kernel.new pages.new written.new.items result
+        (call.rt_sigprocmask h tid.0) }
 {
     may_mask(pages, saved)?;
     let how = int_argument(saved, 0);
@@ -304,8 +310,10 @@ pub fn rt_sigreturn(
     saved: &mut Saved,
 ) -> CallEnd
     requires { IsCaller kernel.old here.0 tid.0 }
-    ensures made { (h : Here) → h.hart ≡ here.0 → HoldsTables kernel.old h.kernel → HasPages h pages.now → IsRead h pages.now tid.0 saved.old
-        → IsMade h tid.0 kernel.old pages.now kernel.new pages.now saved.new result (call.rt_sigreturn h tid.0) }
+    ensures made { (h : Here) → h.hart ≡ here.0 → HoldsTables kernel.old h.kernel → HasPages h pages.now
+        → IsRead h pages.now tid.0 saved.old
+        → IsMade h tid.0 kernel.old pages.now kernel.new pages.now saved.new result
+        (call.rt_sigreturn h tid.0) }
 {
     if kernel.signals.pop_frame(pages, tid, saved) {
         CallEnd::Resume

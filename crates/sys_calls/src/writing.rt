@@ -74,8 +74,10 @@ pub fn write(kernel: &mut Kernel, pages: &PageMap, saved: &Saved) -> Result<u32,
 
 /// Appends the first bytes that fit, and answers how many.
 fn append_some(console: &mut Console, pages: &PageMap, span: Span) -> u32
-    ensures console { console.new ≡ console.old ++ take (CONSOLE_ROOM - length console.old) (bytes_from (byte_in pages.now) span.at span.len) }
-    ensures count { result ≡ length (take (CONSOLE_ROOM - length console.old) (bytes_from (byte_in pages.now) span.at span.len)) }
+    ensures console { console.new ≡ console.old
+        ++ take (CONSOLE_ROOM - length console.old) (bytes_from (byte_in pages.now) span.at span.len) }
+    ensures count { result ≡ length
+        (take (CONSOLE_ROOM - length console.old) (bytes_from (byte_in pages.now) span.at span.len)) }
 {
     let count = span.len.min(console.room());
     console.append(pages, span.at, count);
@@ -94,8 +96,10 @@ impl Records {
     fn get(self, pages: &PageMap, index: u64) -> Span
         requires end { self.at + 16 * self.count ≤ 2 ^ 64 }
         requires index { index < self.count }
-        ensures at { (h : Here) → byte_in pages.now ≡ memory h → result.at ≡ number_there h (self.at + 16 * index) 8 }
-        ensures len { (h : Here) → byte_in pages.now ≡ memory h → result.len ≡ number_there h (self.at + 16 * index + 8) 8 }
+        ensures at { (h : Here) → byte_in pages.now ≡ memory h
+            → result.at ≡ number_there h (self.at + 16 * index) 8 }
+        ensures len { (h : Here) → byte_in pages.now ≡ memory h
+            → result.len ≡ number_there h (self.at + 16 * index + 8) 8 }
     {
         let at = self.at + RECORD_SIZE * index;
         Span {
@@ -107,9 +111,12 @@ impl Records {
     /// How many bytes they name, below 2^31; None exactly where they are more.
     fn total(self, pages: &PageMap) -> Option<u64>
         requires end { self.at + 16 * self.count ≤ 2 ^ 64 }
-        ensures some { IfSome result (λ length. (h : Here) → byte_in pages.now ≡ memory h → length ≡ total (spans_at h self.at self.count)) }
+        ensures some { IfSome result
+            (λ length. (h : Here) → byte_in pages.now ≡ memory h
+            → length ≡ total (spans_at h self.at self.count)) }
         ensures small { IfSome result (λ length. length < 2 ^ 31) }
-        ensures none { IfNone result ((h : Here) → byte_in pages.now ≡ memory h → 2 ^ 31 ≤ total (spans_at h self.at self.count)) }
+        ensures none { IfNone result
+            ((h : Here) → byte_in pages.now ≡ memory h → 2 ^ 31 ≤ total (spans_at h self.at self.count)) }
     {
         let mut length = 0;
         for index in 0..self.count {
@@ -125,7 +132,8 @@ impl Records {
     /// Whether all bytes that they name can be read.
     fn are_readable(self, pages: &PageMap) -> bool
         requires end { self.at + 16 * self.count ≤ 2 ^ 64 }
-        ensures { (h : Here) → byte_in pages.now ≡ memory h → result ≡ all_readable h (spans_at h self.at self.count) }
+        ensures { (h : Here) → byte_in pages.now ≡ memory h
+            → result ≡ all_readable h (spans_at h self.at self.count) }
     {
         for index in 0..self.count {
             let span = self.get(pages, index);
@@ -139,7 +147,8 @@ impl Records {
     /// Appends the first of their bytes that fit, and answers how many.
     fn append_some(self, console: &mut Console, pages: &PageMap) -> u32
         requires end { self.at + 16 * self.count ≤ 2 ^ 64 }
-        ensures console { (h : Here) → byte_in pages.now ≡ memory h → console.new ≡ console.old ++ take (CONSOLE_ROOM - length console.old) (bytes_of (memory h) (spans_at h self.at self.count)) }
+        ensures console { (h : Here) → byte_in pages.now ≡ memory h → console.new ≡ console.old ++ take
+            (CONSOLE_ROOM - length console.old) (bytes_of (memory h) (spans_at h self.at self.count)) }
         ensures count { result + length console.old ≡ length console.new }
     {
         let room = console.room();
@@ -178,7 +187,8 @@ fn write_records(kernel: &mut Kernel, pages: &PageMap, records: Records) -> Resu
     requires end { records.at + 16 * records.count ≤ 2 ^ 64 }
     ensures errno { IfErr result (λ e. 1 ≤ e.0) }
     ensures answered { (h : Here) (t : ℕ) → HoldsTables kernel.old h.kernel → byte_in pages.now ≡ memory h
-        → IsAnswered h t kernel.old pages.now kernel.new pages.now [] result (write_joined h t (spans_at h records.at records.count)) }
+        → IsAnswered h t kernel.old pages.now kernel.new pages.now [] result
+        (write_joined h t (spans_at h records.at records.count)) }
 {
     let Some(length) = records.total(pages) else {
         return Err(EINVAL);

@@ -3,13 +3,13 @@
 ghost use Rattle.std.specs.Prelude.{◌≡◌, true, None, Some, Err, IfErr, IfNone, IfOk, IfSome};
 ghost use Rattle.mach_types.specs.Limits.{InRange};
 ghost use Rattle.outside.specs.Counts.{NoneFalls};
-ghost use Rattle.command_words.specs.Commands.{ShowsItsText, is_by_workers, is_run};
+ghost use Rattle.command_words.specs.Commands.{is_by_workers, is_run};
 ghost use Rattle.command_words.specs.Kept.{said, source_said};
 ghost use Rattle.command_words.specs.Words.{command_of, texts};
 ghost use Rattle.outcomes.specs.declared.faults.Fault.TheVariants.{Memory};
 ghost use Rattle.outcomes.specs.declared.reasons.Reason.TheVariants.{NoMemory};
 ghost use Rattle.outcomes.specs.Answers.{IsAnswerFor, IsTold};
-ghost use Rattle.outcomes.specs.Outcome.{IsOutcome};
+ghost use Rattle.outcomes.specs.Outcome.{IsOutcome, call_between};
 ghost use Rattle.outcomes.specs.Reasons.{IsExplained};
 
 use crate::delivery::tell;
@@ -40,17 +40,9 @@ pub fn rseq_main<R: Threads + Wait + Sync, S: Shelf, K: Sink, G: Gate + Sync>(
     sink: &mut K,
     gate: &G,
 ) -> u8
-    ensures outcome { IsOutcome (record {
-      words = texts words.now;
-      files = S.file shelf.old;
-      files_after = S.file shelf.new;
-      read_faults = S.faults shelf.old;
-      read_faults_after = S.faults shelf.new;
-      held = K.held sink.old;
-      held_after = K.held sink.new;
-      write_faults = K.faults sink.old;
-      write_faults_after = K.faults sink.new;
-    }) result }
+    ensures outcome { IsOutcome
+        (call_between S.file S.faults K.held K.faults (texts words.now)
+        shelf.old shelf.new sink.old sink.new) result }
     ensures untouched { command_of (texts words.now) ≡ None → shelf.new ≡ shelf.old }
 {
     rseq_explained(alloc, rt, words, shelf, sink, gate).status
@@ -65,17 +57,10 @@ pub fn rseq_explained<R: Threads + Wait + Sync, S: Shelf, K: Sink, G: Gate + Syn
     sink: &mut K,
     gate: &G,
 ) -> Explained
-    ensures explained { IsExplained (record {
-      words = texts words.now;
-      files = S.file shelf.old;
-      files_after = S.file shelf.new;
-      read_faults = S.faults shelf.old;
-      read_faults_after = S.faults shelf.new;
-      held = K.held sink.old;
-      held_after = K.held sink.new;
-      write_faults = K.faults sink.old;
-      write_faults_after = K.faults sink.new;
-    }) (record { shelf = S.last_trouble shelf.new; sink = K.last_trouble sink.new }) result }
+    ensures explained { IsExplained
+        (call_between S.file S.faults K.held K.faults (texts words.now)
+        shelf.old shelf.new sink.old sink.new)
+        (record { shelf = S.last_trouble shelf.new; sink = K.last_trouble sink.new }) result }
     ensures untouched { command_of (texts words.now) ≡ None → shelf.new ≡ shelf.old }
 {
     match quiet_explained(alloc, words, shelf, sink) {
@@ -99,17 +84,9 @@ pub fn rseq_quiet<S: Shelf, K: Sink>(
     ensures run { is_run (command_of (texts words.now)) ≡ true → IfSome result (IsTold (K.held sink.old)
         (K.held sink.new) (K.faults sink.old) (K.faults sink.new) (Err Memory)) }
     ensures unused { IfNone result ((shelf.new ≡ shelf.old) × (sink.new ≡ sink.old)) }
-    ensures outcome { IfSome result (IsOutcome (record {
-      words = texts words.now;
-      files = S.file shelf.old;
-      files_after = S.file shelf.new;
-      read_faults = S.faults shelf.old;
-      read_faults_after = S.faults shelf.new;
-      held = K.held sink.old;
-      held_after = K.held sink.new;
-      write_faults = K.faults sink.old;
-      write_faults_after = K.faults sink.new;
-    })) }
+    ensures outcome { IfSome result (IsOutcome
+        (call_between S.file S.faults K.held K.faults (texts words.now)
+        shelf.old shelf.new sink.old sink.new)) }
     ensures untouched { command_of (texts words.now) ≡ None → shelf.new ≡ shelf.old }
 {
     match quiet_explained(alloc, words, shelf, sink) {
@@ -128,22 +105,14 @@ fn quiet_explained<'a, S: Shelf, K: Sink>(
     ensures left { IfErr result (λ command. command_of (texts words.now) ≡ Some (said command)) }
     ensures workers { IfErr result (λ command. is_by_workers (source_said command.source) ≡ true) }
     ensures limits { IfErr result (λ command. InRange command.limits) }
-    ensures shown { IfErr result (λ command. ShowsItsText (said command)) }
     ensures run { is_run (command_of (texts words.now)) ≡ true → IfOk result (λ explained.
         IsTold (K.held sink.old) (K.held sink.new) (K.faults sink.old) (K.faults sink.new) (Err Memory)
         explained.status) }
     ensures unused { IfErr result (λ command. (shelf.new ≡ shelf.old) × (sink.new ≡ sink.old)) }
-    ensures explained { IfOk result (IsExplained (record {
-      words = texts words.now;
-      files = S.file shelf.old;
-      files_after = S.file shelf.new;
-      read_faults = S.faults shelf.old;
-      read_faults_after = S.faults shelf.new;
-      held = K.held sink.old;
-      held_after = K.held sink.new;
-      write_faults = K.faults sink.old;
-      write_faults_after = K.faults sink.new;
-    }) (record { shelf = S.last_trouble shelf.new; sink = K.last_trouble sink.new })) }
+    ensures explained { IfOk result (IsExplained
+        (call_between S.file S.faults K.held K.faults (texts words.now)
+        shelf.old shelf.new sink.old sink.new)
+        (record { shelf = S.last_trouble shelf.new; sink = K.last_trouble sink.new })) }
     ensures untouched { command_of (texts words.now) ≡ None → shelf.new ≡ shelf.old }
 {
     match quiet_answer(alloc, words, shelf) {
@@ -162,7 +131,6 @@ fn quiet_answer<'a, S: Shelf>(
     ensures left { IfErr result (λ command. command_of (texts words.now) ≡ Some (said command)) }
     ensures workers { IfErr result (λ command. is_by_workers (source_said command.source) ≡ true) }
     ensures limits { IfErr result (λ command. InRange command.limits) }
-    ensures shown { IfErr result (λ command. ShowsItsText (said command)) }
     ensures run { is_run (command_of (texts words.now)) ≡ true
         → IfOk result (λ answer. answer ≡ Err NoMemory) }
     ensures unread { is_run (command_of (texts words.now)) ≡ true → shelf.new ≡ shelf.old }

@@ -17,8 +17,8 @@ pub(crate) fn tell<K: Sink>(sink: &mut K, answer: Result<Vec<u8>, Reason>) -> Ex
     requires { IfErr answer (λ reason. IsSome (fault_told reason)) }
     ensures told { IsToldFor (K.held sink.old) (K.held sink.new) (K.faults sink.old) (K.faults sink.new)
         answer result.status }
-    ensures explained { IsAsDue (K.faults sink.old) (K.faults sink.new) (K.last_trouble sink.new) (due_for answer)
-        result }
+    ensures explained { IsAsDue (K.faults sink.old) (K.faults sink.new) (K.last_trouble sink.new)
+        (due_for answer) result }
     ensures counts { NeverFalls (K.faults sink.old) (K.faults sink.new) }
 {
     match answer {

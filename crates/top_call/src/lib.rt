@@ -6,8 +6,6 @@ mod delivery;
 mod elf_places;
 mod fetching;
 mod sure;
-#[cfg(test)]
-mod tests;
 mod texts;
 
 pub use calls::{rseq_explained, rseq_main, rseq_quiet};

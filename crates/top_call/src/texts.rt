@@ -4,7 +4,7 @@ ghost use Rattle.std.specs.Prelude.{◌≡◌, IfErr, IfOk, Some, false, true};
 ghost use Rattle.mach_types.specs.Limits.{InRange};
 ghost use Rattle.elf_load.specs.Images.{IsBootable};
 ghost use Rattle.outside.specs.Counts.{NoneFalls};
-ghost use Rattle.command_words.specs.Commands.{HasItsHarts, Rule, Script, ShowsItsText, Workers, is_by_workers};
+ghost use Rattle.command_words.specs.Commands.{HasItsHarts, Rule, Script, Workers, is_by_workers};
 ghost use Rattle.command_words.specs.Kept.{said, source_said};
 ghost use Rattle.outcomes.specs.Needs.{needs_by, needs_of};
 ghost use Rattle.outcomes.specs.Outputs.{HasRun, IsCommandOutput};
@@ -39,7 +39,6 @@ pub(crate) fn quiet_text<S: Shelf>(
 ) -> Result<Vec<u8>, Reason>
     requires limits { InRange command.now.limits }
     requires harts { HasItsHarts (said command.now) }
-    requires shown { ShowsItsText (said command.now) }
     requires quiet { is_by_workers (source_said command.now.source) ≡ false }
     ensures output { IfOk result (λ text. IsCommandOutput (S.file shelf.old) (said command.now) text.items) }
     ensures cause { let needs = needs_of (Some (said command.now)) in
@@ -61,7 +60,6 @@ pub(crate) fn workers_text<R: Threads + Wait + Sync, S: Shelf, G: Gate + Sync>(
     gate: &G,
 ) -> Result<Vec<u8>, Reason>
     requires limits { InRange command.now.limits }
-    requires shown { ShowsItsText (said command.now) }
     requires workers { is_by_workers (source_said command.now.source) ≡ true }
     ensures output { IfOk result (λ text. IsCommandOutput (S.file shelf.old) (said command.now) text.items) }
     ensures cause { let needs = needs_of (Some (said command.now)) in
@@ -145,7 +143,8 @@ fn rule_run<S: Shelf>(
 ) -> Result<ProgramRun, Reason>
     requires limits { InRange limits }
     requires one_hart { limits.harts ≡ 1 }
-    ensures run { IfOk result (λ run. HasRun (S.file shelf.old) program.now Rule limits run.image run.machine) }
+    ensures run { IfOk result
+        (λ run. HasRun (S.file shelf.old) program.now Rule limits run.image run.machine) }
     ensures bootable { IfOk result (λ run. IsBootable limits.frames run.image) }
     ensures cause { let needs = needs_by program.now Rule limits in
         IfErr result (IsReasonFor (S.file shelf.old) needs (S.faults shelf.old) (S.faults shelf.new)

@@ -1,8 +1,10 @@
 //! What is checked of a run.
 
-use crate::calls::{Outcome, by_main, by_quiet, by_sure_main, by_sure_quiet, words_of};
+use crate::calls::{
+    Outcome, by_explained, by_main, by_meeting, by_quiet, by_sure_main, by_sure_quiet, words_of,
+};
 use crate::differences::{Call, Difference, Unlike};
-use crate::dues::{Due, unlike_outcome};
+use crate::dues::{DONE, Due, DueSaid, unlike_outcome};
 use crate::printed::Printed;
 use crate::rows::{Failing, NamedFile, Run};
 use command_words::{Command, Shown, Source, WordsError, read_words};
@@ -11,22 +13,24 @@ use std::alloc::{AllocError, Global};
 use std::sync::Wait;
 use std::thread::Threads;
 
-/// The exit status of a call that wrote its output.
-const DONE: u8 = 0;
-
 /// The exit statuses of a device that failed.
 const UNREAD: u8 = 5;
 
 const UNWRITTEN: u8 = 6;
 
-/// The first difference of a run from what is due: of `rseq_main`; of `rseq_quiet`; of both over devices that never
-/// fail, where nothing is to fail; and of its log, played again.
+/// The first difference of a run from what is due: of `rseq_explained`, and of what it says; of `rseq_main`;
+/// of `rseq_quiet`; of both over devices that never fail, where nothing is to fail; and of its log, played
+/// again.
 pub(crate) fn difference_of<R: Threads + Wait + Sync>(
     alloc: Global,
     rt: &R,
     run: &Run,
     due: &Due,
+    said: &DueSaid,
 ) -> Result<Option<Difference>, AllocError> {
+    if let Some(unlike) = explained_unlike(alloc, rt, run, due, said)? {
+        return told(Call::Explained, unlike);
+    }
     let made = by_main(alloc, rt, run)?;
     if let Some(unlike) = due.unlike(alloc, &made)? {
         return told(Call::Main, unlike);
@@ -48,6 +52,38 @@ pub(crate) fn difference_of<R: Threads + Wait + Sync>(
     }
 }
 
+/// How a run by workers that meet differs from what is due.
+pub(crate) fn meeting_difference<R: Threads + Wait + Sync>(
+    alloc: Global,
+    rt: &R,
+    run: &Run,
+    due: &Due,
+) -> Result<Option<Difference>, AllocError> {
+    let (made, has_met) = by_meeting(alloc, rt, run)?;
+    if !has_met {
+        return told(Call::Meeting, Unlike::Apart);
+    }
+    match due.unlike(alloc, &made)? {
+        Some(unlike) => told(Call::Meeting, unlike),
+        None => Ok(None),
+    }
+}
+
+/// How `rseq_explained`, or what is said of its reasons, differs from what is due.
+fn explained_unlike<R: Threads + Wait + Sync>(
+    alloc: Global,
+    rt: &R,
+    run: &Run,
+    due: &Due,
+    said: &DueSaid,
+) -> Result<Option<Unlike>, AllocError> {
+    let made = by_explained(alloc, rt, run)?;
+    if let Some(unlike) = due.unlike(alloc, &made.outcome)? {
+        return Ok(Some(unlike));
+    }
+    said.unlike(alloc, made.outcome.status, made.said.as_bytes())
+}
+
 /// A difference of this call.
 fn told(call: Call, unlike: Unlike) -> Result<Option<Difference>, AllocError> {
     Ok(Some(Difference { call, unlike }))
@@ -58,8 +94,8 @@ fn is_sure(run: &Run, due: &Due) -> bool {
     run.failing.is_none() && due.status != UNREAD && due.status != UNWRITTEN
 }
 
-/// How the outcome of a call without workers differs from what is due. Where the words are a `run`, it answers
-/// nothing and writes nothing.
+/// How the outcome of a call without workers differs from what is due. Where the words are a `run`, it
+/// answers nothing and writes nothing.
 fn quiet_unlike(
     alloc: Global,
     run: &Run,
@@ -109,7 +145,8 @@ fn logged_of(alloc: Global, words: &[String]) -> Result<Option<Logged<'_>>, Allo
     }
 }
 
-/// How a run differs from its log lines, played with the same limits. Where it printed no log, nothing is played.
+/// How a run differs from its log lines, played with the same limits. Where it printed no log, nothing is
+/// played.
 fn replay_unlike<R: Threads + Wait + Sync>(
     alloc: Global,
     rt: &R,

@@ -17,6 +17,10 @@ pub(crate) enum Call {
     SureQuiet,
     /// `rseq_main` with `play` on the log lines that were printed.
     Replay,
+    /// `rseq_explained`, and the texts of its reasons.
+    Explained,
+    /// `rseq_main`, with a gate at which two workers wait for one another.
+    Meeting,
 }
 
 impl fmt::Display for Call {
@@ -27,6 +31,8 @@ impl fmt::Display for Call {
             Call::SureMain => write!(f, "sure_main"),
             Call::SureQuiet => write!(f, "sure_quiet"),
             Call::Replay => write!(f, "play of its log"),
+            Call::Explained => write!(f, "rseq_explained"),
+            Call::Meeting => write!(f, "rseq_main by workers that meet"),
         }
     }
 }
@@ -43,6 +49,10 @@ pub(crate) enum Unlike {
     Ending,
     /// The text isn't of the form of one with a log.
     NoLog,
+    /// Something is said at status 0, or nothing at another one.
+    Said,
+    /// A worker looked for the other in vain.
+    Apart,
 }
 
 impl fmt::Display for Unlike {
@@ -59,6 +69,8 @@ impl fmt::Display for Unlike {
             Unlike::Beginning => write!(f, "its text begins otherwise"),
             Unlike::Ending => write!(f, "its text ends otherwise"),
             Unlike::NoLog => write!(f, "its text has no log"),
+            Unlike::Said => write!(f, "standard error and the status don't fit"),
+            Unlike::Apart => write!(f, "its workers don't overlap"),
         }
     }
 }

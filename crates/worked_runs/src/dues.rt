@@ -5,6 +5,9 @@ use crate::differences::{LineDifference, Unlike};
 use crate::printed::on_hart_0;
 use std::alloc::{AllocError, Global};
 
+/// The exit status of a call that wrote its output, and of which nothing is said.
+pub(crate) const DONE: u8 = 0;
+
 /// The status and the text that are due.
 #[derive(Drop)]
 pub(crate) struct Due {
@@ -21,6 +24,17 @@ pub(crate) enum DueText {
     OnAnyHart(Vec<u8>),
     /// A text that begins and ends with these bytes.
     Between { begins: Vec<u8>, ends: Vec<u8> },
+}
+
+/// What standard error is to say.
+#[derive(Drop)]
+pub(crate) enum DueSaid {
+    /// Something exactly where the status isn't 0.
+    Anything,
+    /// These bytes.
+    Whole(Vec<u8>),
+    /// These bytes, and what stands behind them.
+    Begins(Vec<u8>),
 }
 
 impl Due {
@@ -53,6 +67,25 @@ impl DueText {
             }
             DueText::Between { ends, .. } if !found.ends_with(ends) => Ok(Some(Unlike::Ending)),
             DueText::Between { .. } => Ok(None),
+        }
+    }
+}
+
+impl DueSaid {
+    /// How what is said of a call with this status differs from what is due.
+    pub(crate) fn unlike(
+        &self,
+        alloc: Global,
+        status: Option<u8>,
+        said: &[u8],
+    ) -> Result<Option<Unlike>, AllocError> {
+        if (status == Some(DONE)) != said.is_empty() {
+            return Ok(Some(Unlike::Said));
+        }
+        match self {
+            DueSaid::Whole(text) => unlike_text(alloc, said, text),
+            DueSaid::Begins(text) if !said.starts_with(text) => unlike_text(alloc, said, text),
+            _ => Ok(None),
         }
     }
 }

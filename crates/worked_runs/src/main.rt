@@ -1,22 +1,27 @@
-//! `worked_runs`: makes the runs that its folder data/ tells of, and says which of them come to something else
-//! than stands there.
+//! `worked_runs`: makes the runs that its folder data/ tells of, and says which of them come to something
+//! else than stands there.
 //!
-//! A row is a folder GROUP/NAME: command lines, the files that they name, and the status and the text that are due.
+//! A row is a folder GROUP/NAME: command lines, the files that they name, and the status and the text that
+//! are due.
 #![tactic(auto)]
 
 mod calls;
 mod checks;
 mod differences;
 mod dues;
+mod meeting;
 mod printed;
 mod reading;
+mod reasons;
 mod rows;
 
 use anyhow::{Context, Result};
 use calls::words_of;
-use checks::difference_of;
+use checks::{difference_of, meeting_difference};
+use differences::Difference;
 use reading::{folders_in, read_row};
-use rows::{Row, Run};
+use reasons::differing_texts;
+use rows::{CommandLine, Row, Run};
 use std::process::ExitCode;
 use std::rt::Files;
 use std::sync::Wait;
@@ -34,7 +39,11 @@ struct Tally {
 
 /// Ends with status 0 only where no run differs.
 fn main(rt: HostRuntime) -> Result<ExitCode> {
-    let tally = walk(&rt)?;
+    let mut tally = walk(&rt)?;
+    for text in differing_texts(rt.alloc())?.iter() {
+        tally.differ = tally.differ.saturating_add(1);
+        println!(rt; "this text differs: {text:?}")?;
+    }
     println!(rt; "{} runs, {} differ", tally.runs, tally.differ)?;
     if tally.differ == 0 {
         Ok(ExitCode::SUCCESS)
@@ -74,7 +83,7 @@ fn check_row<R: AllocGlobal + Print + Threads + Wait + Sync>(
     tally: &mut Tally,
 ) -> Result<()> {
     for line in row.lines.iter() {
-        check_line(rt, row, line.as_str(), tally)?;
+        check_line(rt, row, line, tally)?;
     }
     Ok(())
 }
@@ -83,10 +92,10 @@ fn check_row<R: AllocGlobal + Print + Threads + Wait + Sync>(
 fn check_line<R: AllocGlobal + Print + Threads + Wait + Sync>(
     rt: &R,
     row: &Row,
-    line: &str,
+    line: &CommandLine,
     tally: &mut Tally,
 ) -> Result<()> {
-    let words = words_of(rt.alloc(), line)?;
+    let words = words_of(rt.alloc(), line.line.as_str())?;
     for failing in row.failing.iter() {
         let run = Run {
             words: &words,
@@ -94,10 +103,25 @@ fn check_line<R: AllocGlobal + Print + Threads + Wait + Sync>(
             failing,
         };
         tally.runs = tally.runs.saturating_add(1);
-        if let Some(difference) = difference_of(rt.alloc(), rt, &run, &row.due)? {
+        if let Some(difference) = check_run(rt, row, line, &run)? {
             tally.differ = tally.differ.saturating_add(1);
-            println!(rt; "{}: {line}{failing}: {difference}", row.name)?;
+            println!(rt; "{}: {}{failing}: {difference}", row.name, line.line)?;
         }
     }
     Ok(())
+}
+
+/// The first difference of a run from what its row says.
+fn check_run<R: AllocGlobal + Threads + Wait + Sync>(
+    rt: &R,
+    row: &Row,
+    line: &CommandLine,
+    run: &Run,
+) -> Result<Option<Difference>> {
+    if row.meets
+        && let Some(difference) = meeting_difference(rt.alloc(), rt, run, &row.due)?
+    {
+        return Ok(Some(difference));
+    }
+    Ok(difference_of(rt.alloc(), rt, run, &row.due, &line.said)?)
 }

@@ -1,7 +1,8 @@
 //! Finding the rows, and reading each from its folder.
 
-use crate::dues::{Due, DueText};
-use crate::rows::{Failing, NamedFile, Row};
+use crate::dues::{Due, DueSaid, DueText};
+use crate::printed::is_newline;
+use crate::rows::{CommandLine, Failing, NamedFile, Row};
 use anyhow::{Context, Result, bail};
 use std::alloc::{AllocError, Global};
 use std::rt::Files;
@@ -26,9 +27,10 @@ pub(crate) fn folders_in<R: Files + AllocGlobal + Clone + Drop>(
     Ok(names)
 }
 
-/// The row of a group and a name. Its folder has the files `words`; `fails`, where calls of the devices fail; `F` and
-/// `S`; `status`; and `stdout`, with `any-hart` where the text leaves the hart open, or in its place `begins` and
-/// `ends`.
+/// The row of a group and a name. Its folder has the files `words`; `fails`, where calls of the devices fail;
+/// `F` and `S`; `status`; `stdout`, with `any-hart` where the text leaves the hart open, or in its place
+/// `begins` and `ends`; `stderr` or `told`, where more is asked of standard error; and `meets`, where two
+/// workers are to overlap.
 pub(crate) fn read_row<R: Files + AllocGlobal>(rt: &R, group: &str, name: &str) -> Result<Row> {
     let alloc = rt.alloc();
     let path = path_of(alloc, group, name)?;
@@ -41,6 +43,7 @@ pub(crate) fn read_row<R: Files + AllocGlobal>(rt: &R, group: &str, name: &str) 
             status: read_status(rt, folder)?,
             text: read_due_text(rt, folder)?,
         },
+        meets: read_if_there(rt, folder, "meets")?.is_some(),
         name: path,
     })
 }
@@ -70,14 +73,39 @@ fn read_if_there<R: Files + AllocGlobal>(
     Ok(Some(fs::read(rt, path.as_str())?))
 }
 
-/// The command lines.
-fn read_lines<R: Files + AllocGlobal>(rt: &R, folder: &str) -> Result<Vec<String>> {
+/// The command lines, each with what standard error is to say of it.
+fn read_lines<R: Files + AllocGlobal>(rt: &R, folder: &str) -> Result<Vec<CommandLine>> {
     let text = read_text(rt, folder, "words")?;
+    let whole = read_if_there(rt, folder, "stderr")?;
+    let told = read_if_there(rt, folder, "told")?;
     let mut lines = Vec::new(rt.alloc());
-    for line in text.lines() {
-        lines.push(String::from_str(rt.alloc(), line)?)?;
+    for (place, line) in text.lines().enumerate() {
+        lines.push(CommandLine {
+            line: String::from_str(rt.alloc(), line)?,
+            said: due_said(rt.alloc(), &whole, &told, place)?,
+        })?;
     }
     Ok(lines)
+}
+
+/// What standard error is to say of the command line at this place: the whole text; or the line of `told` at
+/// the same place, and what stands behind it.
+fn due_said(
+    alloc: Global,
+    whole: &Option<Vec<u8>>,
+    told: &Option<Vec<u8>>,
+    place: usize,
+) -> Result<DueSaid> {
+    if let Some(text) = whole {
+        return Ok(DueSaid::Whole(text.to_vec(alloc)?));
+    }
+    let Some(text) = told else {
+        return Ok(DueSaid::Anything);
+    };
+    match text.split_inclusive(is_newline).nth(place) {
+        Some(line) => Ok(DueSaid::Begins(line.to_vec(alloc)?)),
+        None => bail!("its file told has fewer lines than words"),
+    }
 }
 
 /// The choices of calls that fail, one a line; where there is no such file, no call fails.

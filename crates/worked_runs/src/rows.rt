@@ -1,6 +1,6 @@
 //! What a row is: runs, and what is due of them.
 
-use crate::dues::Due;
+use crate::dues::{Due, DueSaid};
 use std::alloc::Global;
 use std::fmt;
 
@@ -45,14 +45,23 @@ impl fmt::Display for Failing {
     }
 }
 
+/// A command line, and what standard error is to say of it.
+#[derive(Drop)]
+pub(crate) struct CommandLine {
+    pub(crate) line: String,
+    pub(crate) said: DueSaid,
+}
+
 /// A row: each of its command lines is a run with each of its choices of calls that fail.
 #[derive(Drop)]
 pub(crate) struct Row {
     pub(crate) name: String,
-    pub(crate) lines: Vec<String>,
+    pub(crate) lines: Vec<CommandLine>,
     pub(crate) failing: Vec<Failing>,
     pub(crate) files: Vec<NamedFile>,
     pub(crate) due: Due,
+    /// Whether the workers of harts 0 and 1 are to overlap.
+    pub(crate) meets: bool,
 }
 
 /// A run: the words of its command line, the files that they name, and which calls of its devices fail.

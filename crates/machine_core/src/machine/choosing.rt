@@ -55,7 +55,8 @@ impl Machine {
         requires chosen { IsChosen self.old.setting self.old.log }
         requires goes { has_ended self.old.setting (history self.old.setting self.old.log) ≡ false }
         requires hart { hart.0 < self.old.setting.limits.harts }
-        ensures answer { result ≡ decide self.old.setting (history self.old.setting self.old.log) hart.0 choice }
+        ensures answer { result
+            ≡ decide self.old.setting (history self.old.setting self.old.log) hart.0 choice }
         ensures of { IfOk result (λ e. (e.hart ≡ hart) × (choice_of e ≡ choice)) }
         ensures ok { IfOk result (λ e. self.new ≡ record self.old { log = self.old.log ++ e ∷ [] }) }
         ensures err { OnErr result (self.new ≡ self.old) }
@@ -70,9 +71,12 @@ impl Machine {
         requires chosen { IsChosen self.old.setting self.old.log }
         requires goes { has_ended self.old.setting (history self.old.setting self.old.log) ≡ false }
         requires hart { hart.0 < self.old.setting.limits.harts }
-        requires sight { sight.now ≡ sight_in (here_in_history self.old.setting (history self.old.setting self.old.log) hart.0)
-            (ran hart.0 (history self.old.setting self.old.log)) (credit_at self.old.setting hart.0 (history self.old.setting self.old.log)) }
-        ensures answer { result ≡ decide self.old.setting (history self.old.setting self.old.log) hart.0 choice }
+        requires sight { sight.now
+            ≡ sight_in (here_in_history self.old.setting (history self.old.setting self.old.log) hart.0)
+            (ran hart.0 (history self.old.setting self.old.log))
+            (credit_at self.old.setting hart.0 (history self.old.setting self.old.log)) }
+        ensures answer { result
+            ≡ decide self.old.setting (history self.old.setting self.old.log) hart.0 choice }
         ensures of { IfOk result (λ e. (e.hart ≡ hart) × (choice_of e ≡ choice)) }
         ensures ok { IfOk result (λ e. self.new ≡ record self.old { log = self.old.log ++ e ∷ [] }) }
         ensures err { OnErr result (self.new ≡ self.old) }

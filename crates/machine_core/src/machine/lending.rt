@@ -84,7 +84,9 @@ impl Machine {
     /// is the same for every program, and isn't among them.
     pub fn code(&self, alloc: Global) -> Result<Code, AllocError>
         ensures code { IfOk result (λ code. code ≡ code_of self.now.setting.program.pages) }
-        ensures rising { IfOk result (λ code. IsStrictlyIncreasing (map (λ (p : ImagePage). p.number) self.now.setting.program.pages)) }
+        ensures rising { IfOk result
+            (λ code. IsStrictlyIncreasing
+            (map (λ (p : ImagePage). p.number) self.now.setting.program.pages)) }
     {
         self.code.executable(alloc)
     }
@@ -94,7 +96,8 @@ impl Machine {
     /// [`Machine::advance`].
     pub fn lend_local(&self, hart: Hart) -> Option<Stretch>
         requires chosen { IsChosen self.now.setting self.now.log }
-        ensures { option_map stretch_of result ≡ lent self.now.setting hart.0 (history self.now.setting self.now.log) }
+        ensures { option_map stretch_of result
+            ≡ lent self.now.setting hart.0 (history self.now.setting self.now.log) }
     {
         if self.has_ended() || hart.0 >= self.limits.harts {
             return None;
@@ -111,7 +114,8 @@ impl Machine {
     pub fn append_local(&mut self, hart: Hart, stretch: Stretch) -> u32
         requires chosen { IsChosen self.old.setting self.old.log }
         requires fits { IsStretchOf self.old.setting hart.0 self.old.log (stretch_of stretch) }
-        ensures count { result ≡ appended self.old.setting hart.0 (history self.old.setting self.old.log) (stretch_of stretch) }
+        ensures count { result
+            ≡ appended self.old.setting hart.0 (history self.old.setting self.old.log) (stretch_of stretch) }
         ensures setting { self.new.setting ≡ self.old.setting }
         ensures log { advanced self.old.setting hart.0 result self.old.log ≡ Some self.new.log }
         ensures chosen { IsChosen self.new.setting self.new.log }
@@ -154,7 +158,8 @@ impl Machine {
         requires goes { has_ended self.old.setting (history self.old.setting self.old.log) ≡ false }
         requires room { length self.old.log + length stretch.pcs.items ≤ self.old.setting.limits.steps }
         ensures setting { self.new.setting ≡ self.old.setting }
-        ensures log { advanced self.old.setting hart.0 (length stretch.pcs.items) self.old.log ≡ Some self.new.log }
+        ensures log { advanced self.old.setting hart.0 (length stretch.pcs.items) self.old.log
+            ≡ Some self.new.log }
         ensures chosen { IsChosen self.new.setting self.new.log }
         ensures block_run { IsBlockRun self.new.setting self.new.log }
     {

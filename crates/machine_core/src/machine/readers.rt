@@ -36,8 +36,10 @@ impl Machine {
     /// entry of the log isn't one of these.
     pub fn hart(&self, hart: Hart) -> &HartState
         requires { hart.0 < self.now.setting.limits.harts }
-        ensures { result.now ≡ hart_in (here_in_history self.now.setting (history self.now.setting self.now.log) hart.0)
-            (ran hart.0 (history self.now.setting self.now.log)) (events hart.0 (history self.now.setting self.now.log))
+        ensures { result.now
+            ≡ hart_in (here_in_history self.now.setting (history self.now.setting self.now.log) hart.0)
+            (ran hart.0 (history self.now.setting self.now.log))
+            (events hart.0 (history self.now.setting self.now.log))
             (credit_at self.now.setting hart.0 (history self.now.setting self.now.log)) }
     {
         &self.parts.harts[hart.0 as usize]
@@ -48,7 +50,8 @@ impl Machine {
     pub fn view(&self, hart: Hart, at: u64, size: u8) -> Option<u64>
         requires hart { hart.0 < self.now.setting.limits.harts }
         requires size { IsAccessSize size }
-        ensures { result ≡ word_at (view (here_in_history self.now.setting (history self.now.setting self.now.log) hart.0)) at size }
+        ensures { result ≡ word_at
+            (view (here_in_history self.now.setting (history self.now.setting self.now.log) hart.0)) at size }
     {
         self.hart(hart).buffer.look(&self.parts.pages, at, size)
     }
@@ -57,7 +60,8 @@ impl Machine {
     /// can be executed at the pc, or where the word there is no instruction.
     pub fn next_effect(&self, hart: Hart) -> Option<Effect>
         requires { hart.0 < self.now.setting.limits.harts }
-        ensures { result ≡ effect_here (here_in_history self.now.setting (history self.now.setting self.now.log) hart.0) }
+        ensures { result
+            ≡ effect_here (here_in_history self.now.setting (history self.now.setting self.now.log) hart.0) }
     {
         let state = self.hart(hart);
         if state.is_idle() {
@@ -70,7 +74,8 @@ impl Machine {
     /// The area that is registered for the thread on a hart (rseq(2)). None exactly where the hart is idle, or its thread has none.
     pub fn area(&self, hart: Hart) -> Option<Area>
         requires { hart.0 < self.now.setting.limits.harts }
-        ensures { result ≡ area_on (here_in_history self.now.setting (history self.now.setting self.now.log) hart.0) }
+        ensures { result
+            ≡ area_on (here_in_history self.now.setting (history self.now.setting self.now.log) hart.0) }
     {
         self.parts.area(hart)
     }
@@ -86,7 +91,8 @@ impl Machine {
     /// Whether a signal can be delivered to the thread on a hart (signal(7)). No signal can where the hart is idle.
     pub fn has_signal(&self, hart: Hart) -> bool
         requires { hart.0 < self.now.setting.limits.harts }
-        ensures { result ≡ is_deliverable_on (here_in_history self.now.setting (history self.now.setting self.now.log) hart.0)
+        ensures { result ≡ is_deliverable_on
+            (here_in_history self.now.setting (history self.now.setting self.now.log) hart.0)
             (runs (here_in_history self.now.setting (history self.now.setting self.now.log) hart.0)) }
     {
         self.parts.deliverable(hart).is_some()
@@ -95,8 +101,10 @@ impl Machine {
     /// What a scheduler sees of a hart.
     pub fn sight(&self, hart: Hart) -> Sight
         requires { hart.0 < self.now.setting.limits.harts }
-        ensures { result ≡ sight_in (here_in_history self.now.setting (history self.now.setting self.now.log) hart.0)
-            (ran hart.0 (history self.now.setting self.now.log)) (credit_at self.now.setting hart.0 (history self.now.setting self.now.log)) }
+        ensures { result
+            ≡ sight_in (here_in_history self.now.setting (history self.now.setting self.now.log) hart.0)
+            (ran hart.0 (history self.now.setting self.now.log))
+            (credit_at self.now.setting hart.0 (history self.now.setting self.now.log)) }
     {
         let state = self.hart(hart);
         let next = next_of(&self.code, &self.parts.pages, state);
@@ -119,15 +127,24 @@ impl Machine {
     /// affinities, the areas, the registrations for barriers and the console. The threads that have signals and affinities are those
     /// that are live.
     pub fn kernel(&self) -> &Kernel
-        ensures threads { result.now.threads.threads ≡ (kernel self.now.setting (history self.now.setting self.now.log)).threads }
-        ensures saved { AreSaved (λ t. file self.now.setting t (history self.now.setting self.now.log)) result.now.threads }
-        ensures signals { result.now.signals ≡ (kernel self.now.setting (history self.now.setting self.now.log)).signals }
-        ensures signals_held { (t : ℕ) → signals.is_held t result.now.signals ≡ is_live t result.now.threads.threads }
-        ensures scheduling { result.now.ready ≡ (kernel self.now.setting (history self.now.setting self.now.log)).scheduling }
-        ensures scheduling_held { (t : ℕ) → scheduling.is_held t result.now.ready ≡ is_live t result.now.threads.threads }
-        ensures areas { areas_by_number result.now.areas.items ≡ (kernel self.now.setting (history self.now.setting self.now.log)).areas }
-        ensures registered { result.now.registered ≡ (kernel self.now.setting (history self.now.setting self.now.log)).barriers }
-        ensures console { result.now.console ≡ (kernel self.now.setting (history self.now.setting self.now.log)).console }
+        ensures threads { result.now.threads.threads
+            ≡ (kernel self.now.setting (history self.now.setting self.now.log)).threads }
+        ensures saved { AreSaved
+            (λ t. file self.now.setting t (history self.now.setting self.now.log)) result.now.threads }
+        ensures signals { result.now.signals
+            ≡ (kernel self.now.setting (history self.now.setting self.now.log)).signals }
+        ensures signals_held { (t : ℕ)
+            → signals.is_held t result.now.signals ≡ is_live t result.now.threads.threads }
+        ensures scheduling { result.now.ready
+            ≡ (kernel self.now.setting (history self.now.setting self.now.log)).scheduling }
+        ensures scheduling_held { (t : ℕ)
+            → scheduling.is_held t result.now.ready ≡ is_live t result.now.threads.threads }
+        ensures areas { areas_by_number result.now.areas.items
+            ≡ (kernel self.now.setting (history self.now.setting self.now.log)).areas }
+        ensures registered { result.now.registered
+            ≡ (kernel self.now.setting (history self.now.setting self.now.log)).barriers }
+        ensures console { result.now.console
+            ≡ (kernel self.now.setting (history self.now.setting self.now.log)).console }
     {
         &self.parts.kernel
     }

@@ -1,8 +1,8 @@
 use Rattle.block_model.proofs.theorems.barriers_return_when_they_are_passed.Goals as goal
 use Rattle.block_model.specs.Deciding.{history}
-use Rattle.block_model.proofs.BarriersAbout.{about_others}
-use Rattle.block_model.proofs.BarriersReturn.{begun_at, is_called, passed_at, passed_since}
-use Rattle.block_model.proofs.BarriersWait.{restart_asked, waits_at}
+use Rattle.block_model.proofs.Barriers.Targets.{about_others}
+use Rattle.block_model.proofs.Barriers.Return.{begun_at, is_called, passed_at, passed_since}
+use Rattle.block_model.proofs.Barriers.Waiting.{restart_asked, waits_at}
 
 pub returns : goal.returns
 returns c = record {

@@ -1,7 +1,6 @@
 use Rattle.block_model.proofs.theorems.harts_are_sound.Goals as goal
 use Rattle.block_model.specs.Deciding.{history}
-use Rattle.block_model.proofs.Runs.{settled}
-use Rattle.block_model.proofs.Sound.{idle_harts, one_hart, waiter_runs, waiter_stores, writable_stores}
+use Rattle.block_model.proofs.Runs.{settled, idle_harts, one_hart, waiter_runs, waiter_stores, writable_stores}
 
 pub returns : goal.returns
 returns c = record {

@@ -1,8 +1,8 @@
 use Rattle.std.proofs.Common.{arith}
 use Rattle.block_model.specs.Deciding.{history}
 use Rattle.block_model.specs.History.{kernel}
-use Rattle.block_model.proofs.Heeded.{pending_heeded}
-use Rattle.block_model.proofs.HeededRuns.{heeded_at}
+use Rattle.block_model.proofs.IgnoredSignals.{pending_heeded}
+use Rattle.block_model.proofs.IgnoredSignalsInRuns.{heeded_at}
 use Rattle.block_model.proofs.theorems.no_ignored_signal_is_pending.Goals as goal
 
 pub returns : goal.returns

@@ -1,5 +1,5 @@
 use Rattle.block_model.specs.Deciding.{history}
-use Rattle.block_model.proofs.CalmRuns.{calm_at}
+use Rattle.block_model.proofs.SignalsOfWaitersInRuns.{calm_at}
 use Rattle.block_model.proofs.theorems.no_thread_waits_with_a_signal.Goals as goal
 
 pub returns : goal.returns

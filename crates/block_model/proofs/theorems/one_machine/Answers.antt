@@ -1,5 +1,5 @@
 use Rattle.block_model.proofs.theorems.one_machine.Goals as goal
-use Rattle.block_model.proofs.Agreement.{agreement, agreement_decide, agreement_end, agreement_here}
+use Rattle.block_model.proofs.PlainAgreement.{agreement, agreement_decide, agreement_end, agreement_here}
 
 pub returns : goal.returns
 returns c = record {

@@ -1,6 +1,6 @@
 use Rattle.block_model.proofs.theorems.record_is_sound.Goals as goal
 use Rattle.block_model.proofs.Entries.{given_in}
-use Rattle.block_model.proofs.Sound.{paged_pages, sound_record}
+use Rattle.block_model.proofs.Runs.{paged_pages, sound_record}
 
 pub returns : goal.returns
 returns c = record {

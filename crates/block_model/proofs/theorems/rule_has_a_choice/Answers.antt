@@ -1,5 +1,5 @@
 use Rattle.block_model.proofs.theorems.rule_has_a_choice.Goals as goal
-use Rattle.block_model.proofs.Rules.{rule_chooses, rule_is_made, executes_when_allowed}
+use Rattle.block_model.proofs.FixedRule.{rule_chooses, rule_is_made, executes_when_allowed}
 
 pub returns : goal.returns
 returns c = record {

@@ -1,6 +1,6 @@
 use Rattle.block_model.proofs.theorems.running_threads_hold_different_ids.Goals as goal
 use Rattle.block_model.proofs.IdsOfRuns as ids
-use Rattle.block_model.proofs.IdsStay as stay
+use Rattle.block_model.proofs.IdsOfCalls as stay
 
 pub returns : goal.returns
 returns c = record {

@@ -1,5 +1,5 @@
 use Rattle.machine_core.specs.Stretches.{stretch_of}
-use Rattle.machine_core.proofs.Worked.{IsHalfWorked}
+use Rattle.machine_core.proofs.StretchWork.{IsHalfWorked}
 use Rattle.machine_core.proofs.stretches.work.Given as goal
 
 abbrev pub invariant-loop : goal.invariant-loop

@@ -1,7 +1,7 @@
 use Rattle.std.proofs.Common.{rules, Some, ap, get_or, sym, ◌∙◌}
 use Rattle.process.specs.Barriers.{asked_by}
-use Rattle.process.proofs.Asking.{asked_one}
-use Rattle.process.proofs.Turns.{all_through, one_through}
+use Rattle.process.proofs.Membarriers.{asked_one}
+use Rattle.process.proofs.EachHart.{all_through, one_through}
 use Rattle.process.proofs.requests.ask_each.Goals as goal
 
 pub loop-k-preserved : goal.loop-k-preserved

@@ -2,7 +2,7 @@
 use Rattle.std.proofs.Common.{◌≡◌, ℕ, eqb, slice_get}
 use Rattle.std.specs.Option.{option_map}
 use Rattle.process.specs.Barriers.{noticed_unless}
-use Rattle.process.proofs.Turns.{changed_before}
+use Rattle.process.proofs.EachHart.{changed_before}
 use Rattle.process.proofs.requests.notice_all.Given as goal
 
 abbrev pub invariant-loop-k : goal.invariant-loop-k

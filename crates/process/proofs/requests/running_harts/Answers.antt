@@ -1,5 +1,5 @@
 use Rattle.process.specs.Barriers.{is_busy}
-use Rattle.process.proofs.Ids.{one_more_fits}
+use Rattle.process.proofs.ConcurrencyIds.{one_more_fits}
 use Rattle.process.proofs.requests.running_harts.Goals as goal
 
 pub overflow_add-running : goal.overflow_add-running

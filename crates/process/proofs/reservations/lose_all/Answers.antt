@@ -1,5 +1,5 @@
 -- One write more.
-use Rattle.process.proofs.Losing.{one_more_write}
+use Rattle.process.proofs.ReservationLosses.{one_more_write}
 use Rattle.process.proofs.reservations.lose_all.Goals as goal
 
 pub loop-write-preserved : goal.loop-write-preserved

@@ -2,7 +2,7 @@
 use Rattle.std.proofs.Common.{◌≡◌, ℕ, nat_eq, slice_get}
 use Rattle.std.specs.Option.{option_map}
 use Rattle.process.specs.Losing.{lost_unless}
-use Rattle.process.proofs.Turns.{changed_before}
+use Rattle.process.proofs.EachHart.{changed_before}
 use Rattle.process.proofs.reservations.lose_others.Given as goal
 
 abbrev pub invariant-loop-k : goal.invariant-loop-k

@@ -13,7 +13,7 @@ use Rattle.sys_calls.specs.declared.kernel.Kernel.{Kernel}
 use Rattle.sys_calls.specs.Answered.{IsRead}
 use Rattle.sys_calls.specs.Tables.{HoldsTables}
 use Rattle.sys_calls.specs.Chosen.{setaffinity_with}
-use Rattle.sys_calls.proofs.Reading.{argument_is, if_false, if_true, int_argument_is, not_false, not_true, readable_at}
+use Rattle.sys_calls.proofs.GuestMemory.{argument_is, if_false, if_true, int_argument_is, not_false, not_true, readable_at}
 use Rattle.sys_calls.proofs.affinity.asked_set.Goals as goal
 
 -- the thread that the call names

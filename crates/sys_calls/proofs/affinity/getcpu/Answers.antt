@@ -1,5 +1,5 @@
 -- The hart and the node, where they are asked.
-use Rattle.std.proofs.Common.{◌≡◌, ℕ, ◌+◌, Bool, true, false, not, ◌&&◌, ◌||◌, eqb, List, ◌++◌, refl, sym, ap, subst, ◌∙◌}
+use Rattle.std.proofs.Common.{◌≡◌, ℕ, ◌+◌, Bool, true, false, not, ◌&&◌, ◌||◌, eqb, List, ◌++◌, sym, ap, subst, ◌∙◌}
 use Rattle.std.specs.Prelude.{Ok, Err}
 use Rattle.mach_types.specs.declared.errors.TheConstants.{EFAULT}
 use Rattle.mach_types.specs.Bytes.{each_byte}
@@ -9,10 +9,11 @@ use Rattle.block_model.specs.Here.{Here, is_writable}
 use Rattle.block_model.specs.Calls.Affinity.{getcpu, is_usable, written_unless_zero}
 use Rattle.block_model.specs.Calls.Answers.{CallDone, argument, said}
 use Rattle.sys_calls.specs.Answered.{IsAnswered, IsEntered}
-use Rattle.sys_calls.proofs.Entering.{entered_twice}
-use Rattle.sys_calls.proofs.Reading.{argument_is, if_false, if_true, not_false, not_true}
-use Rattle.sys_calls.proofs.Saying.{answered_said, answered_wrote}
+use Rattle.sys_calls.proofs.KernelWrites.{entered_twice}
+use Rattle.sys_calls.proofs.GuestMemory.{argument_is, if_false, if_true, not_false, not_true}
+use Rattle.sys_calls.proofs.CallAnswers.{answered_said, answered_wrote}
 use Rattle.sys_calls.proofs.affinity.getcpu.Goals as goal
+use Rattle.std.proofs.lemmas.Bool.{and_parts}
 
 -- a pointer, in the page map
 abbrev usable : Map → ℕ → Bool
@@ -24,19 +25,10 @@ usable_is h t m at same = ap (λ (test : ℕ → Bool). eqb at 0 || each_byte te
 usable_after : (m m' : Map) (at : ℕ) → ((a : ℕ) → can_write_in m' a ≡ can_write_in m a) → usable m at ≡ true → usable m' at ≡ true
 usable_after m m' at same e = rw (same at, same (at + 1), same (at + 1 + 1), same (at + 1 + 1 + 1)) e
 
-left_of : (b c : Bool) → (b && c) ≡ true → b ≡ true
-left_of true c e = refl
-left_of false c e = cc
-
-right_of : (b c : Bool) → (b && c) ≡ true → c ≡ true
-right_of true c e = e
-right_of false c e = cc
-
 both_are : (h : Here) (t : ℕ) (m : Map) (cpu node : ℕ) (b : Bool) → can_write_in m ≡ is_writable h → cpu ≡ argument h t 0 → node ≡ argument h t 1 → (usable m cpu && usable m node) ≡ b
     → (is_usable h (argument h t 0) && is_usable h (argument h t 1)) ≡ b
 both_are h t m cpu node b same p q e =
-    sym (ap (λ (a : ℕ). is_usable h a && is_usable h (argument h t 1)) p) ∙ sym (ap (λ (a : ℕ). is_usable h cpu && is_usable h a) q)
-    ∙ sym (ap (λ (x : Bool). x && is_usable h node) (usable_is h t m cpu same)) ∙ sym (ap (λ (x : Bool). usable m cpu && x) (usable_is h t m node same)) ∙ e
+    sym (λ i. is_usable h (p i) && is_usable h (q i)) ∙ sym (λ i. usable_is h t m cpu same i && usable_is h t m node same i) ∙ e
 
 pub returns-then-not-are_usable-clause-answered : goal.returns-then-not-are_usable-clause-answered
 returns-then-not-are_usable-clause-answered c = λ h k t hart told read.
@@ -48,12 +40,12 @@ returns-then-not-are_usable-clause-answered c = λ h k t hart told read.
 
 pub write_unless_zero-requires-clause-usable : goal.write_unless_zero-requires-clause-usable
 write_unless_zero-requires-clause-usable c =
-    left_of (usable c.args.pages.now c.argument-cpu.result) (usable c.args.pages.now c.argument-node.result) (sym c.are_usable.ensures ∙ c.if-not-are_usable.false)
+    (and_parts (usable c.args.pages.now c.argument-cpu.result) (usable c.args.pages.now c.argument-node.result) (sym c.are_usable.ensures ∙ c.if-not-are_usable.false)).0
 
 pub write_unless_zero-requires-2-clause-usable : goal.write_unless_zero-requires-2-clause-usable
 write_unless_zero-requires-2-clause-usable c =
     usable_after c.args.pages.now c.write_unless_zero.new.pages c.argument-node.result c.write_unless_zero.ensures.same
-    (right_of (usable c.args.pages.now c.argument-cpu.result) (usable c.args.pages.now c.argument-node.result) (sym c.are_usable.ensures ∙ c.if-not-are_usable.false))
+    (and_parts (usable c.args.pages.now c.argument-cpu.result) (usable c.args.pages.now c.argument-node.result) (sym c.are_usable.ensures ∙ c.if-not-are_usable.false)).1
 
 pub returns-clause-answered : goal.returns-clause-answered
 returns-clause-answered c = λ h k t hart told read.

@@ -1,5 +1,5 @@
 -- The thread that runs is held, and isn't ready.
-use Rattle.sys_calls.proofs.Tables.{caller_held, caller_runs, caller_unlisted}
+use Rattle.sys_calls.proofs.CallerTables.{caller_held, caller_runs, caller_unlisted}
 use Rattle.sys_calls.proofs.affinity.leave.Goals as goal
 
 pub leave-requires : goal.leave-requires

@@ -1,6 +1,6 @@
 -- The thread's harts are others; where its own isn't among them it leaves.
 use Rattle.std.proofs.Common.{◌≡◌, ℕ, Bool, true, false, [], eqb, cond, refl, sym, ap, subst, ◌∙◌}
-use Rattle.std.specs.Prelude.{Ok, Err}
+use Rattle.std.specs.Prelude.{Ok}
 use Rattle.std.specs.List.{list_any}
 use Rattle.std.proofs.lemmas.Bool.{eq-eqb, false≢true, ne_eqb}
 use Rattle.mach_types.specs.declared.errors.Errno.{Errno}
@@ -19,11 +19,11 @@ use Rattle.sys_calls.specs.Answered.{IsCaller}
 use Rattle.sys_calls.specs.Made.{IsMade}
 use Rattle.sys_calls.specs.Chosen.{setaffinity_with}
 use Rattle.sys_calls.proofs.Laws.{holds_scheduling}
-use Rattle.sys_calls.proofs.Leaving.{made_left}
-use Rattle.sys_calls.proofs.Reading.{if_false, if_true}
-use Rattle.sys_calls.proofs.Saying.{answered_said, answered_scheduled, made_answered}
-use Rattle.sys_calls.proofs.Tables.{caller_held}
+use Rattle.sys_calls.proofs.CallAnswers.{made_left, made_answered, answered_changed, made_refused}
+use Rattle.sys_calls.proofs.GuestMemory.{if_false, if_true}
+use Rattle.sys_calls.proofs.CallerTables.{caller_held}
 use Rattle.sys_calls.proofs.affinity.restrict.Goals as goal
+use Rattle.sys_calls.proofs.KernelWrites.{entered_none}
 
 pub set_affinity-requires-clause-held : goal.set_affinity-requires-clause-held
 set_affinity-requires-clause-held c = caller_held c.args.kernel.now c.args.here.0 c.args.tid.0 c.requires.caller
@@ -73,8 +73,7 @@ returns-in-Err c = record {
       let is : setaffinity_with h t asked ≡ refused h t c.in-Err.errno =
       ap (λ (n : ℕ). setaffinity_at n h t asked) count ∙ if_true (eqb (harts_in asked c.args.harts) 0) (refused h t EINVAL) _ none
       ∙ ap (λ (e : Errno). refused h t e) (sym c.in-Err.ensures.errno) in
-      let done = answered_said h t k m (Err c.in-Err.errno) (setaffinity_with h t asked) told is in
-      let made = made_answered h t c.args.here.0 k k m m c.args.saved.now c.go_on.new.saved [] (Err c.in-Err.errno) c.go_on.result (setaffinity_with h t asked) hart told has file c.requires.caller done c.requires.caller.tables
+      let made = made_refused h t c.args.here.0 k m c.args.saved.now c.go_on.new.saved c.in-Err.errno c.go_on.result (setaffinity_with h t asked) hart told has file c.requires.caller is
       c.go_on.ensures.saved c.go_on.ensures.stays c.go_on.ensures.runs_on c.go_on.ensures.waits_in_none c.go_on.ensures.ends c.go_on.ensures.answer in
       subst (λ (s : Scheduling). IsMade h t k m (record k { ready = s }) m c.go_on.new.saved c.go_on.result (setaffinity_with h t asked)) (sym c.in-Err.ensures.err) made;
 }
@@ -91,7 +90,8 @@ returns-then-allows c = record {
       let is = chosen h t c.args.set c.args.harts c.args.here.0 true count hart some at (restricted t set h.kernel) refl in
       let k' : Kernel = record k { ready = c.set_affinity.new.self } in
       let ready : k'.ready ≡ with_affinity t set h.kernel.scheduling = c.in_default.ensures.ok ∙ ap (with_affinity t set) told.scheduling in
-      let done = answered_scheduled h t k m (Ok 0) c.set_affinity.new.self (with_affinity t set h.kernel.scheduling) told ready in
+      let done = answered_changed h t k k' m m [] [] (Ok 0) (restricted t set h.kernel)
+      (holds_scheduling told c.set_affinity.new.self (with_affinity t set h.kernel.scheduling) ready) refl refl refl (entered_none m) refl refl in
       let allowed = allowed_caller k c.args.here.0 t set c.set_affinity.new.self c.requires.caller c.in_default.ensures.ok in
       let made = made_answered h t c.args.here.0 k k' m m c.args.saved.now c.go_on-then-allows.new.saved [] (Ok 0) c.go_on-then-allows.result _ hart told has file c.requires.caller done allowed.tables
       c.go_on-then-allows.ensures.saved c.go_on-then-allows.ensures.stays c.go_on-then-allows.ensures.runs_on c.go_on-then-allows.ensures.waits_in_none c.go_on-then-allows.ensures.ends c.go_on-then-allows.ensures.answer in

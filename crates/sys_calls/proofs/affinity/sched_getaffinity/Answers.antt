@@ -11,8 +11,8 @@ use Rattle.block_model.specs.Calls.Answers.{CallDone, argument, are_writable, do
 use Rattle.sys_calls.specs.declared.kernel.Kernel.{Kernel}
 use Rattle.sys_calls.specs.Answered.{IsAnswered}
 use Rattle.sys_calls.specs.Tables.{HoldsTables}
-use Rattle.sys_calls.proofs.Reading.{argument_is, if_false, if_true, int_argument_is, not_false, not_true, writable_at}
-use Rattle.sys_calls.proofs.Saying.{answered_said, answered_wrote}
+use Rattle.sys_calls.proofs.GuestMemory.{argument_is, if_false, if_true, int_argument_is, not_false, not_true, writable_at}
+use Rattle.sys_calls.proofs.CallAnswers.{answered_said, answered_wrote}
 use Rattle.sys_calls.proofs.affinity.sched_getaffinity.Goals as goal
 
 nobody_is : (h : Here) (t named : ℕ) (k : Kernel) → HoldsTables k h.kernel → named ≡ int_argument h t 0 → not (eqb named 0 || is_live named k.threads.threads) ≡ names_nobody h (int_argument h t 0)

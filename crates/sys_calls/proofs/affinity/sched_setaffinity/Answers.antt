@@ -1,10 +1,9 @@
 -- A set that is refused, or is chosen.
-use Rattle.std.proofs.Common.{[], sym, subst}
-use Rattle.std.specs.Prelude.{Err}
+use Rattle.std.proofs.Common.{sym, subst}
 use Rattle.block_model.specs.Calls.Affinity.{sched_setaffinity}
 use Rattle.block_model.specs.Calls.Answers.{CallDone}
 use Rattle.sys_calls.specs.Made.{IsMade}
-use Rattle.sys_calls.proofs.Saying.{answered_said, made_answered}
+use Rattle.sys_calls.proofs.CallAnswers.{made_refused}
 use Rattle.sys_calls.proofs.affinity.sched_setaffinity.Goals as goal
 
 pub returns-in-Ok : goal.returns-in-Ok
@@ -21,9 +20,7 @@ pub returns-in-Err : goal.returns-in-Err
 returns-in-Err c = record {
   made = λ h hart count told has read.
       let t = c.args.tid.0 in
-      let k = c.args.kernel.now in
-      let m = c.args.pages.now in
-      let done = answered_said h t k m (Err c.in-Err.errno) (sched_setaffinity h t) told (c.in-Err.ensures.refused h told read) in
-      made_answered h t c.args.here.0 k k m m c.args.saved.now c.go_on.new.saved [] (Err c.in-Err.errno) c.go_on.result (sched_setaffinity h t) hart told has read.file c.requires.caller done c.requires.caller.tables
+      made_refused h t c.args.here.0 c.args.kernel.now c.args.pages.now c.args.saved.now c.go_on.new.saved c.in-Err.errno c.go_on.result (sched_setaffinity h t)
+      hart told has read.file c.requires.caller (c.in-Err.ensures.refused h told read)
       c.go_on.ensures.saved c.go_on.ensures.stays c.go_on.ensures.runs_on c.go_on.ensures.waits_in_none c.go_on.ensures.ends c.go_on.ensures.answer;
 }

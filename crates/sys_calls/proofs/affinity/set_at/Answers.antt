@@ -3,7 +3,7 @@ use Rattle.std.proofs.Common.{◌≡◌, ℕ, Option, None, Some, unwrap_or, ref
 use Rattle.std.proofs.lemmas.Bool.{ne_eqb}
 use Rattle.mach_types.specs.Bytes.{joined}
 use Rattle.page_map.specs.Map.{byte_in}
-use Rattle.sys_calls.proofs.Reading.{if_false, number_is}
+use Rattle.sys_calls.proofs.GuestMemory.{if_false, number_is}
 use Rattle.sys_calls.proofs.affinity.set_at.Goals as goal
 
 one : (o : Option ℕ) → unwrap_or o 0 ≡ unwrap_or (joined o (Some 0)) 0

@@ -6,7 +6,7 @@ use Rattle.rv_inst.specs.Words.{signed_32}
 use Rattle.block_model.specs.Calls.Answers.{argument, int_argument}
 use Rattle.block_model.specs.Calls.Barriers.{running_harts}
 use Rattle.sys_calls.proofs.Barriers.{answer_asked, made_membarrier}
-use Rattle.sys_calls.proofs.Reading.{argument_is, int_argument_is}
+use Rattle.sys_calls.proofs.GuestMemory.{argument_is, int_argument_is}
 use Rattle.sys_calls.proofs.barrier_call.membarrier.Goals as goal
 
 -- 32 bits that are read as a signed number, written and read again

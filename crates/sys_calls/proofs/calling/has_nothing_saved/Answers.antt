@@ -1,5 +1,5 @@
 -- Nothing is saved of a thread that runs.
-use Rattle.sys_calls.proofs.Tables.{runs_quiet}
+use Rattle.sys_calls.proofs.CallerTables.{runs_quiet}
 use Rattle.sys_calls.proofs.calling.has_nothing_saved.Goals as goal
 
 pub returns : goal.returns

@@ -1,28 +1,15 @@
 -- The thread runs on its hart, and the tables agree once its call is made.
 use Rattle.block_model.proofs.Laws.{running_is}
-use Rattle.sys_calls.proofs.Standing.{agreed_made}
+use Rattle.sys_calls.proofs.TablesAfterCalls.{agreed_made}
 use Rattle.sys_calls.proofs.calling.make_call.Goals as goal
+use Rattle.std.proofs.Common.{rules}
 
-pub returns-clause-tables : goal.returns-clause-tables
-returns-clause-tables c =
+pub returns : goal.returns
+returns c =
     let agreed = agreed_made c.args.kernel.now c.args.pages.now c.args.here c.args.running c.args.harts c.args.tid c.args.saved.now c.args.cid
     c.dispatch-end.new.kernel c.dispatch-end.new.pages c.dispatch-end.new.saved c.dispatch-end.result c.requires.running c.requires.runs
     c.requires.tables c.requires.areas c.requires.signals c.dispatch-end.ensures.made in
-    agreed.tables
-
-pub returns-clause-signals : goal.returns-clause-signals
-returns-clause-signals c =
-    let agreed = agreed_made c.args.kernel.now c.args.pages.now c.args.here c.args.running c.args.harts c.args.tid c.args.saved.now c.args.cid
-    c.dispatch-end.new.kernel c.dispatch-end.new.pages c.dispatch-end.new.saved c.dispatch-end.result c.requires.running c.requires.runs
-    c.requires.tables c.requires.areas c.requires.signals c.dispatch-end.ensures.made in
-    agreed.signals
-
-pub returns-clause-areas : goal.returns-clause-areas
-returns-clause-areas c =
-    let agreed = agreed_made c.args.kernel.now c.args.pages.now c.args.here c.args.running c.args.harts c.args.tid c.args.saved.now c.args.cid
-    c.dispatch-end.new.kernel c.dispatch-end.new.pages c.dispatch-end.new.saved c.dispatch-end.result c.requires.running c.requires.runs
-    c.requires.tables c.requires.areas c.requires.signals c.dispatch-end.ensures.made in
-    agreed.areas
+    record { made = search rules; table = search rules; tables = agreed.tables; signals = agreed.signals; areas = agreed.areas; written = search rules }
 
 pub has_nothing_saved-requires : goal.has_nothing_saved-requires
 has_nothing_saved-requires c =

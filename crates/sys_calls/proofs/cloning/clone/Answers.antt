@@ -1,16 +1,16 @@
 -- The child is there, and its number is written.
-use Rattle.std.proofs.Common.{◌≡◌, ℕ, ◌+◌, [], ◌∷◌, refl, sym, ap, subst, ◌∙◌}
+use Rattle.std.proofs.Common.{◌≡◌, ℕ, ◌+◌, [], ◌∷◌, sym, ap, subst, ◌∙◌}
 use Rattle.std.specs.Prelude.{Ok}
 use Rattle.mach_types.specs.Kernel.Threads.{Threads, running_on}
 use Rattle.kernel_threads.specs.Table.{with_start}
 use Rattle.block_model.specs.Kernel.{next_number}
-use Rattle.block_model.specs.Calls.Answers.{CallDone, argument, returned}
-use Rattle.block_model.specs.Calls.Cloning.{child_file, clone_child_cleartid, has_flag}
+use Rattle.block_model.specs.Calls.Answers.{argument, returned}
+use Rattle.block_model.specs.Calls.Cloning.{child_file, clone_child_cleartid, has_flag, with_new_child}
 use Rattle.sys_calls.specs.Answered.{IsAnswered, IsEntered}
 use Rattle.sys_calls.specs.Cloned.{cloned, numbers_written}
 use Rattle.sys_calls.proofs.Children.{asked_ids, asked_pages, kept_started, lives_other, quiet_started}
-use Rattle.sys_calls.proofs.Entering.{pages_kept}
 use Rattle.sys_calls.proofs.cloning.clone.Goals as goal
+use Rattle.sys_calls.proofs.CallAnswers.{answered_with}
 
 pub returns-clause-answered : goal.returns-clause-answered
 returns-clause-answered c = λ h told read.
@@ -23,20 +23,14 @@ returns-clause-answered c = λ h told read.
     let next : u ≡ next_number h.kernel = c.in_ok-child.ensures.number ∙ same in
     let saved : k'.threads.saved ≡ with_start u (child_file h t) k.threads.saved = child.saved ∙ ap (λ (n : ℕ). with_start n (child_file h t) k.threads.saved) (sym next) in
     let ne = lives_other t k.threads.threads c.requires.tables.1.threads c.requires.live in
-    let written : c.write_numbers.new.written.items ≡ numbers_written h t (next_number h.kernel) = c.write_numbers.ensures.told h t read.file ∙ ap (numbers_written h t) next in
-    let done : IsAnswered h t k c.args.pages.now k' c.write_numbers.new.pages c.write_numbers.new.written.items (Ok u) (cloned h t) = record {
-      tables = child.tables;
-      ids = asked_ids h t (has_flag (argument h t 0) clone_child_cleartid);
-      pages = pages_kept h c.args.pages.now c.write_numbers.new.pages (cloned h t) (subst (IsEntered c.args.pages.now c.write_numbers.new.pages) written c.write_numbers.ensures.entered)
-          (asked_pages h t (has_flag (argument h t 0) clone_child_cleartid));
-      code = c.write_numbers.ensures.entered.code;
-      told = written;
-      hart = ap (running_on h.hart) (sym child.tables.threads) ∙ child.running h.hart ∙ ap (running_on h.hart) told.threads;
-      at_once = refl;
-      goes_on = refl;
-      others = (u, child_file h t) ∷ [];
-      files = ap (λ (n : ℕ). (t, returned n (h.file t)) ∷ (n, child_file h t) ∷ []) (sym next);
-      kept = λ all. kept_started h.file u (child_file h t) k.threads k'.threads c.in_ok-may_clone.ensures.table c.in_ok-child.ensures.number saved all;
-      quiet = λ q. quiet_started t u (child_file h t) k.threads k'.threads (λ e. ne (e ∙ c.in_ok-child.ensures.number)) saved q;
-    } in
-    subst (λ (d : CallDone). IsAnswered h t k c.args.pages.now k' c.write_numbers.new.pages c.write_numbers.new.written.items (Ok u) d) (sym (c.in_ok-may_clone.ensures.made h t told read)) done
+    let flag = has_flag (argument h t 0) clone_child_cleartid in
+    let done = answered_with h t k k' c.args.pages.now c.write_numbers.new.pages (numbers_written h t u) c.write_numbers.new.written.items (Ok u) (with_new_child h t)
+    ((u, child_file h t) ∷ []) child.tables (asked_ids h t flag) (asked_pages h t flag)
+    (ap (running_on h.hart) (sym child.tables.threads) ∙ child.running h.hart ∙ ap (running_on h.hart) told.threads)
+    (subst (IsEntered c.args.pages.now c.write_numbers.new.pages) (c.write_numbers.ensures.told h t read.file) c.write_numbers.ensures.entered)
+    (c.write_numbers.ensures.told h t read.file)
+    (kept_started h.file u (child_file h t) k.threads k'.threads c.in_ok-may_clone.ensures.table c.in_ok-child.ensures.number saved)
+    (quiet_started t u (child_file h t) k.threads k'.threads (λ e. ne (e ∙ c.in_ok-child.ensures.number)) saved) in
+    subst (IsAnswered h t k c.args.pages.now k' c.write_numbers.new.pages c.write_numbers.new.written.items (Ok u))
+    (ap (λ (n : ℕ). record (cloned h t) { files = (t, returned n (h.file t)) ∷ (n, child_file h t) ∷ []; entered = numbers_written h t n }) next
+    ∙ sym (c.in_ok-may_clone.ensures.made h t told read)) done

@@ -1,6 +1,5 @@
 -- The child lives, and the record has it.
 use Rattle.std.proofs.Common.{◌≡◌, ℕ, ◌+◌, cond, sym, ap, subst, ◌∙◌}
-use Rattle.mach_types.specs.Kernel.Signals as signals
 use Rattle.mach_types.specs.Kernel.Threads.{Threads, running_on}
 use Rattle.mach_types.specs.Registers.{register}
 use Rattle.mach_types.specs.declared.threads.Saved.{Saved}

@@ -12,7 +12,7 @@ use Rattle.mach_types.specs.Bytes.{each_byte}
 use Rattle.block_model.specs.Calls.Cloning.{has_flag}
 use Rattle.sys_calls.specs.Answered.{IsRead}
 use Rattle.sys_calls.specs.Cloned.{can_write_numbers}
-use Rattle.sys_calls.proofs.Reading.{argument_is, if_false, if_true, not_false, not_true}
+use Rattle.sys_calls.proofs.GuestMemory.{argument_is, if_false, if_true, not_false, not_true}
 use Rattle.sys_calls.proofs.cloning.may_clone.Goals as goal
 
 -- whether the words can be written, as the call asks it

@@ -1,15 +1,12 @@
 -- The second word can be written still.
-use Rattle.std.proofs.Common.{◌≡◌, ℕ, ◌+◌, Bool, true, false, not, ◌&&◌, ◌||◌, ap, ◌∙◌}
+use Rattle.std.proofs.Common.{◌≡◌, ℕ, ◌+◌, true, not, ◌||◌, ap, ◌∙◌}
 use Rattle.mach_types.specs.Bytes.{each_byte}
 use Rattle.mach_types.specs.Registers.{register}
 use Rattle.page_map.specs.Map.{Map, can_write_in}
 use Rattle.block_model.specs.Calls.Cloning.{clone_child_settid, clone_parent_settid, has_flag}
 use Rattle.sys_calls.specs.Cloned.{can_write_word}
 use Rattle.sys_calls.proofs.cloning.write_numbers.Goals as goal
-
-right_of : (b c : Bool) → (b && c) ≡ true → c ≡ true
-right_of true c e = e
-right_of false c e = cc
+use Rattle.std.proofs.lemmas.Bool.{and_parts}
 
 after : (m m' : Map) (flags at : ℕ) → ((a : ℕ) → can_write_in m' a ≡ can_write_in m a) → (not (has_flag flags clone_child_settid) || each_byte (can_write_in m) at 4) ≡ true
     → (not (has_flag flags clone_child_settid) || each_byte (can_write_in m') at 4) ≡ true
@@ -19,7 +16,7 @@ pub write_if-requires-2-clause-writable : goal.write_if-requires-2-clause-writab
 write_if-requires-2-clause-writable c =
     let saved = c.args.saved.now in
     let m = c.args.pages.now in
-    let second = right_of (can_write_word m saved clone_parent_settid (register saved.file 12)) (can_write_word m saved clone_child_settid (register saved.file 14)) c.requires.words in
+    let second = (and_parts (can_write_word m saved clone_parent_settid (register saved.file 12)) (can_write_word m saved clone_child_settid (register saved.file 14)) c.requires.words).1 in
     after m c.write_if.new.pages c.argument-flags.result c.argument-2.result c.write_if.ensures.same
     (ap (λ (f : ℕ). not (has_flag f clone_child_settid) || each_byte (can_write_in m) c.argument-2.result 4) c.argument-flags.ensures
     ∙ ap (λ (a : ℕ). not (has_flag (register saved.file 10) clone_child_settid) || each_byte (can_write_in m) a 4) c.argument-2.ensures ∙ second)

@@ -1,10 +1,9 @@
 -- The last thread ends the process, and another one is gone.
-use Rattle.std.proofs.Common.{◌≡◌, ℕ, Bool, true, false, not, ◌&&◌, cond, eqb, leb, List, [], ◌∷◌, length, Some, refl, sym, ap, subst, ◌∙◌}
+use Rattle.std.proofs.Common.{◌≡◌, ℕ, Bool, true, false, not, ◌&&◌, cond, eqb, leb, List, [], ◌∷◌, length, refl, sym, ap, subst, ◌∙◌}
 use Rattle.std.proofs.lemmas.Bool.{le-leb, lt-leb}
 use Rattle.std.specs.Int.{from_bool}
 use Rattle.mach_types.specs.Bytes.{each_byte}
-use Rattle.mach_types.specs.Kernel.Threads.{Threads, clear_of, running_on, runs}
-use Rattle.mach_types.specs.declared.limits.End.{End}
+use Rattle.mach_types.specs.Kernel.Threads.{Threads, clear_of, running_on}
 use Rattle.mach_types.specs.declared.threads.Saved.{Saved}
 use Rattle.mach_types.specs.declared.user_memory.Write.{Write}
 use Rattle.page_map.specs.Map.{Map, can_write_in}
@@ -14,45 +13,36 @@ use Rattle.block_model.specs.Calls.Ending.{clearing, clears, ended_with, is_last
 use Rattle.mach_types.proofs.Laws.{state_of-without_same}
 use Rattle.sys_calls.specs.declared.calling.CallEnd.TheVariants as over
 use Rattle.sys_calls.specs.declared.kernel.Kernel.{Kernel}
-use Rattle.sys_calls.specs.Answered.{IsCaller, IsEntered, IsRead}
+use Rattle.sys_calls.specs.Answered.{IsEntered, IsRead}
 use Rattle.sys_calls.specs.Tables.{HoldsTables}
 use Rattle.sys_calls.specs.Ended.{IsGone}
 use Rattle.sys_calls.specs.Made.{HasPages, IsMade}
-use Rattle.sys_calls.proofs.Entering.{pages_kept}
-use Rattle.sys_calls.proofs.Reading.{if_false, if_true, writable_at}
-use Rattle.sys_calls.proofs.Tables.{caller_lives, caller_runs}
-use Rattle.sys_calls.proofs.Waking.{wake_pages}
+use Rattle.sys_calls.proofs.KernelWrites.{pages_kept}
+use Rattle.sys_calls.proofs.GuestMemory.{if_false, if_true, writable_at}
+use Rattle.sys_calls.proofs.CallerTables.{caller_lives}
+use Rattle.sys_calls.proofs.FutexWakes.{wake_pages}
 use Rattle.sys_calls.proofs.ending.exit.Goals as goal
+use Rattle.sys_calls.proofs.CallAnswers.{made_ended}
 
 -- whether the word is cleared, and its write
 clears_is : (h : Here) (m : Map) (t at : ℕ) (r : Bool) (saved : Saved) → IsRead h m t saved → at ≡ clear_of t h.kernel.threads → r ≡ (not (eqb at 0) && each_byte (can_write_in m) at 4) → r ≡ clears h t
 clears_is h m t at r saved read is e =
     e ∙ ap (λ (b : Bool). not (eqb at 0) && b) (writable_at h m t saved read at at 4 refl) ∙ ap (λ (a : ℕ). not (eqb a 0) && are_writable h a 4) is
 
-clearing_is : (h : Here) (t at : ℕ) (r : Bool) (ws : List Write) → at ≡ clear_of t h.kernel.threads → r ≡ clears h t → ws ≡ cond r (word_written at 0 ∷ []) [] → ws ≡ clearing h t
-clearing_is h t at r ws is clear e =
+cleared_by : (h : Here) (t at : ℕ) (r : Bool) (ws : List Write) → at ≡ clear_of t h.kernel.threads → r ≡ clears h t → ws ≡ cond r (word_written at 0 ∷ []) [] → ws ≡ clearing h t
+cleared_by h t at r ws is clear e =
     e ∙ ap (λ (b : Bool). cond b (word_written at 0 ∷ []) []) clear ∙ ap (λ (a : ℕ). cond (clears h t) (word_written a 0 ∷ []) []) is
+
+clearing_is : (h : Here) (k : Kernel) (m : Map) (t at : ℕ) (r : Bool) (saved : Saved) (ws : List Write) → HoldsTables k h.kernel → IsRead h m t saved
+    → at ≡ clear_of t k.threads.threads → r ≡ (not (eqb at 0) && each_byte (can_write_in m) at 4) → ws ≡ cond r (word_written at 0 ∷ []) []
+    → ws ≡ clearing h t
+clearing_is h k m t at r saved ws told read is tests writes =
+    let here = is ∙ ap (clear_of t) told.threads in
+    cleared_by h t at r ws here (clears_is h m t at r saved read here tests) writes
 
 -- whether the thread is the last one
 last_is : (h : Here) (k : Kernel) (n : ℕ) (b : Bool) → HoldsTables k h.kernel → n ≡ length k.threads.threads.live → leb n 1 ≡ b → is_last h ≡ b
 last_is h k n b told is e = ap (λ (ts : Threads). leb (length ts.live) 1) (sym told.threads) ∙ ap (λ (x : ℕ). leb x 1) (sym is) ∙ e
-
--- the process ends
-made_last : (h : Here) (t here : ℕ) (k : Kernel) (m m' : Map) (saved : Saved) (ws : List Write) (e : End) → h.hart ≡ here → HoldsTables k h.kernel → saved ≡ h.file t → IsCaller k here t → HasPages h m → IsEntered m m' ws
-    → ws ≡ clearing h t → e ≡ ended_with h t → IsMade h t k m k m' saved (over.ProcessEnd e) (last_exits h t)
-made_last h t here k m m' saved ws e hart told file caller has entered writes end = record {
-  tables = told;
-  ids = refl;
-  kept = λ all. all;
-  own = file;
-  pages = pages_kept h m m' (last_exits h t) (subst (IsEntered m m') writes entered) refl has;
-  code = entered.code;
-  hart = ap (λ n. running_on n h.kernel.threads) hart ∙ ap (running_on here) (sym told.threads) ∙ caller.runs;
-  stands = subst (λ (ts : Threads). runs ts t) told.threads (caller_runs k here t caller);
-  barrier = refl;
-  ended = ap Some end;
-  answer = tt;
-}
 
 -- the thread is gone
 made_one : (h : Here) (t here : ℕ) (k k' : Kernel) (m m' : Map) (saved : Saved) (ws : List Write) → h.hart ≡ here → saved ≡ h.file t → HasPages h m → IsEntered m m' ws → ws ≡ clearing h t
@@ -84,34 +74,29 @@ clear_at-at-requires c = caller_lives c.args.kernel.now c.args.here.0 c.args.tid
 
 pub returns-then-live-le1-clause-told : goal.returns-then-live-le1-clause-told
 returns-then-live-le1-clause-told c = λ h told read.
-    let t = c.args.tid.0 in
-    let at : c.clear_at-at.result ≡ clear_of t h.kernel.threads = c.clear_at-at.ensures ∙ ap (clear_of t) told.threads in
-    let clear = clears_is h c.args.pages.now t c.clear_at-at.result c.clear_word-is_cleared.result c.args.saved.now read at c.clear_word-is_cleared.ensures.clears in
     let last = last_is h c.args.kernel.now c.live.result true told c.live.ensures.count (le-leb c.live.result 1 c.if-live-le1.true) in
-    clearing_is h t c.clear_at-at.result c.clear_word-is_cleared.result c.clear_word-is_cleared.new.written.items at clear c.clear_word-is_cleared.ensures.told
-    ∙ sym (ap (λ (d : CallDone). d.entered) (if_true (is_last h) (last_exits h t) (one_exits h t) last))
+    clearing_is h c.args.kernel.now c.args.pages.now c.args.tid.0 c.clear_at-at.result c.clear_word-is_cleared.result c.args.saved.now c.clear_word-is_cleared.new.written.items
+    told read c.clear_at-at.ensures c.clear_word-is_cleared.ensures.clears c.clear_word-is_cleared.ensures.told
+    ∙ sym (ap (λ (d : CallDone). d.entered) (if_true (is_last h) (last_exits h c.args.tid.0) (one_exits h c.args.tid.0) last))
 
 pub returns-then-live-le1-clause-made : goal.returns-then-live-le1-clause-made
 returns-then-live-le1-clause-made c = λ h hart told has read.
     let t = c.args.tid.0 in
     let k = c.args.kernel.now in
     let m' = c.clear_word-is_cleared.new.pages in
-    let at : c.clear_at-at.result ≡ clear_of t h.kernel.threads = c.clear_at-at.ensures ∙ ap (clear_of t) told.threads in
-    let clear = clears_is h c.args.pages.now t c.clear_at-at.result c.clear_word-is_cleared.result c.args.saved.now read at c.clear_word-is_cleared.ensures.clears in
-    let writes = clearing_is h t c.clear_at-at.result c.clear_word-is_cleared.result c.clear_word-is_cleared.new.written.items at clear c.clear_word-is_cleared.ensures.told in
+    let writes = clearing_is h c.args.kernel.now c.args.pages.now c.args.tid.0 c.clear_at-at.result c.clear_word-is_cleared.result c.args.saved.now c.clear_word-is_cleared.new.written.items
+    told read c.clear_at-at.ensures c.clear_word-is_cleared.ensures.clears c.clear_word-is_cleared.ensures.told in
     let last = last_is h k c.live.result true told c.live.ensures.count (le-leb c.live.result 1 c.if-live-le1.true) in
-    let made = made_last h t c.args.here.0 k c.args.pages.now m' c.args.saved.now c.clear_word-is_cleared.new.written.items c.end_of.result hart told read.file c.requires.caller has c.clear_word-is_cleared.ensures.entered writes
-    (c.end_of.ensures h t read.file) in
-    subst (λ (d : CallDone). IsMade h t k c.args.pages.now k m' c.args.saved.now (over.ProcessEnd c.end_of.result) d) (sym (if_true (is_last h) (last_exits h t) (one_exits h t) last)) made
+    subst (IsMade h t k c.args.pages.now k m' c.args.saved.now (over.ProcessEnd c.end_of.result)) (sym (if_true (is_last h) (last_exits h t) (one_exits h t) last))
+    (made_ended h t c.args.here.0 k c.args.pages.now m' c.args.saved.now c.clear_word-is_cleared.new.written.items (clearing h t) c.end_of.result (ended_with h t)
+    hart told read.file c.requires.caller has c.clear_word-is_cleared.ensures.entered writes (c.end_of.ensures h t read.file))
 
 pub returns-clause-told : goal.returns-clause-told
 returns-clause-told c = λ h told read.
-    let t = c.args.tid.0 in
-    let at : c.clear_at-at.result ≡ clear_of t h.kernel.threads = c.clear_at-at.ensures ∙ ap (clear_of t) told.threads in
-    let clear = clears_is h c.args.pages.now t c.clear_at-at.result c.clear_word-is_cleared.result c.args.saved.now read at c.clear_word-is_cleared.ensures.clears in
     let last = last_is h c.args.kernel.now c.live.result false told c.live.ensures.count (lt-leb c.live.result 1 c.if-live-le1.false) in
-    clearing_is h t c.clear_at-at.result c.clear_word-is_cleared.result c.clear_word-is_cleared.new.written.items at clear c.clear_word-is_cleared.ensures.told
-    ∙ sym (ap (λ (d : CallDone). d.entered) (if_false (is_last h) (last_exits h t) (one_exits h t) last))
+    clearing_is h c.args.kernel.now c.args.pages.now c.args.tid.0 c.clear_at-at.result c.clear_word-is_cleared.result c.args.saved.now c.clear_word-is_cleared.new.written.items
+    told read c.clear_at-at.ensures c.clear_word-is_cleared.ensures.clears c.clear_word-is_cleared.ensures.told
+    ∙ sym (ap (λ (d : CallDone). d.entered) (if_false (is_last h) (last_exits h c.args.tid.0) (one_exits h c.args.tid.0) last))
 
 pub returns-clause-made : goal.returns-clause-made
 returns-clause-made c = λ h hart told has read.
@@ -120,10 +105,10 @@ returns-clause-made c = λ h hart told has read.
     let m' = c.clear_word-is_cleared.new.pages in
     let at : c.clear_at-at.result ≡ clear_of t h.kernel.threads = c.clear_at-at.ensures ∙ ap (clear_of t) told.threads in
     let clear = clears_is h c.args.pages.now t c.clear_at-at.result c.clear_word-is_cleared.result c.args.saved.now read at c.clear_word-is_cleared.ensures.clears in
-    let writes = clearing_is h t c.clear_at-at.result c.clear_word-is_cleared.result c.clear_word-is_cleared.new.written.items at clear c.clear_word-is_cleared.ensures.told in
+    let writes = cleared_by h t c.clear_at-at.result c.clear_word-is_cleared.result c.clear_word-is_cleared.new.written.items at clear c.clear_word-is_cleared.ensures.told in
     let last = last_is h k c.live.result false told c.live.ensures.count (lt-leb c.live.result 1 c.if-live-le1.false) in
     let most : c.from.result ≡ cond (clears h t) 1 0 = c.from.ensures ∙ byte_is c.clear_word-is_cleared.result ∙ ap (λ (b : Bool). how_many b) clear in
-    let there = subst (λ (n : ℕ). IsGone h k c.go.new.kernel t n c.clear_at-at.result c.args.here.0) most (c.go.ensures.gone h told) in
-    let gone = subst (λ (a : ℕ). IsGone h k c.go.new.kernel t (cond (clears h t) 1 0) a c.args.here.0) at there in
-    let made = made_one h t c.args.here.0 k c.go.new.kernel c.args.pages.now m' c.args.saved.now c.clear_word-is_cleared.new.written.items hart read.file has c.clear_word-is_cleared.ensures.entered writes gone in
-    subst (λ (d : CallDone). IsMade h t k c.args.pages.now c.go.new.kernel m' c.args.saved.now over.ThreadEnd d) (sym (if_false (is_last h) (last_exits h t) (one_exits h t) last)) made
+    let gone = subst (λ (x : ℕ × ℕ). IsGone h k c.go.new.kernel t x.0 x.1 c.args.here.0) (λ i. (most i, at i)) (c.go.ensures.gone h told) in
+    subst (IsMade h t k c.args.pages.now c.go.new.kernel m' c.args.saved.now over.ThreadEnd) (sym (if_false (is_last h) (last_exits h t) (one_exits h t) last))
+    (made_one h t c.args.here.0 k c.go.new.kernel c.args.pages.now m' c.args.saved.now c.clear_word-is_cleared.new.written.items
+    hart read.file has c.clear_word-is_cleared.ensures.entered writes gone)

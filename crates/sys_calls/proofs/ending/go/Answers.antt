@@ -1,7 +1,6 @@
 -- A thread that runs goes on running while others are woken, and then is gone.
-use Rattle.std.proofs.Common.{ℕ, refl, sym, ap, subst, ◌∙◌}
+use Rattle.std.proofs.Common.{ℕ, sym, ap, subst, ◌∙◌}
 use Rattle.mach_types.specs.Kernel.Scheduling.{Scheduling}
-use Rattle.mach_types.specs.Kernel.Signals as signals
 use Rattle.mach_types.specs.Kernel.Threads.{Threads, running_on}
 use Rattle.block_model.specs.Ids.{without_id}
 use Rattle.block_model.specs.Tables.{IsTables}
@@ -10,10 +9,10 @@ use Rattle.sys_calls.specs.declared.kernel.Kernel.{Kernel}
 use Rattle.sys_calls.specs.Answered.{IsCaller}
 use Rattle.sys_calls.specs.Woken.{IsOnward}
 use Rattle.sys_calls.proofs.Laws.{holds_gone}
-use Rattle.sys_calls.proofs.Saying.{kept_gone}
-use Rattle.sys_calls.proofs.Signalling.{caller_signalled, signals_stay}
-use Rattle.sys_calls.proofs.Tables.{caller_held, caller_lives, caller_unlisted}
-use Rattle.sys_calls.proofs.Waking.{runs_alone}
+use Rattle.sys_calls.proofs.CallAnswers.{kept_gone}
+use Rattle.sys_calls.proofs.ThreadSignals.{caller_signalled, tids}
+use Rattle.sys_calls.proofs.CallerTables.{caller_held, caller_lives, caller_unlisted}
+use Rattle.sys_calls.proofs.FutexWakes.{runs_alone}
 use Rattle.sys_calls.proofs.ending.go.Goals as goal
 
 -- the caller calls still
@@ -21,7 +20,7 @@ still : (k k' : Kernel) (here t : ℕ) → IsOnward k k' → IsCaller k here t �
 still k k' here t onward caller = record {
   tables = (caller.tables.0, onward.tables caller.tables.0 caller.tables.1);
   runs = onward.running here ∙ caller.runs;
-  signals = signals_stay k k' k'.threads.threads refl onward.signals onward.numbers caller.signals;
+  signals = ap tids onward.signals ∙ caller.signals ∙ sym onward.numbers;
   quiet = onward.quiet t caller.quiet;
 }
 

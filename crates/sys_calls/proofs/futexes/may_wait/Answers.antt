@@ -8,7 +8,7 @@ use Rattle.mach_types.specs.Registers.{register}
 use Rattle.mach_types.specs.declared.threads.Saved.{Saved}
 use Rattle.sys_calls.specs.declared.kernel.Kernel.{Kernel}
 use Rattle.sys_calls.specs.Tables.{HoldsTables}
-use Rattle.sys_calls.proofs.Reading.{argument_is, if_false, if_true, int_argument_is, not_false, not_true, number_there, readable_at}
+use Rattle.sys_calls.proofs.GuestMemory.{argument_is, if_false, if_true, int_argument_is, not_false, not_true, number_there, readable_at}
 use Rattle.sys_calls.proofs.futexes.may_wait.Goals as goal
 
 -- no timeout

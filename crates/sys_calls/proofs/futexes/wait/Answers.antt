@@ -1,8 +1,7 @@
 -- The thread waits, with the answer of its wait.
-use Rattle.std.proofs.Common.{◌≡◌, ℕ, [], refl, sym, ap, subst, ◌∙◌}
+use Rattle.std.proofs.Common.{◌≡◌, ℕ, refl, sym, ap, subst, ◌∙◌}
 use Rattle.mach_types.specs.Kernel.Threads.{Threads, running_on, state_of, with_waiter}
 use Rattle.mach_types.specs.declared.threads.ThreadState.TheVariants.{Waiting}
-use Rattle.std.specs.Prelude.{Err}
 use Rattle.block_model.specs.Ids.{without_id}
 use Rattle.block_model.specs.Kernel.{waited}
 use Rattle.block_model.specs.Calls.Futexes.{futex_wait}
@@ -13,11 +12,10 @@ use Rattle.sys_calls.specs.declared.calling.CallEnd.TheVariants as over
 use Rattle.sys_calls.specs.declared.kernel.Kernel.{Kernel}
 use Rattle.sys_calls.specs.Made.{IsMade}
 use Rattle.sys_calls.proofs.Laws.{holds_past_ids, holds_threads}
-use Rattle.sys_calls.proofs.Leaving.{made_gone}
-use Rattle.sys_calls.proofs.Reading.{argument_is}
-use Rattle.sys_calls.proofs.Saying.{answered_said, made_answered}
-use Rattle.sys_calls.proofs.Signalling.{caller_signalled}
-use Rattle.sys_calls.proofs.Tables.{caller_runs, runs_there}
+use Rattle.sys_calls.proofs.CallAnswers.{made_gone, made_refused}
+use Rattle.sys_calls.proofs.GuestMemory.{argument_is}
+use Rattle.sys_calls.proofs.ThreadSignals.{caller_signalled}
+use Rattle.sys_calls.proofs.CallerTables.{caller_runs, runs_there}
 use Rattle.sys_calls.proofs.futexes.wait.Goals as goal
 
 pub wait-requires : goal.wait-requires
@@ -50,9 +48,7 @@ pub returns-in-Err : goal.returns-in-Err
 returns-in-Err c = record {
   made = λ h hart told has read.
       let t = c.args.tid.0 in
-      let k = c.args.kernel.now in
-      let m = c.args.pages.now in
-      let done = answered_said h t k m (Err c.in-Err.errno) (futex_wait h t) told (c.in-Err.ensures.refused h told read) in
-      made_answered h t c.args.here.0 k k m m c.args.saved.now c.go_on.new.saved [] (Err c.in-Err.errno) c.go_on.result (futex_wait h t) hart told has read.file c.requires done c.requires.tables
+      made_refused h t c.args.here.0 c.args.kernel.now c.args.pages.now c.args.saved.now c.go_on.new.saved c.in-Err.errno c.go_on.result (futex_wait h t)
+      hart told has read.file c.requires (c.in-Err.ensures.refused h told read)
       c.go_on.ensures.saved c.go_on.ensures.stays c.go_on.ensures.runs_on c.go_on.ensures.waits_in_none c.go_on.ensures.ends c.go_on.ensures.answer;
 }

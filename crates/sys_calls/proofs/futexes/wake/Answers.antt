@@ -5,8 +5,9 @@ use Rattle.block_model.specs.Calls.Futexes.{wake}
 use Rattle.sys_calls.specs.declared.kernel.Kernel.{Kernel}
 use Rattle.sys_calls.specs.Woken.{IsOnward, IsWoken}
 use Rattle.sys_calls.proofs.Laws.{record_with}
-use Rattle.sys_calls.proofs.Waking.{longest_waits, onward_more, onward_still, wake_nobody, waking_more, waking_none, woken_all}
+use Rattle.sys_calls.proofs.FutexWakes.{onward_more, onward_still, wake_nobody, waking_more, waking_none, woken_all}
 use Rattle.sys_calls.proofs.futexes.wake.Goals as goal
+use Rattle.block_model.proofs.Laws.{longest_waits}
 
 pub loop-count-init : goal.loop-count-init
 loop-count-init c = record { onward = onward_still c.args.kernel.now; waking = λ h told. waking_none h c.args.kernel.now c.args.most c.args.at told }

@@ -2,7 +2,7 @@
 use Rattle.block_model.specs.Here.{Here}
 use Rattle.sys_calls.specs.Tables.{HoldsTables}
 use Rattle.sys_calls.specs.Woken.{IsOnward}
-use Rattle.sys_calls.proofs.Waking.{IsWaking}
+use Rattle.sys_calls.proofs.FutexWakes.{IsWaking}
 use Rattle.sys_calls.proofs.futexes.wake.Given as goal
 
 abbrev pub invariant-loop-count : goal.invariant-loop-count

@@ -5,8 +5,8 @@ use Rattle.block_model.specs.Calls.Answers.{argument}
 use Rattle.block_model.specs.Calls.Memory.{mmap}
 use Rattle.mach_types.specs.Kernel.Pages.{run, zeros_of}
 use Rattle.sys_calls.specs.Remapped.{IsRemapped}
-use Rattle.sys_calls.proofs.Reading.{argument_is}
-use Rattle.sys_calls.proofs.Remapping.{mmap_made, mmap_past_flags, mmap_refused, passed_on, prot_from}
+use Rattle.sys_calls.proofs.GuestMemory.{argument_is}
+use Rattle.sys_calls.proofs.PageCalls.{mmap_made, mmap_past_flags, mmap_refused, passed_on, prot_from}
 use Rattle.sys_calls.proofs.memory_calls.mmap.Goals as goal
 
 pub returns-in_err-at-clause-remapped : goal.returns-in_err-at-clause-remapped

@@ -4,8 +4,8 @@ use Rattle.mach_types.specs.declared.errors.Errno.{Errno}
 use Rattle.block_model.specs.Calls.Answers.{argument}
 use Rattle.block_model.specs.Calls.Memory.{mprotect}
 use Rattle.sys_calls.specs.Remapped.{IsRemapped}
-use Rattle.sys_calls.proofs.Reading.{argument_is}
-use Rattle.sys_calls.proofs.Remapping.{mprotect_made, mprotect_refused, passed_on, prot_from}
+use Rattle.sys_calls.proofs.GuestMemory.{argument_is}
+use Rattle.sys_calls.proofs.PageCalls.{mprotect_made, mprotect_refused, passed_on, prot_from}
 use Rattle.sys_calls.proofs.memory_calls.mprotect.Goals as goal
 
 pub returns-in_err-protect-clause-remapped : goal.returns-in_err-protect-clause-remapped

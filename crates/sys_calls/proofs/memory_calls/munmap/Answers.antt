@@ -1,8 +1,8 @@
 -- munmap is refused, or removes pages.
 use Rattle.std.proofs.Common.{◌≡◌, ◌∙◌}
 use Rattle.block_model.specs.Calls.Answers.{argument}
-use Rattle.sys_calls.proofs.Reading.{argument_is}
-use Rattle.sys_calls.proofs.Remapping.{munmap_made}
+use Rattle.sys_calls.proofs.GuestMemory.{argument_is}
+use Rattle.sys_calls.proofs.PageCalls.{munmap_made}
 use Rattle.sys_calls.proofs.memory_calls.munmap.Goals as goal
 
 pub returns-clause-remapped : goal.returns-clause-remapped

@@ -5,7 +5,7 @@ use Rattle.mach_types.specs.declared.registers.Regs.{Regs}
 use Rattle.mach_types.specs.Kernel.Pages.{PageRun, is_in}
 use Rattle.mach_types.specs.Kernel.PageCalls.{permission_for}
 use Rattle.block_model.specs.Calls.Answers.{argument, call_number}
-use Rattle.sys_calls.proofs.Remapping.{prot_from, taken_protecting}
+use Rattle.sys_calls.proofs.PageCalls.{prot_from, taken_protecting}
 use Rattle.sys_calls.proofs.memory_calls.pages_taken.Goals as goal
 
 pub returns-in-226 : goal.returns-in-226

@@ -1,6 +1,6 @@
 -- The break grows: its pages can be read and written.
 use Rattle.std.proofs.Common.{Some}
-use Rattle.sys_calls.proofs.Remapping.{zeros_grown}
+use Rattle.sys_calls.proofs.PageCalls.{zeros_grown}
 use Rattle.sys_calls.proofs.memory_calls.tell_growth.Goals as goal
 
 pub returns-then-first-end : goal.returns-then-first-end

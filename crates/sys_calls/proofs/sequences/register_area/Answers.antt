@@ -1,5 +1,5 @@
 -- The area is registered, or the process is killed.
-use Rattle.std.proofs.Common.{◌≡◌, ℕ, Bool, true, false, List, [], length, sym, ap, subst, ◌∙◌, arith}
+use Rattle.std.proofs.Common.{◌≡◌, ℕ, Bool, true, false, List, [], length, sym, ap, subst, ◌∙◌, arith, refl, ◌∷◌, length-append}
 use Rattle.std.specs.Prelude.{Ok}
 use Rattle.std.proofs.lemmas.List.{length-map}
 use Rattle.mach_types.specs.Kernel.Areas.{are_words_writable, with_area, words_entered, words_on, words_written}
@@ -13,14 +13,15 @@ use Rattle.block_model.specs.Calls.Answers.{CallDone}
 use Rattle.sys_calls.specs.Answered.{IsEntered}
 use Rattle.sys_calls.specs.Made.{IsMade}
 use Rattle.sys_calls.specs.Registered.{areas_by_number}
-use Rattle.sys_calls.specs.declared.areas.RegisteredArea.{RegisteredArea}
+use Rattle.sys_calls.specs.declared.rseq_areas.RegisteredArea.{RegisteredArea}
 use Rattle.sys_calls.specs.declared.calling.CallEnd.TheVariants as over
 use Rattle.sys_calls.specs.declared.kernel.Kernel.{Kernel}
-use Rattle.sys_calls.proofs.Registering.{room_left}
-use Rattle.sys_calls.proofs.Saying.{made_answered}
-use Rattle.sys_calls.proofs.Sequencing.{answered_area, made_killed, registered_done, registers_killed, registers_made, words_can}
-use Rattle.sys_calls.proofs.Tables.{caller_lives}
+use Rattle.sys_calls.proofs.CallAnswers.{made_answered, answered_changed, made_ended}
+use Rattle.sys_calls.proofs.AreaRegistration.{registered_done, registers_killed, registers_made, words_can}
+use Rattle.sys_calls.proofs.CallerTables.{caller_lives}
 use Rattle.sys_calls.proofs.sequences.register_area.Goals as goal
+use Rattle.sys_calls.proofs.Laws.{holds_areas}
+use Rattle.block_model.proofs.Laws.{areas_fit, registered_areas}
 
 -- the words, as a rule reads the hart and the id
 words_are : (h : Here) (t hart cid here id : ℕ) (area : Area) (b : Bool) (ws : List Write) → hart ≡ here → cid ≡ id → h.hart ≡ here → id_of t h.kernel.ids ≡ id → b ≡ true
@@ -51,17 +52,21 @@ returns-then-not-write_words-clause-made c = λ h hart told has read id.
     sym (words_can h m t saved read area) ∙ sym c.write_words.ensures.answer ∙ c.if-not-write_words.true in
     let none : c.write_words.new.written.items ≡ [] =
     c.write_words.ensures.told ∙ ap (λ (b : Bool). words_entered b area (words_on c.from-hart.result c.from.result)) c.if-not-write_words.true in
-    let made = made_killed h t c.args.here.0 k m m' saved c.write_words.new.written.items hart told read.file c.requires.caller has c.write_words.ensures.entered none in
+    let made = made_ended h t c.args.here.0 k m m' saved c.write_words.new.written.items [] (Killed SIGSEGV) (Killed SIGSEGV) hart told read.file
+    c.requires.caller has c.write_words.ensures.entered none refl in
     subst (λ (d : CallDone). IsMade h t k m k m' saved (over.ProcessEnd (Killed SIGSEGV)) d) (sym (registers_killed h t area cannot)) made
 
 pub add_area-requires : goal.add_area-requires
 add_area-requires c =
     let k = c.args.kernel.now in
     let t = c.args.tid.0 in
-    let ts = k.threads.threads in
-    let few = room_left t ts (areas_by_number k.areas.items) c.requires.areas (caller_lives k c.args.here.0 t c.requires.caller) c.requires.none c.requires.caller.tables.1.threads in
-    let same : length (areas_by_number k.areas.items) ≡ length k.areas.items = length-map k.areas.items (λ (entry : RegisteredArea). (entry.tid.0, entry.area)) in
-    record { room = omega (arith, few, same) }
+    let areas = areas_by_number k.areas.items in
+    let more = areas_fit k.threads.threads (with_area t c.args.area areas)
+    (registered_areas t c.args.area k.threads.threads areas (caller_lives k c.args.here.0 t c.requires.caller) c.requires.none c.requires.areas) in
+    let few = c.requires.caller.tables.1.threads.few in
+    let size = length-append areas ((t, c.args.area) ∷ []) in
+    let same : length areas ≡ length k.areas.items = length-map k.areas.items (λ (entry : RegisteredArea). (entry.tid.0, entry.area)) in
+    record { room = omega (arith, more, few, size, same) }
 
 pub returns-clause-told : goal.returns-clause-told
 returns-clause-told c = λ h hart read id.
@@ -89,8 +94,10 @@ returns-clause-made c = λ h hart told has read id.
     let writes : c.write_words.new.written.items ≡ ws =
     words_are h t c.from-hart.result c.from.result c.args.here.0 c.args.cid area c.write_words.result c.write_words.new.written.items
     c.from-hart.ensures c.from.ensures hart id c.if-not-write_words.false c.write_words.ensures.told in
-    let done = answered_area h t k c.add_area.new.registered m m' ws c.write_words.new.written.items (with_area t area h.kernel.areas) told
-    (c.add_area.ensures ∙ ap (with_area t area) told.areas) (subst (IsEntered m m') writes c.write_words.ensures.entered) writes in
+    let areas = with_area t area h.kernel.areas in
+    let done = answered_changed h t k k' m m' ws c.write_words.new.written.items (Ok 0) (record h.kernel { areas = areas })
+    (holds_areas told c.add_area.new.registered areas (c.add_area.ensures ∙ ap (with_area t area) told.areas)) refl refl refl
+    (subst (IsEntered m m') writes c.write_words.ensures.entered) writes refl in
     let made = made_answered h t c.args.here.0 k k' m m' saved c.go_on.new.saved c.write_words.new.written.items (Ok 0) c.go_on.result (registered_done h t area)
     hart told has read.file c.requires.caller done c.requires.caller.tables
     c.go_on.ensures.saved c.go_on.ensures.stays c.go_on.ensures.runs_on c.go_on.ensures.waits_in_none c.go_on.ensures.ends c.go_on.ensures.answer in

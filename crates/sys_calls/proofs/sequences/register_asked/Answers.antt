@@ -1,12 +1,11 @@
 -- A registration that is refused.
-use Rattle.std.proofs.Common.{◌≡◌, ℕ, List, [], sym, ap, ◌∙◌}
-use Rattle.std.specs.Prelude.{Err}
+use Rattle.std.proofs.Common.{◌≡◌, ℕ, List, sym, ap, ◌∙◌}
 use Rattle.mach_types.specs.Kernel.Areas.{area_of}
 use Rattle.mach_types.specs.declared.sequences.Area.{Area}
 use Rattle.block_model.specs.Calls.Answers.{refused}
 use Rattle.block_model.specs.Calls.Sequences.{registers_or_refused}
 use Rattle.sys_calls.specs.Registered.{area_asked}
-use Rattle.sys_calls.proofs.Saying.{answered_said, made_answered}
+use Rattle.sys_calls.proofs.CallAnswers.{made_refused}
 use Rattle.sys_calls.proofs.sequences.register_asked.Goals as goal
 
 pub returns-in-Err-clause-made : goal.returns-in-Err-clause-made
@@ -19,6 +18,5 @@ returns-in-Err-clause-made c = λ h hart told has read id.
     let is : call ≡ refused h t c.in-Err.errno =
     ap (λ (areas : List (ℕ × Area)). registers_or_refused h t (area_asked saved (area_of t areas))) (sym told.areas)
     ∙ ap (registers_or_refused h t) (sym c.asked_area.ensures.answer ∙ c.in-Err.is) in
-    let done = answered_said h t k m (Err c.in-Err.errno) call told is in
-    made_answered h t c.args.here.0 k k m m saved c.go_on.new.saved [] (Err c.in-Err.errno) c.go_on.result call hart told has read.file c.requires.caller done c.requires.caller.tables
+    made_refused h t c.args.here.0 k m saved c.go_on.new.saved c.in-Err.errno c.go_on.result call hart told has read.file c.requires.caller is
     c.go_on.ensures.saved c.go_on.ensures.stays c.go_on.ensures.runs_on c.go_on.ensures.waits_in_none c.go_on.ensures.ends c.go_on.ensures.answer

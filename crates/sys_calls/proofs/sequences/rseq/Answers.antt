@@ -8,8 +8,8 @@ use Rattle.block_model.specs.Calls.Sequences.{rseq, unregisters_or_refused}
 use Rattle.sys_calls.specs.Answered.{AreTables}
 use Rattle.sys_calls.specs.Made.{IsMade}
 use Rattle.sys_calls.specs.Registered.{unregistration_asked}
-use Rattle.sys_calls.proofs.Reading.{if_true}
-use Rattle.sys_calls.proofs.Saying.{made_answered}
+use Rattle.sys_calls.proofs.GuestMemory.{if_true}
+use Rattle.sys_calls.proofs.CallAnswers.{made_answered}
 use Rattle.sys_calls.proofs.sequences.rseq.Goals as goal
 
 pub returns-then-asks_to_unregister-clause-made : goal.returns-then-asks_to_unregister-clause-made

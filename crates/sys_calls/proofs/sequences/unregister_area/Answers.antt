@@ -1,5 +1,5 @@
 -- An area is unregistered, or its words can't be written.
-use Rattle.std.proofs.Common.{◌≡◌, ℕ, Bool, true, false, List, [], Some, sym, ap, subst, ◌∙◌}
+use Rattle.std.proofs.Common.{◌≡◌, ℕ, Bool, true, false, List, [], Some, sym, ap, subst, ◌∙◌, refl}
 use Rattle.std.specs.Prelude.{Err, Ok}
 use Rattle.mach_types.specs.Kernel.Areas.{are_words_writable, area_of, without_area, words_entered, words_unregistered, words_written}
 use Rattle.mach_types.specs.declared.errors.TheConstants.{EFAULT}
@@ -13,9 +13,10 @@ use Rattle.sys_calls.specs.Answered.{IsAnswered, IsEntered}
 use Rattle.sys_calls.specs.Tables.{HoldsTables}
 use Rattle.sys_calls.specs.Registered.{areas_by_number, unregistration_asked}
 use Rattle.sys_calls.specs.declared.kernel.Kernel.{Kernel}
-use Rattle.sys_calls.proofs.Saying.{answered_wrote}
-use Rattle.sys_calls.proofs.Sequencing.{answered_area, unregistered_done, unregisters_made, unregisters_refused, words_can}
+use Rattle.sys_calls.proofs.CallAnswers.{answered_wrote, answered_changed}
+use Rattle.sys_calls.proofs.AreaRegistration.{unregistered_done, unregisters_made, unregisters_refused, words_can}
 use Rattle.sys_calls.proofs.sequences.unregister_area.Goals as goal
+use Rattle.sys_calls.proofs.Laws.{holds_areas}
 
 -- the call that isn't refused, of a thread that has this area
 not_refused : (h : Here) (t : ℕ) (k : Kernel) (saved : Saved) (area : Area) (unit : Unit {0}) → HoldsTables k h.kernel → unregistration_asked saved (area_of t (areas_by_number k.areas.items)) ≡ Ok unit
@@ -63,6 +64,8 @@ returns-clause-answered c = λ h told read.
     let is : call ≡ unregistered_done h t area =
     not_refused h t k saved area c.in_ok-may_unregister.field-0 told (sym c.may_unregister.ensures.answer ∙ c.in_ok-may_unregister.was) (sym c.area_of.ensures ∙ c.in-Some.is)
     ∙ unregisters_made h t area can in
-    let done = answered_area h t k c.remove_area.new.registered m m' ws c.write_words.new.written.items (without_area t h.kernel.areas) told
-    (c.remove_area.ensures ∙ ap (without_area t) told.areas) (subst (IsEntered m m') writes c.write_words.ensures.entered) writes in
+    let areas = without_area t h.kernel.areas in
+    let done = answered_changed h t k k' m m' ws c.write_words.new.written.items (Ok 0) (record h.kernel { areas = areas })
+    (holds_areas told c.remove_area.new.registered areas (c.remove_area.ensures ∙ ap (without_area t) told.areas)) refl refl refl
+    (subst (IsEntered m m') writes c.write_words.ensures.entered) writes refl in
     subst (λ (d : CallDone). IsAnswered h t k m k' m' c.write_words.new.written.items (Ok 0) d) (sym is) done

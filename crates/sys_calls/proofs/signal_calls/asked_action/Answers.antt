@@ -11,7 +11,7 @@ use Rattle.block_model.specs.Calls.Signals.{action_given, action_size, may_read,
 use Rattle.sys_calls.specs.Answered.{IsRead}
 use Rattle.sys_calls.specs.Signalled.{pass_action, sigaction_with}
 use Rattle.sys_calls.proofs.ActionWords.{readable_here, writable_here}
-use Rattle.sys_calls.proofs.Reading.{argument_is, if_false, if_true, int_argument_is, not_false, not_true}
+use Rattle.sys_calls.proofs.GuestMemory.{argument_is, if_false, if_true, int_argument_is, not_false, not_true}
 use Rattle.sys_calls.proofs.signal_calls.asked_action.Goals as goal
 
 -- whether the new action can be read, and the old one written, as a rule reads it; and whether the change is refused

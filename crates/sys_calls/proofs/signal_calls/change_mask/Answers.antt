@@ -2,7 +2,7 @@
 use Rattle.std.proofs.Common.{ℕ, eqb, sym, ap, ◌∙◌}
 use Rattle.std.proofs.lemmas.Bool.{ne_eqb}
 use Rattle.mach_types.specs.Kernel.Signals.{changed_mask, mask_of, with_mask}
-use Rattle.sys_calls.proofs.Reading.{if_false}
+use Rattle.sys_calls.proofs.GuestMemory.{if_false}
 use Rattle.sys_calls.proofs.signal_calls.change_mask.Goals as goal
 
 pub returns-in-Ok : goal.returns-in-Ok

@@ -10,7 +10,7 @@ use Rattle.block_model.specs.Here.{Here}
 use Rattle.block_model.specs.Calls.Answers.{argument, int_argument}
 use Rattle.block_model.specs.Calls.Signals.{may_read, may_write}
 use Rattle.sys_calls.specs.Answered.{IsRead}
-use Rattle.sys_calls.proofs.Reading.{argument_is, if_false, if_true, int_argument_is, not_false, not_true, readable_is, writable_is}
+use Rattle.sys_calls.proofs.GuestMemory.{argument_is, if_false, if_true, int_argument_is, not_false, not_true, readable_is, writable_is}
 use Rattle.sys_calls.proofs.signal_calls.may_mask.Goals as goal
 
 -- whether the set can be read, and the old mask written, as a rule reads it; and whether the change is refused

@@ -12,9 +12,11 @@ use Rattle.block_model.specs.Calls.Signals.{action_written}
 use Rattle.sys_calls.specs.declared.kernel.Kernel.{Kernel}
 use Rattle.sys_calls.specs.Answered.{IsAnswered, IsEntered}
 use Rattle.sys_calls.specs.Signalled.{pass_action}
-use Rattle.sys_calls.proofs.Posted.{answered_signalled}
-use Rattle.sys_calls.proofs.Reading.{argument_is, int_argument_is}
+use Rattle.sys_calls.proofs.GuestMemory.{argument_is, int_argument_is}
 use Rattle.sys_calls.proofs.signal_calls.rt_sigaction.Goals as goal
+use Rattle.sys_calls.proofs.CallAnswers.{answered_changed}
+use Rattle.sys_calls.proofs.Laws.{holds_signals}
+use Rattle.block_model.specs.Kernel.{signalled}
 
 -- a number that isn't refused is one of a signal
 in_range : (n : ℕ) (new : Option Action) → refuses_action n new ≡ false → n ≤ 31
@@ -31,8 +33,7 @@ in_range n new accepted = elim (cases_lt 31 n) [
 writes_are : (h : Here) (t at sig : ℕ) (old : Action) (g : Signalling) → at ≡ argument h t 2 → sig ≡ int_argument h t 0 → old ≡ action_of sig g → g ≡ h.kernel.signals
     → cond (eqb at 0) [] (action_written at old) ≡ cond (eqb (argument h t 2) 0) [] (action_written (argument h t 2) (action_of (int_argument h t 0) h.kernel.signals))
 writes_are h t at sig old g p q r s =
-    ap (λ (a : Action). cond (eqb at 0) [] (action_written at a)) (r ∙ ap (λ (n : ℕ). action_of n g) q ∙ ap (action_of (int_argument h t 0)) s)
-    ∙ ap (λ (a : ℕ). cond (eqb a 0) [] (action_written a (action_of (int_argument h t 0) h.kernel.signals))) p
+    (λ i. cond (eqb (p i) 0) [] (action_written (p i) ((r ∙ (λ j. action_of (q j) (s j))) i)))
 
 pub signal_number-sig-requires : goal.signal_number-sig-requires
 signal_number-sig-requires c =
@@ -57,6 +58,7 @@ returns-clause-answered c = λ h t told read.
     writes_are h t c.argument.result c.signal_number-sig.result c.in-Ok.old k.signals old sig c.in-Ok.ensures.old told.signals in
     let signals : k'.signals ≡ acted (int_argument h t 0) new g =
     c.in-Ok.ensures.ok ∙ ap (λ (n : ℕ). acted n new k.signals) sig ∙ ap (acted (int_argument h t 0) new) told.signals in
-    let done = answered_signalled h t k m m' ws c.write_action_unless_zero.new.written.items (Ok 0) c.act.new.self (acted (int_argument h t 0) new g) told signals
-    (subst (IsEntered m m') same c.write_action_unless_zero.ensures.entered) (c.write_action_unless_zero.ensures.told ∙ same) in
+    let done = answered_changed h t k k' m m' ws c.write_action_unless_zero.new.written.items (Ok 0) (signalled (acted (int_argument h t 0) new g) h.kernel)
+    (holds_signals told c.act.new.self (acted (int_argument h t 0) new g) signals) refl refl refl
+    (subst (IsEntered m m') same c.write_action_unless_zero.ensures.entered) (c.write_action_unless_zero.ensures.told ∙ same) refl in
     subst (λ (d : CallDone). IsAnswered h t k m k' m' c.write_action_unless_zero.new.written.items (Ok 0) d) (sym (c.in_ok-new.ensures.given h t read)) done

@@ -1,5 +1,5 @@
 -- The mask is changed, and the old one is written where it is asked for.
-use Rattle.std.proofs.Common.{◌≡◌, ℕ, not, ◌&&◌, ◌||◌, cond, eqb, List, [], ◌∷◌, unwrap_or, sym, ap, subst, ◌∙◌}
+use Rattle.std.proofs.Common.{◌≡◌, ℕ, not, ◌&&◌, ◌||◌, cond, eqb, List, [], ◌∷◌, unwrap_or, sym, ap, subst, ◌∙◌, refl}
 use Rattle.std.specs.Prelude.{Ok}
 use Rattle.mach_types.specs.Bytes.{each_byte, word_at}
 use Rattle.mach_types.specs.Kernel.Signals.{Signalling, mask_of, refuses_how}
@@ -12,24 +12,23 @@ use Rattle.sys_calls.specs.declared.kernel.Kernel.{Kernel}
 use Rattle.sys_calls.specs.Answered.{IsAnswered, IsEntered}
 use Rattle.sys_calls.specs.Registered.{int_in}
 use Rattle.sys_calls.specs.Signalled.{mask_changed}
-use Rattle.sys_calls.proofs.Posted.{answered_signalled}
-use Rattle.sys_calls.proofs.Reading.{argument_is, int_argument_is, number_there}
+use Rattle.sys_calls.proofs.GuestMemory.{argument_is, int_argument_is, number_there}
 use Rattle.sys_calls.proofs.signal_calls.rt_sigprocmask.Goals as goal
+use Rattle.sys_calls.proofs.CallAnswers.{answered_changed}
+use Rattle.sys_calls.proofs.Laws.{holds_signals}
+use Rattle.block_model.specs.Kernel.{signalled}
 
 -- the write of the old mask
 writes_are : (h : Here) (t at old : ℕ) (g : Signalling) → at ≡ argument h t 2 → old ≡ mask_of t g → g ≡ h.kernel.signals
     → cond (eqb at 0) [] (double_written at old ∷ []) ≡ cond (eqb (argument h t 2) 0) [] (double_written (argument h t 2) (mask_of t h.kernel.signals) ∷ [])
 writes_are h t at old g p q r =
-    ap (λ (n : ℕ). cond (eqb at 0) [] (double_written at n ∷ [])) (q ∙ ap (mask_of t) r)
-    ∙ ap (λ (a : ℕ). cond (eqb a 0) [] (double_written a (mask_of t h.kernel.signals) ∷ [])) p
+    (λ i. cond (eqb (p i) 0) [] (double_written (p i) ((q ∙ ap (mask_of t) r) i) ∷ []))
 
 -- the new mask
 changed_is : (h : Here) (t how at set : ℕ) (g : Signalling) → how ≡ int_argument h t 0 → at ≡ argument h t 1 → set ≡ number_at h (argument h t 1) 8 → g ≡ h.kernel.signals
     → mask_changed t how at set g ≡ masked h t (int_argument h t 0) (argument h t 1)
 changed_is h t how at set g o p q r =
-    ap (λ (n : ℕ). mask_changed t n at set g) o ∙ ap (λ (a : ℕ). mask_changed t (int_argument h t 0) a set g) p
-    ∙ ap (λ (n : ℕ). mask_changed t (int_argument h t 0) (argument h t 1) n g) q
-    ∙ ap (λ (s : Signalling). mask_changed t (int_argument h t 0) (argument h t 1) (number_at h (argument h t 1) 8) s) r
+    (λ i. mask_changed t (o i) (p i) (q i) (r i))
 
 pub change_mask-requires-clause-how : goal.change_mask-requires-clause-how
 change_mask-requires-clause-how c =
@@ -57,6 +56,7 @@ returns-clause-answered c = λ h told read.
     let ws : List Write = cond (eqb (argument h t 2) 0) [] (double_written (argument h t 2) (mask_of t h.kernel.signals) ∷ []) in
     let same : cond (eqb c.argument-2.result 0) [] (double_written c.argument-2.result c.mask_of-old.result ∷ []) ≡ ws =
     writes_are h t c.argument-2.result c.mask_of-old.result k.signals old c.mask_of-old.ensures told.signals in
-    let done = answered_signalled h t k m m' ws c.write_set_unless_zero.new.written.items (Ok 0) c.change_mask.new.signals (masked h t (int_argument h t 0) (argument h t 1)) told signals
-    (subst (IsEntered m m') same c.write_set_unless_zero.ensures.entered) (c.write_set_unless_zero.ensures.told ∙ same) in
+    let done = answered_changed h t k k' m m' ws c.write_set_unless_zero.new.written.items (Ok 0) (signalled (masked h t (int_argument h t 0) (argument h t 1)) h.kernel)
+    (holds_signals told c.change_mask.new.signals (masked h t (int_argument h t 0) (argument h t 1)) signals) refl refl refl
+    (subst (IsEntered m m') same c.write_set_unless_zero.ensures.entered) (c.write_set_unless_zero.ensures.told ∙ same) refl in
     subst (λ (d : CallDone). IsAnswered h t k m k' m' c.write_set_unless_zero.new.written.items (Ok 0) d) (sym (c.in_ok-may_mask.ensures.masks h t read)) done

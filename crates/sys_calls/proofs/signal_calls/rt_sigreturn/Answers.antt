@@ -16,10 +16,12 @@ use Rattle.sys_calls.specs.Answered.{IsCaller, IsRead}
 use Rattle.sys_calls.specs.Tables.{HoldsTables}
 use Rattle.sys_calls.specs.Made.{HasPages, IsMade}
 use Rattle.sys_calls.proofs.Laws.{holds_signals}
-use Rattle.sys_calls.proofs.Saying.{kept_own, own_first}
-use Rattle.sys_calls.proofs.Signalling.{caller_signalled}
-use Rattle.sys_calls.proofs.Tables.{caller_runs}
+use Rattle.sys_calls.proofs.CallAnswers.{kept_own, own_first, made_ended}
+use Rattle.sys_calls.proofs.ThreadSignals.{caller_signalled}
+use Rattle.sys_calls.proofs.CallerTables.{caller_runs}
 use Rattle.sys_calls.proofs.signal_calls.rt_sigreturn.Goals as goal
+use Rattle.sys_calls.proofs.KernelWrites.{entered_none}
+use Rattle.block_model.specs.Calls.Answers.{killed_in_call}
 
 -- the tables with other signals
 abbrev turned : Kernel → Signalling → Kernel
@@ -50,19 +52,9 @@ made_lost : (h : Here) (t here : ℕ) (k : Kernel) (g : Signalling) (m : Map) (s
     → IsCaller k here t → g ≡ returned t o k.signals → saved' ≡ saved_after_return o saved → is_some o ≡ false
     → IsMade h t k m (turned k g) m saved' (over.ProcessEnd (Killed SIGSEGV)) (resumed h t o)
 made_lost h t here k g m saved saved' (Some words) hart told has file caller signals after none = absurd (false≢true (sym none))
-made_lost h t here k g m saved saved' None hart told has file caller signals after none = record {
-  tables = holds_signals told g h.kernel.signals (signals ∙ told.signals);
-  ids = refl;
-  kept = λ all. all;
-  own = after ∙ file;
-  pages = has;
-  code = λ a. refl;
-  hart = ap (λ n. running_on n h.kernel.threads) hart ∙ ap (running_on here) (sym told.threads) ∙ caller.runs;
-  stands = subst (λ (ts : Threads). runs ts t) told.threads (caller_runs k here t caller);
-  barrier = refl;
-  ended = refl;
-  answer = tt;
-}
+made_lost h t here k g m saved saved' None hart told has file caller signals after none =
+    subst (λ (s : Signalling). IsMade h t k m (turned k s) m saved' (over.ProcessEnd (Killed SIGSEGV)) (killed_in_call h)) (sym signals)
+    (made_ended h t here k m m saved' [] [] (Killed SIGSEGV) (Killed SIGSEGV) hart told (after ∙ file) caller has (entered_none m) refl refl)
 
 pub pop_frame-requires : goal.pop_frame-requires
 pop_frame-requires c = record { held = caller_signalled c.args.kernel.now c.args.here.0 c.args.tid.0 c.requires }

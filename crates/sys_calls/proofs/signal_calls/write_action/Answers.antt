@@ -4,7 +4,7 @@ use Rattle.page_map.specs.Map.{can_write_in}
 use Rattle.block_model.specs.Calls.Answers.{double_written}
 use Rattle.sys_calls.proofs.ActionWords.{pass_three, still_writable}
 use Rattle.sys_calls.proofs.AreaWords.{writable_below}
-use Rattle.sys_calls.proofs.Entering.{entered_twice}
+use Rattle.sys_calls.proofs.KernelWrites.{entered_twice}
 use Rattle.sys_calls.proofs.signal_calls.write_action.Goals as goal
 
 pub overflow_add-at : goal.overflow_add-at

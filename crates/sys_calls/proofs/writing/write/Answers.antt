@@ -1,5 +1,5 @@
 -- The bytes are one span.
-use Rattle.std.proofs.Common.{◌≡◌, ℕ, ◌-◌, ◌≤◌, ◌<◌, Bool, true, false, ◌&&◌, List, [], ◌∷◌, ◌++◌, length, take, Option, is_some, refl, sym, ap, ◌∙◌, arith, append-nil}
+use Rattle.std.proofs.Common.{◌≡◌, ℕ, ◌-◌, ◌≤◌, ◌<◌, Bool, true, false, ◌&&◌, List, [], ◌∷◌, ◌++◌, length, take, Option, is_some, sym, ap, ◌∙◌, arith, append-nil}
 use Rattle.std.specs.Prelude.{Ok, Err}
 use Rattle.mach_types.specs.declared.errors.TheConstants.{EFAULT, ENOSPC}
 use Rattle.mach_types.specs.declared.kernel_words.TheConstants.{CONSOLE_ROOM}
@@ -11,9 +11,9 @@ use Rattle.block_model.specs.Here.{Here, memory}
 use Rattle.block_model.specs.Calls.Answers.{argument, are_readable}
 use Rattle.block_model.specs.Calls.Console.{Span, all_readable, bytes_from, bytes_of, is_elsewhere, room, total, write}
 use Rattle.sys_calls.specs.Answered.{IsRead}
-use Rattle.sys_calls.proofs.Reading.{argument_is, if_false, readable_at}
-use Rattle.sys_calls.proofs.Saying.{answered_printed, answered_said}
-use Rattle.sys_calls.proofs.Written.{spans_full, spans_unreadable, spans_wrote}
+use Rattle.sys_calls.proofs.GuestMemory.{argument_is, if_false, readable_at}
+use Rattle.sys_calls.proofs.CallAnswers.{answered_printed, answered_said}
+use Rattle.sys_calls.proofs.ConsoleWrites.{spans_full, spans_unreadable, spans_wrote}
 use Rattle.sys_calls.proofs.writing.write.Goals as goal
 
 abbrev one : Here → ℕ → List Span

@@ -7,8 +7,8 @@ use Rattle.block_model.specs.Calls.Answers.{CallDone, argument, are_readable}
 use Rattle.block_model.specs.Calls.Console.{is_elsewhere, spans_at, writev}
 use Rattle.sys_calls.specs.Answered.{IsAnswered}
 use Rattle.sys_calls.specs.Joined.{write_joined}
-use Rattle.sys_calls.proofs.Reading.{argument_is, if_false, if_true, not_false, not_true, readable_at}
-use Rattle.sys_calls.proofs.Saying.{answered_said}
+use Rattle.sys_calls.proofs.GuestMemory.{argument_is, if_false, if_true, not_false, not_true, readable_at}
+use Rattle.sys_calls.proofs.CallAnswers.{answered_said}
 use Rattle.sys_calls.proofs.Spans.{readable_end}
 use Rattle.sys_calls.proofs.writing.writev.Goals as goal
 

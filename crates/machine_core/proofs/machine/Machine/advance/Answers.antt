@@ -6,7 +6,7 @@ use Rattle.block_model.specs.History.{here_in_history}
 use Rattle.block_model.specs.Setting.{Seen}
 use Rattle.block_model.proofs.Laws.{chosen_more}
 use Rattle.machine_core.specs.Machines.{past_of, seen, setting_of}
-use Rattle.machine_core.proofs.Advanced.{answers_ended, answers_made, answers_none, answers_past, machine_picks, all_of, never_err, same_entry, turn_picks}
+use Rattle.machine_core.proofs.AdvanceAnswers.{answers_ended, answers_made, answers_none, answers_past, machine_picks, all_of, never_err, same_entry, turn_picks}
 use Rattle.machine_core.proofs.machine.Machine.advance.Goals as goal
 
 pub returns-then-has_ended-clause-answer : goal.returns-then-has_ended-clause-answer

@@ -2,7 +2,7 @@ use Rattle.std.proofs.Common.{arith, ◌≡◌, ◌+◌, ap, subst, sym, ◌∙�
 use Rattle.block_model.specs.Choosing.{advance_at}
 use Rattle.block_model.specs.Deciding.{history}
 use Rattle.block_model.specs.Setting.{Seen, Setting}
-use Rattle.machine_core.proofs.Lending.{IsOnItsWay, goes_its_way, is_there}
+use Rattle.machine_core.proofs.StretchLending.{IsOnItsWay, goes_its_way, is_there}
 use Rattle.machine_core.proofs.machine.Machine.advance_often.Goals as goal
 
 pub loop-preserved : goal.loop-preserved

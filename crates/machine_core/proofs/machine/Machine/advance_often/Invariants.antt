@@ -1,7 +1,7 @@
 use Rattle.std.proofs.Common.{◌≡◌}
 use Rattle.block_model.specs.Choosing.{IsChosen}
 use Rattle.block_model.specs.Run.{IsBlockRun}
-use Rattle.machine_core.proofs.Lending.{IsOnItsWay}
+use Rattle.machine_core.proofs.StretchLending.{IsOnItsWay}
 use Rattle.machine_core.proofs.machine.Machine.advance_often.Given as goal
 
 -- the log is on its way to so many entries more

@@ -1,8 +1,8 @@
 -- What would be answered to a choice.
 use Rattle.std.proofs.Common.{refl, sym}
 use Rattle.machine_core.specs.Machines.{seen}
-use Rattle.machine_core.proofs.Answering.{place_open}
-use Rattle.machine_core.proofs.Stepping.{allowed, refused}
+use Rattle.machine_core.proofs.StretchAppends.{place_open}
+use Rattle.machine_core.proofs.Steps.{allowed, refused}
 use Rattle.machine_core.proofs.machine.Machine.answer.Goals as goal
 
 pub answer-requires : goal.answer-requires

@@ -4,7 +4,7 @@ use Rattle.block_model.specs.Deciding.{history}
 use Rattle.block_model.proofs.Laws.{is_lent, length-history}
 use Rattle.machine_core.specs.Stretches.{stretch_of}
 use Rattle.machine_core.specs.Machines.{past_of, setting_of}
-use Rattle.machine_core.proofs.Ready.{appended_is, has_room, makes}
+use Rattle.machine_core.proofs.StretchAppends.{appended_is, has_room, makes}
 use Rattle.machine_core.proofs.machine.Machine.append_local.Goals as goal
 
 pub hart-requires : goal.hart-requires
@@ -13,42 +13,31 @@ hart-requires c = (is_lent c.args.self.now.setting c.args.hart.0 (history c.args
 pub overflow_cast-room : goal.overflow_cast-room
 overflow_cast-room c =
     let m = c.self.inside in
-    let h = c.args.hart.0 in
-    let machine = c.self.invariant in
-    let goes = rw (← c.self.view_is) at (sym c.has_ended.ensures.answer ∙ c.if-has_ended.false) in
-    let room = has_room m goes in
-    let steps = machine.limits.most_steps in
+    let room = has_room m (rw (← c.self.view_is) at (sym c.has_ended.ensures.answer ∙ c.if-has_ended.false)) in
+    let steps = c.self.invariant.limits.most_steps in
     omega (arith, room, steps, c.len.ensures, m.log.ok.0)
 
 pub overflow_sub-room : goal.overflow_sub-room
 overflow_sub-room c =
     let m = c.self.inside in
-    let h = c.args.hart.0 in
-    let machine = c.self.invariant in
-    let goes = rw (← c.self.view_is) at (sym c.has_ended.ensures.answer ∙ c.if-has_ended.false) in
-    let room = has_room m goes in
+    let room = has_room m (rw (← c.self.view_is) at (sym c.has_ended.ensures.answer ∙ c.if-has_ended.false)) in
     omega (arith, room, c.len.ensures, m.log.ok.0)
 
 pub advance_often-requires-clause-makes : goal.advance_often-requires-clause-makes
 advance_often-requires-clause-makes c =
     let m = c.self.inside in
-    let h = c.args.hart.0 in
-    let machine = c.self.invariant in
     let goes = rw (← c.self.view_is) at (sym c.has_ended.ensures.answer ∙ c.if-has_ended.false) in
-    let state = rw (← c.self.view_is) at c.hart.ensures in
-    let same = sym (ap (λ (y : HartState). y.events) state) ∙ c.if-hart-stretch.false in
+    let same = sym (ap (λ (y : HartState). y.events) (rw (← c.self.view_is) at c.hart.ensures)) ∙ c.if-hart-stretch.false in
     let room = has_room m goes in
-    rw (← c.self.view_is) (makes m c.args.hart (stretch_of c.args.stretch) (m.limits.steps - c.len.result) machine (rw (← c.self.view_is) at c.requires.chosen)
+    rw (← c.self.view_is) (makes m c.args.hart (stretch_of c.args.stretch) (m.limits.steps - c.len.result) c.self.invariant (rw (← c.self.view_is) at c.requires.chosen)
     (rw (← c.self.view_is) at c.requires.fits) goes same (omega (arith, c.if-room-count.true, c.len-count.ensures.value)) (omega (arith, room, c.len.ensures, m.log.ok.0)))
 
 pub returns-then-room-count-clause-count : goal.returns-then-room-count-clause-count
 returns-then-room-count-clause-count c =
     let m = c.self.inside in
     let h = c.args.hart.0 in
-    let machine = c.self.invariant in
     let goes = rw (← c.self.view_is) at (sym c.has_ended.ensures.answer ∙ c.if-has_ended.false) in
-    let state = rw (← c.self.view_is) at c.hart.ensures in
-    let same = sym (ap (λ (y : HartState). y.events) state) ∙ c.if-hart-stretch.false in
+    let same = sym (ap (λ (y : HartState). y.events) (rw (← c.self.view_is) at c.hart.ensures)) ∙ c.if-hart-stretch.false in
     let room = has_room m goes in
     let long = length-history (setting_of m) m.log.items in
     rw (← c.self.view_is) (omega (arith, c.if-room-count.true, c.len-count.ensures.value, c.len.ensures, m.log.ok.0, long)
@@ -58,10 +47,8 @@ pub returns-else-room-count-clause-count : goal.returns-else-room-count-clause-c
 returns-else-room-count-clause-count c =
     let m = c.self.inside in
     let h = c.args.hart.0 in
-    let machine = c.self.invariant in
     let goes = rw (← c.self.view_is) at (sym c.has_ended.ensures.answer ∙ c.if-has_ended.false) in
-    let state = rw (← c.self.view_is) at c.hart.ensures in
-    let same = sym (ap (λ (y : HartState). y.events) state) ∙ c.if-hart-stretch.false in
+    let same = sym (ap (λ (y : HartState). y.events) (rw (← c.self.view_is) at c.hart.ensures)) ∙ c.if-hart-stretch.false in
     let long = length-history (setting_of m) m.log.items in
     rw (← c.self.view_is) (omega (arith, c.if-room-count.false, c.len-count.ensures.value, c.len.ensures, m.log.ok.0, long)
     ∙ sym (appended_is (setting_of m) h (past_of m) (stretch_of c.args.stretch) (sym c.is_empty.ensures ∙ c.if-is_empty.false) goes same))

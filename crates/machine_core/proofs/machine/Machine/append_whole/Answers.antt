@@ -1,9 +1,9 @@
 use Rattle.std.proofs.Common.{◌++◌, map, ◌≡◌, refl, sym, ap, ◌∙◌, subst, arith, Some, true}
 use Rattle.machine_core.specs.Stretches.{executed, stretch_of}
 use Rattle.machine_core.specs.Machines.{setting_of}
-use Rattle.machine_core.proofs.Advanced.{all_of, chosen_of}
-use Rattle.machine_core.proofs.Ready.{counts_fit, of_machine, ready, taken, with_hart}
-use Rattle.machine_core.proofs.Settled.{IsSettled}
+use Rattle.machine_core.proofs.AdvanceAnswers.{all_of, chosen_of}
+use Rattle.machine_core.proofs.StretchAppends.{counts_fit, of_machine, ready, taken, with_hart}
+use Rattle.machine_core.proofs.MachineCredits.{IsSettled}
 use Rattle.machine_core.proofs.machine.Machine.append_whole.Goals as goal
 
 pub index_mut-state-requires : goal.index_mut-state-requires
@@ -21,21 +21,14 @@ unreachable-requires c =
     (rw (← c.self.view_is) at c.requires.goes) (rw (← c.self.view_is) at c.requires.events) c.index_mut-state.ensures.value in
     c.in_default.not-Some is.thread is.way.busy
 
-pub take_in-requires-clause-ran : goal.take_in-requires-clause-ran
-take_in-requires-clause-ran c =
+pub take_in-requires : goal.take_in-requires
+take_in-requires c =
     let m = c.self.inside in
     let l = stretch_of c.args.stretch in
     let is = ready m c.args.hart l c.index_mut-state.result.now c.self.invariant (rw (← c.self.view_is) at c.requires.chosen) (rw (← c.self.view_is) at c.requires.fits)
     (rw (← c.self.view_is) at c.requires.goes) (rw (← c.self.view_is) at c.requires.events) c.index_mut-state.ensures.value in
-    (counts_fit m c.args.hart l c.index_mut-state.result.now is (rw (← c.self.view_is) at c.requires.room)).0
-
-pub take_in-requires-clause-events : goal.take_in-requires-clause-events
-take_in-requires-clause-events c =
-    let m = c.self.inside in
-    let l = stretch_of c.args.stretch in
-    let is = ready m c.args.hart l c.index_mut-state.result.now c.self.invariant (rw (← c.self.view_is) at c.requires.chosen) (rw (← c.self.view_is) at c.requires.fits)
-    (rw (← c.self.view_is) at c.requires.goes) (rw (← c.self.view_is) at c.requires.events) c.index_mut-state.ensures.value in
-    (counts_fit m c.args.hart l c.index_mut-state.result.now is (rw (← c.self.view_is) at c.requires.room)).1
+    let fit = counts_fit m c.args.hart l c.index_mut-state.result.now is (rw (← c.self.view_is) at c.requires.room) in
+    record { ran = fit.0; events = fit.1 }
 
 pub invariant_of-self : goal.invariant_of-self
 invariant_of-self c =
@@ -63,8 +56,8 @@ invariant_of-self c =
       room = omega (arith, machine.room, c.append_executed.ensures.capacity);
     }
 
-pub returns-clause-log : goal.returns-clause-log
-returns-clause-log c =
+pub returns : goal.returns
+returns c =
     let m = c.self.inside in
     let h = c.args.hart in
     let l = stretch_of c.args.stretch in
@@ -75,32 +68,9 @@ returns-clause-log c =
     let all = taken m h l x t is (rw (← c.self.view_is) at c.requires.room) c.in-Some.is in
     let log : c.append_executed.new.log.items ≡ m.log.items ++ map (executed h t) l.pcs =
     c.append_executed.ensures.items ∙ ap (λ pcs. m.log.items ++ map (executed h t) pcs) c.as_slice.ensures.value in
-    rw (← c.self.view_is) (all.log_after ∙ ap Some (sym log))
-
-pub returns-clause-chosen : goal.returns-clause-chosen
-returns-clause-chosen c =
-    let m = c.self.inside in
-    let h = c.args.hart in
-    let l = stretch_of c.args.stretch in
-    let x = c.index_mut-state.result.now in
-    let t = c.in-Some.tid in
-    let is = ready m h l x c.self.invariant (rw (← c.self.view_is) at c.requires.chosen) (rw (← c.self.view_is) at c.requires.fits)
-    (rw (← c.self.view_is) at c.requires.goes) (rw (← c.self.view_is) at c.requires.events) c.index_mut-state.ensures.value in
-    let all = taken m h l x t is (rw (← c.self.view_is) at c.requires.room) c.in-Some.is in
-    let log : c.append_executed.new.log.items ≡ m.log.items ++ map (executed h t) l.pcs =
-    c.append_executed.ensures.items ∙ ap (λ pcs. m.log.items ++ map (executed h t) pcs) c.as_slice.ensures.value in
-    chosen_of (setting_of m) c.append_executed.new.log.items (rw log all.settled.chosen)
-
-pub returns-clause-block_run : goal.returns-clause-block_run
-returns-clause-block_run c =
-    let m = c.self.inside in
-    let h = c.args.hart in
-    let l = stretch_of c.args.stretch in
-    let x = c.index_mut-state.result.now in
-    let t = c.in-Some.tid in
-    let is = ready m h l x c.self.invariant (rw (← c.self.view_is) at c.requires.chosen) (rw (← c.self.view_is) at c.requires.fits)
-    (rw (← c.self.view_is) at c.requires.goes) (rw (← c.self.view_is) at c.requires.events) c.index_mut-state.ensures.value in
-    let all = taken m h l x t is (rw (← c.self.view_is) at c.requires.room) c.in-Some.is in
-    let log : c.append_executed.new.log.items ≡ m.log.items ++ map (executed h t) l.pcs =
-    c.append_executed.ensures.items ∙ ap (λ pcs. m.log.items ++ map (executed h t) pcs) c.as_slice.ensures.value in
-    rw log all.run
+    record {
+      setting = rw (← c.self.view_is) refl;
+      log = rw (← c.self.view_is) (all.log_after ∙ ap Some (sym log));
+      chosen = chosen_of (setting_of m) c.append_executed.new.log.items (rw log all.settled.chosen);
+      block_run = rw log all.run;
+    }

@@ -7,7 +7,7 @@ use Rattle.block_model.proofs.Laws.{start_run, start_plain}
 use Rattle.block_model.specs.Setting.{setting_of as setting_by}
 use Rattle.mach_types.specs.Kernel.Barriers.{none_registered}
 use Rattle.process.specs.declared.parts.Parts.{Parts}
-use Rattle.machine_core.proofs.Starting.{credits_start, generators_start, none_made, tied-start}
+use Rattle.machine_core.proofs.Boot.{credits_start, generators_start, none_made, tied-start}
 use Rattle.machine_core.proofs.machine.Machine.boot.Goals as goal
 
 pub invariant_of-result : goal.invariant_of-result

@@ -2,7 +2,7 @@
 use Rattle.std.proofs.Common.{◌<◌, ◌≤◌, length, sym, ◌∙◌, arith}
 use Rattle.block_model.proofs.Laws.{after_end, at_limit, at_no_hart}
 use Rattle.machine_core.specs.Machines.{seen}
-use Rattle.machine_core.proofs.Settled.{machine_goes}
+use Rattle.machine_core.proofs.MachineCredits.{machine_goes}
 use Rattle.machine_core.proofs.machine.Machine.common_refusal.Goals as goal
 
 pub returns-in-Some-clause-barred : goal.returns-in-Some-clause-barred

@@ -1,5 +1,5 @@
 use Rattle.std.proofs.Common.{sym, ◌∙◌}
-use Rattle.machine_core.proofs.Advanced.{ended_by_room, over_ended}
+use Rattle.machine_core.proofs.AdvanceAnswers.{ended_by_room, over_ended}
 use Rattle.machine_core.proofs.machine.Machine.has_ended.Goals as goal
 
 pub returns-then-is_some-clause-answer : goal.returns-then-is_some-clause-answer

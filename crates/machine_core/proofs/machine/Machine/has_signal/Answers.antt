@@ -5,7 +5,7 @@ use Rattle.block_model.specs.Plain.{here_of, plain_seen}
 use Rattle.block_model.specs.Sights.{is_deliverable_on}
 use Rattle.block_model.proofs.Laws.{same_here}
 use Rattle.machine_core.specs.Machines.{seen, setting_of}
-use Rattle.machine_core.proofs.Sighted.{deliverable_read}
+use Rattle.machine_core.proofs.Sights.{deliverable_read}
 use Rattle.process.proofs.Laws.{has_signals}
 use Rattle.machine_core.proofs.machine.Machine.has_signal.Goals as goal
 

@@ -3,9 +3,9 @@ use Rattle.block_model.specs.Choosing.{IsChosen}
 use Rattle.block_model.specs.History.{events, here_in_history, ran}
 use Rattle.process.specs.Harts.{hart_in}
 use Rattle.machine_core.specs.Machines.{past_of, setting_of}
-use Rattle.machine_core.proofs.Advanced.{all_of}
-use Rattle.machine_core.proofs.Chosen.{credit_read}
-use Rattle.machine_core.proofs.Lending.{ended_lends_none, lent_is, past_lends_none}
+use Rattle.machine_core.proofs.AdvanceAnswers.{all_of}
+use Rattle.machine_core.proofs.ChoiceCredits.{credit_read}
+use Rattle.machine_core.proofs.StretchLending.{ended_lends_none, lent_is, past_lends_none}
 use Rattle.machine_core.proofs.machine.Machine.lend_local.Goals.{then-has_ended-via-then-has_ended, then-has_ended-via-else-has_ended+then-hart-self}
 use Rattle.machine_core.proofs.machine.Machine.lend_local.Goals as goal
 

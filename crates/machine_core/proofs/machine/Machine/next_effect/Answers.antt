@@ -5,7 +5,7 @@ use Rattle.block_model.specs.History.{events, ran}
 use Rattle.machine_core.specs.Machines.{setting_of}
 use Rattle.process.specs.Harts.{hart_in}
 use Rattle.machine_core.proofs.Readings.{here_read, history_of}
-use Rattle.machine_core.proofs.Sighted.{effect_read, is_busy, no_effect_read}
+use Rattle.machine_core.proofs.Sights.{effect_read, is_busy, no_effect_read}
 use Rattle.machine_core.proofs.machine.Machine.next_effect.Goals as goal
 
 pub returns-else-is_idle : goal.returns-else-is_idle

@@ -19,7 +19,7 @@ use Rattle.machine_core.specs.Machines.{seen, setting_of}
 use Rattle.process.specs.Harts.{hart_in}
 use Rattle.process.proofs.Laws.{has_signals, next_at}
 use Rattle.machine_core.proofs.Readings.{bytes_read, here_read, history_of, scheduling_read, writable_read}
-use Rattle.machine_core.proofs.Sighted.{deliverable_read, idle_read, local_read, none_is, numbered, same_sight, tested, untested}
+use Rattle.machine_core.proofs.Sights.{deliverable_read, idle_read, local_read, none_is, numbered, same_sight, tested, untested}
 use Rattle.machine_core.proofs.machine.Machine.sight.Goals.{then-not-is_idle, else-not-is_idle}
 use Rattle.machine_core.proofs.machine.Machine.sight.Goals as goal
 

@@ -1,4 +1,4 @@
-use Rattle.std.proofs.Common.{◌≡◌, ◌<◌, Option, None, false, refl, sym, ◌∙◌, arith, slice_get}
+use Rattle.std.proofs.Common.{◌≡◌, ◌<◌, Option, None, false, refl, rules, sym, ◌∙◌, arith, slice_get}
 use Rattle.mach_types.specs.declared.events.Sight.{Sight}
 use Rattle.std.proofs.lemmas.Result.{IfOk-at_ok}
 use Rattle.block_model.specs.Choosing.{has_ended}
@@ -7,12 +7,11 @@ use Rattle.block_model.specs.Plain.{here_of}
 use Rattle.process.specs.Tied.{IsAfter}
 use Rattle.machine_core.specs.Machines.{past_of, seen, setting_of}
 use Rattle.process.specs.declared.parts.Parts.{Parts}
-use Rattle.machine_core.proofs.Advanced.{chosen_of}
-use Rattle.machine_core.proofs.Answering.{place_open}
+use Rattle.machine_core.proofs.AdvanceAnswers.{chosen_of}
 use Rattle.machine_core.specs.Credits.{seen_if}
-use Rattle.machine_core.proofs.Ready.{goes_on, has_room}
-use Rattle.machine_core.proofs.Settled.{settled, unfollowed}
-use Rattle.machine_core.proofs.Stepping.{allowed, refused, stepped}
+use Rattle.machine_core.proofs.StretchAppends.{goes_on, has_room, place_open}
+use Rattle.machine_core.proofs.MachineCredits.{settled, unfollowed}
+use Rattle.machine_core.proofs.Steps.{refused, stepped}
 use Rattle.machine_core.proofs.machine.Machine.step.Goals as goal
 
 pub step_chosen-requires-clause-chosen : goal.step_chosen-requires-clause-chosen
@@ -59,27 +58,19 @@ invariant_of-self c =
       room = omega (arith, c.self.invariant.room, c.append.ensures.capacity);
     }
 
-pub returns-in-Ok-clause-answer : goal.returns-in-Ok-clause-answer
-returns-in-Ok-clause-answer c =
-    let m = c.self.inside in
-    let place = place_open m c.args.hart.0 c.self.invariant (rw (← c.self.view_is) at c.in_default.ensures.goes) (rw (← c.self.view_is) at c.in_default.ensures.hart) in
-    rw (← c.self.view_is) (sym (allowed (seen m) m.parts c.args.hart.0 c.args.choice c.make.result c.in-Ok.entry place (c.make.ensures.answer (seen m) place refl) c.in-Ok.is))
-
-pub returns-in-Ok-clause-of : goal.returns-in-Ok-clause-of
-returns-in-Ok-clause-of c =
+pub returns-in-Ok : goal.returns-in-Ok
+returns-in-Ok c =
     let m = c.self.inside in
     let place = place_open m c.args.hart.0 c.self.invariant (rw (← c.self.view_is) at c.in_default.ensures.goes) (rw (← c.self.view_is) at c.in_default.ensures.hart) in
     let after = IfOk-at_ok (λ e. IsAfter (seen m) c.args.hart.0 (done_of c.args.choice (here_of (seen m) c.args.hart.0)) m.parts c.make.new.self) c.in-Ok.is (c.make.ensures.after (seen m) place refl) in
     let step = stepped (seen m) m.parts c.make.new.self c.args.hart c.args.choice c.make.result c.in-Ok.entry place (c.make.ensures.answer (seen m) place refl) c.in-Ok.is after in
-    (step.hart, step.choice)
-
-pub returns-in-Ok-clause-block_run : goal.returns-in-Ok-clause-block_run
-returns-in-Ok-clause-block_run c =
-    let m = c.self.inside in
-    let place = place_open m c.args.hart.0 c.self.invariant (rw (← c.self.view_is) at c.in_default.ensures.goes) (rw (← c.self.view_is) at c.in_default.ensures.hart) in
-    let after = IfOk-at_ok (λ e. IsAfter (seen m) c.args.hart.0 (done_of c.args.choice (here_of (seen m) c.args.hart.0)) m.parts c.make.new.self) c.in-Ok.is (c.make.ensures.after (seen m) place refl) in
-    let step = stepped (seen m) m.parts c.make.new.self c.args.hart c.args.choice c.make.result c.in-Ok.entry place (c.make.ensures.answer (seen m) place refl) c.in-Ok.is after in
-    rw c.append.ensures.items step.run
+    record {
+      answer = rw (← c.self.view_is) (sym step.decided);
+      of = (step.hart, step.choice);
+      ok = search rules;
+      err = search rules;
+      block_run = rw c.append.ensures.items step.run;
+    }
 
 pub returns-in-Err-clause-answer : goal.returns-in-Err-clause-answer
 returns-in-Err-clause-answer c =

@@ -1,15 +1,15 @@
-use Rattle.std.proofs.Common.{◌≡◌, ◌<◌, Some, true, ap, length, refl, sym, ◌∙◌, arith}
+use Rattle.std.proofs.Common.{◌≡◌, ◌<◌, Some, true, ap, length, refl, rules, sym, ◌∙◌, arith}
 use Rattle.std.proofs.lemmas.Result.{IfOk-at_ok}
 use Rattle.block_model.specs.Events.{done_of}
 use Rattle.block_model.specs.Plain.{here_of}
 use Rattle.process.specs.Tied.{IsAfter}
 use Rattle.machine_core.specs.Machines.{past_of, seen, setting_of}
 use Rattle.process.specs.declared.parts.Parts.{Parts}
-use Rattle.machine_core.proofs.Advanced.{all_of}
+use Rattle.machine_core.proofs.AdvanceAnswers.{all_of}
 use Rattle.machine_core.specs.Credits.{seen_if}
-use Rattle.machine_core.proofs.Ready.{goes_on, has_room}
-use Rattle.machine_core.proofs.Settled.{settled}
-use Rattle.machine_core.proofs.Stepping.{place_of, refused, stepped}
+use Rattle.machine_core.proofs.StretchAppends.{goes_on, has_room}
+use Rattle.machine_core.proofs.MachineCredits.{settled}
+use Rattle.machine_core.proofs.Steps.{place_of, refused, stepped}
 use Rattle.machine_core.proofs.machine.Machine.step_seen.Goals as goal
 
 pub make-requires : goal.make-requires
@@ -43,26 +43,20 @@ invariant_of-self c =
       room = omega (arith, c.self.invariant.room, c.append.ensures.capacity);
     }
 
-pub returns-in-Ok-clause-answer : goal.returns-in-Ok-clause-answer
-returns-in-Ok-clause-answer c =
+pub returns-in-Ok : goal.returns-in-Ok
+returns-in-Ok c =
     let m = c.self.inside in
-    let place = place_of m c.args.hart.0 c.self.invariant (goes_on m c.self.invariant (rw (← c.self.view_is) at c.requires.goes)) (has_room m (rw (← c.self.view_is) at c.requires.goes)) (rw (← c.self.view_is) at c.requires.hart) in
-    let step = stepped (seen m) m.parts c.make.new.self c.args.hart c.args.choice c.make.result c.in-Ok.entry place (c.make.ensures.answer (seen m) place refl) c.in-Ok.is (IfOk-at_ok (λ e. IsAfter (seen m) c.args.hart.0 (done_of c.args.choice (here_of (seen m) c.args.hart.0)) m.parts c.make.new.self) c.in-Ok.is (c.make.ensures.after (seen m) place refl)) in
-    rw (← c.self.view_is) (sym step.decided)
-
-pub returns-in-Ok-clause-of : goal.returns-in-Ok-clause-of
-returns-in-Ok-clause-of c =
-    let m = c.self.inside in
-    let place = place_of m c.args.hart.0 c.self.invariant (goes_on m c.self.invariant (rw (← c.self.view_is) at c.requires.goes)) (has_room m (rw (← c.self.view_is) at c.requires.goes)) (rw (← c.self.view_is) at c.requires.hart) in
-    let step = stepped (seen m) m.parts c.make.new.self c.args.hart c.args.choice c.make.result c.in-Ok.entry place (c.make.ensures.answer (seen m) place refl) c.in-Ok.is (IfOk-at_ok (λ e. IsAfter (seen m) c.args.hart.0 (done_of c.args.choice (here_of (seen m) c.args.hart.0)) m.parts c.make.new.self) c.in-Ok.is (c.make.ensures.after (seen m) place refl)) in
-    (step.hart, step.choice)
-
-pub returns-in-Ok-clause-block_run : goal.returns-in-Ok-clause-block_run
-returns-in-Ok-clause-block_run c =
-    let m = c.self.inside in
-    let place = place_of m c.args.hart.0 c.self.invariant (goes_on m c.self.invariant (rw (← c.self.view_is) at c.requires.goes)) (has_room m (rw (← c.self.view_is) at c.requires.goes)) (rw (← c.self.view_is) at c.requires.hart) in
-    let step = stepped (seen m) m.parts c.make.new.self c.args.hart c.args.choice c.make.result c.in-Ok.entry place (c.make.ensures.answer (seen m) place refl) c.in-Ok.is (IfOk-at_ok (λ e. IsAfter (seen m) c.args.hart.0 (done_of c.args.choice (here_of (seen m) c.args.hart.0)) m.parts c.make.new.self) c.in-Ok.is (c.make.ensures.after (seen m) place refl)) in
-    rw c.append.ensures.items step.run
+    let goes = rw (← c.self.view_is) at c.requires.goes in
+    let place = place_of m c.args.hart.0 c.self.invariant (goes_on m c.self.invariant goes) (has_room m goes) (rw (← c.self.view_is) at c.requires.hart) in
+    let after = IfOk-at_ok (λ e. IsAfter (seen m) c.args.hart.0 (done_of c.args.choice (here_of (seen m) c.args.hart.0)) m.parts c.make.new.self) c.in-Ok.is (c.make.ensures.after (seen m) place refl) in
+    let step = stepped (seen m) m.parts c.make.new.self c.args.hart c.args.choice c.make.result c.in-Ok.entry place (c.make.ensures.answer (seen m) place refl) c.in-Ok.is after in
+    record {
+      answer = rw (← c.self.view_is) (sym step.decided);
+      of = (step.hart, step.choice);
+      ok = search rules;
+      err = search rules;
+      block_run = rw c.append.ensures.items step.run;
+    }
 
 pub returns-in-Err-clause-answer : goal.returns-in-Err-clause-answer
 returns-in-Err-clause-answer c =

@@ -6,7 +6,7 @@ use Rattle.block_model.specs.Here.{runs}
 use Rattle.block_model.specs.Plain.{here_in_plain}
 use Rattle.block_model.specs.Sequences.{area_here}
 use Rattle.process.proofs.Places.{thread_is}
-use Rattle.process.proofs.HeldPages.{hart_tied}
+use Rattle.process.proofs.HartStates.{hart_tied}
 use Rattle.process.proofs.parts.Parts.area.Goals as goal
 
 pub returns-in-Some : goal.returns-in-Some

@@ -1,43 +1,43 @@
-use Rattle.std.proofs.Common.{◌≡◌, refl, sym, ap, ◌∙◌, true, false}
+use Rattle.std.proofs.Common.{◌≡◌, ap, ◌∙◌, subst}
 use Rattle.mach_types.specs.Kernel.Areas.{lowest_cid}
 use Rattle.mach_types.specs.Kernel.Scheduling.{without_ready}
 use Rattle.mach_types.specs.Kernel.Threads.{state_of}
 use Rattle.scheduler.specs.Holding.{is_ready}
 use Rattle.kernel_threads.specs.Table.{Table}
 use Rattle.sys_calls.specs.declared.kernel.Kernel.{Kernel}
+use Rattle.block_model.specs.Events.Run.{done_run}
 use Rattle.block_model.specs.Ids.{next_id}
 use Rattle.block_model.specs.Plain.{here_of, plain_seen}
 use Rattle.process.specs.Beginning.{IsReadied}
-use Rattle.process.proofs.Ids.{held_here}
-use Rattle.process.proofs.RunBegun.{begun_killed, begun_running, counted, listed, runs_then, some_free, waiting}
+use Rattle.process.proofs.ConcurrencyIds.{held_here}
+use Rattle.process.proofs.Places.{still_there}
+use Rattle.process.proofs.RunEvent.{begun_killed, begun_running, listed, readied, runs_then, some_free}
 use Rattle.process.proofs.parts.Parts.begun.Goals as goal
 
 pub next_id-id-requires : goal.next_id-id-requires
 next_id-id-requires c = some_free c.requires.seen c.args.self.now c.args.hart c.args.tid c.requires.place c.requires.free
 
-pub take_up-requires-clause-counted : goal.take_up-requires-clause-counted
-take_up-requires-clause-counted c =
+pub take_up-requires-clause-listed : goal.take_up-requires-clause-listed
+take_up-requires-clause-listed c =
     let v = c.requires.seen in
     let m = c.args.self.now in
     let h = c.args.hart in
     let t = c.args.tid in
-    let waits = waiting v m h t c.requires.place c.requires.free c.area_of-area.result c.next_id-id.result c.run-saved.result c.area_of-area.ensures c.next_id-id.ensures c.run-saved.ensures.answer in
-    let r = c.readied.ensures.readied (here_of v h.0) t.0 waits in
     let m1 = c.readied.new.self in
-    let is : IsReadied (here_of v h.0) t.0 c.readied.result c.readied.new.saved m m1 = record { lives = r.lives; file = r.file; pages = r.pages; harts = r.harts } in
-    counted v m h t c.requires.place c.requires.free m1 c.readied.result c.readied.new.saved is
+    still_there v m h.0 (done_run (here_of v h.0) t.0).entered m1.harts.items c.requires.place
+    (readied v m h t c.requires.place c.requires.free _ c.area_of-area.result c.next_id-id.result c.run-saved.result c.readied.new.saved c.readied.result m1
+    c.area_of-area.ensures c.next_id-id.ensures c.run-saved.ensures.answer (c.readied.ensures.readied (here_of v h.0) t.0)).harts
 
-pub kill-requires-clause-counted : goal.kill-requires-clause-counted
-kill-requires-clause-counted c =
+pub kill-requires-clause-listed : goal.kill-requires-clause-listed
+kill-requires-clause-listed c =
     let v = c.requires.seen in
     let m = c.args.self.now in
     let h = c.args.hart in
     let t = c.args.tid in
-    let waits = waiting v m h t c.requires.place c.requires.free c.area_of-area.result c.next_id-id.result c.run-saved.result c.area_of-area.ensures c.next_id-id.ensures c.run-saved.ensures.answer in
-    let r = c.readied.ensures.readied (here_of v h.0) t.0 waits in
     let m1 = c.readied.new.self in
-    let is : IsReadied (here_of v h.0) t.0 c.readied.result c.readied.new.saved m m1 = record { lives = r.lives; file = r.file; pages = r.pages; harts = r.harts } in
-    counted v m h t c.requires.place c.requires.free m1 c.readied.result c.readied.new.saved is
+    still_there v m h.0 (done_run (here_of v h.0) t.0).entered m1.harts.items c.requires.place
+    (readied v m h t c.requires.place c.requires.free _ c.area_of-area.result c.next_id-id.result c.run-saved.result c.readied.new.saved c.readied.result m1
+    c.area_of-area.ensures c.next_id-id.ensures c.run-saved.ensures.answer (c.readied.ensures.readied (here_of v h.0) t.0)).harts
 
 pub take_up-requires-clause-ready : goal.take_up-requires-clause-ready
 take_up-requires-clause-ready c =
@@ -53,41 +53,35 @@ kill-requires-clause-runs c =
     )
 
 pub returns-then-readied : goal.returns-then-readied
-returns-then-readied c = record {
-  entry = λ v place free. rw (place.tied.saved c.args.tid.0 c.run-saved.result (sym c.run-saved.ensures.answer)) refl;
-  after = λ v place free.
-      let m = c.args.self.now in
-      let h = c.args.hart in
-      let t = c.args.tid in
-      let waits = waiting v m h t place free c.area_of-area.result c.next_id-id.result c.run-saved.result c.area_of-area.ensures c.next_id-id.ensures c.run-saved.ensures.answer in
-      let r = c.readied.ensures.readied (here_of v h.0) t.0 waits in
-      let m1 = c.readied.new.self in
-      let m2 = c.take_up.new.self in
-      let is : IsReadied (here_of v h.0) t.0 true c.readied.new.saved m m1 = record { lives = sym c.if-readied.true ∙ r.lives; file = r.file; pages = r.pages; harts = r.harts } in
-      let its : c.next_id-id.result ≡ next_id (plain_seen v).kernel.ids = c.next_id-id.ensures ∙ ap lowest_cid (held_here v m h.0 place) in
-      begun_running v m h t place free m1 m2 c.readied.new.saved c.next_id-id.result c.run-saved.new.self m2.kernel.ready is its c.take_up.ensures.harts c.take_up.ensures.pages
-      (c.take_up.ensures.others ∙ ap (λ (k : Kernel). record k { ready = m2.kernel.ready }) c.readied.ensures.kernel)
-      c.run-saved.ensures.threads c.run-saved.ensures.saved c.run-saved.ensures.table
-      (c.take_up.ensures.ready ∙ ap (λ (k : Kernel). without_ready t.0 k.ready) c.readied.ensures.kernel)
-      (c.take_up.ensures.ended ∙ c.readied.ensures.ended);
-}
+returns-then-readied c v place free =
+    let m = c.args.self.now in
+    let h = c.args.hart in
+    let t = c.args.tid in
+    let m1 = c.readied.new.self in
+    let m2 = c.take_up.new.self in
+    let is = subst (λ b. IsReadied (here_of v h.0) t.0 b c.readied.new.saved m m1) c.if-readied.true
+    (readied v m h t place free _ c.area_of-area.result c.next_id-id.result c.run-saved.result c.readied.new.saved c.readied.result m1
+    c.area_of-area.ensures c.next_id-id.ensures c.run-saved.ensures.answer (c.readied.ensures.readied (here_of v h.0) t.0)) in
+    let its : c.next_id-id.result ≡ next_id (plain_seen v).kernel.ids = c.next_id-id.ensures ∙ ap lowest_cid (held_here v m h.0 place) in
+    begun_running v m h t place free m1 m2 c.readied.new.saved c.next_id-id.result c.run-saved.new.self m2.kernel.ready is its c.take_up.ensures.harts c.take_up.ensures.pages
+    (c.take_up.ensures.others ∙ ap (λ (k : Kernel). record k { ready = m2.kernel.ready }) c.readied.ensures.kernel)
+    c.run-saved.ensures.threads c.run-saved.ensures.saved c.run-saved.ensures.table
+    (c.take_up.ensures.ready ∙ ap (λ (k : Kernel). without_ready t.0 k.ready) c.readied.ensures.kernel)
+    (c.take_up.ensures.ended ∙ c.readied.ensures.ended)
 
 pub returns-else-readied : goal.returns-else-readied
-returns-else-readied c = record {
-  entry = λ v place free. rw (place.tied.saved c.args.tid.0 c.run-saved.result (sym c.run-saved.ensures.answer)) refl;
-  after = λ v place free.
-      let m = c.args.self.now in
-      let h = c.args.hart in
-      let t = c.args.tid in
-      let waits = waiting v m h t place free c.area_of-area.result c.next_id-id.result c.run-saved.result c.area_of-area.ensures c.next_id-id.ensures c.run-saved.ensures.answer in
-      let r = c.readied.ensures.readied (here_of v h.0) t.0 waits in
-      let m1 = c.readied.new.self in
-      let m2 = c.kill.new.self in
-      let is : IsReadied (here_of v h.0) t.0 false c.readied.new.saved m m1 = record { lives = sym c.if-readied.false ∙ r.lives; file = r.file; pages = r.pages; harts = r.harts } in
-      let threads : m1.kernel.threads ≡ c.run-saved.new.self = ap (λ (k : Kernel). k.threads) c.readied.ensures.kernel in
-      begun_killed v m h t place free m1 m2 c.readied.new.saved m1.kernel.threads is c.kill.ensures.harts c.kill.ensures.pages
-      (ap (λ (x : Table). x.threads) threads ∙ c.run-saved.ensures.threads) (ap (λ (x : Table). x.saved) threads ∙ c.run-saved.ensures.saved)
-      c.kill.ensures.threads c.kill.ensures.saved c.kill.ensures.table
-      (c.kill.ensures.others ∙ ap (λ (k : Kernel). record k { threads = m2.kernel.threads }) c.readied.ensures.kernel)
-      c.kill.ensures.ended;
-}
+returns-else-readied c v place free =
+    let m = c.args.self.now in
+    let h = c.args.hart in
+    let t = c.args.tid in
+    let m1 = c.readied.new.self in
+    let m2 = c.kill.new.self in
+    let is = subst (λ b. IsReadied (here_of v h.0) t.0 b c.readied.new.saved m m1) c.if-readied.false
+    (readied v m h t place free _ c.area_of-area.result c.next_id-id.result c.run-saved.result c.readied.new.saved c.readied.result m1
+    c.area_of-area.ensures c.next_id-id.ensures c.run-saved.ensures.answer (c.readied.ensures.readied (here_of v h.0) t.0)) in
+    let threads : m1.kernel.threads ≡ c.run-saved.new.self = ap (λ (k : Kernel). k.threads) c.readied.ensures.kernel in
+    begun_killed v m h t place free m1 m2 c.readied.new.saved m1.kernel.threads is c.kill.ensures.harts c.kill.ensures.pages
+    (ap (λ (x : Table). x.threads) threads ∙ c.run-saved.ensures.threads) (ap (λ (x : Table). x.saved) threads ∙ c.run-saved.ensures.saved)
+    c.kill.ensures.threads c.kill.ensures.saved c.kill.ensures.table
+    (c.kill.ensures.others ∙ ap (λ (k : Kernel). record k { threads = m2.kernel.threads }) c.readied.ensures.kernel)
+    c.kill.ensures.ended

@@ -1,39 +1,36 @@
-use Rattle.std.proofs.Common.{arith, refl, sym, ◌∙◌}
+use Rattle.std.proofs.Common.{◌+◌, None, arith, refl, sym}
 use Rattle.mach_types.specs.declared.events.Choice.TheVariants as asked
+use Rattle.hart_state.specs.declared.hart.HartState.{HartState}
 use Rattle.block_model.specs.Calls.Answers.{killed_in_call}
 use Rattle.block_model.specs.Events.Exec.{by_call}
 use Rattle.block_model.specs.Plain.{here_of, plain_seen}
-use Rattle.process.proofs.Entries.{changed_as, entry_exec}
+use Rattle.process.specs.Harts.{counted}
+use Rattle.process.proofs.Entries.{uncounted_as}
 use Rattle.process.proofs.Events.{none_beside}
-use Rattle.process.proofs.Executed.{done_inside}
+use Rattle.process.proofs.ExecEvent.{done_inside}
 use Rattle.process.proofs.HartEvents.{inside_own}
-use Rattle.process.proofs.Places.{events_fit, hart_is, ran_fits}
+use Rattle.process.proofs.Places.{hart_is, ran_fits}
 use Rattle.process.proofs.parts.Parts.call_inside.Goals as goal
 
 pub overflow_add-state : goal.overflow_add-state
 overflow_add-state c = let plan = c.requires.plan in let few = ran_fits plan.seen c.args.self.now c.args.hart.0 c.index_mut-state.result.now plan.place c.index_mut-state.ensures.value in omega (arith, few)
 
-pub overflow_add-state-2 : goal.overflow_add-state-2
-overflow_add-state-2 c = let plan = c.requires.plan in let few = events_fit plan.seen c.args.self.now c.args.hart.0 c.index_mut-state.result.now plan.place c.index_mut-state.ensures.value in omega (arith, few)
-
 pub returns : goal.returns
-returns c = record {
-  entry = λ v place plan. c.entry_of-entry.ensures ∙ entry_exec _ v.setting (plain_seen v) c.args.hart c.index_mut-state.result.now (hart_is v c.args.self.now c.args.hart.0 c.index_mut-state.result.now place c.index_mut-state.ensures.value);
-  after = λ v place plan.
-      let h = c.args.hart.0 in
-      let m = c.args.self.now in
-      let x = c.index_mut-state.result.now in
-      let here = here_of v h in
-      let t = plan.thread in
-      changed_as v h asked.Exec (by_call here (killed_in_call here)) m _ _ place plan.free (done_inside here t plan.at (sym plan.fault) (sym plan.effect) (c.requires.inside v t place plan.at)) (record {
-        own = inside_own _ v.setting (plain_seen v) h t x _ (hart_is v m h x place c.index_mut-state.ensures.value) plan.at refl;
-        harts = none_beside h (by_call here (killed_in_call here)) _ (record { none_begun = refl; none_taken = refl }) refl;
-        pages = place.tied.pages;
-        readable = place.tied.readable;
-        tables = place.tied.tables;
-        ids = λ k u ne runs. refl;
-        table = place.tied.table;
-        saved = place.tied.saved;
-        ended = refl;
-      });
-}
+returns c v place plan =
+    let h = c.args.hart.0 in
+    let m = c.args.self.now in
+    let x = c.index_mut-state.result.now in
+    let here = here_of v h in
+    let t = plan.thread in
+    let z : HartState = record x { reserved = None; ran = x.ran + 1 } in
+    uncounted_as v h asked.Exec (by_call here (killed_in_call here)) m _ z place plan.free (done_inside here t plan.at (sym plan.fault) (sym plan.effect) (c.requires.inside v t place plan.at)) (record {
+      own = inside_own _ v.setting (plain_seen v) h t x (counted z) (hart_is v m h x place c.index_mut-state.ensures.value) plan.at refl;
+      harts = none_beside h (by_call here (killed_in_call here)) _ (record { none_begun = refl; none_taken = refl }) refl;
+      pages = place.tied.pages;
+      readable = place.tied.readable;
+      tables = place.tied.tables;
+      ids = λ k u ne runs. refl;
+      table = place.tied.table;
+      saved = place.tied.saved;
+      ended = refl;
+    })

@@ -10,7 +10,7 @@ use Rattle.block_model.specs.Events.Signal.{dropped_if_ignored}
 use Rattle.sys_calls.specs.declared.kernel.Kernel.{Kernel}
 use Rattle.process.specs.Losing.{lost_unless}
 use Rattle.process.specs.Stored.{IsWritten}
-use Rattle.process.proofs.Frames.{frame_is_lost, frame_written}
+use Rattle.process.proofs.SignalFrames.{frame_is_lost, frame_written}
 use Rattle.process.proofs.parts.Parts.enter_handler.Goals as goal
 
 pub returns-clause-entered : goal.returns-clause-entered

@@ -1,5 +1,5 @@
 -- The entry of a thread that may begin to run.
-use Rattle.process.proofs.Answering.{starter_is_saved}
+use Rattle.process.proofs.RunEvent.{starter_is_saved}
 use Rattle.process.proofs.parts.Parts.entry_of_run.Goals as goal
 
 pub unreachable-requires : goal.unreachable-requires

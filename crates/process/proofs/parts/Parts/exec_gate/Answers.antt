@@ -2,7 +2,8 @@ use Rattle.std.proofs.Common.{◌≡◌, Some, None, is_some, ap, refl, ◌∙�
 use Rattle.hart_state.specs.State.{exec_refusal}
 use Rattle.block_model.specs.Events.Exec.{is_held, others_gate}
 use Rattle.block_model.specs.Plain.{here_in_plain}
-use Rattle.process.proofs.HeldPages.{gate_is, hart_tied}
+use Rattle.process.proofs.HartStates.{hart_tied}
+use Rattle.process.proofs.ExecGates.{gate_is}
 use Rattle.process.proofs.parts.Parts.exec_gate.Goals as goal
 
 pub returns-in-Some : goal.returns-in-Some

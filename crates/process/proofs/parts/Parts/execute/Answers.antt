@@ -6,13 +6,13 @@ use Rattle.process.proofs.parts.Parts.execute.Goals as goal
 
 pub returns-in-Some-default : goal.returns-in-Some-default
 returns-in-Some-default c =
-    subst (λ (n : Next). IsExecuted c.args.self.now c.args.hart.0 n c.fault.result c.fault.new.self) (ap (λ o. record { effect = c.args.next.effect; fault = o }) (sym c.in-Some-default.is-0)) (c.fault.ensures c.args.next.effect)
+    subst (λ (n : Next). IsExecuted c.args.self.now c.args.hart.0 n c.fault.new.self) (ap (λ o. record { effect = c.args.next.effect; fault = o }) (sym c.in-Some-default.is-0)) (c.fault.ensures c.args.next.effect)
 
 pub returns-in-None-Some-Call : goal.returns-in-None-Some-Call
 returns-in-None-Some-Call c =
     let is : c.args.next.effect ≡ Some effect.Call = search rules in
-    subst (λ (n : Next). IsExecuted c.args.self.now c.args.hart.0 n c.call.result c.call.new.self) (ap (λ o. record { effect = Some effect.Call; fault = o }) (sym c.in-None-Some-Call.is-0) ∙ ap (λ o. record { effect = o; fault = c.args.next.fault }) (sym is)) c.call.ensures
+    subst (λ (n : Next). IsExecuted c.args.self.now c.args.hart.0 n c.call.new.self) (ap (λ o. record { effect = Some effect.Call; fault = o }) (sym c.in-None-Some-Call.is-0) ∙ ap (λ o. record { effect = o; fault = c.args.next.fault }) (sym is)) c.call.ensures
 
 pub returns-in-None-Some : goal.returns-in-None-Some
 returns-in-None-Some c =
-    subst (λ (n : Next). IsExecuted c.args.self.now c.args.hart.0 n c.plain.result c.plain.new.self) (ap (λ o. record { effect = Some c.in-None-Some.effect; fault = o }) (sym c.in-None-Some.is-0) ∙ ap (λ o. record { effect = o; fault = c.args.next.fault }) (sym c.in-None-Some.is-1)) c.plain.ensures
+    subst (λ (n : Next). IsExecuted c.args.self.now c.args.hart.0 n c.plain.new.self) (ap (λ o. record { effect = Some c.in-None-Some.effect; fault = o }) (sym c.in-None-Some.is-0) ∙ ap (λ o. record { effect = o; fault = c.args.next.fault }) (sym c.in-None-Some.is-1)) c.plain.ensures

@@ -1,34 +1,30 @@
-use Rattle.std.proofs.Common.{◌≡◌, true, false, not, arith, refl, sym, ap, ◌∙◌}
+use Rattle.std.proofs.Common.{◌+◌, ◌≡◌, true, false, not, arith, refl, sym, ap, ◌∙◌}
 use Rattle.std.proofs.lemmas.Bool.{and_parts}
-use Rattle.mach_types.specs.Kernel.Signals.{action_of, has_signal, is_handler, is_held, mask_of, with_pending}
+use Rattle.mach_types.specs.Kernel.Signals.{action_of, has_signal, is_handler, mask_of, with_pending}
 use Rattle.mach_types.specs.declared.events.Choice.TheVariants as asked
-use Rattle.mach_types.specs.declared.events.Kind.TheVariants.{Exec}
+use Rattle.mach_types.specs.declared.events.Kind.TheVariants as kind
+use Rattle.hart_state.specs.declared.hart.HartState.{HartState}
 use Rattle.block_model.specs.Events.Exec.{has_handler}
 use Rattle.block_model.specs.Kernel.{signalled}
 use Rattle.block_model.specs.Plain.{here_of, plain_seen}
 use Rattle.sys_calls.proofs.Laws.{holds_signals}
+use Rattle.process.specs.Harts.{counted}
 use Rattle.process.specs.Delivering.{has_handler_in}
-use Rattle.process.proofs.Entries.{changed_as, entry_exec}
+use Rattle.process.proofs.Entries.{uncounted_as}
 use Rattle.process.proofs.Events.{none_beside}
-use Rattle.process.proofs.Executed.{done_killing, done_pending, fault_killing, fault_pending}
+use Rattle.process.proofs.ExecEvent.{done_killing, done_pending, fault_killing, fault_pending}
 use Rattle.process.proofs.HartEvents.{killing_own, pending_own}
-use Rattle.process.proofs.Places.{events_fit, goes_on, hart_is, ran_fits, was_not_stuck}
-use Rattle.process.proofs.Signalled.{entry_runs, held_at, planned_fault, posted_handler}
+use Rattle.process.proofs.Places.{goes_on, hart_is, ran_fits, was_not_stuck}
+use Rattle.process.proofs.SignalsOfHarts.{entry_runs, held_named, planned_fault, posted_handler}
 use Rattle.process.proofs.parts.Parts.fault.Goals as goal
 
 pub overflow_add-state : goal.overflow_add-state
 overflow_add-state c = let plan = c.requires.1 in let few = ran_fits plan.seen c.args.self.now c.args.hart.0 c.index_mut-state.result.now plan.place c.index_mut-state.ensures.value in omega (arith, few)
 
-pub overflow_add-state-2 : goal.overflow_add-state-2
-overflow_add-state-2 c = let plan = c.requires.1 in let few = events_fit plan.seen c.args.self.now c.args.hart.0 c.index_mut-state.result.now plan.place c.index_mut-state.ensures.value in omega (arith, few)
-
 pub has_handler-requires-clause-held : goal.has_handler-requires-clause-held
 has_handler-requires-clause-held c =
     let plan = c.requires.1 in
-    let m = c.args.self.now in
-    let x = c.index_mut-state.result.now in
-    ap (λ t. is_held t m.kernel.signals) (entry_runs plan.seen m c.args.hart Exec plan.plan.thread x c.entry_of-entry.result plan.place plan.plan.at c.index_mut-state.ensures.value c.entry_of-entry.ensures)
-    ∙ held_at plan.seen m c.args.hart.0 plan.plan.thread plan.place plan.plan.at
+    held_named plan.seen c.args.self.now c.args.hart kind.Exec plan.plan.thread c.index_mut-state.result.now c.entry_of-entry.result plan.place plan.plan.at c.index_mut-state.ensures.value c.entry_of-entry.ensures
 
 pub has_handler-requires-clause-lowest : goal.has_handler-requires-clause-lowest
 has_handler-requires-clause-lowest c = let plan = c.requires.1 in (planned_fault plan.seen c.args.hart.0 _ plan.plan).0
@@ -39,10 +35,7 @@ has_handler-requires-clause-highest c = let plan = c.requires.1 in (planned_faul
 pub post-requires-clause-held : goal.post-requires-clause-held
 post-requires-clause-held c =
     let plan = c.requires.1 in
-    let m = c.args.self.now in
-    let x = c.index_mut-state.result.now in
-    ap (λ t. is_held t m.kernel.signals) (entry_runs plan.seen m c.args.hart Exec plan.plan.thread x c.entry_of-entry.result plan.place plan.plan.at c.index_mut-state.ensures.value c.entry_of-entry.ensures)
-    ∙ held_at plan.seen m c.args.hart.0 plan.plan.thread plan.place plan.plan.at
+    held_named plan.seen c.args.self.now c.args.hart kind.Exec plan.plan.thread c.index_mut-state.result.now c.entry_of-entry.result plan.place plan.plan.at c.index_mut-state.ensures.value c.entry_of-entry.ensures
 
 pub post-requires-clause-lowest : goal.post-requires-clause-lowest
 post-requires-clause-lowest c = let plan = c.requires.1 in (planned_fault plan.seen c.args.hart.0 _ plan.plan).0
@@ -51,58 +44,54 @@ pub post-requires-clause-highest : goal.post-requires-clause-highest
 post-requires-clause-highest c = let plan = c.requires.1 in (planned_fault plan.seen c.args.hart.0 _ plan.plan).1
 
 pub returns-then-has_handler : goal.returns-then-has_handler
-returns-then-has_handler c effect = record {
-  entry = λ v place plan. c.entry_of-entry.ensures ∙ entry_exec _ v.setting (plain_seen v) c.args.hart c.index_mut-state.result.now (hart_is v c.args.self.now c.args.hart.0 c.index_mut-state.result.now place c.index_mut-state.ensures.value);
-  after = λ v place plan.
-      let h = c.args.hart.0 in
-      let m = c.args.self.now in
-      let x = c.index_mut-state.result.now in
-      let s = c.args.signal in
-      let t = plan.thread in
-      let here = here_of v h in
-      let e = c.entry_of-entry.result in
-      let its = entry_runs v m c.args.hart Exec t x e place plan.at c.index_mut-state.ensures.value c.entry_of-entry.ensures in
-      let has : has_handler_in e.tid.0 s m.kernel.signals ≡ true = sym c.has_handler.ensures ∙ c.if-has_handler.true in
-      let handler = (and_parts (not (has_signal (mask_of e.tid.0 m.kernel.signals) s)) (is_handler (action_of s m.kernel.signals)) has).1 in
-      let has_here : has_handler here t s ≡ true =
-      sym (ap (λ n. has_handler_in n s m.kernel.signals) its ∙ ap (has_handler_in t s) place.tied.tables.signals) ∙ has in
-      changed_as v h asked.Exec (fault_pending here t s) m _ _ place plan.free (done_pending here t s plan.at (sym plan.fault) has_here) (record {
-        own = pending_own _ v.setting (plain_seen v) h t s x _ (hart_is v m h x place c.index_mut-state.ensures.value) refl;
-        harts = none_beside h (fault_pending here t s) _ (record { none_begun = refl; none_taken = refl }) refl;
-        pages = place.tied.pages;
-        readable = place.tied.readable;
-        tables = holds_signals place.tied.tables c.post.new.self (with_pending t s (plain_seen v).kernel.signals)
-            (c.post.ensures ∙ posted_handler e.tid.0 s m.kernel.signals handler ∙ ap (λ n. with_pending n s m.kernel.signals) its ∙ ap (with_pending t s) place.tied.tables.signals);
-        ids = λ k u ne runs. refl;
-        table = place.tied.table;
-        saved = place.tied.saved;
-        ended = goes_on v m h (signalled (with_pending t s (plain_seen v).kernel.signals) (plain_seen v).kernel) place (was_not_stuck v m h place);
-      });
-}
+returns-then-has_handler c effect v place plan =
+    let h = c.args.hart.0 in
+    let m = c.args.self.now in
+    let x = c.index_mut-state.result.now in
+    let s = c.args.signal in
+    let z : HartState = record x { ran = x.ran + 1 } in
+    let t = plan.thread in
+    let here = here_of v h in
+    let e = c.entry_of-entry.result in
+    let its = entry_runs v m c.args.hart kind.Exec t x e place plan.at c.index_mut-state.ensures.value c.entry_of-entry.ensures in
+    let has : has_handler_in e.tid.0 s m.kernel.signals ≡ true = sym c.has_handler.ensures ∙ c.if-has_handler.true in
+    let handler = (and_parts (not (has_signal (mask_of e.tid.0 m.kernel.signals) s)) (is_handler (action_of s m.kernel.signals)) has).1 in
+    let has_here : has_handler here t s ≡ true =
+    sym (ap (λ n. has_handler_in n s m.kernel.signals) its ∙ ap (has_handler_in t s) place.tied.tables.signals) ∙ has in
+    uncounted_as v h asked.Exec (fault_pending here t s) m _ z place plan.free (done_pending here t s plan.at (sym plan.fault) has_here) (record {
+      own = pending_own _ v.setting (plain_seen v) h t s x (counted z) (hart_is v m h x place c.index_mut-state.ensures.value) refl;
+      harts = none_beside h (fault_pending here t s) _ (record { none_begun = refl; none_taken = refl }) refl;
+      pages = place.tied.pages;
+      readable = place.tied.readable;
+      tables = holds_signals place.tied.tables c.post.new.self (with_pending t s (plain_seen v).kernel.signals)
+          (c.post.ensures ∙ posted_handler e.tid.0 s m.kernel.signals handler ∙ ap (λ n. with_pending n s m.kernel.signals) its ∙ ap (with_pending t s) place.tied.tables.signals);
+      ids = λ k u ne runs. refl;
+      table = place.tied.table;
+      saved = place.tied.saved;
+      ended = goes_on v m h (signalled (with_pending t s (plain_seen v).kernel.signals) (plain_seen v).kernel) place (was_not_stuck v m h place);
+    })
 
 pub returns-else-has_handler : goal.returns-else-has_handler
-returns-else-has_handler c effect = record {
-  entry = λ v place plan. c.entry_of-entry.ensures ∙ entry_exec _ v.setting (plain_seen v) c.args.hart c.index_mut-state.result.now (hart_is v c.args.self.now c.args.hart.0 c.index_mut-state.result.now place c.index_mut-state.ensures.value);
-  after = λ v place plan.
-      let h = c.args.hart.0 in
-      let m = c.args.self.now in
-      let x = c.index_mut-state.result.now in
-      let s = c.args.signal in
-      let t = plan.thread in
-      let here = here_of v h in
-      let e = c.entry_of-entry.result in
-      let its = entry_runs v m c.args.hart Exec t x e place plan.at c.index_mut-state.ensures.value c.entry_of-entry.ensures in
-      let lacks_here : has_handler here t s ≡ false =
-      sym (c.has_handler.ensures ∙ ap (λ n. has_handler_in n s m.kernel.signals) its ∙ ap (has_handler_in t s) place.tied.tables.signals) ∙ c.if-has_handler.false in
-      changed_as v h asked.Exec (fault_killing here s) m _ _ place plan.free (done_killing here t s plan.at (sym plan.fault) lacks_here) (record {
-        own = killing_own _ v.setting (plain_seen v) h s x _ (hart_is v m h x place c.index_mut-state.ensures.value) refl;
-        harts = none_beside h (fault_killing here s) _ (record { none_begun = refl; none_taken = refl }) refl;
-        pages = place.tied.pages;
-        readable = place.tied.readable;
-        tables = place.tied.tables;
-        ids = λ k u ne runs. refl;
-        table = place.tied.table;
-        saved = place.tied.saved;
-        ended = refl;
-      });
-}
+returns-else-has_handler c effect v place plan =
+    let h = c.args.hart.0 in
+    let m = c.args.self.now in
+    let x = c.index_mut-state.result.now in
+    let s = c.args.signal in
+    let z : HartState = record x { ran = x.ran + 1 } in
+    let t = plan.thread in
+    let here = here_of v h in
+    let e = c.entry_of-entry.result in
+    let its = entry_runs v m c.args.hart kind.Exec t x e place plan.at c.index_mut-state.ensures.value c.entry_of-entry.ensures in
+    let lacks_here : has_handler here t s ≡ false =
+    sym (c.has_handler.ensures ∙ ap (λ n. has_handler_in n s m.kernel.signals) its ∙ ap (has_handler_in t s) place.tied.tables.signals) ∙ c.if-has_handler.false in
+    uncounted_as v h asked.Exec (fault_killing here s) m _ z place plan.free (done_killing here t s plan.at (sym plan.fault) lacks_here) (record {
+      own = killing_own _ v.setting (plain_seen v) h s x (counted z) (hart_is v m h x place c.index_mut-state.ensures.value) refl;
+      harts = none_beside h (fault_killing here s) _ (record { none_begun = refl; none_taken = refl }) refl;
+      pages = place.tied.pages;
+      readable = place.tied.readable;
+      tables = place.tied.tables;
+      ids = λ k u ne runs. refl;
+      table = place.tied.table;
+      saved = place.tied.saved;
+      ended = refl;
+    })

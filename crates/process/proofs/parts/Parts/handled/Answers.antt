@@ -4,8 +4,8 @@ use Rattle.std.proofs.Math.Path.{fun_ext}
 use Rattle.mach_types.specs.Kernel.Signals.{is_held}
 use Rattle.mach_types.specs.declared.threads.Saved.{Saved}
 use Rattle.sys_calls.specs.declared.kernel.Kernel.{Kernel}
-use Rattle.process.proofs.Delivery.{IsHalfway, delivered_by, held_taken}
-use Rattle.process.proofs.Interrupting.{is_fatal}
+use Rattle.process.proofs.SignalDelivery.{IsHalfway, delivered_by, held_taken}
+use Rattle.process.proofs.Interruptions.{is_fatal}
 use Rattle.process.proofs.parts.Parts.handled.Goals as goal
 
 pub enter_unless_killed-requires : goal.enter_unless_killed-requires

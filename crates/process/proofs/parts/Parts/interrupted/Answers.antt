@@ -1,4 +1,4 @@
-use Rattle.process.proofs.Interrupting.{clearing, written_by}
+use Rattle.process.proofs.Interruptions.{clearing, written_by}
 use Rattle.mach_types.specs.Kernel.Areas.{writes_of}
 use Rattle.process.proofs.parts.Parts.interrupted.Goals as goal
 

@@ -6,7 +6,8 @@ use Rattle.block_model.specs.Calls.Memory.{lies_waiting_on, taken_by}
 use Rattle.block_model.specs.Plain.{here_in_plain}
 use Rattle.process.specs.Harts.{file_on}
 use Rattle.process.specs.Holding.{lies_in}
-use Rattle.process.proofs.HeldPages.{hart_tied, held_is}
+use Rattle.process.proofs.HartStates.{hart_tied}
+use Rattle.process.proofs.ExecGates.{held_is}
 use Rattle.process.proofs.parts.Parts.is_held.Goals as goal
 
 pub returns-then-is_inside : goal.returns-then-is_inside

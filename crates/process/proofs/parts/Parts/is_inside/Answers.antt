@@ -6,7 +6,7 @@ use Rattle.hart_state.specs.declared.hart.HartState.{HartState}
 use Rattle.block_model.specs.Plain.{here_in_plain}
 use Rattle.block_model.specs.Sequences.{named_here}
 use Rattle.process.specs.Harts.{file_on}
-use Rattle.process.proofs.HeldPages.{hart_tied}
+use Rattle.process.proofs.HartStates.{hart_tied}
 use Rattle.process.proofs.parts.Parts.is_inside.Goals as goal
 
 pub returns-in-Good : goal.returns-in-Good

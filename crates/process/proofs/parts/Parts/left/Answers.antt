@@ -1,4 +1,4 @@
-use Rattle.std.proofs.Common.{◌≡◌, Some, ◌+◌, arith, refl, ap, ◌∙◌}
+use Rattle.std.proofs.Common.{Some, ◌+◌, refl, ap, ◌∙◌}
 use Rattle.mach_types.specs.declared.events.Choice.TheVariants as asked
 use Rattle.mach_types.specs.declared.threads.ThreadState.TheVariants.{Ready}
 use Rattle.hart_state.specs.declared.hart.HartState.{HartState}
@@ -6,20 +6,16 @@ use Rattle.block_model.specs.Kernel.{left}
 use Rattle.block_model.specs.Events.Preempt.{done_preempt_by}
 use Rattle.block_model.specs.Plain.{here_of, plain_seen}
 use Rattle.sys_calls.proofs.Laws.{holds_left}
-use Rattle.process.proofs.Entries.{changed_as, entry_preempt}
+use Rattle.process.specs.Harts.{counted}
+use Rattle.process.proofs.Entries.{uncounted_as}
 use Rattle.process.proofs.Events.{none_beside}
 use Rattle.process.proofs.HartEvents.{preempt_own}
-use Rattle.process.proofs.Ids.{id_without_other, others_apart}
-use Rattle.process.proofs.KernelTies.{saved_left}
-use Rattle.process.proofs.Leaving.{leaving}
-use Rattle.process.proofs.NotStuck.{not_stuck}
-use Rattle.process.proofs.Places.{events_fit, goes_on, hart_is, tables_at}
+use Rattle.process.proofs.ConcurrencyIds.{id_without_other, others_apart}
+use Rattle.process.proofs.SavedFiles.{saved_left}
+use Rattle.process.proofs.PreemptEvent.{leaving}
+use Rattle.process.proofs.StuckProcess.{not_stuck}
+use Rattle.process.proofs.Places.{goes_on, tables_at}
 use Rattle.process.proofs.parts.Parts.left.Goals as goal
-
-pub overflow_add-state : goal.overflow_add-state
-overflow_add-state c =
-    let few = events_fit c.requires.seen c.args.self.now c.args.hart.0 c.index_mut-state.result.now c.requires.place c.index_mut-state.ensures.value in
-    let same : c.leave-saved.new.self.events ≡ c.index_mut-state.result.now.events = ap (λ (z : HartState). z.events) c.leave-saved.ensures.hart in omega (arith, few, same)
 
 pub leave-requires : goal.leave-requires
 leave-requires c =
@@ -37,24 +33,21 @@ push-requires-clause-not_ready c =
     is.not_ready
 
 pub returns : goal.returns
-returns c = record {
-  entry = λ v place free. c.entry_of-entry.ensures ∙ entry_preempt _ v.setting (plain_seen v) c.args.hart c.index_mut-state.result.now (hart_is v c.args.self.now c.args.hart.0 c.index_mut-state.result.now place c.index_mut-state.ensures.value);
-  after = λ v place free.
-      let h = c.args.hart.0 in
-      let p = plain_seen v in
-      let x = c.index_mut-state.result.now in
-      let m = c.args.self.now in
-      let is = leaving v m c.args.hart x c.entry_of-entry.result place free c.index_mut-state.ensures.value c.entry_of-entry.ensures in
-      let t = c.entry_of-entry.result.tid.0 in
-      changed_as v h asked.Preempt (done_preempt_by (here_of v h) (Some t)) m _ _ place free (ap (done_preempt_by (here_of v h)) is.at) (record {
-        own = preempt_own _ v.setting p h t x _ is.own (tables_at v m h place) is.at (ap (λ (z : HartState). record z { events = z.events + 1 }) c.leave-saved.ensures.hart);
-        harts = none_beside h (done_preempt_by (here_of v h) (Some t)) _ (record { none_begun = refl; none_taken = refl }) refl;
-        pages = place.tied.pages;
-        readable = place.tied.readable;
-        tables = holds_left place.tied.tables t c.leave.new.self c.push.new.self c.leave.ensures.threads c.push.ensures;
-        ids = λ k u ne runs. id_without_other t u p.kernel.ids (others_apart v.setting.limits.harts h k t u p.kernel.threads p.kernel.scheduling (tables_at v m h place) is.at runs ne);
-        table = c.leave.ensures.table;
-        saved = saved_left p.file t c.leave-saved.result m.kernel.threads c.leave.new.self c.leave.ensures.saved (c.leave-saved.ensures.file ∙ is.file) place.tied.saved;
-        ended = goes_on v m h (left t p.kernel) place (not_stuck t Ready p.kernel.threads refl is.live);
-      });
-}
+returns c v place free =
+    let h = c.args.hart.0 in
+    let p = plain_seen v in
+    let x = c.index_mut-state.result.now in
+    let m = c.args.self.now in
+    let is = leaving v m c.args.hart x c.entry_of-entry.result place free c.index_mut-state.ensures.value c.entry_of-entry.ensures in
+    let t = c.entry_of-entry.result.tid.0 in
+    uncounted_as v h asked.Preempt (done_preempt_by (here_of v h) (Some t)) m _ c.leave-saved.new.self place free (ap (done_preempt_by (here_of v h)) is.at) (record {
+      own = preempt_own _ v.setting p h t x (counted c.leave-saved.new.self) is.own (tables_at v m h place) is.at (ap (λ (z : HartState). record z { events = z.events + 1 }) c.leave-saved.ensures.hart);
+      harts = none_beside h (done_preempt_by (here_of v h) (Some t)) _ (record { none_begun = refl; none_taken = refl }) refl;
+      pages = place.tied.pages;
+      readable = place.tied.readable;
+      tables = holds_left place.tied.tables t c.leave.new.self c.push.new.self c.leave.ensures.threads c.push.ensures;
+      ids = λ k u ne runs. id_without_other t u p.kernel.ids (others_apart v.setting.limits.harts h k t u p.kernel.threads p.kernel.scheduling (tables_at v m h place) is.at runs ne);
+      table = c.leave.ensures.table;
+      saved = saved_left p.file t c.leave-saved.result m.kernel.threads c.leave.new.self c.leave.ensures.saved (c.leave-saved.ensures.file ∙ is.file) place.tied.saved;
+      ended = goes_on v m h (left t p.kernel) place (not_stuck t Ready p.kernel.threads refl is.live);
+    })

@@ -2,8 +2,8 @@ use Rattle.std.proofs.Common.{sym, ap, ◌∙◌}
 use Rattle.block_model.specs.Here.{runs}
 use Rattle.block_model.specs.Plain.{here_in_plain}
 use Rattle.process.specs.Harts.{file_of}
-use Rattle.process.proofs.HeldPages.{hart_tied}
-use Rattle.process.proofs.Inside.{named_by, view_is}
+use Rattle.process.proofs.HartStates.{hart_tied}
+use Rattle.process.proofs.RestartableSequences.{named_by, view_is}
 use Rattle.process.proofs.parts.Parts.named.Goals as goal
 
 pub returns : goal.returns

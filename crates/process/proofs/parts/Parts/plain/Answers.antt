@@ -1,24 +1,23 @@
-use Rattle.std.proofs.Common.{refl, ◌≡◌, ◌+◌, List, [], ◌∷◌, eqb, arith, sym, ap, ◌∙◌, slice_get, set, subst}
+use Rattle.std.proofs.Common.{refl, ◌≡◌, ◌+◌, List, eqb, arith, sym, ap, ◌∙◌, slice_get, set, subst}
 use Rattle.std.specs.Option.{option_map}
-use Rattle.mach_types.specs.Bytes.{all_stored, written}
+use Rattle.mach_types.specs.Bytes.{all_stored}
 use Rattle.mach_types.specs.declared.events.Choice.TheVariants as asked
 use Rattle.mach_types.specs.declared.user_memory.Store.{Store}
-use Rattle.mach_types.specs.declared.user_memory.Write.{Write}
-use Rattle.mach_types.specs.declared.user_memory.Write.TheVariants.{Stored}
 use Rattle.rv_inst.specs.Execution.{Outcome}
 use Rattle.hart_state.specs.State.{hart_after, stores}
 use Rattle.hart_state.specs.declared.hart.HartState.{HartState}
 use Rattle.block_model.specs.Events.Exec.{by_outcome}
 use Rattle.block_model.specs.Plain.{here_of, plain_seen}
-use Rattle.sys_calls.specs.Made.{HoldsPages}
+use Rattle.process.specs.Harts.{counted}
 use Rattle.process.specs.Losing.{lost_unless}
-use Rattle.process.proofs.Entries.{changed_as, entry_exec}
-use Rattle.process.proofs.Events.{none_beside, quietly}
+use Rattle.process.specs.Stored.{IsWritten}
+use Rattle.process.proofs.Entries.{uncounted_as}
+use Rattle.process.proofs.Events.{quietly}
 use Rattle.process.proofs.HartEvents.{plain_own}
-use Rattle.process.proofs.KernelTies.{saved_plain}
-use Rattle.process.proofs.MemoryTies.{pages_written, readable_written}
-use Rattle.process.proofs.Performing.{may_perform, performing}
-use Rattle.process.proofs.Places.{events_fit, hart_is, ran_fits, runs_there}
+use Rattle.process.proofs.SavedFiles.{saved_plain}
+use Rattle.process.proofs.Memory.{pages_written, readable_written}
+use Rattle.process.proofs.PlainInstructions.{may_perform, performing}
+use Rattle.process.proofs.Places.{ran_fits, runs_there}
 use Rattle.process.proofs.parts.Parts.plain.Goals as goal
 
 pub execute-made-requires-clause-no_fault : goal.execute-made-requires-clause-no_fault
@@ -32,63 +31,29 @@ overflow_add-state c =
     let few = ran_fits plan.seen c.args.self.now c.args.hart.0 c.index_mut-state.result.now plan.place c.index_mut-state.ensures.value in
     let same : c.execute-made.new.self.ran ≡ c.index_mut-state.result.now.ran = ap (λ (z : HartState). z.ran) c.execute-made.ensures.hart in omega (arith, few, same)
 
-pub overflow_add-state-2 : goal.overflow_add-state-2
-overflow_add-state-2 c =
-    let plan = c.requires.plan in
-    let few = events_fit plan.seen c.args.self.now c.args.hart.0 c.index_mut-state.result.now plan.place c.index_mut-state.ensures.value in
-    let same : c.execute-made.new.self.events ≡ c.index_mut-state.result.now.events = ap (λ (z : HartState). z.events) c.execute-made.ensures.hart in omega (arith, few, same)
-
-pub returns-in-Some : goal.returns-in-Some
-returns-in-Some c = record {
-  entry = λ v place plan. c.entry_of-entry.ensures ∙ entry_exec _ v.setting (plain_seen v) c.args.hart c.index_mut-state.result.now (hart_is v c.args.self.now c.args.hart.0 c.index_mut-state.result.now place c.index_mut-state.ensures.value);
-  after = λ v place plan.
-      let h = c.args.hart.0 in
-      let m = c.args.self.now in
-      let x = c.index_mut-state.result.now in
-      let here = here_of v h in
-      let p = plain_seen v in
-      let t = plan.thread in
-      let w = c.in-Some.store in
-      let is = performing v m h x c.args.effect.now place plan c.requires.no_call c.index_mut-state.ensures.value in
-      let y : HartState = record c.execute-made.new.self { ran = c.execute-made.new.self.ran + 1; events = c.execute-made.new.self.events + 1 } in
-      let entered : is.outcome.entered ≡ w ∷ [] = ap (λ (o : Outcome). o.entered) (sym is.same) ∙ (c.execute-made.ensures.entered ∙ ap stores c.in-Some.is) in
-      changed_as v h asked.Exec (by_outcome here t is.outcome) m c.enter.new.self y place plan.free is.done (record {
-        own = plain_own _ v.setting p h t is.outcome x y is.own plan.at (ap (λ (z : HartState). record z { ran = z.ran + 1; events = z.events + 1 }) (c.execute-made.ensures.hart ∙ ap (hart_after x) is.same));
-        harts = quietly h (by_outcome here t is.outcome) (set m.harts.items h y) _ (record { none_begun = refl; none_taken = refl })
-            (λ k. c.enter.ensures.harts k ∙ ap (λ (ws : List Write). option_map (lost_unless (eqb k h) ws) (slice_get (set m.harts.items h y) k)) (sym (ap all_stored entered)));
-        pages = subst (λ (ws : List Store). HoldsPages p.kernel.pages v.setting.program.break_at (λ a. written (all_stored ws) a (p.byte a)) c.enter.new.self.pages) (sym entered)
-            (pages_written p.kernel.pages v.setting.program.break_at p.byte (Stored w ∷ []) m.pages c.enter.new.self.pages place.tied.pages c.enter.ensures.pages);
-        readable = readable_written (Stored w ∷ []) m.pages c.enter.new.self.pages place.tied.readable c.enter.ensures.pages;
-        tables = rw c.enter.ensures.kernel place.tied.tables;
-        ids = λ k u ne runs. refl;
-        saved = rw c.enter.ensures.kernel (saved_plain p.file t (record { file = is.outcome.regs; pc = is.outcome.pc }) c.args.hart m.kernel.threads place.tied.table (runs_there v m c.args.hart t place plan.at) place.tied.saved);
-        table = rw c.enter.ensures.kernel place.tied.table;
-        ended = c.enter.ensures.ended ∙ is.ended;
-      });
-}
-
-pub returns-in_default : goal.returns-in_default
-returns-in_default c = record {
-  entry = λ v place plan. c.entry_of-entry.ensures ∙ entry_exec _ v.setting (plain_seen v) c.args.hart c.index_mut-state.result.now (hart_is v c.args.self.now c.args.hart.0 c.index_mut-state.result.now place c.index_mut-state.ensures.value);
-  after = λ v place plan.
-      let h = c.args.hart.0 in
-      let m = c.args.self.now in
-      let x = c.index_mut-state.result.now in
-      let here = here_of v h in
-      let p = plain_seen v in
-      let t = plan.thread in
-      let is = performing v m h x c.args.effect.now place plan c.requires.no_call c.index_mut-state.ensures.value in
-      let y : HartState = record c.execute-made.new.self { ran = c.execute-made.new.self.ran + 1; events = c.execute-made.new.self.events + 1 } in
-      let entered : is.outcome.entered ≡ [] = ap (λ (o : Outcome). o.entered) (sym is.same) ∙ (c.execute-made.ensures.entered ∙ ap stores c.in_default.is) in
-      changed_as v h asked.Exec (by_outcome here t is.outcome) m _ y place plan.free is.done (record {
-        own = plain_own _ v.setting p h t is.outcome x y is.own plan.at (ap (λ (z : HartState). record z { ran = z.ran + 1; events = z.events + 1 }) (c.execute-made.ensures.hart ∙ ap (hart_after x) is.same));
-        harts = none_beside h (by_outcome here t is.outcome) _ (record { none_begun = refl; none_taken = refl }) (ap all_stored entered);
-        pages = subst (λ (ws : List Store). HoldsPages p.kernel.pages v.setting.program.break_at (λ a. written (all_stored ws) a (p.byte a)) m.pages) (sym entered) place.tied.pages;
-        readable = place.tied.readable;
-        tables = place.tied.tables;
-        ids = λ k u ne runs. refl;
-        saved = saved_plain p.file t (record { file = is.outcome.regs; pc = is.outcome.pc }) c.args.hart m.kernel.threads place.tied.table (runs_there v m c.args.hart t place plan.at) place.tied.saved;
-        table = place.tied.table;
-        ended = is.ended;
-      });
-}
+pub returns : goal.returns
+returns c v place plan =
+    let h = c.args.hart.0 in
+    let m = c.args.self.now in
+    let x = c.index_mut-state.result.now in
+    let here = here_of v h in
+    let p = plain_seen v in
+    let t = plan.thread in
+    let m' = c.enter_made.new.self in
+    let is = performing v m h x c.args.effect.now place plan c.requires.no_call c.index_mut-state.ensures.value in
+    let ws = all_stored is.outcome.entered in
+    let made : stores c.execute-made.result ≡ is.outcome.entered = sym c.execute-made.ensures.entered ∙ ap (λ (o : Outcome). o.entered) is.same in
+    let wrote : IsWritten ws m.pages m'.pages = subst (λ (ss : List Store). IsWritten (all_stored ss) m.pages m'.pages) made c.enter_made.ensures.pages in
+    let y : HartState = record c.execute-made.new.self { ran = c.execute-made.new.self.ran + 1 } in
+    uncounted_as v h asked.Exec (by_outcome here t is.outcome) m m' y place plan.free is.done (record {
+      own = plain_own _ v.setting p h t is.outcome x (counted y) is.own plan.at (ap (λ (z : HartState). record z { ran = z.ran + 1; events = z.events + 1 }) (c.execute-made.ensures.hart ∙ ap (hart_after x) is.same));
+      harts = quietly h (by_outcome here t is.outcome) (set m.harts.items h y) m'.harts.items (record { none_begun = refl; none_taken = refl })
+          (λ k. c.enter_made.ensures.harts k ∙ ap (λ (ss : List Store). option_map (lost_unless (eqb k h) (all_stored ss)) (slice_get (set m.harts.items h y) k)) made);
+      pages = pages_written p.kernel.pages v.setting.program.break_at p.byte ws m.pages m'.pages place.tied.pages wrote;
+      readable = readable_written ws m.pages m'.pages place.tied.readable wrote;
+      tables = rw c.enter_made.ensures.kernel place.tied.tables;
+      ids = λ k u ne runs. refl;
+      saved = rw c.enter_made.ensures.kernel (saved_plain p.file t (record { file = is.outcome.regs; pc = is.outcome.pc }) c.args.hart m.kernel.threads place.tied.table (runs_there v m c.args.hart t place plan.at) place.tied.saved);
+      table = rw c.enter_made.ensures.kernel place.tied.table;
+      ended = c.enter_made.ensures.ended ∙ is.ended;
+    })

@@ -4,7 +4,7 @@ use Rattle.block_model.specs.Plain.{here_of, plain_seen}
 use Rattle.process.specs.Harts.{credit_of}
 use Rattle.process.specs.Holding.{IsNextAt}
 use Rattle.process.proofs.Places.{bytes_at, hart_is, in_list, writable_at}
-use Rattle.process.proofs.Planning.{next_at, planned}
+use Rattle.process.proofs.NextInstruction.{next_at, planned}
 use Rattle.process.proofs.parts.Parts.planned.Goals as goal
 
 pub exec_gate-requires : goal.exec_gate-requires

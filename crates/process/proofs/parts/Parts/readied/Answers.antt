@@ -3,7 +3,7 @@ use Rattle.std.proofs.Math.Path.{fun_ext}
 use Rattle.mach_types.specs.declared.threads.Saved.{Saved}
 use Rattle.page_map.specs.Map.{can_write_in}
 use Rattle.block_model.specs.Here.{is_writable}
-use Rattle.process.proofs.Interrupting.{is_fatal, readied_told}
+use Rattle.process.proofs.Interruptions.{is_fatal, readied_told}
 use Rattle.process.proofs.parts.Parts.readied.Goals as goal
 
 pub returns-in-Nothing : goal.returns-in-Nothing

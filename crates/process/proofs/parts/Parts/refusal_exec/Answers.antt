@@ -4,7 +4,7 @@ use Rattle.block_model.specs.Plain.{here_of, plain_seen}
 use Rattle.process.specs.Harts.{credit_of}
 use Rattle.process.specs.Holding.{IsNextAt}
 use Rattle.process.proofs.Places.{bytes_at, hart_is, writable_at}
-use Rattle.process.proofs.Planning.{next_at}
+use Rattle.process.proofs.NextInstruction.{next_at}
 use Rattle.process.proofs.parts.Parts.refusal_exec.Goals as goal
 
 pub returns : goal.returns

@@ -1,11 +1,10 @@
 -- Why no signal is delivered to the thread on a hart.
-use Rattle.std.proofs.Common.{◌≡◌, ◌≢◌, length, rules, sym, ap, ◌∙◌, true, false, cond, Some, is_some}
-use Rattle.mach_types.specs.declared.events.Why.TheVariants.{Idle, InBarrier, NoSignal}
-use Rattle.block_model.specs.Events.Preempt.{unless_waiting}
+use Rattle.std.proofs.Common.{◌≡◌, ◌≢◌, length, rules, refl, sym, ◌∙◌, true, false, is_some}
 use Rattle.block_model.specs.Plain.{here_of, plain_seen}
+use Rattle.process.specs.Delivering.{next_on}
 use Rattle.process.proofs.Places.{hart_is}
-use Rattle.process.proofs.SignalEvent.{no_store, refusal_as, refusal_idle, refusal_in_barrier, some_store}
-use Rattle.process.proofs.Signalled.{has_signals}
+use Rattle.process.proofs.SignalEvent.{no_store, refusal_as, some_store}
+use Rattle.process.proofs.SignalsOfHarts.{has_signals}
 use Rattle.process.proofs.parts.Parts.refusal_signal.Goals as goal
 
 pub deliverable-requires-clause-held : goal.deliverable-requires-clause-held
@@ -17,49 +16,42 @@ pub returns-then-is_idle : goal.returns-then-is_idle
 returns-then-is_idle c v place =
     let h = c.args.hart.0 in
     let x = c.index-state.result.now in
-    sym (refusal_idle (here_of v h) x _ _ _ c.is_idle.result (hart_is v c.args.self.now h x place c.index-state.ensures) c.is_idle.ensures c.if-is_idle.true)
+    let is = refusal_as (here_of v h) x _ _ _ c.is_idle.result (next_on (here_of v h)) (hart_is v c.args.self.now h x place c.index-state.ensures) c.is_idle.ensures refl in
+    sym (is ∙ rw c.if-is_idle.true refl)
 
 pub returns-then-is_some : goal.returns-then-is_some
 returns-then-is_some c v place =
     let h = c.args.hart.0 in
     let x = c.index-state.result.now in
+    let is = refusal_as (here_of v h) x _ _ _ c.is_idle.result (next_on (here_of v h)) (hart_is v c.args.self.now h x place c.index-state.ensures) c.is_idle.ensures refl in
     let in_barrier : is_some x.waits ≡ true = search rules in
-    sym (refusal_in_barrier (here_of v h) x _ _ _ c.is_idle.result (hart_is v c.args.self.now h x place c.index-state.ensures) c.is_idle.ensures c.if-is_idle.false in_barrier)
+    sym (is ∙ rw (c.if-is_idle.false, in_barrier) refl)
 
 pub returns-then-is_none : goal.returns-then-is_none
 returns-then-is_none c v place =
     let h = c.args.hart.0 in
     let x = c.index-state.result.now in
-    let is = refusal_as (here_of v h) x _ _ _ c.is_idle.result c.deliverable.result (hart_is v c.args.self.now h x place c.index-state.ensures) c.is_idle.ensures
-    (c.deliverable.ensures v.setting (plain_seen v) place.tied place.lt) in
+    let is = refusal_as (here_of v h) x _ _ _ c.is_idle.result c.deliverable.result (hart_is v c.args.self.now h x place c.index-state.ensures) c.is_idle.ensures (c.deliverable.ensures v.setting (plain_seen v) place.tied place.lt) in
     let free : is_some x.waits ≡ false = search rules in
     let none : is_some c.deliverable.result ≡ false = search rules in
-    sym (is ∙ ap (λ b. cond b (Some Idle) (cond (is_some x.waits) (Some InBarrier) (cond (is_some c.deliverable.result) (unless_waiting x.buffer) (Some NoSignal)))) c.if-is_idle.false
-    ∙ ap (λ b. cond b (Some InBarrier) (cond (is_some c.deliverable.result) (unless_waiting x.buffer) (Some NoSignal))) free
-    ∙ ap (λ b. cond b (unless_waiting x.buffer) (Some NoSignal)) none)
+    sym (is ∙ rw (c.if-is_idle.false, free, none) refl)
 
 pub returns-then-len-ne0 : goal.returns-then-len-ne0
 returns-then-len-ne0 c v place =
     let h = c.args.hart.0 in
     let x = c.index-state.result.now in
-    let is = refusal_as (here_of v h) x _ _ _ c.is_idle.result c.deliverable.result (hart_is v c.args.self.now h x place c.index-state.ensures) c.is_idle.ensures
-    (c.deliverable.ensures v.setting (plain_seen v) place.tied place.lt) in
+    let is = refusal_as (here_of v h) x _ _ _ c.is_idle.result c.deliverable.result (hart_is v c.args.self.now h x place c.index-state.ensures) c.is_idle.ensures (c.deliverable.ensures v.setting (plain_seen v) place.tied place.lt) in
     let free : is_some x.waits ≡ false = search rules in
     let some : is_some c.deliverable.result ≡ true = search rules in
     let waits : length x.buffer ≢ 0 = search rules in
-    sym (is ∙ ap (λ b. cond b (Some Idle) (cond (is_some x.waits) (Some InBarrier) (cond (is_some c.deliverable.result) (unless_waiting x.buffer) (Some NoSignal)))) c.if-is_idle.false
-    ∙ ap (λ b. cond b (Some InBarrier) (cond (is_some c.deliverable.result) (unless_waiting x.buffer) (Some NoSignal))) free
-    ∙ ap (λ b. cond b (unless_waiting x.buffer) (Some NoSignal)) some ∙ some_store x.buffer waits)
+    sym (is ∙ rw (c.if-is_idle.false, free, some) (some_store x.buffer waits))
 
 pub returns-else-len-ne0 : goal.returns-else-len-ne0
 returns-else-len-ne0 c v place =
     let h = c.args.hart.0 in
     let x = c.index-state.result.now in
-    let is = refusal_as (here_of v h) x _ _ _ c.is_idle.result c.deliverable.result (hart_is v c.args.self.now h x place c.index-state.ensures) c.is_idle.ensures
-    (c.deliverable.ensures v.setting (plain_seen v) place.tied place.lt) in
+    let is = refusal_as (here_of v h) x _ _ _ c.is_idle.result c.deliverable.result (hart_is v c.args.self.now h x place c.index-state.ensures) c.is_idle.ensures (c.deliverable.ensures v.setting (plain_seen v) place.tied place.lt) in
     let free : is_some x.waits ≡ false = search rules in
     let some : is_some c.deliverable.result ≡ true = search rules in
     let empty : length x.buffer ≡ 0 = search rules in
-    sym (is ∙ ap (λ b. cond b (Some Idle) (cond (is_some x.waits) (Some InBarrier) (cond (is_some c.deliverable.result) (unless_waiting x.buffer) (Some NoSignal)))) c.if-is_idle.false
-    ∙ ap (λ b. cond b (Some InBarrier) (cond (is_some c.deliverable.result) (unless_waiting x.buffer) (Some NoSignal))) free
-    ∙ ap (λ b. cond b (unless_waiting x.buffer) (Some NoSignal)) some ∙ no_store x.buffer empty)
+    sym (is ∙ rw (c.if-is_idle.false, free, some) (no_store x.buffer empty))

@@ -1,26 +1,23 @@
 -- A hart takes its requests.
 use Rattle.std.proofs.Common.{ap, ◌∙◌}
-use Rattle.block_model.specs.Plain.{plain_seen}
+use Rattle.block_model.specs.Events.Take.{done_take}
+use Rattle.block_model.specs.Plain.{here_of}
 use Rattle.process.specs.Barriers.{ended_by}
-use Rattle.process.proofs.Entries.{entry_take}
-use Rattle.process.proofs.Places.{hart_is}
-use Rattle.process.proofs.TakeEvent.{counted, taken_event}
+use Rattle.process.proofs.Places.{still_there}
+use Rattle.process.proofs.TakeEvent.{taken_event}
 use Rattle.process.proofs.parts.Parts.taken.Goals as goal
 
-pub end_take-requires-clause-counted : goal.end_take-requires-clause-counted
-end_take-requires-clause-counted c =
+pub end_take-requires-clause-listed : goal.end_take-requires-clause-listed
+end_take-requires-clause-listed c =
     let v = c.requires.seen in
     let place = c.requires.place in
-    counted v c.args.self.now c.args.hart place c.requires.free c.restarted-came.new.self c.restarted-came.result (c.restarted-came.ensures.restarted v place)
+    still_there v c.args.self.now c.args.hart.0 (done_take (here_of v c.args.hart.0)).entered c.restarted-came.new.self.harts.items place (c.restarted-came.ensures.restarted v place).harts
 
 pub returns : goal.returns
-returns c = record {
-  entry = λ v place free. c.entry_of-entry.ensures ∙ entry_take _ v.setting (plain_seen v) c.args.hart c.index.result.now (hart_is v c.args.self.now c.args.hart.0 c.index.result.now place c.index.ensures);
-  after = λ v place free. taken_event v c.args.self.now c.args.hart place free c.restarted-came.result c.restarted-came.new.self c.end_take.new.self (record {
-    restarted = c.restarted-came.ensures.restarted v place;
-    harts = c.end_take.ensures.harts;
-    same_pages = c.end_take.ensures.pages;
-    same_kernel = c.end_take.ensures.kernel ∙ c.restarted-came.ensures.kernel;
-    ended = c.end_take.ensures.ended ∙ ap (ended_by c.restarted-came.result) c.restarted-came.ensures.ended;
-  });
-}
+returns c v place free = taken_event v c.args.self.now c.args.hart place free c.restarted-came.result c.restarted-came.new.self c.end_take.new.self (record {
+  restarted = c.restarted-came.ensures.restarted v place;
+  harts = c.end_take.ensures.harts;
+  same_pages = c.end_take.ensures.pages;
+  same_kernel = c.end_take.ensures.kernel ∙ c.restarted-came.ensures.kernel;
+  ended = c.end_take.ensures.ended ∙ ap (ended_by c.restarted-came.result) c.restarted-came.ensures.ended;
+})

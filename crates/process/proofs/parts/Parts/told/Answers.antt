@@ -5,7 +5,7 @@ use Rattle.mach_types.specs.Kernel.Areas.{Words, words_entered, words_on}
 use Rattle.mach_types.specs.declared.user_memory.Write.{Write}
 use Rattle.page_map.specs.Map.{byte_in}
 use Rattle.process.specs.Losing.{lost_unless}
-use Rattle.process.proofs.Interrupting.{lost_nothing, told_all, told_answer, told_none, told_pages, words_visible}
+use Rattle.process.proofs.Interruptions.{lost_nothing, told_all, told_answer, told_none, told_pages, words_visible}
 use Rattle.process.proofs.parts.Parts.told.Goals as goal
 
 pub returns-then-not-set_cpu-clause-answer : goal.returns-then-not-set_cpu-clause-answer

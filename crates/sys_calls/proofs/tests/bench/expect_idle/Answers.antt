@@ -1,5 +1,5 @@
 use Rattle.std.proofs.Common.{◌+◌, ◌≤◌, arith}
-use Rattle.sys_calls.proofs.Running.{idle_among}
+use Rattle.sys_calls.proofs.RunningThreads.{idle_among}
 use Rattle.sys_calls.proofs.tests.bench.expect_idle.Goals as goal
 
 pub returns : goal.returns

@@ -1,6 +1,6 @@
 -- A hart on which none of the threads runs is idle.
 use Rattle.std.proofs.Common.{◌+◌, ◌≤◌, ℕ, Option, is_some, sym, ap, arith}
-use Rattle.sys_calls.proofs.Running.{idle_among}
+use Rattle.sys_calls.proofs.RunningThreads.{idle_among}
 use Rattle.sys_calls.proofs.tests.bench.is_busy.Goals as goal
 
 pub returns : goal.returns

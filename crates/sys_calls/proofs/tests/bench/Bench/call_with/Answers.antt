@@ -1,5 +1,5 @@
 -- The thread is the one of its hart.
-use Rattle.sys_calls.proofs.Running.{running_there}
+use Rattle.block_model.proofs.Laws.{running_there}
 use Rattle.sys_calls.proofs.tests.bench.Bench.call_with.Goals as goal
 
 pub make_call-requires-clause-runs : goal.make_call-requires-clause-runs

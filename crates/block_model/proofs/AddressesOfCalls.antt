@@ -1,0 +1,173 @@
+-- What each call of the table leaves, whether its thread runs or not: files whose pc is below 2^64 and handlers that lie there where
+-- it was so before, an end that isn't the end of a script, and a live thread where it didn't end the process.
+use Rattle.std.proofs.Common.{◌≡◌, ℕ, ◌+◌, ◌<◌, ◌≤◌, List, [], ◌∷◌, length, map, filter, refl, sym, ◌∙◌, subst, Bool, true, false, not, cond, eqb, None, arith}
+use Rattle.std.specs.List.{AllByRecursion}
+use Rattle.std.specs.List.Sorted.{IsStrictlyIncreasing}
+use Rattle.std.proofs.lemmas.Bool.Decides.{nat_tests}
+use Rattle.std.proofs.lemmas.List.{length-map, length_push}
+use Rattle.mach_types.specs.declared.threads.Saved.{Saved}
+use Rattle.mach_types.specs.declared.threads.ThreadState.TheVariants.{Ready, Waiting}
+use Rattle.block_model.specs.Record.{Kernel}
+use Rattle.mach_types.specs.Kernel.Threads.{Thread, clear_if, clear_of, is_thread, new_thread, numbers, state_if}
+use Rattle.rv_inst.specs.Words.{sum_64}
+use Rattle.block_model.specs.Here.{Here}
+use Rattle.block_model.specs.Kernel.{cleared, had_child, left, next_number, restricted, signalled, waited, woken}
+use Rattle.block_model.specs.Calls.{called}
+use Rattle.block_model.specs.Calls.Answers.{CallDone, argument}
+use Rattle.block_model.specs.Calls.Cloning.{clone_child_cleartid, has_flag}
+use Rattle.block_model.specs.Calls.Ending.{clears, woken_at_exit}
+use Rattle.block_model.specs.Calls.Futexes.{answered_wait, wake}
+use Rattle.block_model.proofs.Images.{frame_small}
+use Rattle.block_model.proofs.CallEffects.{Answers, Bears, Begins, Breaks, CallDeed, Clears, Ends, Exits, Leaves, MovesOff, Resumes, Says, Signalled, TableStep, Waits, Wakes}
+pub use Rattle.block_model.proofs.CallEffects.{AllStand, NotOpen}
+use Rattle.block_model.proofs.CallEffects.EachCall.{deed_called}
+use Rattle.block_model.proofs.PlaceInvariant.{IsSound}
+use Rattle.block_model.proofs.Invariants.Calls.Futexes.{kept_wake, wake_keeps}
+use Rattle.block_model.proofs.Pcs.{StandsIn, in_word}
+use Rattle.block_model.proofs.SignalTables.{HandlersStand}
+
+abbrev pub FilesStand : List (ℕ × Saved) → Type 0
+FilesStand files = AllByRecursion (λ (p : ℕ × Saved). StandsIn p.1) files
+
+-- some thread is live
+abbrev pub SomeLive : Kernel → Type 0
+SomeLive k = 0 < length k.threads.live
+
+-- how many are
+abbrev lives : Kernel → ℕ
+lives k = length k.threads.live
+
+pub record IsProperCall (here : Here) (c : CallDone) : Type 0 where
+  pub files : AllStand here → FilesStand c.files
+  pub handlers : AllStand here → HandlersStand c.kernel.signals
+  pub ended : NotOpen c.ended
+  pub live : IsSound here.setting here.kernel → SomeLive here.kernel → c.ended ≡ None
+      → SomeLive c.kernel
+
+pub not_ended : NotOpen None
+not_ended is = absurd cc
+
+-- steps of the record that keep how many threads are live
+left_lives : (t : ℕ) (k : Kernel) → lives (left t k) ≡ lives k
+left_lives t k = length-map k.threads.live (state_if t Ready)
+
+waited_lives : (t at : ℕ) (k : Kernel) → lives (waited t at k) ≡ lives k
+waited_lives t at k = length-map k.threads.live (state_if t (Waiting at))
+
+woken_lives : (t : ℕ) (k : Kernel) → lives (woken t k) ≡ lives k
+woken_lives t k = length-map k.threads.live (state_if t Ready)
+
+cleared_lives : (t at : ℕ) (k : Kernel) → lives (cleared t at k) ≡ lives k
+cleared_lives t at k = length-map k.threads.live (clear_if t at)
+
+child_lives : (t : ℕ) (k : Kernel) → lives (had_child t k) ≡ lives k + 1
+child_lives t k = length_push k.threads.live (new_thread (k.threads.given + 1))
+
+wake_lives : (n at : ℕ) (k : Kernel) → lives (wake n at k).kernel ≡ lives k
+wake_lives = wake_keeps (λ a b. lives b ≡ lives a) (λ k. refl) (λ u k after waiting rest. rest ∙ woken_lives u k)
+
+-- waking changes no signals
+wake_signals : (n at : ℕ) (k : Kernel) → (wake n at k).kernel.signals ≡ k.signals
+wake_signals = wake_keeps (λ a b. b.signals ≡ a.signals) (λ k. refl) (λ u k after waiting rest. rest)
+
+wake_stand : (n at : ℕ) (k : Kernel) → HandlersStand k.signals → HandlersStand (wake n at k).kernel.signals
+wake_stand n at k stand = subst HandlersStand (sym (wake_signals n at k)) stand
+
+-- a woken thread stays where it stands
+woken_stand : (here : Here) (us : List ℕ) → AllStand here → FilesStand (map (answered_wait here) us)
+woken_stand here [] stand = tt
+woken_stand here (u ∷ us) stand = (stand.threads u, woken_stand here us stand)
+
+-- of two threads or more one stays
+rising_apart : (a b : Thread) (rest : List Thread) → IsStrictlyIncreasing (numbers (a ∷ b ∷ rest))
+    → a.tid < b.tid
+rising_apart a b rest rising = rising 0 (omega arith)
+
+stays_one : (t : ℕ) (a b : Thread) (rest : List Thread) (p q : Bool) → eqb a.tid t ≡ p → eqb b.tid t ≡ q
+    → a.tid < b.tid
+    → 0 < length (cond (not p) (a ∷ cond (not q) (b ∷ rest) rest) (cond (not q) (b ∷ rest) rest))
+stays_one t a b rest false q ea eb lt = omega arith
+stays_one t a b rest true false ea eb lt = omega arith
+stays_one t a b rest true true ea eb lt = absurd (grind (arith, nat_tests))
+
+some_stay : (t : ℕ) (live : List Thread) → IsStrictlyIncreasing (numbers live) → 1 < length live
+    → 0 < length (filter (λ th. not (is_thread t th)) live)
+some_stay t [] rising more = omega arith
+some_stay t (a ∷ []) rising more = absurd (omega arith)
+some_stay t (a ∷ b ∷ rest) rising more =
+    let others = filter (λ th. not (is_thread t th)) rest in
+    stays_one t a b others (eqb a.tid t) (eqb b.tid t) refl refl (rising_apart a b rest rising)
+
+-- clone(2)
+child_lives_if : (t child at : ℕ) (k : Kernel) (b : Bool)
+    → lives (cond b (cleared child at (had_child t k)) (had_child t k)) ≡ lives k + 1
+child_lives_if t child at k true = cleared_lives child at (had_child t k) ∙ child_lives t k
+child_lives_if t child at k false = child_lives t k
+
+child_stand_if : (t child at : ℕ) (k : Kernel) (b : Bool) → HandlersStand k.signals
+    → HandlersStand (cond b (cleared child at (had_child t k)) (had_child t k)).signals
+child_stand_if t child at k true stand = stand
+child_stand_if t child at k false stand = stand
+
+module _ (here : Here) (t number : ℕ) where
+  -- a step keeps handlers below 2^64, and all threads
+  stand_step : {k : Kernel} → TableStep here t number k → AllStand here → HandlersStand k.signals
+  stand_step (Signalled g keeps stand heeds calm) all = stand all
+  stand_step step all = all.handlers
+
+  lives_step : {k : Kernel} → TableStep here t number k → lives k ≡ lives here.kernel
+  lives_step (Clears at) = cleared_lives t at here.kernel
+  lives_step Leaves = left_lives t here.kernel
+  lives_step (Waits at none) = waited_lives t at here.kernel
+  lives_step (MovesOff set below some) = left_lives t (restricted t set here.kernel)
+  lives_step step = refl
+
+  -- a call that doesn't end the process, and after which as many threads are live as before, or more
+  proper_going : (c : CallDone) → (AllStand here → FilesStand c.files) → (AllStand here → HandlersStand c.kernel.signals)
+      → c.ended ≡ None → lives here.kernel ≤ lives c.kernel → IsProperCall here c
+  proper_going c files handlers goes more = record {
+    files = files;
+    handlers = handlers;
+    ended = rw goes not_ended;
+    live = λ sound some none. omega arith;
+  }
+
+  pc_past : StandsIn (record (here.file t) { pc = sum_64 (here.file t).pc 4 })
+  pc_past = in_word (here.file t).pc 4
+
+  proper_deed : {c : CallDone} → CallDeed here t number c → IsProperCall here c
+  proper_deed (Says n) = proper_going _ (λ all. (pc_past, tt)) (λ all. all.handlers) refl (omega arith)
+  proper_deed (Answers n entered k no_error step) =
+      let same = lives_step step in
+      proper_going _ (λ all. (pc_past, tt)) (stand_step step) refl (omega arith)
+  proper_deed (Wakes n at small) =
+      let same = wake_lives n at here.kernel in
+      proper_going _ (λ all. (pc_past, woken_stand here (wake n at here.kernel).threads all)) (λ all. wake_stand n at here.kernel all.handlers) refl (omega arith)
+  proper_deed (Breaks u g waiting keeps stand heeds calm) =
+      let same = woken_lives u (signalled g here.kernel) in
+      proper_going _ (λ all. (pc_past, (all.threads u, tt))) stand refl (omega arith)
+  proper_deed (Exits more) =
+      let n : ℕ = cond (clears here t) 1 0 in
+      let at = clear_of t here.kernel.threads in
+      let same = wake_lives n at here.kernel in
+      record {
+        files = λ all. woken_stand here (woken_at_exit here t).threads all;
+        handlers = λ all. wake_stand n at here.kernel all.handlers;
+        ended = not_ended;
+        live = λ sound some goes.
+            let rising = (kept_wake here.setting n at here.kernel sound).sound.tables.threads.rising in
+            some_stay t (wake n at here.kernel).kernel.threads.live rising (omega arith);
+      }
+  proper_deed (Bears entered free) =
+      let clears = has_flag (argument here t 0) clone_child_cleartid in
+      let more = child_lives_if t (next_number here.kernel) (argument here t 4) here.kernel clears in
+      proper_going _ (λ all. (pc_past, (pc_past, tt)))
+      (λ all. child_stand_if t (next_number here.kernel) (argument here t 4) here.kernel clears all.handlers) refl (omega arith)
+  proper_deed (Begins targets restart others no_error) = proper_going _ (λ all. (pc_past, tt)) (λ all. all.handlers) refl (omega arith)
+  proper_deed (Resumes words is its) =
+      proper_going _ (λ all. (frame_small here all.bytes (here.file t) words is, tt)) (λ all. all.handlers) refl (omega arith)
+  proper_deed (Ends entered e over) =
+      record { files = λ all. tt; handlers = λ all. all.handlers; ended = over; live = λ sound some goes. absurd cc }
+
+pub proper_called : (here : Here) (t : ℕ) → IsProperCall here (called here t)
+proper_called here t = proper_deed here t _ (deed_called here t)

@@ -1,0 +1,53 @@
+-- Each call of the table is one of the deeds.
+use Rattle.std.proofs.Common.{◌≡◌, ℕ, eqb, sym, subst, true}
+use Rattle.std.proofs.lemmas.Bool.{eqb-true}
+use Rattle.block_model.specs.Calls.{call_of, called}
+use Rattle.block_model.specs.Calls.Answers.{CallDone, call_number}
+use Rattle.block_model.specs.Here.{Here}
+use Rattle.block_model.proofs.CallEffects.{CallDeed, Says, either}
+use Rattle.block_model.proofs.CallEffects.Affinity.{deed_getaffinity, deed_getcpu, deed_setaffinity, deed_yield}
+use Rattle.block_model.proofs.CallEffects.Barriers.{deed_membarrier}
+use Rattle.block_model.proofs.CallEffects.Cloning.{deed_clone}
+use Rattle.block_model.proofs.CallEffects.Console.{deed_write, deed_writev}
+use Rattle.block_model.proofs.CallEffects.Ending.{deed_exit, deed_exit_group}
+use Rattle.block_model.proofs.CallEffects.Futexes.{deed_futex}
+use Rattle.block_model.proofs.CallEffects.Memory.{deed_brk, deed_mmap, deed_mprotect, deed_munmap}
+use Rattle.block_model.proofs.CallEffects.Numbers.{deed_getpid, deed_gettid, deed_set_tid_address}
+use Rattle.block_model.proofs.CallEffects.Sequences.{deed_rseq}
+use Rattle.block_model.proofs.CallEffects.Signals.{deed_sigaction, deed_sigprocmask, deed_sigreturn, deed_tgkill, deed_tkill}
+
+-- a call that takes pages, or goes on from a frame, by its number
+at_number : (here : Here) (t number k : ℕ) (c : CallDone) → eqb number k ≡ true → CallDeed here t k c
+    → CallDeed here t number c
+at_number here t number k c is deed = subst (λ n. CallDeed here t n c) (sym (eqb-true number k is)) deed
+
+deed_call_of : (here : Here) (t number : ℕ) → CallDeed here t number (call_of number here t)
+deed_call_of here t number =
+    either (eqb number 64) (λ _. deed_write here t number) (λ _.
+    either (eqb number 66) (λ _. deed_writev here t number) (λ _.
+    either (eqb number 93) (λ _. deed_exit here t number) (λ _.
+    either (eqb number 94) (λ _. deed_exit_group here t number) (λ _.
+    either (eqb number 96) (λ _. deed_set_tid_address here t number) (λ _.
+    either (eqb number 98) (λ _. deed_futex here t number) (λ _.
+    either (eqb number 122) (λ _. deed_setaffinity here t number) (λ _.
+    either (eqb number 123) (λ _. deed_getaffinity here t number) (λ _.
+    either (eqb number 124) (λ _. deed_yield here t number) (λ _.
+    either (eqb number 130) (λ _. deed_tkill here t number) (λ _.
+    either (eqb number 131) (λ _. deed_tgkill here t number) (λ _.
+    either (eqb number 134) (λ _. deed_sigaction here t number) (λ _.
+    either (eqb number 135) (λ _. deed_sigprocmask here t number) (λ _.
+    either (eqb number 139) (λ is. at_number here t number 139 _ is (deed_sigreturn here t)) (λ _.
+    either (eqb number 168) (λ _. deed_getcpu here t number) (λ _.
+    either (eqb number 172) (λ _. deed_getpid here t number) (λ _.
+    either (eqb number 178) (λ _. deed_gettid here t number) (λ _.
+    either (eqb number 214) (λ is. at_number here t number 214 _ is (deed_brk here t)) (λ _.
+    either (eqb number 215) (λ is. at_number here t number 215 _ is (deed_munmap here t)) (λ _.
+    either (eqb number 220) (λ _. deed_clone here t number) (λ _.
+    either (eqb number 222) (λ is. at_number here t number 222 _ is (deed_mmap here t)) (λ _.
+    either (eqb number 226) (λ is. at_number here t number 226 _ is (deed_mprotect here t)) (λ _.
+    either (eqb number 283) (λ _. deed_membarrier here t number) (λ _.
+    either (eqb number 293) (λ _. deed_rseq here t number) (λ _.
+    Says _))))))))))))))))))))))))
+
+pub deed_called : (here : Here) (t : ℕ) → CallDeed here t (call_number here t) (called here t)
+deed_called here t = deed_call_of here t (call_number here t)

@@ -1,0 +1,16 @@
+-- getpid(2), gettid(2) and set_tid_address(2).
+use Rattle.std.proofs.Common.{ℕ, []}
+use Rattle.block_model.specs.Calls.Answers.{argument}
+use Rattle.block_model.specs.Calls.Numbers.{getpid, gettid, set_tid_address}
+use Rattle.block_model.specs.Here.{Here}
+use Rattle.block_model.proofs.CallEffects.{CallDeed, Answers, Clears, Says, small_no_error}
+
+module _ (here : Here) (t number : ℕ) where
+  pub deed_getpid : CallDeed here t number (getpid here t)
+  deed_getpid = Says 1
+
+  pub deed_gettid : CallDeed here t number (gettid here t)
+  deed_gettid = Says t
+
+  pub deed_set_tid_address : CallDeed here t number (set_tid_address here t)
+  deed_set_tid_address = Answers t [] _ (λ few. small_no_error t few.low) (Clears (argument here t 0))

@@ -1,0 +1,58 @@
+-- rseq(2).
+use Rattle.std.proofs.Common.{◌≡◌, ℕ, ◌%◌, Bool, cond, eqb, not, true, false, refl, Option, Some, None, Result, Ok, Err}
+use Rattle.std.specs.Option.{option_map_or}
+use Rattle.mach_types.specs.declared.errors.Errno.{Errno}
+use Rattle.mach_types.specs.declared.errors.TheConstants.{EINVAL}
+use Rattle.mach_types.specs.declared.sequences.Area.{Area}
+use Rattle.mach_types.specs.Kernel.Areas.{are_words_writable, registered_again, registered_first, registration, unregistration}
+use Rattle.block_model.specs.Calls.Answers.{argument, int_argument}
+use Rattle.block_model.specs.Calls.Sequences.{registers_or_refused, rseq, unregisters, unregisters_or_refused}
+use Rattle.block_model.specs.Here.{Here, is_writable}
+use Rattle.block_model.specs.Sequences.{area_here}
+use Rattle.block_model.proofs.CallEffects.{CallDeed, Registers, Says, Unregisters, answers_0, deed_killed, either}
+
+-- a registration that isn't refused is of a thread that has no area
+had_none : (old : Option Area) (at len sig : ℕ) (area : Area)
+    → option_map_or (λ (old : Area). Err (registered_again old at len sig)) old
+    (registered_first at len sig) ≡ Ok area → old ≡ None
+had_none None at len sig area is = refl
+had_none (Some old) at len sig area is = cc
+
+registers_first : (old : Option Area) (at len flags sig : ℕ) (area : Area)
+    → registration old at len flags sig ≡ Ok area → old ≡ None
+registers_first old at len flags sig area is = go (eqb flags 0) is
+  where
+    go : (b : Bool) → cond (not b) (Err EINVAL)
+        (option_map_or (λ (old : Area). Err (registered_again old at len sig)) old
+        (registered_first at len sig)) ≡ Ok area
+        → old ≡ None
+    go true is = had_none old at len sig area is
+    go false is = cc
+
+module _ (here : Here) (t number : ℕ) where
+  deed_registers : (x : Result Area Errno) → ((area : Area) → x ≡ Ok area → area_here here t ≡ None)
+      → CallDeed here t number (registers_or_refused here t x)
+  deed_registers (Err e) first = Says _
+  deed_registers (Ok area) first =
+      either (are_words_writable (is_writable here) area)
+      (λ _. answers_0 _ _ (Registers area (first area refl))) (λ _. deed_killed)
+
+  deed_unregisters : (old : Option Area) → CallDeed here t number (unregisters here t old)
+  deed_unregisters None = Says _
+  deed_unregisters (Some area) =
+      either (are_words_writable (is_writable here) area) (λ _. answers_0 _ _ Unregisters) (λ _. Says _)
+
+  deed_unregisters_or : (x : Result (Unit {0}) Errno)
+      → CallDeed here t number (unregisters_or_refused here t x)
+  deed_unregisters_or (Err e) = Says _
+  deed_unregisters_or (Ok done) = deed_unregisters (area_here here t)
+
+  pub deed_rseq : CallDeed here t number (rseq here t)
+  deed_rseq =
+      let at = argument here t 0 in
+      let len = int_argument here t 1 in
+      let flags = int_argument here t 2 in
+      let sig = int_argument here t 3 in
+      let old = area_here here t in
+      either (eqb (flags % 2) 1) (λ _. deed_unregisters_or (unregistration old at len flags sig))
+      (λ _. deed_registers (registration old at len flags sig) (registers_first old at len flags sig))

@@ -1,7 +1,0 @@
--- Calls: what each does that is fit.
-pub mod Cloning
-pub mod Fit
-pub mod Futexes
-pub mod Said
-pub mod Steps
-pub mod Table

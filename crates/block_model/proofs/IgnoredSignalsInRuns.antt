@@ -1,0 +1,70 @@
+-- At each place of a block run no signal is pending that its action ignores: what calls and events keep of this.
+use Rattle.std.proofs.Common.{ℕ, Bool, true, false, not, cond, ◌∷◌, [], Some, sym, subst}
+use Rattle.std.proofs.lemmas.Bool.{and_parts}
+use Rattle.mach_types.specs.Kernel.Signals.{action_of, has_signal, is_handler, mask_of}
+use Rattle.mach_types.specs.Kernel.Threads.{clear_of}
+use Rattle.mach_types.specs.declared.events.Entry.{Entry}
+use Rattle.mach_types.specs.declared.events.Kind.{Kind}
+use Rattle.block_model.specs.Calls.Answers.{CallDone, argument, call_number}
+use Rattle.block_model.specs.Calls.Cloning.{clone_child_cleartid, has_flag}
+use Rattle.block_model.specs.Calls.Ending.{clears}
+use Rattle.block_model.specs.Calls.Futexes.{wake}
+use Rattle.block_model.specs.Deciding.{done}
+use Rattle.block_model.specs.Events.Signal.{signals_taken}
+use Rattle.block_model.specs.Here.{Done, Here}
+use Rattle.block_model.specs.History.{Event, History, here_in_history, kernel}
+use Rattle.block_model.specs.Kernel.{cleared, had_child, next_number}
+use Rattle.block_model.specs.Record.{Kernel}
+use Rattle.block_model.specs.Run.{IsRunHistory}
+use Rattle.block_model.specs.Setting.{Setting}
+use Rattle.block_model.proofs.CallEffects.{Answers, Bears, Breaks, CallDeed, Exits, Resumes, Signalled, TableStep, Wakes}
+use Rattle.block_model.proofs.CallEffects.EachCall.{deed_called}
+use Rattle.block_model.proofs.EventEffects.{Calls, EventDeed, Faults, Handles, SignalKills, deed_of}
+use Rattle.block_model.proofs.Invariants.Calls.Futexes.{wake_keeps}
+use Rattle.block_model.proofs.IgnoredSignals.{AllHeeded, handler_heeds, heeded_child, heeded_gone, heeded_handled, heeded_pending, heeded_returned, heeded_start, heeded_taken}
+
+heeded_wake : (n at : ℕ) (k : Kernel) → AllHeeded k.signals → AllHeeded (wake n at k).kernel.signals
+heeded_wake = wake_keeps (λ a b. AllHeeded a.signals → AllHeeded b.signals) (λ k all. all) (λ u k after waiting rest all. rest all)
+
+heeded_if : (child at : ℕ) (k : Kernel) (b : Bool) → AllHeeded k.signals → AllHeeded (cond b (cleared child at k) k).signals
+heeded_if child at k true all = all
+heeded_if child at k false all = all
+
+module _ (here : Here) (t number : ℕ) (all : AllHeeded here.kernel.signals) where
+  heeded_step : {k : Kernel} → TableStep here t number k → AllHeeded k.signals
+  heeded_step (Signalled g keeps stand heeds calm) = heeds all
+  heeded_step step = all
+
+  heeded_deed : {c : CallDone} → CallDeed here t number c → AllHeeded c.kernel.signals
+  heeded_deed (Answers n entered k no_error step) = heeded_step step
+  heeded_deed (Wakes n at small) = heeded_wake n at here.kernel all
+  heeded_deed (Breaks u g waiting keeps stand heeds calm) = heeds all
+  heeded_deed (Exits more) =
+      let n : ℕ = cond (clears here t) 1 0 in
+      let at = clear_of t here.kernel.threads in
+      heeded_gone t (wake n at here.kernel).kernel.signals (heeded_wake n at here.kernel all)
+  heeded_deed (Bears entered free) =
+      heeded_if (next_number here.kernel) (argument here t 4) (had_child t here.kernel) (has_flag (argument here t 0) clone_child_cleartid)
+      (heeded_child t (next_number here.kernel) here.kernel.signals all)
+  heeded_deed (Resumes words is its) = heeded_returned t (Some words) here.kernel.signals all
+  heeded_deed deed = all
+
+module _ (here : Here) (tid : ℕ) (all : AllHeeded here.kernel.signals) where
+  heeded_event : {k : Kind} {d : Done} → EventDeed here tid k d → AllHeeded d.kernel.signals
+  heeded_event (Faults t signal fault handler) =
+      let g = here.kernel.signals in
+      let is = (and_parts (not (has_signal (mask_of t g) signal)) (is_handler (action_of signal g)) handler).1 in
+      heeded_pending t signal g (handler_heeds signal (action_of signal g) is) all
+  heeded_event (Calls t e next calls outside) = heeded_deed here t (call_number here t) all (deed_called here t)
+  heeded_event (Handles t signal at) = heeded_handled t signal (signals_taken here t signal) (heeded_taken t signal here.kernel.signals all)
+  heeded_event (SignalKills t signal killer at) = heeded_taken t signal here.kernel.signals all
+  heeded_event deed = all
+
+heeded_done : (s : Setting) (before : History) (e : Entry) → AllHeeded (kernel s before).signals → AllHeeded (done s before e).kernel.signals
+unfolding done
+heeded_done s before e all = heeded_event (here_in_history s before e.hart.0) e.tid.0 all (deed_of (here_in_history s before e.hart.0) e.kind e)
+
+pub heeded_at : (s : Setting) (before : History) → IsRunHistory s before → AllHeeded (kernel s before).signals
+heeded_at s [] run = heeded_start
+heeded_at s (e ∷ before) run =
+    subst (λ (x : Event). AllHeeded x.done.kernel.signals) (sym run.2) (heeded_done s before e.entry (heeded_at s before run.0))

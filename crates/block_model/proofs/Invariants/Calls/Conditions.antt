@@ -1,0 +1,209 @@
+-- What a call does that is fit, and what makes one fit: a step of the record, beside files that are the caller's own or of threads that
+-- don't run.
+use Rattle.std.proofs.Common.{◌≡◌, ◌≢◌, ℕ, zero, suc, ◌+◌, ◌/◌, ◌≤◌, ◌<◌, inl, inr, List, [], ◌∷◌, ◌++◌, refl, sym, ap, ◌∙◌, subst, arith, Bool, true, false, not, ◌||◌, Option, Some, None}
+use Rattle.std.proofs.lemmas.Bool.{and_parts, cases_eq, cases_lt, ne_eqb}
+use Rattle.std.specs.List.{AllByRecursion, list_any}
+use Rattle.mach_types.specs.Bytes.{each_byte}
+use Rattle.mach_types.specs.Kernel.Pages.{PageRun, Pages, can_write, is_in, permission_at, permission_of}
+use Rattle.mach_types.specs.declared.threads.Saved.{Saved}
+use Rattle.mach_types.specs.declared.user_memory.Store.{Store}
+use Rattle.mach_types.specs.Kernel.Threads.{Threads, running_on}
+use Rattle.block_model.specs.Here.{Barrier, Here, runs, waiting_here}
+use Rattle.block_model.specs.History.{file_among}
+use Rattle.block_model.specs.Calls.Answers.{CallDone}
+use Rattle.block_model.specs.Calls.Memory.{lies_on, lies_waiting_on}
+use Rattle.block_model.specs.Events.Exec.{by_call}
+use Rattle.block_model.specs.Tables.{IsTables}
+use Rattle.block_model.proofs.KernelTables.{running_is, runs_once}
+use Rattle.block_model.proofs.Pages.{IsPaged}
+use Rattle.block_model.proofs.Barriers.Events.{IsAtOthers, IsFitBarriers}
+use Rattle.block_model.proofs.PlaceInvariant.{IsGoodHere, IsFit, IsSound, MayEnter}
+use Rattle.block_model.proofs.ThreadRecords.{IsHeld}
+use Rattle.block_model.proofs.Invariants.Calls.RecordSteps.{IsKept, IsMoved, kept_moved}
+
+not_true : (b : Bool) → not b ≡ true → b ≡ false
+not_true true is = cc
+not_true false is = refl
+
+not_false : (b : Bool) → not b ≡ false → b ≡ true
+not_false true is = refl
+not_false false is = cc
+
+or_parts : (a b : Bool) → (a || b) ≡ false → (a ≡ false) × (b ≡ false)
+or_parts true b is = cc
+or_parts false b is = (refl, is)
+
+-- a barrier that a call begins is about other harts of the machine, and the caller's thread keeps its hart
+pub record IsBegunByCall (here : Here) (c : CallDone) (b : Barrier) : Type 0 where
+  pub others : IsAtOthers here b
+  pub running : running_on here.hart c.kernel.threads ≢ None
+  pub stays : running_on here.hart c.kernel.threads ≡ runs here
+
+-- threads of other harts stay where they are and keep their files, and the record stays sound
+pub record IsFitCall (here : Here) (c : CallDone) : Type 0 where
+  pub others : (k : ℕ) → k ≢ here.hart → running_on k c.kernel.threads ≡ running_on k here.kernel.threads
+  pub apart : (k u : ℕ) (f : Saved) → k ≢ here.hart → running_on k here.kernel.threads ≡ Some u → file_among c.files u f ≡ f
+  pub pages : c.kernel.pages ≡ here.kernel.pages
+  pub given : c.kernel.threads.given ≤ here.kernel.threads.given + 1
+  pub barrier : (b : Barrier) → c.barrier ≡ Some b → IsBegunByCall here c b
+  pub kernel : IsSound here.setting c.kernel
+  pub held : IsHeld here.setting.limits.harts here.kernel → IsHeld here.setting.limits.harts c.kernel
+
+-- a thread that runs on one hart isn't that of another
+pub runs_apart : (harts h k t u : ℕ) (ts : Threads) (sc : _) → IsTables harts ts sc → running_on h ts ≡ Some t → k ≢ h → running_on k ts ≡ Some u → t ≢ u
+runs_apart harts h k t u ts sc tables at ne runs same =
+    runs_once h k t ts (running_is harts h t ts sc tables at) ne (running_is harts k t ts sc tables (rw same runs))
+
+-- the own thread's file first, the rest may be of others
+pub own_apart : (here : Here) (t : ℕ) (x : Saved) (rest : List (ℕ × Saved)) (k u : ℕ) (f : Saved) → IsGoodHere here → runs here ≡ Some t → k ≢ here.hart → running_on k here.kernel.threads ≡ Some u → file_among ((t, x) ∷ rest) u f ≡ file_among rest u f
+own_apart here t x rest k u f good at ne runs =
+    rw (ne_eqb t u (runs_apart here.setting.limits.harts here.hart k t u here.kernel.threads here.kernel.scheduling good.kernel.tables at ne runs)) refl
+
+-- a page that isn't one of a run can be written after a change where it could before
+abbrev pub StaysWritable : Pages → PageRun → Pages → Type 0
+StaysWritable before r after =
+    (n : ℕ) → is_in r n ≡ false → can_write (permission_of before.runs n) ≡ true → can_write (permission_of after.runs n) ≡ true
+
+-- the same of a call that takes the pages of a run
+pub record IsFitTaking (here : Here) (r : PageRun) (c : CallDone) : Type 0 where
+  pub others : (k : ℕ) → k ≢ here.hart → running_on k c.kernel.threads ≡ running_on k here.kernel.threads
+  pub apart : (k u : ℕ) (f : Saved) → k ≢ here.hart → running_on k here.kernel.threads ≡ Some u → file_among c.files u f ≡ f
+  pub pages : StaysWritable here.kernel.pages r c.kernel.pages
+  pub paged : IsPaged here.setting here.kernel.pages → IsPaged here.setting c.kernel.pages
+  pub given : c.kernel.threads.given ≤ here.kernel.threads.given + 1
+  pub barrier : (b : Barrier) → c.barrier ≡ Some b → IsBegunByCall here c b
+  pub kernel : IsSound here.setting c.kernel
+  pub held : IsHeld here.setting.limits.harts here.kernel → IsHeld here.setting.limits.harts c.kernel
+
+-- a call that changes no page takes none
+pub takes_none : (here : Here) (r : PageRun) (c : CallDone) → IsFitCall here c → IsFitTaking here r c
+takes_none here r c fit = record {
+  others = fit.others;
+  apart = fit.apart;
+  pages = λ n outside may. subst (λ (p : Pages). can_write (permission_of p.runs n) ≡ true) (sym fit.pages) may;
+  paged = λ is. subst (IsPaged here.setting) (sym fit.pages) is;
+  given = fit.given;
+  barrier = fit.barrier;
+  kernel = fit.kernel;
+  held = fit.held;
+}
+
+-- a store that has no byte on the pages of the run may enter still
+module _ (before after : Pages) (r : PageRun) (stays : StaysWritable before r after) where
+  byte_stays : (at : ℕ) → not (is_in r (at / 4096)) ≡ true → can_write (permission_at before at) ≡ true → can_write (permission_at after at) ≡ true
+  byte_stays at outside may = stays (at / 4096) (not_true (is_in r (at / 4096)) outside) may
+
+  bytes_stay : (at size : ℕ) → each_byte (λ a. not (is_in r (a / 4096))) at size ≡ true
+      → each_byte (λ a. can_write (permission_at before a)) at size ≡ true
+      → each_byte (λ a. can_write (permission_at after a)) at size ≡ true
+  bytes_stay at zero outside may = refl
+  bytes_stay at (suc n) outside may =
+      let out = and_parts (not (is_in r (at / 4096))) (each_byte (λ a. not (is_in r (a / 4096))) (at + 1) n) outside in
+      let can = and_parts (can_write (permission_at before at)) (each_byte (λ a. can_write (permission_at before a)) (at + 1) n) may in
+      rw (byte_stays at out.0 can.0) (bytes_stay (at + 1) n out.1 can.1)
+
+  stores_stay : (ws : List Store) → list_any (lies_on r) ws ≡ false → AllByRecursion (MayEnter before) ws → AllByRecursion (MayEnter after) ws
+  stores_stay [] none may = tt
+  stores_stay (w ∷ ws) none may =
+      let apart = or_parts (lies_on r w) (list_any (lies_on r) ws) none in
+      (bytes_stay w.at w.size (not_false (each_byte (λ a. not (is_in r (a / 4096))) w.at w.size) apart.0) may.0, stores_stay ws apart.1 may.1)
+
+-- what isn't found among the first harts isn't on one of them
+pub none_on : (r : PageRun) (waiting : ℕ → List Store) (n k : ℕ) → lies_waiting_on r waiting n ≡ false → k < n → list_any (lies_on r) (waiting k) ≡ false
+none_on r waiting zero k none lt = absurd (omega arith)
+none_on r waiting (suc n) k none lt =
+    let both = or_parts (list_any (lies_on r) (waiting n)) (lies_waiting_on r waiting n) none in
+    elim (cases_eq k n) [
+      | inl same ↦ ap (λ j. list_any (lies_on r) (waiting j)) same ∙ both.0
+      | inr two ↦ none_on r waiting n k both.1 (omega arith)
+    ]
+
+-- no thread runs past the machine's harts
+pub nobody_past : (harts k : ℕ) (ts : Threads) (sc : _) → IsTables harts ts sc → harts ≤ k → running_on k ts ≡ None
+nobody_past harts k ts sc tables past = go (running_on k ts) refl
+  where
+    go : (o : Option ℕ) → running_on k ts ≡ o → o ≡ None
+    go None at = refl
+    go (Some t) at = let below = tables.below t (record { 0 = k }) (running_is harts k t ts sc tables at) in absurd (omega arith)
+
+-- a call is made where no store waits, and no store of another hart on a page that it takes
+pub fit_by_call : (here : Here) (r : PageRun) (c : CallDone) → IsGoodHere here → here.awaits ≡ None → waiting_here here ≡ []
+    → lies_waiting_on r here.waiting here.setting.limits.harts ≡ false → IsFitTaking here r c → IsFit here (by_call here c)
+fit_by_call here r c good free none clear fit = record {
+  executed = tt;
+  few = let w = good.few in omega arith;
+  drained = omega arith;
+  idle = λ _. ap (λ (ws : List Store). ws ++ []) none;
+  others = fit.others;
+  apart = fit.apart;
+  within = λ k. within k;
+  paged = fit.paged;
+  given = fit.given;
+  one = omega arith;
+  barriers = barriers;
+  kernel = fit.kernel;
+  held = fit.held;
+}
+  where
+    barriers : IsFitBarriers here (by_call here c)
+    barriers = record {
+      still = λ left is. let bad : None ≡ Some left = sym free ∙ is in absurd cc;
+      begun = λ b is.
+          let its = fit.barrier b is in
+          record {
+            free = free;
+            others = its.others;
+            still = record { running = its.running; empty = ap (λ (ws : List Store). ws ++ []) none };
+            stays = its.stays;
+            not_took = refl;
+            not_returned = refl;
+          };
+      took = λ is. refl;
+      returned = λ is. absurd cc;
+    }
+
+    within : (k : ℕ) → AllByRecursion (MayEnter c.kernel.pages) (here.waiting k)
+    within k = elim (cases_lt k here.setting.limits.harts) [
+      | inl lt ↦
+          stores_stay here.kernel.pages c.kernel.pages r fit.pages (here.waiting k)
+          (none_on r here.waiting here.setting.limits.harts k clear lt) (good.within k)
+      | inr past ↦
+          let idle = nobody_past here.setting.limits.harts k here.kernel.threads here.kernel.scheduling good.kernel.tables past in
+          rw (good.idle k idle) tt
+    ]
+
+-- a thread that runs on another hart keeps its file
+abbrev pub IsApart : Here → List (ℕ × Saved) → Type 0
+IsApart here files =
+    (k u : ℕ) (f : Saved) → k ≢ here.hart → running_on k here.kernel.threads ≡ Some u
+    → file_among files u f ≡ f
+
+-- no barrier begins by such a call
+pub fit_moved : (here : Here) (c : CallDone) → c.barrier ≡ None → IsApart here c.files
+    → IsMoved here.setting here.hart here.kernel c.kernel → IsFitCall here c
+fit_moved here c quiet apart moved = record {
+  others = moved.others;
+  apart = apart;
+  pages = moved.pages;
+  given = let same = moved.given in omega arith;
+  barrier = λ b is. let bad : None ≡ Some b = sym quiet ∙ is in absurd cc;
+  kernel = moved.sound;
+  held = moved.held;
+}
+
+pub fit_kept : (here : Here) (c : CallDone) → c.barrier ≡ None → IsApart here c.files
+    → IsKept here.setting here.kernel c.kernel → IsFitCall here c
+fit_kept here c quiet apart kept =
+    fit_moved here c quiet apart (kept_moved here.setting here.hart here.kernel c.kernel kept)
+
+pub apart_own : (here : Here) (t : ℕ) (x : Saved) (rest : List (ℕ × Saved)) → IsGoodHere here
+    → runs here ≡ Some t → IsApart here rest → IsApart here ((t, x) ∷ rest)
+apart_own here t x rest good at apart k u f ne run =
+    own_apart here t x rest k u f good at ne run ∙ apart k u f ne run
+
+pub apart_none : (here : Here) → IsApart here []
+apart_none here k u f ne run = refl
+
+pub apart_one : (here : Here) (t : ℕ) (x : Saved) → IsGoodHere here → runs here ≡ Some t
+    → IsApart here ((t, x) ∷ [])
+apart_one here t x good at = apart_own here t x [] good at (apart_none here)

@@ -1,0 +1,236 @@
+-- What a call leaves as it is of other threads: who is ready stays so with its file, and each other thread keeps its area. Each call of
+-- the table does.
+use Rattle.std.proofs.Common.{◌≡◌, ◌≢◌, ℕ, ◌+◌, List, [], refl, sym, ap, ◌∙◌, inl, inr, Bool, true, false, cond, Option, Some, None, ◌∷◌, length, map}
+use Rattle.std.specs.Option.{option_map}
+use Rattle.std.proofs.lemmas.Bool.{false≢true, ne_eqb}
+use Rattle.std.proofs.lemmas.Bool.Decides.{eqb_tells}
+use Rattle.mach_types.proofs.Laws.{area_of-with_area_other, area_of-without_area_other, next_is_new, state_of-with_child_other, state_of-with_child_same, state_of-with_clear, state_of-with_state_other, state_of-with_state_same, state_of-without_other}
+use Rattle.mach_types.specs.Kernel.Areas.{area_of}
+use Rattle.mach_types.specs.Kernel.Signals.{Signalling}
+use Rattle.mach_types.specs.Kernel.Threads.{IsThreads, Thread, Threads, is_ready, state_of, waits, with_child, with_state, clear_of}
+use Rattle.mach_types.specs.declared.sequences.Area.{Area}
+use Rattle.mach_types.specs.declared.threads.Saved.{Saved}
+use Rattle.mach_types.specs.declared.threads.ThreadState.{ThreadState}
+use Rattle.mach_types.specs.declared.threads.ThreadState.TheVariants.{Ready, Waiting}
+use Rattle.mach_types.specs.declared.user_memory.Write.{Write}
+use Rattle.block_model.specs.Calls.Answers.{CallDone, returned, said, argument}
+use Rattle.block_model.specs.Calls.Futexes.{wake, answered_wait}
+use Rattle.block_model.specs.Here.{Here, runs}
+use Rattle.block_model.specs.History.{file_among}
+use Rattle.block_model.specs.Kernel.{cleared, gone, had_child, left, registered, signalled, unregistered, waited, woken, next_number, restricted}
+use Rattle.block_model.specs.Record.{Kernel}
+use Rattle.block_model.proofs.PlaceInvariant.{IsGoodHere}
+use Rattle.block_model.proofs.Invariants.Calls.Futexes.{answered, wake_by, wake_keeps}
+use Rattle.block_model.proofs.Invariants.Events.{ready_apart}
+use Rattle.block_model.proofs.KernelTables.{its_ready}
+use Rattle.mach_types.specs.Kernel.SignalFrames as frame
+use Rattle.rv_inst.specs.Words.{sum_64}
+use Rattle.block_model.specs.Calls.{called}
+use Rattle.block_model.specs.Calls.Cloning.{child_file, clone_child_cleartid, has_flag, with_new_child}
+use Rattle.block_model.specs.Calls.Ending.{clears}
+use Rattle.block_model.specs.Calls.Signals.{broken_wait}
+use Rattle.block_model.proofs.CallEffects.{Answers, Bears, Begins, Breaks, CallDeed, Clears, Ends, Exits, Leaves, MovesOff, Registers, Resumes, Same, Says, Signalled, TableStep, Unregisters, Waits, Wakes}
+use Rattle.block_model.proofs.CallEffects.EachCall.{deed_called}
+
+-- WHO IS READY
+
+changed_ready : (o : Option ThreadState) → its_ready o ≡ true → its_ready (option_map (λ old. Ready) o) ≡ true
+changed_ready None is = absurd (false≢true is)
+changed_ready (Some old) is = refl
+
+-- while a thread becomes ready
+ready_beside : (t u : ℕ) (ts : Threads) → is_ready u ts ≡ true → is_ready u (with_state t Ready ts) ≡ true
+ready_beside t u ts is = elim (eqb_tells u t) [
+  | inl p ↦
+      ap (λ n. is_ready n (with_state t Ready ts)) p.1 ∙ ap its_ready (state_of-with_state_same t Ready ts)
+      ∙ changed_ready (state_of t ts) (sym (ap (λ n. is_ready n ts) p.1) ∙ is)
+  | inr q ↦ ap its_ready (state_of-with_state_other t u q.1 Ready ts) ∙ is
+]
+
+-- beside a child, which is ready too
+ready_beside_child : (u : ℕ) (ts : Threads) → IsThreads ts → is_ready u ts ≡ true → is_ready u (with_child ts) ≡ true
+ready_beside_child u ts threads is = elim (eqb_tells u (ts.given + 1)) [
+  | inl p ↦ ap (λ n. is_ready n (with_child ts)) p.1 ∙ ap its_ready (state_of-with_child_same ts threads)
+  | inr q ↦ ap its_ready (state_of-with_child_other u ts q.1) ∙ is
+]
+
+-- a ready thread isn't the next, nor one that waits
+pub ready_not_next : (u : ℕ) (ts : Threads) → IsThreads ts → is_ready u ts ≡ true → ts.given + 1 ≢ u
+ready_not_next u ts threads is same =
+    let none = ap (λ (o : Option Thread). option_map (λ (th : Thread). th.state) o) (next_is_new ts threads) in
+    false≢true (sym (ap its_ready none) ∙ ap (λ n. is_ready n ts) same ∙ is)
+
+pub ready_not_waiting : (u v : ℕ) (ts : Threads) → is_ready u ts ≡ true → waits ts v → v ≢ u
+ready_not_waiting u v ts is waiting same =
+    false≢true (sym (ap its_ready waiting.1) ∙ ap (λ n. is_ready n ts) same ∙ is)
+
+-- STEPS OF THE RECORD
+
+-- what a step leaves as it is of threads beside t
+pub record IsBeside (t : ℕ) (before after : Kernel) : Type 0 where
+  pub ready : (u : ℕ) → t ≢ u → is_ready u before.threads ≡ true → is_ready u after.threads ≡ true
+  pub areas : (u : ℕ) → t ≢ u → area_of u after.areas ≡ area_of u before.areas
+
+pub beside_same : (t : ℕ) (k : Kernel) → IsBeside t k k
+beside_same t k = record { ready = λ u ne is. is; areas = λ u ne. refl }
+
+pub beside_after : (t : ℕ) (a b c : Kernel) → IsBeside t a b → IsBeside t b c → IsBeside t a c
+beside_after t a b c p q = record {
+  ready = λ u ne is. q.ready u ne (p.ready u ne is);
+  areas = λ u ne. q.areas u ne ∙ p.areas u ne;
+}
+
+pub beside_left : (t v : ℕ) (k : Kernel) → IsBeside t k (left v k)
+beside_left t v k = record { ready = λ u ne is. ready_beside v u k.threads is; areas = λ u ne. refl }
+
+pub beside_woken : (t v : ℕ) (k : Kernel) → IsBeside t k (woken v k)
+beside_woken t v k = record { ready = λ u ne is. ready_beside v u k.threads is; areas = λ u ne. refl }
+
+pub beside_waited : (t p : ℕ) (k : Kernel) → IsBeside t k (waited t p k)
+beside_waited t p k = record {
+  ready = λ u ne is. ap its_ready (state_of-with_state_other t u (λ e. ne (sym e)) (Waiting p) k.threads) ∙ is;
+  areas = λ u ne. refl;
+}
+
+pub beside_gone : (t : ℕ) (k : Kernel) → IsBeside t k (gone t k)
+beside_gone t k = record {
+  ready = λ u ne is. ap its_ready (state_of-without_other t u (λ e. ne (sym e)) k.threads) ∙ is;
+  areas = λ u ne. area_of-without_area_other t u k.areas (λ e. ne (sym e));
+}
+
+pub beside_cleared : (t v p : ℕ) (k : Kernel) → IsBeside t k (cleared v p k)
+beside_cleared t v p k = record { ready = λ u ne is. ap its_ready (state_of-with_clear v p u k.threads) ∙ is; areas = λ u ne. refl }
+
+pub beside_child : (t : ℕ) (k : Kernel) → IsThreads k.threads → IsBeside t k (had_child t k)
+beside_child t k threads = record { ready = λ u ne is. ready_beside_child u k.threads threads is; areas = λ u ne. refl }
+
+pub beside_registered : (t : ℕ) (area : Area) (k : Kernel) → IsBeside t k (registered t area k)
+beside_registered t area k = record { ready = λ u ne is. is; areas = λ u ne. area_of-with_area_other t u area k.areas (λ e. ne (sym e)) }
+
+pub beside_unregistered : (t : ℕ) (k : Kernel) → IsBeside t k (unregistered t k)
+beside_unregistered t k = record { ready = λ u ne is. is; areas = λ u ne. area_of-without_area_other t u k.areas (λ e. ne (sym e)) }
+
+pub beside_signalled : (t : ℕ) (g : Signalling) (k : Kernel) → IsBeside t k (signalled g k)
+beside_signalled t g k = record { ready = λ u ne is. is; areas = λ u ne. refl }
+
+pub beside_if : (t : ℕ) (k x y : Kernel) (b : Bool) → IsBeside t k x → IsBeside t k y → IsBeside t k (cond b x y)
+beside_if t k x y true p q = p
+beside_if t k x y false p q = q
+
+pub beside_wake : (t n at : ℕ) (k : Kernel) → IsBeside t k (wake n at k).kernel
+beside_wake t = wake_keeps (IsBeside t) (beside_same t) (λ u k after waiting rest. beside_after t k (woken u k) after (beside_woken t u k) rest)
+
+-- the files that a wake sets aren't those of ready threads
+pub answered_beside : (here : Here) (n at u : ℕ) (f : Saved) (k : Kernel) → is_ready u k.threads ≡ true
+    → answered here (wake n at k) u f ≡ f
+answered_beside here n at u f k =
+    wake_by (λ n k done. is_ready u k.threads ≡ true → answered here done u f ≡ f) (λ n k ready. refl)
+    (λ v n k rest waiting is ready.
+    rw (ne_eqb v u (ready_not_waiting u v k.threads ready waiting)) (is (ready_beside v u k.threads ready))) n at k
+
+-- CALLS
+
+-- a call of thread t sets no file of a ready thread, and leaves who is ready and the areas of others as they are
+pub record IsAside (here : Here) (t : ℕ) (c : CallDone) : Type 0 where
+  pub files : (u : ℕ) (f : Saved) → is_ready u here.kernel.threads ≡ true → file_among c.files u f ≡ f
+  pub beside : IsBeside t here.kernel c.kernel
+
+module _ (here : Here) (t : ℕ) (good : IsGoodHere here) (at : runs here ≡ Some t) where
+  pub caller_apart : (u : ℕ) → is_ready u here.kernel.threads ≡ true → t ≢ u
+  caller_apart u ready same =
+      ready_apart here.setting.limits.harts u here.hart t here.kernel.threads here.kernel.scheduling good.kernel.tables ready at (sym same)
+
+  -- a call that answers, perhaps writes, and leaves this record
+  pub aside_own : (n : ℕ) (entered : List Write) (k : Kernel) → IsBeside t here.kernel k
+      → IsAside here t (record (said here t n) { entered = entered; kernel = k })
+  aside_own n entered k beside = record {
+    files = λ u f ready. ap (λ b. cond b (returned n (here.file t)) f) (ne_eqb t u (caller_apart u ready));
+    beside = beside;
+  }
+
+  pub aside_wrote : (n : ℕ) (entered : List Write) → IsAside here t (record (said here t n) { entered = entered })
+  aside_wrote n entered = aside_own n entered here.kernel (beside_same t here.kernel)
+
+  -- one that sets no file and leaves the record
+  pub aside_none : (c : CallDone) → c.files ≡ [] → c.kernel ≡ here.kernel → IsAside here t c
+  aside_none c none same = record {
+    files = λ u f ready. ap (λ (ps : List (ℕ × Saved)). file_among ps u f) none;
+    beside = rw same (beside_same t here.kernel);
+  }
+
+-- pages, the console, affinities and registrations are of no thread's state
+alike : (t : ℕ) (before after : Kernel) → after.threads ≡ before.threads → after.areas ≡ before.areas → IsBeside t before after
+alike t before after threads areas = record { ready = λ u ne is. rw threads is; areas = λ u ne. rw areas refl }
+
+module _ (here : Here) (t number : ℕ) where
+  beside_step : {k : Kernel} → TableStep here t number k → IsBeside t here.kernel k
+  beside_step Same = beside_same t here.kernel
+  beside_step (Clears at) = beside_cleared t t at here.kernel
+  beside_step Leaves = beside_left t t here.kernel
+  beside_step (Waits at none) = beside_waited t at here.kernel
+  beside_step (MovesOff set below some) =
+      let k = restricted t set here.kernel in
+      beside_after t here.kernel k (left t k) (alike t here.kernel k refl refl) (beside_left t t k)
+  beside_step (Registers area none) = beside_registered t area here.kernel
+  beside_step Unregisters = beside_unregistered t here.kernel
+  beside_step (Signalled g keeps stand heeds calm) = beside_signalled t g here.kernel
+  beside_step step = alike t here.kernel _ refl refl
+
+module _ (here : Here) (t : ℕ) (good : IsGoodHere here) (at : runs here ≡ Some t) where
+  -- the caller's file first
+  past_own : (x : Saved) (rest : List (ℕ × Saved)) (u : ℕ) (f : Saved) → is_ready u here.kernel.threads ≡ true
+      → file_among ((t, x) ∷ rest) u f ≡ file_among rest u f
+  past_own x rest u f ready = ap (λ b. cond b x (file_among rest u f)) (ne_eqb t u (caller_apart here t good at u ready))
+
+  aside_child : IsBeside t here.kernel (with_new_child here t)
+  aside_child =
+      let k = had_child t here.kernel in
+      let ctid = argument here t 4 in
+      let child = next_number here.kernel in
+      let born = beside_child t here.kernel good.kernel.tables.threads in
+      beside_if t here.kernel (cleared child ctid k) k (has_flag (argument here t 0) clone_child_cleartid)
+      (beside_after t here.kernel k (cleared child ctid k) born (beside_cleared t child ctid k)) born
+
+  aside_deed : (number : ℕ) {c : CallDone} → CallDeed here t number c → IsAside here t c
+  aside_deed number (Says n) = aside_wrote here t good at n []
+  aside_deed number (Answers n entered k no_error step) = aside_own here t good at n entered k (beside_step here t number step)
+  aside_deed number (Wakes n p small) =
+      let done = wake n p here.kernel in
+      record {
+        files = λ u f ready.
+            past_own (returned (length done.threads) (here.file t)) (map (answered_wait here) done.threads) u f ready ∙ answered_beside here n p u f here.kernel ready;
+        beside = beside_wake t n p here.kernel;
+      }
+  aside_deed number (Breaks u g waiting keeps stand heeds calm) =
+      let broken = broken_wait here u in
+      let k = signalled g here.kernel in
+      record {
+        files = λ v f ready.
+            past_own (returned 0 (here.file t)) (broken ∷ []) v f ready
+            ∙ ap (λ b. cond b broken.1 f) (ne_eqb u v (ready_not_waiting v u here.kernel.threads ready waiting));
+        beside = beside_after t here.kernel k (woken u k) (beside_signalled t g here.kernel) (beside_woken t u k);
+      }
+  aside_deed number (Exits more) =
+      let n : ℕ = cond (clears here t) 1 0 in
+      let address = clear_of t here.kernel.threads in
+      let then = (wake n address here.kernel).kernel in
+      record {
+        files = λ u f ready. answered_beside here n address u f here.kernel ready;
+        beside = beside_after t here.kernel then (gone t then) (beside_wake t n address here.kernel) (beside_gone t then);
+      }
+  aside_deed number (Bears entered free) =
+      let child = next_number here.kernel in
+      record {
+        files = λ u f ready.
+            past_own (returned child (here.file t)) ((child, child_file here t) ∷ []) u f ready
+            ∙ ap (λ b. cond b (child_file here t) f) (ne_eqb child u (ready_not_next u here.kernel.threads good.kernel.tables.threads ready));
+        beside = aside_child;
+      }
+  aside_deed number (Begins targets restart others no_error) =
+      record { files = λ u f ready. past_own (record (here.file t) { pc = sum_64 (here.file t).pc 4 }) [] u f ready; beside = beside_same t here.kernel }
+  aside_deed number (Resumes words is its) =
+      record { files = λ u f ready. past_own (frame.restored words) [] u f ready; beside = beside_signalled t _ here.kernel }
+  aside_deed number (Ends entered e over) = aside_none here t good at _ refl refl
+
+  pub aside_called : IsAside here t (called here t)
+  aside_called = aside_deed _ (deed_called here t)

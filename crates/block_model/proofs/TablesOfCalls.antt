@@ -1,0 +1,121 @@
+-- Whatever else holds at a place, each call leaves tables that agree: where the threads, the scheduling, the areas and the signals
+-- agreed before it, they agree after it.
+use Rattle.std.proofs.Common.{◌≡◌, ℕ, Bool, true, false, cond, Some, is_some, refl, ap, ◌∙◌, arith, Option}
+use Rattle.mach_types.specs.Kernel.SignalFrames as frame
+use Rattle.mach_types.specs.Kernel.Threads.{clear_of, running_on, waits}
+use Rattle.mach_types.specs.declared.threads.ThreadState.{ThreadState}
+use Rattle.block_model.specs.Calls.{called}
+use Rattle.block_model.specs.Calls.Answers.{CallDone, argument, call_number}
+use Rattle.block_model.specs.Calls.Cloning.{clone_child_cleartid, has_flag}
+use Rattle.block_model.specs.Calls.Ending.{clears}
+use Rattle.block_model.specs.Calls.Futexes.{wake}
+use Rattle.block_model.specs.Here.{Here, runs}
+use Rattle.block_model.specs.Kernel.{cleared, gone, had_child, left, next_number, restricted, signalled, woken}
+use Rattle.block_model.specs.Record.{Kernel}
+use Rattle.block_model.specs.Tables.{AreOfLive, AreSignalsOfLive, IsTables}
+use Rattle.block_model.proofs.CallEffects.{Answers, Bears, Begins, Breaks, CallDeed, Clears, Ends, EnrolsFor, Exits, Leaves, MovesOff, Prints, Registers, Remaps, Resumes, Same, Says, Signalled, Stays, TableStep, Unregisters, Waits, Wakes}
+use Rattle.block_model.proofs.CallEffects.EachCall.{deed_called}
+use Rattle.block_model.proofs.Invariants.Calls.Futexes.{wake_keeps}
+use Rattle.block_model.proofs.ThreadRecords.{IsHeld, has_state, held_child, held_cleared, held_for_barriers, held_gone, held_left, held_paged, held_printed, held_registered, held_restricted, held_signalled, held_unregistered, held_waited, held_woken}
+use Rattle.block_model.proofs.KernelCalls.{tables_allowed, tables_child, tables_ended, tables_waited, tables_woken, woken_same}
+use Rattle.block_model.proofs.KernelTables.{running_is, tables_cleared, tables_left}
+use Rattle.block_model.proofs.SignalTables.{returned_keeps}
+
+-- the tables of a record agree
+pub record IsAgreed (harts : ℕ) (k : Kernel) : Type 0 where
+  pub tables : IsTables harts k.threads k.scheduling
+  pub areas : AreOfLive k.threads k.areas
+  pub signals : AreSignalsOfLive k.threads k.signals
+
+-- of the areas and the signals as what is held says it: nothing is said of ids where there are more harts than ids
+held_of : (harts : ℕ) (k : Kernel) → IsAgreed harts k → IsHeld 9 k
+held_of harts k is = record { ids = λ few. absurd (omega arith); areas = is.areas; signals = is.signals }
+
+agreed_of : (harts : ℕ) (k : Kernel) → IsTables harts k.threads k.scheduling → IsHeld 9 k → IsAgreed harts k
+agreed_of harts k tables held = record { tables = tables; areas = held.areas; signals = held.signals }
+
+-- steps of the record: a thread that waited is woken, one that runs leaves or is gone, another address to clear, and a child
+agreed_woken : (harts t : ℕ) (k : Kernel) → waits k.threads t → IsAgreed harts k → IsAgreed harts (woken t k)
+agreed_woken harts t k waiting is =
+    agreed_of harts (woken t k) (tables_woken harts t k.threads k.scheduling is.tables waiting) (held_woken 9 t k waiting (held_of harts k is))
+
+agreed_left : (harts h t : ℕ) (k : Kernel) → running_on h k.threads ≡ Some t → IsAgreed harts k → IsAgreed harts (left t k)
+agreed_left harts h t k at is =
+    agreed_of harts (left t k) (tables_left harts h t k.threads k.scheduling is.tables at) (held_left 9 t k (held_of harts k is))
+
+agreed_gone : (harts h t : ℕ) (k : Kernel) → running_on h k.threads ≡ Some t → IsAgreed harts k → IsAgreed harts (gone t k)
+agreed_gone harts h t k at is =
+    agreed_of harts (gone t k) (tables_ended harts h t k.threads k.scheduling is.tables at) (held_gone 9 t k (held_of harts k is))
+
+agreed_cleared : (harts t at : ℕ) (k : Kernel) → IsAgreed harts k → IsAgreed harts (cleared t at k)
+agreed_cleared harts t at k is =
+    agreed_of harts (cleared t at k) (tables_cleared harts t at k.threads k.scheduling is.tables) (held_cleared 9 t at k (held_of harts k is))
+
+agreed_restricted : (harts t set : ℕ) (k : Kernel) → IsAgreed harts k → IsAgreed harts (restricted t set k)
+agreed_restricted harts t set k is =
+    agreed_of harts (restricted t set k) (tables_allowed harts t set k.threads k.scheduling is.tables) (held_restricted 9 t set k (held_of harts k is))
+
+cleared_if : (harts t at : ℕ) (k : Kernel) (b : Bool) → IsAgreed harts k → IsAgreed harts (cond b (cleared t at k) k)
+cleared_if harts t at k true is = agreed_cleared harts t at k is
+cleared_if harts t at k false is = is
+
+-- many that waited are woken, and who runs goes on running
+record IsWake (harts : ℕ) (k after : Kernel) : Type 0 where
+  agreed : IsAgreed harts after
+  running : (h : ℕ) → running_on h after.threads ≡ running_on h k.threads
+
+agreed_wake : (harts n at : ℕ) (k : Kernel) → IsAgreed harts k → IsWake harts k (wake n at k).kernel
+agreed_wake harts n at k is =
+    wake_keeps (λ a b. IsAgreed harts a → IsWake harts a b) (λ a its. record { agreed = its; running = λ h. refl })
+    (λ u a after waiting rest its.
+    let done = rest (agreed_woken harts u a waiting its) in
+    record { agreed = done.agreed; running = λ h. done.running h ∙ woken_same harts u a.threads a.scheduling its.tables waiting h })
+    n at k is
+
+-- a call of the thread that runs on the hart
+module _ (here : Here) (t number harts : ℕ) (at : runs here ≡ Some t) (is : IsAgreed harts here.kernel) where
+  abbrev now : Kernel
+  now = here.kernel
+
+  held : IsHeld 9 here.kernel
+  held = held_of harts here.kernel is
+
+  lives : has_state t here.kernel.threads ≡ true
+  lives = ap (λ (o : Option ThreadState). is_some o) (running_is harts here.hart t here.kernel.threads here.kernel.scheduling is.tables at)
+
+  agreed_step : {k : Kernel} → TableStep here t number k → IsAgreed harts k
+  agreed_step Same = is
+  agreed_step (Prints bytes room) = agreed_of harts _ is.tables (held_printed 9 bytes now held)
+  agreed_step (Clears p) = agreed_cleared harts t p now is
+  agreed_step Leaves = agreed_left harts here.hart t now at is
+  agreed_step (Waits p none) =
+      agreed_of harts _ (tables_waited harts here.hart t p now.threads now.scheduling is.tables at) (held_waited 9 t p now held)
+  agreed_step (Stays set below some) = agreed_restricted harts t set now is
+  agreed_step (MovesOff set below some) = agreed_left harts here.hart t (restricted t set now) at (agreed_restricted harts t set now is)
+  agreed_step (Registers area none) = agreed_of harts _ is.tables (held_registered 9 t area now lives none held)
+  agreed_step Unregisters = agreed_of harts _ is.tables (held_unregistered 9 t now held)
+  agreed_step (Signalled g keeps stand heeds calm) = agreed_of harts _ is.tables (held_signalled 9 g now keeps held)
+  agreed_step (EnrolsFor r) = agreed_of harts _ is.tables (held_for_barriers 9 r now held)
+  agreed_step (Remaps pages stays paged) = agreed_of harts _ is.tables (held_paged 9 pages now held)
+
+  agreed_deed : {c : CallDone} → CallDeed here t number c → IsAgreed harts c.kernel
+  agreed_deed (Says n) = is
+  agreed_deed (Answers n entered k no_error step) = agreed_step step
+  agreed_deed (Wakes n p small) = (agreed_wake harts n p now is).agreed
+  agreed_deed (Breaks u g waiting keeps stand heeds calm) =
+      agreed_woken harts u (signalled g now) waiting (agreed_of harts _ is.tables (held_signalled 9 g now keeps held))
+  agreed_deed (Exits more) =
+      let n : ℕ = cond (clears here t) 1 0 in
+      let woke = agreed_wake harts n (clear_of t now.threads) now is in
+      agreed_gone harts here.hart t (wake n (clear_of t now.threads) now).kernel (woke.running here.hart ∙ at) woke.agreed
+  agreed_deed (Bears entered free) =
+      cleared_if harts (next_number now) (argument here t 4) (had_child t now) (has_flag (argument here t 0) clone_child_cleartid)
+      (agreed_of harts (had_child t now) (tables_child harts t now.threads now.scheduling is.tables free) (held_child 9 t now is.tables.threads held))
+  agreed_deed (Begins set restart others no_error) = is
+  agreed_deed (Resumes words its number_is) =
+      agreed_of harts _ is.tables
+      (held_signalled 9 (frame.returned t (Some words) now.signals) now (returned_keeps t (Some words) now.signals) held)
+  agreed_deed (Ends entered e over) = is
+
+pub agreed_called : (harts : ℕ) (here : Here) (t : ℕ) → runs here ≡ Some t → IsAgreed harts here.kernel → IsAgreed harts (called here t).kernel
+agreed_called harts here t at is = agreed_deed here t (call_number here t) harts at is (deed_called here t)

@@ -1,0 +1,76 @@
+//! The acts of a run.
+
+ghost use Rattle.std.specs.Prelude.{◌≡◌, ◌<◌, ◌^◌, ◌++◌, IfOk, OnOk, length};
+ghost use Rattle.std.specs.List.{flat_map};
+ghost use Rattle.mach_types.specs.Limits.{InRange};
+ghost use Rattle.elf_load.specs.Images.{IsBootable};
+ghost use Rattle.block_model.specs.Run.{IsBlockRun};
+ghost use Rattle.block_view.specs.Acts.{acts_of};
+ghost use Rattle.command_words.specs.Kept.{said, source_said};
+ghost use Rattle.outcomes.specs.Outputs.{seed_of, setting_for};
+ghost use Rattle.outcomes.specs.Summary.{act_line};
+
+use block_view::{Act, Acts, Form, SeqEnd, ViewFault, form_word, seeded_acts};
+use command_words::{Command, Source};
+use elf_load::Image;
+use machine_core::Machine;
+use place_text::fields::{push_decimal, push_number, push_value, push_word};
+use std::alloc::{AllocError, Global};
+
+/// The acts of the run of a command's program, at whose end a machine is. It errs only for want of memory.
+pub(crate) fn acts_of_run(
+    alloc: Global,
+    command: &Command,
+    image: &Image,
+    machine: &Machine,
+) -> Result<Acts, AllocError>
+    requires image { IsBootable command.now.limits.frames image.now }
+    requires limits { InRange command.now.limits }
+    requires setting { machine.now.setting ≡ setting_for (said command.now) image.now }
+    requires run { IsBlockRun machine.now.setting machine.now.log }
+    ensures acts { IfOk result (λ acts. acts.list.items ≡ acts_of machine.now.setting machine.now.log) }
+    ensures few { IfOk result (λ acts. length acts.list.items < 2 ^ 32) }
+{
+    let seed = seed_of(command);
+    match seeded_acts(alloc, image, &command.limits, seed, machine.log()) {
+        Ok(acts) => Ok(acts),
+        Err(ViewFault::NoMemory) => Err(AllocError),
+        Err(ViewFault::NotARun(_)) => unreachable!(),
+    }
+}
+
+/// The seed of what the harts of a command choose: 0 where no choice is drawn.
+fn seed_of(command: &Command) -> u64
+    ensures { result ≡ seed_of (source_said command.now.source) }
+{
+    match command.source {
+        Source::Rule | Source::Script(_) => 0,
+        Source::Workers { seed } => seed,
+    }
+}
+
+/// The lines of acts.
+pub(crate) fn acts_text(alloc: Global, acts: &Acts) -> Result<Vec<u8>, AllocError>
+    ensures { IfOk result (λ text. text.items ≡ flat_map act_line acts.now.list.items) }
+{
+    let mut text = Vec::new(alloc);
+    for act in &acts.list {
+        push_act(&mut text, act)?;
+    }
+    Ok(text)
+}
+
+/// Appends the line of an act.
+fn push_act(text: &mut Vec<u8>, act: &Act) -> Result<(), AllocError>
+    ensures { OnOk result (text.new.items ≡ text.old.items ++ act_line act.now) }
+{
+    push_decimal(text, u64::from(act.hart.0))?;
+    push_number(text, u64::from(act.first))?;
+    push_number(text, u64::from(act.last))?;
+    push_number(text, u64::from(act.tid.0))?;
+    push_word(text, form_word(act.form))?;
+    if let Form::Sequence(SeqEnd::Cut(at)) = act.form {
+        push_value(text, at)?;
+    }
+    text.extend_from_slice(b"\n")
+}

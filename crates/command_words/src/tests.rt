@@ -1,4 +1,0 @@
-//! Tests: worked examples, made by hand.
-
-mod faults;
-mod words;

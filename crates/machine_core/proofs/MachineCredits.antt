@@ -1,0 +1,152 @@
+-- A machine after an event, with the credits and the generators that follow it.
+use Rattle.std.proofs.Common.{◌≡◌, ℕ, ◌<◌, List, [], ◌∷◌, ◌++◌, length, refl, sym, ap, ◌∙◌, arith, Bool, true, false, cond, Option, Some, None, is_some, slice_get, set}
+use Rattle.std.specs.Option.{option_map, option_map_or}
+use Rattle.std.proofs.lemmas.Bool.{lt-leb}
+use Rattle.std.proofs.lemmas.List.{length-set}
+use Rattle.mach_types.specs.Limits.{InRange}
+use Rattle.mach_types.specs.declared.events.Choice.{Choice}
+use Rattle.mach_types.specs.declared.events.Entry.{Entry}
+use Rattle.mach_types.specs.declared.events.Hart.{Hart}
+use Rattle.mach_types.specs.declared.events.Sight.{Sight}
+use Rattle.chooser.specs.Cases.{draws}
+use Rattle.chooser.specs.Generators.{Generator, generator_in, next_generator}
+use Rattle.hart_state.specs.declared.hart.HartState.{HartState}
+use Rattle.block_model.specs.Choosing.{all_chosen, credit_at, has_ended}
+use Rattle.block_model.specs.Deciding.{history, over_at}
+use Rattle.block_model.specs.History.{History}
+use Rattle.block_model.specs.Plain.{Plain, plain_after}
+use Rattle.block_model.specs.Setting.{Setting}
+use Rattle.block_model.proofs.Laws.{length-history}
+use Rattle.machine_core.specs.Credits.{followed, generators_after, is_followed}
+use Rattle.process.specs.Harts.{credit_of, hart_at}
+use Rattle.process.specs.Tied.{IsTied}
+use Rattle.machine_core.specs.Machines.{IsMachine, generator_at, past_of, seen, setting_of}
+use Rattle.machine_core.specs.declared.machine.Machine.TheInside.{Inside}
+use Rattle.process.specs.declared.parts.Parts.{Parts}
+use Rattle.machine_core.specs.Credits.{seen_if}
+use Rattle.machine_core.proofs.ChoiceCredits.{IsFollowing, chosen_after, credit_after, generator_after}
+use Rattle.process.proofs.Laws.{same_length}
+use Rattle.machine_core.proofs.Readings.{over_read}
+use Rattle.machine_core.proofs.Steps.{IsStep}
+
+-- a run that goes on, with room for one more entry, hasn't ended
+pub not_ended : (s : Setting) (before : History) → over_at s before ≡ None → length before < s.limits.steps → has_ended s before ≡ false
+unfolding has_ended
+not_ended s before goes room = rw (goes, lt-leb s.limits.steps (length before) room) refl
+
+pub machine_goes : (m : Inside) → IsMachine m → m.parts.ended ≡ None → length m.log.items < m.limits.steps → has_ended (setting_of m) (past_of m) ≡ false
+machine_goes m machine goes room =
+    let long = length-history (setting_of m) m.log.items in
+    not_ended (setting_of m) (past_of m) (sym (over_read m machine) ∙ goes) (omega (arith, long, room))
+
+-- a hart differs by its credit alone
+credit_alone : (sight : Option Sight) (generators : List Generator) (s : Setting) (p : Plain) (h : ℕ) (c : Choice) (k credit : ℕ)
+    → followed sight generators h c k (hart_at s p k credit) ≡ hart_at s p k (followed sight generators h c k (hart_at s p k credit)).credit
+credit_alone None generators s p h c k credit = refl
+credit_alone (Some seen) generators s p h c k credit = refl
+
+-- nothing is done to what is there
+pub mapped_itself : (o : Option HartState) → o ≡ option_map (λ x. x) o
+mapped_itself None = refl
+mapped_itself (Some x) = refl
+
+-- where nothing was seen nothing is done to a hart
+pub unfollowed : (generators : List Generator) (h : ℕ) (c : Choice) (k : ℕ) (o : Option HartState) → o ≡ option_map (followed None generators h c k) o
+unfollowed generators h c k None = refl
+unfollowed generators h c k (Some x) = refl
+
+some_mapped : (f : HartState → HartState) (o : Option HartState) → is_some (option_map f o) ≡ is_some o
+some_mapped f None = refl
+some_mapped f (Some x) = refl
+
+-- parts that are tied stay so, whatever the credits are
+pub tied_with : (s : Setting) (p : Plain) (m m' : Parts) (sight : Option Sight) (generators : List Generator) (h : ℕ) (c : Choice) → IsTied s p m
+    → ((k : ℕ) → slice_get m'.harts.items k ≡ option_map (followed sight generators h c k) (slice_get m.harts.items k))
+    → m'.pages ≡ m.pages → m'.kernel ≡ m.kernel → m'.ended ≡ m.ended → IsTied s p m'
+tied_with s p m m' sight generators h c tied harts pages kernel ended = record {
+  all_harts = same_length m.harts.items m'.harts.items (λ k. ap is_some (harts k) ∙ some_mapped (followed sight generators h c k) (slice_get m.harts.items k)) ∙ tied.all_harts;
+  harts = λ k lt.
+      let x : HartState = hart_at s p k (credit_of m.harts.items k) in
+      let at : slice_get m'.harts.items k ≡ Some (followed sight generators h c k x) = harts k ∙ ap (option_map (followed sight generators h c k)) (tied.harts k lt) in
+      let credit : credit_of m'.harts.items k ≡ (followed sight generators h c k x).credit = ap (λ o. option_map_or (λ (y : HartState). y.credit) o 0) at in
+      at ∙ (ap Some (credit_alone sight generators s p h c k (credit_of m.harts.items k)) ∙ ap (λ n. Some (hart_at s p k n)) (sym credit));
+  pages = rw pages tied.pages;
+  readable = rw pages tied.readable;
+  tables = rw kernel tied.tables;
+  table = rw kernel tied.table;
+  saved = rw kernel tied.saved;
+  ended = ended ∙ tied.ended;
+}
+
+-- what is known after an event
+pub record IsSettled (s : Setting) (log : List Entry) (m : Parts) (words : List Generator) (all : Bool) : Type 0 where
+  pub tied : IsTied s (plain_after s log) m
+  pub chosen : all ≡ all_chosen s (history s log)
+  pub credits : (k : ℕ) → k < s.limits.harts → credit_of m.harts.items k ≡ credit_at s k (history s log)
+  pub generators : all ≡ true → (k : ℕ) → k < s.limits.harts → generator_in words k ≡ generator_at s k (history s log)
+  pub held : length words ≡ 8
+
+still_eight : (sight : Option Sight) (h : ℕ) (generators : List Generator) → length generators ≡ 8 → length (generators_after sight h generators) ≡ 8
+still_eight None h generators eight = eight
+still_eight (Some x) h generators eight = go (draws x)
+  where
+    go : (b : Bool) → length (cond b (set generators h (next_generator (generator_in generators h))) generators) ≡ 8
+    go true = length-set generators h (next_generator (generator_in generators h)) ∙ eight
+    go false = eight
+
+-- an event is followed by the credits and generators
+pub settled_next : (s : Setting) (log : List Entry) (m : Parts) (words : List Generator) (chosen : Bool) (h : Hart) (c : Choice) (e : Entry) (p p' : Parts) (sight : Option Sight)
+    → IsSettled s log m words chosen → InRange s.limits → has_ended s (history s log) ≡ false → h.0 < s.limits.harts → IsStep (record { setting = s; log = log }) h c e p
+    → ((k : ℕ) → credit_of p.harts.items k ≡ credit_of m.harts.items k)
+    → sight ≡ seen_if chosen s h.0 (history s log)
+    → ((k : ℕ) → slice_get p'.harts.items k ≡ option_map (followed sight words h.0 c k) (slice_get p.harts.items k))
+    → p'.pages ≡ p.pages → p'.kernel ≡ p.kernel → p'.ended ≡ p.ended
+    → IsSettled s (log ++ e ∷ []) p' (generators_after sight h.0 words) (is_followed sight words h.0 c)
+settled_next s log m words chosen h c e p p' sight so_far limits going lt step credits sees harts pages kernel ended =
+    let is : IsFollowing s log h.0 c e chosen words = record {
+      goes = going;
+      lt = lt;
+      hart = ap (λ (x : Hart). x.0) step.hart;
+      choice = step.choice;
+      so_far = so_far.chosen;
+      generator = so_far.generators;
+    } in
+    let next : is_followed sight words h.0 c ≡ all_chosen s (history s (log ++ e ∷ [])) = rw sees (chosen_after s log h.0 c e chosen words is) in
+    record {
+      tied = tied_with s (plain_after s (log ++ e ∷ [])) p p' sight words h.0 c step.tied harts pages kernel ended;
+      chosen = next;
+      credits = λ k below.
+          let x : HartState = hart_at s (plain_after s (log ++ e ∷ [])) k (credit_of p.harts.items k) in
+          let at : slice_get p'.harts.items k ≡ Some (followed sight words h.0 c k x) = harts k ∙ ap (option_map (followed sight words h.0 c k)) (step.tied.harts k below) in
+          let shown : x.credit ≡ credit_at s k (history s log) = credits k ∙ so_far.credits k below in
+          ap (λ o. option_map_or (λ (y : HartState). y.credit) o 0) at
+          ∙ rw sees (credit_after s log h.0 c e chosen words is k x shown);
+      generators = λ followed k below.
+          let was : is_followed (seen_if chosen s h.0 (history s log)) words h.0 c ≡ true = ap (λ o. is_followed o words h.0 c) (sym sees) ∙ followed in
+          let few = limits.eight_harts in
+          let held = so_far.held in
+          rw sees (generator_after s log h.0 c e chosen words is (omega (arith, lt, few, held)) was k below);
+      held = still_eight sight h.0 words so_far.held;
+    }
+
+-- what is known of a machine
+pub machine_settled : (m : Inside) → IsMachine m → IsSettled (setting_of m) m.log.items m.parts m.chooser m.chosen
+machine_settled m machine = record {
+  tied = machine.tied;
+  chosen = machine.chosen;
+  credits = machine.credits;
+  generators = machine.generators;
+  held = machine.held;
+}
+
+-- the event of a machine is followed by its credits and generators
+pub settled : (m : Inside) (h : Hart) (c : Choice) (e : Entry) (p p' : Parts) (sight : Option Sight) → IsMachine m
+    → m.parts.ended ≡ None → length m.log.items < m.limits.steps → h.0 < m.limits.harts → IsStep (seen m) h c e p
+    → ((k : ℕ) → credit_of p.harts.items k ≡ credit_of m.parts.harts.items k)
+    → sight ≡ seen_if m.chosen (setting_of m) h.0 (past_of m)
+    → ((k : ℕ) → slice_get p'.harts.items k ≡ option_map (followed sight m.chooser h.0 c k) (slice_get p.harts.items k))
+    → p'.pages ≡ p.pages → p'.kernel ≡ p.kernel → p'.ended ≡ p.ended
+    → IsSettled (setting_of m) (m.log.items ++ e ∷ []) p' (generators_after sight h.0 m.chooser) (is_followed sight m.chooser h.0 c)
+settled m h c e p p' sight machine goes room lt step credits sees harts pages kernel ended =
+    settled_next (setting_of m) m.log.items m.parts m.chooser m.chosen h c e p p' sight (machine_settled m machine) machine.limits
+    (machine_goes m machine goes room) lt step credits sees harts pages kernel ended

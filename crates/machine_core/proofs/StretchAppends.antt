@@ -1,0 +1,189 @@
+-- A machine that takes a stretch in: the hart is as it was when the stretch was lent.
+use Rattle.std.proofs.Common.{List, [], ◌∷◌, ◌-◌, take, zero, suc, eqb, eq-eqb, min, ◌+◌, ◌^◌, map, Bool, leb, ◌||◌, is_some, not, ◌&&◌, ◌≡◌, ℕ, ◌<◌, ◌≤◌, ◌++◌, length, refl, sym, ap, ◌∙◌, subst, true, false, get_or, Option, None, Some, arith}
+use Rattle.std.specs.Option.{option_map}
+use Rattle.std.specs.Vec.{with_item}
+use Rattle.std.proofs.lemmas.Option.{get_or_from_slice_get, same_Some, slice_get-get_or}
+use Rattle.std.proofs.lemmas.Bool.{leb-false}
+use Rattle.std.proofs.lemmas.List.{length-take-le}
+use Rattle.std.specs.Prelude.{IsSome}
+use Rattle.mach_types.specs.declared.events.Hart.{Hart}
+use Rattle.mach_types.specs.declared.events.Tid.{Tid}
+use Rattle.mach_types.specs.declared.threads.Saved.{Saved}
+use Rattle.hart_state.specs.declared.hart.HartState.{HartState}
+use Rattle.mach_types.specs.declared.limits.End.{End}
+use Rattle.block_model.specs.Choosing.{IsChosen, Luck, all_chosen, has_ended}
+use Rattle.block_model.specs.Deciding.{history, over_at}
+use Rattle.block_model.specs.History.{History, awaits, events}
+use Rattle.block_model.specs.Run.{IsBlockRun}
+use Rattle.block_model.specs.Sights.{thread}
+use Rattle.block_model.specs.Plain.{plain_seen}
+use Rattle.block_model.specs.Setting.{Setting}
+use Rattle.block_model.specs.Stretches.{IsStretchOf, Stretch, advanced, appended, stepped}
+use Rattle.block_model.proofs.Laws.{HasStayed, Steps, events_few, is_lent, length-history, ran_few, stays, steps_of, worked_keeps}
+use Rattle.elf_load.specs.declared.image.ImagePage.{ImagePage}
+use Rattle.process.specs.Harts.{credit_of, file_of, file_on, hart_at}
+use Rattle.process.specs.Tied.{IsPlace}
+use Rattle.machine_core.specs.Stretches.{executed, taken_in}
+use Rattle.machine_core.specs.Machines.{IsMachine, past_of, seen, setting_of}
+use Rattle.process.specs.declared.parts.Parts.{Parts}
+use Rattle.machine_core.specs.declared.machine.Machine.TheInside.{Inside}
+use Rattle.machine_core.proofs.AdvanceAnswers.{all_of}
+use Rattle.machine_core.proofs.StretchSteps.{AreAllOn, IsOnWay, all_on, own_is, settled_alike}
+use Rattle.machine_core.proofs.ChoiceCredits.{credit_read}
+use Rattle.machine_core.proofs.Readings.{hart_read, here_read, over_read}
+use Rattle.machine_core.proofs.MachineCredits.{IsSettled, machine_settled}
+use Rattle.machine_core.proofs.Steps.{place_of}
+
+-- the hart of a stretch is one of the machine's
+pub of_machine : (m : Inside) (h : Hart) (l : Stretch) → IsStretchOf (setting_of m) h.0 m.log.items l → h.0 < m.limits.harts
+of_machine m h l fits = (is_lent (setting_of m) h.0 (history (setting_of m) fits.lent_at) fits.first fits.began).lt
+
+-- it stands as when the stretch was lent, and the stretch's instructions come next
+pub record IsReady (m : Inside) (h : Hart) (l : Stretch) (x : HartState) : Type 0 where
+  pub thread : Tid
+  pub way : IsOnWay (setting_of m) m.log.items m.parts m.chooser h thread x
+  pub first : Stretch
+  pub file : first.file ≡ file_of x
+  pub credit : first.credit ≡ x.credit
+  pub steps : Steps m.code first l.pcs l
+
+-- a run that hasn't ended was ended by no event
+pub goes_on : (m : Inside) → IsMachine m → has_ended (setting_of m) (past_of m) ≡ false → m.parts.ended ≡ None
+unfolding has_ended
+goes_on m machine goes = over_read m machine ∙ none_first (over_at (setting_of m) (past_of m)) (leb m.limits.steps (length (past_of m))) goes
+  where
+    none_first : (o : Option End) (b : Bool) → (is_some o || b) ≡ false → o ≡ None
+    none_first None b is = refl
+    none_first (Some e) b is = cc
+
+-- a hart on credit waits in no barrier
+out_of_barrier : (idle in_barrier credit : Bool) → not idle && not in_barrier && credit ≡ true → in_barrier ≡ false
+out_of_barrier true true credit is = cc
+out_of_barrier true false credit is = refl
+out_of_barrier false true credit is = cc
+out_of_barrier false false credit is = refl
+
+none_some : (o : Option ℕ) → is_some o ≡ false → o ≡ None
+none_some None is = refl
+none_some (Some x) is = cc
+
+pub ready : (m : Inside) (h : Hart) (l : Stretch) (x : HartState) → IsMachine m → IsChosen (setting_of m) m.log.items
+    → IsStretchOf (setting_of m) h.0 m.log.items l → has_ended (setting_of m) (past_of m) ≡ false → events h.0 (past_of m) ≡ l.events
+    → x ≡ get_or m.parts.harts.items h.0 x → IsReady m h l x
+ready m h l x machine chosen fits goes same value =
+    let s = setting_of m in
+    let began = is_lent s h.0 (history s fits.lent_at) fits.first fits.began in
+    let has = steps_of m.code fits.times fits.first l fits.so_far in
+    let kept = worked_keeps m.code has.pcs fits.first l has.steps in
+    let run : IsBlockRun s (fits.lent_at ++ fits.since) = subst (IsBlockRun s) (sym fits.whole) machine.run in
+    let events_at : events h.0 (history s (fits.lent_at ++ fits.since)) ≡ events h.0 (history s fits.lent_at) =
+    ap (λ g. events h.0 (history s g)) fits.whole ∙ (same ∙ (kept.1 ∙ ap (λ (a : Stretch). a.events) began.is)) in
+    let stayed : HasStayed s h.0 began.thread (history s fits.lent_at) (past_of m) =
+    subst (λ g. HasStayed s h.0 began.thread (history s fits.lent_at) (history s g)) fits.whole (stays s h.0 began.thread fits.lent_at fits.since run.allowed began.runs events_at) in
+    let all = machine.tied.all_harts in
+    let in_list : h.0 < length m.parts.harts.items = omega (arith, all, began.lt) in
+    let is = hart_read m h.0 x machine began.lt value in
+    let there = here_read m h.0 in
+    let all_so : true ≡ all_chosen s (past_of m) = all_of s m.log.items chosen in
+    let chosen_so : m.chosen ≡ true = machine.chosen ∙ sym all_so in
+    let pcs : l.pcs ≡ has.pcs = has.added ∙ ap (λ (a : Stretch). a.pcs ++ has.pcs) began.is in
+    record {
+      thread = thread began.thread;
+      way = record {
+        run = machine.run;
+        settled = subst (λ b. IsSettled s m.log.items m.parts m.chooser b) chosen_so (machine_settled m machine);
+        limits = machine.limits;
+        goes = goes_on m machine goes;
+        lt = began.lt;
+        there = slice_get-get_or m.parts.harts.items h.0 x in_list ∙ ap Some (sym value);
+        busy = ap (λ (y : HartState). y.running) is ∙ ap (option_map thread) stayed.runs;
+        no_barrier = ap (λ (y : HartState). y.waits) is ∙ none_some (awaits h.0 (past_of m)) (stayed.same_waits ∙ out_of_barrier _ _ _ began.on_credit);
+      };
+      first = fits.first;
+      file = ap (λ (a : Stretch). a.file) began.is ∙ (sym stayed.same_file
+          ∙ (ap (λ o. let f : Saved = record { file = (file_on there o).file; pc = (file_on there o).pc } in f) (sym stayed.runs) ∙ ap file_of (sym is)));
+      credit = ap (λ (a : Stretch). a.credit) began.is ∙ (ap (λ (k : Luck). k.credit) (sym stayed.same_luck)
+          ∙ (sym (credit_read s (past_of m) h.0 all_so) ∙ ap (λ (y : HartState). y.credit) (sym is)));
+      steps = subst (λ ps. Steps m.code fits.first ps l) (sym pcs) has.steps;
+    }
+
+-- its counts fit their words once all instructions are counted
+pub counts_fit : (m : Inside) (h : Hart) (l : Stretch) (x : HartState) → IsReady m h l x → length m.log.items + length l.pcs ≤ m.limits.steps
+    → (x.ran + length l.pcs < 2 ^ 32) × (x.events + length l.pcs < 2 ^ 32)
+counts_fit m h l x is room =
+    let way = is.way in
+    let own = own_is (setting_of m) m.log.items m.parts m.chooser h is.thread x way in
+    let ran : x.ran ≡ (plain_seen (seen m)).ran h.0 = ap (λ (y : HartState). y.ran) own in
+    let made : x.events ≡ (plain_seen (seen m)).events h.0 = ap (λ (y : HartState). y.events) own in
+    let few_ran = ran_few (seen m) h.0 way.run in
+    let few_made = events_few (seen m) h.0 way.run in
+    let steps = way.limits.most_steps in
+    (omega (arith, ran, few_ran, room, steps), omega (arith, made, few_made, room, steps))
+
+-- a machine's parts with this state of a hart
+abbrev pub with_hart : Inside → ℕ → HartState → Parts
+with_hart m h y = record m.parts { harts = with_item m.parts.harts h y }
+
+-- the machine once it has taken the stretch in
+pub record IsTakenIn (m : Inside) (h : Hart) (l : Stretch) (x : HartState) (t : Tid) (parts : Parts) : Type 0 where
+  pub run : IsBlockRun (setting_of m) (m.log.items ++ map (executed h t) l.pcs)
+  pub settled : IsSettled (setting_of m) (m.log.items ++ map (executed h t) l.pcs) parts m.chooser true
+  pub log_after : advanced (setting_of m) h.0 (length l.pcs) m.log.items ≡ Some (m.log.items ++ map (executed h t) l.pcs)
+
+pub taken : (m : Inside) (h : Hart) (l : Stretch) (x : HartState) (t : Tid) → IsReady m h l x → length m.log.items + length l.pcs ≤ m.limits.steps → x.running ≡ Some t
+    → IsTakenIn m h l x t (with_hart m h.0 (taken_in l x))
+taken m h l x t is room busy =
+    let s = setting_of m in
+    let same : is.thread ≡ t = same_Some is.thread t (sym is.way.busy ∙ busy) in
+    let all = subst (λ u. AreAllOn s m.log.items m.parts m.chooser h u x l.pcs l) same
+    (all_on s l.pcs m.log.items m.parts m.chooser h is.thread x is.first l is.way room is.file is.credit is.steps) in
+    record {
+      run = all.way.run;
+      settled = settled_alike s (m.log.items ++ map (executed h t) l.pcs) all.parts (with_hart m h.0 (taken_in l x)) m.chooser true all.way.settled
+          (λ k. sym (all.harts k)) (sym all.pages) (sym all.kernel) (sym all.ended);
+      log_after = all.log_after;
+    }
+
+-- a run that hasn't ended has room
+pub has_room : (m : Inside) → has_ended (setting_of m) (past_of m) ≡ false → length m.log.items < m.limits.steps
+unfolding has_ended
+has_room m goes =
+    let long = length-history (setting_of m) m.log.items in
+    let within = room_left (is_some (over_at (setting_of m) (past_of m))) (leb m.limits.steps (length (past_of m))) goes in
+    omega (arith, long, leb-false m.limits.steps (length (past_of m)) within)
+  where
+    room_left : (a b : Bool) → (a || b) ≡ false → b ≡ false
+    room_left false b is = is
+    room_left true b is = cc
+
+-- the first instructions of a stretch are steps too
+first_steps : (pages : List ImagePage) (n : ℕ) (pcs : List ℕ) (a l : Stretch) → Steps pages a pcs l → (b : Stretch) × Steps pages a (take n pcs) b
+first_steps pages zero pcs a l steps = (a, refl)
+first_steps pages (suc n) [] a l steps = (a, refl)
+first_steps pages (suc n) (pc ∷ pcs) a l steps =
+    let rest = first_steps pages n pcs (stepped pages a) l steps.2 in
+    (rest.0, (steps.0, steps.1, rest.1))
+
+-- so the hart makes so many entries
+pub makes : (m : Inside) (h : Hart) (l : Stretch) (n : ℕ) → IsMachine m → IsChosen (setting_of m) m.log.items
+    → IsStretchOf (setting_of m) h.0 m.log.items l → has_ended (setting_of m) (past_of m) ≡ false → events h.0 (past_of m) ≡ l.events
+    → n ≤ length l.pcs → length m.log.items + n ≤ m.limits.steps → IsSome (advanced (setting_of m) h.0 n m.log.items)
+makes m h l n machine chosen fits goes same within room =
+    let s = setting_of m in
+    let x : HartState = hart_at s (plain_seen (seen m)) h.0 (credit_of m.parts.harts.items h.0) in
+    let there : x ≡ get_or m.parts.harts.items h.0 x = sym (get_or_from_slice_get m.parts.harts.items h.0 x x (machine.tied.harts h.0 (of_machine m h l fits))) in
+    let is = ready m h l x machine chosen fits goes same there in
+    let first = first_steps m.code n l.pcs is.first l is.steps in
+    let long : length (take n l.pcs) ≡ n = length-take-le n l.pcs within in
+    let all = all_on s (take n l.pcs) m.log.items m.parts m.chooser h is.thread x is.first first.0 is.way (omega (arith, room, long)) is.file is.credit first.1 in
+    let made : advanced s h.0 n m.log.items ≡ Some (m.log.items ++ map (executed h is.thread) (take n l.pcs)) = ap (λ k. advanced s h.0 k m.log.items) (sym long) ∙ all.log_after in
+    rw made refl
+
+-- how many entries come of it
+pub appended_is : (s : Setting) (h : ℕ) (before : History) (l : Stretch) → eqb (length l.pcs) 0 ≡ false → has_ended s before ≡ false → events h before ≡ l.events
+    → appended s h before l ≡ min (length l.pcs) (s.limits.steps - length before)
+appended_is s h before l some goes same = rw (some, goes, eq-eqb (events h before) l.events same) refl
+
+-- the place of a machine whose run hasn't ended
+pub place_open : (m : Inside) (h : ℕ) → IsMachine m → has_ended (setting_of m) (past_of m) ≡ false → h < m.limits.harts → IsPlace (seen m) m.parts h
+place_open m h machine goes lt = place_of m h machine (goes_on m machine goes) (has_room m goes) lt

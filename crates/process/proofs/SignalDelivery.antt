@@ -1,0 +1,240 @@
+-- A signal that is delivered: what is kept of the signals, the handler that is entered or isn't, and the parts after it.
+use Rattle.std.proofs.Common.{◌≡◌, ◌≢◌, ℕ, zero, suc, ◌-◌, ◌≤◌, List, [], ◌∷◌, ◌++◌, append-nil, map, find, set, get_or, refl, sym, ap, ◌∙◌, subst, arith, Bool, true, false, not, cond, eqb, eq-eqb, ◌&&◌, ◌||◌, Option, Some, None, slice_get, ◌⊎◌, inl, inr}
+use Rattle.std.specs.List.{list_any}
+use Rattle.std.specs.Option.{option_map, option_map_or}
+use Rattle.std.proofs.lemmas.Bool.{cases_eq, le-ltb, ne_eqb}
+use Rattle.mach_types.specs.declared.sequences.Area.{Area}
+use Rattle.mach_types.specs.declared.sequences.BadWhy.{BadWhy}
+use Rattle.mach_types.specs.declared.sequences.Outcome.{Outcome}
+use Rattle.mach_types.specs.declared.sequences.Outcome.TheVariants as comes_to
+use Rattle.mach_types.specs.declared.signal_words.Action.{Action}
+use Rattle.mach_types.specs.declared.signal_words.ThreadSignals.{ThreadSignals}
+use Rattle.mach_types.specs.declared.signals.TheConstants.{SIGSEGV}
+use Rattle.mach_types.specs.declared.threads.Saved.{Saved}
+use Rattle.mach_types.specs.declared.user_memory.Write.{Write}
+use Rattle.mach_types.specs.Kernel.Areas.{area_of, interruption, pc_after, writes_of}
+use Rattle.mach_types.specs.Kernel.SignalFrames.{can_write_frame, entered, entered_action, frame_writes, has_flag}
+use Rattle.mach_types.specs.Kernel.Signals.{Signalling, acted, action_of, default_action, dropped, is_handler, is_held, is_ignored, is_ignored_by_default, is_of, mask_of, refuses_action, set_action, take_if, without_pending, without_signal}
+use Rattle.page_map.specs.Map.{byte_in, can_write_in}
+use Rattle.sys_calls.specs.Registered.{areas_by_number}
+use Rattle.block_model.specs.Events.Signal.{done_delivery, dropped_if_ignored, file_interrupted, handled_unless_killed, kills, kills_unhandled, signals_handled, signals_taken}
+use Rattle.block_model.specs.Here.{Done, Here, is_writable}
+use Rattle.block_model.specs.History.{file_among}
+use Rattle.block_model.specs.Sequences.{area_here, interruption_here}
+use Rattle.process.specs.Delivering.{IsDelivered, IsEntered, IsInterrupted, done_here, killer_of}
+use Rattle.process.specs.Losing.{lost_unless}
+use Rattle.process.specs.Stored.{IsWritten}
+use Rattle.process.specs.declared.parts.Parts.{Parts}
+use Rattle.process.proofs.Interruptions.{file_is, is_fatal, lost_nothing, lost_twice, none_written, written_both}
+
+-- SIGNALS
+
+-- a signal that is taken leaves who is held, and the masks
+held_over : (t s u : ℕ) (xs : List ThreadSignals) → list_any (is_of u) (map (take_if t s) xs) ≡ list_any (is_of u) xs
+held_over t s u [] = refl
+held_over t s u (x ∷ xs) = go (is_of t x) ∙ ap (λ b. is_of u x || b) (held_over t s u xs)
+  where
+    go : (b : Bool) → list_any (is_of u) (cond b (without_signal s x) x ∷ map (take_if t s) xs) ≡ (is_of u x || list_any (is_of u) (map (take_if t s) xs))
+    go true = refl
+    go false = refl
+
+pub held_taken : (t s u : ℕ) (g : Signalling) → is_held u (without_pending t s g) ≡ is_held u g
+held_taken t s u g = held_over t s u g.threads
+
+mask_found : (c : Bool) (x y : ThreadSignals) (o p : Option ThreadSignals) → y.mask ≡ x.mask → option_map_or (λ (th : ThreadSignals). th.mask) o 0 ≡ option_map_or (λ (th : ThreadSignals). th.mask) p 0
+    → option_map_or (λ (th : ThreadSignals). th.mask) (cond c (Some y) o) 0 ≡ option_map_or (λ (th : ThreadSignals). th.mask) (cond c (Some x) p) 0
+mask_found true x y o p same rest = same
+mask_found false x y o p same rest = rest
+
+mask_first : (b : Bool) (s u : ℕ) (x : ThreadSignals) (xs ys : List ThreadSignals)
+    → option_map_or (λ (th : ThreadSignals). th.mask) (find (is_of u) ys) 0 ≡ option_map_or (λ (th : ThreadSignals). th.mask) (find (is_of u) xs) 0
+    → option_map_or (λ (th : ThreadSignals). th.mask) (find (is_of u) (cond b (without_signal s x) x ∷ ys)) 0 ≡ option_map_or (λ (th : ThreadSignals). th.mask) (find (is_of u) (x ∷ xs)) 0
+mask_first true s u x xs ys rest = mask_found (is_of u x) x (without_signal s x) (find (is_of u) ys) (find (is_of u) xs) refl rest
+mask_first false s u x xs ys rest = mask_found (is_of u x) x x (find (is_of u) ys) (find (is_of u) xs) refl rest
+
+mask_over : (t s u : ℕ) (xs : List ThreadSignals) → option_map_or (λ th. th.mask) (find (is_of u) (map (take_if t s) xs)) 0 ≡ option_map_or (λ th. th.mask) (find (is_of u) xs) 0
+mask_over t s u [] = refl
+mask_over t s u (x ∷ xs) = mask_first (is_of t x) s u x xs (map (take_if t s) xs) (mask_over t s u xs)
+
+pub mask_taken : (t s u : ℕ) (g : Signalling) → mask_of u (without_pending t s g) ≡ mask_of u g
+mask_taken t s u g = mask_over t s u g.threads
+
+-- an action that is set to what it is
+set_same : (xs : List Action) (i : ℕ) (d : Action) → set xs i (get_or xs i d) ≡ xs
+set_same [] i d = refl
+set_same (x ∷ xs) zero d = refl
+set_same (x ∷ xs) (suc i) d = ap (λ ys. x ∷ ys) (set_same xs i d)
+
+action_kept : (s : ℕ) (g : Signalling) → set_action s (action_of s g) g ≡ g
+action_kept s g = ap (λ xs. let k : Signalling = record g { actions = xs } in k) (set_same g.actions (s - 1) default_action)
+
+-- it drops its signal where it ignores it
+pub acted_same : (s : ℕ) (a : Action) (g : Signalling) → a ≡ action_of s g → acted s (Some a) g ≡ dropped_if_ignored s g
+acted_same s a g is = rw is (ap (λ k. cond (is_ignored s (action_of s g)) (dropped s k) k) (action_kept s g))
+
+pub not_dropped : (s : ℕ) (g : Signalling) → is_ignored s (action_of s g) ≡ false → g ≡ dropped_if_ignored s g
+not_dropped s g heeds = ap (λ b. cond b (dropped s g) g) (sym heeds)
+
+-- where sigaction(2) would refuse an action of a signal, its default is not to ignore it
+never_by_default : (s : ℕ) (a : Action) → 1 ≤ s → s ≤ 31 → refuses_action s (Some a) ≡ true → is_ignored_by_default s ≡ false
+never_by_default s a lowest highest refused = elim (cases_eq s 9) [
+  | inl kill ↦ rw kill refl
+  | inr other ↦ elim (cases_eq s 19) [
+    | inl stop ↦ rw stop refl
+    | inr another ↦
+        let none : s ≢ 0 = λ zero_is. omega (arith, lowest, zero_is) in
+        let allowed : refuses_action s (Some a) ≡ false = rw (ne_eqb s 0 none, le-ltb 31 s highest, ne_eqb s 9 other, ne_eqb s 19 another) refl in
+        let bad : false ≡ true = sym allowed ∙ refused in
+        absurd (cc)
+  ]
+]
+
+-- an action once its handler was entered isn't SIG_IGN
+get_set : (xs : List Action) (i : ℕ) (y d : Action) → (get_or (set xs i y) i d ≡ y) ⊎ (get_or (set xs i y) i d ≡ d)
+get_set [] i y d = inr refl
+get_set (x ∷ xs) zero y d = inl refl
+get_set (x ∷ xs) (suc i) y d = get_set xs i y d
+
+handler_heeded : (a : Action) → is_handler a ≡ true → eqb a.at 1 ≡ false
+handler_heeded a is = go (eqb a.at 0) (eqb a.at 1) is
+  where
+    go : (default ignored : Bool) → not (default || ignored) ≡ true → ignored ≡ false
+    go true ignored e = cc
+    go false true e = cc
+    go false false e = refl
+
+entered_heeded : (a : Action) → is_handler a ≡ true → eqb (entered_action a).at 1 ≡ false
+entered_heeded a is = go (has_flag a.flags 0x80000000)
+  where
+    go : (b : Bool) → eqb (cond b (record a { at = 0 }) a).at 1 ≡ false
+    go true = refl
+    go false = handler_heeded a is
+
+pub kept_where_refused : (t s : ℕ) (g g' : Signalling) → 1 ≤ s → s ≤ 31 → is_handler (action_of s g) ≡ true → g' ≡ entered t s g
+    → refuses_action s (Some (action_of s g')) ≡ true → is_ignored s (action_of s g') ≡ false
+kept_where_refused t s g g' lowest highest handler is refused =
+    let a = action_of s g' in
+    let heeded : eqb a.at 1 ≡ false = elim (get_set g.actions (s - 1) (entered_action (action_of s g)) default_action) [
+      | inl its ↦ ap (λ (b : Action). eqb b.at 1) (ap (action_of s) is ∙ its) ∙ entered_heeded (action_of s g) handler
+      | inr none ↦ ap (λ (b : Action). eqb b.at 1) (ap (action_of s) is ∙ none)
+    ] in
+    rw (heeded, never_by_default s a lowest highest refused) (no (eqb a.at 0))
+  where
+    no : (b : Bool) → (b && false) ≡ false
+    no true = refl
+    no false = refl
+
+-- THE HANDLER
+
+-- the signal that kills where the action is a handler
+pub killer_handler : (can_write : ℕ → Bool) (s : ℕ) (x : Saved) (g : Signalling) (made : Bool) → is_handler (action_of s g) ≡ true → can_write_frame can_write x ≡ made
+    → killer_of can_write s x g ≡ cond (not made) (Some SIGSEGV) None
+killer_handler can_write s x g made handler may = rw (handler, may) refl
+
+pub killer_default : (can_write : ℕ → Bool) (s : ℕ) (x : Saved) (g : Signalling) → is_handler (action_of s g) ≡ false → killer_of can_write s x g ≡ Some s
+killer_default can_write s x g none = rw none refl
+
+-- where the process is to be killed nothing changes
+pub not_entered : (t h s killer : ℕ) (x : Saved) (m : Parts) → IsEntered t h s (Some killer) x x m m
+not_entered t h s killer x m = record {
+  file = refl;
+  pages = none_written m.pages;
+  harts = λ k. lost_nothing (eqb k h) (slice_get m.harts.items k);
+  signals = refl;
+}
+
+-- THE WHOLE DELIVERY
+
+-- this was done
+record IsDoneSo (here : Here) (t : ℕ) (x : Saved) (m m' : Parts) (d : Done) : Type 0 where
+  file : x ≡ file_among d.files t (here.file t)
+  pages : IsWritten d.entered m.pages m'.pages
+  harts : (k : ℕ) → slice_get m'.harts.items k ≡ option_map (lost_unless (eqb k here.hart) d.entered) (slice_get m.harts.items k)
+  signals : m'.kernel.signals ≡ d.kernel.signals
+
+-- an interruption that finds nothing bad leaves it to the handler
+pub unhandled : (here : Here) (t s : ℕ) (o : Outcome) → is_fatal o ≡ false → kills here t s o ≡ kills_unhandled here t s o
+unhandled here t s comes_to.Nothing goes = refl
+unhandled here t s comes_to.Cleared goes = refl
+unhandled here t s (comes_to.Aborted at) goes = refl
+unhandled here t s (comes_to.Killed why) goes = cc
+
+-- what is known once the thread was interrupted
+pub record IsHalfway (here : Here) (t h s : ℕ) (o : Outcome) (x x1 : Saved) (a : Option Area) (m m1 : Parts) : Type 0 where
+  pub found : IsInterrupted here t h m x
+  pub area : a ≡ area_of t (areas_by_number m.kernel.areas.items)
+  pub comes : interruption (byte_in m.pages) (can_write_in m.pages) a x.pc ≡ o
+  pub file : x1 ≡ record x { pc = pc_after x.pc o }
+  pub pages : IsWritten (writes_of a o) m.pages m1.pages
+  pub harts : (k : ℕ) → slice_get m1.harts.items k ≡ option_map (lost_unless (eqb k h) (writes_of a o)) (slice_get m.harts.items k)
+  pub signals : m1.kernel.signals ≡ without_pending t s m.kernel.signals
+
+module _ (here : Here) (t h s : ℕ) (o : Outcome) (x x1 x2 : Saved) (a : Option Area) (m m1 m2 : Parts) (half : IsHalfway here t h s o x x1 a m m1) where
+  its_area : a ≡ area_here here t
+  its_area = half.area ∙ half.found.area
+
+  its_outcome : interruption_here here t ≡ o
+  its_outcome =
+      let found = half.found in
+      rw (found.bytes, found.writable, its_area, found.file) at half.comes
+
+  its_file : x1 ≡ file_interrupted here t o
+  its_file = half.file ∙ ap (λ (y : Saved). let z : Saved = record y { pc = pc_after y.pc o } in z) half.found.file
+
+  its_signals : m1.kernel.signals ≡ signals_taken here t s
+  its_signals = half.signals ∙ ap (without_pending t s) half.found.signals
+
+  its_action : action_of s m1.kernel.signals ≡ action_of s here.kernel.signals
+  its_action = ap (action_of s) its_signals
+
+  its_mask : mask_of t m1.kernel.signals ≡ mask_of t here.kernel.signals
+  its_mask = ap (mask_of t) its_signals ∙ mask_taken t s t here.kernel.signals
+
+  so : (killer : Option ℕ) → IsEntered t h s killer x1 x2 m1 m2 → IsDoneSo here t x2 m m2 (handled_unless_killed here t s o killer)
+  so None is =
+      let ws = writes_of a o in
+      let vs = frame_writes x1 (mask_of t m1.kernel.signals) in
+      let all : ws ++ vs ≡ (handled_unless_killed here t s o None).entered = rw (its_area, its_mask, its_file) refl in
+      record {
+        file = is.file ∙ rw (its_action, its_file, eq-eqb t t refl) refl;
+        pages = subst (λ (us : List Write). IsWritten us m.pages m2.pages) all (written_both ws vs m.pages m1.pages m2.pages half.pages is.pages);
+        harts = λ k. is.harts k ∙ ap (option_map (lost_unless (eqb k h) vs)) (half.harts k) ∙ lost_twice (eqb k h) ws vs (slice_get m.harts.items k)
+            ∙ ap (λ us. option_map (lost_unless (eqb k h) us) (slice_get m.harts.items k)) all
+            ∙ ap (λ j. option_map (lost_unless (eqb k j) (handled_unless_killed here t s o None).entered) (slice_get m.harts.items k)) half.found.hart;
+        signals = is.signals ∙ ap (signals_handled t s) its_signals;
+      }
+  so (Some killer) is =
+      let ws = writes_of a o in
+      let all : ws ++ [] ≡ writes_of (area_here here t) o = append-nil ws ∙ ap (λ b. writes_of b o) its_area in
+      record {
+        file = is.file ∙ half.file ∙ file_is here t o x half.found.file;
+        pages = subst (λ (us : List Write). IsWritten us m.pages m2.pages) all (written_both ws [] m.pages m1.pages m2.pages half.pages is.pages);
+        harts = λ k. is.harts k ∙ ap (option_map (lost_unless (eqb k h) [])) (half.harts k) ∙ lost_twice (eqb k h) ws [] (slice_get m.harts.items k)
+            ∙ ap (λ us. option_map (lost_unless (eqb k h) us) (slice_get m.harts.items k)) all
+            ∙ ap (λ j. option_map (lost_unless (eqb k j) (writes_of (area_here here t) o)) (slice_get m.harts.items k)) half.found.hart;
+        signals = is.signals ∙ its_signals;
+      }
+
+  -- the whole, once it is known by which signal the process is to be killed
+  whole : (killer : Option ℕ) → killer ≡ kills here t s o → IsEntered t h s killer x1 x2 m1 m2 → IsDelivered here t s killer x2 m m2
+  whole killer dies is =
+      let same : done_here here t s ≡ handled_unless_killed here t s o killer = ap (done_delivery here t s) its_outcome ∙ ap (handled_unless_killed here t s o) (sym dies) in
+      let done : IsDoneSo here t x2 m m2 (done_here here t s) = subst (IsDoneSo here t x2 m m2) (sym same) (so killer is) in
+      record {
+        dies = dies ∙ ap (kills here t s) (sym its_outcome);
+        file = done.file;
+        pages = done.pages;
+        harts = done.harts;
+        signals = done.signals;
+      }
+
+  -- where the interruption found nothing bad, and where it did
+  pub delivered_by : (killer : Option ℕ) → is_fatal o ≡ false → killer ≡ killer_of (can_write_in m1.pages) s x1 m1.kernel.signals → can_write_in m1.pages ≡ can_write_in m.pages
+      → IsEntered t h s killer x1 x2 m1 m2 → IsDelivered here t s killer x2 m m2
+  delivered_by killer goes dies writable is =
+      let there : can_write_in m1.pages ≡ is_writable here = writable ∙ half.found.writable in
+      whole killer (dies ∙ rw (there, its_file, its_action) refl ∙ sym (unhandled here t s o goes)) is
+
+pub delivered_bad : (here : Here) (t h s : ℕ) (why : BadWhy) (x x1 : Saved) (a : Option Area) (m m1 : Parts) → IsHalfway here t h s (comes_to.Killed why) x x1 a m m1
+    → IsDelivered here t s (Some SIGSEGV) x1 m m1
+delivered_bad here t h s why x x1 a m m1 half = whole here t h s (comes_to.Killed why) x x1 x1 a m m1 m1 half (Some SIGSEGV) refl (not_entered t h s SIGSEGV x1 m1)

@@ -1,0 +1,154 @@
+-- Signals at a place: they are kept of the thread on a hart, a fault's signal is one of 31, and which faults have handlers.
+use Rattle.std.proofs.Common.{◌≡◌, ℕ, ◌≤◌, ◌<◌, List, [], ◌∷◌, map, find, refl, sym, ap, ◌∙◌, arith, Bool, true, false, not, cond, eqb, ◌&&◌, ◌||◌, Option, Some, None, is_some, get_or, subst, ◌%◌}
+use Rattle.std.specs.List.{list_any}
+use Rattle.std.specs.Option.{option_map}
+use Rattle.mach_types.specs.declared.events.Entry.{Entry}
+use Rattle.mach_types.specs.declared.events.Hart.{Hart}
+use Rattle.mach_types.specs.declared.events.Kind.{Kind}
+use Rattle.mach_types.specs.declared.signal_words.Action.{Action}
+use Rattle.mach_types.specs.declared.signal_words.ThreadSignals.{ThreadSignals}
+use Rattle.mach_types.specs.declared.signals.TheConstants.{SIGBUS, SIGSEGV}
+use Rattle.mach_types.specs.declared.threads.Saved.{Saved}
+use Rattle.mach_types.specs.declared.threads.ThreadState.TheVariants.{Running}
+use Rattle.mach_types.specs.Kernel.Signals.{Signalling, action_of, is_handler, is_held, is_ignored, is_ignored_by_default, is_of, posted, with_pending}
+use Rattle.mach_types.specs.Kernel.Threads.{Thread, Threads, is_live, is_thread}
+use Rattle.elf_load.specs.declared.image.ImagePage.{ImagePage}
+use Rattle.hart_state.specs.declared.hart.HartState.{HartState}
+use Rattle.rv_inst.specs.Class.{atomic_write, conditional_write, plain_read, plain_write, reserving_read}
+use Rattle.rv_inst.specs.Execution.{access_fault, fault_in, is_allowed, unless_allowed}
+use Rattle.rv_inst.specs.declared.class.Access.{Access}
+use Rattle.rv_inst.specs.declared.effects.Effect.{Effect}
+use Rattle.rv_inst.specs.declared.effects.Effect.TheVariants as effect
+use Rattle.block_model.specs.Here.{is_writable, memory, runs}
+use Rattle.block_model.specs.Instruction.{fault_by, fetch_fault, fetched, next_effect, next_fault}
+use Rattle.block_model.specs.Plain.{here_of, plain_seen}
+use Rattle.block_model.specs.Run.{IsBlockRun}
+use Rattle.block_model.specs.Setting.{Seen}
+use Rattle.block_model.specs.Sights.{thread}
+use Rattle.block_model.specs.Tables.{AreSignalsOfLive}
+use Rattle.block_model.proofs.Laws.{live_signals, place_good, running_is}
+use Rattle.process.specs.Deeds.{entry_from}
+use Rattle.process.specs.Delivering.{HasSignals}
+use Rattle.process.specs.Planned.{IsPlanned}
+use Rattle.process.specs.Tied.{IsPlace, IsTied}
+use Rattle.process.specs.declared.next.Next.{Next}
+use Rattle.process.specs.declared.parts.Parts.{Parts}
+use Rattle.process.proofs.HartStates.{hart_there}
+use Rattle.process.proofs.Places.{hart_is, thread_is}
+use Rattle.process.proofs.StuckProcess.{live_with}
+
+-- THE THREAD ON A HART
+
+any_numbered : (t : ℕ) (xs : List ThreadSignals) → list_any (is_of t) xs ≡ list_any (λ u. eqb u t) (map (λ th. th.tid) xs)
+any_numbered t [] = refl
+any_numbered t (x ∷ xs) = ap (λ b. is_of t x || b) (any_numbered t xs)
+
+live_numbered : (t : ℕ) (xs : List Thread) → is_some (find (is_thread t) xs) ≡ list_any (λ u. eqb u t) (map (λ th. th.tid) xs)
+live_numbered t [] = refl
+live_numbered t (x ∷ xs) = go (is_thread t x) ∙ ap (λ b. is_thread t x || b) (live_numbered t xs)
+  where
+    go : (b : Bool) → is_some (cond b (Some x) (find (is_thread t) xs)) ≡ (b || is_some (find (is_thread t) xs))
+    go true = refl
+    go false = refl
+
+-- where the signals are those of the live threads, those of a thread are kept where it is live
+pub held_as_live : (t : ℕ) (ts : Threads) (g : Signalling) → AreSignalsOfLive ts g → is_held t g ≡ is_live t ts
+held_as_live t ts g of = any_numbered t g.threads ∙ ap (list_any (λ u. eqb u t)) of ∙ sym (live_numbered t ts.live)
+
+-- a thread that runs on a hart of the machine is live, and so its signals are kept
+pub held_where_run : (v : Seen) (m : Parts) (h t : ℕ) → IsBlockRun v.setting v.log → IsTied v.setting (plain_seen v) m → h < v.setting.limits.harts
+    → runs (here_of v h) ≡ Some t → is_held t m.kernel.signals ≡ true
+held_where_run v m h t run tied lt at =
+    let k = (plain_seen v).kernel in
+    let state = running_is v.setting.limits.harts h t k.threads k.scheduling (place_good v h run lt).kernel.tables at in
+    ap (is_held t) tied.tables.signals ∙ held_as_live t k.threads k.signals (live_signals v run) ∙ live_with t (Running (record { 0 = h })) k.threads state
+
+pub held_at : (v : Seen) (m : Parts) (h t : ℕ) → IsPlace v m h → runs (here_of v h) ≡ Some t → is_held t m.kernel.signals ≡ true
+held_at v m h t place at = held_where_run v m h t place.run place.tied place.lt at
+
+pub has_signals : (v : Seen) (m : Parts) (h : ℕ) → IsBlockRun v.setting v.log → IsTied v.setting (plain_seen v) m → h < v.setting.limits.harts → HasSignals m h
+has_signals v m h run tied lt x t at busy =
+    let own = hart_there v.setting (plain_seen v) m h x tied lt at in
+    held_where_run v m h t.0 run tied lt (thread_is (runs (here_of v h)) t (sym busy ∙ ap (λ (y : HartState). y.running) own))
+
+-- the thread that an entry of a hart's event names is the one that runs there
+pub entry_runs : (v : Seen) (m : Parts) (h : Hart) (k : Kind) (t : ℕ) (x : HartState) (e : Entry) → IsPlace v m h.0 → runs (here_of v h.0) ≡ Some t → x ≡ get_or m.harts.items h.0 x
+    → e ≡ entry_from h k x.running x.pc → e.tid.0 ≡ t
+entry_runs v m h k t x e place at value is =
+    let busy : x.running ≡ Some (thread t) = ap (λ (y : HartState). y.running) (hart_is v m h.0 x place value) ∙ ap (option_map thread) at in
+    ap (λ (z : Entry). z.tid.0) (is ∙ ap (λ o. entry_from h k o x.pc) busy)
+
+-- so signals are kept of it
+pub held_named : (v : Seen) (m : Parts) (h : Hart) (k : Kind) (t : ℕ) (x : HartState) (e : Entry) → IsPlace v m h.0 → runs (here_of v h.0) ≡ Some t → x ≡ get_or m.harts.items h.0 x
+    → e ≡ entry_from h k x.running x.pc → is_held e.tid.0 m.kernel.signals ≡ true
+held_named v m h k t x e place at value is = ap (λ n. is_held n m.kernel.signals) (entry_runs v m h k t x e place at value is) ∙ held_at v m h.0 t place at
+
+-- FAULTS
+
+-- a signal, where there is one
+abbrev pub IsSignal : Option ℕ → Type 0
+IsSignal None = Unit {0}
+IsSignal (Some s) = (1 ≤ s) × (s ≤ 31)
+
+is_segv : IsSignal (Some SIGSEGV)
+is_segv = (omega arith, omega arith)
+
+is_bus : IsSignal (Some SIGBUS)
+is_bus = (omega arith, omega arith)
+
+either : (b : Bool) (x y : Option ℕ) → IsSignal x → IsSignal y → IsSignal (cond b x y)
+either true x y one other = one
+either false x y one other = other
+
+of_access : (byte : ℕ → Option ℕ) (can_write : ℕ → Bool) (a : Access) → IsSignal (access_fault byte can_write a)
+of_access byte can_write a =
+    let allowed : IsSignal (unless_allowed (is_allowed byte can_write a)) = either (is_allowed byte can_write a) None (Some SIGSEGV) tt is_segv in
+    either a.must_align _ _ (either _ (unless_allowed (is_allowed byte can_write a)) (Some SIGBUS) allowed is_bus) allowed
+
+of_effect : (byte : ℕ → Option ℕ) (can_write : ℕ → Bool) (e : Effect) → IsSignal (fault_in byte can_write e)
+of_effect byte can_write (effect.Next rd value pc) = tt
+of_effect byte can_write (effect.Load at size is_signed rd) = of_access byte can_write (plain_read at size)
+of_effect byte can_write (effect.Store at size value) = of_access byte can_write (plain_write at size)
+of_effect byte can_write (effect.Amo op at size value rd) = of_access byte can_write (atomic_write at size)
+of_effect byte can_write (effect.Lr at size rd) = of_access byte can_write (reserving_read at size)
+of_effect byte can_write (effect.Sc at size value rd) = of_access byte can_write (conditional_write at size)
+of_effect byte can_write (effect.Fence full) = tt
+of_effect byte can_write effect.FenceI = tt
+of_effect byte can_write effect.Call = tt
+of_effect byte can_write effect.Break = (omega arith, omega arith)
+of_effect byte can_write effect.Misaligned = is_bus
+
+of_fetch : (pc : ℕ) (word : Option ℕ) → IsSignal (Some (fetch_fault pc word))
+of_fetch pc None = at (eqb (pc % 4) 0)
+  where
+    at : (b : Bool) → IsSignal (Some (cond b SIGSEGV SIGBUS))
+    at true = is_segv
+    at false = is_bus
+of_fetch pc (Some word) = (omega arith, omega arith)
+
+of_next : (byte : ℕ → Option ℕ) (can_write : ℕ → Bool) (pc : ℕ) (word : Option ℕ) (o : Option Effect) → IsSignal (fault_by byte can_write pc word o)
+of_next byte can_write pc word None = of_fetch pc word
+of_next byte can_write pc word (Some e) = of_effect byte can_write e
+
+-- the signal of a fault
+fault_is_signal : (pages : List ImagePage) (byte : ℕ → Option ℕ) (can_write : ℕ → Bool) (f : Saved) (o : Option ℕ) → o ≡ next_fault pages byte can_write f → IsSignal o
+fault_is_signal pages byte can_write f o is = subst IsSignal (sym is) (of_next byte can_write f.pc (fetched pages f.pc) (next_effect pages f))
+
+pub planned_fault : (v : Seen) (h : ℕ) (next : Next) → IsPlanned v h next → IsSignal next.fault
+planned_fault v h next plan =
+    fault_is_signal v.setting.program.pages (memory (here_of v h)) (is_writable (here_of v h)) ((here_of v h).file plan.thread) next.fault plan.fault
+
+-- HANDLERS
+
+-- an action that is a handler ignores nothing
+pub handler_heeds : (s : ℕ) (a : Action) → is_handler a ≡ true → is_ignored s a ≡ false
+handler_heeds s a is = go (eqb a.at 0) (eqb a.at 1) (is_ignored_by_default s) is
+  where
+    go : (default ignored by_default : Bool) → not (default || ignored) ≡ true → (ignored || (default && by_default)) ≡ false
+    go true ignored by_default is = cc
+    go false true by_default is = cc
+    go false false by_default is = refl
+
+-- so its signal becomes pending
+pub posted_handler : (t s : ℕ) (g : Signalling) → is_handler (action_of s g) ≡ true → posted t s g ≡ with_pending t s g
+posted_handler t s g is = ap (λ b. cond b g (with_pending t s g)) (handler_heeds s (action_of s g) is)

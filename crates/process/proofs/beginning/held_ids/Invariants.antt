@@ -1,9 +1,0 @@
--- So far the set has the smaller ids that are held.
-use Rattle.std.proofs.Common.{◌≡◌}
-use Rattle.std.specs.List.{list_any}
-use Rattle.mach_types.specs.Kernel.Barriers.{harts_that}
-use Rattle.process.specs.Sequences.{holds}
-use Rattle.process.proofs.beginning.held_ids.Given as goal
-
-abbrev pub invariant-loop-id : goal.invariant-loop-id
-invariant-loop-id l = l.held ≡ harts_that (λ id. list_any (holds id) l.harts) l.id

@@ -1,8 +1,0 @@
--- So far no thread holds it.
-use Rattle.std.proofs.Common.{◌≡◌, false, take}
-use Rattle.std.specs.List.{list_any}
-use Rattle.process.specs.Sequences.{holds}
-use Rattle.process.proofs.beginning.is_held.Given as goal
-
-abbrev pub invariant-loop-state : goal.invariant-loop-state
-invariant-loop-state l = list_any (holds l.id) (take l.state-index l.harts) ≡ false

@@ -1,5 +1,0 @@
-use Rattle.process.proofs.HeldPages.{touches_is}
-use Rattle.process.proofs.holding.waits_in.Goals as goal
-
-pub returns : goal.returns
-returns c = touches_is c.args.pages c.args.state.now.buffer c.touches_any.result c.touches_any.ensures

@@ -1,0 +1,25 @@
+use Rattle.std.proofs.Common.{sym, ◌∙◌}
+use Rattle.std.proofs.lemmas.Result.{IfOk-at_ok}
+use Rattle.block_model.specs.Events.{done_of}
+use Rattle.block_model.specs.Plain.{here_of}
+use Rattle.process.specs.Tied.{IsUncounted}
+use Rattle.process.proofs.parts.Parts.make.Goals as goal
+
+pub count-requires : goal.count-requires
+count-requires c =
+    let v = c.requires.seen in
+    let h = c.args.hart.0 in
+    (IfOk-at_ok (λ e. IsUncounted v h (done_of c.args.choice (here_of v h)) c.args.self.now c.made.new.self) c.in-Ok.is (c.made.ensures.made v c.requires.place c.requires.pages)).room
+
+pub returns-in-Ok-clause-answer : goal.returns-in-Ok-clause-answer
+returns-in-Ok-clause-answer c v place same = sym c.in-Ok.is ∙ c.made.ensures.answer v place same
+
+pub returns-in-Ok-clause-after : goal.returns-in-Ok-clause-after
+returns-in-Ok-clause-after c v place same =
+    let h = c.args.hart.0 in
+    (IfOk-at_ok (λ e. IsUncounted v h (done_of c.args.choice (here_of v h)) c.args.self.now c.made.new.self) c.in-Ok.is (c.made.ensures.made v place same)).after c.count.new.self (record {
+      harts = c.count.ensures.harts;
+      pages = c.count.ensures.pages;
+      kernel = c.count.ensures.kernel;
+      ended = c.count.ensures.ended;
+    })

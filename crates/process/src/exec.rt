@@ -1,0 +1,205 @@
+//! `exec`: an instruction, its fault, or a call.
+
+ghost use Rattle.std.specs.Prelude.{◌≡◌, Option, Some, None, true, false, IfOk, IfErr, OnErr};
+ghost use Rattle.rv_inst.specs.Class.{is_call};
+ghost use Rattle.block_model.specs.Setting.{Seen};
+ghost use Rattle.block_model.specs.Events.{done_of, refusal_of};
+ghost use Rattle.block_model.specs.Plain.{here_of};
+ghost use Rattle.sys_calls.specs.Made.{process_end};
+ghost use Rattle.process.specs.Deeds.{hart_after_call, over_after};
+ghost use Rattle.process.specs.Planned.{IsPlanned, IsInside, HasPlan, IsExecuted};
+ghost use Rattle.process.specs.Tied.{IsPlace, HasCode, IsUncounted, answer_to};
+
+use crate::code::Code;
+use crate::handlers::has_handler;
+use crate::next::{Next, next_of};
+use crate::parts::{Parts, entry_of};
+use hart_state::HartState;
+use mach_types::signals::SIGSEGV;
+use mach_types::{Choice, End, Entry, Hart, Kind, Saved, Why};
+use rv_inst::Effect;
+use sys_calls::{CallEnd, make_call};
+
+impl Parts {
+    /// The next instruction of the thread on a hart, where it may be executed, or the condition that fails.
+    fn planned(&self, code: &Code, hart: Hart) -> Result<Next, Why>
+        requires { HasCode code.now self.now hart.0 }
+        ensures err { (v : Seen) → IsPlace v self.now hart.0 → code.now ≡ v.setting.program.pages
+            → IfErr result (λ why. refusal_of Choice.Exec (here_of v hart.0) ≡ Some why) }
+        ensures ok { (v : Seen) → IsPlace v self.now hart.0 → code.now ≡ v.setting.program.pages
+            → IfOk result (IsPlanned v hart.0) }
+    {
+        let state = &self.harts[hart.0 as usize];
+        let next = next_of(code, &self.pages, state);
+        match self.exec_gate(hart, &next) {
+            Some(why) => Err(why),
+            None => Ok(next),
+        }
+    }
+
+    /// Why the thread on a hart may not execute its next instruction.
+    pub(crate) fn refusal_exec(&self, code: &Code, hart: Hart) -> Option<Why>
+        requires { HasCode code.now self.now hart.0 }
+        ensures { (v : Seen) → IsPlace v self.now hart.0 → code.now ≡ v.setting.program.pages
+            → result ≡ refusal_of Choice.Exec (here_of v hart.0) }
+    {
+        let state = &self.harts[hart.0 as usize];
+        let next = next_of(code, &self.pages, state);
+        self.exec_gate(hart, &next)
+    }
+
+    /// A fault: its signal becomes pending for the thread where it has a handler, and else the process is killed by it.
+    fn fault(&mut self, hart: Hart, signal: u8)
+        requires { (effect : Option Effect)
+            × HasPlan self.old hart.0 (record { effect = effect; fault = Some signal }) }
+        ensures { (effect : Option Effect)
+            → IsExecuted self.old hart.0 (record { effect = effect; fault = Some signal }) self.new }
+    {
+        let state = &mut self.harts[hart.0 as usize];
+        let entry = entry_of(hart, Kind::Exec, state);
+        state.ran += 1;
+        if has_handler(&self.kernel.signals, entry.tid, signal) {
+            self.kernel.signals.post(entry.tid, signal);
+        } else {
+            self.ended = Some(End::Killed(signal));
+        }
+    }
+
+    /// An instruction other than a call.
+    fn plain(&mut self, hart: Hart, effect: &Effect)
+        requires plan { HasPlan self.old hart.0 (record { effect = Some effect.now; fault = None }) }
+        requires no_call { is_call effect.now ≡ false }
+        ensures { IsExecuted self.old hart.0 (record { effect = Some effect.now; fault = None }) self.new }
+    {
+        let state = &mut self.harts[hart.0 as usize];
+        let made = state.execute(&self.pages, effect);
+        state.ran += 1;
+        self.enter_made(hart, made);
+    }
+
+    /// How the run has ended after a call: the call ended the process, or a thread is live and none can go on.
+    fn end_after(&self, end: CallEnd) -> Option<End>
+        ensures { result ≡ over_after (process_end end) self.now.kernel.threads.threads }
+    {
+        match end {
+            CallEnd::ProcessEnd(end) => Some(end),
+            _ if self.kernel.threads.is_stuck() => Some(End::Stuck),
+            _ => None,
+        }
+    }
+
+    /// A call inside a restartable sequence: the process is killed, and the hart's reservation ends.
+    fn call_inside(&mut self, hart: Hart)
+        requires plan { HasPlan self.old hart.0 (record { effect = Some Effect.Call; fault = None }) }
+        requires inside { IsInside true self.old hart.0 }
+        ensures { IsExecuted self.old hart.0 (record { effect = Some Effect.Call; fault = None }) self.new }
+    {
+        let state = &mut self.harts[hart.0 as usize];
+        state.reserved = None;
+        state.ran += 1;
+        self.ended = Some(End::Killed(SIGSEGV));
+    }
+
+    /// A call outside.
+    fn call_outside(&mut self, hart: Hart)
+        requires plan { HasPlan self.old hart.0 (record { effect = Some Effect.Call; fault = None }) }
+        requires outside { IsInside false self.old hart.0 }
+        ensures { IsExecuted self.old hart.0 (record { effect = Some Effect.Call; fault = None }) self.new }
+    {
+        let harts = self.harts.len() as u8;
+        let running = self.busy_harts();
+        let state = &mut self.harts[hart.0 as usize];
+        let entry = entry_of(hart, Kind::Exec, state);
+        let mut saved = Saved {
+            file: state.file,
+            pc: state.pc,
+        };
+        let done = make_call(
+            &mut self.kernel,
+            &mut self.pages,
+            hart,
+            running,
+            harts,
+            entry.tid,
+            &mut saved,
+            state.cid,
+        );
+        end_call(state, done.end, saved);
+        state.ran += 1;
+        self.pages.keeps();
+        self.lose(hart, done.written.as_slice());
+        self.ask(hart, done.end);
+        self.ended = self.end_after(done.end);
+    }
+
+    /// A call.
+    #[inline(never)]
+    fn call(&mut self, hart: Hart)
+        requires { HasPlan self.old hart.0 (record { effect = Some Effect.Call; fault = None }) }
+        ensures { IsExecuted self.old hart.0 (record { effect = Some Effect.Call; fault = None }) self.new }
+    {
+        if self.is_inside(hart) {
+            self.call_inside(hart)
+        } else {
+            self.call_outside(hart)
+        }
+    }
+
+    /// The next instruction of the thread on a hart.
+    fn execute(&mut self, hart: Hart, next: Next)
+        requires { HasPlan self.old hart.0 next }
+        ensures { IsExecuted self.old hart.0 next self.new }
+    {
+        match (next.fault, next.effect) {
+            (Some(signal), _) => self.fault(hart, signal),
+            (None, Some(Effect::Call)) => self.call(hart),
+            (None, Some(effect)) => self.plain(hart, &effect),
+            (None, None) => unreachable!(),
+        }
+    }
+
+    /// `exec`, but for the count of its event.
+    pub(crate) fn exec(&mut self, code: &Code, hart: Hart) -> Result<Entry, Why>
+        requires { HasCode code.now self.old hart.0 }
+        ensures answer { (v : Seen) → IsPlace v self.old hart.0 → code.now ≡ v.setting.program.pages
+            → result ≡ answer_to v hart.0 Choice.Exec }
+        ensures made { (v : Seen) → IsPlace v self.old hart.0 → code.now ≡ v.setting.program.pages
+            → IfOk result
+            (λ e. IsUncounted v hart.0 (done_of Choice.Exec (here_of v hart.0)) self.old self.new) }
+        ensures err { OnErr result (self.new ≡ self.old) }
+    {
+        match self.planned(code, hart) {
+            Ok(next) => {
+                let made = self.entry(hart, Choice::Exec);
+                self.execute(hart, next);
+                Ok(made)
+            }
+            Err(why) => Err(why),
+        }
+    }
+}
+
+/// A thread goes on with this file after its call.
+fn go_on(state: &mut HartState, saved: Saved)
+    ensures { state.new ≡ record state.old { file = saved.file; pc = saved.pc; reserved = None } }
+{
+    state.file = saved.file;
+    state.pc = saved.pc;
+    state.reserved = None;
+}
+
+/// The hart after the call of its thread, which left this in its registers: it goes on, waits there in a barrier, or gave up the hart.
+fn end_call(state: &mut HartState, end: CallEnd, saved: Saved)
+    ensures { state.new ≡ hart_after_call end saved state.old }
+{
+    match end {
+        CallEnd::Block | CallEnd::Leave(_) | CallEnd::ThreadEnd => {
+            let _kept = state.leave();
+        }
+        CallEnd::Return(_) | CallEnd::Resume | CallEnd::ProcessEnd(_) => go_on(state, saved),
+        CallEnd::Barrier { targets, .. } => {
+            go_on(state, saved);
+            state.waits = Some(targets);
+        }
+    }
+}

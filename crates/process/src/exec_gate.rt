@@ -1,0 +1,88 @@
+//! Pages that a call would take from stores that wait: it waits until they have entered memory.
+
+ghost use Rattle.std.specs.Prelude.{◌≡◌, ◌<◌, ℕ, Some, length};
+ghost use Rattle.std.specs.List.{list_any};
+ghost use Rattle.std.specs.Option.{option_copied};
+ghost use Rattle.hart_state.specs.declared.hart.HartState.{HartState as State};
+ghost use Rattle.block_model.specs.Events.Exec.{is_held, others_gate, refusal_exec};
+ghost use Rattle.block_model.specs.Here.{runs};
+ghost use Rattle.block_model.specs.Plain.{Plain, here_in_plain};
+ghost use Rattle.block_model.specs.Setting.{Setting};
+ghost use Rattle.process.specs.Holding.{IsNextAt, lies_in};
+ghost use Rattle.process.specs.Tied.{IsTied};
+
+use crate::next::{Next, is_call};
+use crate::parts::Parts;
+use hart_state::HartState;
+use mach_types::{Hart, Why};
+use rv_inst::Effect;
+use sys_calls::{PageSpan, pages_taken};
+
+/// Whether a byte of a store that waits on a hart lies on one of these pages.
+fn waits_in(state: &HartState, pages: PageSpan) -> bool
+    ensures { result ≡ list_any (lies_in pages) state.now.buffer }
+{
+    state.buffer.touches_any(pages.first, pages.count)
+}
+
+/// The same of some of these harts.
+fn waits_in_any(harts: &[HartState], pages: PageSpan) -> bool
+    ensures { result ≡ list_any (λ (x : State). list_any (lies_in pages) x.buffer) harts.now }
+{
+    for state in harts {
+        if waits_in(state, pages) {
+            return true;
+        }
+    }
+    false
+}
+
+impl Parts {
+    /// Whether a byte of a store that waits on some hart lies on a page that the call of a hart's thread would take. A call inside
+    /// a sequence takes none.
+    #[inline(never)]
+    fn is_held(&self, hart: Hart) -> bool
+        requires { hart.0 < length self.now.harts.items }
+        ensures { (s : Setting) (p : Plain) (t : ℕ) → IsTied s p self.now → hart.0 < s.limits.harts
+            → runs (here_in_plain s p hart.0) ≡ Some t → result ≡ is_held (here_in_plain s p hart.0) t }
+    {
+        if self.is_inside(hart) {
+            return false;
+        }
+        let state = &self.harts[hart.0 as usize];
+        let taken = pages_taken(&self.pages, &state.file);
+        waits_in_any(&self.harts, taken)
+    }
+
+    /// Why an instruction with this effect waits for stores of other harts; None where it doesn't.
+    #[inline]
+    fn others_gate(&self, hart: Hart, effect: Option<&Effect>) -> Option<Why>
+        requires { hart.0 < length self.now.harts.items }
+        ensures { (s : Setting) (p : Plain) (t : ℕ) → IsTied s p self.now → hart.0 < s.limits.harts
+            → runs (here_in_plain s p hart.0) ≡ Some t
+            → result ≡ others_gate (is_held (here_in_plain s p hart.0) t) (option_copied effect.entry) }
+    {
+        if is_call(effect) && self.is_held(hart) {
+            Some(Why::Others)
+        } else {
+            None
+        }
+    }
+
+    /// Why the thread on a hart may not execute its next instruction, which is this; None where it may. The hart must be one of
+    /// the list, and the instruction that of [`next_of`](crate::next_of) for its state: what is answered holds wherever the parts
+    /// are tied to a place at which that is the next instruction. The first condition that fails is answered.
+    #[inline]
+    pub fn exec_gate(&self, hart: Hart, next: &Next) -> Option<Why>
+        requires { hart.0 < length self.now.harts.items }
+        ensures { (s : Setting) (p : Plain) → IsTied s p self.now → hart.0 < s.limits.harts
+            → IsNextAt (here_in_plain s p hart.0) next.now
+            → result ≡ refusal_exec (here_in_plain s p hart.0) }
+    {
+        let state = &self.harts[hart.0 as usize];
+        match state.exec_gate(next.effect.as_ref(), next.fault.is_some()) {
+            Some(why) => Some(why),
+            None => self.others_gate(hart, next.effect.as_ref()),
+        }
+    }
+}

@@ -1,0 +1,62 @@
+-- The calls by their numbers, and which of them write nothing.
+use Rattle.std.proofs.Common.{◌≡◌, ℕ, Bool, true, false, cond, eqb, List, [], Option, Some, None, refl, sym, ap, ◌∙◌, ◌∷◌, Result, subst}
+use Rattle.mach_types.specs.declared.threads.Saved.{Saved}
+use Rattle.block_model.specs.Here.{Here, memory}
+use Rattle.block_model.specs.Calls.{call_of, called}
+use Rattle.block_model.specs.Calls.Affinity.{moved_off, sched_setaffinity, set_given, setaffinity_errors}
+use Rattle.block_model.specs.Calls.Answers.{CallDone, argument, int_argument, refused, said, Errors, unless}
+use Rattle.block_model.specs.Calls.Futexes.{futex, futex_wait, futex_wake, operation, futex_errors, wait_errors}
+use Rattle.block_model.specs.Calls.Signals.{resumed, rt_sigreturn}
+use Rattle.block_model.specs.Kernel.{waited}
+use Rattle.mach_types.specs.Kernel.SignalFrames.{frame_read}
+use Rattle.mach_types.specs.Registers.{register}
+use Rattle.mach_types.specs.declared.errors.Errno.{Errno}
+use Rattle.mach_types.specs.declared.user_memory.Write.{Write}
+use Rattle.page_map.specs.Map.{Map}
+use Rattle.sys_calls.specs.Answered.{IsAnswered}
+use Rattle.sys_calls.specs.declared.kernel.Kernel.{Kernel}
+
+-- the call that the number names
+pub numbered : (h : Here) (t n i : ℕ) (saved : Saved) → saved ≡ h.file t → n ≡ register saved.file 17 → n ≡ i → called h t ≡ call_of i h t
+numbered h t n i saved file is e = ap (λ (x : ℕ). call_of x h t) (sym (ap (λ (f : Saved). register f.file 17) file) ∙ sym is ∙ e)
+
+-- what it came to, where the number is this one; and where it wrote nothing
+pub by_number : {h : Here} {t : ℕ} {k k' : Kernel} {m m' : Map} {ws : List Write} {answer : Result ℕ Errno} {n i : ℕ} → n ≡ i
+    → IsAnswered h t k m k' m' ws answer (call_of i h t) → IsAnswered h t k m k' m' ws answer (call_of n h t)
+by_number {h = h} {t = t} {k = k} {k' = k'} {m = m} {m' = m'} {ws = ws} {answer = answer} is done =
+    subst (λ (n : ℕ). IsAnswered h t k m k' m' ws answer (call_of n h t)) (sym is) done
+
+pub silent_by_number : {h : Here} {t : ℕ} {k k' : Kernel} {m m' : Map} {ws : List Write} {answer : Result ℕ Errno} {n i : ℕ} → ws ≡ [] → n ≡ i
+    → IsAnswered h t k m k' m' [] answer (call_of i h t) → IsAnswered h t k m k' m' ws answer (call_of n h t)
+silent_by_number {h = h} {t = t} {k = k} {k' = k'} {m = m} {m' = m'} {answer = answer} {n = n} none is done =
+    subst (λ (ws : List Write). IsAnswered h t k m k' m' ws answer (call_of n h t)) (sym none) (by_number is done)
+
+-- calls that write nothing: each refusal writes nothing
+silent_unless : (h : Here) (t : ℕ) (errors : Errors) (done : CallDone) → done.entered ≡ [] → (unless h t errors done).entered ≡ []
+silent_unless h t [] done none = none
+silent_unless h t (e ∷ errors) done none =
+    elim e.0 as (λ b. (cond b (refused h t e.1) (unless h t errors done)).entered ≡ []) [ true ↦ refl | false ↦ silent_unless h t errors done none ]
+
+either_silent : (b : Bool) (x y : CallDone) → x.entered ≡ [] → y.entered ≡ [] → (cond b x y).entered ≡ []
+either_silent true x y p q = p
+either_silent false x y p q = q
+
+silent_wait : (h : Here) (t : ℕ) → (futex_wait h t).entered ≡ []
+silent_wait h t = silent_unless h t (wait_errors h t) (record (said h t 0) { kernel = waited t (argument h t 0) h.kernel }) refl
+
+pub silent_futex : (h : Here) (t : ℕ) → (futex h t).entered ≡ []
+silent_futex h t =
+    let wakes = eqb (operation (int_argument h t 1)) 0 in
+    silent_unless h t (futex_errors h t) (cond wakes (futex_wait h t) (futex_wake h t))
+    (either_silent wakes (futex_wait h t) (futex_wake h t) (silent_wait h t) refl)
+
+silent_resumed : (h : Here) (t : ℕ) (words : Option (List ℕ)) → (resumed h t words).entered ≡ []
+silent_resumed h t None = refl
+silent_resumed h t (Some words) = refl
+
+pub silent_sigreturn : (h : Here) (t : ℕ) → (rt_sigreturn h t).entered ≡ []
+silent_sigreturn h t = silent_resumed h t (frame_read (memory h) (h.file t))
+
+pub silent_setaffinity : (h : Here) (t : ℕ) → (sched_setaffinity h t).entered ≡ []
+silent_setaffinity h t =
+    silent_unless h t (setaffinity_errors h t) (record (said h t 0) { kernel = moved_off h t (set_given h t) }) refl

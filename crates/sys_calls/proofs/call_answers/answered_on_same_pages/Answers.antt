@@ -1,0 +1,93 @@
+-- Each call that changes no pages, by its number.
+use Rattle.std.proofs.Common.{◌≡◌, ℕ, List, eqb, refl, sym, subst, ◌∙◌, arith, cond}
+use Rattle.std.specs.Prelude.{Ok, Err}
+use Rattle.std.proofs.lemmas.Bool.{ne_eqb}
+use Rattle.mach_types.specs.declared.errors.TheConstants.{ENOSYS}
+use Rattle.mach_types.specs.declared.user_memory.Write.{Write}
+use Rattle.block_model.specs.Calls.{call_of}
+use Rattle.block_model.specs.Calls.Answers.{refused, CallDone}
+use Rattle.block_model.specs.Calls.Numbers.{getpid, gettid}
+use Rattle.sys_calls.specs.Answered.{IsAnswered}
+use Rattle.sys_calls.proofs.GuestMemory.{if_false}
+use Rattle.sys_calls.proofs.CallAnswers.{answered_said}
+use Rattle.sys_calls.proofs.ThreadSignals.{signals_held}
+use Rattle.sys_calls.proofs.call_answers.answered_on_same_pages.Goals as goal
+use Rattle.sys_calls.proofs.CallNumbers.{by_number, silent_by_number}
+
+pub returns-in-64-clause-answered : goal.returns-in-64-clause-answered
+returns-in-64-clause-answered c = λ h hart told read. silent_by_number c.requires.fresh c.in-64.is (c.write.ensures.answered h c.args.tid.0 told read)
+
+pub returns-in-66-clause-answered : goal.returns-in-66-clause-answered
+returns-in-66-clause-answered c = λ h hart told read. silent_by_number c.requires.fresh c.in-66.is (c.writev.ensures.answered h c.args.tid.0 told read)
+
+pub returns-in-172-clause-answered : goal.returns-in-172-clause-answered
+returns-in-172-clause-answered c = λ h hart told read. silent_by_number c.requires.fresh c.in-172.is (answered_said h c.args.tid.0 c.args.kernel.now c.args.pages.now (Ok 1) (getpid h c.args.tid.0) told refl)
+
+pub returns-in-178-clause-answered : goal.returns-in-178-clause-answered
+returns-in-178-clause-answered c = λ h hart told read. silent_by_number c.requires.fresh c.in-178.is (answered_said h c.args.tid.0 c.args.kernel.now c.args.pages.now (Ok c.args.tid.0) (gettid h c.args.tid.0) told refl)
+
+pub returns-in-96-clause-answered : goal.returns-in-96-clause-answered
+returns-in-96-clause-answered c = λ h hart told read. silent_by_number c.requires.fresh c.in-96.is (c.set_tid_address.ensures.answered h c.args.pages.now told read)
+
+pub returns-in-123-clause-answered : goal.returns-in-123-clause-answered
+returns-in-123-clause-answered c = λ h hart told read. by_number c.in-123.is (c.sched_getaffinity.ensures.answered h told read)
+
+pub returns-in-168-clause-answered : goal.returns-in-168-clause-answered
+returns-in-168-clause-answered c = λ h hart told read. by_number c.in-168.is (c.getcpu.ensures.answered h c.args.kernel.now c.args.tid.0 hart told read)
+
+pub returns-in-220-clause-answered : goal.returns-in-220-clause-answered
+returns-in-220-clause-answered c = λ h hart told read. by_number c.in-220.is (c.clone.ensures.answered h told read)
+
+pub rt_sigprocmask-requires-clause-held : goal.rt_sigprocmask-requires-clause-held
+rt_sigprocmask-requires-clause-held c = signals_held c.args.tid.0 c.args.kernel.now c.requires.signals c.requires.live
+
+pub returns-in-130-clause-answered : goal.returns-in-130-clause-answered
+returns-in-130-clause-answered c = λ h hart told read. silent_by_number c.requires.fresh c.in-130.is (c.tkill.ensures.answered h c.args.tid.0 c.args.pages.now told read.file)
+
+pub returns-in-131-clause-answered : goal.returns-in-131-clause-answered
+returns-in-131-clause-answered c = λ h hart told read. silent_by_number c.requires.fresh c.in-131.is (c.tgkill.ensures.answered h c.args.tid.0 c.args.pages.now told read.file)
+
+pub returns-in-134-clause-answered : goal.returns-in-134-clause-answered
+returns-in-134-clause-answered c = λ h hart told read. by_number c.in-134.is (c.rt_sigaction.ensures.answered h c.args.tid.0 told read)
+
+pub returns-in-135-clause-answered : goal.returns-in-135-clause-answered
+returns-in-135-clause-answered c = λ h hart told read. by_number c.in-135.is (c.rt_sigprocmask.ensures.answered h told read)
+
+-- the number isn't that one
+is_not : (i n : ℕ) (x y : CallDone) → (n ≡ i → ⊥) → cond (eqb n i) x y ≡ y
+is_not i n x y ne = if_false (eqb n i) x y (ne_eqb n i ne)
+
+pub returns-in_default-clause-answered : goal.returns-in_default-clause-answered
+returns-in_default-clause-answered c = λ h hart told read.
+    let t = c.args.tid.0 in
+    let n = c.args.number in
+    let o = c.requires.others in
+    let p = c.requires.off_pages in
+    let d = c.in_default in
+    let is : call_of n h t ≡ refused h t ENOSYS =
+    is_not 64 n _ _ (λ e. absurd (omega (arith, d, e)))
+    ∙ is_not 66 n _ _ (λ e. absurd (omega (arith, d, e)))
+    ∙ is_not 93 n _ _ o.exit
+    ∙ is_not 94 n _ _ o.exit_group
+    ∙ is_not 96 n _ _ (λ e. absurd (omega (arith, d, e)))
+    ∙ is_not 98 n _ _ o.futex
+    ∙ is_not 122 n _ _ o.sched_setaffinity
+    ∙ is_not 123 n _ _ (λ e. absurd (omega (arith, d, e)))
+    ∙ is_not 124 n _ _ o.sched_yield
+    ∙ is_not 130 n _ _ (λ e. absurd (omega (arith, d, e)))
+    ∙ is_not 131 n _ _ (λ e. absurd (omega (arith, d, e)))
+    ∙ is_not 134 n _ _ (λ e. absurd (omega (arith, d, e)))
+    ∙ is_not 135 n _ _ (λ e. absurd (omega (arith, d, e)))
+    ∙ is_not 139 n _ _ o.rt_sigreturn
+    ∙ is_not 168 n _ _ (λ e. absurd (omega (arith, d, e)))
+    ∙ is_not 172 n _ _ (λ e. absurd (omega (arith, d, e)))
+    ∙ is_not 178 n _ _ (λ e. absurd (omega (arith, d, e)))
+    ∙ is_not 214 n _ _ p.brk
+    ∙ is_not 215 n _ _ p.munmap
+    ∙ is_not 220 n _ _ (λ e. absurd (omega (arith, d, e)))
+    ∙ is_not 222 n _ _ p.mmap
+    ∙ is_not 226 n _ _ p.mprotect
+    ∙ is_not 283 n _ _ o.membarrier
+    ∙ is_not 293 n _ _ o.rseq in
+    subst (λ (w : List Write). IsAnswered h t c.args.kernel.now c.args.pages.now c.args.kernel.now c.args.pages.now w (Err ENOSYS) (call_of n h t)) (sym c.requires.fresh)
+    (answered_said h t c.args.kernel.now c.args.pages.now (Err ENOSYS) (call_of n h t) told is)

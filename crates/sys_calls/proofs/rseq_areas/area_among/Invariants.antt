@@ -1,0 +1,9 @@
+use Rattle.std.proofs.Common.{◌≡◌, drop}
+use Rattle.mach_types.specs.Kernel.Areas.{area_of}
+use Rattle.sys_calls.specs.Registered.{areas_by_number}
+use Rattle.sys_calls.proofs.rseq_areas.area_among.Given as goal
+
+-- none of those before is the thread's
+abbrev pub invariant-loop-entry : goal.invariant-loop-entry
+invariant-loop-entry l =
+    area_of l.tid.0 (areas_by_number l.registered) ≡ area_of l.tid.0 (areas_by_number (drop l.entry-index l.registered))
