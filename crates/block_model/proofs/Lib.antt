@@ -65,6 +65,7 @@ mod SignalExamples
 mod SignalSteps
 mod Sound
 mod Stretches
+pub mod Swaps
 mod Touched
 mod TouchedBytes
 mod TouchedHanging

@@ -22,7 +22,8 @@ use Rattle.block_model.specs.Record.{Kernel}
 use Rattle.block_model.specs.Run.{IsRunHistory}
 use Rattle.block_model.specs.Setting.{Setting}
 use Rattle.block_model.specs.Tables.{on}
-use Rattle.block_model.specs.Whole.{Bytes, before_last, touched_in, touches}
+use Rattle.block_model.specs.Footprints.{Bytes}
+use Rattle.block_model.specs.Whole.{before_last, touched_in, touches}
 use Rattle.block_model.proofs.Allowed.{allowed_at}
 use Rattle.block_model.proofs.Goods.Preempt.{none_waits, out_of_barrier}
 use Rattle.block_model.proofs.Goods.Run.{ready_apart}

@@ -14,7 +14,7 @@ use Rattle.mach_types.specs.declared.signals.TheConstants.{SIGNAL_FRAME_SIZE}
 use Rattle.mach_types.specs.declared.threads.Saved.{Saved}
 use Rattle.mach_types.specs.declared.user_memory.Store.{Store}
 use Rattle.mach_types.specs.declared.user_memory.Write.{Write}
-use Rattle.block_model.specs.Whole.{meets}
+use Rattle.block_model.specs.Footprints.{meets}
 use Rattle.block_model.proofs.NamedStays.{number_agrees}
 use Rattle.block_model.proofs.WholeNamed.{IsNull, number_null}
 
