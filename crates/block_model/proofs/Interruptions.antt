@@ -13,7 +13,7 @@ use Rattle.mach_types.specs.declared.signals.TheConstants.{SIGNAL_FRAME_SIZE}
 use Rattle.mach_types.specs.declared.threads.Saved.{Saved}
 use Rattle.mach_types.specs.declared.user_memory.Store.{Store}
 use Rattle.mach_types.specs.declared.user_memory.Write.{Write}
-use Rattle.block_model.specs.Whole.{meets}
+use Rattle.block_model.specs.Footprints.{meets}
 use Rattle.block_model.proofs.NamedSequences.{number_agrees, IsNull, number_null, nothing_null, read_unless_bad}
 use Rattle.std.specs.Option.{option_map_or}
 use Rattle.mach_types.specs.Kernel.Pages.{can_read, permission_at}

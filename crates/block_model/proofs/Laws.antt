@@ -1,5 +1,5 @@
 -- The laws that crates above cite: what is decided at a place, what an event that is allowed did, and where a log begins.
-use Rattle.std.proofs.Common.{◌≡◌, ◌≢◌, ℕ, ◌+◌, ◌≤◌, ◌<◌, ◌-◌, ◌^◌, ◌&&◌, List, [], ◌∷◌, ◌++◌, length, map, All, eqb, arith, refl, sym, ap, ◌∙◌, subst, true, false, Option, Some, None, Ok, Err}
+use Rattle.std.proofs.Common.{◌≡◌, ◌≢◌, ℕ, ◌+◌, ◌≤◌, ◌<◌, ◌-◌, ◌^◌, ◌&&◌, List, [], ◌∷◌, ◌++◌, length, map, All, eqb, arith, refl, sym, ap, ◌∙◌, subst, append-nil, append_assoc, true, false, Option, Some, None, Ok, Err}
 use Rattle.std.proofs.lemmas.Bool.{le-leb, lt-leb}
 use Rattle.std.specs.Result.{IsOk}
 use Rattle.std.specs.List.{list_any}
@@ -153,6 +153,14 @@ history-append s log e = run_laws.history-append s log e
 -- an empty log has no event
 pub history-nil : (s : Setting) → history s [] ≡ []
 history-nil s = run_laws.history-nil s
+
+-- what a run goes on from is a run
+pub run_before : (s : Setting) (log more : List Entry) → IsBlockRun s (log ++ more) → IsBlockRun s log
+run_before s log [] run = subst (λ (l : List Entry). IsBlockRun s l) (append-nil log) run
+run_before s log (e ∷ more) run =
+    let longer = run_before s (log ++ e ∷ []) more (subst (λ (l : List Entry). IsBlockRun s l) (sym (append_assoc log (e ∷ []) more)) run) in
+    let shorter : IsRunHistory s (event s (history s log) e ∷ history s log) = subst (IsRunHistory s) (history-append s log e) longer.allowed in
+    block_run s log shorter.0
 
 -- as many events as entries
 pub length-history : (s : Setting) (log : List Entry) → length (history s log) ≡ length log

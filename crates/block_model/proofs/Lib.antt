@@ -50,6 +50,7 @@ mod SignalTables
 mod SignalsOfWaiters
 mod SignalsOfWaitersInRuns
 mod Stretches
+pub mod Swaps
 mod TablesOfCalls
 mod ThreadRecords
 mod Touched

@@ -5,6 +5,7 @@ pub mod Choosing
 pub mod Deciding
 pub mod ErrorCalls
 pub mod Events
+pub mod Footprints
 pub mod Here
 pub mod History
 pub mod Ids
@@ -12,6 +13,7 @@ pub mod Instruction
 pub mod Layouts
 pub mod Kernel
 pub mod Plain
+pub mod PlainEvents
 pub mod PlainOf
 pub mod PlainSays
 pub mod Record
@@ -23,6 +25,7 @@ pub mod Setting
 pub mod Sights
 pub mod Solo
 pub mod Stretches
+pub mod Swaps
 pub mod Tables
 pub mod Walks
 pub mod Whole

@@ -19,6 +19,14 @@ effect_on here (Some t) = next_effect here t
 abbrev pub effect_here : Here → Option Effect
 effect_here here = effect_on here (runs here)
 
+-- the signal of its fault; nothing on an idle hart
+abbrev pub fault_on : Here → Option ℕ → Option ℕ
+fault_on here None = None
+fault_on here (Some t) = next_fault here t
+
+abbrev pub fault_here : Here → Option ℕ
+fault_here here = fault_on here (runs here)
+
 -- whether the next instruction of the thread on the hart touches registers and the pc alone, and doesn't fault
 abbrev pub is_local_on : Here → Option ℕ → Bool
 is_local_on here None = false

@@ -1,6 +1,6 @@
 -- Whole logs: what holds of each restartable sequence of a log (rseq(2)). Each condition is one at an event, or at a place, and is
 -- read by looking back from it.
-use Rattle.std.specs.Prelude.{ℕ, ◌+◌, ◌-◌, ◌≡◌, ◌≤◌, ◌/◌, ◌⊎◌, Bool, true, false, not, ◌&&◌, ◌||◌, ◌==◌, List, [], ◌∷◌, ◌++◌, Any, length, nat_lt, Option, Some, None, is_some}
+use Rattle.std.specs.Prelude.{ℕ, ◌+◌, ◌-◌, ◌≡◌, ◌≤◌, ◌/◌, ◌⊎◌, Bool, true, false, not, ◌&&◌, ◌||◌, ◌==◌, List, [], ◌∷◌, ◌++◌, Any, length, Option, Some, None, is_some}
 use Rattle.std.specs.Option.{option_map_or}
 use Rattle.std.specs.List.{list_any}
 use Rattle.mach_types.specs.Bytes.{word_at}
@@ -31,21 +31,11 @@ use Rattle.block_model.specs.declared.acts.SeqEnd.{SeqEnd}
 use Rattle.block_model.specs.declared.acts.SeqEnd.TheVariants as ends
 use Rattle.block_model.specs.Acts.{Sequence, end_at_verdict, end_before, end_so_far, hanging, is_inside_at, is_instruction, named_at, sequence_on}
 use Rattle.block_model.specs.Events.Exec.{next_effect, next_fault}
+use Rattle.block_model.specs.Footprints.{Bytes, meets}
 use Rattle.block_model.specs.Here.{Here, is_writable, memory, view}
 use Rattle.block_model.specs.History.{Event, History, can_be_written, file, here_in_history, kernel, running}
 use Rattle.block_model.specs.Sequences.{area_here, can_write_words, named_waiting}
 use Rattle.block_model.specs.Setting.{Setting}
-
--- BYTES
-
--- bytes of memory: so many from an address on
-pub record Bytes : Type 0 where
-  pub at : ℕ
-  pub count : ℕ
-
--- whether one of so many bytes from an address on is one of these
-abbrev pub meets : Bytes → ℕ → ℕ → Bool
-meets bytes at n = nat_lt at (bytes.at + bytes.count) && nat_lt bytes.at (at + n)
 
 -- WHERE ITS THREAD IS
 

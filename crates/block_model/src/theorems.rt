@@ -41,6 +41,7 @@ ghost use Rattle.block_model.specs.Run.{IsAllowedLog, IsBlockRun};
 ghost use Rattle.block_model.specs.Setting.{Setting, setting_of};
 ghost use Rattle.block_model.specs.Sights.{is_deliverable_on};
 ghost use Rattle.block_model.specs.Solo.{IsSolo, solo_choice};
+ghost use Rattle.block_model.specs.Swaps.{IsEquivalentRun, MaySwap};
 ghost use Rattle.block_model.specs.Tables.{AreSignalsOfLive};
 ghost use Rattle.block_model.specs.Whole.{RunsThroughout};
 ghost use Rattle.block_model.specs.Walks.{IsWalk, answers, computed};
@@ -337,6 +338,13 @@ pub fn refused_call_changes_nothing()
     ensures { (s : Setting) (earlier later : List Entry) (entry : Entry) → s.limits.steps < 2 ^ 31 - 1
         → IsBlockRun s (earlier ++ entry ∷ later) → GivesError s (history s earlier) entry
         → GivesErrorAlone s (history s earlier) entry }
+{}
+
+/// Two neighbouring entries of a block run may be exchanged where they are plain events of different harts, of which neither writes a
+/// byte that the other reads or writes: the log with the two exchanged is a block run too, and after it all is as it was.
+pub fn plain_events_swap()
+    ensures { (s : Setting) (earlier later : List Entry) (e f : Entry) → IsBlockRun s (earlier ++ e ∷ f ∷ later) → MaySwap s earlier e f
+        → IsEquivalentRun s (earlier ++ e ∷ f ∷ later) (earlier ++ f ∷ e ∷ later) }
 {}
 
 /// In a block run a walk is a stretch in which a thread runs on a hart and executes instructions that make neither a

@@ -5,13 +5,13 @@ ghost use Rattle.block_model.specs.Here.{runs};
 ghost use Rattle.block_model.specs.Plain.{Plain, here_in_plain};
 ghost use Rattle.block_model.specs.Sequences.{is_inside_here};
 ghost use Rattle.block_model.specs.Setting.{Setting};
-ghost use Rattle.process.specs.Sequences.{area_on, named_on};
+ghost use Rattle.process.specs.Sequences.{area_on, looked_at_on, named_on};
 ghost use Rattle.process.specs.Tied.{IsTied};
 
 use crate::hart_view::HartView;
 use crate::parts::Parts;
 use mach_types::{Area, Hart, Named};
-use rseq_area::named;
+use rseq_area::{Lookups, looked_at, named};
 use sys_calls::area_of;
 
 impl Parts {
@@ -44,6 +44,21 @@ impl Parts {
             buffer: &state.buffer,
         };
         named(&view, &area, state.pc)
+    }
+
+    /// At which bytes the check of the area of the thread on a hart looks, as the hart sees memory. The hart must be one of the list.
+    /// None where no thread runs there, or where it has no area.
+    pub fn looked_at(&self, hart: Hart) -> Option<Lookups>
+        requires { hart.0 < length self.now.harts.items }
+        ensures { (s : Setting) (p : Plain) → IsTied s p self.now → hart.0 < s.limits.harts → result ≡ looked_at_on (here_in_plain s p hart.0) }
+    {
+        let area = self.area(hart)?;
+        let state = &self.harts[hart.0 as usize];
+        let view = HartView {
+            pages: &self.pages,
+            buffer: &state.buffer,
+        };
+        Some(looked_at(&view, &area))
     }
 
     /// Whether the thread on a hart is inside a good sequence.

@@ -8,6 +8,7 @@
 
 mod fields;
 mod ids;
+mod lookups;
 mod naming;
 mod registration;
 #[cfg(test)]
@@ -15,6 +16,7 @@ mod tests;
 mod words;
 
 pub use ids::lowest_cid;
+pub use lookups::{Lookups, looked_at};
 pub use mach_types::{Area, BadWhy, Named, Seq};
 pub use naming::named;
 pub use registration::{register, unregister};

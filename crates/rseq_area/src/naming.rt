@@ -62,7 +62,7 @@ fn named_by<M: UserMem>(
 }
 
 /// The sequence of a descriptor.
-fn sequence_of(descriptor: &Descriptor) -> Seq
+pub(crate) fn sequence_of(descriptor: &Descriptor) -> Seq
     ensures { result ≡ areas.sequence_of descriptor.now }
 {
     Seq {
@@ -73,7 +73,7 @@ fn sequence_of(descriptor: &Descriptor) -> Seq
 }
 
 /// Whether the start, the abort handler or the end of a sequence isn't below the end of addresses.
-fn is_out_of_range(sequence: &Seq) -> bool
+pub(crate) fn is_out_of_range(sequence: &Seq) -> bool
     ensures { result ≡ areas.is_out_of_range sequence.now }
 {
     sequence.start >= USER_END

@@ -1,6 +1,6 @@
 //! Tests: worked rows, with values found by hand from the layout of the two structures.
 
-use crate::{lowest_cid, named, register, set_cpu, unregister};
+use crate::{Lookups, looked_at, lowest_cid, named, register, set_cpu, unregister};
 use mach_types::errors::{EBUSY, EFAULT, EINVAL, EPERM};
 use mach_types::{Area, BadWhy, Errno, FlatMemory, Named, Seq, UserMem};
 use std::test::Fail;
@@ -115,6 +115,38 @@ fn what_an_area_names(rt: HostRuntime) -> Result<(), Fail> {
             expected,
             "{at:x} {value:x} {pc:x}"
         );
+    }
+    Ok(())
+}
+
+/// A word that is changed, and the addresses of the descriptor and of the signature at which the check of the area then looks.
+const LOOKED_AT: [(u64, u64, Option<u64>, Option<u64>); 13] = [
+    (UNUSED, 0, Some(DESCRIPTOR), Some(0x104C)),
+    (POINTER, 0, None, None),
+    (POINTER, 1 << 38, None, None),
+    (POINTER, (1 << 38) - 1, Some((1 << 38) - 1), None),
+    (DESCRIPTOR, 1, Some(DESCRIPTOR), None),
+    (DESCRIPTOR, 4 << 32, Some(DESCRIPTOR), Some(0x104C)),
+    (START, 1 << 38, Some(DESCRIPTOR), None),
+    (LENGTH, LONGEST + 1, Some(DESCRIPTOR), None),
+    (ABORT, 0x40_0000, Some(DESCRIPTOR), None),
+    (ABORT, 0x40_000C, Some(DESCRIPTOR), Some(0x40_0008)),
+    (ABORT, 3, Some(DESCRIPTOR), None),
+    (ABORT, 4, Some(DESCRIPTOR), Some(0)),
+    (AREA_FLAGS, 1, Some(DESCRIPTOR), Some(0x104C)),
+];
+
+#[test]
+fn at_what_a_check_looks(rt: HostRuntime) -> Result<(), Fail> {
+    for (at, value, descriptor, signature) in LOOKED_AT {
+        let mut memory = good_memory();
+        put(&mut memory, at, value);
+        let expected = Lookups {
+            area: AREA.at,
+            descriptor,
+            signature,
+        };
+        assert_eq!(rt; looked_at(&memory, &AREA), expected, "{at:x} {value:x}");
     }
     Ok(())
 }

@@ -1,0 +1,70 @@
+-- Plain events: a store enters memory, or a thread executes an instruction that makes neither a fault nor a call; and which bytes the
+-- access of one touches (own; accesses are those of the RISC-V Unprivileged ISA, "Ztso").
+use Rattle.std.specs.Prelude.{ℕ, Bool, true, false, not, ◌&&◌, List, [], ◌∷◌, Option, Some, None, is_none}
+use Rattle.std.specs.Option.{option_and_then}
+use Rattle.mach_types.specs.declared.events.Choice.{Choice}
+use Rattle.mach_types.specs.declared.events.Choice.TheVariants as asked
+use Rattle.mach_types.specs.declared.user_memory.Store.{Store}
+use Rattle.rv_inst.specs.Class.{is_call}
+use Rattle.rv_inst.specs.declared.effects.Effect.{Effect}
+use Rattle.block_model.specs.Events.Exec.{next_effect, next_fault}
+use Rattle.block_model.specs.Footprints.{Footprint, bytes, read_by, reserved_by, written_by}
+use Rattle.block_model.specs.Here.{Here, runs, waiting_here}
+
+-- whether the thread on the hart executes an instruction that makes neither a fault nor a call
+abbrev pub is_plain_exec_of : Option ℕ → Option Effect → Bool
+is_plain_exec_of fault None = false
+is_plain_exec_of fault (Some e) = is_none fault && not (is_call e)
+
+abbrev pub is_plain_exec_by : Here → Option ℕ → Bool
+is_plain_exec_by here None = false
+is_plain_exec_by here (Some t) = is_plain_exec_of (next_fault here t) (next_effect here t)
+
+abbrev pub is_plain : Choice → Here → Bool
+is_plain asked.Exec here = is_plain_exec_by here (runs here)
+is_plain asked.Drain here = true
+is_plain asked.Take here = false
+is_plain asked.Done here = false
+is_plain asked.Preempt here = false
+is_plain (asked.Run t) here = false
+is_plain asked.Signal here = false
+
+-- the bytes that the access of an event reads and writes: of the instruction that the thread executes next, or of the oldest store
+-- that waits, as it enters memory
+abbrev pub no_bytes : Footprint
+no_bytes = record { reads = []; writes = [] }
+
+abbrev pub footprint_of : Option Effect → Footprint
+footprint_of None = no_bytes
+footprint_of (Some e) = record { reads = read_by e; writes = written_by e }
+
+abbrev pub footprint_exec : Here → Option ℕ → Footprint
+footprint_exec here None = no_bytes
+footprint_exec here (Some t) = footprint_of (next_effect here t)
+
+abbrev pub footprint_drain : List Store → Footprint
+footprint_drain [] = no_bytes
+footprint_drain (w ∷ ws) = record no_bytes { writes = bytes w.at w.size ∷ [] }
+
+abbrev pub footprint : Choice → Here → Footprint
+footprint asked.Exec here = footprint_exec here (runs here)
+footprint asked.Drain here = footprint_drain (waiting_here here)
+footprint asked.Take here = no_bytes
+footprint asked.Done here = no_bytes
+footprint asked.Preempt here = no_bytes
+footprint (asked.Run t) here = no_bytes
+footprint asked.Signal here = no_bytes
+
+-- what its hart has reserved after a plain event; nothing where that is what it had
+abbrev pub reserved_exec : Here → Option ℕ → Option (Option ℕ)
+reserved_exec here None = None
+reserved_exec here (Some t) = option_and_then reserved_by (next_effect here t)
+
+abbrev pub reserved_of : Choice → Here → Option (Option ℕ)
+reserved_of asked.Exec here = reserved_exec here (runs here)
+reserved_of asked.Drain here = None
+reserved_of asked.Take here = None
+reserved_of asked.Done here = None
+reserved_of asked.Preempt here = None
+reserved_of (asked.Run t) here = None
+reserved_of asked.Signal here = None

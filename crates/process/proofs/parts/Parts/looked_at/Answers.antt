@@ -1,0 +1,25 @@
+use Rattle.std.proofs.Common.{◌≡◌, sym, ap, ◌∙◌, Some}
+use Rattle.std.specs.Option.{option_map}
+use Rattle.rseq_area.specs.Lookups.{looked_at}
+use Rattle.block_model.specs.Here.{view}
+use Rattle.block_model.specs.Plain.{here_in_plain}
+use Rattle.process.specs.Sequences.{area_on}
+use Rattle.process.proofs.HartStates.{hart_tied}
+use Rattle.process.proofs.RestartableSequences.{view_is}
+use Rattle.process.proofs.parts.Parts.looked_at.Goals as goal
+
+pub returns : goal.returns
+returns c s p tied lt =
+    let h = c.args.hart.0 in
+    let here = here_in_plain s p h in
+    let x = c.index-state.result.now in
+    let area = c.in_ok-area.area in
+    let own = hart_tied s p c.args.self.now h x tied lt c.index-state.ensures in
+    let has : area_on here ≡ Some area = sym (c.area.ensures s p tied lt) ∙ c.in_ok-area.was in
+    ap Some (c.looked_at.ensures ∙ ap (λ byte. looked_at byte area) (view_is s p c.args.self.now h _ x tied own))
+    ∙ ap (option_map (looked_at (view here))) (sym has)
+
+pub returns-in_err-area : goal.returns-in_err-area
+returns-in_err-area c s p tied lt =
+    let here = here_in_plain s p c.args.hart.0 in
+    c.from_residual.ensures ∙ ap (option_map (looked_at (view here))) (sym c.in_err-area.was ∙ c.area.ensures s p tied lt)
