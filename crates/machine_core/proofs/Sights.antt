@@ -14,7 +14,7 @@ use Rattle.rv_inst.specs.Meaning.{meaning}
 use Rattle.rv_inst.specs.declared.instruction.Inst.{Inst}
 use Rattle.block_model.specs.Here.{Here, is_writable, memory, runs}
 use Rattle.block_model.specs.Instruction.{fault_by, fetched, instruction_of, next_effect, next_fault, next_instruction}
-use Rattle.block_model.specs.Sights.{effect_here, effect_on, is_deliverable_on, is_local_on, thread}
+use Rattle.block_model.specs.Sights.{effect_here, effect_on, fault_here, fault_on, is_deliverable_on, is_local_on, thread}
 use Rattle.process.specs.Delivering.{next_on}
 use Rattle.process.specs.Harts.{file_of, file_on, hart_in}
 
@@ -35,6 +35,26 @@ no_effect_by here (Some t) idle is on = cc
 
 pub no_effect_read : (here : Here) (x : HartState) (n k credit : ℕ) → x ≡ hart_in here n k credit → (idle : Bool) → idle ≡ not (is_some x.running) → idle ≡ true → None ≡ effect_here here
 no_effect_read here x n k credit own idle is on = no_effect_by here (runs here) idle (is ∙ ap (λ (y : HartState). not (is_some y.running)) own) on
+
+-- the fault of the next instruction, read from the file of a hart with a thread; an idle hart makes none
+fault_if : (here : Here) (o : Option ℕ) → is_some (option_map thread o) ≡ true → next_fault here.setting.program.pages (memory here) (is_writable here) (file_on here o) ≡ fault_on here o
+fault_if here None busy = cc
+fault_if here (Some t) busy = refl
+
+pub fault_read : (here : Here) (x : HartState) (n k credit : ℕ) (byte : ℕ → Option ℕ) (can_write : ℕ → Bool) → x ≡ hart_in here n k credit → byte ≡ memory here → can_write ≡ is_writable here
+    → is_some x.running ≡ true → next_fault here.setting.program.pages byte can_write (file_of x) ≡ fault_here here
+fault_read here x n k credit byte can_write is bytes writable busy =
+    ap (λ (y : HartState). next_fault here.setting.program.pages byte can_write (file_of y)) is
+    ∙ ap (λ b. next_fault here.setting.program.pages b can_write (file_on here (runs here))) bytes
+    ∙ ap (λ w. next_fault here.setting.program.pages (memory here) w (file_on here (runs here))) writable
+    ∙ fault_if here (runs here) (sym (ap (λ (y : HartState). is_some y.running) is) ∙ busy)
+
+no_fault_by : (here : Here) (o : Option ℕ) (idle : Bool) → idle ≡ not (is_some (option_map thread o)) → idle ≡ true → None ≡ fault_on here o
+no_fault_by here None idle is on = refl
+no_fault_by here (Some t) idle is on = cc
+
+pub no_fault_read : (here : Here) (x : HartState) (n k credit : ℕ) → x ≡ hart_in here n k credit → (idle : Bool) → idle ≡ not (is_some x.running) → idle ≡ true → None ≡ fault_here here
+no_fault_read here x n k credit own idle is on = no_fault_by here (runs here) idle (is ∙ ap (λ (y : HartState). not (is_some y.running)) own) on
 
 -- a hart is idle where no thread runs on it
 idle_by : (o : Option ℕ) → not (is_some (option_map thread o)) ≡ is_none o

@@ -12,15 +12,16 @@ ghost use Rattle.block_model.specs.Choosing.{credit_at};
 ghost use Rattle.block_model.specs.Deciding.{decide, history};
 ghost use Rattle.block_model.specs.Here.{runs, view};
 ghost use Rattle.block_model.specs.History.{events, file, here_in_history, kernel, ran};
-ghost use Rattle.block_model.specs.Sights.{effect_here, is_deliverable_on, sight_in};
+ghost use Rattle.block_model.specs.Sights.{effect_here, fault_here, is_deliverable_on, sight_in};
 ghost use Rattle.process.specs.Harts.{hart_in};
-ghost use Rattle.process.specs.Sequences.{area_on};
+ghost use Rattle.process.specs.Sequences.{area_on, looked_at_on};
 
 use crate::machine::Machine;
 use block_model::Refused;
 use hart_state::HartState;
 use mach_types::{Area, Choice, Entry, Hart, Named, Sight};
 use process::{effect_of_next, is_all_taken, is_local, next_of};
+use rseq_area::Lookups;
 use rv_inst::Effect;
 use sys_calls::Kernel;
 
@@ -71,6 +72,20 @@ impl Machine {
         }
     }
 
+    /// The signal of the fault that the next instruction of a hart's thread makes, as Linux numbers it. None exactly where the hart is
+    /// idle, or it makes none.
+    pub fn next_fault(&self, hart: Hart) -> Option<u8>
+        requires { hart.0 < self.now.setting.limits.harts }
+        ensures { result ≡ fault_here (here_in_history self.now.setting (history self.now.setting self.now.log) hart.0) }
+    {
+        let state = self.hart(hart);
+        if state.is_idle() {
+            None
+        } else {
+            next_of(&self.code, &self.parts.pages, state).fault
+        }
+    }
+
     /// The area that is registered for the thread on a hart (rseq(2)). None exactly where the hart is idle, or its thread has none.
     pub fn area(&self, hart: Hart) -> Option<Area>
         requires { hart.0 < self.now.setting.limits.harts }
@@ -86,6 +101,15 @@ impl Machine {
         ensures { result ≡ named_at self.now.setting hart.0 (history self.now.setting self.now.log) }
     {
         self.parts.named(hart)
+    }
+
+    /// At which bytes the check of the area of a hart's thread looks, as the hart sees memory (rseq(2)). None exactly where the hart is
+    /// idle, or its thread has no area.
+    pub fn looked_at(&self, hart: Hart) -> Option<Lookups>
+        requires { hart.0 < self.now.setting.limits.harts }
+        ensures { result ≡ looked_at_on (here_in_history self.now.setting (history self.now.setting self.now.log) hart.0) }
+    {
+        self.parts.looked_at(hart)
     }
 
     /// Whether a signal can be delivered to the thread on a hart (signal(7)). No signal can where the hart is idle.

@@ -1,0 +1,6 @@
+pub mod Facts
+pub mod Gathered
+pub mod Located
+pub mod LogEvents
+pub mod Lookups
+pub mod Spans

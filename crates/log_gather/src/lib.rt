@@ -1,0 +1,7 @@
+//! Gathered logs: each restartable sequence (rseq(2)) that no other hart's events disturb is put together in the log, as if nothing had
+//! run beside it.
+#![tactic(auto)]
+
+mod theorems;
+
+pub use theorems::gathered_logs_are_block_runs;
