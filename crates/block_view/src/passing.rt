@@ -16,59 +16,59 @@ use machine_core::Machine;
 
 /// An entry that was made.
 #[derive(Clone, Copy, Debug, PartialEq, Eq, Drop)]
-pub(crate) struct Passed {
+pub struct Passed {
     /// Its number in the log, counted from 1.
-    pub(crate) number: u32,
+    pub number: u32,
     /// The entry.
-    pub(crate) entry: Entry,
+    pub entry: Entry,
     /// The sequence that its hart's thread was inside before it, if it was inside one.
-    pub(crate) inside: Option<Seq>,
+    pub inside: Option<Seq>,
     /// Whether it interrupted a thread (rseq(2)).
-    pub(crate) interrupts: bool,
+    pub interrupts: bool,
     /// Whether it ended the process by a signal.
-    pub(crate) killed: bool,
+    pub killed: bool,
     /// The pc of its hart's thread after it; 0 where none runs there.
-    pub(crate) pc: u64,
+    pub pc: u64,
 }
 
 impl Passed {
     /// Its hart's number.
-    pub(crate) fn hart(&self) -> usize
+    pub fn hart(&self) -> usize
         ensures { result ≡ self.now.entry.hart.0 }
     {
         usize::from(self.entry.hart.0)
     }
 
     /// Whether it is an interruption that ended the process.
-    pub(crate) fn is_fatal(&self) -> bool
+    pub fn is_fatal(&self) -> bool
         ensures { result ≡ is_fatal self.now }
     {
         self.interrupts && self.killed
     }
 
     /// Whether it is an instruction, its fault or its call.
-    pub(crate) fn executes(&self) -> bool
+    pub fn executes(&self) -> bool
         ensures { result ≡ is_instruction self.now.entry.kind }
     {
         matches!(self.entry.kind, Kind::Exec)
     }
 
     /// Whether its thread begins to run by it.
-    pub(crate) fn runs(&self) -> bool
+    pub fn runs(&self) -> bool
         ensures { result ≡ is_run self.now.entry.kind }
     {
         matches!(self.entry.kind, Kind::Run)
     }
 
     /// Whether a sequence begins with it, where its hart was in none.
-    pub(crate) fn begins(&self) -> bool
+    pub fn begins(&self) -> bool
         ensures { result ≡ begins self.now }
     {
         self.inside.is_some() && self.executes()
     }
 
     /// Whether the sequence that its hart was in takes it in.
-    pub(crate) fn is_taken_in(&self) -> bool
+    pub fn is_taken_in(&self) -> bool
         ensures { result ≡ is_more self.now }
     {
         self.inside.is_some()
@@ -80,14 +80,14 @@ impl Passed {
     }
 
     /// Whether it preempted its thread inside a sequence.
-    pub(crate) fn leaves_inside(&self) -> bool
+    pub fn leaves_inside(&self) -> bool
         ensures { result ≡ leaves_inside self.now }
     {
         self.inside.is_some() && matches!(self.entry.kind, Kind::Preempt)
     }
 
     /// The act that it is by itself.
-    pub(crate) fn form_alone(&self) -> Form
+    pub fn form_alone(&self) -> Form
         ensures { result ≡ form_alone self.now.entry.kind }
     {
         match self.entry.kind {
@@ -97,7 +97,7 @@ impl Passed {
     }
 
     /// Whether it moved the pc out of the sequence that its thread was inside before it.
-    pub(crate) fn moved_out(&self) -> bool
+    pub fn moved_out(&self) -> bool
         ensures { result ≡ moves_out self.now }
     {
         match self.inside {
@@ -108,7 +108,7 @@ impl Passed {
 
     /// How a sequence that hangs ends, whose thread begins to run by it. An abort handler lies outside its sequence, so the thread
     /// was sent there where its pc isn't the one that it waited with.
-    pub(crate) fn verdict(&self) -> SeqEnd
+    pub fn verdict(&self) -> SeqEnd
         ensures { result ≡ verdict_by self.now }
     {
         if self.killed {
@@ -122,7 +122,7 @@ impl Passed {
 }
 
 /// The sequence that the thread of a hart is inside, if it is inside one.
-pub(crate) fn inside(machine: &Machine, hart: Hart) -> Option<Seq>
+pub fn inside(machine: &Machine, hart: Hart) -> Option<Seq>
     requires { hart.0 < machine.now.setting.limits.harts }
     ensures { result ≡ inside_at machine.now.setting hart.0 (history machine.now.setting machine.now.log) }
 {
@@ -174,7 +174,7 @@ fn make(machine: &mut Machine, entry: Entry) -> bool
 }
 
 /// Makes an entry of one of so many harts again; None where it isn't the one that is decided.
-pub(crate) fn make_again(machine: &mut Machine, harts: u8, entry: Entry) -> Option<Passed>
+pub fn make_again(machine: &mut Machine, harts: u8, entry: Entry) -> Option<Passed>
     requires limits { InRange machine.old.setting.limits }
     requires harts { harts ≡ machine.old.setting.limits.harts }
     ensures made { IfSome result (IsMadeAgain machine.old machine.new entry) }

@@ -4,3 +4,4 @@ pub mod Located
 pub mod LogEvents
 pub mod Lookups
 pub mod Spans
+pub mod Steps

@@ -2,6 +2,8 @@
 //! run beside it.
 #![tactic(auto)]
 
+mod accesses;
+mod steps;
 mod theorems;
 
 pub use theorems::gathered_logs_are_block_runs;

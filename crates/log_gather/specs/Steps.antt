@@ -1,0 +1,48 @@
+-- The events of a log as the code keeps them, and which events of the definitions they are (own).
+use Rattle.std.specs.Prelude.{ℕ, ◌+◌, ◌==◌, ◌&&◌, List, [], ◌∷◌, ◌++◌, map, if◌then◌else◌, Option, Some, None}
+use Rattle.std.specs.Option.{option_map_or}
+use Rattle.block_model.specs.Footprints.{Bytes, bytes}
+use Rattle.log_gather.specs.declared.accesses.Range.{Range}
+use Rattle.log_gather.specs.declared.steps.Step.{Step}
+use Rattle.log_gather.specs.Facts.{Facts}
+use Rattle.log_gather.specs.Located.{Located}
+use Rattle.log_gather.specs.LogEvents.{Name}
+use Rattle.log_gather.specs.Lookups.{bytes_looked_at}
+use Rattle.log_gather.specs.Spans.{begins_act}
+
+-- the bytes of a range, if there is one
+abbrev pub bytes_in : Option Range → List Bytes
+bytes_in None = []
+bytes_in (Some x) = bytes x.at x.count ∷ []
+
+-- the facts of an event
+abbrev pub facts_seen : Step → Facts
+facts_seen x = record {
+  entry = x.entry;
+  plain = x.plain;
+  inside = x.inside;
+  within = x.within;
+  begins = x.begins;
+  moves_out = x.moves_out;
+  touched = record {
+    reads = bytes_in x.access.reads ++ option_map_or bytes_looked_at x.looked_at [];
+    writes = bytes_in x.access.writes;
+  };
+  reserves = x.access.reserves;
+  entered = bytes_in x.access.entered;
+}
+
+-- what hart k has reserved, nothing past the last hart (HELPER: the type of an array in specs is to be looked up)
+-- abbrev pub reserved_in : .. → ℕ → Option ℕ
+
+-- an event with what every hart has reserved before it
+-- abbrev pub located_of : Step → Located
+-- located_of x = record { facts = facts_seen x; reserved = reserved_in x.reserved }
+
+-- the sequences whose turn is still to come, in order, where so many acts of each hart came before
+abbrev pub names_awaited : (ℕ → ℕ) → List Step → List Name
+names_awaited acts [] = []
+names_awaited acts (x ∷ xs) =
+    let h = x.entry.hart.0 in
+    let rest = names_awaited (λ k. if (h == k) && begins_act (facts_seen x) then acts k + 1 else acts k) xs in
+    if x.awaits then record { hart = h; number = acts h } ∷ rest else rest
