@@ -1,5 +1,5 @@
 -- The events of a log as the code keeps them, and which events of the definitions they are (own).
-use Rattle.std.specs.Prelude.{ℕ, ◌+◌, ◌==◌, ◌&&◌, List, [], ◌∷◌, ◌++◌, map, if◌then◌else◌, Option, Some, None}
+use Rattle.std.specs.Prelude.{ℕ, ◌+◌, ◌==◌, ◌&&◌, List, [], ◌∷◌, ◌++◌, map, slice_index_or, if◌then◌else◌, Option, Some, None}
 use Rattle.std.specs.Option.{option_map_or}
 use Rattle.block_model.specs.Footprints.{Bytes, bytes}
 use Rattle.log_gather.specs.declared.accesses.Range.{Range}
@@ -32,12 +32,13 @@ facts_seen x = record {
   entered = bytes_in x.access.entered;
 }
 
--- what hart k has reserved, nothing past the last hart (HELPER: the type of an array in specs is to be looked up)
--- abbrev pub reserved_in : .. → ℕ → Option ℕ
+-- what hart k has reserved, nothing past the last hart
+abbrev pub reserved_in : List (Option ℕ) → ℕ → Option ℕ
+reserved_in reserved k = slice_index_or reserved k None
 
 -- an event with what every hart has reserved before it
--- abbrev pub located_of : Step → Located
--- located_of x = record { facts = facts_seen x; reserved = reserved_in x.reserved }
+abbrev pub located_of : Step → Located
+located_of x = record { facts = facts_seen x; reserved = reserved_in x.reserved }
 
 -- the sequences whose turn is still to come, in order, where so many acts of each hart came before
 abbrev pub names_awaited : (ℕ → ℕ) → List Step → List Name
