@@ -1,6 +1,8 @@
 mod AreaLookups
 mod Contiguous
 mod ContiguousLogs
+mod EventAccesses
+mod EventFacts
 mod ExchangedPlaces
 mod FactsStay
 mod GatherExamples
@@ -13,5 +15,6 @@ mod LocatedEvents
 mod NamedSequences
 mod NumberedActs
 mod OwnEvents
+mod Passages
 mod Reservations
 mod StandingTogether
