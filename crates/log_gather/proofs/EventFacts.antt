@@ -1,5 +1,5 @@
 -- What is seen of an event are its facts.
-use Rattle.std.proofs.Common.{◌≡◌, ℕ, List, [], ◌∷◌, ◌++◌, refl, sym, ap, ◌∙◌, subst, Bool, true, false, cond, not, ◌&&◌, Option, Some, None, is_none, is_some}
+use Rattle.std.proofs.Common.{◌≡◌, ℕ, List, [], ◌∷◌, ◌++◌, length, refl, sym, ap, ◌∙◌, subst, Bool, true, false, cond, not, ◌&&◌, Option, Some, None, is_none, is_some}
 use Rattle.std.specs.Option.{option_and_then, option_map, option_map_or}
 use Rattle.std.specs.Prelude.{IfSome, unwrap_or}
 use Rattle.mach_types.specs.Events.{choice_of}
@@ -24,6 +24,7 @@ use Rattle.block_model.specs.PlainEvents.{footprint, is_plain, no_bytes, reserve
 use Rattle.block_model.specs.Record.{Kernel}
 use Rattle.block_model.specs.Sequences.{area_here, named_here}
 use Rattle.block_model.specs.Setting.{Seen, Setting}
+use Rattle.block_model.specs.Sights.{thread}
 use Rattle.block_view.specs.Ledgers.{begins, is_more}
 use Rattle.block_view.specs.Passing.{IsMadeAgain, inside_at, passed_of, pc_at}
 use Rattle.block_view.specs.declared.passing.Passed.{Passed}
@@ -70,6 +71,33 @@ touches m e (Some a) is =
       touched = λ i. record { reads = reads i; writes = is.writes i };
       reserves = is.reserves;
       entered = is.entered;
+    }
+
+idle_on : (o : Option ℕ) → not (is_some (option_map thread o)) ≡ is_none o
+idle_on None = refl
+idle_on (Some t) = refl
+
+pub read_before : (m : Seen) (e : Entry) (o : Option Access) (x : Before) → IfSome o (IsAccess (choice_of e) (here_on m e.hart.0))
+    → is_some o ≡ is_plain (choice_of e) (here_on m e.hart.0) → x.plain ≡ is_some o → x.access ≡ unwrap_or o NO_ACCESS
+    → x.looked_at ≡ cond x.plain (looked_at_on (here_on m e.hart.0)) None → x.named ≡ named_on (here_on m e.hart.0)
+    → x.idle ≡ not (is_some (option_map thread (runs (here_on m e.hart.0)))) → ((k : ℕ) → reserved_in x.reserved k ≡ reserved_on m k) → length x.reserved ≡ 8 → IsReadBefore m e x
+read_before m e o x is plain_is plain access looks named idle reserved eight =
+    let here = here_on m e.hart.0 in
+    let t = touches m e o is in
+    record {
+      plain = plain ∙ plain_is;
+      touched =
+          ap (λ a. footprint_seen a x.looked_at) access
+          ∙ ap (footprint_seen (unwrap_or o NO_ACCESS)) (looks ∙ ap (λ b. cond b (looked_at_on here) None) plain)
+          ∙ t.touched
+          ∙ ap (λ b. cond b (touched_by (choice_of e) here) no_bytes) (sym plain);
+      reserves = ap (λ (a : Access). a.reserves) access ∙ t.reserves ∙ ap (λ b. cond b (reserved_of (choice_of e) here) None) (sym plain);
+      entered = ap (λ (a : Access). bytes_in a.entered) access ∙ t.entered
+          ∙ ap (λ b. cond b (bytes_of_all (done_of (choice_of e) here).entered) []) (sym plain);
+      named = named;
+      idle = idle ∙ idle_on (runs here);
+      reserved = reserved;
+      eight = eight;
     }
 
 -- WHAT IS SEEN OF AN EVENT
@@ -138,7 +166,7 @@ module _ (m m' : Seen) (e : Entry) (x : Before) (p : Passed) (read : IsReadBefor
   moves_as : (x.plain && (not x.idle && not (is_inside_named x.named p.pc))) ≡ (is_plain (choice_of e) here && moves_out_on here (with_files (done_of (choice_of e) here).files here) (runs here))
   moves_as = by_plain x.plain refl ∙ ap (λ b. b && moves_out_on here (with_files (done_of (choice_of e) here).files here) (runs here)) read.plain
 
-  pub facts_as : (was inside within begun moves : Bool) (y : Step) → inside ≡ is_some p.inside → within ≡ cond was (is_more p) (begins p)
+  pub facts_as : (was inside within begun : Bool) (y : Step) → inside ≡ is_some p.inside → within ≡ cond was (is_more p) (begins p)
       → y ≡ record {
         entry = p.entry;
         plain = x.plain;
@@ -152,7 +180,7 @@ module _ (m m' : Seen) (e : Entry) (x : Before) (p : Passed) (read : IsReadBefor
         awaits = begun;
       }
       → facts_seen y ≡ facts_in here was e
-  facts_as was inside within begun moves y inside_is within_is is =
+  facts_as was inside within begun y inside_is within_is is =
       let entry_is = entry_as m m' e p again in
       let seen_within = within_is ∙ within_as m m' e p was again in
       let seen = inside_is ∙ inside_as m m' e p again in

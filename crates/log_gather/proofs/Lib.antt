@@ -8,6 +8,7 @@ mod FactsStay
 mod GatherExamples
 mod Gatherable
 mod GatheredByActs
+mod GatheredEntries
 mod GatheredSequences
 mod GatheredSpans
 mod LeftSequences

@@ -25,7 +25,7 @@ use Rattle.log_gather.specs.Facts.{Facts, Place, facts_at, facts_in, first_place
 use Rattle.log_gather.specs.Located.{Located, at_end, located}
 use Rattle.log_gather.specs.Passing.{IsPassage, IsSeen, here_on, inside_there, reserved_on}
 use Rattle.log_gather.specs.Spans.{is_inside_at_place}
-use Rattle.log_gather.specs.Steps.{AllAwait, AreOfEight, facts_seen, located_of, reserved_in}
+use Rattle.log_gather.specs.Steps.{AllAwait, AreOfEight, IsOfEight, facts_seen, located_of, reserved_in}
 use Rattle.log_gather.proofs.GatheredSequences.{at_first}
 use Rattle.log_gather.proofs.GatheredSpans.{machine_after, place-more}
 use Rattle.log_gather.proofs.LocatedEvents.{located-append}
@@ -158,6 +158,9 @@ module _ (s : Setting) (log : List Entry) (m m' : Seen) (e : Entry) (steps : Lis
   within_next lt k false is =
       get_or-set_other within e.hart.0 k step.within false (λ same. eqb-false e.hart.0 k is (sym same)) ∙ was.within_are k
 
+  its_eight : e.hart.0 < length within → step.entry.hart.0 < 8
+  its_eight lt = let same = ap (λ (t : Facts). t.entry.hart.0) its_facts in let eight = was.eight in omega arith
+
   pub seen_more : e.hart.0 < length within → HasSeen s (log ++ e ∷ []) m' (steps ++ step ∷ []) (set within e.hart.0 step.within)
   seen_more lt =
       let so_far = logged_more s log m m' e was.so_far made.made in
@@ -174,7 +177,7 @@ module _ (s : Setting) (log : List Entry) (m m' : Seen) (e : Entry) (steps : Lis
             ∙ ap (λ x. located s (first_place s) log ++ x ∷ []) its_located
             ∙ ap (λ (q : Place). located s (first_place s) log ++ record { facts = facts_at s q e; reserved = q.machine.reserved } ∷ []) (at_first s log)
             ∙ sym (located-append s (first_place s) log (e ∷ []));
-        harts = all_more (λ (x : Step). x.entry.hart.0 < 8) steps step was.harts (let of = ap (λ (t : Facts). t.entry.hart.0) its_facts in let eight = was.eight in omega arith);
+        harts = all_more IsOfEight steps step was.harts (record { hart = its_eight lt; reserved = made.eight });
         awaits = all_more (λ (x : Step). x.awaits ≡ x.begins) steps step was.awaits made.awaits;
         within_are = λ k. within_next lt k (eqb e.hart.0 k) refl ∙ sym (ap (λ (q : Place). q.within k) place_more);
         eight = length-set within e.hart.0 step.within ∙ was.eight;

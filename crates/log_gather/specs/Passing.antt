@@ -1,5 +1,5 @@
 -- What is read of a machine before an event of a log, and what is seen of the event (own).
-use Rattle.std.specs.Prelude.{ℕ, ◌≡◌, ◌<◌, Bool, false, map, nat_lt, slice_index_or, [], if◌then◌else◌, List, Option, None, is_none}
+use Rattle.std.specs.Prelude.{ℕ, ◌≡◌, ◌<◌, Bool, false, length, map, nat_lt, slice_index_or, [], if◌then◌else◌, List, Option, None, is_none}
 use Rattle.mach_types.specs.Events.{choice_of}
 use Rattle.mach_types.specs.declared.events.Entry.{Entry}
 use Rattle.process.specs.Sequences.{named_on}
@@ -41,6 +41,7 @@ pub record IsReadBefore (m : Seen) (e : Entry) (x : Before) : Type 0 where
   pub named : x.named ≡ named_on (here_on m e.hart.0)
   pub idle : x.idle ≡ is_none (runs (here_on m e.hart.0))
   pub reserved : (k : ℕ) → reserved_in x.reserved k ≡ reserved_on m k
+  pub eight : length x.reserved ≡ 8
 
 -- a machine made an entry, and this is its event, where its hart's event before it was of a sequence or wasn't
 pub record IsSeen (m m' : Seen) (e : Entry) (was : Bool) (x : Step) : Type 0 where
@@ -48,6 +49,7 @@ pub record IsSeen (m m' : Seen) (e : Entry) (was : Bool) (x : Step) : Type 0 whe
   pub made : IsMadeBy m m' e
   pub facts : facts_seen x ≡ facts_in (here_on m e.hart.0) was e
   pub reserved : (k : ℕ) → reserved_in x.reserved k ≡ reserved_on m k
+  pub eight : length x.reserved ≡ 8
   pub awaits : x.awaits ≡ x.begins
 
 -- what was seen of a log, which is a block run

@@ -1,6 +1,6 @@
 //! A log is gone through on a machine that makes its entries again, and each event is seen.
 
-ghost use Rattle.std.specs.Prelude.{ℕ, ◌≡◌, ◌<◌, ◌&&◌, not, false, None, if◌then◌else◌, slice_index_or, IfOk, IfErr, IfSome, IfNone, is_some};
+ghost use Rattle.std.specs.Prelude.{ℕ, ◌≡◌, ◌<◌, ◌&&◌, not, false, None, if◌then◌else◌, slice_index_or, length, IfOk, IfErr, IfSome, IfNone, is_some};
 ghost use Rattle.mach_types.specs.Events.{choice_of};
 ghost use Rattle.mach_types.specs.Kernel.Areas.{is_inside_named};
 ghost use Rattle.mach_types.specs.Limits.{InRange};
@@ -118,7 +118,8 @@ fn is_call(effect: &Effect) -> bool
 /// What each hart of a machine has reserved.
 fn reservations(machine: &Machine) -> Reservations
     requires { InRange machine.now.setting.limits }
-    ensures { (k : ℕ) → reserved_in result k ≡ reserved_on machine.now k }
+    ensures each { (k : ℕ) → reserved_in result k ≡ reserved_on machine.now k }
+    ensures eight { length result ≡ 8 }
 {
     let mut reserved = [None; 8];
     for hart in 0..machine.harts() {

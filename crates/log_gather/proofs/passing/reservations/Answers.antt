@@ -28,8 +28,8 @@ loop-hart-preserved c =
           ∙ filled_more (λ j. (here_on m j).reserved) None n xs (omega arith) c.loop-hart.invariant.filled k;
     }
 
-pub returns : goal.returns
-returns c =
+pub returns-clause-each : goal.returns-clause-each
+returns-clause-each c =
     let m = c.args.machine.now in
     let ended : c.loop-hart.hart ≡ m.setting.limits.harts = omega arith in
     λ k. c.loop-hart.invariant.filled k ∙ ap (λ n. cond (ltb k n) (here_on m k).reserved None) ended
