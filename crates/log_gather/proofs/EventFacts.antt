@@ -111,7 +111,7 @@ within_as m m' e p was again =
     ap (λ (x : Passed). cond was (is_more x) (begins x)) again.seen
     ∙ ap (λ b. cond was b (begins (passed_of m.setting newest before))) (more_as m.setting newest before)
     ∙ ap (λ b. cond was (inside_on (here_on m e.hart.0) (runs (here_on m e.hart.0)) && is_taken_in e.kind (done_of (choice_of e) (here_on m e.hart.0)).interrupted) b)
-        (begins_as m.setting newest before)
+    (begins_as m.setting newest before)
     ∙ go was
   where
     go : (b : Bool) → cond b (inside_on (here_on m e.hart.0) (runs (here_on m e.hart.0)) && is_taken_in e.kind (done_of (choice_of e) (here_on m e.hart.0)).interrupted)

@@ -164,7 +164,7 @@ fn access_of_next(machine: &Machine, hart: Hart) -> Option<Access>
 }
 
 /// What the event of an entry touches; None where it isn't plain.
-fn access(machine: &Machine, entry: Entry) -> Option<Access>
+fn access_of_entry(machine: &Machine, entry: Entry) -> Option<Access>
     requires { entry.hart.0 < machine.now.setting.limits.harts }
     ensures plain { is_some result ≡ is_plain (choice_of entry) (here_on machine.now entry.hart.0) }
     ensures access { IfSome result (IsAccess (choice_of entry) (here_on machine.now entry.hart.0)) }
@@ -185,13 +185,13 @@ fn looked_at_if(machine: &Machine, hart: Hart, holds: bool) -> Option<Lookups>
 }
 
 /// What is read of a machine before it makes an entry.
-fn before(machine: &Machine, entry: Entry) -> Before
+fn read_before(machine: &Machine, entry: Entry) -> Before
     requires limits { InRange machine.now.setting.limits }
     requires hart { entry.hart.0 < machine.now.setting.limits.harts }
     ensures { IsReadBefore machine.now entry result }
 {
     let hart = entry.hart;
-    let access = access(machine, entry);
+    let access = access_of_entry(machine, entry);
     let plain = access.is_some();
     Before {
         plain,
@@ -214,7 +214,7 @@ fn see(machine: &mut Machine, harts: u8, entry: Entry, was: bool) -> Option<Step
     if entry.hart.0 >= harts {
         return None;
     }
-    let before = before(machine, entry);
+    let before = read_before(machine, entry);
     let passed = make_again(machine, harts, entry)?;
     Some(before.step(&passed, was))
 }
