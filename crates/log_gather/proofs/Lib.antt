@@ -1,4 +1,7 @@
+mod ActPlaces
 mod AreaLookups
+mod AwaitedNames
+mod ClashingBytes
 mod Contiguous
 mod ContiguousLogs
 mod EventAccesses
@@ -17,5 +20,9 @@ mod NamedSequences
 mod NumberedActs
 mod OwnEvents
 mod Passages
+mod ReachedEvents
 mod Reservations
 mod StandingTogether
+mod TouchedBytes
+mod TurnTaken
+mod TurnsTaken

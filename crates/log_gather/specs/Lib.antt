@@ -1,4 +1,5 @@
 pub mod Accesses
+pub mod ByteSets
 pub mod Facts
 pub mod Gathered
 pub mod Located
@@ -7,3 +8,4 @@ pub mod Lookups
 pub mod Passing
 pub mod Spans
 pub mod Steps
+pub mod Turns

@@ -15,6 +15,16 @@ pub(crate) struct Range {
     pub(crate) count: u8,
 }
 
+impl Range {
+    /// Whether one of them is one of 8 bytes that are reserved.
+    pub(crate) fn is_of_eight_from(&self, start: u64) -> bool
+        ensures { result ≡ execution.has_reserved start self.now.at self.now.count }
+    {
+        let end = u128::from(self.at) + u128::from(self.count);
+        self.count > 0 && u128::from(start) < end && u128::from(self.at) < u128::from(start) + 8
+    }
+}
+
 /// What the access of a plain event touches.
 #[derive(Clone, Copy, Debug, PartialEq, Eq, Drop)]
 pub(crate) struct Access {

@@ -3,8 +3,13 @@
 #![tactic(auto)]
 
 mod accesses;
+mod byte_sets;
+mod clashes;
+mod moving;
 mod passing;
+mod spans;
 mod steps;
 mod theorems;
+mod turns;
 
 pub use theorems::gathered_logs_are_block_runs;

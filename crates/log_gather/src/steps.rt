@@ -1,7 +1,17 @@
 //! The events of a log as they were seen: what decides which sequences can be gathered, and where.
 
-use crate::accesses::Access;
-use mach_types::{Entry, Hart};
+ghost use Rattle.std.specs.Prelude.{ℕ, ◌≡◌, ◌<◌, None, slice_index_or};
+ghost use Rattle.block_model.specs.Acts as act;
+ghost use Rattle.log_gather.specs.Accesses.{bytes_in};
+ghost use Rattle.log_gather.specs.Facts as facts;
+ghost use Rattle.log_gather.specs.Located.{lost_to_bytes};
+ghost use Rattle.log_gather.specs.LogEvents.{held_by};
+ghost use Rattle.log_gather.specs.Spans as spans;
+ghost use Rattle.log_gather.specs.Steps.{facts_seen};
+ghost use Rattle.log_gather.specs.Turns.{reserved_after};
+
+use crate::accesses::{Access, Range};
+use mach_types::{Entry, Hart, Kind};
 use rseq_area::Lookups;
 
 /// What each hart has reserved: the address of 8 aligned bytes, or nothing.
@@ -30,4 +40,64 @@ pub(crate) struct Step {
     pub(crate) reserved: Reservations,
     /// Whether it is the first of a sequence whose turn to be gathered is still to come.
     pub(crate) awaits: bool,
+}
+
+impl Step {
+    /// Whether it is an event of a hart.
+    pub(crate) fn is_of(&self, hart: Hart) -> bool
+        ensures { result ≡ facts.is_of hart.0 self.now.entry }
+    {
+        self.entry.hart == hart
+    }
+
+    /// Whether it is an instruction.
+    pub(crate) fn is_instruction(&self) -> bool
+        ensures { result ≡ act.is_instruction self.now.entry.kind }
+    {
+        matches!(self.entry.kind, Kind::Exec)
+    }
+
+    /// Whether it begins an act of its hart: all do but the events of a sequence after its first.
+    pub(crate) fn begins_act(&self) -> bool
+        ensures { result ≡ spans.begins_act (facts_seen self.now) }
+    {
+        !self.within || self.begins
+    }
+
+    /// The aligned 8 bytes that its hart has reserved, where it is of a sequence: it reads them.
+    pub(crate) fn held(&self) -> Option<Range>
+        ensures { bytes_in result ≡ held_by self.now.within (slice_index_or self.now.reserved self.now.entry.hart.0 None) }
+    {
+        if !self.within {
+            return None;
+        }
+        let reserved = self.reserved.get(usize::from(self.entry.hart.0))?;
+        match *reserved {
+            Some(at) => Some(Range { at, count: 8 }),
+            None => None,
+        }
+    }
+
+    /// What another hart has reserved after it, where it had this.
+    fn keeps(&self, reserved: Option<u64>) -> Option<u64>
+        ensures { result ≡ lost_to_bytes (bytes_in self.now.access.entered) reserved }
+    {
+        match (reserved, self.access.entered) {
+            (Some(start), Some(bytes)) if bytes.is_of_eight_from(start) => None,
+            _ => reserved,
+        }
+    }
+
+    /// Makes of what each hart has reserved before it what each has after it, where it is plain.
+    pub(crate) fn pass(&self, reserved: &mut Reservations)
+        requires { self.now.entry.hart.0 < 8 }
+        ensures { reserved.new ≡ reserved_after self.now reserved.old }
+    {
+        let own = usize::from(self.entry.hart.0);
+        let kept = reserved[own];
+        for reservation in reserved.iter_mut() {
+            *reservation = self.keeps(*reservation);
+        }
+        reserved[own] = self.access.reserves.unwrap_or(kept);
+    }
 }

@@ -1,0 +1,129 @@
+//! Whether the events of a span disturb a sequence.
+
+ghost use Rattle.std.specs.Prelude.{ℕ, ◌≡◌, ◌&&◌, [], IfOk, map, not};
+ghost use Rattle.std.specs.List.{list_all, list_any};
+ghost use Rattle.log_gather.specs.ByteSets.{HasLookedAt, HasTouched, IsBounded, IsReady, IsTouched, any_in, clashes_in, holds};
+ghost use Rattle.log_gather.specs.LogEvents as events;
+ghost use Rattle.log_gather.specs.Turns.{event_of, own_steps};
+
+use crate::byte_sets::ByteSet;
+use crate::steps::Step;
+use mach_types::Hart;
+use rseq_area::Lookups;
+use std::alloc::{AllocError, Global};
+
+/// The bytes that the events of a sequence touch.
+#[derive(Drop)]
+pub(crate) struct Touched {
+    pub(crate) reads: ByteSet,
+    pub(crate) writes: ByteSet,
+    /// At which bytes the check of an area looked last; they are among those read.
+    pub(crate) last: Option<Lookups>,
+}
+
+impl Touched {
+    /// What no event touches.
+    fn new(alloc: Global) -> Touched
+        ensures { IsTouched [] result }
+    {
+        Touched {
+            reads: ByteSet::new(alloc),
+            writes: ByteSet::new(alloc),
+            last: None,
+        }
+    }
+
+    /// Adds the bytes at which the check of an area looks, if there is one: they are there, if it looked at the same bytes last.
+    fn add_looked_at(&mut self, looked_at: Option<Lookups>) -> Result<(), AllocError>
+        requires { IsReady self.old }
+        ensures { IfOk result (λ _. HasLookedAt self.old looked_at self.new) }
+    {
+        let Some(looked_at) = looked_at else {
+            return Ok(());
+        };
+        if self.last == Some(looked_at) {
+            return Ok(());
+        }
+        self.reads.add_looked_at(&looked_at)?;
+        self.last = Some(looked_at);
+        Ok(())
+    }
+
+    /// Adds what an event touches.
+    fn add(&mut self, step: &Step) -> Result<(), AllocError>
+        requires { IsReady self.old }
+        ensures { IfOk result (λ _. HasTouched self.old (event_of step.now) self.new) }
+    {
+        self.add_looked_at(step.looked_at)?;
+        self.reads.add_range(step.access.reads)?;
+        self.reads.add_range(step.held())?;
+        self.writes.add_range(step.access.writes)?;
+        Ok(())
+    }
+
+    /// What the events of a hart touch in a span.
+    fn of(alloc: Global, span: &[Step], hart: Hart) -> Result<Touched, AllocError>
+        ensures { IfOk result (λ t. IsTouched (map event_of (own_steps hart.0 span.now)) t) }
+    {
+        let mut touched = Touched::new(alloc);
+        for step in span {
+            if step.is_of(hart) {
+                touched.add(step)?;
+            }
+        }
+        Ok(touched)
+    }
+
+    /// Whether an event touches what is written, or writes what is read.
+    fn clashes(&self, step: &Step) -> bool
+        requires { IsReady self.now }
+        ensures { result ≡ clashes_in self.now (event_of step.now) }
+    {
+        self.reads.has_range(step.access.writes)
+            || self.writes.has_range(step.access.writes)
+            || reads_any(&self.writes, step)
+    }
+
+    /// Whether an event of another hart in a span does.
+    fn clashes_in_span(&self, span: &[Step], hart: Hart) -> bool
+        requires { IsReady self.now }
+        ensures { result ≡ list_any (λ y. not (events.is_own hart.0 y) && clashes_in self.now y) (map event_of span.now) }
+    {
+        for step in span {
+            if !step.is_of(hart) && self.clashes(step) {
+                return true;
+            }
+        }
+        false
+    }
+}
+
+/// Whether an event reads one of these bytes.
+fn reads_any(bytes: &ByteSet, step: &Step) -> bool
+    requires { IsBounded bytes.now }
+    ensures { result ≡ any_in (holds bytes.now) (events.reads_of (event_of step.now)) }
+{
+    bytes.has_range(step.access.reads)
+        || step
+            .looked_at
+            .is_some_and(|looked_at| bytes.has_looked_at(&looked_at))
+        || bytes.has_range(step.held())
+}
+
+/// Whether all events of a span are plain.
+fn are_plain(span: &[Step]) -> bool
+    ensures { result ≡ list_all (λ x. x.plain) span.now }
+{
+    span.iter().all(|step| step.plain)
+}
+
+/// Whether all events of a span are plain, and none of another hart clashes with one of this hart.
+pub(crate) fn is_undisturbed(alloc: Global, span: &[Step], hart: Hart) -> Result<bool, AllocError>
+    ensures { IfOk result (λ b. b ≡ events.is_undisturbed hart.0 (map event_of span.now)) }
+{
+    if !are_plain(span) {
+        return Ok(false);
+    }
+    let touched = Touched::of(alloc, span, hart)?;
+    Ok(!touched.clashes_in_span(span, hart))
+}
