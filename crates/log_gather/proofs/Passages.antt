@@ -38,6 +38,14 @@ get_replicate zero k x = refl
 get_replicate (suc n) zero x = refl
 get_replicate (suc n) (suc k) x = get_replicate n k x
 
+-- none is filled
+pub filled_none : {A : Type 0} (f : ℕ → A) (d : A) (k : ℕ) → get_or (replicate 8 d) k d ≡ cond (ltb k 0) (f k) d
+filled_none f d k = get_replicate 8 k d ∙ go (ltb k 0) refl
+  where
+    go : (b : Bool) → ltb k 0 ≡ b → d ≡ cond b (f k) d
+    go true is = let lt = ltb-true k 0 is in absurd (omega arith)
+    go false is = refl
+
 -- those below a number are filled, one more
 pub filled_more : {A : Type 0} (f : ℕ → A) (d : A) (n : ℕ) (xs : List A) → n < length xs → ((k : ℕ) → get_or xs k d ≡ cond (ltb k n) (f k) d)
     → (k : ℕ) → get_or (set xs n (f n)) k d ≡ cond (ltb k (n + 1)) (f k) d
