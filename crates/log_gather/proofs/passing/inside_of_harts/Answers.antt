@@ -1,4 +1,4 @@
-use Rattle.std.proofs.Common.{◌≡◌, ℕ, ◌∙◌, Bool, false, is_some, set, length, get_or, cond, ltb, ap, arith, refl}
+use Rattle.std.proofs.Common.{◌≡◌, ◌∙◌, Bool, false, is_some, set, get_or, cond, ltb, ap, arith, refl}
 use Rattle.std.proofs.lemmas.List.{length-set}
 use Rattle.block_model.specs.Deciding.{history}
 use Rattle.block_model.specs.Here.{runs}

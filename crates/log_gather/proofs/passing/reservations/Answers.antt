@@ -1,4 +1,4 @@
-use Rattle.std.proofs.Common.{◌≡◌, ℕ, ◌∙◌, set, length, get_or, cond, ltb, sym, ap, arith, refl, Option, None}
+use Rattle.std.proofs.Common.{◌≡◌, ℕ, ◌∙◌, set, get_or, cond, ltb, ap, arith, refl, Option, None}
 use Rattle.std.proofs.lemmas.List.{length-set}
 use Rattle.log_gather.specs.Passing.{here_on}
 use Rattle.log_gather.proofs.Passages.{filled_more, filled_none}

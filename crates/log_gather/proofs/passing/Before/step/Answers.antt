@@ -1,4 +1,3 @@
-use Rattle.std.proofs.Common.{◌≡◌}
 use Rattle.log_gather.proofs.EventFacts.{facts_as}
 use Rattle.log_gather.proofs.passing.Before.step.Goals as goal
 
