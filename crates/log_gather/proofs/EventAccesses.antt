@@ -1,5 +1,5 @@
 -- What a plain event touches is what its access does, as code finds it.
-use Rattle.std.proofs.Common.{◌≡◌, ℕ, List, [], ◌∷◌, ◌++◌, refl, sym, ap, ◌∙◌, Bool, true, false, cond, not, ◌&&◌, Option, Some, None, is_none, is_some}
+use Rattle.std.proofs.Common.{◌≡◌, ℕ, List, [], ◌∷◌, refl, sym, ap, ◌∙◌, Bool, true, false, cond, not, ◌&&◌, Option, Some, None, is_none, is_some}
 use Rattle.std.specs.Option.{option_and_then}
 use Rattle.std.specs.Prelude.{slice_get}
 use Rattle.std.proofs.lemmas.Option.{same_Some}
@@ -7,13 +7,13 @@ use Rattle.mach_types.specs.Bytes.{all_stored}
 use Rattle.mach_types.specs.declared.events.Choice.TheVariants as asked
 use Rattle.mach_types.specs.declared.user_memory.Store.{Store}
 use Rattle.rv_inst.specs.Class.{is_call}
-use Rattle.rv_inst.specs.Execution.{Outcome, is_reserved, outcome}
+use Rattle.rv_inst.specs.Execution.{Outcome, is_reserved}
 use Rattle.rv_inst.specs.declared.effects.Effect.{Effect}
 use Rattle.rv_inst.specs.declared.effects.Effect.TheVariants as effect
 use Rattle.block_model.specs.Events.Drain.{done_drain_of}
 use Rattle.block_model.specs.Events.Exec.{by_call, by_effect, by_outcome, called_here, done_exec_by, next_effect, next_fault, outcome_of}
-use Rattle.block_model.specs.Footprints.{Bytes, bytes, bytes_of_all, read_by, reserved_by, written_by}
-use Rattle.block_model.specs.Here.{Done, Here, runs, waiting_here}
+use Rattle.block_model.specs.Footprints.{bytes_of_all, read_by, reserved_by, written_by}
+use Rattle.block_model.specs.Here.{Here, runs, waiting_here}
 use Rattle.block_model.specs.PlainEvents.{footprint_drain, footprint_exec, footprint_of, is_plain, is_plain_exec_by, is_plain_exec_of, reserved_exec}
 use Rattle.block_model.specs.Sights.{effect_here, effect_on, fault_here, fault_on}
 use Rattle.log_gather.specs.declared.accesses.Access.{Access}

@@ -1,5 +1,5 @@
 -- What is seen of an event are its facts.
-use Rattle.std.proofs.Common.{◌≡◌, ℕ, List, [], ◌∷◌, ◌++◌, length, refl, sym, ap, ◌∙◌, subst, Bool, true, false, cond, not, ◌&&◌, Option, Some, None, is_none, is_some}
+use Rattle.std.proofs.Common.{◌≡◌, ℕ, [], ◌∷◌, ◌++◌, length, refl, sym, ap, ◌∙◌, Bool, true, false, cond, not, ◌&&◌, Option, Some, None, is_none, is_some}
 use Rattle.std.specs.Option.{option_and_then, option_map, option_map_or}
 use Rattle.std.specs.Prelude.{IfSome, unwrap_or}
 use Rattle.mach_types.specs.Events.{choice_of}
@@ -7,26 +7,23 @@ use Rattle.mach_types.specs.Kernel.Areas.{is_inside_named}
 use Rattle.mach_types.specs.Kernel.Threads.{running_on}
 use Rattle.mach_types.specs.declared.events.Entry.{Entry}
 use Rattle.mach_types.specs.declared.sequences.Area.{Area}
-use Rattle.mach_types.specs.declared.sequences.Named.{Named}
 use Rattle.mach_types.specs.declared.sequences.Named.TheVariants as names
-use Rattle.mach_types.specs.declared.sequences.Outcome.{Outcome}
-use Rattle.mach_types.specs.declared.threads.Saved.{Saved}
 use Rattle.rseq_area.specs.Lookups.{looked_at}
 use Rattle.rseq_area.specs.declared.lookups.Lookups.{Lookups}
 use Rattle.process.specs.Sequences.{looked_at_on, named_on}
 use Rattle.block_model.specs.Acts.{is_instruction, is_taken_in}
 use Rattle.block_model.specs.Deciding.{done, event, history}
 use Rattle.block_model.specs.Events.{done_of}
-use Rattle.block_model.specs.Footprints.{Bytes, bytes_of_all}
+use Rattle.block_model.specs.Footprints.{bytes_of_all}
 use Rattle.block_model.specs.Here.{Here, runs, view}
-use Rattle.block_model.specs.History.{Event, History, file, file_among, here_in_history, running}
+use Rattle.block_model.specs.History.{Event, file}
 use Rattle.block_model.specs.PlainEvents.{footprint, is_plain, no_bytes, reserved_of}
 use Rattle.block_model.specs.Record.{Kernel}
 use Rattle.block_model.specs.Sequences.{area_here, named_here}
-use Rattle.block_model.specs.Setting.{Seen, Setting}
+use Rattle.block_model.specs.Setting.{Seen}
 use Rattle.block_model.specs.Sights.{thread}
 use Rattle.block_view.specs.Ledgers.{begins, is_more}
-use Rattle.block_view.specs.Passing.{IsMadeAgain, inside_at, passed_of, pc_at}
+use Rattle.block_view.specs.Passing.{IsMadeAgain, passed_of, pc_at}
 use Rattle.block_view.specs.declared.passing.Passed.{Passed}
 use Rattle.block_view.proofs.Laws.{begins_as, more_as, seen_inside}
 use Rattle.log_gather.specs.declared.accesses.Access.{Access}
@@ -34,7 +31,7 @@ use Rattle.log_gather.specs.declared.accesses.TheConstants.{NO_ACCESS}
 use Rattle.log_gather.specs.declared.passing.Before.{Before}
 use Rattle.log_gather.specs.declared.steps.Step.{Step}
 use Rattle.log_gather.specs.Accesses.{IsAccess, bytes_in}
-use Rattle.log_gather.specs.Facts.{facts_in, inside_on, looked_here, looked_on, moves_out_on, touched_by, with_files, within_by}
+use Rattle.log_gather.specs.Facts.{facts_in, inside_on, looked_on, moves_out_on, touched_by, with_files, within_by}
 use Rattle.log_gather.specs.Lookups.{bytes_looked_at, looked_over}
 use Rattle.log_gather.specs.Passing.{IsReadBefore, here_on, reserved_on}
 use Rattle.log_gather.specs.Steps.{facts_seen, footprint_seen, reserved_in}

@@ -1,5 +1,5 @@
 -- The entries of the gathered log are found from what was seen of the given log.
-use Rattle.std.proofs.Common.{◌≡◌, ℕ, ◌+◌, List, [], ◌∷◌, map, refl, sym, ap, ◌∙◌, Bool, false, cond, eqb, ◌&&◌, get_or}
+use Rattle.std.proofs.Common.{◌≡◌, ℕ, ◌+◌, List, [], ◌∷◌, map, refl, sym, ap, ◌∙◌, false, cond, eqb, ◌&&◌, get_or}
 use Rattle.std.proofs.Math.Path.{fun_ext}
 use Rattle.std.specs.List.{fold}
 use Rattle.mach_types.specs.declared.events.Entry.{Entry}
@@ -8,11 +8,11 @@ use Rattle.block_view.specs.Acts.{acts_of}
 use Rattle.log_gather.specs.declared.passing.Passage.{Passage}
 use Rattle.log_gather.specs.declared.steps.Step.{Step}
 use Rattle.log_gather.specs.Facts.{first_place}
-use Rattle.log_gather.specs.Gathered.{IsGathered, gathered, names_in}
-use Rattle.log_gather.specs.Located.{Located, at_end, entry_in, event_in, gather_located, located}
+use Rattle.log_gather.specs.Gathered.{IsGathered, names_in}
+use Rattle.log_gather.specs.Located.{at_end, entry_in, event_in, gather_located}
 use Rattle.log_gather.specs.LogEvents.{Name}
 use Rattle.log_gather.specs.Passing.{IsPassage}
-use Rattle.log_gather.specs.Spans.{begins_act, names_from, names_of}
+use Rattle.log_gather.specs.Spans.{begins_act, names_from}
 use Rattle.log_gather.specs.Steps.{AllAwait, facts_seen, located_of, names_awaited}
 use Rattle.log_gather.proofs.GatheredByActs.{gathered_is_by_acts}
 use Rattle.log_gather.proofs.LocatedEvents.{events_located, gathered_by_located}

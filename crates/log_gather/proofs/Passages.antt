@@ -1,10 +1,9 @@
 -- A log is gone through entry by entry: what was seen of it so far.
-use Rattle.std.proofs.Common.{◌≡◌, ◌≢◌, ℕ, zero, suc, ◌+◌, ◌≤◌, ◌<◌, List, [], ◌∷◌, ◌++◌, length, map, get_or, set, replicate, refl, sym, ap, ◌∙◌, subst, arith, Bool, true, false, cond, eqb, ltb, Option, Some, None}
+use Rattle.std.proofs.Common.{◌≡◌, ◌≢◌, ℕ, zero, suc, ◌+◌, ◌≤◌, ◌<◌, List, [], ◌∷◌, ◌++◌, length, map, get_or, set, replicate, refl, sym, ap, ◌∙◌, subst, arith, Bool, true, false, cond, eqb, ltb, None}
 use Rattle.std.proofs.Math.Path.{fun_ext}
 use Rattle.std.specs.List.{AllByRecursion}
 use Rattle.std.proofs.lemmas.Bool.{eqb-false, eqb-true, ltb-false, ltb-true}
 use Rattle.std.proofs.lemmas.List.{get_or-set_other, get_or-set_same, length-set, map-append}
-use Rattle.mach_types.proofs.Laws.{eqb_same}
 use Rattle.mach_types.specs.Events.{choice_of}
 use Rattle.mach_types.specs.declared.events.Entry.{Entry}
 use Rattle.mach_types.specs.declared.user_memory.Write.{Write}
@@ -12,8 +11,8 @@ use Rattle.mach_types.specs.declared.user_memory.Write.TheVariants.{Stored, Zero
 use Rattle.block_model.specs.Deciding.{history}
 use Rattle.block_model.specs.Events.{done_of}
 use Rattle.block_model.specs.Here.{Here, runs}
-use Rattle.block_model.specs.History.{History, here_in_history, lost_after}
-use Rattle.block_model.specs.Plain.{Plain, here_in_plain, plain_after}
+use Rattle.block_model.specs.History.{here_in_history, lost_after}
+use Rattle.block_model.specs.Plain.{here_in_plain, plain_after}
 use Rattle.block_model.specs.Run.{IsBlockRun}
 use Rattle.block_model.specs.Setting.{Seen, Setting}
 use Rattle.block_model.proofs.Laws.{good_at, history-append, history-nil, running_idle, start_run}
@@ -21,10 +20,9 @@ use Rattle.block_model.proofs.Swaps.Logs.{seen}
 use Rattle.block_view.proofs.Laws.{HasMadeLog, logged_more, logged_none, run_of_setting}
 use Rattle.log_gather.specs.declared.passing.Passage.{Passage}
 use Rattle.log_gather.specs.declared.steps.Step.{Step}
-use Rattle.log_gather.specs.Facts.{Facts, Place, facts_at, facts_in, first_place, inside_on, next_place, place_after, place_from}
-use Rattle.log_gather.specs.Located.{Located, at_end, located}
-use Rattle.log_gather.specs.Passing.{IsPassage, IsSeen, here_on, inside_there, reserved_on}
-use Rattle.log_gather.specs.Spans.{is_inside_at_place}
+use Rattle.log_gather.specs.Facts.{Facts, Place, facts_at, facts_in, first_place, inside_on, next_place, place_after}
+use Rattle.log_gather.specs.Located.{at_end, located}
+use Rattle.log_gather.specs.Passing.{IsPassage, IsSeen, here_on, inside_there}
 use Rattle.log_gather.specs.Steps.{AllAwait, AreOfEight, IsOfEight, facts_seen, located_of, reserved_in}
 use Rattle.log_gather.proofs.GatheredSequences.{at_first}
 use Rattle.log_gather.proofs.GatheredSpans.{machine_after, place-more}
@@ -37,6 +35,14 @@ pub get_replicate : {A : Type 0} (n k : ℕ) (x : A) → get_or (replicate n x) 
 get_replicate zero k x = refl
 get_replicate (suc n) zero x = refl
 get_replicate (suc n) (suc k) x = get_replicate n k x
+
+-- none is filled
+pub filled_none : {A : Type 0} (f : ℕ → A) (d : A) (k : ℕ) → get_or (replicate 8 d) k d ≡ cond (ltb k 0) (f k) d
+filled_none f d k = get_replicate 8 k d ∙ go (ltb k 0) refl
+  where
+    go : (b : Bool) → ltb k 0 ≡ b → d ≡ cond b (f k) d
+    go true is = let lt = ltb-true k 0 is in absurd (omega arith)
+    go false is = refl
 
 -- those below a number are filled, one more
 pub filled_more : {A : Type 0} (f : ℕ → A) (d : A) (n : ℕ) (xs : List A) → n < length xs → ((k : ℕ) → get_or xs k d ≡ cond (ltb k n) (f k) d)

@@ -1,6 +1,6 @@
 //! A log is gone through on a machine that makes its entries again, and each event is seen.
 
-ghost use Rattle.std.specs.Prelude.{ℕ, ◌≡◌, ◌<◌, ◌&&◌, not, false, None, if◌then◌else◌, slice_index_or, length, IfOk, IfErr, IfSome, IfNone, is_some};
+ghost use Rattle.std.specs.Prelude.{ℕ, ◌≡◌, ◌<◌, ◌&&◌, not, false, [], ◌∷◌, ◌++◌, None, if◌then◌else◌, slice_index_or, length, IfOk, IfErr, IfSome, IfNone, OnOk, is_some};
 ghost use Rattle.mach_types.specs.Events.{choice_of};
 ghost use Rattle.mach_types.specs.Kernel.Areas.{is_inside_named};
 ghost use Rattle.mach_types.specs.Limits.{InRange};
@@ -27,7 +27,7 @@ use mach_types::{Entry, Hart, Kind, Limits, Named};
 use machine_core::Machine;
 use rseq_area::Lookups;
 use rv_inst::Effect;
-use std::alloc::Global;
+use std::alloc::{AllocError, Global};
 
 /// What was seen of a log.
 #[derive(Debug, Drop)]
@@ -71,7 +71,7 @@ impl Before {
         ensures awaits { result.awaits ≡ result.begins }
     {
         let within = is_within(passed, was);
-        let begins = within && !was;
+        let begins = is_first(within, was);
         Step {
             entry: passed.entry,
             plain: self.plain,
@@ -108,6 +108,13 @@ fn is_within(passed: &Passed, was: bool) -> bool
     }
 }
 
+/// Whether an entry begins a sequence, where it is of one or isn't, and its hart's entry before it was or wasn't.
+fn is_first(within: bool, was: bool) -> bool
+    ensures { result ≡ (within && not was) }
+{
+    within && !was
+}
+
 /// Whether an effect is that of ECALL.
 fn is_call(effect: &Effect) -> bool
     ensures { result ≡ class.is_call effect.now }
@@ -123,7 +130,7 @@ fn reservations(machine: &Machine) -> Reservations
 {
     let mut reserved = [None; 8];
     for hart in 0..machine.harts() {
-        reserved[usize::from(hart)] = machine.hart(Hart(hart)).reserved;
+        reserved[hart as usize] = machine.hart(Hart(hart)).reserved;
     }
     reserved
 }
@@ -135,7 +142,7 @@ fn inside_of_harts(machine: &Machine) -> [bool; 8]
 {
     let mut inside_of = [false; 8];
     for hart in 0..machine.harts() {
-        inside_of[usize::from(hart)] = inside(machine, Hart(hart)).is_some();
+        inside_of[hart as usize] = inside(machine, Hart(hart)).is_some();
     }
     inside_of
 }
@@ -229,6 +236,14 @@ fn is_set(harts: &[bool; 8], hart: Hart) -> bool
     }
 }
 
+/// Adds an event.
+fn add(steps: &mut Vec<Step>, step: Step) -> Result<(), AllocError>
+    ensures { OnOk result (steps.new.items ≡ steps.old.items ++ step ∷ []) }
+{
+    steps.push(step)?;
+    Ok(())
+}
+
 /// The seed of a run that draws no choice.
 const NO_SEED: u64 = 0;
 
@@ -255,8 +270,8 @@ pub(crate) fn pass(
         let Some(step) = see(&mut machine, limits.harts, *entry, was) else {
             return Err(ViewFault::NotARun(number));
         };
-        within[usize::from(entry.hart.0)] = step.within;
-        steps.push(step)?;
+        within[entry.hart.0 as usize] = step.within;
+        add(&mut steps, step)?;
     }
     let inside_at_end = inside_of_harts(&machine);
     Ok(Passage {

@@ -1,15 +1,15 @@
-use Rattle.std.proofs.Common.{◌≡◌, ℕ, ◌∙◌, Bool, false, is_some, set, length, get_or, cond, ltb, ap, arith, refl}
+use Rattle.std.proofs.Common.{◌≡◌, ◌∙◌, Bool, false, is_some, set, get_or, cond, ltb, ap, arith, refl}
 use Rattle.std.proofs.lemmas.List.{length-set}
 use Rattle.block_model.specs.Deciding.{history}
 use Rattle.block_model.specs.Here.{runs}
 use Rattle.block_view.proofs.Laws.{seen_inside}
 use Rattle.log_gather.specs.Facts.{inside_on}
 use Rattle.log_gather.specs.Passing.{here_on}
-use Rattle.log_gather.proofs.Passages.{filled_more, get_replicate}
+use Rattle.log_gather.proofs.Passages.{filled_more, filled_none}
 use Rattle.log_gather.proofs.passing.inside_of_harts.Goals as goal
 
 pub loop-hart-init : goal.loop-hart-init
-loop-hart-init c = record { eight = refl; filled = λ k. get_replicate 8 k false }
+loop-hart-init c = record { eight = refl; filled = filled_none (λ k. inside_on (here_on c.args.machine.now k) (runs (here_on c.args.machine.now k))) false }
 
 pub bounds-inside_of-hart : goal.bounds-inside_of-hart
 bounds-inside_of-hart c =

@@ -1,4 +1,4 @@
-use Rattle.std.proofs.Common.{◌≡◌, ◌+◌, ◌∷◌, ◌++◌, [], List, get_or, set, length, take, sym, ap, subst, arith, Bool, false}
+use Rattle.std.proofs.Common.{◌≡◌, ◌+◌, ◌∷◌, ◌++◌, [], List, get_or, set, length, refl, replicate, rules, take, sym, ap, subst, arith, Bool, false}
 use Rattle.std.proofs.lemmas.List.{get_or_default, take_all, take_more}
 use Rattle.mach_types.specs.declared.events.Entry.{Entry}
 use Rattle.mach_types.specs.declared.events.Kind.TheVariants as kind
@@ -14,7 +14,11 @@ abbrev no_entry : Entry
 no_entry = record { hart = record { 0 = 0 }; kind = kind.Exec; tid = record { 0 = 0 }; pc = 0 }
 
 pub loop-entry-init : goal.loop-entry-init
-loop-entry-init c = seen_none (viewed c.args.image.now c.args.limits.now) c.in_ok-machine.machine c.in_ok-machine.ensures
+loop-entry-init c =
+    let s = viewed c.args.image.now c.args.limits.now in
+    let none : c.new-steps.result.items ≡ [] = search rules in
+    subst (λ (xs : List Step). HasSeen s [] c.in_ok-machine.machine xs (replicate 8 false)) (sym none)
+    (seen_none s c.in_ok-machine.machine c.in_ok-machine.ensures)
 
 pub overflow_cast-number : goal.overflow_cast-number
 overflow_cast-number c =
@@ -34,3 +38,31 @@ returns-in_default-clause-cause c =
     first_refused (viewed c.args.image.now c.args.limits.now) log i c.loop-entry.machine entry (length c.log.result.now + 1)
     c.loop-entry.invariant.so_far (get_or_default log i no_entry entry c.loop-entry-test.true) c.loop-entry-test.true c.in_default.ensures.refused
     (ap (λ (entries : List Entry). length entries + 1) c.log.ensures)
+
+pub loop-entry-preserved : goal.loop-entry-preserved
+loop-entry-preserved c =
+    let s = viewed c.args.image.now c.args.limits.now in
+    let log = c.args.log.now in
+    let i = c.loop-entry.entry-index in
+    let entry = get_or log i no_entry in
+    let m = c.loop-entry.machine in
+    let m' = c.see.new.machine in
+    let steps = c.loop-entry.steps.items in
+    let within = c.loop-entry.within in
+    let step = c.in-Some.step in
+    let made : IsSeen m m' entry (get_or within entry.hart.0 false) step = subst (λ (b : Bool). IsSeen m m' entry b step) c.is_set-was.ensures c.in-Some.ensures.made in
+    let fits = fits_eight s (take i log) m m' entry steps within _ step c.loop-entry.invariant made c.requires.limits.eight_harts in
+    subst (λ (xs : List Step). HasSeen s (take (i + 1) log) m' xs (set within entry.hart.0 step.within)) (sym c.in_ok-add.ensures)
+    (subst (λ (l : List Entry). HasSeen s l m' (steps ++ step ∷ []) (set within entry.hart.0 step.within)) (sym (take_more log i no_entry c.loop-entry-test.true))
+    (seen_more s (take i log) m m' entry steps within step c.loop-entry.invariant made fits))
+
+pub returns-clause-passage : goal.returns-clause-passage
+returns-clause-passage c =
+    let s = viewed c.args.image.now c.args.limits.now in
+    let log = c.args.log.now in
+    let m = c.loop-entry.machine in
+    let steps = c.loop-entry.steps.items in
+    let within = c.loop-entry.within in
+    let whole : take c.loop-entry.entry-index log ≡ log = take_all c.loop-entry.entry-index log (omega arith) in
+    is_passage s log m steps within (subst (λ (l : List Entry). HasSeen s l m steps within) whole c.loop-entry.invariant) _ refl
+    c.inside_of_harts-inside_at_end.ensures

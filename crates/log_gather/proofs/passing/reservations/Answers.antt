@@ -1,11 +1,11 @@
-use Rattle.std.proofs.Common.{◌≡◌, ℕ, ◌∙◌, set, length, get_or, cond, ltb, sym, ap, arith, refl, Option, None}
+use Rattle.std.proofs.Common.{◌≡◌, ℕ, ◌∙◌, set, get_or, cond, ltb, ap, arith, refl, Option, None}
 use Rattle.std.proofs.lemmas.List.{length-set}
 use Rattle.log_gather.specs.Passing.{here_on}
-use Rattle.log_gather.proofs.Passages.{filled_more, get_replicate}
+use Rattle.log_gather.proofs.Passages.{filled_more, filled_none}
 use Rattle.log_gather.proofs.passing.reservations.Goals as goal
 
 pub loop-hart-init : goal.loop-hart-init
-loop-hart-init c = record { eight = refl; filled = λ k. get_replicate 8 k None }
+loop-hart-init c = record { eight = refl; filled = filled_none (λ k. (here_on c.args.machine.now k).reserved) None }
 
 pub bounds-reserved-hart : goal.bounds-reserved-hart
 bounds-reserved-hart c =
