@@ -1,3 +1,4 @@
+pub mod Accesses
 pub mod Facts
 pub mod Gathered
 pub mod Located

@@ -1,19 +1,23 @@
 -- The events of a log as the code keeps them, and which events of the definitions they are (own).
-use Rattle.std.specs.Prelude.{ℕ, ◌+◌, ◌==◌, ◌&&◌, List, [], ◌∷◌, ◌++◌, map, if◌then◌else◌, Option, Some, None}
+use Rattle.std.specs.Prelude.{ℕ, ◌+◌, ◌==◌, ◌&&◌, List, [], ◌∷◌, ◌++◌, map, slice_index_or, if◌then◌else◌, Option, Some, None}
 use Rattle.std.specs.Option.{option_map_or}
-use Rattle.block_model.specs.Footprints.{Bytes, bytes}
-use Rattle.log_gather.specs.declared.accesses.Range.{Range}
+use Rattle.rseq_area.specs.declared.lookups.Lookups.{Lookups}
+use Rattle.block_model.specs.Footprints.{Footprint}
+use Rattle.log_gather.specs.declared.accesses.Access.{Access}
 use Rattle.log_gather.specs.declared.steps.Step.{Step}
+use Rattle.log_gather.specs.Accesses.{bytes_in}
 use Rattle.log_gather.specs.Facts.{Facts}
 use Rattle.log_gather.specs.Located.{Located}
 use Rattle.log_gather.specs.LogEvents.{Name}
 use Rattle.log_gather.specs.Lookups.{bytes_looked_at}
 use Rattle.log_gather.specs.Spans.{begins_act}
 
--- the bytes of a range, if there is one
-abbrev pub bytes_in : Option Range → List Bytes
-bytes_in None = []
-bytes_in (Some x) = bytes x.at x.count ∷ []
+-- what a plain event touches: its access does, and the check of its thread's area looks
+abbrev pub footprint_seen : Access → Option Lookups → Footprint
+footprint_seen access looked_at = record {
+  reads = bytes_in access.reads ++ option_map_or bytes_looked_at looked_at [];
+  writes = bytes_in access.writes;
+}
 
 -- the facts of an event
 abbrev pub facts_seen : Step → Facts
@@ -24,20 +28,18 @@ facts_seen x = record {
   within = x.within;
   begins = x.begins;
   moves_out = x.moves_out;
-  touched = record {
-    reads = bytes_in x.access.reads ++ option_map_or bytes_looked_at x.looked_at [];
-    writes = bytes_in x.access.writes;
-  };
+  touched = footprint_seen x.access x.looked_at;
   reserves = x.access.reserves;
   entered = bytes_in x.access.entered;
 }
 
--- what hart k has reserved, nothing past the last hart (HELPER: the type of an array in specs is to be looked up)
--- abbrev pub reserved_in : .. → ℕ → Option ℕ
+-- what hart k has reserved, nothing past the last hart
+abbrev pub reserved_in : List (Option ℕ) → ℕ → Option ℕ
+reserved_in reserved k = slice_index_or reserved k None
 
 -- an event with what every hart has reserved before it
--- abbrev pub located_of : Step → Located
--- located_of x = record { facts = facts_seen x; reserved = reserved_in x.reserved }
+abbrev pub located_of : Step → Located
+located_of x = record { facts = facts_seen x; reserved = reserved_in x.reserved }
 
 -- the sequences whose turn is still to come, in order, where so many acts of each hart came before
 abbrev pub names_awaited : (ℕ → ℕ) → List Step → List Name
