@@ -8,6 +8,7 @@ mod Gatherable
 mod GatheredByActs
 mod GatheredSequences
 mod GatheredSpans
+pub mod Laws
 mod LeftSequences
 mod LocatedEvents
 mod NamedSequences
