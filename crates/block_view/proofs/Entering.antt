@@ -16,7 +16,7 @@ use Rattle.block_model.specs.declared.refusals.Refused.{Refused}
 use Rattle.block_model.proofs.Laws.{decided_is, history-nil, replays, start_run, within_limit}
 use Rattle.block_view.specs.Acts.{acts_after, acts_of}
 use Rattle.block_view.specs.Ledgers.{Kept, noted, nothing_kept}
-use Rattle.block_view.specs.Passing.{IsDecided, IsMadeAgain, passed_of}
+use Rattle.block_view.specs.Passing.{IsDecided, IsMadeAgain, IsMadeBy, passed_of}
 use Rattle.block_view.specs.Standing.{at_the_end, standings}
 use Rattle.block_view.specs.Tied.{IsTied}
 use Rattle.block_view.specs.Viewing.{AreActs}
@@ -28,12 +28,20 @@ use Rattle.block_view.proofs.Made.{made_at}
 use Rattle.block_view.proofs.Seeing.{history_after, run_after}
 use Rattle.block_view.proofs.Ties.{tied_next}
 
--- a machine made these entries of a setting, and a ledger is tied to their log
-pub record HasMade (s : Setting) (log : List Entry) (m : Seen) (k : Kept) : Type 0 where
+-- a machine made these entries of a setting
+pub record HasMadeLog (s : Setting) (log : List Entry) (m : Seen) : Type 0 where
   pub setting : m.setting ≡ s
   pub made : m.log ≡ log
   pub run : IsBlockRun m.setting m.log
+
+-- and a ledger is tied to their log
+pub record HasMade (s : Setting) (log : List Entry) (m : Seen) (k : Kept) : Type 0 where
+  pub so_far : HasMadeLog s log m
   pub tied : IsTied m.setting (history m.setting m.log) k
+
+-- they are a block run of the setting
+pub run_of_setting : (s : Setting) (log : List Entry) (m : Seen) → HasMadeLog s log m → IsBlockRun s log
+run_of_setting s log m was = subst (IsBlockRun s) was.made (subst (λ x. IsBlockRun x m.log) was.setting was.run)
 
 -- AT THE START
 
@@ -52,19 +60,32 @@ tied_start s = record {
   hangs = λ tid x is. absurd cc;
 }
 
+pub logged_none : (s : Setting) (m : Seen) → m ≡ record { setting = s; log = [] } → HasMadeLog s [] m
+logged_none s m is = record {
+  setting = ap (λ (x : Seen). x.setting) is;
+  made = ap (λ (x : Seen). x.log) is;
+  run = subst (λ (x : Seen). IsBlockRun x.setting x.log) (sym is) (start_run s);
+}
+
 pub made_none : (s : Setting) (m : Seen) (k : Kept) → m ≡ record { setting = s; log = [] } → k ≡ nothing_kept s.limits.harts → HasMade s [] m k
 made_none s m k is kept =
     let start : Seen = record { setting = s; log = [] } in
     let tied : IsTied s (history s []) k =
     subst (IsTied s (history s [])) (sym kept) (subst (λ events. IsTied s events (nothing_kept s.limits.harts)) (sym (history-nil s)) (tied_start s)) in
     record {
-      setting = ap (λ (x : Seen). x.setting) is;
-      made = ap (λ (x : Seen). x.log) is;
-      run = subst (λ (x : Seen). IsBlockRun x.setting x.log) (sym is) (start_run s);
+      so_far = logged_none s m is;
       tied = subst (λ (x : Seen). IsTied x.setting (history x.setting x.log) k) (sym is) tied;
     }
 
 -- ONE ENTRY MORE
+
+pub logged_more : (s : Setting) (log : List Entry) (m m' : Seen) (entry : Entry) → HasMadeLog s log m → IsMadeBy m m' entry
+    → HasMadeLog s (log ++ entry ∷ []) m'
+logged_more s log m m' entry was made = record {
+  setting = ap (λ (x : Seen). x.setting) made.longer ∙ was.setting;
+  made = ap (λ (x : Seen). x.log) made.longer ∙ ap (λ xs. xs ++ entry ∷ []) was.made;
+  run = made.block_run;
+}
 
 pub made_more : (s : Setting) (log : List Entry) (m m' : Seen) (k : Kept) (entry : Entry) (passed : Passed) → HasMade s log m k
     → IsMadeAgain m m' entry passed → HasMade s (log ++ entry ∷ []) m' (noted passed k)
@@ -76,9 +97,7 @@ made_more s log m m' k entry passed was again =
     subst (λ (p : Passed). IsTied m.setting (newest ∷ before) (noted p k)) (sym again.seen)
     (tied_next m.setting newest before k (run_after m m' entry again.made) was.tied) in
     record {
-      setting = same ∙ was.setting;
-      made = ap (λ (x : Seen). x.log) again.made.longer ∙ ap (λ xs. xs ++ entry ∷ []) was.made;
-      run = again.made.block_run;
+      so_far = logged_more s log m m' entry was.so_far again.made;
       tied = subst (λ x. IsTied x (history m'.setting m'.log) (noted passed k)) (sym same)
           (subst (λ events. IsTied m.setting events (noted passed k)) (sym (history_after m m' entry again.made)) next);
     }
@@ -97,8 +116,8 @@ hart_is_kept s log m m' k entry passed was again =
     omega (arith, its_hart m.setting newest before passed again.seen, was.tied.harts)
 
 -- its log is short
-pub made_few : (s : Setting) (log : List Entry) (m : Seen) (k : Kept) → HasMade s log m k → InRange s.limits → length m.log + 1 < 2 ^ 32
-made_few s log m k was limits =
+pub logged_few : (s : Setting) (log : List Entry) (m : Seen) → HasMadeLog s log m → InRange s.limits → length m.log + 1 < 2 ^ 32
+logged_few s log m was limits =
     let within = within_limit m.setting m.log was.run in
     let same = ap (λ (x : Setting). x.limits.steps) was.setting in
     let most = limits.most_steps in
@@ -144,11 +163,11 @@ module _ (s : Setting) (log : List Entry) (entry : Entry) (never : decide s (his
   makes_none = by_answer (decide s (history s log) entry.hart.0 (choice_of entry)) refl
 
 -- the first entry that isn't decided is the first line that is refused
-pub first_refused : (s : Setting) (all : List Entry) (i : ℕ) (m : Seen) (k : Kept) (entry : Entry) (n : ℕ) → HasMade s (take i all) m k
+pub first_refused : (s : Setting) (all : List Entry) (i : ℕ) (m : Seen) (entry : Entry) (n : ℕ) → HasMadeLog s (take i all) m
     → entry ≡ get_or all i entry → i < length all → (IsDecided m entry → ⊥) → n ≡ length m.log + 1 → IsFirstRefused s (script_of all) n
-first_refused s all i m k entry n was at lt never number =
+first_refused s all i m entry n was at lt never number =
     let log = take i all in
-    let run : IsBlockRun s log = subst (IsBlockRun s) was.made (subst (λ x. IsBlockRun x m.log) was.setting was.run) in
+    let run = run_of_setting s log m was in
     let split : all ≡ log ++ entry ∷ drop (i + 1) all =
     sym (take-append-drop i all) ∙ ap (λ xs. log ++ xs) (drop_more all i entry lt ∙ ap (λ x. x ∷ drop (i + 1) all) (sym at)) in
     let so_far = ap length was.made in
@@ -172,11 +191,10 @@ pub are_acts : (s : Setting) (log : List Entry) (m : Seen) (k : Kept) (list : Li
     → list ≡ map (at_the_end m.setting (history m.setting m.log) []) (standings m.setting (history m.setting m.log)) → AreActs s log list
 unfolding acts_of
 are_acts s log m k list was is =
-    let run : IsBlockRun s log = subst (IsBlockRun s) was.made (subst (λ x. IsBlockRun x m.log) was.setting was.run) in
     record {
-      block_run = run;
+      block_run = run_of_setting s log m was.so_far;
       acts = is
           ∙ at-the-end m.setting (history m.setting m.log)
-          ∙ ap (λ x. acts_after x [] (reverse (history x m.log))) was.setting
-          ∙ ap (λ xs. acts_after s [] (reverse (history s xs))) was.made;
+          ∙ ap (λ x. acts_after x [] (reverse (history x m.log))) was.so_far.setting
+          ∙ ap (λ xs. acts_after s [] (reverse (history s xs))) was.so_far.made;
     }

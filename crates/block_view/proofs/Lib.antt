@@ -11,6 +11,7 @@ mod HangingPlaces
 mod Indices
 mod Inside
 mod Interruptions
+pub mod Laws
 mod Logs
 mod Made
 mod Noting

@@ -1,11 +1,14 @@
 mod AreaLookups
 mod Contiguous
 mod ContiguousLogs
+mod EventAccesses
+mod EventFacts
 mod ExchangedPlaces
 mod FactsStay
 mod GatherExamples
 mod Gatherable
 mod GatheredByActs
+mod GatheredEntries
 mod GatheredSequences
 mod GatheredSpans
 pub mod Laws
@@ -14,5 +17,6 @@ mod LocatedEvents
 mod NamedSequences
 mod NumberedActs
 mod OwnEvents
+mod Passages
 mod Reservations
 mod StandingTogether

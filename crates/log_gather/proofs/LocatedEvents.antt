@@ -98,7 +98,7 @@ facts_located : (s : Setting) (p : Place) (log : List Entry) → map facts_in (l
 facts_located s p [] = refl
 facts_located s p (e ∷ log) = ap (λ l. facts_at s p e ∷ l) (facts_located s (next_place s p e) log)
 
-located-append : (s : Setting) (p : Place) (xs ys : List Entry) → located s p (xs ++ ys) ≡ located s p xs ++ located s (place_from s p xs) ys
+pub located-append : (s : Setting) (p : Place) (xs ys : List Entry) → located s p (xs ++ ys) ≡ located s p xs ++ located s (place_from s p xs) ys
 located-append s p [] ys = refl
 located-append s p (x ∷ xs) ys = ap (λ l. record { facts = facts_at s p x; reserved = p.machine.reserved } ∷ l) (located-append s (next_place s p x) xs ys)
 

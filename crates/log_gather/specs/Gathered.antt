@@ -3,6 +3,7 @@ use Rattle.std.specs.Prelude.{ℕ, zero, suc, ◌+◌, ◌-◌, ◌==◌, ◌≡
 use Rattle.std.specs.List.{list_all}
 use Rattle.std.specs.Option.{option_map_or}
 use Rattle.mach_types.specs.declared.events.Entry.{Entry}
+use Rattle.block_model.specs.Run.{IsBlockRun}
 use Rattle.block_model.specs.Setting.{Setting}
 use Rattle.block_view.specs.declared.forms.Act.{Act}
 use Rattle.block_view.specs.declared.forms.Form.{Form}
@@ -65,3 +66,8 @@ pub record StandsTogether (s : Setting) (log : List Entry) (x : Name) : Type 0 w
   pub act : Act
   pub there : nth_act x.hart x.number (acts_of s log) ≡ Some act
   pub alone : list_all (is_own x.hart) (span_of act (log_events s (first_place s) log)) ≡ true
+
+-- these are the entries of the gathered log of a log, which is a block run
+pub record IsGathered (s : Setting) (log : List Entry) (entries : List Entry) : Type 0 where
+  pub block_run : IsBlockRun s log
+  pub entries_are : entries ≡ gathered s log

@@ -4,5 +4,6 @@ pub mod Gathered
 pub mod Located
 pub mod LogEvents
 pub mod Lookups
+pub mod Passing
 pub mod Spans
 pub mod Steps

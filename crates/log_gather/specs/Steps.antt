@@ -1,5 +1,6 @@
 -- The events of a log as the code keeps them, and which events of the definitions they are (own).
-use Rattle.std.specs.Prelude.{ℕ, ◌+◌, ◌==◌, ◌&&◌, List, [], ◌∷◌, ◌++◌, map, slice_index_or, if◌then◌else◌, Option, Some, None}
+use Rattle.std.specs.Prelude.{ℕ, ◌≡◌, ◌<◌, ◌+◌, ◌==◌, ◌&&◌, List, [], ◌∷◌, ◌++◌, length, map, slice_index_or, if◌then◌else◌, Option, Some, None}
+use Rattle.std.specs.List.{AllByRecursion}
 use Rattle.std.specs.Option.{option_map_or}
 use Rattle.rseq_area.specs.declared.lookups.Lookups.{Lookups}
 use Rattle.block_model.specs.Footprints.{Footprint}
@@ -40,6 +41,18 @@ reserved_in reserved k = slice_index_or reserved k None
 -- an event with what every hart has reserved before it
 abbrev pub located_of : Step → Located
 located_of x = record { facts = facts_seen x; reserved = reserved_in x.reserved }
+
+-- each event is of one of eight harts, and what each of these has reserved is known
+pub record IsOfEight (x : Step) : Type 0 where
+  pub hart : x.entry.hart.0 < 8
+  pub reserved : length x.reserved ≡ 8
+
+abbrev pub AreOfEight : List Step → Type 0
+AreOfEight xs = AllByRecursion IsOfEight xs
+
+-- the first event of each sequence awaits its turn, and no other event
+abbrev pub AllAwait : List Step → Type 0
+AllAwait xs = AllByRecursion (λ x. x.awaits ≡ x.begins) xs
 
 -- the sequences whose turn is still to come, in order, where so many acts of each hart came before
 abbrev pub names_awaited : (ℕ → ℕ) → List Step → List Name

@@ -3,6 +3,7 @@
 #![tactic(auto)]
 
 mod accesses;
+mod passing;
 mod steps;
 mod theorems;
 

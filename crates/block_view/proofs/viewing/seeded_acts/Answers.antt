@@ -5,7 +5,7 @@ use Rattle.mach_types.specs.declared.events.Kind.TheVariants as kind
 use Rattle.block_model.specs.Setting.{setting_of}
 use Rattle.block_view.specs.Ledgers.{Kept, kept_in, noted}
 use Rattle.block_view.proofs.Closing.{has_places}
-use Rattle.block_view.proofs.Entering.{HasMade, are_acts, first_refused, hart_is_kept, made_few, made_more, made_none}
+use Rattle.block_view.proofs.Entering.{HasMade, are_acts, first_refused, hart_is_kept, logged_few, made_more, made_none}
 use Rattle.block_view.proofs.viewing.seeded_acts.Goals as goal
 
 -- the entry that a loop is at, within the log
@@ -19,12 +19,12 @@ loop-entry-init c =
 
 pub overflow_cast-number : goal.overflow_cast-number
 overflow_cast-number c =
-    let few = made_few _ _ c.loop-entry.machine _ c.loop-entry.invariant c.requires.limits in
+    let few = logged_few _ _ c.loop-entry.machine c.loop-entry.invariant.so_far c.requires.limits in
     omega (arith, ap length c.log.ensures)
 
 pub overflow_add-number : goal.overflow_add-number
 overflow_add-number c =
-    let few = made_few _ _ c.loop-entry.machine _ c.loop-entry.invariant c.requires.limits in
+    let few = logged_few _ _ c.loop-entry.machine c.loop-entry.invariant.so_far c.requires.limits in
     omega (arith, ap length c.log.ensures)
 
 pub returns-in_default-clause-cause : goal.returns-in_default-clause-cause
@@ -32,8 +32,8 @@ returns-in_default-clause-cause c =
     let log = c.args.log.now in
     let i = c.loop-entry.entry-index in
     let entry = get_or log i no_entry in
-    first_refused (setting_of c.args.image.now c.args.limits.now c.args.seed) log i c.loop-entry.machine (kept_in c.loop-entry.ledger) entry (length c.log.result.now + 1)
-    c.loop-entry.invariant (get_or_default log i no_entry entry c.loop-entry-test.true) c.loop-entry-test.true c.in_default.ensures.refused
+    first_refused (setting_of c.args.image.now c.args.limits.now c.args.seed) log i c.loop-entry.machine entry (length c.log.result.now + 1)
+    c.loop-entry.invariant.so_far (get_or_default log i no_entry entry c.loop-entry-test.true) c.loop-entry-test.true c.in_default.ensures.refused
     (ap (λ (entries : List Entry). length entries + 1) c.log.ensures)
 
 pub note-requires-clause-hart : goal.note-requires-clause-hart
