@@ -23,11 +23,11 @@ unreachable-requires c =
 pub returns-in-Ok-clause-gathered : goal.returns-in-Ok-clause-gathered
 returns-in-Ok-clause-gathered c =
     let s = setting_for (said c.args.command.now) c.args.image.now in
-    c.in-Ok.ensures.entries.entries ∙ ap (gathered s) c.log.ensures
+    c.in-Ok.ensures.entries.entries_are ∙ ap (gathered s) c.log.ensures
     ∙ ap (λ (setting : Setting). gathered setting c.args.machine.now.log) (sym c.requires.setting)
 
 pub returns-in-Ok-clause-harts : goal.returns-in-Ok-clause-harts
 returns-in-Ok-clause-harts c =
     let s = setting_for (said c.args.command.now) c.args.image.now in
-    subst (λ (log : List Entry). All (λ (e : Entry). e.hart.0 < 8) log) (sym c.in-Ok.ensures.entries.entries)
+    subst (λ (log : List Entry). All (λ (e : Entry). e.hart.0 < 8) log) (sym c.in-Ok.ensures.entries.entries_are)
     (gathered_digits s c.log.result.now c.requires.limits.eight_harts c.in-Ok.ensures.entries.block_run)
