@@ -30,7 +30,7 @@ use Rattle.block_model.specs.Whole.{EndsWhole, IsCutOrDead}
 use Rattle.block_view.specs.Ledgers.{cut_or_unended, end_by, left_or_dropped}
 use Rattle.block_view.specs.Passing.{inside_at, is_killed, passed_of, would_interrupt}
 use Rattle.block_view.specs.Tied.{going_at}
-use Rattle.block_view.proofs.Inside.{seen_inside, seen_named}
+use Rattle.block_view.proofs.SeenInside.{seen_inside, seen_named}
 use Rattle.block_view.proofs.Interruptions.{interrupts_as, kills_by_signal}
 use Rattle.block_view.proofs.Logs.{whole_place}
 use Rattle.block_view.proofs.Made.{made_at, whole_at}

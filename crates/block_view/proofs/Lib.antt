@@ -9,7 +9,6 @@ mod Extents
 mod Growing
 mod HangingPlaces
 mod Indices
-mod Inside
 mod Interruptions
 pub mod Laws
 mod Logs
@@ -17,6 +16,7 @@ mod Made
 mod Noting
 mod Places
 mod Seeing
+mod SeenInside
 mod Sequences
 mod Tallies
 mod Ties

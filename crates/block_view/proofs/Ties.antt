@@ -29,7 +29,7 @@ use Rattle.block_view.specs.declared.ledger.Hanging.{Hanging as KeptHanging}
 use Rattle.block_view.proofs.Edits.{AreGoing, AreHanging, going_unwritten, going_with_more, going_with_over, going_written, hanging_ended, hanging_unwritten, hanging_with_more, hanging_written, listed_as_before, listed_at_place, map_at_place, map_nowhere}
 use Rattle.block_view.proofs.Endings.{ends_as}
 use Rattle.block_view.proofs.HangingPlaces.{hanging_hangs, one_hanging, ran}
-use Rattle.block_view.proofs.Inside.{begins_as, dies_by_signal, goes_on_as, leaves_as, more_as, moved_as}
+use Rattle.block_view.proofs.SeenInside.{begins_as, dies_by_signal, goes_on_as, leaves_as, more_as, moved_as}
 use Rattle.block_view.proofs.Logs.{whole_place}
 use Rattle.block_view.proofs.Made.{made_at}
 use Rattle.block_view.proofs.Noting.{noted_alone, noted_begun, noted_more, noted_stopped, settled_else, settled_none, settled_some}

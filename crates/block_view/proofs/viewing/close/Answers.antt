@@ -4,7 +4,7 @@ use Rattle.block_view.specs.Ledgers.{HasPlaces, Kept, closed, kept_in}
 use Rattle.block_view.specs.Standing.{standings}
 use Rattle.block_view.specs.Tied.{closed_if}
 use Rattle.block_view.proofs.Closing.{all_closed, length-closed, none_closed, one_closed, places_of}
-use Rattle.block_view.proofs.Inside.{seen_inside}
+use Rattle.block_view.proofs.SeenInside.{seen_inside}
 use Rattle.block_view.proofs.viewing.close.Goals as goal
 
 pub loop-hart-init : goal.loop-hart-init
