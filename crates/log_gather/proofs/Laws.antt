@@ -1,7 +1,6 @@
 -- The laws that crates above cite: the gathered log of a block run is one, with the same console and the same end.
-use Rattle.std.proofs.Common.{◌≡◌, ℕ, List, ap, subst}
+use Rattle.std.proofs.Common.{◌≡◌, List, ap, subst}
 use Rattle.mach_types.specs.declared.events.Entry.{Entry}
-use Rattle.mach_types.specs.declared.limits.End.{End}
 use Rattle.block_model.specs.Deciding.{end_of, history}
 use Rattle.block_model.specs.History.{console}
 use Rattle.block_model.specs.Plain.{Plain, plain_end}

@@ -1,4 +1,4 @@
-use Rattle.std.proofs.Common.{◌≡◌, ◌<◌, ◌∙◌, All, List, ap, subst, sym}
+use Rattle.std.proofs.Common.{◌<◌, ◌∙◌, All, List, ap, subst, sym}
 use Rattle.mach_types.specs.declared.events.Entry.{Entry}
 use Rattle.block_model.specs.Run.{IsBlockRun}
 use Rattle.block_model.specs.Setting.{Setting}
