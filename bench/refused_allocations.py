@@ -31,6 +31,8 @@ LINES = [
     ['play', EXAMPLES / 'moves' / 'moves.elf', EXAMPLES / 'moves' / 'moved.script'],
     ['play', EXAMPLES / 'moves' / 'moves.elf', EXAMPLES / 'moves' / 'store_waits.script'],
     ['inspect', EXAMPLES / 'hello' / 'hello.elf', EXAMPLES / 'hello' / 'moved.script', '--harts', '2'],
+    ['acts', EXAMPLES / 'percpu_counter' / 'percpu_counter.elf', EXAMPLES / 'percpu_counter' / 'side_by_side.script'],
+    ['gather', EXAMPLES / 'percpu_counter' / 'percpu_counter.elf', EXAMPLES / 'percpu_counter' / 'side_by_side.script'],
     ['solo', EXAMPLES / 'check.py'],
     ['solo'],
 ]

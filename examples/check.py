@@ -13,6 +13,8 @@ For each example NAME:
 - each NAME/*.script, played on two harts, gives the *.output beside it (with status 4 where that is a fault line), and the log
   lines that it prints, played, give the same text again;
 - `blocks` on the script gives the *.summary beside it, where there is one, and the fault line, where that is its output;
+- `gather` on the script gives the *.gathered beside it, where there is one. It has the same console and end, and of each hart the same
+  log lines in the same order; and the log lines that it prints, played, give its text again;
 - `inspect` on the script, and on the first half of its lines, tells how many lines there are and the end; lines that it says may
   come next are played behind them, and lines that it says may not are refused there; where the script is refused, it says so of the
   refused line, on the lines before that;
@@ -142,6 +144,25 @@ def expect_blocks(program, elf, script, status, text):
     want('its summary', got[1], text)
 
 
+def check_gathered(program, elf, script, text):
+    """The gathered log of a script on two harts has the lines of each hart in the order of this text, with the same console and end, and
+    is what stands beside the script, if that does; its lines, played, give the same text."""
+    status, gathered = run(program, 'gather', elf, script, '--harts', '2', '--steps', STEPS)
+    want('the status of its gathered log', status, DONE)
+    found, due = Output(gathered), Output(text)
+    want('the console and the end of its gathered log', found.console + found.end, due.console + due.end)
+    for hart in range(2):
+        want(f'what hart {hart} has in its gathered log', own_lines(found.log, hart), own_lines(due.log, hart))
+    if script.with_suffix('.gathered').is_file():
+        want('its gathered log', gathered, script.with_suffix('.gathered').read_bytes())
+    check_replay(program, elf, gathered, '2')
+
+
+def own_lines(log, hart):
+    """The lines of a hart in a log."""
+    return b''.join(line for line in log if line.startswith(b'%d ' % hart))
+
+
 def check_taken(text):
     """The README's line of sed takes exactly the log lines of a text."""
     ran = subprocess.run(['sh', '-c', TAKE_SCRIPT], input=text, capture_output=True, timeout=SECONDS)
@@ -173,8 +194,8 @@ def check_other_hart(program, elf, text):
 
 
 def check_script(program, elf, script):
-    """A script on two harts gives the text beside it, and so do the log lines of that text; `blocks` gives its summary; and
-    `inspect` says what may come behind it."""
+    """A script on two harts gives the text beside it, and so do the log lines of that text; `blocks` gives its summary, and `gather` its
+    gathered log; and `inspect` says what may come behind it."""
     text, summary = script.with_suffix('.output').read_bytes(), script.with_suffix('.summary')
     lines = script.read_bytes().splitlines(keepends=True)
     if text.startswith(b'fault script '):
@@ -190,6 +211,7 @@ def check_script(program, elf, script):
     check_taken(text)
     if summary.is_file():
         expect_blocks(program, elf, script, DONE, summary.read_bytes())
+    check_gathered(program, elf, script, text)
     check_place(program, elf, lines, Output(text).end)
     check_place(program, elf, lines[:len(lines) // 2], b'end open\n')
 

@@ -5,6 +5,8 @@ use Rattle.elf_load.specs.declared.image.Image.{Image}
 use Rattle.block_model.specs.Run.{IsBlockRun}
 use Rattle.block_model.specs.Setting.{Seen, Setting}
 use Rattle.block_model.proofs.Laws.{all_harts}
+use Rattle.log_gather.specs.Gathered.{gathered}
+use Rattle.log_gather.proofs.Laws.{gathered_run}
 use Rattle.command_words.specs.Commands.{Command}
 use Rattle.outcomes.specs.Outputs.{setting_for}
 
@@ -18,3 +20,8 @@ pub digits_of : (command : Command) (image : Image) (m : Seen) → command.limit
     → All (λ (e : Entry). e.hart.0 < 8) m.log
 digits_of command image m eight setting run =
     digits m.setting m.log (subst (λ (s : Setting). s.limits.harts ≤ 8) (sym setting) eight) run
+
+-- and so of its gathered log, which is one of a run too
+pub gathered_digits : (s : Setting) (log : List Entry) → s.limits.harts ≤ 8 → IsBlockRun s log
+    → All (λ (e : Entry). e.hart.0 < 8) (gathered s log)
+gathered_digits s log eight run = digits s (gathered s log) eight (gathered_run s log run).block_run

@@ -2,6 +2,7 @@
 #![tactic(auto)]
 
 mod acts;
+mod gather;
 mod output;
 mod run;
 mod scripts;

@@ -1,9 +1,10 @@
 //! The text of a run.
 
 ghost use Rattle.std.specs.Prelude.{◌≡◌, ◌<◌, ◌++◌, All, IfOk, OnOk};
+ghost use Rattle.block_model.specs.Deciding.{end_of, history};
+ghost use Rattle.block_model.specs.History.{console};
 ghost use Rattle.step_log.specs.Grammar.{log_text};
-ghost use Rattle.outcomes.specs.Outputs.{log_output};
-ghost use Rattle.outcomes.specs.Text.{console_text, entries_text};
+ghost use Rattle.outcomes.specs.Text.{console_text, entries_text, output_text};
 
 use arrayvec::ArrayVec;
 use mach_types::Entry;
@@ -18,14 +19,18 @@ const LONGEST_LINE: usize = 38;
 /// More bytes than there are around the console's bytes and the log's lines.
 const FRAME: usize = 128;
 
-/// The text of a run: its console, its log and its end.
+/// The text of a run, at whose end a machine is, with this log: its console, the log and its end.
 #[tactic(auto, unfolding(outcomes::specs::Text::output_text))]
-pub(crate) fn output_text(alloc: Global, machine: &Machine) -> Result<Vec<u8>, AllocError>
-    requires { All (λ e. e.hart.0 < 8) machine.now.log }
-    ensures { IfOk result (λ text. text.items ≡ log_output machine.now.setting machine.now.log) }
+pub(crate) fn output_text(
+    alloc: Global,
+    machine: &Machine,
+    log: &[Entry],
+) -> Result<Vec<u8>, AllocError>
+    requires { All (λ e. e.hart.0 < 8) log.now }
+    ensures { let s = machine.now.setting in let before = history s machine.now.log in
+        IfOk result (λ text. text.items ≡ output_text (console s before) log.now (end_of s before)) }
 {
     let console = machine.console();
-    let log = machine.log();
     let mut text = Vec::with_capacity(alloc, size_of_text(console, log))?;
     push_console(&mut text, console)?;
     push_entries(&mut text, log)?;

@@ -8,6 +8,7 @@ ghost use Rattle.command_words.specs.Kept.{said};
 ghost use Rattle.outcomes.specs.Outputs.{setting_for, shown_text};
 
 use crate::acts::{acts_of_run, acts_text};
+use crate::gather::gathered_log;
 use crate::output::output_text;
 use crate::summary::summary_text;
 use command_words::{Command, Shown};
@@ -31,12 +32,16 @@ pub fn shown_text(
         (λ text. text.items ≡ shown_text command.now.shown machine.now.setting machine.now.log) }
 {
     match command.shown {
-        Shown::Output => output_text(alloc, machine),
+        Shown::Output => output_text(alloc, machine, machine.log()),
         Shown::Summary => {
             let acts = acts_of_run(alloc, command, image, machine)?;
             summary_text(alloc, &acts, machine)
         }
         Shown::Place => place_text(alloc, machine),
         Shown::Acts => acts_text(alloc, &acts_of_run(alloc, command, image, machine)?),
+        Shown::Gathered => {
+            let log = gathered_log(alloc, command, image, machine)?;
+            output_text(alloc, machine, &log)
+        }
     }
 }

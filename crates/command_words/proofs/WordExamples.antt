@@ -2,7 +2,7 @@
 use Rattle.std.proofs.Common.{◌≡◌, ℕ, ◌-◌, ◌^◌, List, [], ◌∷◌, Option, Some, None, refl, codes}
 use Rattle.mach_types.specs.declared.limits.Limits.{Limits}
 use Rattle.command_words.specs.declared.table.Shown.{Shown}
-use Rattle.command_words.specs.declared.table.Shown.TheVariants.{Output, Summary, Place}
+use Rattle.command_words.specs.declared.table.Shown.TheVariants.{Output, Summary, Place, Gathered}
 use Rattle.command_words.specs.Commands.{Command, Source, Rule, Script, Workers}
 use Rattle.command_words.specs.Options.{number_of}
 use Rattle.command_words.specs.Words.{arguments_of, command_of}
@@ -25,6 +25,9 @@ blocks program script limits = asked program (Script script) Summary limits
 
 abbrev inspect : List ℕ → List ℕ → Limits → Command
 inspect program script limits = asked program (Script script) Place limits
+
+abbrev gather : List ℕ → List ℕ → Limits → Command
+gather program script limits = asked program (Script script) Gathered limits
 
 abbrev run : List ℕ → Limits → ℕ → Command
 run program limits seed = asked program (Workers seed) Output limits
@@ -313,7 +316,23 @@ inspect_one_name : command_of (codes "inspect" ∷ codes "F" ∷ []) ≡ None
 unfolding command_of arguments_of
 inspect_one_name = refl
 
--- `solo`, `play`, `blocks` and `inspect` take no seed
+-- and `gather F S`
+gather_defaults : command_of (codes "gather" ∷ codes "F" ∷ codes "S" ∷ [])
+    ≡ Some (gather (codes "F") (codes "S") (limits 2 4096 200000))
+unfolding command_of arguments_of
+gather_defaults = refl
+
+gather_options : command_of
+    (codes "gather" ∷ codes "--frames" ∷ codes "128" ∷ codes "F" ∷ codes "S" ∷ codes "--steps=5"
+    ∷ codes "--harts=8" ∷ []) ≡ Some (gather (codes "F") (codes "S") (limits 8 128 5))
+unfolding command_of arguments_of
+gather_options = refl
+
+gather_one_name : command_of (codes "gather" ∷ codes "F" ∷ []) ≡ None
+unfolding command_of arguments_of
+gather_one_name = refl
+
+-- `solo`, `play`, `blocks`, `inspect` and `gather` take no seed
 solo_seed : command_of (codes "solo" ∷ codes "--seed" ∷ codes "1" ∷ codes "F" ∷ []) ≡ None
 unfolding command_of arguments_of
 solo_seed = refl
@@ -329,3 +348,7 @@ blocks_seed = refl
 inspect_seed : command_of (codes "inspect" ∷ codes "F" ∷ codes "S" ∷ codes "--seed=1" ∷ []) ≡ None
 unfolding command_of arguments_of
 inspect_seed = refl
+
+gather_seed : command_of (codes "gather" ∷ codes "F" ∷ codes "S" ∷ codes "--seed=1" ∷ []) ≡ None
+unfolding command_of arguments_of
+gather_seed = refl

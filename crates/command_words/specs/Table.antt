@@ -19,5 +19,6 @@ command_kind word =
     else if bytes_eq word (codes "blocks") then row ByScript shows.Summary
     else if bytes_eq word (codes "inspect") then row ByScript shows.Place
     else if bytes_eq word (codes "acts") then row ByScript shows.Acts
+    else if bytes_eq word (codes "gather") then row ByScript shows.Gathered
     else if bytes_eq word (codes "run") then row ByWorkers shows.Output
     else None

@@ -36,6 +36,8 @@ pub enum Shown {
     Place,
     /// Its acts, a line each.
     Acts,
+    /// Its output with its gathered log: each private sequence, one that no other hart disturbed, put together.
+    Gathered,
 }
 
 impl Shown {
@@ -46,6 +48,7 @@ impl Shown {
             Shown::Summary => "prints how many acts of each form each hart made",
             Shown::Place => "prints the place that they come to",
             Shown::Acts => "prints a line for each act",
+            Shown::Gathered => "prints its output with each private sequence put together",
         }
     }
 }
@@ -60,7 +63,7 @@ pub struct CommandKind {
 }
 
 /// The words of the commands.
-pub const COMMANDS: [&str; 6] = ["solo", "play", "blocks", "inspect", "acts", "run"];
+pub const COMMANDS: [&str; 7] = ["solo", "play", "blocks", "inspect", "acts", "gather", "run"];
 
 /// What the command of a word is; None where no command has the word.
 pub fn command_kind(word: &str) -> Option<CommandKind>
@@ -72,6 +75,7 @@ pub fn command_kind(word: &str) -> Option<CommandKind>
         "blocks" => (SourceKind::ByScript, Shown::Summary),
         "inspect" => (SourceKind::ByScript, Shown::Place),
         "acts" => (SourceKind::ByScript, Shown::Acts),
+        "gather" => (SourceKind::ByScript, Shown::Gathered),
         "run" => (SourceKind::ByWorkers, Shown::Output),
         _ => return None,
     };

@@ -14,6 +14,7 @@ mod GatheredByActs
 mod GatheredEntries
 mod GatheredSequences
 mod GatheredSpans
+pub mod Laws
 mod LeftSequences
 mod LocatedEvents
 mod NamedSequences

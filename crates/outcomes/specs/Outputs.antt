@@ -11,6 +11,7 @@ use Rattle.block_model.specs.Deciding.{history, end_of}
 use Rattle.block_model.specs.Plain.{PlainRun, plain_end, plain_run, plain_solo}
 use Rattle.block_model.specs.Replay.{Ask, script_of}
 use Rattle.block_view.specs.Acts.{acts_of}
+use Rattle.log_gather.specs.Gathered.{gathered}
 use Rattle.place_text.specs.Place.{place_text}
 use Rattle.command_words.specs.declared.table.Shown.{Shown}
 use Rattle.command_words.specs.declared.table.Shown.TheVariants as shows
@@ -35,6 +36,7 @@ text_of shows.Output s bytes log end = output_text bytes log end
 text_of shows.Summary s bytes log end = summary_text s.limits.harts (acts_of s log) log end
 text_of shows.Place s bytes log end = place_text s (history s log)
 text_of shows.Acts s bytes log end = flat_map act_line (acts_of s log)
+text_of shows.Gathered s bytes log end = output_text bytes (gathered s log) end
 
 -- of a log, with the console and the end that it comes to
 abbrev pub shown_text : Shown → Setting → List Entry → List ℕ

@@ -1,4 +1,5 @@
 mod Exclusions
+mod GatheredOutputs
 pub mod Laws
 mod OneOutput
 mod PlainOutputs

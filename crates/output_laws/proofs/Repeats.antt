@@ -146,7 +146,7 @@ taken_again files later program limits image same taken = record {
   loaded = taken.loaded;
 }
 
-output_again : (files later : Files) (program script : List ℕ) (limits : Limits) (written : List ℕ)
+pub output_again : (files later : Files) (program script : List ℕ) (limits : Limits) (written : List ℕ)
     (image : Image) (log : List Entry) → InRange limits → later program ≡ files program
     → IsProgram files program limits image → IsBlockRun (start_of image limits) log
     → written ≡ log_output (start_of image limits) log → IsReadAs later script (log_text log)

@@ -3,11 +3,13 @@
 ghost use Rattle.std.specs.Prelude.{◌≡◌, false, ℕ, List, Option};
 ghost use Rattle.mach_types.specs.Limits.{InRange};
 ghost use Rattle.step_log.specs.Grammar.{log_text};
+ghost use Rattle.log_gather.specs.Gathered.{gathered};
 ghost use Rattle.outcomes.specs.Needs.{needs_of};
 ghost use Rattle.outcomes.specs.Outputs.{IsCommandOutput, IsOutput, IsOutputOf, IsPlainOutput, IsPlayOutput};
+ghost use Rattle.outcomes.specs.Outputs.{setting_for};
 ghost use Rattle.outcomes.specs.Programs.{Files, IsReadAs};
 ghost use Rattle.outcomes.specs.Told.{AreTold, TellsGoodFiles};
-ghost use Rattle.command_words.specs.declared.table.Shown.TheVariants.{Output};
+ghost use Rattle.command_words.specs.declared.table.Shown.TheVariants.{Gathered, Output};
 ghost use Rattle.command_words.specs.Commands.{Command, is_run};
 
 /// The log lines of an output, read as a script by `play` with the same program and limits, are allowed at
@@ -17,6 +19,17 @@ pub fn printed_log_replays()
     ensures { (files later : Files) (command : Command) (script written : List ℕ)
         → InRange command.limits → command.shown ≡ Output → later command.program ≡ files command.program
         → (output : IsCommandOutput files command written) → IsReadAs later script (log_text output.log)
+        → IsPlayOutput later command.program script command.limits written }
+{}
+
+/// The log lines of an output with a gathered log, read as a script by `play` in the same way, are allowed at
+/// every line too, and give the same output text: the console and the end beside them are those that they come
+/// to.
+pub fn gathered_log_replays()
+    ensures { (files later : Files) (command : Command) (script written : List ℕ)
+        → InRange command.limits → command.shown ≡ Gathered → later command.program ≡ files command.program
+        → (output : IsCommandOutput files command written)
+        → IsReadAs later script (log_text (gathered (setting_for command output.image) output.log))
         → IsPlayOutput later command.program script command.limits written }
 {}
 

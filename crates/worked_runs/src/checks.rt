@@ -136,7 +136,7 @@ fn logged_of(alloc: Global, words: &[String]) -> Result<Option<Logged<'_>>, Allo
         Some(
             Command {
                 program,
-                shown: Shown::Output,
+                shown: Shown::Output | Shown::Gathered,
                 limits,
                 ..
             },

@@ -1,5 +1,5 @@
-//! The parts of a text that `solo`, `play` or `run` prints: `console N`, N bytes, `log M`, M lines, and the
-//! end.
+//! The parts of a text that `solo`, `play`, `gather` or `run` prints: `console N`, N bytes, `log M`, M lines,
+//! and the end.
 
 ghost use Rattle.std.specs.Prelude.{◌≡◌, ◌↔◌, IsTrue};
 

@@ -1,0 +1,39 @@
+-- A gathered log, played.
+use Rattle.std.proofs.Common.{◌≡◌, ◌∙◌, ℕ, List, ap, ap₂, sym}
+use Rattle.mach_types.specs.declared.events.Entry.{Entry}
+use Rattle.mach_types.specs.declared.limits.End.{End}
+use Rattle.mach_types.specs.Limits.{InRange}
+use Rattle.step_log.specs.Grammar.{log_text}
+use Rattle.block_model.specs.Setting.{Setting}
+use Rattle.block_model.specs.Swaps.{IsEquivalentRun}
+use Rattle.log_gather.specs.Gathered.{gathered}
+use Rattle.log_gather.proofs.Laws.{gathered_run, same_console, same_end}
+use Rattle.command_words.specs.declared.table.Shown.{Shown}
+use Rattle.command_words.specs.declared.table.Shown.TheVariants.{Gathered}
+use Rattle.command_words.specs.Commands.{Command}
+use Rattle.outcomes.specs.Outputs.{IsCommandOutput, IsPlayOutput, log_output, setting_for, shown_text}
+use Rattle.outcomes.specs.Programs.{Files, IsReadAs}
+use Rattle.outcomes.specs.Text.{output_text}
+use Rattle.output_laws.proofs.Repeats.{block_run_of, output_again}
+use Rattle.output_laws.proofs.Seeds.{reseeded_output, reseeded_run}
+
+-- the gathered log of a run comes to the console and the end that are shown with it
+gathered_output : (s : Setting) (log : List Entry) → IsEquivalentRun s log (gathered s log)
+    → shown_text Gathered s log ≡ log_output s (gathered s log)
+gathered_output s log alike = ap₂ (λ (bytes : List ℕ) (end : End). output_text bytes (gathered s log) end)
+    (sym (same_console s log (gathered s log) alike)) (sym (same_end s log (gathered s log) alike))
+
+-- so played it gives the text with which it is shown
+pub gathered_again : (files later : Files) (command : Command) (script written : List ℕ)
+    → InRange command.limits → command.shown ≡ Gathered → later command.program ≡ files command.program
+    → (output : IsCommandOutput files command written)
+    → IsReadAs later script (log_text (gathered (setting_for command output.image) output.log))
+    → IsPlayOutput later command.program script command.limits written
+gathered_again files later command script written range shows same output read =
+    let s = setting_for command output.image in
+    let log = gathered s output.log in
+    let alike = gathered_run s output.log (block_run_of files command.source s output.log output.made) in
+    output_again files later command.program script command.limits written output.image log range same output.taken
+    (reseeded_run 0 s log alike.block_run)
+    (output.text ∙ ap (λ (x : Shown). shown_text x s output.log) shows ∙ gathered_output s output.log alike
+    ∙ sym (reseeded_output 0 s log)) read
