@@ -7,10 +7,8 @@ use Rattle.mach_types.specs.Kernel.Scheduling.{is_of}
 use Rattle.mach_types.specs.Kernel.Threads.{Thread, Threads, clear_if, is_live, is_on, is_ready_state, is_running_on, is_thread, running_on, runs, state_of, with_clear}
 use Rattle.kernel_threads.specs.Table.{Table, IsTable, saved_of}
 use Rattle.kernel_threads.proofs.Laws.{running_saves_nothing}
-use Rattle.block_model.specs.Tables.{on}
+use Rattle.sys_calls.proofs.Common.{AreTables, IsCaller, Kernel, on}
 use Rattle.block_model.proofs.Laws.{running_is, ready_listed}
-use Rattle.sys_calls.specs.declared.kernel.Kernel.{Kernel}
-use Rattle.sys_calls.specs.Answered.{AreTables, IsCaller}
 
 -- a thread in a state is live
 live_step : (o : Option Thread) (st : ThreadState) → option_map (λ th. th.state) o ≡ Some st → is_some o ≡ true
