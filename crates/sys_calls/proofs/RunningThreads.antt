@@ -1,10 +1,12 @@
 -- Who runs on a hart, told by the states of threads.
-use Rattle.std.proofs.Common.{ℕ, ◌+◌, ◌<◌, ◌≤◌, ◌≡◌, false, cond, eqb, List, [], ◌∷◌, find, Some, None, All, refl, sym, ap, ◌∙◌, inl, inr, arith, option_map}
+use Rattle.std.proofs.Common.{ℕ, ◌+◌, ◌<◌, ◌≤◌, ◌≡◌, false, cond, eqb, List, [], ◌∷◌, find, Some, None, All, refl, sym, ap, ◌∙◌, inl, inr, arith}
+use Rattle.std.specs.Option.{option_map}
 use Rattle.std.proofs.lemmas.Bool.{cases_lt}
 use Rattle.std.proofs.lemmas.Bool.Decides.{nat_tests}
 use Rattle.std.proofs.lemmas.List.Elements.{All-head, All-tail}
-use Rattle.sys_calls.proofs.Common.{IsTables, Scheduling, on}
+use Rattle.mach_types.specs.Kernel.Scheduling.{Scheduling}
 use Rattle.mach_types.specs.Kernel.Threads.{Thread, Threads, is_thread, numbers, running_on, state_of}
+use Rattle.block_model.specs.Tables.{IsTables, on}
 use Rattle.block_model.proofs.Laws.{running_idle}
 
 -- no thread of a number that wasn't given yet is in any state

@@ -1,5 +1,5 @@
 -- The tests of a set, in their order.
-use Rattle.std.proofs.Common.{◌≡◌, ℕ, min, Bool, true, false, not, eqb, ◌||◌, ◌⊎◌, inl, inr, [], ◌∷◌, Option, is_some, refl, sym, ap, ◌∙◌, eq-eqb, ne_eqb}
+use Rattle.std.proofs.Common.{◌≡◌, ℕ, min, true, false, not, eqb, ◌||◌, ◌⊎◌, inl, inr, [], ◌∷◌, Option, is_some, refl, sym, ap, ◌∙◌, eq-eqb, ne_eqb}
 use Rattle.mach_types.specs.declared.errors.TheConstants.{EFAULT, EPERM, ESRCH}
 use Rattle.sys_calls.proofs.Common.{Errors, Here, HoldsTables, IsRead, Kernel, Map, Saved, Threads, byte_in, each_byte, int_in, is_live, register, unless}
 use Rattle.block_model.specs.Calls.Affinity.{sched_setaffinity, set_at}

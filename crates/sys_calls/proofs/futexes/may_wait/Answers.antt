@@ -1,5 +1,5 @@
 -- The tests of a wait, in their order.
-use Rattle.std.proofs.Common.{◌≡◌, ◌≢◌, ℕ, Bool, true, false, not, eqb, ◌∷◌, [], Option, is_some, unwrap_or, refl, sym, ap, ◌∙◌, eq-eqb, ne_eqb}
+use Rattle.std.proofs.Common.{◌≡◌, ◌≢◌, ℕ, true, false, not, eqb, ◌∷◌, [], Option, is_some, unwrap_or, sym, ap, ◌∙◌, eq-eqb, ne_eqb}
 use Rattle.sys_calls.proofs.Common.{CallDone, Errors, Here, HoldsTables, IsRead, Kernel, Map, Saved, argument, byte_in, each_byte, int_in, register, said, unless, word_at}
 use Rattle.mach_types.specs.Kernel.Signals.{next_for}
 use Rattle.mach_types.specs.declared.errors.TheConstants.{EAGAIN, EFAULT, EINTR, EINVAL}

@@ -1,5 +1,5 @@
 -- The tests of the call, in their order.
-use Rattle.std.proofs.Common.{◌≡◌, ℕ, ◌%◌, ◌^◌, Bool, not, ◌&&◌, ◌||◌, eqb, ◌∷◌, [], Option, is_some, refl, sym, ap, ◌∙◌, eq-eqb}
+use Rattle.std.proofs.Common.{◌≡◌, ℕ, Bool, not, ◌&&◌, ◌||◌, eqb, ◌∷◌, [], Option, is_some, refl, sym, ap, ◌∙◌, eq-eqb}
 use Rattle.sys_calls.proofs.Common.{EFAULT, EINVAL, Errors, Here, IsRead, Map, Saved, byte_in, can_write_in, each_byte, int_in, register, unless}
 use Rattle.mach_types.specs.Kernel.Signals.{refuses_how}
 use Rattle.block_model.specs.Calls.Signals.{rt_sigprocmask}
