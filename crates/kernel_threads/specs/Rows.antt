@@ -2,6 +2,8 @@
 use Rattle.std.specs.Prelude.{ℕ, ◌==◌, Bool, List, map, find, if◌then◌else◌, Option, Some, None}
 use Rattle.std.specs.List.Sorted.{IsStrictlyIncreasing}
 use Rattle.std.specs.Option.{option_map, option_map_or}
+use Rattle.kernel_threads.specs.declared.rows.Change.{Change}
+use Rattle.kernel_threads.specs.declared.rows.Change.TheVariants as column
 use Rattle.kernel_threads.specs.declared.rows.Row.{Row}
 use Rattle.kernel_threads.specs.declared.rows.Stage.{Stage}
 use Rattle.kernel_threads.specs.declared.rows.Stage.TheVariants as stage
@@ -49,12 +51,20 @@ are_rising rows = IsStrictlyIncreasing (map (λ row. row.number) rows)
 abbrev pub is_row : ℕ → Row → Bool
 is_row n row = row.number == n
 
+-- a row after a change of one column; and the row with a number, changed so
+abbrev pub changed_by : Change → Row → Row
+changed_by (column.Stage st) row = record row { stage = st }
+changed_by (column.ClearAt at) row = record row { clear_at = at }
+
+abbrev pub change_if : ℕ → Change → Row → Row
+change_if n change row = if is_row n row then changed_by change row else row
+
 -- a row in another stage, or with another address to clear
 abbrev pub stage_if : ℕ → Stage → Row → Row
-stage_if n st row = if is_row n row then record row { stage = st } else row
+stage_if n st row = change_if n (column.Stage st) row
 
 abbrev pub clear_row_if : ℕ → ℕ → Row → Row
-clear_row_if n at row = if is_row n row then record row { clear_at = at } else row
+clear_row_if n at row = change_if n (column.ClearAt at) row
 
 -- the table of these rows, so many numbers and these waiters
 abbrev pub table_in : List Row → ℕ → List ℕ → Table

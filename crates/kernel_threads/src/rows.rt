@@ -2,7 +2,7 @@
 
 ghost use Rattle.std.specs.Prelude.{◌≡◌, ◌==◌, not, map, filter, find};
 ghost use Rattle.std.specs.List.{position};
-ghost use Rattle.kernel_threads.specs.Rows.{are_rising, state_at, kept_at, all_saved_in, state_in, clear_in, is_row, stage_if, clear_row_if};
+ghost use Rattle.kernel_threads.specs.Rows.{are_rising, state_at, kept_at, all_saved_in, change_if, changed_by, clear_in, clear_row_if, is_row, stage_if, state_in};
 ghost use Rattle.kernel_threads.specs.Table as spec;
 
 use arrayvec::ArrayVec;
@@ -69,6 +69,27 @@ impl Row {
     }
 }
 
+/// A change of one column of a row.
+#[derive(Clone, Copy, Drop)]
+pub enum Change {
+    /// The thread comes to this stage.
+    Stage(Stage),
+    /// Its exit clears the word at this address.
+    ClearAt(u64),
+}
+
+impl Change {
+    /// The row after it.
+    fn applied(self, row: Row) -> Row
+        ensures { result ≡ changed_by self row }
+    {
+        match self {
+            Change::Stage(stage) => Row { stage, ..row },
+            Change::ClearAt(clear_at) => Row { clear_at, ..row },
+        }
+    }
+}
+
 impl Default for Row {
     fn default() -> Row {
         let nothing = Saved {
@@ -131,24 +152,23 @@ pub fn clear_of(rows: &Rows, number: u32) -> u64
     }
 }
 
-/// Puts the row with this number in a stage.
-fn set_stage_in(rows: &mut [Row], number: u32, stage: Stage)
+/// Changes the row with this number.
+fn change_row_in(rows: &mut [Row], number: u32, change: Change)
     requires { are_rising rows.old }
-    ensures { rows.new ≡ map (stage_if number stage) rows.old }
+    ensures { rows.new ≡ map (change_if number change) rows.old }
 {
     if let Some(place) = place_of(rows, number) {
-        rows[place].stage = stage;
+        let row = rows[place];
+        rows[place] = change.applied(row);
     }
 }
 
-/// Sets the address that the row with this number has to clear.
-fn set_clear_in(rows: &mut [Row], number: u32, at: u64)
-    requires { are_rising rows.old }
-    ensures { rows.new ≡ map (clear_row_if number at) rows.old }
+/// The same, in the rows of the live threads.
+fn change_row(rows: &mut Rows, number: u32, change: Change)
+    requires { are_rising rows.old.items }
+    ensures { rows.new.items ≡ map (change_if number change) rows.old.items }
 {
-    if let Some(place) = place_of(rows, number) {
-        rows[place].clear_at = at;
-    }
+    change_row_in(rows.as_mut_slice(), number, change);
 }
 
 /// Puts the thread with this number in a stage.
@@ -156,7 +176,7 @@ pub fn set_stage(rows: &mut Rows, number: u32, stage: Stage)
     requires { are_rising rows.old.items }
     ensures { rows.new.items ≡ map (stage_if number stage) rows.old.items }
 {
-    set_stage_in(rows.as_mut_slice(), number, stage);
+    change_row(rows, number, Change::Stage(stage));
 }
 
 /// Sets the address that the exit of the thread with this number clears.
@@ -164,7 +184,7 @@ pub fn set_clear(rows: &mut Rows, number: u32, at: u64)
     requires { are_rising rows.old.items }
     ensures { rows.new.items ≡ map (clear_row_if number at) rows.old.items }
 {
-    set_clear_in(rows.as_mut_slice(), number, at);
+    change_row(rows, number, Change::ClearAt(at));
 }
 
 /// Takes the row with this number away.

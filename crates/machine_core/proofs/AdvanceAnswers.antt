@@ -1,10 +1,7 @@
 -- What an attempt to go on by the choice of `run` comes to.
-use Rattle.std.proofs.Common.{◌≡◌, ℕ, ◌<◌, ◌≤◌, List, length, refl, sym, ap, ◌∙◌, arith, Bool, true, false, leb, ◌||◌, Option, Some, None, is_some, Ok, Err, Result}
-use Rattle.std.specs.Option.{option_map}
-use Rattle.std.proofs.lemmas.Bool.{le-leb, le-ltb}
+use Rattle.std.proofs.Common.{◌≡◌, ℕ, ◌<◌, ◌≤◌, List, length, refl, sym, ap, ◌∙◌, arith, Bool, true, false, leb, ◌||◌, Option, Some, None, is_some, Ok, Err, Result, option_map, le-leb, le-ltb}
 use Rattle.mach_types.specs.declared.events.Advance.TheVariants.{Made, NoneNow, Ended}
-use Rattle.mach_types.specs.declared.events.Entry.{Entry}
-use Rattle.mach_types.specs.declared.events.Sight.{Sight}
+use Rattle.machine_core.proofs.Common.{Choice, Entry, History, Inside, IsMachine, Setting, Sight, here_in_history, here_of, past_of, ran, seen, setting_of}
 use Rattle.mach_types.specs.declared.events.Why.{Why}
 use Rattle.chooser.specs.declared.cases.Case.{Case}
 use Rattle.chooser.specs.declared.cases.Case.TheVariants.{Settled, Open}
@@ -14,17 +11,11 @@ use Rattle.chooser.specs.Generators.{generator_in, word}
 use Rattle.block_model.specs.Choosing.{IsChosen, advance_at, all_chosen, choice_at, credit_at, has_ended, next_entry, pick_at}
 use Rattle.block_model.specs.Deciding.{decide, entry_in, history, over_at}
 use Rattle.block_model.specs.Events.{refusal_of}
-use Rattle.block_model.specs.History.{History, here_in_history, ran}
-use Rattle.block_model.specs.Plain.{here_of}
-use Rattle.block_model.specs.Setting.{Setting}
 use Rattle.block_model.specs.Sights.{sight_in}
 use Rattle.block_model.proofs.Laws.{choice_decides, choice_is_allowed, is_choice_same, length-history, same_here}
 use Rattle.block_model.specs.declared.refusals.Refused.{Refused}
-use Rattle.mach_types.specs.declared.events.Choice.{Choice}
 use Rattle.machine_core.specs.Credits.{is_picked}
-use Rattle.process.specs.Tied.{answered}
-use Rattle.machine_core.specs.Machines.{IsMachine, past_of, seen, setting_of}
-use Rattle.machine_core.specs.declared.machine.Machine.TheInside.{Inside}
+use Rattle.process.specs.Refinement.{answered}
 use Rattle.machine_core.proofs.ChoiceCredits.{choice_where, pick_read}
 use Rattle.machine_core.proofs.Readings.{over_read}
 

@@ -1,6 +1,5 @@
 -- A machine that has done nothing yet.
-use Rattle.std.proofs.Common.{◌≡◌, ℕ, nat_eq, zero, suc, ◌+◌, ◌/◌, ◌<◌, arith, List, [], ◌∷◌, length, map, refl, sym, ap, ◌∙◌, cond, Bool, true, false, Option, Some, None, is_some, slice_get}
-use Rattle.std.specs.List.{All}
+use Rattle.std.proofs.Common.{◌≡◌, ℕ, nat_eq, zero, suc, ◌+◌, ◌/◌, ◌<◌, arith, List, [], ◌∷◌, length, map, refl, sym, ap, ◌∙◌, cond, Bool, true, false, Option, Some, None, is_some, slice_get, All}
 use Rattle.std.proofs.lemmas.Bool.{and_parts}
 use Rattle.std.proofs.lemmas.Option.{same_Some}
 use Rattle.std.specs.Option.{option_and_then, option_map, option_map_or}
@@ -8,12 +7,10 @@ use Rattle.mach_types.specs.Kernel.Signals.{start_signalling}
 use Rattle.mach_types.specs.Kernel.Barriers.{none_registered}
 use Rattle.mach_types.specs.Kernel.Pages.{can_read, can_write, is_in, permission_of}
 use Rattle.mach_types.specs.declared.limits.Limits.{Limits}
-use Rattle.mach_types.specs.declared.threads.Saved.{Saved}
+use Rattle.machine_core.proofs.Common.{HartState, ImagePage, Parts, Saved, credit_of, hart_at}
 use Rattle.elf_load.specs.Images.{IsPermission}
 use Rattle.elf_load.specs.Start.{image_run, program_of, return_run, stack_run, start_byte, start_file, start_runs}
 use Rattle.elf_load.specs.declared.image.Image.{Image}
-use Rattle.elf_load.specs.declared.image.ImagePage.{ImagePage}
-use Rattle.hart_state.specs.declared.hart.HartState.{HartState}
 use Rattle.hart_state.specs.State.{idle_hart}
 use Rattle.kernel_threads.specs.Table.{IsTable, saved_of, start_table}
 use Rattle.page_map.specs.Map.{break_in, break_start_in, free_in, held_in, may_write, permission_in}
@@ -25,10 +22,8 @@ use Rattle.block_model.specs.Setting.{Setting, setting_of as setting_by}
 use Rattle.chooser.specs.Generators.{first_generators, generator_in}
 use Rattle.block_model.specs.Choosing.{all_chosen, credit_at}
 use Rattle.block_model.specs.Deciding.{history}
-use Rattle.process.specs.Harts.{credit_of, hart_at}
-use Rattle.process.specs.Tied.{IsTied}
+use Rattle.process.specs.Refinement.{IsTied}
 use Rattle.machine_core.specs.Machines.{generator_at}
-use Rattle.process.specs.declared.parts.Parts.{Parts}
 
 -- where all elements are one, each place has that one
 each : {X : Type 0} (x : X) (xs : List X) (i : ℕ) → All (λ y. y ≡ x) xs → i < length xs → slice_get xs i ≡ Some x

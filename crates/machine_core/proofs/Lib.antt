@@ -1,6 +1,7 @@
 mod AdvanceAnswers
 mod Boot
 mod ChoiceCredits
+mod Common
 pub mod Laws
 mod MachineCredits
 mod Readings

@@ -4,26 +4,15 @@ use Rattle.std.specs.Option.{option_map, option_map_or}
 use Rattle.std.proofs.lemmas.Bool.{lt-leb}
 use Rattle.std.proofs.lemmas.List.{length-set}
 use Rattle.mach_types.specs.Limits.{InRange}
-use Rattle.mach_types.specs.declared.events.Choice.{Choice}
-use Rattle.mach_types.specs.declared.events.Entry.{Entry}
-use Rattle.mach_types.specs.declared.events.Hart.{Hart}
-use Rattle.mach_types.specs.declared.events.Sight.{Sight}
-use Rattle.chooser.specs.Cases.{draws}
+use Rattle.machine_core.proofs.Common.{Choice, Entry, Hart, HartState, History, Inside, Parts, Setting, Sight, credit_of, draws, hart_at, seen_if}
 use Rattle.chooser.specs.Generators.{Generator, generator_in, next_generator}
-use Rattle.hart_state.specs.declared.hart.HartState.{HartState}
 use Rattle.block_model.specs.Choosing.{all_chosen, credit_at, has_ended}
 use Rattle.block_model.specs.Deciding.{history, over_at}
-use Rattle.block_model.specs.History.{History}
 use Rattle.block_model.specs.Plain.{Plain, plain_after}
-use Rattle.block_model.specs.Setting.{Setting}
 use Rattle.block_model.proofs.Laws.{length-history}
 use Rattle.machine_core.specs.Credits.{followed, generators_after, is_followed}
-use Rattle.process.specs.Harts.{credit_of, hart_at}
-use Rattle.process.specs.Tied.{IsTied}
+use Rattle.process.specs.Refinement.{IsTied}
 use Rattle.machine_core.specs.Machines.{IsMachine, generator_at, past_of, seen, setting_of}
-use Rattle.machine_core.specs.declared.machine.Machine.TheInside.{Inside}
-use Rattle.process.specs.declared.parts.Parts.{Parts}
-use Rattle.machine_core.specs.Credits.{seen_if}
 use Rattle.machine_core.proofs.ChoiceCredits.{IsFollowing, chosen_after, credit_after, generator_after}
 use Rattle.process.proofs.Laws.{same_length}
 use Rattle.machine_core.proofs.Readings.{over_read}

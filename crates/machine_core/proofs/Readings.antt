@@ -2,7 +2,7 @@
 use Rattle.std.proofs.Common.{◌≡◌, ℕ, ◌<◌, length, sym, ap, ◌∙◌, arith, get_or, Option, Some}
 use Rattle.std.proofs.lemmas.Option.{same_Some, slice_get-get_or}
 use Rattle.mach_types.specs.Bytes.{word_at}
-use Rattle.hart_state.specs.declared.hart.HartState.{HartState}
+use Rattle.machine_core.proofs.Common.{HartState, Inside, IsMachine, credit_of, hart_at, hart_in, seen, setting_of}
 use Rattle.page_map.specs.Map.{byte_in, can_write_in}
 use Rattle.rv_inst.specs.Execution.{seen_byte}
 use Rattle.sys_calls.specs.Made.{AreSaved}
@@ -12,9 +12,6 @@ use Rattle.block_model.specs.History.{History, console, events, file, here_in_hi
 use Rattle.block_model.specs.Deciding.{history, over_at}
 use Rattle.block_model.specs.Plain.{Plain, plain_over, plain_seen}
 use Rattle.block_model.proofs.Laws.{same_here, same_state}
-use Rattle.process.specs.Harts.{credit_of, hart_at, hart_in}
-use Rattle.machine_core.specs.Machines.{IsMachine, seen, setting_of}
-use Rattle.machine_core.specs.declared.machine.Machine.TheInside.{Inside}
 use Rattle.process.proofs.Laws.{bytes_held, writable_held}
 
 -- the history of a machine's log, and what a rule may read there

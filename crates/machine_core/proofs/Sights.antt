@@ -1,18 +1,13 @@
 -- What a scheduler sees of a hart, told by the hart's state.
 use Rattle.std.proofs.Common.{◌≡◌, ℕ, ◌&&◌, List, sym, ap, ◌∙◌, refl, not, Bool, true, false, is_none, is_some, Option, Some, None}
 use Rattle.std.specs.Option.{option_and_then, option_map, option_map_or}
-use Rattle.mach_types.specs.declared.events.Sight.{Sight}
+use Rattle.machine_core.proofs.Common.{HartState, Here, ImagePage, Saved, Sight, is_writable, memory, runs, sets_register}
 use Rattle.mach_types.specs.declared.events.Tid.{Tid}
-use Rattle.mach_types.specs.declared.threads.Saved.{Saved}
 use Rattle.mach_types.specs.Kernel.Signals.{next_for}
-use Rattle.elf_load.specs.declared.image.ImagePage.{ImagePage}
-use Rattle.hart_state.specs.declared.hart.HartState.{HartState}
 use Rattle.rv_inst.proofs.Laws.{local-rows}
-use Rattle.rv_inst.specs.Class.{sets_register}
 use Rattle.rv_inst.specs.Local.{is_register_only}
 use Rattle.rv_inst.specs.Meaning.{meaning}
 use Rattle.rv_inst.specs.declared.instruction.Inst.{Inst}
-use Rattle.block_model.specs.Here.{Here, is_writable, memory, runs}
 use Rattle.block_model.specs.Instruction.{fault_by, fetched, instruction_of, next_effect, next_fault, next_instruction}
 use Rattle.block_model.specs.Sights.{effect_here, effect_on, fault_here, fault_on, is_deliverable_on, is_local_on, thread}
 use Rattle.process.specs.Delivering.{next_on}

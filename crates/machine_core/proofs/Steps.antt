@@ -1,21 +1,15 @@
 -- One step: what is decided at a place, and a machine that made the event.
-use Rattle.std.proofs.Common.{◌≡◌, ℕ, ◌<◌, [], ◌∷◌, ◌++◌, length, sym, ap, ◌∙◌, subst, Option, Some, None, Ok, Err, Result}
+use Rattle.std.proofs.Common.{◌≡◌, ℕ, ◌<◌, [], ◌∷◌, ◌++◌, length, sym, ap, ◌∙◌, subst, Option, Some, None, Ok, Err, Result, IfOk}
+use Rattle.std.proofs.lemmas.Result.{IfOk-at_ok}
 use Rattle.mach_types.specs.Events.{choice_of}
-use Rattle.mach_types.specs.declared.events.Choice.{Choice}
-use Rattle.mach_types.specs.declared.events.Entry.{Entry}
-use Rattle.mach_types.specs.declared.events.Hart.{Hart}
+use Rattle.machine_core.proofs.Common.{Choice, Entry, Hart, Inside, IsBlockRun, IsMachine, Parts, Seen, seen}
 use Rattle.mach_types.specs.declared.events.Why.{Why}
 use Rattle.block_model.specs.declared.refusals.Refused.TheVariants.{NotEnabled}
 use Rattle.block_model.specs.Deciding.{decide, entry_in, history, unless}
 use Rattle.block_model.specs.Events.{done_of, refusal_of}
 use Rattle.block_model.specs.Plain.{apply, here_of, plain_after, plain_seen}
-use Rattle.block_model.specs.Run.{IsBlockRun}
-use Rattle.block_model.specs.Setting.{Seen}
 use Rattle.block_model.proofs.Laws.{at_kind, decided_is, next_event, run_on}
-use Rattle.process.specs.Tied.{IsAfter, IsPlace, IsTied, answer_to, answered}
-use Rattle.machine_core.specs.Machines.{IsMachine, seen}
-use Rattle.machine_core.specs.declared.machine.Machine.TheInside.{Inside}
-use Rattle.process.specs.declared.parts.Parts.{Parts}
+use Rattle.process.specs.Refinement.{IsAfter, IsPlace, IsTied, answer_to, answered}
 
 answer_ok : (made e : Entry) (o : Option Why) → answered made o ≡ Ok e → unless made o ≡ Ok e
 answer_ok made e None is = cc
@@ -58,6 +52,10 @@ stepped v m m' h c r e place answer is after =
       run = run_on v h.0 c e place.run decided;
       tied = subst (λ p. IsTied v.setting p m') (sym next) after.tied;
     }
+
+pub stepped_so : (v : Seen) (m m' : Parts) (h : Hart) (c : Choice) (r : Result Entry Why) (e : Entry) → IsPlace v m h.0 → r ≡ answer_to v h.0 c → r ≡ Ok e
+    → IfOk r (λ _. IsAfter v h.0 (done_of c (here_of v h.0)) m m') → IsStep v h c e m'
+stepped_so v m m' h c r e place answer is after = stepped v m m' h c r e place answer is (IfOk-at_ok (λ _. IsAfter v h.0 (done_of c (here_of v h.0)) m m') is after)
 
 -- the place of a machine whose run goes on
 pub place_of : (m : Inside) (h : ℕ) → IsMachine m → m.parts.ended ≡ None → length m.log.items < m.limits.steps → h < m.limits.harts → IsPlace (seen m) m.parts h

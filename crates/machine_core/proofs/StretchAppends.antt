@@ -1,32 +1,19 @@
 -- A machine that takes a stretch in: the hart is as it was when the stretch was lent.
-use Rattle.std.proofs.Common.{List, [], ◌∷◌, ◌-◌, take, zero, suc, eqb, eq-eqb, min, ◌+◌, ◌^◌, map, Bool, leb, ◌||◌, is_some, not, ◌&&◌, ◌≡◌, ℕ, ◌<◌, ◌≤◌, ◌++◌, length, refl, sym, ap, ◌∙◌, subst, true, false, get_or, Option, None, Some, arith}
-use Rattle.std.specs.Option.{option_map}
+use Rattle.std.proofs.Common.{List, [], ◌∷◌, ◌-◌, take, zero, suc, eqb, eq-eqb, min, ◌+◌, ◌^◌, map, Bool, leb, ◌||◌, is_some, not, ◌&&◌, ◌≡◌, ℕ, ◌<◌, ◌≤◌, ◌++◌, length, refl, sym, ap, ◌∙◌, subst, true, false, get_or, Option, None, Some, arith, option_map, leb-false, IsSome}
 use Rattle.std.specs.Vec.{with_item}
 use Rattle.std.proofs.lemmas.Option.{get_or_from_slice_get, same_Some, slice_get-get_or}
-use Rattle.std.proofs.lemmas.Bool.{leb-false}
 use Rattle.std.proofs.lemmas.List.{length-take-le}
-use Rattle.std.specs.Prelude.{IsSome}
-use Rattle.mach_types.specs.declared.events.Hart.{Hart}
+use Rattle.machine_core.proofs.Common.{Hart, HartState, ImagePage, Inside, IsBlockRun, IsMachine, Parts, Saved, Setting, past_of, plain_seen, seen, setting_of, thread}
 use Rattle.mach_types.specs.declared.events.Tid.{Tid}
-use Rattle.mach_types.specs.declared.threads.Saved.{Saved}
-use Rattle.hart_state.specs.declared.hart.HartState.{HartState}
 use Rattle.mach_types.specs.declared.limits.End.{End}
 use Rattle.block_model.specs.Choosing.{IsChosen, Luck, all_chosen, has_ended}
 use Rattle.block_model.specs.Deciding.{history, over_at}
 use Rattle.block_model.specs.History.{History, awaits, events}
-use Rattle.block_model.specs.Run.{IsBlockRun}
-use Rattle.block_model.specs.Sights.{thread}
-use Rattle.block_model.specs.Plain.{plain_seen}
-use Rattle.block_model.specs.Setting.{Setting}
 use Rattle.block_model.specs.Stretches.{IsStretchOf, Stretch, advanced, appended, stepped}
 use Rattle.block_model.proofs.Laws.{HasStayed, Steps, events_few, is_lent, length-history, ran_few, stays, steps_of, worked_keeps}
-use Rattle.elf_load.specs.declared.image.ImagePage.{ImagePage}
 use Rattle.process.specs.Harts.{credit_of, file_of, file_on, hart_at}
-use Rattle.process.specs.Tied.{IsPlace}
+use Rattle.process.specs.Refinement.{HasCode, IsPlace}
 use Rattle.machine_core.specs.Stretches.{executed, taken_in}
-use Rattle.machine_core.specs.Machines.{IsMachine, past_of, seen, setting_of}
-use Rattle.process.specs.declared.parts.Parts.{Parts}
-use Rattle.machine_core.specs.declared.machine.Machine.TheInside.{Inside}
 use Rattle.machine_core.proofs.AdvanceAnswers.{all_of}
 use Rattle.machine_core.proofs.StretchSteps.{AreAllOn, IsOnWay, all_on, own_is, settled_alike}
 use Rattle.machine_core.proofs.ChoiceCredits.{credit_read}
@@ -144,6 +131,11 @@ taken m h l x t is room busy =
       log_after = all.log_after;
     }
 
+pub taken_ready : (m : Inside) (h : Hart) (l : Stretch) (x : HartState) (t : Tid) → IsMachine m → IsChosen (setting_of m) m.log.items
+    → IsStretchOf (setting_of m) h.0 m.log.items l → has_ended (setting_of m) (past_of m) ≡ false → events h.0 (past_of m) ≡ l.events
+    → x ≡ get_or m.parts.harts.items h.0 x → length m.log.items + length l.pcs ≤ m.limits.steps → x.running ≡ Some t → IsTakenIn m h l x t (with_hart m h.0 (taken_in l x))
+taken_ready m h l x t machine chosen fits goes same value = taken m h l x t (ready m h l x machine chosen fits goes same value)
+
 -- a run that hasn't ended has room
 pub has_room : (m : Inside) → has_ended (setting_of m) (past_of m) ≡ false → length m.log.items < m.limits.steps
 unfolding has_ended
@@ -187,3 +179,6 @@ appended_is s h before l some goes same = rw (some, goes, eq-eqb (events h befor
 -- the place of a machine whose run hasn't ended
 pub place_open : (m : Inside) (h : ℕ) → IsMachine m → has_ended (setting_of m) (past_of m) ≡ false → h < m.limits.harts → IsPlace (seen m) m.parts h
 place_open m h machine goes lt = place_of m h machine (goes_on m machine goes) (has_room m goes) lt
+
+pub code_open : (m : Inside) (h : ℕ) → IsMachine m → has_ended (setting_of m) (past_of m) ≡ false → h < m.limits.harts → HasCode m.code m.parts h
+code_open m h machine goes lt = record { seen = seen m; place = place_open m h machine goes lt; pages = refl }

@@ -1,19 +1,14 @@
 -- The stretch that a machine lends of a hart is the one that is lent by its log.
-use Rattle.std.proofs.Common.{List, [], sym, ◌∷◌, ◌++◌, ◌+◌, subst, if◌then◌else◌, arith, ◌≡◌, ℕ, ◌≤◌, ◌<◌, ◌||◌, ◌&&◌, refl, ap, ◌∙◌, Bool, true, false, not, cond, eqb, ltb, Option, None, Some, is_some, zero, suc}
+use Rattle.std.proofs.Common.{List, [], sym, ◌∷◌, ◌++◌, ◌+◌, subst, if◌then◌else◌, arith, ◌≡◌, ℕ, ◌≤◌, ◌<◌, ◌||◌, ◌&&◌, refl, ap, ◌∙◌, Bool, true, false, not, cond, eqb, ltb, Option, None, Some, is_some, zero, suc, IsSome, le-ltb, lt-ltb, ne_eqb}
 use Rattle.std.specs.Option.{option_and_then, option_map, option_map_or}
-use Rattle.std.specs.Prelude.{IsSome}
 use Rattle.mach_types.specs.declared.events.Advance.{Advance}
 use Rattle.mach_types.specs.declared.events.Advance.TheVariants.{Ended}
-use Rattle.mach_types.specs.declared.events.Entry.{Entry}
-use Rattle.std.proofs.lemmas.Bool.{le-ltb, lt-ltb, ne_eqb}
-use Rattle.rv_inst.specs.Class.{sets_register}
-use Rattle.hart_state.specs.declared.hart.HartState.{HartState}
+use Rattle.machine_core.proofs.Common.{Entry, HartState, Setting, sets_register}
 use Rattle.block_model.specs.Choosing.{advance_at, has_ended, luck, made_or_none, next_entry, sight_with}
 use Rattle.block_model.specs.Deciding.{history}
 use Rattle.block_model.specs.Here.{is_writable, memory, waiting_here}
 use Rattle.block_model.specs.History.{History, events, here_in_history, ran, running}
 use Rattle.block_model.specs.Instruction.{next_effect}
-use Rattle.block_model.specs.Setting.{Setting}
 use Rattle.block_model.specs.Sights.{is_local_on, thread}
 use Rattle.block_model.specs.Stretches.{Stretch, advanced, is_on_credit, lent, lent_to}
 use Rattle.block_model.proofs.Laws.{next_is_none}

@@ -9,18 +9,12 @@ use Rattle.std.proofs.lemmas.Option.{same_Some, slice_get-get_or}
 use Rattle.mach_types.specs.Limits.{InRange}
 use Rattle.mach_types.specs.Registers.{with_register}
 use Rattle.mach_types.specs.Bytes.{all_stored, written}
-use Rattle.mach_types.specs.declared.events.Choice.{Choice}
+use Rattle.machine_core.proofs.Common.{Choice, Entry, Hart, HartState, History, ImagePage, IsBlockRun, Parts, Saved, Seen, Setting, Sight, executed, here_in_history, ran, sets_register}
 use Rattle.mach_types.specs.declared.events.Choice.TheVariants as asked
-use Rattle.mach_types.specs.declared.events.Entry.{Entry}
-use Rattle.mach_types.specs.declared.events.Hart.{Hart}
 use Rattle.mach_types.specs.declared.events.Kind.TheVariants as kind
-use Rattle.mach_types.specs.declared.events.Sight.{Sight}
 use Rattle.mach_types.specs.declared.events.Tid.{Tid}
 use Rattle.mach_types.specs.declared.events.Why.TheVariants.{Waiting, FullBuffer}
-use Rattle.mach_types.specs.declared.threads.Saved.{Saved}
 use Rattle.mach_types.specs.declared.user_memory.Store.{Store}
-use Rattle.elf_load.specs.declared.image.ImagePage.{ImagePage}
-use Rattle.rv_inst.specs.Class.{sets_register}
 use Rattle.rv_inst.specs.Execution.{Outcome, instruction_gate}
 use Rattle.rv_inst.specs.declared.effects.Effect.{Effect}
 use Rattle.rv_inst.specs.declared.effects.Effect.TheVariants as effect
@@ -30,7 +24,6 @@ use Rattle.chooser.specs.declared.chooser.Pick.{Pick}
 use Rattle.chooser.proofs.Laws.{after_pick-settled}
 use Rattle.sys_calls.specs.Made.{HoldsPages}
 use Rattle.hart_state.specs.State.{hart_after, outcome_on}
-use Rattle.hart_state.specs.declared.hart.HartState.{HartState}
 use Rattle.page_map.specs.Map.{byte_in}
 use Rattle.block_model.specs.Choosing.{all_chosen, choice_at, credit_at, has_ended, next_entry, pick_at}
 use Rattle.block_model.specs.Deciding.{entry_in, history, over_at}
@@ -38,20 +31,15 @@ use Rattle.block_model.specs.Events.{done_of, refusal_of}
 use Rattle.block_model.specs.Events.Exec.{by_outcome, is_held, next_effect as effect_at, next_fault as fault_at, others_gate, refusal_exec_by}
 use Rattle.block_model.specs.Events.Preempt.{unless_in_barrier}
 use Rattle.block_model.specs.Here.{Here, is_writable, memory, runs, waiting_here}
-use Rattle.block_model.specs.History.{History, here_in_history, ran}
 use Rattle.block_model.specs.Instruction.{fault_by, fetched, next_effect}
 use Rattle.block_model.specs.Plain.{here_of, plain_after, plain_over, plain_seen}
-use Rattle.block_model.specs.Run.{IsBlockRun}
-use Rattle.block_model.specs.Setting.{Seen, Setting}
 use Rattle.block_model.specs.Sights.{is_local_on, sight_in, thread}
 use Rattle.block_model.specs.Stretches.{Stretch, advanced, file_after, goes_on, longest, stepped}
 use Rattle.block_model.proofs.Laws.{Steps, none_of_both, length-history, same_here, same_state}
 use Rattle.process.specs.Harts.{credit_of, file_of, file_on, hart_at}
-use Rattle.machine_core.specs.Stretches.{executed}
-use Rattle.process.specs.Tied.{IsAfter, IsPlace, answer_to, answered}
-use Rattle.process.specs.declared.parts.Parts.{Parts}
+use Rattle.process.specs.Refinement.{IsAfter, IsPlace, answer_to, answered}
 use Rattle.machine_core.specs.Credits.{credited, followed, generators_after, is_followed, is_picked}
-use Rattle.process.specs.Deeds.{entry_from}
+use Rattle.process.specs.EventOutcomes.{entry_from}
 use Rattle.process.specs.Planned.{IsPlanned}
 use Rattle.machine_core.proofs.ChoiceCredits.{choice_where, pick_read}
 use Rattle.process.proofs.Laws.{changed_as, entry_exec, get_set_other, get_set_same, in_list, none_beside, performing, plain_next, plain_own, runs_there, saved_plain, thread_is}

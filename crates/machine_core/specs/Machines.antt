@@ -9,7 +9,7 @@ use Rattle.block_model.specs.History.{History}
 use Rattle.block_model.specs.Plain.{plain_seen}
 use Rattle.block_model.specs.Run.{IsBlockRun}
 use Rattle.process.specs.Harts.{credit_of}
-use Rattle.process.specs.Tied.{IsTied}
+use Rattle.process.specs.Refinement.{IsTied}
 use Rattle.machine_core.specs.declared.machine.Machine.TheInside.{Inside}
 
 -- the setting that a machine keeps

@@ -8,22 +8,13 @@ use Rattle.std.proofs.Math.Seq.{take-length}
 use Rattle.std.proofs.lemmas.List.Folds.{list_any_more}
 use Rattle.std.proofs.lemmas.Option.{slice_get-get_or}
 use Rattle.mach_types.proofs.Laws.{eqb_other, eqb_same, filtered_other, found_at_end, harts_that-fits, not_at_end}
-use Rattle.mach_types.specs.Kernel.Barriers.{harts_that}
+use Rattle.process.proofs.Common.{HartState, IsPlace, IsTables, IsTied, Parts, Plain, Seen, Setting, credit_of, hart_at, harts_that, here_in_plain, holds, id_on, plain_seen, thread}
 use Rattle.mach_types.specs.Kernel.Scheduling.{Scheduling}
 use Rattle.mach_types.specs.Kernel.Threads.{Threads, is_ready, is_ready_state, running_on, state_of, times}
 use Rattle.mach_types.specs.declared.threads.ThreadState.{ThreadState}
 use Rattle.hart_state.specs.State.{idle_hart}
-use Rattle.hart_state.specs.declared.hart.HartState.{HartState}
 use Rattle.block_model.specs.Ids.{held_ids, id_of, is_id_of, next_id, with_id, without_id}
-use Rattle.block_model.specs.Plain.{Plain, here_in_plain, plain_seen}
-use Rattle.block_model.specs.Setting.{Seen, Setting}
-use Rattle.block_model.specs.Sights.{thread}
-use Rattle.block_model.specs.Tables.{IsTables}
 use Rattle.block_model.proofs.Laws.{is_held_below, is_held_by, running_is, taken_on_harts}
-use Rattle.process.specs.Harts.{credit_of, hart_at, id_on}
-use Rattle.process.specs.Sequences.{holds}
-use Rattle.process.specs.Tied.{IsPlace, IsTied}
-use Rattle.process.specs.declared.parts.Parts.{Parts}
 use Rattle.process.proofs.HartStates.{hart_there}
 
 -- the ids of other threads stay

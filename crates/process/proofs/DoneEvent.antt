@@ -1,21 +1,11 @@
 -- The event done: whose barrier returns, and the parts after it.
-use Rattle.std.proofs.Common.{◌≡◌, ◌≢◌, ℕ, append-nil, refl, sym, ap, ◌∙◌, eq-eqb, Option, Some, None}
-use Rattle.std.specs.Option.{option_map}
-use Rattle.std.proofs.lemmas.Bool.{ne_eqb}
+use Rattle.std.proofs.Common.{◌≡◌, ◌≢◌, ℕ, append-nil, refl, sym, ap, ◌∙◌, eq-eqb, Option, Some, None, option_map, ne_eqb}
 use Rattle.mach_types.specs.declared.events.Choice.TheVariants as asked
 use Rattle.mach_types.specs.declared.events.Tid.{Tid}
-use Rattle.mach_types.specs.declared.events.Why.{Why}
+use Rattle.process.proofs.Common.{HartState, Here, Plain, Setting, Why, counted, file_among, hart_at, hart_in, here_in_plain, refusal_of, runs, thread}
 use Rattle.mach_types.specs.declared.events.Why.TheVariants.{Idle}
-use Rattle.hart_state.specs.declared.hart.HartState.{HartState}
-use Rattle.block_model.specs.Events.{refusal_of}
 use Rattle.block_model.specs.Events.Finish.{done_done_by, refusal_done_by, refusal_return}
-use Rattle.block_model.specs.Here.{Here, runs}
-use Rattle.block_model.specs.History.{file_among}
-use Rattle.block_model.specs.Plain.{Plain, here_in_plain}
-use Rattle.block_model.specs.Setting.{Setting}
-use Rattle.block_model.specs.Sights.{thread}
 use Rattle.process.specs.Barriers.{gone_on}
-use Rattle.process.specs.Harts.{counted, hart_at, hart_in}
 use Rattle.process.proofs.HartEvents.{zero_more}
 use Rattle.process.proofs.HartStates.{own_after}
 

@@ -1,17 +1,9 @@
 -- The store that enters memory.
-use Rattle.std.proofs.Common.{◌≡◌, ℕ, List, [], ◌∷◌, ap, ◌∙◌, subst, sym, Bool, true, Option, get_or, slice_get}
+use Rattle.std.proofs.Common.{◌≡◌, ℕ, List, [], ◌∷◌, ap, ◌∙◌, subst, sym, Bool, true, Option, get_or, slice_get, IfSome}
 use Rattle.std.specs.List.{AllByRecursion}
-use Rattle.std.specs.Prelude.{IfSome}
-use Rattle.mach_types.specs.Bytes.{each_byte}
+use Rattle.process.proofs.Common.{HartState, IsPlace, Parts, Seen, Store, can_write_in, each_byte, plain_seen}
 use Rattle.mach_types.specs.Kernel.Pages.{Pages, can_write, permission_at}
-use Rattle.mach_types.specs.declared.user_memory.Store.{Store}
-use Rattle.hart_state.specs.declared.hart.HartState.{HartState}
-use Rattle.page_map.specs.Map.{can_write_in}
-use Rattle.block_model.specs.Plain.{plain_seen}
-use Rattle.block_model.specs.Setting.{Seen}
 use Rattle.block_model.proofs.Laws.{MayEnter, place_good}
-use Rattle.process.specs.Tied.{IsPlace}
-use Rattle.process.specs.declared.parts.Parts.{Parts}
 use Rattle.process.proofs.Places.{hart_is, writable_at}
 
 -- the bytes of the oldest waiting store can be written

@@ -1,27 +1,19 @@
 -- The entry of an event, and an event that is known to have done this.
-use Rattle.std.proofs.Common.{◌≡◌, ℕ, List, [], ◌∷◌, get_or, refl, sym, ap, subst, Option, Some, None}
-use Rattle.std.specs.Option.{option_map}
+use Rattle.std.proofs.Common.{◌≡◌, ℕ, List, [], ◌∷◌, get_or, set, refl, sym, ap, subst, Option, Some, None, option_map}
 use Rattle.mach_types.specs.declared.events.Choice.{Choice}
 use Rattle.mach_types.specs.declared.events.Choice.TheVariants as asked
-use Rattle.mach_types.specs.declared.events.Hart.{Hart}
+use Rattle.process.proofs.Common.{Hart, HartState, Parts, Plain, Seen, Setting, Store, counted, credit_of, done_of, entry_from, file_on, hart_at, here_in_plain, here_of, id_of, plain_seen, refusal_of, thread}
 use Rattle.mach_types.specs.declared.events.Kind.{Kind}
 use Rattle.mach_types.specs.declared.events.Kind.TheVariants as kind
-use Rattle.mach_types.specs.declared.user_memory.Store.{Store}
-use Rattle.hart_state.specs.declared.hart.HartState.{HartState}
-use Rattle.block_model.specs.Setting.{Seen, Setting}
 use Rattle.block_model.specs.Here.{Done, Here, runs, waiting_here}
-use Rattle.block_model.specs.Events.{refusal_of, done_of}
 use Rattle.block_model.specs.Events.Drain.{refusal_drain_of}
 use Rattle.block_model.specs.Events.Preempt.{refusal_preempt_by}
-use Rattle.block_model.specs.Deciding.{entry_in, number_of, pc_in}
-use Rattle.block_model.specs.Plain.{Plain, here_in_plain, here_of}
-use Rattle.block_model.specs.Sights.{thread}
+use Rattle.block_model.specs.Deciding.{entry_in, final, number_of, pc_in}
+use Rattle.block_model.specs.Record.{Kernel}
 use Rattle.block_model.proofs.Laws.{IsFit}
-use Rattle.process.specs.Deeds.{entry_from}
-use Rattle.process.specs.Harts.{counted, file_on, hart_at}
-use Rattle.process.specs.Tied.{IsAfter, IsPlace, IsUncounted}
-use Rattle.process.specs.declared.parts.Parts.{Parts}
-use Rattle.process.proofs.Events.{IsChange, IsMade, changed, uncounted}
+use Rattle.process.specs.Refinement.{IsAfter, IsPlace, IsUncounted}
+use Rattle.process.proofs.Events.{AreBeside, IsChange, IsMade, IsQuiet, changed, none_beside, uncounted}
+use Rattle.process.proofs.HartStates.{own_after}
 use Rattle.process.proofs.Places.{fit_at, hart_is}
 
 -- the entry of a hart's thread
@@ -65,3 +57,21 @@ pub uncounted_as : (v : Seen) (h : ℕ) (c : Choice) (d : Done) (m m' : Parts) (
     → IsMade v h d m m' (counted z) z → IsUncounted v h (done_of c (here_of v h)) m m'
 uncounted_as v h c d m m' z place free same is =
     subst (λ e. IsUncounted v h e m m') (sym same) (uncounted v h d m m' z place (subst (IsFit (here_of v h)) same (fit_at v m h c place free)) is)
+
+-- one that ended the process, and changed of the parts nothing else but its hart
+pub killed_as : (v : Seen) (h : ℕ) (c : Choice) (d : Done) (m m' : Parts) (z : HartState) → IsPlace v m h → refusal_of c (here_of v h) ≡ None → done_of c (here_of v h) ≡ d
+    → IsQuiet d → d.entered ≡ [] → d.files ≡ [] → d.kernel ≡ (plain_seen v).kernel → m' ≡ record m { harts = m'.harts; ended = final d.ended d.kernel }
+    → m'.harts.items ≡ set m.harts.items h z → counted z ≡ own_after v.setting (plain_seen v) h d (credit_of m.harts.items h) → IsUncounted v h (done_of c (here_of v h)) m m'
+killed_as v h c d m m' z place free same quiet silent kept still others harts own =
+    let p = plain_seen v in
+    uncounted_as v h c d m m' z place free same (record {
+      own = own;
+      harts = subst (AreBeside h d (set m.harts.items h z)) (sym harts) (none_beside h d (set m.harts.items h z) quiet silent);
+      pages = rw (ap (λ (n : Parts). n.pages) others, still, silent) place.tied.pages;
+      readable = rw (ap (λ (n : Parts). n.pages) others) place.tied.readable;
+      tables = rw (ap (λ (n : Parts). n.kernel) others, still) place.tied.tables;
+      ids = λ k u ne runs. ap (λ (r : Kernel). id_of u r.ids) still;
+      table = rw (ap (λ (n : Parts). n.kernel) others) place.tied.table;
+      saved = rw (ap (λ (n : Parts). n.kernel) others, kept) place.tied.saved;
+      ended = ap (λ (n : Parts). n.ended) others;
+    })

@@ -4,23 +4,14 @@ use Rattle.std.specs.Option.{option_map, option_or}
 use Rattle.std.proofs.lemmas.Bool.{cases_eq, ne_eqb}
 use Rattle.std.proofs.lemmas.List.{length-set}
 use Rattle.mach_types.specs.Bytes.{written}
-use Rattle.mach_types.specs.Kernel.Threads.{is_stuck}
-use Rattle.mach_types.specs.declared.limits.End.{End}
+use Rattle.process.proofs.Common.{Done, End, HartState, IsTable, Parts, Seen, counted, credit_of, file_among, final, hart_at, is_stuck}
 use Rattle.mach_types.specs.declared.limits.End.TheVariants as over
-use Rattle.hart_state.specs.declared.hart.HartState.{HartState}
-use Rattle.kernel_threads.specs.Table.{IsTable}
 use Rattle.sys_calls.specs.Made.{AreSaved, HoldsPages}
 use Rattle.sys_calls.specs.Tables.{HoldsTables}
-use Rattle.block_model.specs.Setting.{Seen}
-use Rattle.block_model.specs.Here.{Done}
-use Rattle.block_model.specs.History.{file_among}
-use Rattle.block_model.specs.Deciding.{final}
 use Rattle.block_model.specs.Plain.{Plain, apply, here_of, plain_seen}
 use Rattle.block_model.proofs.Laws.{IsFit, events_few}
-use Rattle.process.specs.Losing.{lost_by_all, lost_unless}
-use Rattle.process.specs.Harts.{counted, credit_of, hart_at}
-use Rattle.process.specs.Tied.{IsAfter, IsCounted, IsPlace, IsReadable, IsTied, IsUncounted}
-use Rattle.process.specs.declared.parts.Parts.{Parts}
+use Rattle.process.specs.Reservations.{lost_by_all, lost_unless}
+use Rattle.process.specs.Refinement.{IsAfter, IsCounted, IsPlace, IsReadable, IsTied, IsUncounted}
 use Rattle.process.proofs.HartStates.{KeepsIds, beside, beside_unless, credits_kept, get_set_other, get_set_same, harts_tied, of_each, own_after}
 
 -- lists with the same places filled are equally long

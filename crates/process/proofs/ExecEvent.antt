@@ -1,29 +1,22 @@
 -- What the next instruction of a thread does, by its effect and its fault.
 use Rattle.std.proofs.Common.{◌≡◌, ◌≢◌, ℕ, refl, sym, ap, ◌∙◌, Bool, true, false, cond, is_some, Option, Some, None, length}
 use Rattle.std.specs.Option.{option_or}
-use Rattle.mach_types.specs.declared.events.Why.{Why}
+use Rattle.process.proofs.Common.{Done, Effect, HartState, Here, Plain, Setting, Why, done_of, hart_at, here_in_plain, is_writable, memory, refusal_of, runs}
 use Rattle.mach_types.specs.declared.events.Why.TheVariants.{InBarrier}
 use Rattle.rv_inst.specs.Class.{is_call}
 use Rattle.rv_inst.specs.Execution.{fault_in, instruction_gate}
-use Rattle.rv_inst.specs.declared.effects.Effect.{Effect}
 use Rattle.rv_inst.specs.declared.effects.Effect.TheVariants as effect
 use Rattle.hart_state.specs.State.{exec_refusal, outcome_on}
-use Rattle.hart_state.specs.declared.hart.HartState.{HartState}
 use Rattle.block_model.specs.Calls.{called}
 use Rattle.block_model.specs.Calls.Answers.{killed_in_call}
 use Rattle.block_model.specs.Sequences.{is_inside_here}
-use Rattle.block_model.specs.Events.{refusal_of, done_of}
 use Rattle.mach_types.specs.declared.events.Choice.TheVariants as asked
 use Rattle.block_model.specs.Events.Exec.{by_call, by_fault, by_outcome, has_handler, is_held, next_effect, next_fault, one_instruction, others_gate, outcome_of, refusal_exec_by}
 use Rattle.block_model.specs.Events.Preempt.{unless_in_barrier}
-use Rattle.block_model.specs.Here.{Done, Here, is_writable, memory, runs}
 use Rattle.block_model.specs.Instruction as instruction
 use Rattle.block_model.specs.Kernel.{signalled}
 use Rattle.mach_types.specs.Kernel.Signals.{with_pending}
 use Rattle.mach_types.specs.declared.limits.End.TheVariants.{Killed}
-use Rattle.block_model.specs.Plain.{Plain, here_in_plain}
-use Rattle.block_model.specs.Setting.{Setting}
-use Rattle.process.specs.Harts.{hart_at}
 
 -- a fault, a call, and another instruction
 done_fault : (here : Here) (t signal : ℕ) → runs here ≡ Some t → next_fault here t ≡ Some signal → done_of asked.Exec here ≡ by_fault here t signal

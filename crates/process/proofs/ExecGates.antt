@@ -1,6 +1,5 @@
 -- Stores that wait on pages, and the gate of the next instruction.
-use Rattle.std.proofs.Common.{◌≡◌, ℕ, zero, suc, ◌+◌, ◌/◌, ◌<◌, ◌≤◌, ◌↔◌, List, length, take, get_or, refl, sym, ap, ◌∙◌, arith, inl, inr, Bool, true, false, cond, not, ◌&&◌, ◌||◌, Option, Some, None, is_some}
-use Rattle.std.specs.Bool.{IsTrue}
+use Rattle.std.proofs.Common.{◌≡◌, ℕ, zero, suc, ◌+◌, ◌/◌, ◌<◌, ◌≤◌, ◌↔◌, List, length, take, get_or, refl, sym, ap, ◌∙◌, arith, inl, inr, Bool, true, false, cond, not, ◌&&◌, ◌||◌, Option, Some, None, is_some, IsTrue}
 use Rattle.std.specs.List.{Any, list_any}
 use Rattle.std.specs.Option.{option_or}
 use Rattle.std.proofs.lemmas.Bool.{cases_eq}
@@ -11,26 +10,16 @@ use Rattle.std.proofs.lemmas.Option.{slice_get-get_or}
 use Rattle.mach_types.proofs.Laws.{each_byte-same}
 use Rattle.mach_types.specs.Bytes.{covers, each_byte}
 use Rattle.mach_types.specs.Kernel.Pages.{PageRun, is_in}
-use Rattle.mach_types.specs.declared.events.Why.{Why}
+use Rattle.process.proofs.Common.{HartState, IsTied, Next, Parts, Plain, Setting, Store, Why, exec_refusal, hart_at, here_in_plain, runs}
 use Rattle.mach_types.specs.declared.events.Why.TheVariants.{Idle, InBarrier}
-use Rattle.mach_types.specs.declared.user_memory.Store.{Store}
 use Rattle.store_buffers.specs.Pages.{HasByteAmong}
 use Rattle.rv_inst.specs.Execution.{instruction_gate}
-use Rattle.hart_state.specs.State.{exec_refusal}
-use Rattle.hart_state.specs.declared.hart.HartState.{HartState}
 use Rattle.block_model.specs.Calls.Memory.{lies_on, lies_waiting_on}
 use Rattle.block_model.specs.Events.Exec.{is_held, next_effect, next_fault, others_gate, refusal_exec}
 use Rattle.block_model.specs.Events.Preempt.{unless_in_barrier}
-use Rattle.block_model.specs.Here.{runs}
-use Rattle.block_model.specs.Plain.{Plain, here_in_plain}
-use Rattle.block_model.specs.Setting.{Setting}
 use Rattle.sys_calls.specs.Remapped.{has_page}
 use Rattle.sys_calls.specs.declared.memory_calls.PageSpan.{PageSpan}
-use Rattle.process.specs.Harts.{hart_at}
-use Rattle.process.specs.Holding.{IsNextAt, lies_in}
-use Rattle.process.specs.Tied.{IsTied}
-use Rattle.process.specs.declared.next.Next.{Next}
-use Rattle.process.specs.declared.parts.Parts.{Parts}
+use Rattle.process.specs.ExecGates.{IsNextAt, lies_in}
 use Rattle.process.proofs.HartStates.{hart_there}
 
 -- a store has a byte on one of the pages where a buffer finds it there

@@ -1,7 +1,6 @@
 -- The instruction word at an address that is a multiple of 4: its four bytes lie in one page.
-use Rattle.std.proofs.Common.{◌≡◌, ◌≢◌, ℕ, ◌+◌, ◌*◌, ◌/◌, ◌%◌, ◌<◌, ◌≤◌, ◌&&◌, inl, inr, List, [], ◌∷◌, map, Option, Some, None, Bool, true, false, cond, nat_le, nat_lt, nat_eq, nat_cmp, is_le, is_lt, Less, Equal, refl, ap, sym, ◌∙◌, arith, eq-eqb, slice_index}
+use Rattle.std.proofs.Common.{◌≡◌, ◌≢◌, ℕ, ◌+◌, ◌*◌, ◌/◌, ◌%◌, ◌<◌, ◌≤◌, ◌&&◌, inl, inr, List, [], ◌∷◌, map, Option, Some, None, Bool, true, false, cond, nat_le, nat_lt, nat_eq, nat_cmp, is_le, is_lt, Less, Equal, refl, ap, sym, ◌∙◌, arith, eq-eqb, slice_index, option_map}
 use Rattle.std.specs.Cmp.{nat_cmp_is}
-use Rattle.std.specs.Option.{option_map}
 use Rattle.std.proofs.lemmas.Bool.{ne_eqb, cases_eq, cases_lt, le-leb, lt-leb, le-ltb, lt-ltb}
 use Rattle.mach_types.specs.Bytes.{joined}
 use Rattle.mach_types.specs.Kernel.Pages.{can_execute, is_in, permission_of}

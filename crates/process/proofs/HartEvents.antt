@@ -1,30 +1,17 @@
 -- The own hart after each kind of event.
-use Rattle.std.proofs.Common.{◌≡◌, ℕ, ◌+◌, ◌<◌, List, ◌∷◌, drop, refl, ◌∙◌, arith, true, Option, Some, None, append-nil, eq-eqb}
-use Rattle.std.specs.Option.{option_map}
+use Rattle.std.proofs.Common.{◌≡◌, ℕ, ◌+◌, ◌<◌, List, ◌∷◌, drop, refl, ◌∙◌, arith, true, Option, Some, None, append-nil, eq-eqb, option_map}
 use Rattle.mach_types.specs.Registers.{no_registers}
 use Rattle.mach_types.specs.declared.sequences.Outcome.{Outcome as Comes}
-use Rattle.mach_types.specs.declared.threads.Saved.{Saved}
-use Rattle.mach_types.specs.declared.user_memory.Store.{Store}
-use Rattle.mach_types.specs.Kernel.Threads.{is_ready}
-use Rattle.hart_state.specs.declared.hart.HartState.{HartState}
+use Rattle.process.proofs.Common.{HartState, IsTables, Plain, Saved, Setting, Store, by_call, by_outcome, counted, file_among, file_on, files_interrupted, hart_at, here_in_plain, id_on, is_ready, runs, thread}
 use Rattle.hart_state.specs.State.{entered, hart_after}
 use Rattle.rv_inst.specs.Execution.{Outcome}
-use Rattle.block_model.specs.Setting.{Setting}
-use Rattle.block_model.specs.Here.{runs}
-use Rattle.block_model.specs.Tables.{IsTables}
-use Rattle.block_model.specs.Plain.{Plain, here_in_plain}
-use Rattle.block_model.specs.Sights.{thread}
 use Rattle.block_model.specs.Calls.Answers.{killed_in_call}
-use Rattle.block_model.specs.Events.Exec.{by_call, by_outcome}
 use Rattle.block_model.specs.Events.Drain.{done_drain_of}
 use Rattle.block_model.specs.Events.Preempt.{done_preempt_by}
 use Rattle.block_model.specs.Events.Run.{done_killed, done_running}
-use Rattle.block_model.specs.History.{file_among}
 use Rattle.block_model.specs.Ids.{id_of, with_id}
-use Rattle.block_model.specs.Sequences.{files_interrupted}
 use Rattle.block_model.proofs.Laws.{left_idle, ran_runs}
-use Rattle.process.specs.Beginning.{begun_without}
-use Rattle.process.specs.Harts.{counted, file_on, hart_at, id_on}
+use Rattle.process.specs.ContextSwitch.{begun_without}
 use Rattle.process.proofs.ExecEvent.{fault_killing, fault_pending}
 use Rattle.process.proofs.HartStates.{own_after}
 

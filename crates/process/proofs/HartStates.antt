@@ -3,20 +3,11 @@ use Rattle.std.proofs.Common.{◌≡◌, ◌≢◌, ℕ, ◌+◌, ◌<◌, List,
 use Rattle.std.specs.Option.{option_map, option_map_or}
 use Rattle.std.proofs.lemmas.Bool.{ne_eqb, cases_eq}
 use Rattle.std.proofs.lemmas.Option.{same_Some, slice_get-get_or}
-use Rattle.mach_types.specs.Kernel.Threads.{running_on}
-use Rattle.mach_types.specs.declared.threads.Saved.{Saved}
-use Rattle.hart_state.specs.declared.hart.HartState.{HartState}
-use Rattle.block_model.specs.Setting.{Setting}
-use Rattle.block_model.specs.Here.{Done}
+use Rattle.process.proofs.Common.{Done, HartState, IsTied, Parts, Saved, Setting, credit_of, file_on, hart_at, hart_in, id_of, id_on, running_on, thread}
 use Rattle.block_model.specs.History.{file_among, lost_after}
-use Rattle.block_model.specs.Ids.{id_of}
 use Rattle.block_model.specs.Plain.{Plain, apply, here_in_plain}
 use Rattle.block_model.specs.Requests.{awaits_after, awaits_of_own, is_about, requests_after, restart_after, restarts_at, with_hart, without_hart}
-use Rattle.block_model.specs.Sights.{thread}
 use Rattle.block_model.proofs.Laws.{IsFit}
-use Rattle.process.specs.Harts.{credit_of, file_on, hart_at, hart_in, id_on}
-use Rattle.process.specs.Tied.{IsTied}
-use Rattle.process.specs.declared.parts.Parts.{Parts}
 
 -- a hart in the list is the plain machine's
 pub hart_there : (s : Setting) (p : Plain) (m : Parts) (h : ℕ) (x : HartState) → IsTied s p m → h < s.limits.harts → slice_get m.harts.items h ≡ Some x → x ≡ hart_at s p h (credit_of m.harts.items h)

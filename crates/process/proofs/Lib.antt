@@ -1,4 +1,5 @@
 mod Codes
+mod Common
 mod ConcurrencyIds
 mod DoneEvent
 mod DrainEvent

@@ -1,24 +1,12 @@
 -- Barriers on harts: which harts run threads, and the harts beside one that asks, or that takes its requests.
-use Rattle.std.proofs.Common.{◌≡◌, ◌≢◌, ℕ, zero, suc, ◌+◌, ◌-◌, ◌<◌, ◌≤◌, ◌^◌, List, set, refl, sym, ap, ◌∙◌, arith, Bool, true, false, cond, eqb, eq-eqb, ◌||◌, Option, Some, None, is_some, slice_get}
+use Rattle.std.proofs.Common.{◌≡◌, ◌≢◌, ℕ, zero, suc, ◌+◌, ◌-◌, ◌<◌, ◌≤◌, ◌^◌, List, set, refl, sym, ap, ◌∙◌, arith, Bool, true, false, cond, eqb, eq-eqb, ◌||◌, Option, Some, None, is_some, slice_get, ne_eqb}
 use Rattle.std.specs.Option.{option_map, option_map_or}
-use Rattle.std.proofs.lemmas.Bool.{ne_eqb}
 use Rattle.std.proofs.lemmas.Option.{slice_get_past}
-use Rattle.mach_types.specs.Kernel.Barriers.{harts_that}
+use Rattle.process.proofs.Common.{HartState, Here, IsPlace, Parts, Seen, asked_by, by_call, harts_that, is_busy, lost_unless, plain_seen, running_on, thread}
 use Rattle.mach_types.specs.Kernel.Scheduling.{has_hart}
-use Rattle.mach_types.specs.Kernel.Threads.{running_on}
-use Rattle.hart_state.specs.declared.hart.HartState.{HartState}
 use Rattle.block_model.specs.Calls.Answers.{CallDone}
 use Rattle.block_model.specs.Calls.Barriers.{running_harts}
-use Rattle.block_model.specs.Events.Exec.{by_call}
-use Rattle.block_model.specs.Here.{Here}
-use Rattle.block_model.specs.Plain.{plain_seen}
 use Rattle.block_model.specs.Requests.{with_hart}
-use Rattle.block_model.specs.Setting.{Seen}
-use Rattle.block_model.specs.Sights.{thread}
-use Rattle.process.specs.Barriers.{asked_by, is_busy}
-use Rattle.process.specs.Losing.{lost_unless}
-use Rattle.process.specs.Tied.{IsPlace}
-use Rattle.process.specs.declared.parts.Parts.{Parts}
 use Rattle.process.proofs.Events.{AreBeside}
 use Rattle.process.proofs.HartStates.{beside_unless, get_set_other, get_set_same, of_each}
 

@@ -1,19 +1,11 @@
 -- The next instruction of the thread on a hart, and why it may not be executed.
 use Rattle.std.proofs.Common.{◌≡◌, ℕ, List, refl, ap, ◌∙◌, Bool, Option, Some, None, IfSome}
 use Rattle.mach_types.specs.declared.events.Choice.TheVariants as asked
-use Rattle.elf_load.specs.declared.image.ImagePage.{ImagePage}
+use Rattle.process.proofs.Common.{HartState, Here, ImagePage, IsNextAt, IsPlanned, Next, Seen, here_of, is_writable, memory, refusal_of, runs}
 use Rattle.rv_inst.specs.Sizes.{HasAccessSizes}
-use Rattle.hart_state.specs.declared.hart.HartState.{HartState}
-use Rattle.block_model.specs.Events.{refusal_of}
 use Rattle.block_model.specs.Events.Exec.{refusal_exec_by}
-use Rattle.block_model.specs.Here.{Here, is_writable, memory, runs}
 use Rattle.block_model.specs.Instruction.{next_effect, next_fault}
-use Rattle.block_model.specs.Plain.{here_of}
-use Rattle.block_model.specs.Setting.{Seen}
 use Rattle.process.specs.Harts.{file_of, file_on, hart_in}
-use Rattle.process.specs.Holding.{IsNextAt}
-use Rattle.process.specs.Planned.{IsPlanned}
-use Rattle.process.specs.declared.next.Next.{Next}
 
 -- the next instruction of the file that a hart keeps is that of the place
 pub next_at : (here : Here) (x : HartState) (ran events credit : ℕ) (code : List ImagePage) (byte : ℕ → Option ℕ) (writable : ℕ → Bool) (next : Next)

@@ -2,29 +2,12 @@
 use Rattle.std.proofs.Common.{◌≡◌, ℕ, ◌+◌, ◌<◌, ◌^◌, length, refl, sym, ap, ◌∙◌, arith, Bool, true, false, cond, eqb, eq-eqb, List, Option, Some, None, get_or, slice_get}
 use Rattle.std.specs.Option.{option_map, option_or}
 use Rattle.mach_types.specs.declared.events.Choice.{Choice}
-use Rattle.mach_types.specs.declared.limits.End.{End}
+use Rattle.process.proofs.Common.{End, Hart, HartState, IsPlace, IsTables, Parts, Running, Seen, Write, byte_in, can_write_in, credit_of, done_of, final, hart_at, here_of, is_stuck, is_writable, lost_unless, memory, plain_seen, refusal_of, runs, state_of, thread}
 use Rattle.mach_types.specs.declared.limits.End.TheVariants as over
-use Rattle.mach_types.specs.Kernel.Threads.{is_stuck, state_of}
-use Rattle.mach_types.specs.declared.events.Hart.{Hart}
 use Rattle.mach_types.specs.declared.events.Tid.{Tid}
-use Rattle.mach_types.specs.declared.threads.ThreadState.TheVariants.{Running}
-use Rattle.mach_types.specs.declared.user_memory.Write.{Write}
-use Rattle.block_model.specs.Here.{is_writable, memory, runs}
 use Rattle.block_model.specs.Record.{Kernel}
-use Rattle.hart_state.specs.declared.hart.HartState.{HartState}
-use Rattle.page_map.specs.Map.{byte_in, can_write_in}
-use Rattle.block_model.specs.Setting.{Seen}
-use Rattle.block_model.specs.Deciding.{final}
-use Rattle.block_model.specs.Events.{refusal_of, done_of}
-use Rattle.block_model.specs.Plain.{here_of, plain_seen}
-use Rattle.block_model.specs.Sights.{thread}
-use Rattle.block_model.specs.Tables.{IsTables}
 use Rattle.block_model.proofs.Laws.{IsFit, place_fit, place_good, ran_few, running_is}
-use Rattle.process.specs.Beginning.{HasHart}
-use Rattle.process.specs.Harts.{credit_of, hart_at}
-use Rattle.process.specs.Losing.{lost_unless}
-use Rattle.process.specs.Tied.{IsPlace}
-use Rattle.process.specs.declared.parts.Parts.{Parts}
+use Rattle.process.specs.ContextSwitch.{HasHart}
 use Rattle.process.proofs.HartStates.{hart_tied}
 use Rattle.process.proofs.Memory.{bytes_held, writable_held}
 

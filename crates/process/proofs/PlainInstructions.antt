@@ -3,20 +3,9 @@ use Rattle.std.proofs.Common.{◌≡◌, ℕ, sym, false, Some, None, get_or}
 use Rattle.mach_types.specs.declared.events.Choice.TheVariants as asked
 use Rattle.rv_inst.specs.Class.{is_call}
 use Rattle.rv_inst.specs.Execution.{Outcome, fault_in}
-use Rattle.rv_inst.specs.declared.effects.Effect.{Effect}
+use Rattle.process.proofs.Common.{Effect, HartState, IsPlace, IsPlanned, Next, Parts, Seen, byte_in, can_write_in, credit_of, done_of, final, hart_at, here_of, plain_seen}
 use Rattle.hart_state.specs.State.{exec_refusal, outcome_on}
-use Rattle.hart_state.specs.declared.hart.HartState.{HartState}
-use Rattle.page_map.specs.Map.{byte_in, can_write_in}
-use Rattle.block_model.specs.Deciding.{final}
-use Rattle.block_model.specs.Events.{done_of}
 use Rattle.block_model.specs.Events.Exec.{by_outcome, outcome_of}
-use Rattle.block_model.specs.Plain.{here_of, plain_seen}
-use Rattle.block_model.specs.Setting.{Seen}
-use Rattle.process.specs.Harts.{credit_of, hart_at}
-use Rattle.process.specs.Planned.{IsPlanned}
-use Rattle.process.specs.Tied.{IsPlace}
-use Rattle.process.specs.declared.next.Next.{Next}
-use Rattle.process.specs.declared.parts.Parts.{Parts}
 use Rattle.process.proofs.ExecEvent.{done_plain, no_fault, not_refused, outcome_same}
 use Rattle.process.proofs.Places.{bytes_at, goes_on, hart_is, was_not_stuck, writable_at}
 

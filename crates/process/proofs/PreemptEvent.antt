@@ -6,20 +6,10 @@ use Rattle.mach_types.specs.Kernel.Scheduling.{Scheduling, is_of}
 use Rattle.mach_types.specs.Kernel.Threads.{is_live, is_ready_state, state_of}
 use Rattle.mach_types.specs.declared.events.Choice.TheVariants as asked
 use Rattle.mach_types.specs.declared.events.Entry.{Entry}
-use Rattle.mach_types.specs.declared.events.Hart.{Hart}
+use Rattle.process.proofs.Common.{Hart, HartState, IsPlace, Parts, Running, Seen, credit_of, entry_from, file_on, hart_at, here_of, plain_seen, refusal_of, runs}
 use Rattle.mach_types.specs.declared.events.Kind.TheVariants as kind
-use Rattle.mach_types.specs.declared.threads.ThreadState.TheVariants.{Running}
-use Rattle.hart_state.specs.declared.hart.HartState.{HartState}
-use Rattle.block_model.specs.Setting.{Seen}
-use Rattle.block_model.specs.Here.{runs}
-use Rattle.block_model.specs.Events.{refusal_of}
 use Rattle.block_model.specs.Deciding.{number_of}
-use Rattle.block_model.specs.Plain.{here_of, plain_seen}
 use Rattle.block_model.proofs.Laws.{ready_listed, running_is}
-use Rattle.process.specs.Deeds.{entry_from}
-use Rattle.process.specs.Harts.{credit_of, file_on, hart_at}
-use Rattle.process.specs.Tied.{IsPlace}
-use Rattle.process.specs.declared.parts.Parts.{Parts}
 use Rattle.process.proofs.Entries.{entry_here, leaver}
 use Rattle.process.proofs.StuckProcess.{live_with}
 use Rattle.process.proofs.Places.{hart_is, tables_at}

@@ -1,10 +1,9 @@
 -- A hart that loses its reservation, write after write.
 use Rattle.std.proofs.Common.{◌≡◌, ℕ, ◌+◌, ◌<◌, List, [], ◌∷◌, ◌++◌, take, length, refl, sym, ap, ◌∙◌, Option, get_or}
 use Rattle.std.proofs.lemmas.List.{take_more}
-use Rattle.mach_types.specs.declared.user_memory.Write.{Write}
-use Rattle.hart_state.specs.declared.hart.HartState.{HartState}
+use Rattle.process.proofs.Common.{HartState, Write}
 use Rattle.block_model.specs.History.{lost_to, lost_after}
-use Rattle.process.specs.Losing.{lost_by_write, lost_by_all}
+use Rattle.process.specs.Reservations.{lost_by_write, lost_by_all}
 
 -- reservations that are lost to some writes and to others behind them
 pub lost_app : (ws vs : List Write) (r : Option ℕ) → lost_after vs (lost_after ws r) ≡ lost_after (ws ++ vs) r

@@ -2,19 +2,11 @@
 use Rattle.std.proofs.Common.{◌≡◌, ℕ, ap, ◌∙◌, refl, Option, Some, None}
 use Rattle.std.specs.Option.{option_and_then, option_map_or}
 use Rattle.mach_types.specs.Kernel.Areas.{named}
-use Rattle.mach_types.specs.declared.sequences.Area.{Area}
+use Rattle.process.proofs.Common.{Area, HartState, IsTied, Parts, Plain, Saved, Setting, byte_in, file_on, hart_at, here_in_plain}
 use Rattle.mach_types.specs.declared.sequences.Named.TheVariants as names
-use Rattle.mach_types.specs.declared.threads.Saved.{Saved}
-use Rattle.hart_state.specs.declared.hart.HartState.{HartState}
-use Rattle.page_map.specs.Map.{byte_in}
 use Rattle.rv_inst.specs.Execution.{seen_byte}
 use Rattle.block_model.specs.Here.{Here, view, waiting_here}
-use Rattle.block_model.specs.Plain.{Plain, here_in_plain}
 use Rattle.block_model.specs.Sequences.{area_here, named_here}
-use Rattle.block_model.specs.Setting.{Setting}
-use Rattle.process.specs.Harts.{file_on, hart_at}
-use Rattle.process.specs.Tied.{IsTied}
-use Rattle.process.specs.declared.parts.Parts.{Parts}
 use Rattle.process.proofs.Memory.{bytes_held}
 
 -- memory behind the waiting stores of a hart is what the hart sees

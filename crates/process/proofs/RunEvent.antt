@@ -7,49 +7,28 @@ use Rattle.std.proofs.lemmas.Bool.{cases_eq, eqb-true, ne_eqb}
 use Rattle.std.proofs.lemmas.List.Kept.{AllPairs-from_increasing}
 use Rattle.mach_types.proofs.Laws.{state_of-with_state_same}
 use Rattle.mach_types.specs.Kernel.Areas.{area_of, lowest_cid}
-use Rattle.mach_types.specs.Kernel.Barriers.{harts_that}
+use Rattle.process.proofs.Common.{AreSaved, Area, Done, Hart, HartState, Here, IsPlace, IsUncounted, IsWritten, Kernel, Map, Outcome, Parts, Saved, Seen, Write, counted, credit_of, file_among, files_interrupted, hart_at, harts_that, here_of, holds, interruption_here, lost_unless, plain_seen, refusal_of}
 use Rattle.mach_types.specs.Kernel.Scheduling.{Scheduling, without_ready}
 use Rattle.mach_types.specs.Kernel.Threads.{Thread, Threads, is_ready, is_ready_state, is_running_state, is_thread, numbers, state_if, state_of, with_state}
 use Rattle.mach_types.specs.declared.events.Choice.TheVariants as asked
-use Rattle.mach_types.specs.declared.events.Hart.{Hart}
 use Rattle.mach_types.specs.declared.events.Tid.{Tid}
 use Rattle.mach_types.specs.declared.limits.End.TheVariants.{Killed}
-use Rattle.mach_types.specs.declared.sequences.Area.{Area}
-use Rattle.mach_types.specs.declared.sequences.Outcome.{Outcome}
 use Rattle.mach_types.specs.declared.sequences.Outcome.TheVariants as comes_to
 use Rattle.mach_types.specs.declared.signals.TheConstants.{SIGSEGV}
-use Rattle.mach_types.specs.declared.threads.Saved.{Saved}
 use Rattle.mach_types.specs.declared.threads.ThreadState.{ThreadState}
 use Rattle.mach_types.specs.declared.threads.ThreadState.TheVariants.{Ready, Running}
-use Rattle.mach_types.specs.declared.user_memory.Write.{Write}
 use Rattle.hart_state.specs.State.{entered}
-use Rattle.hart_state.specs.declared.hart.HartState.{HartState}
 use Rattle.scheduler.specs.Holding.{is_ready as is_listed}
 use Rattle.kernel_threads.specs.Table.{IsTable, Table, saved_of, with_saved}
 use Rattle.kernel_threads.proofs.Laws.{emptied, is_kept, ready_saves_something, saved_of_others}
-use Rattle.page_map.specs.Map.{Map}
-use Rattle.sys_calls.specs.Made.{AreSaved}
 use Rattle.sys_calls.specs.Registered.{areas_by_number}
 use Rattle.sys_calls.specs.Tables.{HoldsTables}
-use Rattle.sys_calls.specs.declared.kernel.Kernel.{Kernel}
 use Rattle.sys_calls.proofs.Laws.{holds_past_ids, holds_scheduling, holds_threads}
-use Rattle.block_model.specs.Events.{refusal_of}
 use Rattle.block_model.specs.Events.Run.{done_killed, done_run, done_running, lives_on}
-use Rattle.block_model.specs.Here.{Done, Here}
-use Rattle.block_model.specs.History.{file_among}
 use Rattle.block_model.specs.Ids.{id_of, is_running, next_id, with_id}
 use Rattle.block_model.specs.Kernel.{ran}
-use Rattle.block_model.specs.Plain.{here_of, plain_seen}
-use Rattle.block_model.specs.Sequences.{files_interrupted, interruption_here}
-use Rattle.block_model.specs.Setting.{Seen}
 use Rattle.block_model.proofs.Laws.{id_is_free, ids_apart_at, ready_listed, run_ready}
-use Rattle.process.specs.Beginning.{IsChanged, IsReadied, IsWaiting, begun_without}
-use Rattle.process.specs.Harts.{counted, credit_of, hart_at}
-use Rattle.process.specs.Losing.{lost_unless}
-use Rattle.process.specs.Sequences.{holds}
-use Rattle.process.specs.Stored.{IsWritten}
-use Rattle.process.specs.Tied.{IsPlace, IsUncounted}
-use Rattle.process.specs.declared.parts.Parts.{Parts}
+use Rattle.process.specs.ContextSwitch.{HasHart, IsChanged, IsReadied, IsWaiting, begun_without}
 use Rattle.process.proofs.Entries.{uncounted_as}
 use Rattle.process.proofs.HartEvents.{killed_own, run_own}
 use Rattle.process.proofs.ConcurrencyIds.{held_here, id_with_other, id_with_same, ready_apart}
@@ -57,7 +36,7 @@ use Rattle.process.proofs.Interruptions.{begun_beside}
 use Rattle.process.proofs.SavedFiles.{saved_ran}
 use Rattle.process.proofs.Memory.{pages_written, readable_written}
 use Rattle.process.proofs.StuckProcess.{not_stuck, ready_live}
-use Rattle.process.proofs.Places.{bytes_at, goes_on, tables_at, writable_at}
+use Rattle.process.proofs.Places.{bytes_at, goes_on, still_there, tables_at, writable_at}
 
 -- THREADS
 
@@ -192,6 +171,12 @@ module _ (v : Seen) (m : Parts) (h : Hart) (t : Tid) (place : IsPlace v m h.0) (
   readied k a n x y alive m1 has its kept made =
       let is = made (waiting a n x has its kept) in
       record { lives = is.lives; file = is.file; pages = is.pages; harts = is.harts }
+
+  pub readied_there : (k : Kernel) (a : Option Area) (n : ℕ) (x y : Saved) (alive : Bool) (m1 : Parts) → a ≡ area_of t.0 (areas_by_number m.kernel.areas.items)
+      → n ≡ lowest_cid (harts_that (λ id. list_any (holds id) m.harts.items) 8) → Some x ≡ saved_of t.0 m.kernel.threads.saved
+      → (IsWaiting here t.0 h.0 m.pages a x n → IsReadied here t.0 alive y (record m { kernel = k }) m1) → HasHart m1.harts.items h.0
+  readied_there k a n x y alive m1 has its kept made =
+      still_there v m h.0 (done_run here t.0).entered m1.harts.items place (readied k a n x y alive m1 has its kept made).harts
 
   -- it is in the ready list, and runs once it was taken to
   pub listed : is_listed t.0 m.kernel.ready ≡ true

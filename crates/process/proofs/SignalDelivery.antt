@@ -3,28 +3,18 @@ use Rattle.std.proofs.Common.{◌≡◌, ◌≢◌, ℕ, zero, suc, ◌-◌, ◌
 use Rattle.std.specs.List.{list_any}
 use Rattle.std.specs.Option.{option_map, option_map_or}
 use Rattle.std.proofs.lemmas.Bool.{cases_eq, le-ltb, ne_eqb}
-use Rattle.mach_types.specs.declared.sequences.Area.{Area}
+use Rattle.process.proofs.Common.{Area, Done, Here, IsWritten, Outcome, Parts, Saved, Write, area_here, byte_in, can_write_in, file_among, interruption_here, is_writable, lost_unless}
 use Rattle.mach_types.specs.declared.sequences.BadWhy.{BadWhy}
-use Rattle.mach_types.specs.declared.sequences.Outcome.{Outcome}
 use Rattle.mach_types.specs.declared.sequences.Outcome.TheVariants as comes_to
 use Rattle.mach_types.specs.declared.signal_words.Action.{Action}
 use Rattle.mach_types.specs.declared.signal_words.ThreadSignals.{ThreadSignals}
 use Rattle.mach_types.specs.declared.signals.TheConstants.{SIGSEGV}
-use Rattle.mach_types.specs.declared.threads.Saved.{Saved}
-use Rattle.mach_types.specs.declared.user_memory.Write.{Write}
 use Rattle.mach_types.specs.Kernel.Areas.{area_of, interruption, pc_after, writes_of}
 use Rattle.mach_types.specs.Kernel.SignalFrames.{can_write_frame, entered, entered_action, frame_writes, has_flag}
 use Rattle.mach_types.specs.Kernel.Signals.{Signalling, acted, action_of, default_action, dropped, is_handler, is_held, is_ignored, is_ignored_by_default, is_of, mask_of, refuses_action, set_action, take_if, without_pending, without_signal}
-use Rattle.page_map.specs.Map.{byte_in, can_write_in}
 use Rattle.sys_calls.specs.Registered.{areas_by_number}
 use Rattle.block_model.specs.Events.Signal.{done_delivery, dropped_if_ignored, file_interrupted, handled_unless_killed, kills, kills_unhandled, signals_handled, signals_taken}
-use Rattle.block_model.specs.Here.{Done, Here, is_writable}
-use Rattle.block_model.specs.History.{file_among}
-use Rattle.block_model.specs.Sequences.{area_here, interruption_here}
 use Rattle.process.specs.Delivering.{IsDelivered, IsEntered, IsInterrupted, done_here, killer_of}
-use Rattle.process.specs.Losing.{lost_unless}
-use Rattle.process.specs.Stored.{IsWritten}
-use Rattle.process.specs.declared.parts.Parts.{Parts}
 use Rattle.process.proofs.Interruptions.{file_is, is_fatal, lost_nothing, lost_twice, none_written, written_both}
 
 -- SIGNALS

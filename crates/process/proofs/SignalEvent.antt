@@ -1,44 +1,19 @@
 -- The event of a signal: who receives it, and the parts after it.
-use Rattle.std.proofs.Common.{◌≡◌, ◌≢◌, ℕ, List, [], ◌∷◌, append-nil, refl, sym, ap, ◌∙◌, subst, Bool, cond, eqb, not, is_some, length, Option, Some, None, slice_get, ◌⊎◌, inl, inr}
-use Rattle.std.specs.Option.{option_and_then, option_map}
+use Rattle.std.proofs.Common.{◌≡◌, ◌≢◌, ℕ, List, [], ◌∷◌, append-nil, refl, sym, ap, ◌∙◌, subst, Bool, cond, eqb, not, is_some, length, Option, Some, None, slice_get, ◌⊎◌, inl, inr, option_and_then, option_map}
 use Rattle.std.proofs.lemmas.Bool.{cases_eq, ne_eqb}
 use Rattle.std.proofs.lemmas.Option.{same_Some}
-use Rattle.mach_types.specs.Kernel.Areas.{area_of}
+use Rattle.process.proofs.Common.{AreSaved, Done, Hart, HartState, Here, IsPlace, IsUncounted, IsWritten, Kernel, Map, Outcome, Parts, Plain, Running, Saved, Seen, Setting, Store, Why, Write, area_of, counted, credit_of, done_of, file_among, file_on, hart_at, hart_in, here_in_plain, here_of, interruption_here, lost_unless, plain_seen, refusal_of, runs, state_of, thread}
 use Rattle.mach_types.specs.declared.events.Choice.TheVariants as asked
-use Rattle.mach_types.specs.declared.events.Hart.{Hart}
-use Rattle.mach_types.specs.declared.events.Why.{Why}
 use Rattle.mach_types.specs.declared.events.Why.TheVariants.{Idle, InBarrier, NoSignal, Waiting}
-use Rattle.mach_types.specs.declared.sequences.Outcome.{Outcome}
-use Rattle.mach_types.specs.declared.threads.Saved.{Saved}
-use Rattle.mach_types.specs.declared.threads.ThreadState.TheVariants.{Running}
-use Rattle.mach_types.specs.declared.user_memory.Store.{Store}
-use Rattle.mach_types.specs.declared.user_memory.Write.{Write}
 use Rattle.mach_types.specs.Kernel.Signals.{next_for}
-use Rattle.mach_types.specs.Kernel.Threads.{state_of}
-use Rattle.hart_state.specs.declared.hart.HartState.{HartState}
 use Rattle.kernel_threads.specs.Table.{IsTable, Table, saved_of}
 use Rattle.kernel_threads.proofs.Laws.{running_saves_nothing}
-use Rattle.page_map.specs.Map.{Map}
-use Rattle.sys_calls.specs.Made.{AreSaved}
 use Rattle.sys_calls.specs.Tables.{HoldsTables}
-use Rattle.sys_calls.specs.declared.kernel.Kernel.{Kernel}
 use Rattle.sys_calls.proofs.Laws.{holds_signals}
-use Rattle.block_model.specs.Events.{done_of, refusal_of}
 use Rattle.block_model.specs.Events.Preempt.{unless_in_barrier, unless_waiting}
 use Rattle.block_model.specs.Events.Signal.{done_next, done_signal_by, handled_unless_killed, kills, refusal_delivery, refusal_signal_by}
-use Rattle.block_model.specs.Here.{Done, Here, runs}
-use Rattle.block_model.specs.History.{file_among}
-use Rattle.block_model.specs.Plain.{Plain, here_in_plain, here_of, plain_seen}
-use Rattle.block_model.specs.Sequences.{interruption_here}
-use Rattle.block_model.specs.Setting.{Seen, Setting}
-use Rattle.block_model.specs.Sights.{thread}
-use Rattle.process.specs.Beginning.{IsChanged}
+use Rattle.process.specs.ContextSwitch.{IsChanged}
 use Rattle.process.specs.Delivering.{IsDelivered, IsInterrupted, done_here, ended_unless, gone_on_with, next_on}
-use Rattle.process.specs.Harts.{counted, credit_of, file_on, hart_at, hart_in}
-use Rattle.process.specs.Losing.{lost_unless}
-use Rattle.process.specs.Stored.{IsWritten}
-use Rattle.process.specs.Tied.{IsPlace, IsUncounted}
-use Rattle.process.specs.declared.parts.Parts.{Parts}
 use Rattle.process.proofs.Entries.{uncounted_as}
 use Rattle.process.proofs.HartEvents.{zero_more}
 use Rattle.process.proofs.HartStates.{own_after}

@@ -1,38 +1,23 @@
 -- Signals at a place: they are kept of the thread on a hart, a fault's signal is one of 31, and which faults have handlers.
-use Rattle.std.proofs.Common.{◌≡◌, ℕ, ◌≤◌, ◌<◌, List, [], ◌∷◌, map, find, refl, sym, ap, ◌∙◌, arith, Bool, true, false, not, cond, eqb, ◌&&◌, ◌||◌, Option, Some, None, is_some, get_or, subst, ◌%◌}
+use Rattle.std.proofs.Common.{◌≡◌, ℕ, ◌≤◌, ◌<◌, List, [], ◌∷◌, map, find, refl, sym, ap, ◌∙◌, arith, Bool, true, false, not, cond, eqb, ◌&&◌, ◌||◌, Option, Some, None, is_some, get_or, subst, ◌%◌, option_map}
 use Rattle.std.specs.List.{list_any}
-use Rattle.std.specs.Option.{option_map}
 use Rattle.mach_types.specs.declared.events.Entry.{Entry}
-use Rattle.mach_types.specs.declared.events.Hart.{Hart}
+use Rattle.process.proofs.Common.{Effect, Hart, HartState, ImagePage, IsPlace, IsPlanned, IsTied, Next, Parts, Running, Saved, Seen, entry_from, here_of, is_writable, memory, plain_seen, runs, thread}
 use Rattle.mach_types.specs.declared.events.Kind.{Kind}
 use Rattle.mach_types.specs.declared.signal_words.Action.{Action}
 use Rattle.mach_types.specs.declared.signal_words.ThreadSignals.{ThreadSignals}
 use Rattle.mach_types.specs.declared.signals.TheConstants.{SIGBUS, SIGSEGV}
-use Rattle.mach_types.specs.declared.threads.Saved.{Saved}
-use Rattle.mach_types.specs.declared.threads.ThreadState.TheVariants.{Running}
 use Rattle.mach_types.specs.Kernel.Signals.{Signalling, action_of, is_handler, is_held, is_ignored, is_ignored_by_default, is_of, posted, with_pending}
 use Rattle.mach_types.specs.Kernel.Threads.{Thread, Threads, is_live, is_thread}
-use Rattle.elf_load.specs.declared.image.ImagePage.{ImagePage}
-use Rattle.hart_state.specs.declared.hart.HartState.{HartState}
 use Rattle.rv_inst.specs.Class.{atomic_write, conditional_write, plain_read, plain_write, reserving_read}
 use Rattle.rv_inst.specs.Execution.{access_fault, fault_in, is_allowed, unless_allowed}
 use Rattle.rv_inst.specs.declared.class.Access.{Access}
-use Rattle.rv_inst.specs.declared.effects.Effect.{Effect}
 use Rattle.rv_inst.specs.declared.effects.Effect.TheVariants as effect
-use Rattle.block_model.specs.Here.{is_writable, memory, runs}
 use Rattle.block_model.specs.Instruction.{fault_by, fetch_fault, fetched, next_effect, next_fault}
-use Rattle.block_model.specs.Plain.{here_of, plain_seen}
 use Rattle.block_model.specs.Run.{IsBlockRun}
-use Rattle.block_model.specs.Setting.{Seen}
-use Rattle.block_model.specs.Sights.{thread}
 use Rattle.block_model.specs.Tables.{AreSignalsOfLive}
 use Rattle.block_model.proofs.Laws.{live_signals, place_good, running_is}
-use Rattle.process.specs.Deeds.{entry_from}
 use Rattle.process.specs.Delivering.{HasSignals}
-use Rattle.process.specs.Planned.{IsPlanned}
-use Rattle.process.specs.Tied.{IsPlace, IsTied}
-use Rattle.process.specs.declared.next.Next.{Next}
-use Rattle.process.specs.declared.parts.Parts.{Parts}
 use Rattle.process.proofs.HartStates.{hart_there}
 use Rattle.process.proofs.Places.{hart_is, thread_is}
 use Rattle.process.proofs.StuckProcess.{live_with}

@@ -1,18 +1,13 @@
 -- A call of the thread on a hart.
 use Rattle.std.proofs.Common.{◌≡◌, ◌≢◌, ℕ, ◌+◌, ◌-◌, ◌<◌, ◌^◌, append-nil, length, refl, sym, ap, ◌∙◌, arith, Bool, true, false, cond, ◌||◌, Option, Some, None, get_or}
 use Rattle.std.specs.Option.{option_map, option_or}
-use Rattle.mach_types.specs.Kernel.Barriers.{harts_that}
-use Rattle.mach_types.specs.Kernel.Threads.{Threads, is_stuck, running_on}
+use Rattle.process.proofs.Common.{End, Hart, HartState, IsPlace, Next, Parts, Plain, Saved, Seen, Setting, Threads, asked_by, by_call, credit_of, done_of, file_among, file_on, hart_at, hart_in, harts_that, here_in_plain, here_of, id_on, is_busy, is_stuck, plain_seen, running_on}
 use Rattle.mach_types.specs.Registers.{no_registers}
 use Rattle.mach_types.specs.declared.events.Choice.TheVariants as asked
 use Rattle.mach_types.specs.declared.events.Entry.{Entry}
-use Rattle.mach_types.specs.declared.events.Hart.{Hart}
 use Rattle.mach_types.specs.declared.events.Kind.TheVariants as kind
-use Rattle.mach_types.specs.declared.limits.End.{End}
 use Rattle.mach_types.specs.declared.limits.End.TheVariants as over
-use Rattle.mach_types.specs.declared.threads.Saved.{Saved}
 use Rattle.rv_inst.specs.declared.effects.Effect.TheVariants as effect
-use Rattle.hart_state.specs.declared.hart.HartState.{HartState}
 use Rattle.sys_calls.specs.Made.{IsAt, barrier_of, gives_up, process_end}
 use Rattle.sys_calls.specs.declared.calling.CallEnd.{CallEnd}
 use Rattle.sys_calls.specs.declared.calling.CallEnd.TheVariants as ends
@@ -20,24 +15,14 @@ use Rattle.block_model.specs.Calls.{called}
 use Rattle.block_model.specs.Calls.Answers.{CallDone}
 use Rattle.block_model.specs.Calls.Barriers.{running_harts}
 use Rattle.block_model.specs.Deciding.{final, number_of}
-use Rattle.block_model.specs.Events.{done_of}
-use Rattle.block_model.specs.Events.Exec.{by_call}
 use Rattle.block_model.specs.Here.{Barrier, runs}
-use Rattle.block_model.specs.History.{file_among}
 use Rattle.block_model.specs.Ids.{id_of, without_id}
-use Rattle.block_model.specs.Plain.{Plain, here_in_plain, here_of, plain_seen}
 use Rattle.block_model.specs.Requests.{is_about, restarts_at, with_hart}
-use Rattle.block_model.specs.Setting.{Seen, Setting}
 use Rattle.block_model.specs.Tables.{AreOfLive, AreSignalsOfLive, IsTables}
 use Rattle.sys_calls.specs.Registered.{areas_by_number}
 use Rattle.block_model.proofs.Laws.{given_few, live_areas, live_signals}
-use Rattle.process.specs.Barriers.{asked_by, is_busy}
-use Rattle.process.specs.Deeds.{entry_from, hart_after_call, waits_after}
-use Rattle.process.specs.Harts.{credit_of, file_on, hart_at, hart_in, id_on}
+use Rattle.process.specs.EventOutcomes.{entry_from, hart_after_call, waits_after}
 use Rattle.process.specs.Planned.{IsInside, IsPlanned}
-use Rattle.process.specs.Tied.{IsPlace}
-use Rattle.process.specs.declared.next.Next.{Next}
-use Rattle.process.specs.declared.parts.Parts.{Parts}
 use Rattle.process.proofs.Membarriers.{running_here}
 use Rattle.process.proofs.Entries.{entry_here}
 use Rattle.process.proofs.ExecEvent.{done_call}

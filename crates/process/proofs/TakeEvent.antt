@@ -1,33 +1,13 @@
 -- The event take: what the interruption of the hart's thread comes to, if it is to restart, and the parts after it.
-use Rattle.std.proofs.Common.{◌≡◌, ◌≢◌, ℕ, ◌+◌, List, [], append-nil, refl, sym, ap, ◌∙◌, subst, Bool, true, false, cond, eqb, eq-eqb, Option, Some, None, slice_get, set}
+use Rattle.std.proofs.Common.{◌≡◌, ◌≢◌, ℕ, ◌+◌, List, [], append-nil, refl, sym, ap, ◌∙◌, subst, Bool, true, false, cond, eqb, eq-eqb, Option, Some, None, slice_get, set, ne_eqb}
 use Rattle.std.specs.Option.{option_and_then, option_map, option_or}
-use Rattle.std.proofs.lemmas.Bool.{ne_eqb}
 use Rattle.mach_types.specs.Kernel.Areas.{interruption, pc_after, writes_of}
 use Rattle.mach_types.specs.declared.events.Choice.TheVariants as asked
-use Rattle.mach_types.specs.declared.events.Hart.{Hart}
+use Rattle.process.proofs.Common.{AreSaved, Area, Done, End, Hart, HartState, Here, IsPlace, IsUncounted, IsWritten, Map, Outcome, Parts, Plain, Saved, Seen, Setting, Write, area_here, byte_in, can_write_in, counted, credit_of, done_of, file_among, file_on, files_interrupted, hart_at, hart_in, here_in_plain, here_of, interruption_here, is_writable, lost_unless, memory, plain_seen, refusal_of, runs}
 use Rattle.mach_types.specs.declared.events.Why.TheVariants.{NoRequest}
-use Rattle.mach_types.specs.declared.limits.End.{End}
-use Rattle.mach_types.specs.declared.sequences.Area.{Area}
-use Rattle.mach_types.specs.declared.sequences.Outcome.{Outcome}
-use Rattle.mach_types.specs.declared.threads.Saved.{Saved}
-use Rattle.mach_types.specs.declared.user_memory.Write.{Write}
-use Rattle.hart_state.specs.declared.hart.HartState.{HartState}
-use Rattle.page_map.specs.Map.{Map, byte_in, can_write_in}
-use Rattle.sys_calls.specs.Made.{AreSaved}
-use Rattle.block_model.specs.Events.{done_of, refusal_of}
 use Rattle.block_model.specs.Events.Preempt.{unless_waiting}
 use Rattle.block_model.specs.Events.Take.{done_take, done_take_by, killed_by, only_took, took_and_interrupted}
-use Rattle.block_model.specs.Here.{Done, Here, is_writable, memory, runs}
-use Rattle.block_model.specs.History.{file_among}
-use Rattle.block_model.specs.Plain.{Plain, here_in_plain, here_of, plain_seen}
-use Rattle.block_model.specs.Sequences.{area_here, files_interrupted, interruption_here}
-use Rattle.block_model.specs.Setting.{Seen, Setting}
 use Rattle.process.specs.Barriers.{IsRestarted, ended_by, noticed, restart_here, taken_or_noticed, taken_with}
-use Rattle.process.specs.Harts.{counted, credit_of, file_on, hart_at, hart_in}
-use Rattle.process.specs.Losing.{lost_unless}
-use Rattle.process.specs.Stored.{IsWritten}
-use Rattle.process.specs.Tied.{IsPlace, IsUncounted}
-use Rattle.process.specs.declared.parts.Parts.{Parts}
 use Rattle.process.proofs.Entries.{uncounted_as}
 use Rattle.process.proofs.Events.{AreBeside}
 use Rattle.process.proofs.HartEvents.{zero_more}

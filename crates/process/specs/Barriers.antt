@@ -11,7 +11,7 @@ use Rattle.block_model.specs.Events.Take.{done_take, killed_by}
 use Rattle.block_model.specs.Here.{Barrier, Here, runs}
 use Rattle.block_model.specs.Requests.{is_about, restarts_at, with_hart, without_hart}
 use Rattle.block_model.specs.Sequences.{interruption_here}
-use Rattle.process.specs.Losing.{lost_unless}
+use Rattle.process.specs.Reservations.{lost_unless}
 use Rattle.process.specs.Stored.{IsWritten}
 use Rattle.process.specs.declared.parts.Parts.{Parts}
 

@@ -18,7 +18,7 @@ use Rattle.block_model.specs.Events.Signal.{done_delivery, kills, signals_handle
 use Rattle.block_model.specs.Here.{Done, Here, is_writable, memory, runs}
 use Rattle.block_model.specs.History.{file_among}
 use Rattle.block_model.specs.Sequences.{area_here, interruption_here}
-use Rattle.process.specs.Losing.{lost_unless}
+use Rattle.process.specs.Reservations.{lost_unless}
 use Rattle.process.specs.Stored.{IsWritten}
 use Rattle.process.specs.declared.parts.Parts.{Parts}
 

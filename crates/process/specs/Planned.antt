@@ -8,7 +8,7 @@ use Rattle.block_model.specs.Events.{refusal_of, done_of}
 use Rattle.block_model.specs.Events.Exec.{next_effect, next_fault}
 use Rattle.block_model.specs.Plain.{here_of}
 use Rattle.block_model.specs.Sequences.{is_inside_here}
-use Rattle.process.specs.Tied.{IsPlace, IsUncounted}
+use Rattle.process.specs.Refinement.{IsPlace, IsUncounted}
 use Rattle.process.specs.declared.next.Next.{Next}
 use Rattle.process.specs.declared.parts.Parts.{Parts}
 

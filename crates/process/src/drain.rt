@@ -5,12 +5,9 @@ ghost use Rattle.std.specs.Option.{option_map};
 ghost use Rattle.mach_types.specs.Bytes.{IsAccessSize, all_stored, each_byte};
 ghost use Rattle.hart_state.specs.State.{stores};
 ghost use Rattle.page_map.specs.Map.{can_write_in};
-ghost use Rattle.block_model.specs.Setting.{Seen};
-ghost use Rattle.block_model.specs.Events.{refusal_of};
-ghost use Rattle.block_model.specs.Plain.{here_of};
-ghost use Rattle.process.specs.Losing.{lost_unless};
+ghost use Rattle.process.specs.Reservations.{lost_unless};
 ghost use Rattle.process.specs.Stored.{IsWritten};
-ghost use Rattle.process.specs.Tied.{HasPlace, IsEvent, IsPlace, MayMake};
+ghost use Rattle.process.specs.Refinement.{HasPlace, IsEvent, IsRefusal, MayMake};
 
 use crate::parts::Parts;
 use crate::reservations::lose_others;
@@ -20,8 +17,7 @@ impl Parts {
     /// Why no store of a hart can enter memory.
     pub(crate) fn refusal_drain(&self, hart: Hart) -> Option<Why>
         requires { HasPlace self.now hart.0 }
-        ensures { (v : Seen) → IsPlace v self.now hart.0
-            → result ≡ refusal_of Choice.Drain (here_of v hart.0) }
+        ensures { IsRefusal self.now hart.0 Choice.Drain result }
     {
         if self.harts[hart.0 as usize].buffer.len() == 0 {
             Some(Why::NoStore)

@@ -6,9 +6,9 @@ ghost use Rattle.block_model.specs.Setting.{Seen};
 ghost use Rattle.block_model.specs.Events.{done_of, refusal_of};
 ghost use Rattle.block_model.specs.Plain.{here_of};
 ghost use Rattle.sys_calls.specs.Made.{process_end};
-ghost use Rattle.process.specs.Deeds.{hart_after_call, over_after};
+ghost use Rattle.process.specs.EventOutcomes.{hart_after_call, over_after};
 ghost use Rattle.process.specs.Planned.{IsPlanned, IsInside, HasPlan, IsExecuted};
-ghost use Rattle.process.specs.Tied.{IsPlace, HasCode, IsUncounted, answer_to};
+ghost use Rattle.process.specs.Refinement.{IsPlace, HasCode, IsUncounted, answer_to};
 
 use crate::code::Code;
 use crate::handlers::has_handler;

@@ -8,8 +8,8 @@ ghost use Rattle.block_model.specs.Events.Exec.{is_held, others_gate, refusal_ex
 ghost use Rattle.block_model.specs.Here.{runs};
 ghost use Rattle.block_model.specs.Plain.{Plain, here_in_plain};
 ghost use Rattle.block_model.specs.Setting.{Setting};
-ghost use Rattle.process.specs.Holding.{IsNextAt, lies_in};
-ghost use Rattle.process.specs.Tied.{IsTied};
+ghost use Rattle.process.specs.ExecGates.{IsNextAt, lies_in};
+ghost use Rattle.process.specs.Refinement.{IsTied};
 
 use crate::next::{Next, is_call};
 use crate::parts::Parts;

@@ -6,7 +6,7 @@ ghost use Rattle.mach_types.specs.Kernel.Areas.{interruption, pc_after};
 ghost use Rattle.mach_types.specs.Kernel.Areas as areas;
 ghost use Rattle.mach_types.specs.declared.sequences.TheConstants.{RSEQ_CS};
 ghost use Rattle.page_map.specs.Map.{byte_in, can_write_in};
-ghost use Rattle.process.specs.Losing.{lost_unless};
+ghost use Rattle.process.specs.Reservations.{lost_unless};
 ghost use Rattle.process.specs.Stored.{IsWritten};
 
 use crate::parts::Parts;

@@ -5,12 +5,11 @@ ghost use Rattle.std.specs.Prelude.{◌≡◌, ◌<◌, ◌==◌, ℕ, slice_get
 ghost use Rattle.std.specs.Option.{option_map};
 ghost use Rattle.mach_types.specs.Kernel.Barriers.{harts_that};
 ghost use Rattle.block_model.specs.Setting.{Seen};
-ghost use Rattle.block_model.specs.Events.{refusal_of};
 ghost use Rattle.block_model.specs.Plain.{here_of};
 ghost use Rattle.sys_calls.specs.Made.{barrier_of};
 ghost use Rattle.process.specs.Barriers.{IsRestarted, asked_by, ended_by, is_busy, taken_or_noticed};
-ghost use Rattle.process.specs.Beginning.{HasHart};
-ghost use Rattle.process.specs.Tied.{HasPlace, IsEvent, IsPlace, MayMake};
+ghost use Rattle.process.specs.ContextSwitch.{HasHart};
+ghost use Rattle.process.specs.Refinement.{HasPlace, IsEvent, IsPlace, IsRefusal, MayMake};
 
 use crate::parts::Parts;
 use crate::requests::{ask_all, notice_all, running_harts, take_requests};
@@ -44,8 +43,7 @@ impl Parts {
     /// Why a hart can't take requests.
     pub(crate) fn refusal_take(&self, hart: Hart) -> Option<Why>
         requires { HasPlace self.now hart.0 }
-        ensures { (v : Seen) → IsPlace v self.now hart.0
-            → result ≡ refusal_of Choice.Take (here_of v hart.0) }
+        ensures { IsRefusal self.now hart.0 Choice.Take result }
     {
         let state = &self.harts[hart.0 as usize];
         if state.requests == 0 {
@@ -107,8 +105,7 @@ impl Parts {
     /// Why no barrier of the thread on a hart can return.
     pub(crate) fn refusal_done(&self, hart: Hart) -> Option<Why>
         requires { HasPlace self.now hart.0 }
-        ensures { (v : Seen) → IsPlace v self.now hart.0
-            → result ≡ refusal_of Choice.Done (here_of v hart.0) }
+        ensures { IsRefusal self.now hart.0 Choice.Done result }
     {
         let state = &self.harts[hart.0 as usize];
         match (state.running, state.waits) {

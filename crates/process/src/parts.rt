@@ -6,10 +6,10 @@ ghost use Rattle.block_model.specs.Setting.{Seen};
 ghost use Rattle.block_model.specs.Deciding.{entry_in};
 ghost use Rattle.block_model.specs.Events.{done_of, refusal_of};
 ghost use Rattle.block_model.specs.Plain.{here_of};
-ghost use Rattle.process.specs.Beginning.{HasEvent, IsChanged};
-ghost use Rattle.process.specs.Deeds.{entry_from};
+ghost use Rattle.process.specs.ContextSwitch.{HasEvent, IsChanged};
+ghost use Rattle.process.specs.EventOutcomes.{entry_from};
 ghost use Rattle.process.specs.Harts.{counted};
-ghost use Rattle.process.specs.Tied.{HasCode, IsAfter, IsEvent, IsPlace, IsUncounted, MayMake, answer_to};
+ghost use Rattle.process.specs.Refinement.{HasCode, IsAfter, IsEvent, IsPlace, IsUncounted, MayMake, answer_to};
 
 use crate::code::Code;
 use hart_state::HartState;

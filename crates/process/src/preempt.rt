@@ -1,10 +1,7 @@
 //! `preempt`: the thread on a hart leaves it.
 
 ghost use Rattle.std.specs.Prelude.{◌≡◌, None};
-ghost use Rattle.block_model.specs.Setting.{Seen};
-ghost use Rattle.block_model.specs.Events.{refusal_of};
-ghost use Rattle.block_model.specs.Plain.{here_of};
-ghost use Rattle.process.specs.Tied.{HasPlace, IsEvent, IsPlace, MayMake};
+ghost use Rattle.process.specs.Refinement.{HasPlace, IsEvent, IsRefusal, MayMake};
 
 use crate::parts::{Parts, entry_of};
 use mach_types::{Choice, Hart, Kind, Why};
@@ -13,8 +10,7 @@ impl Parts {
     /// Why the thread on a hart can't leave it.
     pub(crate) fn refusal_preempt(&self, hart: Hart) -> Option<Why>
         requires { HasPlace self.now hart.0 }
-        ensures { (v : Seen) → IsPlace v self.now hart.0
-            → result ≡ refusal_of Choice.Preempt (here_of v hart.0) }
+        ensures { IsRefusal self.now hart.0 Choice.Preempt result }
     {
         let state = &self.harts[hart.0 as usize];
         if state.is_idle() {

@@ -2,7 +2,7 @@
 
 ghost use Rattle.std.specs.Prelude.{◌≡◌, ℕ, nat_eq, slice_get};
 ghost use Rattle.std.specs.Option.{option_map};
-ghost use Rattle.process.specs.Losing.{lost_unless, lost_by_write, lost_by_all};
+ghost use Rattle.process.specs.Reservations.{lost_unless, lost_by_write, lost_by_all};
 
 use hart_state::HartState;
 use mach_types::{Hart, Write};

@@ -6,7 +6,7 @@ ghost use Rattle.block_model.specs.Plain.{Plain, here_in_plain};
 ghost use Rattle.block_model.specs.Sequences.{is_inside_here};
 ghost use Rattle.block_model.specs.Setting.{Setting};
 ghost use Rattle.process.specs.Sequences.{area_on, looked_at_on, named_on};
-ghost use Rattle.process.specs.Tied.{IsTied};
+ghost use Rattle.process.specs.Refinement.{IsTied};
 
 use crate::hart_view::HartView;
 use crate::parts::Parts;

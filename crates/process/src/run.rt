@@ -1,6 +1,6 @@
 //! `run`: a ready thread is interrupted (rseq(2)) and begins to run on an idle hart, or the process is killed.
 
-ghost use Rattle.std.specs.Prelude.{◌≡◌, ◌≢◌, ◌<◌, ◌+◌, ◌^◌, ◌==◌, ℕ, Some, slice_get, true, None};
+ghost use Rattle.std.specs.Prelude.{◌≡◌, ◌≢◌, ◌==◌, ℕ, Some, slice_get, true, None};
 ghost use Rattle.std.specs.List.{list_any};
 ghost use Rattle.std.specs.Option.{option_map};
 ghost use Rattle.mach_types.specs.Kernel.Areas.{pc_after, words_on};
@@ -9,7 +9,6 @@ ghost use Rattle.mach_types.specs.Kernel.Barriers.{harts_that};
 ghost use Rattle.mach_types.specs.Kernel.Scheduling.{without_ready};
 ghost use Rattle.scheduler.specs.Holding.{is_ready};
 ghost use Rattle.mach_types.specs.Kernel.Threads.{runs, with_state};
-ghost use Rattle.mach_types.specs.declared.sequences.TheConstants.{MM_CID};
 ghost use Rattle.mach_types.specs.declared.signals.TheConstants.{SIGSEGV};
 ghost use Rattle.mach_types.specs.declared.threads.ThreadState.{ThreadState};
 ghost use Rattle.hart_state.specs.State.{entered};
@@ -17,22 +16,18 @@ ghost use Rattle.kernel_threads.specs.Table.{IsTable, with_saved};
 ghost use Rattle.page_map.specs.Map.{can_write_in};
 ghost use Rattle.block_model.specs.Here.{Here, is_writable};
 ghost use Rattle.block_model.specs.Sequences.{can_write_words, words_to};
-ghost use Rattle.process.specs.Beginning.{HasHart, IsChanged, IsReadied, IsWaiting, begun_without};
-ghost use Rattle.process.specs.Losing.{lost_unless};
+ghost use Rattle.process.specs.ContextSwitch.{HasHart, IsChanged, IsReadied, IsWaiting, begun_without};
+ghost use Rattle.process.specs.Reservations.{lost_unless};
 ghost use Rattle.process.specs.Sequences.{holds};
 ghost use Rattle.process.specs.Stored.{IsWritten};
-ghost use Rattle.process.specs.Tied.{IsEvent, MayMake, HasPlace, IsPlace};
-ghost use Rattle.block_model.specs.Setting.{Seen};
-ghost use Rattle.block_model.specs.Events.{refusal_of};
-ghost use Rattle.block_model.specs.Plain.{here_of};
+ghost use Rattle.process.specs.Refinement.{HasPlace, IsEvent, IsRefusal, MayMake};
 
 use crate::interrupt::pc_after;
 use crate::parts::Parts;
 use hart_state::HartState;
-use mach_types::sequences::{CPU_ID, MM_CID, NODE_ID};
 use mach_types::signals::SIGSEGV;
-use mach_types::{Area, Choice, End, Hart, Outcome, Saved, Store, Tid, Why, Write};
-use rseq_area::{lowest_cid, set_cpu};
+use mach_types::{Area, Choice, End, Hart, Outcome, Saved, Tid, Why};
+use rseq_area::{lowest_cid, set_cpu, words_written};
 use sys_calls::area_of;
 
 /// Whether the thread on a hart holds this id.
@@ -67,36 +62,11 @@ fn held_ids(harts: &[HartState]) -> u8
     held
 }
 
-/// The write of a word of 4 bytes.
-fn word_stored(at: u64, value: u8) -> Write
-    ensures { result ≡ areas.word_stored at value }
-{
-    Write::Stored(Store {
-        at,
-        size: 4,
-        value: u64::from(value),
-    })
-}
-
-/// The writes of the four words of an area whose thread runs on a hart with an id.
-fn words_written(area: Area, hart: Hart, id: u8) -> [Write; 4]
-    requires { area.at + MM_CID < 2 ^ 64 }
-    ensures { result ≡ areas.words_written area (words_on hart.0 id) }
-{
-    [
-        word_stored(area.at, hart.0),
-        word_stored(area.at + CPU_ID, hart.0),
-        word_stored(area.at + NODE_ID, 0),
-        word_stored(area.at + MM_CID, id),
-    ]
-}
-
 impl Parts {
     /// Why a thread can't begin to run on a hart.
     pub(crate) fn refusal_run(&self, hart: Hart, tid: Tid) -> Option<Why>
         requires { HasPlace self.now hart.0 }
-        ensures { (v : Seen) → IsPlace v self.now hart.0
-            → result ≡ refusal_of (Choice.Run tid) (here_of v hart.0) }
+        ensures { IsRefusal self.now hart.0 (Choice.Run tid) result }
     {
         if !self.harts[hart.0 as usize].is_idle() {
             Some(Why::Busy)
@@ -135,10 +105,11 @@ impl Parts {
             return true;
         };
         let cpu = u32::from(hart.0);
-        if !set_cpu(&mut self.pages, &area, cpu, cpu, 0, u32::from(id)) {
+        let cid = u32::from(id);
+        if !set_cpu(&mut self.pages, &area, cpu, cpu, 0, cid) {
             return false;
         }
-        self.lose(hart, &words_written(area, hart, id));
+        self.lose(hart, &words_written(&area, cpu, cpu, 0, cid));
         true
     }
 

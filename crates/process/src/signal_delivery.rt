@@ -6,14 +6,13 @@ ghost use Rattle.mach_types.specs.Registers.{register};
 ghost use Rattle.mach_types.specs.Kernel.Signals.{action_of, is_handler, is_held, is_ignored, refuses_action};
 ghost use Rattle.mach_types.specs.declared.signals.TheConstants.{LAST_SIGNAL, SIGNAL_FRAME_SIZE};
 ghost use Rattle.page_map.specs.Map.{can_write_in};
-ghost use Rattle.block_model.specs.Events.{refusal_of};
 ghost use Rattle.block_model.specs.Events.Signal.{dropped_if_ignored};
 ghost use Rattle.block_model.specs.Here.{Here};
-ghost use Rattle.block_model.specs.Plain.{Plain, here_in_plain, here_of};
-ghost use Rattle.block_model.specs.Setting.{Seen, Setting};
-ghost use Rattle.process.specs.Beginning.{HasHart, IsChanged};
+ghost use Rattle.block_model.specs.Plain.{Plain, here_in_plain};
+ghost use Rattle.block_model.specs.Setting.{Setting};
+ghost use Rattle.process.specs.ContextSwitch.{HasHart, IsChanged};
 ghost use Rattle.process.specs.Delivering.{HasSignals, IsDelivered, IsEntered, IsInterrupted, ended_unless, gone_on_with, killer_of, next_on};
-ghost use Rattle.process.specs.Tied.{HasPlace, IsEvent, IsPlace, IsTied, MayMake};
+ghost use Rattle.process.specs.Refinement.{HasPlace, IsEvent, IsRefusal, IsTied, MayMake};
 
 use crate::handlers::is_handler;
 use crate::interrupt::pc_after;
@@ -76,8 +75,7 @@ impl Parts {
     /// Why no signal is delivered to the thread on a hart.
     pub(crate) fn refusal_signal(&self, hart: Hart) -> Option<Why>
         requires { HasPlace self.now hart.0 }
-        ensures { (v : Seen) → IsPlace v self.now hart.0
-            → result ≡ refusal_of Choice.Signal (here_of v hart.0) }
+        ensures { IsRefusal self.now hart.0 Choice.Signal result }
     {
         let state = &self.harts[hart.0 as usize];
         if state.is_idle() {

@@ -20,4 +20,4 @@ pub use lookups::{Lookups, looked_at};
 pub use mach_types::{Area, BadWhy, Named, Seq};
 pub use naming::named;
 pub use registration::{register, unregister};
-pub use words::set_cpu;
+pub use words::{set_cpu, words_written};

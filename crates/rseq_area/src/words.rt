@@ -2,10 +2,10 @@
 
 ghost use Rattle.std.specs.Prelude.{◌≡◌, ℕ, ◌+◌, ◌^◌, ◌<◌, true, [], ◌∷◌};
 ghost use Rattle.mach_types.specs.Bytes.{after_writes, each_byte};
-ghost use Rattle.mach_types.specs.Kernel.Areas.{Words, are_words_writable, word_stored, words_entered};
+ghost use Rattle.mach_types.specs.Kernel.Areas.{Words, are_words_writable, word_stored as stored_word, words_entered, words_written as written_words};
 
 use mach_types::sequences::{CPU_ID, MM_CID, NODE_ID};
-use mach_types::{Area, UserMem};
+use mach_types::{Area, Store, UserMem, Write};
 
 /// Writes `cpu_id_start`, `cpu_id`, `node_id` and `mm_cid` of an area, in this order.
 ///
@@ -50,9 +50,34 @@ fn can_write_words<M: UserMem>(mem: &M, area: &Area) -> bool
 /// Writes a word of 4 bytes, which can be written.
 fn put_word<M: UserMem>(mem: &mut M, at: u64, value: u32)
     requires { each_byte (M.can_write mem.old) at 4 ≡ true }
-    ensures bytes { (a : ℕ) → M.byte mem.new a ≡ after_writes (word_stored at value ∷ []) (M.byte mem.old) a }
+    ensures bytes { (a : ℕ) → M.byte mem.new a ≡ after_writes (stored_word at value ∷ []) (M.byte mem.old) a }
     ensures permissions { (a : ℕ) → M.can_write mem.new a ≡ M.can_write mem.old a }
     ensures alike { M.IsAlike mem.old mem.new }
 {
     let _written = mem.set(at, 4, u64::from(value));
+}
+
+/// The writes that [`set_cpu`] makes where the four words can be written, in this order.
+pub fn words_written(area: &Area, start: u32, id: u32, node: u32, cid: u32) -> [Write; 4]
+    requires { area.now.at + MM_CID < 2 ^ 64 }
+    ensures { let words : Words = record { cpu_id_start = start; cpu_id = id; node_id = node; mm_cid = cid } in
+        result ≡ written_words area.now words }
+{
+    [
+        word_stored(area.at, start),
+        word_stored(area.at + CPU_ID, id),
+        word_stored(area.at + NODE_ID, node),
+        word_stored(area.at + MM_CID, cid),
+    ]
+}
+
+/// The write of a word of 4 bytes.
+fn word_stored(at: u64, value: u32) -> Write
+    ensures { result ≡ stored_word at value }
+{
+    Write::Stored(Store {
+        at,
+        size: 4,
+        value: u64::from(value),
+    })
 }

@@ -1,13 +1,9 @@
 -- The three words of an action: where they can be written, or read, they lie below 2^64.
 use Rattle.std.proofs.Common.{◌≡◌, ℕ, ◌+◌, ◌<◌, ◌≤◌, ◌^◌, Bool, true, false, ◌&&◌, is_some, refl, sym, ap, ◌∙◌}
 use Rattle.mach_types.proofs.Laws.{each_byte-past, each_byte-same, each_byte-split}
-use Rattle.mach_types.specs.Bytes.{each_byte}
-use Rattle.page_map.specs.Map.{Map, byte_in, can_write_in}
-use Rattle.mach_types.specs.declared.threads.Saved.{Saved}
-use Rattle.block_model.specs.Here.{Here}
+use Rattle.sys_calls.proofs.Common.{Here, IsRead, Map, Saved, byte_in, can_write_in, each_byte}
 use Rattle.block_model.specs.Calls.Answers.{are_readable, are_writable}
 use Rattle.block_model.specs.Calls.Signals.{action_size}
-use Rattle.sys_calls.specs.Answered.{IsRead}
 use Rattle.sys_calls.specs.Signalled.{pass_action}
 use Rattle.sys_calls.proofs.GuestMemory.{readable_is, writable_is}
 use Rattle.sys_calls.proofs.Spans.{readable_end}

@@ -3,28 +3,16 @@ use Rattle.std.proofs.Common.{◌≡◌, ℕ, Bool, false, cond, [], Option, Som
 use Rattle.std.specs.Option.{option_map_or}
 use Rattle.mach_types.specs.Kernel.Barriers.{answer_of, command, refusal, registered_after, registered_by}
 use Rattle.mach_types.specs.Kernel.Barriers as barriers
-use Rattle.mach_types.specs.Kernel.Threads.{Threads, running_on, runs}
+use Rattle.sys_calls.proofs.Common.{CallEnd, EINVAL, Here, HoldsTables, IsCaller, IsEntered, Kernel, Map, Saved, Table, Threads, argument, file_among, int_argument, returned, running_on, runs, saved_of, without_id}
 use Rattle.mach_types.specs.declared.barriers.Answer.{Answer}
 use Rattle.mach_types.specs.declared.barriers.Answer.TheVariants.{Value, Begin}
 use Rattle.mach_types.specs.declared.barriers.BarrierCommand.{BarrierCommand}
 use Rattle.mach_types.specs.declared.barriers.BarrierCommand.TheVariants.{Query, Global, GlobalExpedited, RegisterGlobalExpedited, PrivateExpedited, RegisterPrivateExpedited, PrivateExpeditedRseq, RegisterPrivateExpeditedRseq, GetRegistrations}
 use Rattle.mach_types.specs.declared.barriers.Registered.{Registered}
-use Rattle.mach_types.specs.declared.errors.TheConstants.{EINVAL}
-use Rattle.mach_types.specs.declared.threads.Saved.{Saved}
-use Rattle.kernel_threads.specs.Table.{Table, saved_of}
-use Rattle.page_map.specs.Map.{Map}
 use Rattle.rv_inst.specs.Words.{signed_32, sum_64, word}
-use Rattle.block_model.specs.Here.{Here}
-use Rattle.block_model.specs.History.{file_among}
-use Rattle.block_model.specs.Ids.{without_id}
 use Rattle.block_model.specs.Kernel.{for_barriers}
 use Rattle.block_model.specs.Record as record_of
-use Rattle.block_model.specs.Calls.Answers.{argument, int_argument, returned}
 use Rattle.block_model.specs.Calls.Barriers.{answers, membarrier, running_harts}
-use Rattle.sys_calls.specs.declared.calling.CallEnd.{CallEnd}
-use Rattle.sys_calls.specs.declared.kernel.Kernel.{Kernel}
-use Rattle.sys_calls.specs.Answered.{IsCaller, IsEntered}
-use Rattle.sys_calls.specs.Tables.{HoldsTables}
 use Rattle.sys_calls.specs.Made.{AreSaved, HasPages, IsAnswer, IsMade, StandsSo, barrier_of, gives_up, process_end}
 use Rattle.sys_calls.proofs.KernelWrites.{entered_none, pages_kept}
 use Rattle.sys_calls.proofs.Laws.{holds_barriers}

@@ -2,36 +2,22 @@
 -- process; and calls by which a thread leaves its hart.
 use Rattle.std.proofs.Common.{◌≡◌, ℕ, Bool, true, false, cond, eqb, List, [], ◌∷◌, ◌++◌, length, Some, None, Result, Err, refl, sym, ap, subst, ◌∙◌, pos, Option}
 use Rattle.std.proofs.lemmas.Bool.{eqb-true, eqb-false, eq-eqb}
-use Rattle.mach_types.specs.declared.errors.Errno.{Errno}
+use Rattle.sys_calls.proofs.Common.{CallEnd, Errno, Here, HoldsTables, IsRemapped, IsTables, Kernel, Map, Ready, Saved, Write, file_among, on, register, with_ready, without_id}
 use Rattle.mach_types.specs.declared.limits.End.{End}
-use Rattle.mach_types.specs.declared.threads.Saved.{Saved}
-use Rattle.mach_types.specs.declared.user_memory.Write.{Write}
 use Rattle.mach_types.specs.Kernel.Threads.{Threads, running_on, runs, state_of, with_state}
 use Rattle.kernel_threads.specs.Table.{Table, forget, saved_of, with_saved}
 use Rattle.kernel_threads.proofs.Laws.{saved_of-forget_other, saved_of-forget_same, is_kept, saved_of_others}
-use Rattle.page_map.specs.Map.{Map}
-use Rattle.block_model.specs.Here.{Here}
-use Rattle.block_model.specs.History.{file_among}
-use Rattle.block_model.specs.Ids.{without_id}
 use Rattle.block_model.specs.Kernel.{printed, left}
 use Rattle.block_model.specs.Record as record_of
 use Rattle.block_model.specs.Calls.Answers.{CallDone, negative, refused, returned, said}
 use Rattle.block_model.specs.Calls.Console.{wrote}
-use Rattle.block_model.specs.Tables.{IsTables, on}
 use Rattle.block_model.proofs.Laws.{running_is, left_idle, state_now}
-use Rattle.sys_calls.specs.declared.calling.CallEnd.{CallEnd}
 use Rattle.sys_calls.specs.declared.calling.CallEnd.TheVariants as over
-use Rattle.sys_calls.specs.declared.kernel.Kernel.{Kernel}
 use Rattle.sys_calls.specs.Answered.{AreTables, IsAnswered, IsCaller, IsEntered, answer_of}
-use Rattle.sys_calls.specs.Tables.{HoldsTables}
 use Rattle.sys_calls.specs.Made.{AreSaved, HasPages, IsAnswer, IsMade, StandsSo, barrier_of, gives_up, process_end}
-use Rattle.sys_calls.specs.Remapped.{IsRemapped}
 use Rattle.sys_calls.proofs.KernelWrites.{entered_none, pages_entered, pages_kept}
 use Rattle.sys_calls.proofs.Laws.{holds_console, holds_past_pages, holds_left}
 use Rattle.sys_calls.proofs.CallerTables.{caller_runs, runs_there}
-use Rattle.mach_types.specs.Kernel.Scheduling.{with_ready}
-use Rattle.mach_types.specs.Registers.{register}
-use Rattle.mach_types.specs.declared.threads.ThreadState.TheVariants.{Ready}
 
 -- what is kept of threads hangs on what is saved alone
 pub saved_alike : (file : ℕ → Saved) (before after : Table) → after.saved ≡ before.saved → AreSaved file before → AreSaved file after

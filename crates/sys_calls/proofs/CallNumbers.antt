@@ -1,24 +1,27 @@
 -- The calls by their numbers, and which of them write nothing.
 use Rattle.std.proofs.Common.{◌≡◌, ℕ, Bool, true, false, cond, eqb, List, [], Option, Some, None, refl, sym, ap, ◌∙◌, ◌∷◌, Result, subst}
-use Rattle.mach_types.specs.declared.threads.Saved.{Saved}
-use Rattle.block_model.specs.Here.{Here, memory}
+use Rattle.sys_calls.proofs.Common.{CallDone, CallEnd, Errno, Errors, Here, IsAnswered, IsMade, Kernel, Map, Saved, Write, argument, int_argument, memory, refused, register, said, unless}
 use Rattle.block_model.specs.Calls.{call_of, called}
 use Rattle.block_model.specs.Calls.Affinity.{moved_off, sched_setaffinity, set_given, setaffinity_errors}
-use Rattle.block_model.specs.Calls.Answers.{CallDone, argument, int_argument, refused, said, Errors, unless}
 use Rattle.block_model.specs.Calls.Futexes.{futex, futex_wait, futex_wake, operation, futex_errors, wait_errors}
 use Rattle.block_model.specs.Calls.Signals.{resumed, rt_sigreturn}
 use Rattle.block_model.specs.Kernel.{waited}
 use Rattle.mach_types.specs.Kernel.SignalFrames.{frame_read}
-use Rattle.mach_types.specs.Registers.{register}
-use Rattle.mach_types.specs.declared.errors.Errno.{Errno}
-use Rattle.mach_types.specs.declared.user_memory.Write.{Write}
-use Rattle.page_map.specs.Map.{Map}
-use Rattle.sys_calls.specs.Answered.{IsAnswered}
-use Rattle.sys_calls.specs.declared.kernel.Kernel.{Kernel}
 
 -- the call that the number names
 pub numbered : (h : Here) (t n i : ℕ) (saved : Saved) → saved ≡ h.file t → n ≡ register saved.file 17 → n ≡ i → called h t ≡ call_of i h t
 numbered h t n i saved file is e = ap (λ (x : ℕ). call_of x h t) (sym (ap (λ (f : Saved). register f.file 17) file) ∙ sym is ∙ e)
+
+-- what it came to, and what it wrote
+pub made_numbered : {h : Here} {t : ℕ} {k k' : Kernel} {m m' : Map} {saved saved' : Saved} {end : CallEnd} {n i : ℕ}
+    → saved ≡ h.file t → n ≡ register saved.file 17 → n ≡ i → IsMade h t k m k' m' saved' end (call_of i h t) → IsMade h t k m k' m' saved' end (called h t)
+made_numbered {h = h} {t = t} {k = k} {k' = k'} {m = m} {m' = m'} {saved = saved} {saved' = saved'} {end = end} {n = n} {i = i} file is e made =
+    subst (IsMade h t k m k' m' saved' end) (sym (numbered h t n i saved file is e)) made
+
+pub told_numbered : (h : Here) (t : ℕ) {saved : Saved} {ws : List Write} {n i : ℕ}
+    → saved ≡ h.file t → n ≡ register saved.file 17 → n ≡ i → ws ≡ (call_of i h t).entered → ws ≡ (called h t).entered
+told_numbered h t {saved = saved} {n = n} {i = i} file is e told =
+    told ∙ ap (λ (d : CallDone). d.entered) (sym (numbered h t n i saved file is e))
 
 -- what it came to, where the number is this one; and where it wrote nothing
 pub by_number : {h : Here} {t : ℕ} {k k' : Kernel} {m m' : Map} {ws : List Write} {answer : Result ℕ Errno} {n i : ℕ} → n ≡ i

@@ -4,13 +4,11 @@ use Rattle.std.specs.List.{find, list_any}
 use Rattle.std.specs.Option.{option_map, option_map_or}
 use Rattle.mach_types.specs.declared.threads.ThreadState.{ThreadState}
 use Rattle.mach_types.specs.Kernel.Scheduling.{is_of}
-use Rattle.mach_types.specs.Kernel.Threads.{Thread, Threads, clear_if, is_live, is_on, is_ready_state, is_running_on, is_thread, running_on, runs, state_of, with_clear}
+use Rattle.mach_types.specs.Kernel.Threads.{Thread, Threads, clear_if, is_live, is_on, is_ready_state, is_thread, running_on, runs, state_of, with_clear}
 use Rattle.kernel_threads.specs.Table.{Table, IsTable, saved_of}
 use Rattle.kernel_threads.proofs.Laws.{running_saves_nothing}
-use Rattle.block_model.specs.Tables.{on}
+use Rattle.sys_calls.proofs.Common.{AreTables, IsCaller, Kernel, on}
 use Rattle.block_model.proofs.Laws.{running_is, ready_listed}
-use Rattle.sys_calls.specs.declared.kernel.Kernel.{Kernel}
-use Rattle.sys_calls.specs.Answered.{AreTables, IsCaller}
 
 -- a thread in a state is live
 live_step : (o : Option Thread) (st : ThreadState) → option_map (λ th. th.state) o ≡ Some st → is_some o ≡ true
@@ -50,31 +48,22 @@ pub runs_quiet : (t : ℕ) (table : Table) → IsTable table → runs table.thre
 runs_quiet t table holds run = running_saves_nothing t run.0 table holds run.1
 
 -- an address to clear changes nothing of who runs where
+abbrev number_in : Option Thread → Option ℕ
+number_in o = option_map (λ (th : Thread). th.tid) o
+
+either : (b : Bool) (x y : Thread) (p q : Option Thread) → x.tid ≡ y.tid → number_in p ≡ number_in q → number_in (cond b (Some x) p) ≡ number_in (cond b (Some y) q)
+either true x y p q same rest = ap Some same
+either false x y p q same rest = rest
+
 pub cleared_runs : (j t at : ℕ) (ts : Threads) → running_on j (with_clear t at ts) ≡ running_on j ts
 cleared_runs j t at ts = go ts.live
   where
-    one : (j : ℕ) (th th' : Thread) (rest rest' : List Thread) → th'.tid ≡ th.tid → th'.state ≡ th.state
-        → option_map (λ (x : Thread). x.tid) (find (is_on j) rest') ≡ option_map (λ (x : Thread). x.tid) (find (is_on j) rest)
-        → (b : Bool) → option_map (λ (x : Thread). x.tid) (cond b (Some th') (find (is_on j) rest')) ≡ option_map (λ (x : Thread). x.tid) (cond b (Some th) (find (is_on j) rest))
-    one j th th' rest rest' tid state tail true = ap Some tid
-    one j th th' rest rest' tid state tail false = tail
-
-    same : (th : Thread) → (clear_if t at th).tid ≡ th.tid
-    same th = by (is_thread t th)
-      where
-        by : (b : Bool) → (cond b (record th { clear_at = at }) th).tid ≡ th.tid
-        by true = refl
-        by false = refl
-
-    still : (th : Thread) → (clear_if t at th).state ≡ th.state
-    still th = by (is_thread t th)
-      where
-        by : (b : Bool) → (cond b (record th { clear_at = at }) th).state ≡ th.state
-        by true = refl
-        by false = refl
-
-    go : (live : List Thread) → option_map (λ (x : Thread). x.tid) (find (is_on j) (map (clear_if t at) live)) ≡ option_map (λ (x : Thread). x.tid) (find (is_on j) live)
+    go : (live : List Thread) → number_in (find (is_on j) (map (clear_if t at) live)) ≡ number_in (find (is_on j) live)
     go [] = refl
     go (th ∷ rest) =
-        ap (λ (st : ThreadState). option_map (λ (x : Thread). x.tid) (cond (is_running_on j st) (Some (clear_if t at th)) (find (is_on j) (map (clear_if t at) rest)))) (still th)
-        ∙ one j th (clear_if t at th) rest (map (clear_if t at) rest) (same th) (still th) (go rest) (is_on j th)
+        let cleared : Thread = record th { clear_at = at } in
+        let later = find (is_on j) (map (clear_if t at) rest) in
+        elim (is_thread t th) as (λ b. let x : Thread = cond b cleared th in number_in (cond (is_on j x) (Some x) later) ≡ number_in (find (is_on j) (th ∷ rest))) [
+          | true ↦ either (is_on j th) cleared th later (find (is_on j) rest) refl (go rest)
+          | false ↦ either (is_on j th) th th later (find (is_on j) rest) refl (go rest)
+        ]

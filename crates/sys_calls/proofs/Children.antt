@@ -5,19 +5,12 @@ use Rattle.std.specs.List.{list_any}
 use Rattle.std.specs.Option.{option_map, option_map_or}
 use Rattle.mach_types.specs.Kernel.Scheduling.{Scheduling, is_of, with_thread}
 use Rattle.mach_types.specs.Kernel.Threads.{IsThreads, Thread, Threads, is_full, is_live, is_ready_state, running_on, thread_of, with_child, with_clear}
-use Rattle.mach_types.specs.declared.threads.Saved.{Saved}
-use Rattle.mach_types.specs.declared.threads.ThreadState.TheVariants.{Ready}
+use Rattle.sys_calls.proofs.Common.{AreSaved, AreTables, Here, Kernel, Ready, Saved, argument, file_among}
 use Rattle.kernel_threads.specs.Table.{IsTable, Table, saved_of, with_start}
 use Rattle.mach_types.proofs.Laws.{next_is_new, state_of-with_child_same}
 use Rattle.kernel_threads.proofs.Laws.{saved_of-child, saved_of-with_start_other}
-use Rattle.block_model.specs.Here.{Here}
-use Rattle.block_model.specs.History.{file_among}
-use Rattle.block_model.specs.Calls.Answers.{argument}
 use Rattle.block_model.specs.Kernel.{cleared, had_child, next_number}
 use Rattle.block_model.proofs.Laws.{child_not_held, child_same, ready_listed}
-use Rattle.sys_calls.specs.declared.kernel.Kernel.{Kernel}
-use Rattle.sys_calls.specs.Answered.{AreTables}
-use Rattle.sys_calls.specs.Made.{AreSaved}
 use Rattle.sys_calls.proofs.CallerTables.{cleared_runs, live_in}
 
 -- the next number isn't held, nor ready

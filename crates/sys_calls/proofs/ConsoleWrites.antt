@@ -2,9 +2,7 @@
 use Rattle.std.proofs.Common.{◌≡◌, ℕ, ◌≤◌, ◌<◌, true, false, not, eqb, leb, List, length, take, ◌∙◌}
 use Rattle.std.proofs.lemmas.Bool.{eq-eqb, le-leb, lt-leb, ne_eqb}
 use Rattle.mach_types.specs.declared.errors.TheConstants.{EFAULT, ENOSPC}
-use Rattle.mach_types.specs.declared.kernel_words.TheConstants.{CONSOLE_ROOM}
-use Rattle.block_model.specs.Here.{Here, memory}
-use Rattle.block_model.specs.Calls.Answers.{refused, said}
+use Rattle.sys_calls.proofs.Common.{CONSOLE_ROOM, Here, memory, refused, said}
 use Rattle.block_model.specs.Calls.Console.{Span, all_readable, bytes_of, room, total, write_spans, wrote}
 use Rattle.sys_calls.proofs.GuestMemory.{if_false, if_true, not_false, not_true}
 

@@ -1,12 +1,7 @@
 -- What a rule reads of the page map and of the caller's registers, and the choice that a test makes.
 use Rattle.std.proofs.Common.{◌≡◌, ℕ, ◌+◌, ◌%◌, ◌^◌, Bool, true, false, not, cond, Option, is_some, unwrap_or, refl, ap, ◌∙◌}
-use Rattle.mach_types.specs.Bytes.{each_byte, word_at}
-use Rattle.mach_types.specs.Registers.{register}
-use Rattle.mach_types.specs.declared.threads.Saved.{Saved}
-use Rattle.page_map.specs.Map.{Map, byte_in, can_write_in}
-use Rattle.block_model.specs.Here.{Here}
+use Rattle.sys_calls.proofs.Common.{Here, IsRead, Map, Saved, byte_in, can_write_in, each_byte, register, word_at}
 use Rattle.block_model.specs.Calls.Answers.{argument, are_readable, are_writable, int_argument, number_at}
-use Rattle.sys_calls.specs.Answered.{IsRead}
 
 pub if_true : {A : Type 0} (b : Bool) (x y : A) → b ≡ true → cond b x y ≡ x
 if_true true x y e = refl
@@ -48,3 +43,10 @@ not_false b e = ap not e
 
 pub not_true : (b : Bool) → b ≡ true → not b ≡ false
 not_true b e = ap not e
+
+-- a test that something holds refuses where it doesn't, and lets pass where it does
+pub unmet : {A : Type 0} {b : Bool} (x y : A) → b ≡ false → cond (not b) x y ≡ x
+unmet {b = b} x y e = if_true (not b) x y (not_false b e)
+
+pub met : {A : Type 0} {b : Bool} (x y : A) → b ≡ true → cond (not b) x y ≡ y
+met {b = b} x y e = if_false (not b) x y (not_true b e)

@@ -1,13 +1,8 @@
 -- Writes that enter memory: none, one, and one after others; and the pages of the process then.
-use Rattle.std.proofs.Common.{◌≡◌, ℕ, List, [], ◌∷◌, ◌++◌, Option, Some, None, refl, sym, ap, subst, ◌∙◌}
-use Rattle.std.specs.Option.{option_map}
+use Rattle.std.proofs.Common.{◌≡◌, ℕ, List, [], ◌∷◌, ◌++◌, Option, Some, None, refl, sym, ap, subst, ◌∙◌, option_map}
 use Rattle.mach_types.specs.Bytes.{written}
-use Rattle.mach_types.specs.declared.user_memory.Write.{Write}
+use Rattle.sys_calls.proofs.Common.{CallDone, Here, IsEntered, Map, Write, byte_in, held_in}
 use Rattle.mach_types.specs.Kernel.Pages.{Pages, permission_at}
-use Rattle.page_map.specs.Map.{Map, byte_in, held_in}
-use Rattle.block_model.specs.Here.{Here}
-use Rattle.block_model.specs.Calls.Answers.{CallDone}
-use Rattle.sys_calls.specs.Answered.{IsEntered}
 use Rattle.sys_calls.specs.Made.{HasPages, HoldsPages}
 
 none_written : (o : Option ℕ) (a : ℕ) → o ≡ option_map (written [] a) o

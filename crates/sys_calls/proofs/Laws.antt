@@ -5,18 +5,11 @@ use Rattle.mach_types.specs.Kernel.Areas.{without_area}
 use Rattle.mach_types.specs.Kernel.Pages.{Pages}
 use Rattle.mach_types.specs.Kernel.Scheduling.{Scheduling, forget, with_ready, with_thread}
 use Rattle.mach_types.specs.Kernel.Signals as signals
-use Rattle.mach_types.specs.Kernel.Signals.{Signalling}
+use Rattle.sys_calls.proofs.Common.{Area, HoldsTables, Kernel, Ready, RegisteredArea, Signalling, Table, areas_by_number}
 use Rattle.mach_types.specs.Kernel.Threads.{Threads, with_child, with_clear, with_state, with_woken, without}
 use Rattle.mach_types.specs.declared.barriers.Registered.{Registered}
-use Rattle.mach_types.specs.declared.sequences.Area.{Area}
-use Rattle.mach_types.specs.declared.threads.ThreadState.TheVariants.{Ready}
-use Rattle.kernel_threads.specs.Table.{Table}
 use Rattle.block_model.specs.Kernel.{cleared, gone, had_child, left, woken}
 use Rattle.block_model.specs.Record as model_of
-use Rattle.sys_calls.specs.Registered.{areas_by_number}
-use Rattle.sys_calls.specs.Tables.{HoldsTables}
-use Rattle.sys_calls.specs.declared.rseq_areas.RegisteredArea.{RegisteredArea}
-use Rattle.sys_calls.specs.declared.kernel.Kernel.{Kernel}
 
 -- the six equations together
 tables_hold : {k : Kernel} {r : model_of.Kernel} → k.threads.threads ≡ r.threads → k.signals ≡ r.signals → k.ready ≡ r.scheduling

@@ -6,6 +6,7 @@ pub mod CallAnswers
 pub mod CallNumbers
 pub mod CallerTables
 pub mod Children
+mod Common
 pub mod ConsoleWrites
 pub mod FutexWakes
 pub mod GuestMemory

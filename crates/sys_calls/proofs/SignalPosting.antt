@@ -1,22 +1,13 @@
 -- tkill(2) and tgkill(2): a signal is posted, and a wait that it breaks is answered.
-use Rattle.std.proofs.Common.{◌≡◌, ℕ, Bool, true, false, not, ◌||◌, cond, eqb, [], ◌∷◌, None, is_some, ◌&&◌, Ok, refl, sym, ap, subst, ◌∙◌}
-use Rattle.std.proofs.lemmas.Bool.{ne_eqb}
+use Rattle.std.proofs.Common.{◌≡◌, ℕ, Bool, true, false, not, ◌||◌, cond, eqb, [], ◌∷◌, None, is_some, ◌&&◌, Ok, refl, sym, ap, subst, ◌∙◌, ne_eqb}
 use Rattle.std.specs.Option.{option_map_or}
-use Rattle.mach_types.specs.Kernel.Scheduling.{Scheduling, with_ready}
+use Rattle.sys_calls.proofs.Common.{AreTables, CallDone, EINVAL, ESRCH, Here, HoldsTables, IsAnswered, Kernel, Map, Scheduling, file_among, int_argument, refused, returned, said, with_ready}
 use Rattle.mach_types.specs.Kernel.Signals.{Signalling, next_for, posted}
 use Rattle.mach_types.specs.Kernel.Threads.{Threads, is_live, is_waiting_state, running_on, state_of, waits, with_woken}
-use Rattle.mach_types.specs.declared.errors.TheConstants.{EINVAL, ESRCH}
 use Rattle.kernel_threads.specs.Table.{Table, answering, interrupted, with_answer}
-use Rattle.page_map.specs.Map.{Map}
-use Rattle.block_model.specs.Here.{Here}
-use Rattle.block_model.specs.History.{file_among}
 use Rattle.block_model.specs.Kernel.{woken}
-use Rattle.block_model.specs.Calls.Answers.{CallDone, int_argument, refused, returned, said}
 use Rattle.block_model.specs.Calls.Signals.{broken_wait, is_below_one, post, send, tgkill, tkill, waits_in_vain, with_posted}
 use Rattle.block_model.proofs.Laws.{woken_same}
-use Rattle.sys_calls.specs.declared.kernel.Kernel.{Kernel}
-use Rattle.sys_calls.specs.Answered.{AreTables, IsAnswered}
-use Rattle.sys_calls.specs.Tables.{HoldsTables}
 use Rattle.sys_calls.proofs.KernelWrites.{entered_none}
 use Rattle.sys_calls.proofs.GuestMemory.{if_false, if_true}
 use Rattle.sys_calls.proofs.Laws.{holds_signals, holds_woken}

@@ -1,12 +1,7 @@
 -- The spans of bytes that records name, one after the other.
 use Rattle.std.proofs.Common.{◌≡◌, ℕ, zero, suc, ◌+◌, ◌-◌, ◌*◌, ◌<◌, ◌≤◌, ◌^◌, min, true, false, List, [], ◌∷◌, ◌++◌, length, take, Option, is_some, unwrap_or, refl, ap, ◌∙◌, arith, inl, inr, add-one}
 use Rattle.std.proofs.lemmas.Bool.{cases_lt, and_parts}
-use Rattle.mach_types.specs.Bytes.{each_byte}
-use Rattle.block_model.specs.Here.{Here}
-use Rattle.block_model.specs.Calls.Answers.{number_at}
-use Rattle.block_model.specs.Calls.Console.{Span, bytes_from, spans_at}
-use Rattle.page_map.specs.Map.{Map, byte_in}
-use Rattle.page_map.specs.MapLaws.{byte_in-ends}
+use Rattle.sys_calls.proofs.Common.{Here, Map, Span, byte_in, byte_in-ends, bytes_from, each_byte, number_at, spans_at}
 
 -- the record at an index
 abbrev pub span_at : Here → ℕ → ℕ → Span

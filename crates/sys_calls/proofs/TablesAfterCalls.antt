@@ -4,10 +4,9 @@ use Rattle.std.proofs.Common.{◌≡◌, ℕ, zero, suc, ◌+◌, ◌/◌, ◌%�
 use Rattle.std.proofs.lemmas.Bool.{cases_lt, eq-eqb, le-leb, le-ltb, lt-leb, lt-ltb}
 use Rattle.std.specs.Option.{option_map, option_map_or}
 use Rattle.mach_types.specs.Kernel.Pages.{PageRun, permission_of}
-use Rattle.mach_types.specs.Kernel.Threads.{running_on}
+use Rattle.sys_calls.proofs.Common.{CallEnd, HoldsTables, IsTables, Kernel, Saved, running_on}
 use Rattle.mach_types.specs.declared.events.Hart.{Hart}
 use Rattle.mach_types.specs.declared.events.Tid.{Tid}
-use Rattle.mach_types.specs.declared.threads.Saved.{Saved}
 use Rattle.page_map.specs.Map.{Map, Page, break_in, break_start_in, byte_at, free_in, held_in, page_in, permission_in}
 use Rattle.page_map.specs.MapLaws.{page_in-past}
 use Rattle.block_model.specs.Calls.{called}
@@ -16,14 +15,10 @@ use Rattle.block_model.specs.Here.{Here, runs}
 use Rattle.block_model.specs.Ids.{id_of}
 use Rattle.block_model.specs.Kernel.{first_kernel}
 use Rattle.block_model.specs.Setting.{Setting}
-use Rattle.block_model.specs.Tables.{IsTables}
 use Rattle.block_model.proofs.Laws.{IsAgreed, agreed_called}
 use Rattle.sys_calls.specs.Made.{HasPages, IsAt, IsMade}
 use Rattle.sys_calls.specs.Registered.{HoldAreas}
 use Rattle.sys_calls.specs.Signalled.{HoldSignals}
-use Rattle.sys_calls.specs.Tables.{HoldsTables}
-use Rattle.sys_calls.specs.declared.calling.CallEnd.{CallEnd}
-use Rattle.sys_calls.specs.declared.kernel.Kernel.{Kernel}
 use Rattle.sys_calls.proofs.Laws.{held_is, holds_itself, record_with}
 use Rattle.sys_calls.proofs.GuestMemory.{if_false, if_true}
 

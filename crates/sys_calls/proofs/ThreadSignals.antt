@@ -7,8 +7,7 @@ use Rattle.mach_types.specs.Kernel.Signals.{Signalling, action_of, is_held, is_i
 use Rattle.mach_types.specs.Kernel.Threads.{IsThreads, Thread, Threads, is_live}
 use Rattle.mach_types.specs.declared.signal_words.ThreadSignals.{ThreadSignals}
 use Rattle.block_model.specs.Tables.{AreSignalsOfLive}
-use Rattle.sys_calls.specs.declared.kernel.Kernel.{Kernel}
-use Rattle.sys_calls.specs.Answered.{IsCaller}
+use Rattle.sys_calls.proofs.Common.{IsCaller, Kernel}
 use Rattle.sys_calls.specs.Signalled.{HoldSignals}
 use Rattle.sys_calls.proofs.CallerTables.{caller_lives}
 use Rattle.block_model.proofs.Laws.{any_live}

@@ -1,8 +1,8 @@
 -- What a call answers whose thread goes on, and what it did.
-use Rattle.std.specs.Prelude.{ℕ, ◌≡◌, List, ◌∷◌, Some, None, Result, Ok, Err}
+use Rattle.std.specs.Prelude.{ℕ, ◌≡◌, ◌-◌, ◌^◌, ◌<◌, true, List, ◌∷◌, Some, None, Result, Ok, Err}
 use Rattle.std.specs.Option.{option_map}
 use Rattle.mach_types.specs.Bytes.{written as written_by}
-use Rattle.mach_types.specs.Kernel.Threads.{running_on}
+use Rattle.mach_types.specs.Kernel.Threads.{is_live, running_on}
 use Rattle.mach_types.specs.declared.errors.Errno.{Errno}
 use Rattle.mach_types.specs.declared.threads.Saved.{Saved}
 use Rattle.mach_types.specs.declared.user_memory.Write.{Write}
@@ -57,6 +57,14 @@ pub record IsAnswered (h : Here) (t : ℕ) (k : Kernel) (m : Map) (k' : Kernel) 
 -- the tables hold what holds at each place of a run
 abbrev pub AreTables : Kernel → Type 0
 AreTables k = (harts : ℕ) × IsTables harts k.threads.threads k.ready
+
+-- a live thread may make a call after which it goes on: the tables hold, the signals are those of the live threads, and a number is
+-- left for a child
+pub record MayAnswer (k : Kernel) (t : ℕ) : Type 0 where
+  pub tables : AreTables k
+  pub signals : HoldSignals k
+  pub live : is_live t k.threads.threads ≡ true
+  pub numbers : k.threads.threads.given < 2 ^ 31 - 1
 
 -- a thread calls: the tables hold, the signals are those of the live threads, it runs on the hart, and nothing is saved of it
 pub record IsCaller (k : Kernel) (here : ℕ) (t : ℕ) : Type 0 where

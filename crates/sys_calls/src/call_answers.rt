@@ -1,14 +1,12 @@
 //! The calls whose thread goes on, each with its answer.
 
-ghost use Rattle.std.specs.Prelude.{◌≡◌, ◌<◌, ◌≤◌, ◌-◌, ◌^◌, [], IfErr, IsTrue};
-ghost use Rattle.mach_types.specs.Kernel.Threads.{is_live};
+ghost use Rattle.std.specs.Prelude.{◌≡◌, ◌≤◌, [], IfErr};
 ghost use Rattle.block_model.specs.Here.{Here};
 ghost use Rattle.block_model.specs.Calls.{call_of};
-ghost use Rattle.sys_calls.specs.Answered.{AreTables, IsAnswered, IsRead};
+ghost use Rattle.sys_calls.specs.Answered.{IsAnswered, IsRead, MayAnswer};
 ghost use Rattle.sys_calls.specs.Tables.{HoldsTables};
 ghost use Rattle.sys_calls.specs.Made.{HasPages};
 ghost use Rattle.sys_calls.specs.Numbers.{IsOffPages, IsOther};
-ghost use Rattle.sys_calls.specs.Signalled.{HoldSignals};
 
 use crate::affinity::{getcpu, sched_getaffinity};
 use crate::arguments::widened;
@@ -67,10 +65,7 @@ pub fn answered(
     tid: Tid,
     saved: &Saved,
 ) -> Result<u64, Errno>
-    requires tables { AreTables kernel.old }
-    requires signals { HoldSignals kernel.old }
-    requires live { IsTrue (is_live tid.0 kernel.old.threads.threads) }
-    requires numbers { kernel.old.threads.threads.given < 2 ^ 31 - 1 }
+    requires caller { MayAnswer kernel.old tid.0 }
     requires fresh { written.old.items ≡ [] }
     requires others { IsOther number }
     ensures errno { IfErr result (λ e. 1 ≤ e.0) }
@@ -98,10 +93,7 @@ fn answered_on_same_pages(
     tid: Tid,
     saved: &Saved,
 ) -> Result<u32, Errno>
-    requires tables { AreTables kernel.old }
-    requires signals { HoldSignals kernel.old }
-    requires live { IsTrue (is_live tid.0 kernel.old.threads.threads) }
-    requires numbers { kernel.old.threads.threads.given < 2 ^ 31 - 1 }
+    requires caller { MayAnswer kernel.old tid.0 }
     requires fresh { written.old.items ≡ [] }
     requires others { IsOther number }
     requires off_pages { IsOffPages number }

@@ -54,7 +54,7 @@ pub fn write_word(pages: &mut PageMap, written: &mut Written, at: u64, value: u3
 }
 
 /// Tells the write of a u32.
-pub fn tell_word(written: &mut Written, at: u64, value: u32)
+fn tell_word(written: &mut Written, at: u64, value: u32)
     requires room { length written.old.items < 4 }
     ensures { written.new.items ≡ written.old.items ++ word_written at value ∷ [] }
 {

@@ -15,14 +15,13 @@ ghost use Rattle.sys_calls.specs.Registered.{HoldAreas, areas_by_number, area_as
 use crate::arguments::{argument, go_on, int_argument};
 use crate::calling::CallEnd;
 use crate::kernel::Kernel;
-use crate::memory::{Written, tell_word};
+use crate::memory::Written;
 use crate::rseq_areas::{add_area, area_of, remove_area};
 use mach_types::errors::EFAULT;
-use mach_types::sequences::{CPU_ID, MM_CID, NODE_ID};
 use mach_types::signals::SIGSEGV;
 use mach_types::{Area, End, Errno, Hart, Saved, Tid};
 use page_map::PageMap;
-use rseq_area::{register, set_cpu, unregister};
+use rseq_area::{register, set_cpu, unregister, words_written};
 
 /// `cpu_id` of an area that is registered no longer: RSEQ_CPU_ID_UNINITIALIZED (uapi linux/rseq.h).
 const UNINITIALIZED: u32 = 0xFFFF_FFFF;
@@ -49,10 +48,7 @@ fn write_words(
     if !set_cpu(pages, area, start, id, NODE, cid) {
         return false;
     }
-    tell_word(written, area.at, start);
-    tell_word(written, area.at + CPU_ID, id);
-    tell_word(written, area.at + NODE_ID, NODE);
-    tell_word(written, area.at + MM_CID, cid);
+    let _ = written.try_extend_from_slice(&words_written(area, start, id, NODE, cid));
     true
 }
 

@@ -1,6 +1,5 @@
 -- So far as many idle harts as rounds.
-use Rattle.std.proofs.Common.{◌≡◌, length}
-use Rattle.std.specs.Prelude.{All}
+use Rattle.std.proofs.Common.{◌≡◌, length, All}
 use Rattle.hart_state.specs.State.{idle_hart}
 use Rattle.machine_core.proofs.machine.idle_harts.Given as goal
 

@@ -1,7 +1,7 @@
 use Rattle.std.proofs.Common.{◌≡◌, false, take}
 use Rattle.std.specs.List.{list_any}
 use Rattle.hart_state.specs.declared.hart.HartState.{HartState}
-use Rattle.process.specs.Holding.{lies_in}
+use Rattle.process.specs.ExecGates.{lies_in}
 use Rattle.process.proofs.exec_gate.waits_in_any.Given as goal
 
 abbrev pub invariant-loop-state : goal.invariant-loop-state

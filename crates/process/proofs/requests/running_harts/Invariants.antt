@@ -1,7 +1,6 @@
 -- So far the set has those before this one on which threads run.
 use Rattle.std.proofs.Common.{◌≡◌}
-use Rattle.mach_types.specs.Kernel.Barriers.{harts_that}
-use Rattle.process.specs.Barriers.{is_busy}
+use Rattle.process.proofs.Common.{harts_that, is_busy}
 use Rattle.process.proofs.requests.running_harts.Given as goal
 
 abbrev pub invariant-loop-hart : goal.invariant-loop-hart

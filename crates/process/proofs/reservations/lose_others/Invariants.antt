@@ -1,7 +1,6 @@
 -- So far the harts before this one have lost what was written.
-use Rattle.std.proofs.Common.{◌≡◌, ℕ, nat_eq, slice_get}
-use Rattle.std.specs.Option.{option_map}
-use Rattle.process.specs.Losing.{lost_unless}
+use Rattle.std.proofs.Common.{◌≡◌, ℕ, nat_eq, slice_get, option_map}
+use Rattle.process.specs.Reservations.{lost_unless}
 use Rattle.process.proofs.EachHart.{changed_before}
 use Rattle.process.proofs.reservations.lose_others.Given as goal
 

@@ -1,88 +1,57 @@
 -- The tests of a set, in their order.
-use Rattle.std.proofs.Common.{◌≡◌, ℕ, ◌%◌, ◌^◌, min, Bool, true, false, not, eqb, ◌||◌, ◌⊎◌, inl, inr, is_some, refl, sym, ap, ◌∙◌}
-use Rattle.std.proofs.lemmas.Bool.{eq-eqb, ne_eqb}
-use Rattle.mach_types.specs.Bytes.{each_byte}
-use Rattle.mach_types.specs.Registers.{register}
-use Rattle.mach_types.specs.Kernel.Threads.{Threads, is_live}
-use Rattle.mach_types.specs.declared.threads.Saved.{Saved}
-use Rattle.page_map.specs.Map.{Map, byte_in}
-use Rattle.block_model.specs.Here.{Here}
-use Rattle.block_model.specs.Calls.Affinity.{names_nobody, set_at}
-use Rattle.block_model.specs.Calls.Answers.{argument, are_readable, int_argument}
-use Rattle.sys_calls.specs.declared.kernel.Kernel.{Kernel}
-use Rattle.sys_calls.specs.Answered.{IsRead}
-use Rattle.sys_calls.specs.Tables.{HoldsTables}
+use Rattle.std.proofs.Common.{◌≡◌, ℕ, min, true, false, not, eqb, ◌||◌, ◌⊎◌, inl, inr, [], ◌∷◌, Option, is_some, refl, sym, ap, ◌∙◌, eq-eqb, ne_eqb}
+use Rattle.mach_types.specs.declared.errors.TheConstants.{EFAULT, EPERM, ESRCH}
+use Rattle.sys_calls.proofs.Common.{Errors, Here, HoldsTables, IsRead, Kernel, Map, Saved, Threads, byte_in, each_byte, int_in, is_live, register, unless}
+use Rattle.block_model.specs.Calls.Affinity.{sched_setaffinity, set_at}
 use Rattle.sys_calls.specs.Chosen.{setaffinity_with}
-use Rattle.sys_calls.proofs.GuestMemory.{argument_is, if_false, if_true, int_argument_is, not_false, not_true, readable_at}
+use Rattle.sys_calls.proofs.GuestMemory.{argument_is, if_false, if_true, int_argument_is, met, unmet}
 use Rattle.sys_calls.proofs.affinity.asked_set.Goals as goal
 
--- the thread that the call names
-nobody_is : (h : Here) (t named : ℕ) (k : Kernel) → HoldsTables k h.kernel → named ≡ int_argument h t 0 → not (eqb named 0 || is_live named k.threads.threads) ≡ names_nobody h (int_argument h t 0)
-nobody_is h t named k told is =
-    ap (λ (ts : Threads). not (eqb named 0 || is_live named ts)) told.threads ∙ ap (names_nobody h) is
+-- they are asked of the page map, of the threads and of the registers
+abbrev tests : (ℕ → Option ℕ) → Threads → ℕ → ℕ → ℕ → ℕ → Errors
+tests byte threads t named at size =
+    (not (each_byte (λ a. is_some (byte a)) at size), EFAULT) ∷ (not (eqb named 0 || is_live named threads), ESRCH) ∷ (not (eqb named 0 || eqb named t), EPERM) ∷ []
 
--- whether it is another one
-abbrev names_other : ℕ → ℕ → Bool
-names_other tid t = not (eqb tid 0 || eqb tid t)
+tests_are : (h : Here) (k : Kernel) (m : Map) (t : ℕ) (saved : Saved) → HoldsTables k h.kernel → IsRead h m t saved → (named len at size asked : ℕ) → named ≡ int_in saved 0
+    → len ≡ int_in saved 1 → at ≡ register saved.file 12 → size ≡ min len 8 → asked ≡ set_at h at len
+    → sched_setaffinity h t ≡ unless h t (tests (byte_in m) k.threads.threads t named at size) (setaffinity_with h t asked)
+tests_are h k m t saved told read named len at size asked p q r s given =
+    let named_is = p ∙ int_argument_is h t saved read.file 0 in
+    let len_is = q ∙ int_argument_is h t saved read.file 1 in
+    let at_is = r ∙ argument_is h t saved read.file 2 in
+    let size_is = s ∙ ap (λ (n : ℕ). min n 8) len_is in
+    let set_is = given ∙ (λ i. set_at h (at_is i) (len_is i)) in
+    sym (λ i. unless h t (tests (read.bytes i) (told.threads i) t (named_is i) (at_is i) (size_is i)) (setaffinity_with h t (set_is i)))
 
-other : (tid t : ℕ) → (tid ≡ 0 → ⊥) × (tid ≡ t → ⊥) → names_other tid t ≡ true
+other : (tid t : ℕ) → (tid ≡ 0 → ⊥) × (tid ≡ t → ⊥) → (eqb tid 0 || eqb tid t) ≡ false
 other tid t ne = rw (ne_eqb tid 0 ne.0, ne_eqb tid t ne.1) refl
 
-own : (tid t : ℕ) → (tid ≡ 0) ⊎ (tid ≡ t) → names_other tid t ≡ false
+own : (tid t : ℕ) → (tid ≡ 0) ⊎ ((tid ≡ 0 → ⊥) × (tid ≡ t)) → (eqb tid 0 || eqb tid t) ≡ true
 own tid t (inl e) = rw (eq-eqb tid 0 e) refl
-own tid t (inr e) = by (eqb tid 0)
-  where
-    by : (b : Bool) → not (b || eqb tid t) ≡ false
-    by true = refl
-    by false = rw (eq-eqb tid t e) refl
-
--- what is read, and whether it can be
-readable_set : (h : Here) (m : Map) (t len at min_len from : ℕ) (b r : Bool) (saved : Saved) → IsRead h m t saved → len ≡ register saved.file 11 % 2 ^ 32 → at ≡ register saved.file 12
-    → min_len ≡ min len 8 → from ≡ min_len → r ≡ each_byte (λ a. is_some (byte_in m a)) at from → r ≡ b → are_readable h (argument h t 2) (min (int_argument h t 1) 8) ≡ b
-readable_set h m t len at min_len from b r saved read len-is at-is min-is from-is ensures decided =
-    let size : from ≡ min (int_argument h t 1) 8 = from-is ∙ min-is ∙ ap (λ (n : ℕ). min n 8) (len-is ∙ int_argument_is h t saved read.file 1) in
-    let place : at ≡ argument h t 2 = at-is ∙ argument_is h t saved read.file 2 in
-    sym (readable_at h m t saved read at (argument h t 2) from (min (int_argument h t 1) 8) place size) ∙ sym ensures ∙ decided
+own tid t (inr p) = rw (ne_eqb tid 0 p.0) (eq-eqb tid t p.1)
 
 pub returns-then-not-readable-clause-refused : goal.returns-then-not-readable-clause-refused
 returns-then-not-readable-clause-refused c = λ h told read.
-    let t = c.args.tid.0 in
-    let bytes = readable_set h c.args.pages.now t c.int_argument-len.result c.argument-at.result c.min.result c.from.result false c.readable.result c.args.saved.now read c.int_argument-len.ensures c.argument-at.ensures c.min.ensures c.from.ensures c.readable.ensures c.if-not-readable.true in
-    if_true (not (are_readable h (argument h t 2) (min (int_argument h t 1) 8))) _ _ (not_false _ bytes)
+    tests_are h c.args.kernel.now c.args.pages.now c.args.tid.0 c.args.saved.now told read c.int_argument-named.result c.int_argument-len.result c.argument-at.result c.from.result
+    (set_at h c.argument-at.result c.int_argument-len.result) c.int_argument-named.ensures c.int_argument-len.ensures c.argument-at.ensures (c.from.ensures ∙ c.min.ensures) refl
+    ∙ unmet _ _ (sym c.readable.ensures ∙ c.if-not-readable.true)
 
 pub returns-then-names_nobody-clause-refused : goal.returns-then-names_nobody-clause-refused
 returns-then-names_nobody-clause-refused c = λ h told read.
-    let t = c.args.tid.0 in
-    let bytes = readable_set h c.args.pages.now t c.int_argument-len.result c.argument-at.result c.min.result c.from.result true c.readable.result c.args.saved.now read c.int_argument-len.ensures c.argument-at.ensures c.min.ensures c.from.ensures c.readable.ensures c.if-not-readable.false in
-    let named : c.int_argument-named.result ≡ int_argument h t 0 = c.int_argument-named.ensures ∙ int_argument_is h t c.args.saved.now read.file 0 in
-    let nobody : names_nobody h (int_argument h t 0) ≡ true = sym (nobody_is h t c.int_argument-named.result c.args.kernel.now told named) ∙ sym c.names_nobody.ensures ∙ c.if-names_nobody.true in
-    if_false (not (are_readable h (argument h t 2) (min (int_argument h t 1) 8))) _ _ (not_true _ bytes)
-    ∙ if_true (names_nobody h (int_argument h t 0)) _ _ nobody
+    tests_are h c.args.kernel.now c.args.pages.now c.args.tid.0 c.args.saved.now told read c.int_argument-named.result c.int_argument-len.result c.argument-at.result c.from.result
+    (set_at h c.argument-at.result c.int_argument-len.result) c.int_argument-named.ensures c.int_argument-len.ensures c.argument-at.ensures (c.from.ensures ∙ c.min.ensures) refl
+    ∙ met _ _ (sym c.readable.ensures ∙ c.if-not-readable.false) ∙ if_true _ _ _ (sym c.names_nobody.ensures ∙ c.if-names_nobody.true)
 
 pub returns-then-not-named-tid-clause-refused : goal.returns-then-not-named-tid-clause-refused
 returns-then-not-named-tid-clause-refused c = λ h told read.
-    let t = c.args.tid.0 in
-    let bytes = readable_set h c.args.pages.now t c.int_argument-len.result c.argument-at.result c.min.result c.from.result true c.readable.result c.args.saved.now read c.int_argument-len.ensures c.argument-at.ensures c.min.ensures c.from.ensures c.readable.ensures c.if-not-readable.false in
-    let named : c.int_argument-named.result ≡ int_argument h t 0 = c.int_argument-named.ensures ∙ int_argument_is h t c.args.saved.now read.file 0 in
-    let nobody : names_nobody h (int_argument h t 0) ≡ false = sym (nobody_is h t c.int_argument-named.result c.args.kernel.now told named) ∙ sym c.names_nobody.ensures ∙ c.if-names_nobody.false in
-    if_false (not (are_readable h (argument h t 2) (min (int_argument h t 1) 8))) _ _ (not_true _ bytes)
-    ∙ if_false (names_nobody h (int_argument h t 0)) _ _ nobody
-    ∙ if_true (names_other (int_argument h t 0) t) _ _ (ap (λ n. names_other n t) (sym named) ∙ other c.int_argument-named.result t c.if-not-named-tid.true)
-
-second : (a b : ℕ) → (a ≡ 0) ⊎ ((a ≡ 0 → ⊥) × (a ≡ b)) → (a ≡ 0) ⊎ (a ≡ b)
-second a b (inl e) = inl e
-second a b (inr p) = inr p.1
+    tests_are h c.args.kernel.now c.args.pages.now c.args.tid.0 c.args.saved.now told read c.int_argument-named.result c.int_argument-len.result c.argument-at.result c.from.result
+    (set_at h c.argument-at.result c.int_argument-len.result) c.int_argument-named.ensures c.int_argument-len.ensures c.argument-at.ensures (c.from.ensures ∙ c.min.ensures) refl
+    ∙ met _ _ (sym c.readable.ensures ∙ c.if-not-readable.false) ∙ if_false _ _ _ (sym c.names_nobody.ensures ∙ c.if-names_nobody.false)
+    ∙ unmet _ _ (other c.int_argument-named.result c.args.tid.0 c.if-not-named-tid.true)
 
 pub returns-clause-set : goal.returns-clause-set
 returns-clause-set c = λ h told read.
-    let t = c.args.tid.0 in
-    let bytes = readable_set h c.args.pages.now t c.int_argument-len.result c.argument-at.result c.min.result c.from.result true c.readable.result c.args.saved.now read c.int_argument-len.ensures c.argument-at.ensures c.min.ensures c.from.ensures c.readable.ensures c.if-not-readable.false in
-    let named : c.int_argument-named.result ≡ int_argument h t 0 = c.int_argument-named.ensures ∙ int_argument_is h t c.args.saved.now read.file 0 in
-    let nobody : names_nobody h (int_argument h t 0) ≡ false = sym (nobody_is h t c.int_argument-named.result c.args.kernel.now told named) ∙ sym c.names_nobody.ensures ∙ c.if-names_nobody.false in
-    let set : c.set_at.result ≡ set_at h (argument h t 2) (int_argument h t 1) = c.set_at.ensures h t c.args.saved.now read
-    ∙ ap (λ (n : ℕ). set_at h n c.int_argument-len.result) (c.argument-at.ensures ∙ argument_is h t c.args.saved.now read.file 2)
-    ∙ ap (set_at h (argument h t 2)) (c.int_argument-len.ensures ∙ int_argument_is h t c.args.saved.now read.file 1) in
-    if_false (not (are_readable h (argument h t 2) (min (int_argument h t 1) 8))) _ _ (not_true _ bytes)
-    ∙ if_false (names_nobody h (int_argument h t 0)) _ _ nobody
-    ∙ if_false (names_other (int_argument h t 0) t) _ _ (ap (λ n. names_other n t) (sym named) ∙ own c.int_argument-named.result t (second c.int_argument-named.result t c.if-not-named-tid.either))
-    ∙ ap (setaffinity_with h t) (sym set)
+    tests_are h c.args.kernel.now c.args.pages.now c.args.tid.0 c.args.saved.now told read c.int_argument-named.result c.int_argument-len.result c.argument-at.result c.from.result
+    c.set_at.result c.int_argument-named.ensures c.int_argument-len.ensures c.argument-at.ensures (c.from.ensures ∙ c.min.ensures) (c.set_at.ensures h c.args.tid.0 c.args.saved.now read)
+    ∙ met _ _ (sym c.readable.ensures ∙ c.if-not-readable.false) ∙ if_false _ _ _ (sym c.names_nobody.ensures ∙ c.if-names_nobody.false)
+    ∙ met _ _ (own c.int_argument-named.result c.args.tid.0 c.if-not-named-tid.either)

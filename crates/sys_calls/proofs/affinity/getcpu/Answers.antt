@@ -1,14 +1,7 @@
 -- The hart and the node, where they are asked.
-use Rattle.std.proofs.Common.{◌≡◌, ℕ, ◌+◌, Bool, true, false, not, ◌&&◌, ◌||◌, eqb, List, ◌++◌, sym, ap, subst, ◌∙◌}
-use Rattle.std.specs.Prelude.{Ok, Err}
-use Rattle.mach_types.specs.declared.errors.TheConstants.{EFAULT}
-use Rattle.mach_types.specs.Bytes.{each_byte}
-use Rattle.mach_types.specs.declared.user_memory.Write.{Write}
-use Rattle.page_map.specs.Map.{Map, can_write_in}
-use Rattle.block_model.specs.Here.{Here, is_writable}
+use Rattle.std.proofs.Common.{◌≡◌, ℕ, ◌+◌, Bool, true, false, not, ◌&&◌, ◌||◌, eqb, List, ◌++◌, sym, ap, subst, ◌∙◌, Ok, Err}
+use Rattle.sys_calls.proofs.Common.{CallDone, EFAULT, Here, IsAnswered, IsEntered, Map, Write, argument, can_write_in, each_byte, is_writable, said}
 use Rattle.block_model.specs.Calls.Affinity.{getcpu, is_usable, written_unless_zero}
-use Rattle.block_model.specs.Calls.Answers.{CallDone, argument, said}
-use Rattle.sys_calls.specs.Answered.{IsAnswered, IsEntered}
 use Rattle.sys_calls.proofs.KernelWrites.{entered_twice}
 use Rattle.sys_calls.proofs.GuestMemory.{argument_is, if_false, if_true, not_false, not_true}
 use Rattle.sys_calls.proofs.CallAnswers.{answered_said, answered_wrote}

@@ -1,6 +1,5 @@
 -- The first byte of a set.
-use Rattle.std.proofs.Common.{◌≡◌, ℕ, Option, None, Some, unwrap_or, refl, sym, ◌∙◌, arith, eqb}
-use Rattle.std.proofs.lemmas.Bool.{ne_eqb}
+use Rattle.std.proofs.Common.{◌≡◌, ℕ, Option, None, Some, unwrap_or, refl, sym, ◌∙◌, arith, eqb, ne_eqb}
 use Rattle.mach_types.specs.Bytes.{joined}
 use Rattle.page_map.specs.Map.{byte_in}
 use Rattle.sys_calls.proofs.GuestMemory.{if_false, number_is}

@@ -1,13 +1,9 @@
 -- Each call that changes no pages, by its number.
-use Rattle.std.proofs.Common.{◌≡◌, ℕ, List, eqb, refl, sym, subst, ◌∙◌, arith, cond}
-use Rattle.std.specs.Prelude.{Ok, Err}
-use Rattle.std.proofs.lemmas.Bool.{ne_eqb}
+use Rattle.std.proofs.Common.{◌≡◌, ℕ, List, eqb, refl, sym, subst, ◌∙◌, arith, cond, Ok, Err, ne_eqb}
 use Rattle.mach_types.specs.declared.errors.TheConstants.{ENOSYS}
-use Rattle.mach_types.specs.declared.user_memory.Write.{Write}
+use Rattle.sys_calls.proofs.Common.{CallDone, IsAnswered, Write, refused}
 use Rattle.block_model.specs.Calls.{call_of}
-use Rattle.block_model.specs.Calls.Answers.{refused, CallDone}
 use Rattle.block_model.specs.Calls.Numbers.{getpid, gettid}
-use Rattle.sys_calls.specs.Answered.{IsAnswered}
 use Rattle.sys_calls.proofs.GuestMemory.{if_false}
 use Rattle.sys_calls.proofs.CallAnswers.{answered_said}
 use Rattle.sys_calls.proofs.ThreadSignals.{signals_held}
@@ -39,7 +35,7 @@ pub returns-in-220-clause-answered : goal.returns-in-220-clause-answered
 returns-in-220-clause-answered c = λ h hart told read. by_number c.in-220.is (c.clone.ensures.answered h told read)
 
 pub rt_sigprocmask-requires-clause-held : goal.rt_sigprocmask-requires-clause-held
-rt_sigprocmask-requires-clause-held c = signals_held c.args.tid.0 c.args.kernel.now c.requires.signals c.requires.live
+rt_sigprocmask-requires-clause-held c = signals_held c.args.tid.0 c.args.kernel.now c.requires.caller.signals c.requires.caller.live
 
 pub returns-in-130-clause-answered : goal.returns-in-130-clause-answered
 returns-in-130-clause-answered c = λ h hart told read. silent_by_number c.requires.fresh c.in-130.is (c.tkill.ensures.answered h c.args.tid.0 c.args.pages.now told read.file)

@@ -1,97 +1,90 @@
 -- Each call by its number.
 use Rattle.std.proofs.Common.{refl, sym, ap, subst, ◌∙◌, []}
-use Rattle.mach_types.specs.Kernel.Threads.{running_on}
+use Rattle.sys_calls.proofs.Common.{CallEnd, IsAnswered, IsMade, running_on}
 use Rattle.block_model.specs.Calls.{called}
-use Rattle.block_model.specs.Calls.Answers.{CallDone}
 use Rattle.block_model.specs.Calls.Ending.{ended_with, exit_group}
-use Rattle.sys_calls.specs.declared.calling.CallEnd.{CallEnd}
-use Rattle.sys_calls.specs.Answered.{IsAnswered}
-use Rattle.sys_calls.specs.Made.{IsMade}
 use Rattle.sys_calls.proofs.Barriers.{silent_membarrier}
-use Rattle.sys_calls.proofs.CallNumbers.{numbered, silent_futex, silent_setaffinity, silent_sigreturn}
+use Rattle.sys_calls.proofs.CallNumbers.{made_numbered, numbered, silent_futex, silent_setaffinity, silent_sigreturn, told_numbered}
 use Rattle.sys_calls.proofs.CallAnswers.{made_answered, made_ended}
 use Rattle.sys_calls.proofs.TablesAfterCalls.{agreed_after}
 use Rattle.sys_calls.proofs.CallerTables.{caller_lives}
 use Rattle.sys_calls.proofs.calling.dispatch.Goals as goal
 use Rattle.sys_calls.proofs.KernelWrites.{entered_none}
 
-pub answered-outcome-requires-clause-live : goal.answered-outcome-requires-clause-live
-answered-outcome-requires-clause-live c = caller_lives c.args.kernel.now c.args.caller.here.0 c.args.caller.tid.0 c.requires.caller
+pub answered-outcome-requires-clause-caller : goal.answered-outcome-requires-clause-caller
+answered-outcome-requires-clause-caller c =
+    let caller = c.requires.caller in
+    record { tables = caller.tables; signals = caller.signals; live = caller_lives c.args.kernel.now c.args.caller.here.0 c.args.caller.tid.0 caller; numbers = c.requires.numbers }
 
 pub returns-in-93-clause-made : goal.returns-in-93-clause-made
 returns-in-93-clause-made c = λ h at.
-    subst (IsMade h c.args.caller.tid.0 c.args.kernel.now c.args.pages.now c.exit.new.kernel c.exit.new.pages c.args.saved.now c.exit.result)
-    (sym (numbered h c.args.caller.tid.0 c.call_number.result 93 c.args.saved.now at.file c.call_number.ensures c.in-93.is))
+    made_numbered at.file c.call_number.ensures c.in-93.is
     (c.exit.ensures.made h at.hart at.tables at.pages (c.shows_pages.ensures h c.args.caller.tid.0 c.args.saved.now at.pages at.file))
 
 pub returns-in-93-clause-told : goal.returns-in-93-clause-told
 returns-in-93-clause-told c = λ h at.
-    c.exit.ensures.told h at.tables (c.shows_pages.ensures h c.args.caller.tid.0 c.args.saved.now at.pages at.file) ∙ ap (λ (d : CallDone). d.entered) (sym (numbered h c.args.caller.tid.0 c.call_number.result 93 c.args.saved.now at.file c.call_number.ensures c.in-93.is))
+    told_numbered h c.args.caller.tid.0 at.file c.call_number.ensures c.in-93.is
+    (c.exit.ensures.told h at.tables (c.shows_pages.ensures h c.args.caller.tid.0 c.args.saved.now at.pages at.file))
 
 pub returns-in-94-clause-made : goal.returns-in-94-clause-made
 returns-in-94-clause-made c = λ h at.
     let t = c.args.caller.tid.0 in
     let m = c.args.pages.now in
-    subst (IsMade h t c.args.kernel.now m c.args.kernel.now m c.args.saved.now c.exit_group.result) (sym (numbered h c.args.caller.tid.0 c.call_number.result 94 c.args.saved.now at.file c.call_number.ensures c.in-94.is))
+    made_numbered at.file c.call_number.ensures c.in-94.is
     (subst (λ (e : CallEnd). IsMade h t c.args.kernel.now m c.args.kernel.now m c.args.saved.now e (exit_group h t)) (sym (c.exit_group.ensures h t at.file))
     (made_ended h t c.args.caller.here.0 c.args.kernel.now m m c.args.saved.now [] [] (ended_with h t) (ended_with h t)
     at.hart at.tables at.file c.requires.caller at.pages (entered_none m) refl refl))
 
 pub returns-in-98-clause-made : goal.returns-in-98-clause-made
 returns-in-98-clause-made c = λ h at.
-    subst (IsMade h c.args.caller.tid.0 c.args.kernel.now c.args.pages.now c.futex.new.kernel c.args.pages.now c.futex.new.saved c.futex.result)
-    (sym (numbered h c.args.caller.tid.0 c.call_number.result 98 c.args.saved.now at.file c.call_number.ensures c.in-98.is))
+    made_numbered at.file c.call_number.ensures c.in-98.is
     (c.futex.ensures.made h at.hart at.tables at.pages (c.shows_pages.ensures h c.args.caller.tid.0 c.args.saved.now at.pages at.file))
 
 pub returns-in-98-clause-told : goal.returns-in-98-clause-told
 returns-in-98-clause-told c = λ h at.
-    c.requires.fresh ∙ sym (silent_futex h c.args.caller.tid.0) ∙ ap (λ (d : CallDone). d.entered) (sym (numbered h c.args.caller.tid.0 c.call_number.result 98 c.args.saved.now at.file c.call_number.ensures c.in-98.is))
+    told_numbered h c.args.caller.tid.0 at.file c.call_number.ensures c.in-98.is (c.requires.fresh ∙ sym (silent_futex h c.args.caller.tid.0))
 
 pub returns-in-122-clause-made : goal.returns-in-122-clause-made
 returns-in-122-clause-made c = λ h at.
-    subst (IsMade h c.args.caller.tid.0 c.args.kernel.now c.args.pages.now c.sched_setaffinity.new.kernel c.args.pages.now c.sched_setaffinity.new.saved c.sched_setaffinity.result)
-    (sym (numbered h c.args.caller.tid.0 c.call_number.result 122 c.args.saved.now at.file c.call_number.ensures c.in-122.is))
+    made_numbered at.file c.call_number.ensures c.in-122.is
     (c.sched_setaffinity.ensures.made h at.hart at.count at.tables at.pages (c.shows_pages.ensures h c.args.caller.tid.0 c.args.saved.now at.pages at.file))
 
 pub returns-in-122-clause-told : goal.returns-in-122-clause-told
 returns-in-122-clause-told c = λ h at.
-    c.requires.fresh ∙ sym (silent_setaffinity h c.args.caller.tid.0) ∙ ap (λ (d : CallDone). d.entered) (sym (numbered h c.args.caller.tid.0 c.call_number.result 122 c.args.saved.now at.file c.call_number.ensures c.in-122.is))
+    told_numbered h c.args.caller.tid.0 at.file c.call_number.ensures c.in-122.is (c.requires.fresh ∙ sym (silent_setaffinity h c.args.caller.tid.0))
 
 pub returns-in-124-clause-made : goal.returns-in-124-clause-made
 returns-in-124-clause-made c = λ h at.
-    subst (IsMade h c.args.caller.tid.0 c.args.kernel.now c.args.pages.now c.sched_yield.new.kernel c.args.pages.now c.sched_yield.new.saved c.sched_yield.result)
-    (sym (numbered h c.args.caller.tid.0 c.call_number.result 124 c.args.saved.now at.file c.call_number.ensures c.in-124.is))
+    made_numbered at.file c.call_number.ensures c.in-124.is
     (c.sched_yield.ensures.made h c.args.pages.now at.hart at.tables at.pages at.file)
 
 pub returns-in-139-clause-made : goal.returns-in-139-clause-made
 returns-in-139-clause-made c = λ h at.
-    subst (IsMade h c.args.caller.tid.0 c.args.kernel.now c.args.pages.now c.rt_sigreturn.new.kernel c.args.pages.now c.rt_sigreturn.new.saved c.rt_sigreturn.result)
-    (sym (numbered h c.args.caller.tid.0 c.call_number.result 139 c.args.saved.now at.file c.call_number.ensures c.in-139.is))
+    made_numbered at.file c.call_number.ensures c.in-139.is
     (c.rt_sigreturn.ensures.made h at.hart at.tables at.pages (c.shows_pages.ensures h c.args.caller.tid.0 c.args.saved.now at.pages at.file))
 
 pub returns-in-139-clause-told : goal.returns-in-139-clause-told
 returns-in-139-clause-told c = λ h at.
-    c.requires.fresh ∙ sym (silent_sigreturn h c.args.caller.tid.0) ∙ ap (λ (d : CallDone). d.entered) (sym (numbered h c.args.caller.tid.0 c.call_number.result 139 c.args.saved.now at.file c.call_number.ensures c.in-139.is))
+    told_numbered h c.args.caller.tid.0 at.file c.call_number.ensures c.in-139.is (c.requires.fresh ∙ sym (silent_sigreturn h c.args.caller.tid.0))
 
 pub returns-in-283-clause-made : goal.returns-in-283-clause-made
 returns-in-283-clause-made c = λ h at.
-    subst (IsMade h c.args.caller.tid.0 c.args.kernel.now c.args.pages.now c.membarrier.new.kernel c.args.pages.now c.membarrier.new.saved c.membarrier.result)
-    (sym (numbered h c.args.caller.tid.0 c.call_number.result 283 c.args.saved.now at.file c.call_number.ensures c.in-283.is))
+    made_numbered at.file c.call_number.ensures c.in-283.is
     (c.membarrier.ensures.made h c.args.pages.now at.hart at.count at.running at.tables at.pages at.file)
 
 pub returns-in-283-clause-told : goal.returns-in-283-clause-told
 returns-in-283-clause-told c = λ h at.
-    c.requires.fresh ∙ sym (silent_membarrier h c.args.caller.tid.0) ∙ ap (λ (d : CallDone). d.entered) (sym (numbered h c.args.caller.tid.0 c.call_number.result 283 c.args.saved.now at.file c.call_number.ensures c.in-283.is))
+    told_numbered h c.args.caller.tid.0 at.file c.call_number.ensures c.in-283.is (c.requires.fresh ∙ sym (silent_membarrier h c.args.caller.tid.0))
 
 pub returns-in-293-clause-made : goal.returns-in-293-clause-made
 returns-in-293-clause-made c = λ h at.
-    subst (IsMade h c.args.caller.tid.0 c.args.kernel.now c.args.pages.now c.rseq.new.kernel c.rseq.new.pages c.rseq.new.saved c.rseq.result)
-    (sym (numbered h c.args.caller.tid.0 c.call_number.result 293 c.args.saved.now at.file c.call_number.ensures c.in-293.is))
+    made_numbered at.file c.call_number.ensures c.in-293.is
     (c.rseq.ensures.made h at.hart at.tables at.pages (c.shows_pages.ensures h c.args.caller.tid.0 c.args.saved.now at.pages at.file) at.id)
 
 pub returns-in-293-clause-told : goal.returns-in-293-clause-told
 returns-in-293-clause-told c = λ h at.
-    c.rseq.ensures.told h at.hart at.tables (c.shows_pages.ensures h c.args.caller.tid.0 c.args.saved.now at.pages at.file) at.id ∙ ap (λ (d : CallDone). d.entered) (sym (numbered h c.args.caller.tid.0 c.call_number.result 293 c.args.saved.now at.file c.call_number.ensures c.in-293.is))
+    told_numbered h c.args.caller.tid.0 at.file c.call_number.ensures c.in-293.is
+    (c.rseq.ensures.told h at.hart at.tables (c.shows_pages.ensures h c.args.caller.tid.0 c.args.saved.now at.pages at.file) at.id)
 
 pub returns-in_default-clause-made : goal.returns-in_default-clause-made
 returns-in_default-clause-made c = λ h at.
@@ -115,4 +108,4 @@ returns-in_default-clause-told c = λ h at.
     let t = c.args.caller.tid.0 in
     let read = c.shows_pages.ensures h c.args.caller.tid.0 c.args.saved.now at.pages at.file in
     let done = c.answered-outcome.ensures.answered h at.hart at.tables at.pages read in
-    done.told ∙ ap (λ (d : CallDone). d.entered) (sym (numbered h t c.call_number.result c.call_number.result c.args.saved.now at.file c.call_number.ensures refl))
+    told_numbered h t {i = c.call_number.result} at.file c.call_number.ensures refl done.told

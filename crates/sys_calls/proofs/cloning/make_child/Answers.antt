@@ -1,15 +1,10 @@
 -- The child lives, and the record has it.
 use Rattle.std.proofs.Common.{◌≡◌, ℕ, ◌+◌, cond, sym, ap, subst, ◌∙◌}
-use Rattle.mach_types.specs.Kernel.Threads.{Threads, running_on}
-use Rattle.mach_types.specs.Registers.{register}
-use Rattle.mach_types.specs.declared.threads.Saved.{Saved}
+use Rattle.sys_calls.proofs.Common.{HoldsTables, Kernel, Saved, Threads, argument, register, running_on}
 use Rattle.kernel_threads.specs.Table.{with_start}
 use Rattle.block_model.specs.Kernel.{cleared, had_child, next_number}
-use Rattle.block_model.specs.Calls.Answers.{argument}
 use Rattle.block_model.specs.Calls.Cloning.{clone_child_cleartid, has_flag}
-use Rattle.sys_calls.specs.declared.kernel.Kernel.{Kernel}
 use Rattle.sys_calls.specs.Cloned.{clear_asked}
-use Rattle.sys_calls.specs.Tables.{HoldsTables}
 use Rattle.sys_calls.proofs.Children.{asked_runs, child_lives, child_runs}
 use Rattle.sys_calls.proofs.Laws.{holds_child, holds_cleared}
 use Rattle.sys_calls.proofs.cloning.make_child.Goals as goal

@@ -1,18 +1,12 @@
 -- The tests of a clone, in their order.
-use Rattle.std.proofs.Common.{◌≡◌, ℕ, Bool, true, false, not, ◌&&◌, ◌||◌, leb, sym, ap, ◌∙◌}
+use Rattle.std.proofs.Common.{◌≡◌, ℕ, ◌<◌, Bool, false, not, ◌&&◌, ◌||◌, leb, [], ◌∷◌, length, sym, ap, ◌∙◌}
 use Rattle.std.proofs.lemmas.Bool.{lt-leb}
-use Rattle.mach_types.specs.Kernel.Threads.{is_full}
-use Rattle.mach_types.specs.declared.threads.Saved.{Saved}
-use Rattle.mach_types.specs.Registers.{register}
-use Rattle.page_map.specs.Map.{Map}
-use Rattle.block_model.specs.Here.{Here, is_writable}
-use Rattle.block_model.specs.Calls.Answers.{argument}
-use Rattle.block_model.specs.Calls.Cloning.{are_flags, clone_child_settid, clone_parent_settid, may_write}
-use Rattle.mach_types.specs.Bytes.{each_byte}
-use Rattle.block_model.specs.Calls.Cloning.{has_flag}
-use Rattle.sys_calls.specs.Answered.{IsRead}
-use Rattle.sys_calls.specs.Cloned.{can_write_numbers}
-use Rattle.sys_calls.proofs.GuestMemory.{argument_is, if_false, if_true, not_false, not_true}
+use Rattle.mach_types.specs.Kernel.Threads.{Threads, is_full}
+use Rattle.mach_types.specs.declared.errors.TheConstants.{EAGAIN, EFAULT, EINVAL}
+use Rattle.sys_calls.proofs.Common.{Errors, Here, HoldsTables, IsRead, Kernel, Map, Saved, argument, each_byte, is_writable, register, unless}
+use Rattle.block_model.specs.Calls.Cloning.{are_flags, clone, clone_child_settid, clone_parent_settid, has_flag, may_write}
+use Rattle.sys_calls.specs.Cloned.{can_write_numbers, cloned}
+use Rattle.sys_calls.proofs.GuestMemory.{argument_is, if_false, met, unmet}
 use Rattle.sys_calls.proofs.cloning.may_clone.Goals as goal
 
 -- whether the words can be written, as the call asks it
@@ -27,16 +21,25 @@ words_by test saved =
 words_are : (h : Here) (m : Map) (t : ℕ) (saved : Saved) → IsRead h m t saved → can_write_numbers m saved ≡ words h t
 words_are h m t saved read = ap (λ (test : ℕ → Bool). words_by test saved) read.writable ∙ ap (words_by (is_writable h)) read.file
 
+tests_are : (h : Here) (k : Kernel) (m : Map) (t : ℕ) (saved : Saved) → HoldsTables k h.kernel → IsRead h m t saved → (flags : ℕ) → flags ≡ register saved.file 10
+    → clone h t ≡ unless h t ((not (are_flags flags), EINVAL) ∷ (is_full k.threads.threads, EAGAIN) ∷ (not (can_write_numbers m saved), EFAULT) ∷ []) (cloned h t)
+tests_are h k m t saved told read flags p =
+    let flags_is = p ∙ argument_is h t saved read.file 0 in
+    let tests : ℕ → Threads → Bool → Errors = λ f ts b. (not (are_flags f), EINVAL) ∷ (is_full ts, EAGAIN) ∷ (not b, EFAULT) ∷ [] in
+    sym (λ i. unless h t (tests (flags_is i) (told.threads i) (words_are h m t saved read i)) (cloned h t))
+
+-- few threads live
+few : (ts : Threads) (live : ℕ) → live ≡ length ts.live → live < 64 → is_full ts ≡ false
+few ts live is lt = ap (leb 64) (sym is) ∙ lt-leb 64 live lt
+
 pub returns-then-not-can_write_numbers-clause-refused : goal.returns-then-not-can_write_numbers-clause-refused
 returns-then-not-can_write_numbers-clause-refused c = λ h t told read.
-    let flags : are_flags (argument h t 0) ≡ true = ap are_flags (sym (c.argument.ensures ∙ argument_is h t c.args.saved.now read.file 0)) ∙ sym c.are_flags.ensures ∙ c.if-not-are_flags.false in
-    let free : is_full h.kernel.threads ≡ false = ap is_full (sym told.threads) ∙ ap (leb 64) (sym c.live-live.ensures.count) ∙ lt-leb 64 c.live-live.result c.if-live-ge-MOST_THREADS.false in
-    let no : words h t ≡ false = sym (words_are h c.args.pages.now t c.args.saved.now read) ∙ sym c.can_write_numbers.ensures ∙ c.if-not-can_write_numbers.true in
-    if_false (not (are_flags (argument h t 0))) _ _ (not_true _ flags) ∙ if_false (is_full h.kernel.threads) _ _ free ∙ if_true (not (words h t)) _ _ (not_false _ no)
+    tests_are h c.args.kernel.now c.args.pages.now t c.args.saved.now told read c.argument.result c.argument.ensures ∙ met _ _ (sym c.are_flags.ensures ∙ c.if-not-are_flags.false)
+    ∙ if_false _ _ _ (few c.args.kernel.now.threads.threads c.live-live.result c.live-live.ensures.count c.if-live-ge-MOST_THREADS.false)
+    ∙ unmet _ _ (sym c.can_write_numbers.ensures ∙ c.if-not-can_write_numbers.true)
 
 pub returns-clause-made : goal.returns-clause-made
 returns-clause-made c = λ h t told read.
-    let flags : are_flags (argument h t 0) ≡ true = ap are_flags (sym (c.argument.ensures ∙ argument_is h t c.args.saved.now read.file 0)) ∙ sym c.are_flags.ensures ∙ c.if-not-are_flags.false in
-    let free : is_full h.kernel.threads ≡ false = ap is_full (sym told.threads) ∙ ap (leb 64) (sym c.live-live.ensures.count) ∙ lt-leb 64 c.live-live.result c.if-live-ge-MOST_THREADS.false in
-    let yes : words h t ≡ true = sym (words_are h c.args.pages.now t c.args.saved.now read) ∙ sym c.can_write_numbers.ensures ∙ c.if-not-can_write_numbers.false in
-    if_false (not (are_flags (argument h t 0))) _ _ (not_true _ flags) ∙ if_false (is_full h.kernel.threads) _ _ free ∙ if_false (not (words h t)) _ _ (not_true _ yes)
+    tests_are h c.args.kernel.now c.args.pages.now t c.args.saved.now told read c.argument.result c.argument.ensures ∙ met _ _ (sym c.are_flags.ensures ∙ c.if-not-are_flags.false)
+    ∙ if_false _ _ _ (few c.args.kernel.now.threads.threads c.live-live.result c.live-live.ensures.count c.if-live-ge-MOST_THREADS.false)
+    ∙ met _ _ (sym c.can_write_numbers.ensures ∙ c.if-not-can_write_numbers.false)

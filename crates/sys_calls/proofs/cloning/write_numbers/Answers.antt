@@ -1,8 +1,6 @@
 -- The second word can be written still.
 use Rattle.std.proofs.Common.{◌≡◌, ℕ, ◌+◌, true, not, ◌||◌, ap, ◌∙◌}
-use Rattle.mach_types.specs.Bytes.{each_byte}
-use Rattle.mach_types.specs.Registers.{register}
-use Rattle.page_map.specs.Map.{Map, can_write_in}
+use Rattle.sys_calls.proofs.Common.{Map, can_write_in, each_byte, register}
 use Rattle.block_model.specs.Calls.Cloning.{clone_child_settid, clone_parent_settid, has_flag}
 use Rattle.sys_calls.specs.Cloned.{can_write_word}
 use Rattle.sys_calls.proofs.cloning.write_numbers.Goals as goal

@@ -2,21 +2,13 @@
 use Rattle.std.proofs.Common.{◌≡◌, ℕ, Bool, true, false, not, ◌&&◌, cond, eqb, leb, List, [], ◌∷◌, length, refl, sym, ap, subst, ◌∙◌}
 use Rattle.std.proofs.lemmas.Bool.{le-leb, lt-leb}
 use Rattle.std.specs.Int.{from_bool}
-use Rattle.mach_types.specs.Bytes.{each_byte}
+use Rattle.sys_calls.proofs.Common.{HasPages, Here, HoldsTables, IsEntered, IsMade, IsRead, Kernel, Map, Saved, Write, can_write_in, each_byte}
 use Rattle.mach_types.specs.Kernel.Threads.{Threads, clear_of, running_on}
-use Rattle.mach_types.specs.declared.threads.Saved.{Saved}
-use Rattle.mach_types.specs.declared.user_memory.Write.{Write}
-use Rattle.page_map.specs.Map.{Map, can_write_in}
-use Rattle.block_model.specs.Here.{Here}
 use Rattle.block_model.specs.Calls.Answers.{CallDone, are_writable, word_written}
 use Rattle.block_model.specs.Calls.Ending.{clearing, clears, ended_with, is_last, last_exits, one_exits, woken_at_exit}
 use Rattle.mach_types.proofs.Laws.{state_of-without_same}
 use Rattle.sys_calls.specs.declared.calling.CallEnd.TheVariants as over
-use Rattle.sys_calls.specs.declared.kernel.Kernel.{Kernel}
-use Rattle.sys_calls.specs.Answered.{IsEntered, IsRead}
-use Rattle.sys_calls.specs.Tables.{HoldsTables}
 use Rattle.sys_calls.specs.Ended.{IsGone}
-use Rattle.sys_calls.specs.Made.{HasPages, IsMade}
 use Rattle.sys_calls.proofs.KernelWrites.{pages_kept}
 use Rattle.sys_calls.proofs.GuestMemory.{if_false, if_true, writable_at}
 use Rattle.sys_calls.proofs.CallerTables.{caller_lives}

@@ -1,13 +1,7 @@
 -- A thread that runs goes on running while others are woken, and then is gone.
 use Rattle.std.proofs.Common.{ℕ, sym, ap, subst, ◌∙◌}
-use Rattle.mach_types.specs.Kernel.Scheduling.{Scheduling}
-use Rattle.mach_types.specs.Kernel.Threads.{Threads, running_on}
-use Rattle.block_model.specs.Ids.{without_id}
-use Rattle.block_model.specs.Tables.{IsTables}
+use Rattle.sys_calls.proofs.Common.{IsCaller, IsOnward, IsTables, Kernel, Scheduling, Threads, running_on, without_id}
 use Rattle.block_model.proofs.Laws.{ended_idle}
-use Rattle.sys_calls.specs.declared.kernel.Kernel.{Kernel}
-use Rattle.sys_calls.specs.Answered.{IsCaller}
-use Rattle.sys_calls.specs.Woken.{IsOnward}
 use Rattle.sys_calls.proofs.Laws.{holds_gone}
 use Rattle.sys_calls.proofs.CallAnswers.{kept_gone}
 use Rattle.sys_calls.proofs.ThreadSignals.{caller_signalled, tids}

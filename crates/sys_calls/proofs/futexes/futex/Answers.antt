@@ -1,13 +1,8 @@
 -- Threads are woken, or the operation is refused.
-use Rattle.std.proofs.Common.{◌≡◌, ℕ, List, [], ◌∷◌, map, refl, sym, ap, subst, ◌∙◌}
-use Rattle.std.specs.Prelude.{Ok}
-use Rattle.mach_types.specs.Kernel.Threads.{running_on}
-use Rattle.mach_types.specs.declared.threads.Saved.{Saved}
-use Rattle.block_model.specs.Calls.Answers.{CallDone, argument, int_argument, returned}
+use Rattle.std.proofs.Common.{◌≡◌, ℕ, List, [], ◌∷◌, map, refl, sym, ap, subst, ◌∙◌, Ok}
+use Rattle.sys_calls.proofs.Common.{AreTables, CallDone, IsAnswered, IsMade, Saved, argument, int_argument, returned, running_on}
 use Rattle.block_model.specs.Calls.Futexes.{answered_wait, futex, futex_wake, wake}
 use Rattle.sys_calls.specs.declared.futexes.Operation.{Operation}
-use Rattle.sys_calls.specs.Answered.{AreTables, IsAnswered}
-use Rattle.sys_calls.specs.Made.{IsMade}
 use Rattle.sys_calls.specs.Woken.{IsWoken, futex_of}
 use Rattle.sys_calls.proofs.KernelWrites.{entered_none}
 use Rattle.sys_calls.proofs.GuestMemory.{argument_is, int_argument_is}

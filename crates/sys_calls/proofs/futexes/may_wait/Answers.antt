@@ -1,65 +1,57 @@
 -- The tests of a wait, in their order.
-use Rattle.std.proofs.Common.{◌≡◌, ℕ, Bool, true, false, not, eqb, Option, is_some, refl, sym, ap, ◌∙◌}
-use Rattle.std.proofs.lemmas.Bool.{eq-eqb, ne_eqb}
-use Rattle.block_model.specs.Here.{Here}
-use Rattle.block_model.specs.Calls.Answers.{argument, are_readable, int_argument, number_at}
-use Rattle.mach_types.specs.Kernel.Signals.{Signalling, next_for}
-use Rattle.mach_types.specs.Registers.{register}
-use Rattle.mach_types.specs.declared.threads.Saved.{Saved}
-use Rattle.sys_calls.specs.declared.kernel.Kernel.{Kernel}
-use Rattle.sys_calls.specs.Tables.{HoldsTables}
-use Rattle.sys_calls.proofs.GuestMemory.{argument_is, if_false, if_true, int_argument_is, not_false, not_true, number_there, readable_at}
+use Rattle.std.proofs.Common.{◌≡◌, ◌≢◌, ℕ, true, false, not, eqb, ◌∷◌, [], Option, is_some, unwrap_or, sym, ap, ◌∙◌, eq-eqb, ne_eqb}
+use Rattle.sys_calls.proofs.Common.{CallDone, Errors, Here, HoldsTables, IsRead, Kernel, Map, Saved, argument, byte_in, each_byte, int_in, register, said, unless, word_at}
+use Rattle.mach_types.specs.Kernel.Signals.{next_for}
+use Rattle.mach_types.specs.declared.errors.TheConstants.{EAGAIN, EFAULT, EINTR, EINVAL}
+use Rattle.block_model.specs.Kernel.{waited}
+use Rattle.block_model.specs.Calls.Futexes.{futex_wait}
+use Rattle.sys_calls.proofs.GuestMemory.{argument_is, if_false, if_true, int_argument_is, met, unmet}
 use Rattle.sys_calls.proofs.futexes.may_wait.Goals as goal
 
--- no timeout
-untimed : (h : Here) (t n : ℕ) (saved : Saved) → saved ≡ h.file t → n ≡ register saved.file 13 → n ≡ 0 → not (eqb (argument h t 3) 0) ≡ false
-untimed h t n saved file is zero = not_true _ (eq-eqb (argument h t 3) 0 (sym (argument_is h t saved file 3) ∙ sym is ∙ zero))
+-- they are asked of the page map, of the registers, and of the signals
+abbrev tests : (ℕ → Option ℕ) → ℕ → ℕ → ℕ → Option ℕ → Errors
+tests byte at wanted timeout signal =
+    (not (eqb timeout 0), EINVAL) ∷ (not (each_byte (λ a. is_some (byte a)) at 4), EFAULT)
+    ∷ (not (eqb (unwrap_or (word_at byte at 4) 0) wanted), EAGAIN) ∷ (is_some signal, EINTR) ∷ []
+
+abbrev waits : Here → ℕ → CallDone
+waits h t = record (said h t 0) { kernel = waited t (argument h t 0) h.kernel }
+
+tests_are : (h : Here) (k : Kernel) (m : Map) (t : ℕ) (saved : Saved) → HoldsTables k h.kernel → IsRead h m t saved → (at timeout : ℕ) → at ≡ register saved.file 10
+    → timeout ≡ register saved.file 13 → futex_wait h t ≡ unless h t (tests (byte_in m) at (int_in saved 2) timeout (next_for t k.signals)) (waits h t)
+tests_are h k m t saved told read at timeout p q =
+    let at_is = p ∙ argument_is h t saved read.file 0 in
+    let timeout_is = q ∙ argument_is h t saved read.file 3 in
+    sym (λ i. unless h t (tests (read.bytes i) (at_is i) (int_argument_is h t saved read.file 2 i) (timeout_is i) (next_for t (told.signals i))) (waits h t))
+
+-- the word, as it is read
+same_word : (n word wanted w : ℕ) → n ≡ word → w ≡ wanted → n ≡ w → eqb word wanted ≡ true
+same_word n word wanted w p q e = eq-eqb word wanted (sym p ∙ e ∙ q)
+
+other_word : (n word wanted w : ℕ) → n ≡ word → w ≡ wanted → n ≢ w → eqb word wanted ≡ false
+other_word n word wanted w p q ne = ne_eqb word wanted (λ e. ne (p ∙ e ∙ sym q))
 
 pub returns-then-not-readable-clause-refused : goal.returns-then-not-readable-clause-refused
 returns-then-not-readable-clause-refused c = λ h told read.
-    let t = c.args.tid.0 in
-    let at : c.argument-at.result ≡ argument h t 0 = c.argument-at.ensures ∙ argument_is h t c.args.saved.now read.file 0 in
-    let bytes : are_readable h (argument h t 0) 4 ≡ false = sym (readable_at h c.args.pages.now t c.args.saved.now read c.argument-at.result (argument h t 0) 4 4 at refl) ∙ sym c.readable.ensures ∙ c.if-not-readable.true in
-    if_false (not (eqb (argument h t 3) 0)) _ _ (untimed h t c.argument.result c.args.saved.now read.file c.argument.ensures c.if-argument-ne0.false)
-    ∙ if_true (not (are_readable h (argument h t 0) 4)) _ _ (not_false _ bytes)
+    tests_are h c.args.kernel.now c.args.pages.now c.args.tid.0 c.args.saved.now told read c.argument-at.result c.argument.result c.argument-at.ensures c.argument.ensures
+    ∙ met _ _ (eq-eqb c.argument.result 0 c.if-argument-ne0.false) ∙ unmet _ _ (sym c.readable.ensures ∙ c.if-not-readable.true)
 
 pub returns-then-number_at-from-clause-refused : goal.returns-then-number_at-from-clause-refused
 returns-then-number_at-from-clause-refused c = λ h told read.
-    let t = c.args.tid.0 in
-    let at : c.argument-at.result ≡ argument h t 0 = c.argument-at.ensures ∙ argument_is h t c.args.saved.now read.file 0 in
-    let bytes : are_readable h (argument h t 0) 4 ≡ true = sym (readable_at h c.args.pages.now t c.args.saved.now read c.argument-at.result (argument h t 0) 4 4 at refl) ∙ sym c.readable.ensures ∙ c.if-not-readable.false in
-    let word : c.number_at.result ≡ number_at h (argument h t 0) 4 = c.number_at.ensures ∙ number_there h c.args.pages.now t c.args.saved.now read c.argument-at.result (argument h t 0) 4 at in
-    let wanted : c.from.result ≡ int_argument h t 2 = c.from.ensures ∙ c.int_argument.ensures ∙ int_argument_is h t c.args.saved.now read.file 2 in
-    if_false (not (eqb (argument h t 3) 0)) _ _ (untimed h t c.argument.result c.args.saved.now read.file c.argument.ensures c.if-argument-ne0.false)
-    ∙ if_false (not (are_readable h (argument h t 0) 4)) _ _ (not_true _ bytes)
-    ∙ if_true (not (eqb (number_at h (argument h t 0) 4) (int_argument h t 2))) _ _ (not_false _ (ne_eqb _ _ (λ e. c.if-number_at-from.true (word ∙ e ∙ sym wanted))))
-
--- whether a signal can come
-signal_is : (h : Here) (k : Kernel) (t : ℕ) (o : Option ℕ) (b : Bool) → HoldsTables k h.kernel → o ≡ next_for t k.signals → is_some o ≡ b → is_some (next_for t h.kernel.signals) ≡ b
-signal_is h k t o b told is e = ap (λ (g : Signalling). is_some (next_for t g)) (sym told.signals) ∙ ap (λ (p : Option ℕ). is_some p) (sym is) ∙ e
+    tests_are h c.args.kernel.now c.args.pages.now c.args.tid.0 c.args.saved.now told read c.argument-at.result c.argument.result c.argument-at.ensures c.argument.ensures
+    ∙ met _ _ (eq-eqb c.argument.result 0 c.if-argument-ne0.false) ∙ met _ _ (sym c.readable.ensures ∙ c.if-not-readable.false)
+    ∙ unmet _ _ (other_word _ _ _ _ c.number_at.ensures (c.from.ensures ∙ c.int_argument.ensures) c.if-number_at-from.true)
 
 pub returns-then-is_some-clause-refused : goal.returns-then-is_some-clause-refused
 returns-then-is_some-clause-refused c = λ h told read.
-    let t = c.args.tid.0 in
-    let at : c.argument-at.result ≡ argument h t 0 = c.argument-at.ensures ∙ argument_is h t c.args.saved.now read.file 0 in
-    let bytes : are_readable h (argument h t 0) 4 ≡ true = sym (readable_at h c.args.pages.now t c.args.saved.now read c.argument-at.result (argument h t 0) 4 4 at refl) ∙ sym c.readable.ensures ∙ c.if-not-readable.false in
-    let word : c.number_at.result ≡ number_at h (argument h t 0) 4 = c.number_at.ensures ∙ number_there h c.args.pages.now t c.args.saved.now read c.argument-at.result (argument h t 0) 4 at in
-    let wanted : c.from.result ≡ int_argument h t 2 = c.from.ensures ∙ c.int_argument.ensures ∙ int_argument_is h t c.args.saved.now read.file 2 in
-    let some = signal_is h c.args.kernel.now t c.next_for.result true told c.next_for.ensures (sym c.is_some.ensures ∙ c.if-is_some.true) in
-    if_false (not (eqb (argument h t 3) 0)) _ _ (untimed h t c.argument.result c.args.saved.now read.file c.argument.ensures c.if-argument-ne0.false)
-    ∙ if_false (not (are_readable h (argument h t 0) 4)) _ _ (not_true _ bytes)
-    ∙ if_false (not (eqb (number_at h (argument h t 0) 4) (int_argument h t 2))) _ _ (not_true _ (eq-eqb _ _ (sym word ∙ c.if-number_at-from.false ∙ wanted)))
-    ∙ if_true (is_some (next_for t h.kernel.signals)) _ _ some
+    tests_are h c.args.kernel.now c.args.pages.now c.args.tid.0 c.args.saved.now told read c.argument-at.result c.argument.result c.argument-at.ensures c.argument.ensures
+    ∙ met _ _ (eq-eqb c.argument.result 0 c.if-argument-ne0.false) ∙ met _ _ (sym c.readable.ensures ∙ c.if-not-readable.false)
+    ∙ met _ _ (same_word _ _ _ _ c.number_at.ensures (c.from.ensures ∙ c.int_argument.ensures) c.if-number_at-from.false)
+    ∙ if_true _ _ _ (sym (ap (λ (o : Option ℕ). is_some o) c.next_for.ensures) ∙ sym c.is_some.ensures ∙ c.if-is_some.true)
 
 pub returns-clause-waits : goal.returns-clause-waits
 returns-clause-waits c = λ h told read.
-    let t = c.args.tid.0 in
-    let at : c.argument-at.result ≡ argument h t 0 = c.argument-at.ensures ∙ argument_is h t c.args.saved.now read.file 0 in
-    let bytes : are_readable h (argument h t 0) 4 ≡ true = sym (readable_at h c.args.pages.now t c.args.saved.now read c.argument-at.result (argument h t 0) 4 4 at refl) ∙ sym c.readable.ensures ∙ c.if-not-readable.false in
-    let word : c.number_at.result ≡ number_at h (argument h t 0) 4 = c.number_at.ensures ∙ number_there h c.args.pages.now t c.args.saved.now read c.argument-at.result (argument h t 0) 4 at in
-    let wanted : c.from.result ≡ int_argument h t 2 = c.from.ensures ∙ c.int_argument.ensures ∙ int_argument_is h t c.args.saved.now read.file 2 in
-    if_false (not (eqb (argument h t 3) 0)) _ _ (untimed h t c.argument.result c.args.saved.now read.file c.argument.ensures c.if-argument-ne0.false)
-    ∙ if_false (not (are_readable h (argument h t 0) 4)) _ _ (not_true _ bytes)
-    ∙ if_false (not (eqb (number_at h (argument h t 0) 4) (int_argument h t 2))) _ _ (not_true _ (eq-eqb _ _ (sym word ∙ c.if-number_at-from.false ∙ wanted)))
-    ∙ if_false (is_some (next_for t h.kernel.signals)) _ _
-    (signal_is h c.args.kernel.now t c.next_for.result false told c.next_for.ensures (sym c.is_some.ensures ∙ c.if-is_some.false))
+    tests_are h c.args.kernel.now c.args.pages.now c.args.tid.0 c.args.saved.now told read c.argument-at.result c.argument.result c.argument-at.ensures c.argument.ensures
+    ∙ met _ _ (eq-eqb c.argument.result 0 c.if-argument-ne0.false) ∙ met _ _ (sym c.readable.ensures ∙ c.if-not-readable.false)
+    ∙ met _ _ (same_word _ _ _ _ c.number_at.ensures (c.from.ensures ∙ c.int_argument.ensures) c.if-number_at-from.false)
+    ∙ if_false _ _ _ (sym (ap (λ (o : Option ℕ). is_some o) c.next_for.ensures) ∙ sym c.is_some.ensures ∙ c.if-is_some.false)

@@ -1,7 +1,5 @@
 -- Of the threads that wait some were woken, and what is left to wake is woken behind them.
-use Rattle.block_model.specs.Here.{Here}
-use Rattle.sys_calls.specs.Tables.{HoldsTables}
-use Rattle.sys_calls.specs.Woken.{IsOnward}
+use Rattle.sys_calls.proofs.Common.{Here, HoldsTables, IsOnward}
 use Rattle.sys_calls.proofs.FutexWakes.{IsWaking}
 use Rattle.sys_calls.proofs.futexes.wake.Given as goal
 

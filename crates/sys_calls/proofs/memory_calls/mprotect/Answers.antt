@@ -1,9 +1,7 @@
 -- mprotect is refused, or gives pages another permission.
 use Rattle.std.proofs.Common.{◌≡◌, [], Result, ℕ, subst, sym, ◌∙◌}
-use Rattle.mach_types.specs.declared.errors.Errno.{Errno}
-use Rattle.block_model.specs.Calls.Answers.{argument}
+use Rattle.sys_calls.proofs.Common.{Errno, IsRemapped, argument}
 use Rattle.block_model.specs.Calls.Memory.{mprotect}
-use Rattle.sys_calls.specs.Remapped.{IsRemapped}
 use Rattle.sys_calls.proofs.GuestMemory.{argument_is}
 use Rattle.sys_calls.proofs.PageCalls.{mprotect_made, mprotect_refused, passed_on, prot_from}
 use Rattle.sys_calls.proofs.memory_calls.mprotect.Goals as goal

@@ -1,15 +1,11 @@
 -- Another address to clear, and an answer.
-use Rattle.std.proofs.Common.{◌≡◌, [], refl, ap, ◌∙◌}
-use Rattle.mach_types.specs.Kernel.Threads.{with_clear}
-use Rattle.mach_types.specs.Registers.{register}
-use Rattle.mach_types.specs.declared.threads.Saved.{Saved}
-use Rattle.block_model.specs.Calls.Answers.{argument}
+use Rattle.std.proofs.Common.{◌≡◌, [], refl, ap, ◌∙◌, Ok}
+use Rattle.sys_calls.proofs.Common.{Saved, argument, register, with_clear}
 use Rattle.sys_calls.proofs.Laws.{holds_threads}
 use Rattle.sys_calls.proofs.CallerTables.{cleared_runs}
 use Rattle.sys_calls.proofs.numbers.set_tid_address.Goals as goal
 use Rattle.sys_calls.proofs.CallAnswers.{answered_changed}
 use Rattle.sys_calls.proofs.KernelWrites.{entered_none}
-use Rattle.std.specs.Prelude.{Ok}
 
 pub returns : goal.returns
 returns c = record {

@@ -1,8 +1,7 @@
 -- The area is the last one.
 use Rattle.std.proofs.Common.{ap, [], ◌∷◌, ◌∙◌}
 use Rattle.std.proofs.lemmas.List.{map-append}
-use Rattle.sys_calls.specs.Registered.{areas_by_number}
-use Rattle.sys_calls.specs.declared.rseq_areas.RegisteredArea.{RegisteredArea}
+use Rattle.sys_calls.proofs.Common.{RegisteredArea, areas_by_number}
 use Rattle.sys_calls.proofs.rseq_areas.add_area.Goals as goal
 
 pub returns : goal.returns

@@ -3,8 +3,7 @@ use Rattle.std.proofs.Common.{not, eqb, ap, rules, ◌∙◌}
 use Rattle.arrayvec.proofs.ArrayVecLemmas.{filter-from_retain}
 use Rattle.mach_types.proofs.Laws.{map_filters}
 use Rattle.mach_types.specs.Kernel.Areas.{is_area_of}
-use Rattle.sys_calls.specs.Registered.{areas_by_number}
-use Rattle.sys_calls.specs.declared.rseq_areas.RegisteredArea.{RegisteredArea}
+use Rattle.sys_calls.proofs.Common.{RegisteredArea, areas_by_number}
 use Rattle.sys_calls.proofs.rseq_areas.remove_area.Goals as goal
 
 pub returns : goal.returns

@@ -1,21 +1,12 @@
 -- The area is registered, or the process is killed.
-use Rattle.std.proofs.Common.{◌≡◌, ℕ, Bool, true, false, List, [], length, sym, ap, subst, ◌∙◌, arith, refl, ◌∷◌, length-append}
-use Rattle.std.specs.Prelude.{Ok}
+use Rattle.std.proofs.Common.{◌≡◌, ℕ, Bool, true, false, List, [], length, sym, ap, subst, ◌∙◌, arith, refl, ◌∷◌, length-append, Ok}
 use Rattle.std.proofs.lemmas.List.{length-map}
 use Rattle.mach_types.specs.Kernel.Areas.{are_words_writable, with_area, words_entered, words_on, words_written}
 use Rattle.mach_types.specs.declared.limits.End.TheVariants.{Killed}
-use Rattle.mach_types.specs.declared.sequences.Area.{Area}
+use Rattle.sys_calls.proofs.Common.{Area, CallDone, Here, IsEntered, IsMade, Kernel, RegisteredArea, Write, areas_by_number, is_writable}
 use Rattle.mach_types.specs.declared.signals.TheConstants.{SIGSEGV}
-use Rattle.mach_types.specs.declared.user_memory.Write.{Write}
-use Rattle.block_model.specs.Here.{Here, is_writable}
 use Rattle.block_model.specs.Ids.{id_of}
-use Rattle.block_model.specs.Calls.Answers.{CallDone}
-use Rattle.sys_calls.specs.Answered.{IsEntered}
-use Rattle.sys_calls.specs.Made.{IsMade}
-use Rattle.sys_calls.specs.Registered.{areas_by_number}
-use Rattle.sys_calls.specs.declared.rseq_areas.RegisteredArea.{RegisteredArea}
 use Rattle.sys_calls.specs.declared.calling.CallEnd.TheVariants as over
-use Rattle.sys_calls.specs.declared.kernel.Kernel.{Kernel}
 use Rattle.sys_calls.proofs.CallAnswers.{made_answered, answered_changed, made_ended}
 use Rattle.sys_calls.proofs.AreaRegistration.{registered_done, registers_killed, registers_made, words_can}
 use Rattle.sys_calls.proofs.CallerTables.{caller_lives}

@@ -1,12 +1,7 @@
 -- The call unregisters an area.
 use Rattle.std.proofs.Common.{◌≡◌, ◌%◌, ◌^◌, true, eqb, sym, ap, subst, ◌∙◌}
-use Rattle.mach_types.specs.Kernel.Areas.{area_of}
-use Rattle.mach_types.specs.Registers.{register}
-use Rattle.mach_types.specs.declared.threads.Saved.{Saved}
-use Rattle.block_model.specs.Calls.Answers.{CallDone, int_argument}
+use Rattle.sys_calls.proofs.Common.{AreTables, CallDone, IsMade, Saved, area_of, int_argument, register}
 use Rattle.block_model.specs.Calls.Sequences.{rseq, unregisters_or_refused}
-use Rattle.sys_calls.specs.Answered.{AreTables}
-use Rattle.sys_calls.specs.Made.{IsMade}
 use Rattle.sys_calls.specs.Registered.{unregistration_asked}
 use Rattle.sys_calls.proofs.GuestMemory.{if_true}
 use Rattle.sys_calls.proofs.CallAnswers.{made_answered}

@@ -1,18 +1,9 @@
 -- An area is unregistered, or its words can't be written.
-use Rattle.std.proofs.Common.{◌≡◌, ℕ, Bool, true, false, List, [], Some, sym, ap, subst, ◌∙◌, refl}
-use Rattle.std.specs.Prelude.{Err, Ok}
+use Rattle.std.proofs.Common.{◌≡◌, ℕ, Bool, true, false, List, [], Some, sym, ap, subst, ◌∙◌, refl, Err, Ok}
 use Rattle.mach_types.specs.Kernel.Areas.{are_words_writable, area_of, without_area, words_entered, words_unregistered, words_written}
-use Rattle.mach_types.specs.declared.errors.TheConstants.{EFAULT}
-use Rattle.mach_types.specs.declared.sequences.Area.{Area}
-use Rattle.mach_types.specs.declared.threads.Saved.{Saved}
-use Rattle.mach_types.specs.declared.user_memory.Write.{Write}
-use Rattle.block_model.specs.Here.{Here, is_writable}
-use Rattle.block_model.specs.Calls.Answers.{CallDone, refused}
+use Rattle.sys_calls.proofs.Common.{Area, CallDone, EFAULT, Here, HoldsTables, IsAnswered, IsEntered, Kernel, Saved, Write, is_writable, refused}
 use Rattle.block_model.specs.Calls.Sequences.{unregisters, unregisters_or_refused}
-use Rattle.sys_calls.specs.Answered.{IsAnswered, IsEntered}
-use Rattle.sys_calls.specs.Tables.{HoldsTables}
 use Rattle.sys_calls.specs.Registered.{areas_by_number, unregistration_asked}
-use Rattle.sys_calls.specs.declared.kernel.Kernel.{Kernel}
 use Rattle.sys_calls.proofs.CallAnswers.{answered_wrote, answered_changed}
 use Rattle.sys_calls.proofs.AreaRegistration.{unregistered_done, unregisters_made, unregisters_refused, words_can}
 use Rattle.sys_calls.proofs.sequences.unregister_area.Goals as goal
@@ -29,22 +20,19 @@ not_refused h t k saved area unit told may is =
 pub returns-then-not-write_words-clause-answered : goal.returns-then-not-write_words-clause-answered
 returns-then-not-write_words-clause-answered c = λ h told read.
     let t = c.args.tid.0 in
-    let k = c.args.kernel.now in
-    let m = c.args.pages.now in
     let m' = c.write_words.new.pages in
     let area = c.in-Some.area in
-    let saved = c.args.saved.now in
-    let call = unregisters_or_refused h t (unregistration_asked saved (area_of t h.kernel.areas)) in
+    let call = unregisters_or_refused h t (unregistration_asked c.args.saved.now (area_of t h.kernel.areas)) in
     let cannot : are_words_writable (is_writable h) area ≡ false =
-    sym (words_can h m t saved read area) ∙ sym c.write_words.ensures.answer ∙ c.if-not-write_words.true in
+    sym (words_can h c.args.pages.now t c.args.saved.now read area) ∙ sym c.write_words.ensures.answer ∙ c.if-not-write_words.true in
     let none : c.write_words.new.written.items ≡ [] =
     c.write_words.ensures.told ∙ ap (λ (b : Bool). words_entered b area words_unregistered) c.if-not-write_words.true in
     let is : call ≡ refused h t EFAULT =
-    not_refused h t k saved area c.in_ok-may_unregister.field-0 told (sym c.may_unregister.ensures.answer ∙ c.in_ok-may_unregister.was) (sym c.area_of.ensures ∙ c.in-Some.is)
+    not_refused h t c.args.kernel.now c.args.saved.now area c.in_ok-may_unregister.field-0 told (sym c.may_unregister.ensures.answer ∙ c.in_ok-may_unregister.was) (sym c.area_of.ensures ∙ c.in-Some.is)
     ∙ unregisters_refused h t area cannot in
-    let done = answered_wrote h t k m m' (Err EFAULT) [] told (subst (IsEntered m m') none c.write_words.ensures.entered) in
-    subst (λ (w : List Write). IsAnswered h t k m k m' w (Err EFAULT) call) (sym none)
-    (subst (λ (d : CallDone). IsAnswered h t k m k m' [] (Err EFAULT) d) (sym is) done)
+    let done = answered_wrote h t c.args.kernel.now c.args.pages.now m' (Err EFAULT) [] told (subst (IsEntered c.args.pages.now m') none c.write_words.ensures.entered) in
+    subst (λ (w : List Write). IsAnswered h t c.args.kernel.now c.args.pages.now c.args.kernel.now m' w (Err EFAULT) call) (sym none)
+    (subst (λ (d : CallDone). IsAnswered h t c.args.kernel.now c.args.pages.now c.args.kernel.now m' [] (Err EFAULT) d) (sym is) done)
 
 pub returns-clause-answered : goal.returns-clause-answered
 returns-clause-answered c = λ h told read.

@@ -1,84 +1,59 @@
 -- The tests of the call, in their order.
-use Rattle.std.proofs.Common.{◌≡◌, ℕ, false, true, not, ◌||◌, eqb, Option, is_some, sym, ap, ◌∙◌}
-use Rattle.std.proofs.lemmas.Bool.{eq-eqb}
+use Rattle.std.proofs.Common.{◌≡◌, ℕ, Bool, not, ◌||◌, eqb, ◌∷◌, [], Option, is_some, refl, sym, ap, ◌∙◌, eq-eqb}
 use Rattle.mach_types.specs.Kernel.Signals.{refuses_action}
+use Rattle.sys_calls.proofs.Common.{EFAULT, EINVAL, Errors, Here, IsRead, Map, Saved, byte_in, can_write_in, int_in, register, unless}
 use Rattle.mach_types.specs.declared.signal_words.Action.{Action}
-use Rattle.mach_types.specs.declared.threads.Saved.{Saved}
-use Rattle.page_map.specs.Map.{Map, byte_in, can_write_in}
-use Rattle.block_model.specs.Here.{Here}
-use Rattle.block_model.specs.Calls.Answers.{argument, int_argument}
-use Rattle.block_model.specs.Calls.Signals.{action_given, action_size, may_read, may_write}
-use Rattle.sys_calls.specs.Answered.{IsRead}
+use Rattle.block_model.specs.Calls.Signals.{action_given, rt_sigaction}
 use Rattle.sys_calls.specs.Signalled.{pass_action, sigaction_with}
-use Rattle.sys_calls.proofs.ActionWords.{readable_here, writable_here}
-use Rattle.sys_calls.proofs.GuestMemory.{argument_is, if_false, if_true, int_argument_is, not_false, not_true}
+use Rattle.sys_calls.proofs.GuestMemory.{argument_is, if_false, if_true, int_argument_is, met, unmet}
 use Rattle.sys_calls.proofs.signal_calls.asked_action.Goals as goal
 
--- whether the new action can be read, and the old one written, as a rule reads it; and whether the change is refused
-read_is : (h : Here) (m : Map) (t : ℕ) (saved : Saved) → IsRead h m t saved → (at at' : ℕ) → at ≡ at' → (eqb at 0 || pass_action (λ a. is_some (byte_in m a)) at) ≡ may_read h at' action_size
-read_is h m t saved read at at' p = ap (λ b. eqb at 0 || b) (readable_here h m t saved read at) ∙ ap (λ a. may_read h a action_size) p
+-- they are asked of the page map, of the registers, and of the action that is given
+abbrev tests : (ℕ → Option ℕ) → (ℕ → Bool) → ℕ → ℕ → ℕ → ℕ → Option Action → Errors
+tests byte can sig act old size new =
+    (not (eqb size 8), EINVAL) ∷ (not (eqb act 0 || pass_action (λ a. is_some (byte a)) act), EFAULT)
+    ∷ (refuses_action sig new, EINVAL) ∷ (not (eqb old 0 || pass_action can old), EFAULT) ∷ []
 
-write_is : (h : Here) (m : Map) (t : ℕ) (saved : Saved) → IsRead h m t saved → (at at' : ℕ) → at ≡ at' → (eqb at 0 || pass_action (can_write_in m) at) ≡ may_write h at' action_size
-write_is h m t saved read at at' p = ap (λ b. eqb at 0 || b) (writable_here h m t saved read at) ∙ ap (λ a. may_write h a action_size) p
-
-change_is : (h : Here) (t sig : ℕ) (new : Option Action) → sig ≡ int_argument h t 0 → new ≡ action_given h (argument h t 1)
-    → refuses_action sig new ≡ refuses_action (int_argument h t 0) (action_given h (argument h t 1))
-change_is h t sig new p q = ap (λ n. refuses_action n new) p ∙ ap (refuses_action (int_argument h t 0)) q
+tests_are : (h : Here) (m : Map) (t : ℕ) (saved : Saved) → IsRead h m t saved → (sig act old size : ℕ) (new : Option Action) → sig ≡ int_in saved 0 → act ≡ register saved.file 11
+    → old ≡ register saved.file 12 → size ≡ register saved.file 13 → new ≡ action_given h act
+    → rt_sigaction h t ≡ unless h t (tests (byte_in m) (can_write_in m) sig act old size new) (sigaction_with h t new)
+unfolding pass_action
+tests_are h m t saved read sig act old size new p q r s given =
+    let sig_is = p ∙ int_argument_is h t saved read.file 0 in
+    let act_is = q ∙ argument_is h t saved read.file 1 in
+    let old_is = r ∙ argument_is h t saved read.file 2 in
+    let size_is = s ∙ argument_is h t saved read.file 3 in
+    let new_is = given ∙ ap (action_given h) act_is in
+    sym (λ i. unless h t (tests (read.bytes i) (read.writable i) (sig_is i) (act_is i) (old_is i) (size_is i) (new_is i)) (sigaction_with h t (new_is i)))
 
 pub returns-then-not-may_read_action-clause-refused : goal.returns-then-not-may_read_action-clause-refused
 returns-then-not-may_read_action-clause-refused c = λ h t read.
-    let size : c.argument.result ≡ argument h t 3 = c.argument.ensures ∙ argument_is h t c.args.saved.now read.file 3 in
-    let sized = not_true _ (eq-eqb (argument h t 3) 8 (sym size ∙ c.if-argument-ne-SET_SIZE.false)) in
-    let act : c.argument-act.result ≡ argument h t 1 = c.argument-act.ensures ∙ argument_is h t c.args.saved.now read.file 1 in
-    let cannot : may_read h (argument h t 1) action_size ≡ false =
-    sym (read_is h c.args.pages.now t c.args.saved.now read c.argument-act.result (argument h t 1) act) ∙ sym c.may_read_action.ensures ∙ c.if-not-may_read_action.true in
-    if_false (not (eqb (argument h t 3) 8)) _ _ sized ∙ if_true (not (may_read h (argument h t 1) action_size)) _ _ (not_false _ cannot)
+    let saved = c.args.saved.now in
+    tests_are h c.args.pages.now t saved read (int_in saved 0) c.argument-act.result (register saved.file 12) c.argument.result (action_given h c.argument-act.result)
+    refl c.argument-act.ensures refl c.argument.ensures refl
+    ∙ met _ _ (eq-eqb c.argument.result 8 c.if-argument-ne-SET_SIZE.false) ∙ unmet _ _ (sym c.may_read_action.ensures ∙ c.if-not-may_read_action.true)
 
 pub returns-then-refuses_action-clause-refused : goal.returns-then-refuses_action-clause-refused
 returns-then-refuses_action-clause-refused c = λ h t read.
-    let size : c.argument.result ≡ argument h t 3 = c.argument.ensures ∙ argument_is h t c.args.saved.now read.file 3 in
-    let sized = not_true _ (eq-eqb (argument h t 3) 8 (sym size ∙ c.if-argument-ne-SET_SIZE.false)) in
-    let act : c.argument-act.result ≡ argument h t 1 = c.argument-act.ensures ∙ argument_is h t c.args.saved.now read.file 1 in
-    let can : may_read h (argument h t 1) action_size ≡ true =
-    sym (read_is h c.args.pages.now t c.args.saved.now read c.argument-act.result (argument h t 1) act) ∙ sym c.may_read_action.ensures ∙ c.if-not-may_read_action.false in
-    let new : c.action_given-new.result ≡ action_given h (argument h t 1) = c.action_given-new.ensures h t c.args.saved.now read ∙ ap (action_given h) act in
-    let sig : c.int_argument.result ≡ int_argument h t 0 = c.int_argument.ensures ∙ int_argument_is h t c.args.saved.now read.file 0 in
-    let bad = sym (change_is h t c.int_argument.result c.action_given-new.result sig new) ∙ sym c.refuses_action.ensures ∙ c.if-refuses_action.true in
-    if_false (not (eqb (argument h t 3) 8)) _ _ sized ∙ if_false (not (may_read h (argument h t 1) action_size)) _ _ (not_true _ can)
-    ∙ if_true (refuses_action (int_argument h t 0) (action_given h (argument h t 1))) _ _ bad
+    let saved = c.args.saved.now in
+    tests_are h c.args.pages.now t saved read c.int_argument.result c.argument-act.result (register saved.file 12) c.argument.result c.action_given-new.result
+    c.int_argument.ensures c.argument-act.ensures refl c.argument.ensures (c.action_given-new.ensures h t saved read)
+    ∙ met _ _ (eq-eqb c.argument.result 8 c.if-argument-ne-SET_SIZE.false) ∙ met _ _ (sym c.may_read_action.ensures ∙ c.if-not-may_read_action.false)
+    ∙ if_true _ _ _ (sym c.refuses_action.ensures ∙ c.if-refuses_action.true)
 
 pub returns-then-not-may_write_action-clause-refused : goal.returns-then-not-may_write_action-clause-refused
 returns-then-not-may_write_action-clause-refused c = λ h t read.
-    let size : c.argument.result ≡ argument h t 3 = c.argument.ensures ∙ argument_is h t c.args.saved.now read.file 3 in
-    let sized = not_true _ (eq-eqb (argument h t 3) 8 (sym size ∙ c.if-argument-ne-SET_SIZE.false)) in
-    let act : c.argument-act.result ≡ argument h t 1 = c.argument-act.ensures ∙ argument_is h t c.args.saved.now read.file 1 in
-    let can : may_read h (argument h t 1) action_size ≡ true =
-    sym (read_is h c.args.pages.now t c.args.saved.now read c.argument-act.result (argument h t 1) act) ∙ sym c.may_read_action.ensures ∙ c.if-not-may_read_action.false in
-    let new : c.action_given-new.result ≡ action_given h (argument h t 1) = c.action_given-new.ensures h t c.args.saved.now read ∙ ap (action_given h) act in
-    let sig : c.int_argument.result ≡ int_argument h t 0 = c.int_argument.ensures ∙ int_argument_is h t c.args.saved.now read.file 0 in
-    let good = sym (change_is h t c.int_argument.result c.action_given-new.result sig new) ∙ sym c.refuses_action.ensures ∙ c.if-refuses_action.false in
-    let old : c.argument-2.result ≡ argument h t 2 = c.argument-2.ensures ∙ argument_is h t c.args.saved.now read.file 2 in
-    let cannot : may_write h (argument h t 2) action_size ≡ false =
-    sym (write_is h c.args.pages.now t c.args.saved.now read c.argument-2.result (argument h t 2) old) ∙ sym c.may_write_action.ensures ∙ c.if-not-may_write_action.true in
-    if_false (not (eqb (argument h t 3) 8)) _ _ sized ∙ if_false (not (may_read h (argument h t 1) action_size)) _ _ (not_true _ can)
-    ∙ if_false (refuses_action (int_argument h t 0) (action_given h (argument h t 1))) _ _ good ∙ if_true (not (may_write h (argument h t 2) action_size)) _ _ (not_false _ cannot)
+    tests_are h c.args.pages.now t c.args.saved.now read c.int_argument.result c.argument-act.result c.argument-2.result c.argument.result c.action_given-new.result
+    c.int_argument.ensures c.argument-act.ensures c.argument-2.ensures c.argument.ensures (c.action_given-new.ensures h t c.args.saved.now read)
+    ∙ met _ _ (eq-eqb c.argument.result 8 c.if-argument-ne-SET_SIZE.false) ∙ met _ _ (sym c.may_read_action.ensures ∙ c.if-not-may_read_action.false)
+    ∙ if_false _ _ _ (sym c.refuses_action.ensures ∙ c.if-refuses_action.false) ∙ unmet _ _ (sym c.may_write_action.ensures ∙ c.if-not-may_write_action.true)
 
 pub returns-clause-given : goal.returns-clause-given
 returns-clause-given c = λ h t read.
-    let size : c.argument.result ≡ argument h t 3 = c.argument.ensures ∙ argument_is h t c.args.saved.now read.file 3 in
-    let sized = not_true _ (eq-eqb (argument h t 3) 8 (sym size ∙ c.if-argument-ne-SET_SIZE.false)) in
-    let act : c.argument-act.result ≡ argument h t 1 = c.argument-act.ensures ∙ argument_is h t c.args.saved.now read.file 1 in
-    let can : may_read h (argument h t 1) action_size ≡ true =
-    sym (read_is h c.args.pages.now t c.args.saved.now read c.argument-act.result (argument h t 1) act) ∙ sym c.may_read_action.ensures ∙ c.if-not-may_read_action.false in
-    let new : c.action_given-new.result ≡ action_given h (argument h t 1) = c.action_given-new.ensures h t c.args.saved.now read ∙ ap (action_given h) act in
-    let sig : c.int_argument.result ≡ int_argument h t 0 = c.int_argument.ensures ∙ int_argument_is h t c.args.saved.now read.file 0 in
-    let good = sym (change_is h t c.int_argument.result c.action_given-new.result sig new) ∙ sym c.refuses_action.ensures ∙ c.if-refuses_action.false in
-    let old : c.argument-2.result ≡ argument h t 2 = c.argument-2.ensures ∙ argument_is h t c.args.saved.now read.file 2 in
-    let can' : may_write h (argument h t 2) action_size ≡ true =
-    sym (write_is h c.args.pages.now t c.args.saved.now read c.argument-2.result (argument h t 2) old) ∙ sym c.may_write_action.ensures ∙ c.if-not-may_write_action.false in
-    if_false (not (eqb (argument h t 3) 8)) _ _ sized ∙ if_false (not (may_read h (argument h t 1) action_size)) _ _ (not_true _ can)
-    ∙ if_false (refuses_action (int_argument h t 0) (action_given h (argument h t 1))) _ _ good ∙ if_false (not (may_write h (argument h t 2) action_size)) _ _ (not_true _ can')
-    ∙ ap (sigaction_with h t) (sym new)
+    tests_are h c.args.pages.now t c.args.saved.now read c.int_argument.result c.argument-act.result c.argument-2.result c.argument.result c.action_given-new.result
+    c.int_argument.ensures c.argument-act.ensures c.argument-2.ensures c.argument.ensures (c.action_given-new.ensures h t c.args.saved.now read)
+    ∙ met _ _ (eq-eqb c.argument.result 8 c.if-argument-ne-SET_SIZE.false) ∙ met _ _ (sym c.may_read_action.ensures ∙ c.if-not-may_read_action.false)
+    ∙ if_false _ _ _ (sym c.refuses_action.ensures ∙ c.if-refuses_action.false) ∙ met _ _ (sym c.may_write_action.ensures ∙ c.if-not-may_write_action.false)
 
 pub returns-clause-accepted : goal.returns-clause-accepted
 returns-clause-accepted c =

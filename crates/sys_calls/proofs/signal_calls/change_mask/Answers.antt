@@ -1,6 +1,5 @@
 -- The mask is changed where a set is given.
-use Rattle.std.proofs.Common.{ℕ, eqb, sym, ap, ◌∙◌}
-use Rattle.std.proofs.lemmas.Bool.{ne_eqb}
+use Rattle.std.proofs.Common.{ℕ, eqb, sym, ap, ◌∙◌, ne_eqb}
 use Rattle.mach_types.specs.Kernel.Signals.{changed_mask, mask_of, with_mask}
 use Rattle.sys_calls.proofs.GuestMemory.{if_false}
 use Rattle.sys_calls.proofs.signal_calls.change_mask.Goals as goal

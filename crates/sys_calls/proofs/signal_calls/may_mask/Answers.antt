@@ -1,79 +1,54 @@
 -- The tests of the call, in their order.
-use Rattle.std.proofs.Common.{◌≡◌, ℕ, false, true, not, ◌&&◌, ◌||◌, eqb, is_some, sym, ap, ◌∙◌}
-use Rattle.std.proofs.lemmas.Bool.{eq-eqb}
-use Rattle.mach_types.specs.Bytes.{each_byte}
+use Rattle.std.proofs.Common.{◌≡◌, ℕ, Bool, not, ◌&&◌, ◌||◌, eqb, ◌∷◌, [], Option, is_some, refl, sym, ap, ◌∙◌, eq-eqb}
+use Rattle.sys_calls.proofs.Common.{EFAULT, EINVAL, Errors, Here, IsRead, Map, Saved, byte_in, can_write_in, each_byte, int_in, register, unless}
 use Rattle.mach_types.specs.Kernel.Signals.{refuses_how}
-use Rattle.mach_types.specs.Registers.{register}
-use Rattle.mach_types.specs.declared.threads.Saved.{Saved}
-use Rattle.page_map.specs.Map.{Map, byte_in, can_write_in}
-use Rattle.block_model.specs.Here.{Here}
-use Rattle.block_model.specs.Calls.Answers.{argument, int_argument}
-use Rattle.block_model.specs.Calls.Signals.{may_read, may_write}
-use Rattle.sys_calls.specs.Answered.{IsRead}
-use Rattle.sys_calls.proofs.GuestMemory.{argument_is, if_false, if_true, int_argument_is, not_false, not_true, readable_is, writable_is}
+use Rattle.block_model.specs.Calls.Signals.{rt_sigprocmask}
+use Rattle.sys_calls.specs.Signalled.{sigprocmask_done}
+use Rattle.sys_calls.proofs.GuestMemory.{argument_is, if_false, if_true, int_argument_is, met, unmet}
 use Rattle.sys_calls.proofs.signal_calls.may_mask.Goals as goal
 
--- whether the set can be read, and the old mask written, as a rule reads it; and whether the change is refused
-read_is : (h : Here) (m : Map) (t : ℕ) (saved : Saved) → IsRead h m t saved → (at at' : ℕ) → at ≡ at' → (eqb at 0 || each_byte (λ a. is_some (byte_in m a)) at 8) ≡ may_read h at' 8
-read_is h m t saved read at at' p = ap (λ b. eqb at 0 || b) (readable_is h m t saved read at 8) ∙ ap (λ a. may_read h a 8) p
+-- they are asked of the page map and of the registers
+abbrev tests : (ℕ → Option ℕ) → (ℕ → Bool) → ℕ → ℕ → ℕ → ℕ → Errors
+tests byte can how set old size =
+    (not (eqb size 8), EINVAL) ∷ (not (eqb set 0 || each_byte (λ a. is_some (byte a)) set 8), EFAULT)
+    ∷ (not (eqb set 0) && refuses_how how, EINVAL) ∷ (not (eqb old 0 || each_byte can old 8), EFAULT) ∷ []
 
-write_is : (h : Here) (m : Map) (t : ℕ) (saved : Saved) → IsRead h m t saved → (at at' : ℕ) → at ≡ at' → (eqb at 0 || each_byte (can_write_in m) at 8) ≡ may_write h at' 8
-write_is h m t saved read at at' p = ap (λ b. eqb at 0 || b) (writable_is h m t saved read at 8) ∙ ap (λ a. may_write h a 8) p
-
-change_is : (h : Here) (t how set : ℕ) → how ≡ int_argument h t 0 → set ≡ argument h t 1
-    → (not (eqb set 0) && refuses_how how) ≡ (not (eqb (argument h t 1) 0) && refuses_how (int_argument h t 0))
-change_is h t how set p q = ap (λ n. not (eqb set 0) && refuses_how n) p ∙ ap (λ a. not (eqb a 0) && refuses_how (int_argument h t 0)) q
+tests_are : (h : Here) (m : Map) (t : ℕ) (saved : Saved) → IsRead h m t saved → (how set old size : ℕ) → how ≡ int_in saved 0 → set ≡ register saved.file 11
+    → old ≡ register saved.file 12 → size ≡ register saved.file 13
+    → rt_sigprocmask h t ≡ unless h t (tests (byte_in m) (can_write_in m) how set old size) (sigprocmask_done h t)
+tests_are h m t saved read how set old size p q r s =
+    let how_is = p ∙ int_argument_is h t saved read.file 0 in
+    let set_is = q ∙ argument_is h t saved read.file 1 in
+    let old_is = r ∙ argument_is h t saved read.file 2 in
+    let size_is = s ∙ argument_is h t saved read.file 3 in
+    sym (λ i. unless h t (tests (read.bytes i) (read.writable i) (how_is i) (set_is i) (old_is i) (size_is i)) (sigprocmask_done h t))
 
 pub returns-then-not-may_read_set-clause-refused : goal.returns-then-not-may_read_set-clause-refused
 returns-then-not-may_read_set-clause-refused c = λ h t read.
-    let size : c.argument.result ≡ argument h t 3 = c.argument.ensures ∙ argument_is h t c.args.saved.now read.file 3 in
-    let sized = not_true _ (eq-eqb (argument h t 3) 8 (sym size ∙ c.if-argument-ne-SET_SIZE.false)) in
-    let set : c.argument-set.result ≡ argument h t 1 = c.argument-set.ensures ∙ argument_is h t c.args.saved.now read.file 1 in
-    let cannot : may_read h (argument h t 1) 8 ≡ false =
-    sym (read_is h c.args.pages.now t c.args.saved.now read c.argument-set.result (argument h t 1) set) ∙ sym c.may_read_set.ensures ∙ c.if-not-may_read_set.true in
-    if_false (not (eqb (argument h t 3) 8)) _ _ sized ∙ if_true (not (may_read h (argument h t 1) 8)) _ _ (not_false _ cannot)
+    let saved = c.args.saved.now in
+    tests_are h c.args.pages.now t saved read (int_in saved 0) c.argument-set.result (register saved.file 12) c.argument.result refl c.argument-set.ensures refl c.argument.ensures
+    ∙ met _ _ (eq-eqb c.argument.result 8 c.if-argument-ne-SET_SIZE.false) ∙ unmet _ _ (sym c.may_read_set.ensures ∙ c.if-not-may_read_set.true)
 
 pub returns-then-refuses_change-clause-refused : goal.returns-then-refuses_change-clause-refused
 returns-then-refuses_change-clause-refused c = λ h t read.
-    let size : c.argument.result ≡ argument h t 3 = c.argument.ensures ∙ argument_is h t c.args.saved.now read.file 3 in
-    let sized = not_true _ (eq-eqb (argument h t 3) 8 (sym size ∙ c.if-argument-ne-SET_SIZE.false)) in
-    let set : c.argument-set.result ≡ argument h t 1 = c.argument-set.ensures ∙ argument_is h t c.args.saved.now read.file 1 in
-    let can : may_read h (argument h t 1) 8 ≡ true =
-    sym (read_is h c.args.pages.now t c.args.saved.now read c.argument-set.result (argument h t 1) set) ∙ sym c.may_read_set.ensures ∙ c.if-not-may_read_set.false in
-    let how : c.int_argument.result ≡ int_argument h t 0 = c.int_argument.ensures ∙ int_argument_is h t c.args.saved.now read.file 0 in
-    let bad = sym (change_is h t c.int_argument.result c.argument-set.result how set) ∙ sym c.refuses_change.ensures ∙ c.if-refuses_change.true in
-    if_false (not (eqb (argument h t 3) 8)) _ _ sized ∙ if_false (not (may_read h (argument h t 1) 8)) _ _ (not_true _ can)
-    ∙ if_true (not (eqb (argument h t 1) 0) && refuses_how (int_argument h t 0)) _ _ bad
+    let saved = c.args.saved.now in
+    tests_are h c.args.pages.now t saved read c.int_argument.result c.argument-set.result (register saved.file 12) c.argument.result c.int_argument.ensures c.argument-set.ensures refl c.argument.ensures
+    ∙ met _ _ (eq-eqb c.argument.result 8 c.if-argument-ne-SET_SIZE.false) ∙ met _ _ (sym c.may_read_set.ensures ∙ c.if-not-may_read_set.false)
+    ∙ if_true _ _ _ (sym c.refuses_change.ensures ∙ c.if-refuses_change.true)
 
 pub returns-then-not-may_write_set-clause-refused : goal.returns-then-not-may_write_set-clause-refused
 returns-then-not-may_write_set-clause-refused c = λ h t read.
-    let size : c.argument.result ≡ argument h t 3 = c.argument.ensures ∙ argument_is h t c.args.saved.now read.file 3 in
-    let sized = not_true _ (eq-eqb (argument h t 3) 8 (sym size ∙ c.if-argument-ne-SET_SIZE.false)) in
-    let set : c.argument-set.result ≡ argument h t 1 = c.argument-set.ensures ∙ argument_is h t c.args.saved.now read.file 1 in
-    let can : may_read h (argument h t 1) 8 ≡ true =
-    sym (read_is h c.args.pages.now t c.args.saved.now read c.argument-set.result (argument h t 1) set) ∙ sym c.may_read_set.ensures ∙ c.if-not-may_read_set.false in
-    let how : c.int_argument.result ≡ int_argument h t 0 = c.int_argument.ensures ∙ int_argument_is h t c.args.saved.now read.file 0 in
-    let good = sym (change_is h t c.int_argument.result c.argument-set.result how set) ∙ sym c.refuses_change.ensures ∙ c.if-refuses_change.false in
-    let old : c.argument-2.result ≡ argument h t 2 = c.argument-2.ensures ∙ argument_is h t c.args.saved.now read.file 2 in
-    let cannot : may_write h (argument h t 2) 8 ≡ false =
-    sym (write_is h c.args.pages.now t c.args.saved.now read c.argument-2.result (argument h t 2) old) ∙ sym c.may_write_set.ensures ∙ c.if-not-may_write_set.true in
-    if_false (not (eqb (argument h t 3) 8)) _ _ sized ∙ if_false (not (may_read h (argument h t 1) 8)) _ _ (not_true _ can)
-    ∙ if_false (not (eqb (argument h t 1) 0) && refuses_how (int_argument h t 0)) _ _ good ∙ if_true (not (may_write h (argument h t 2) 8)) _ _ (not_false _ cannot)
+    tests_are h c.args.pages.now t c.args.saved.now read c.int_argument.result c.argument-set.result c.argument-2.result c.argument.result
+    c.int_argument.ensures c.argument-set.ensures c.argument-2.ensures c.argument.ensures
+    ∙ met _ _ (eq-eqb c.argument.result 8 c.if-argument-ne-SET_SIZE.false) ∙ met _ _ (sym c.may_read_set.ensures ∙ c.if-not-may_read_set.false)
+    ∙ if_false _ _ _ (sym c.refuses_change.ensures ∙ c.if-refuses_change.false) ∙ unmet _ _ (sym c.may_write_set.ensures ∙ c.if-not-may_write_set.true)
 
 pub returns-clause-masks : goal.returns-clause-masks
 returns-clause-masks c = λ h t read.
-    let size : c.argument.result ≡ argument h t 3 = c.argument.ensures ∙ argument_is h t c.args.saved.now read.file 3 in
-    let sized = not_true _ (eq-eqb (argument h t 3) 8 (sym size ∙ c.if-argument-ne-SET_SIZE.false)) in
-    let set : c.argument-set.result ≡ argument h t 1 = c.argument-set.ensures ∙ argument_is h t c.args.saved.now read.file 1 in
-    let can : may_read h (argument h t 1) 8 ≡ true =
-    sym (read_is h c.args.pages.now t c.args.saved.now read c.argument-set.result (argument h t 1) set) ∙ sym c.may_read_set.ensures ∙ c.if-not-may_read_set.false in
-    let how : c.int_argument.result ≡ int_argument h t 0 = c.int_argument.ensures ∙ int_argument_is h t c.args.saved.now read.file 0 in
-    let good = sym (change_is h t c.int_argument.result c.argument-set.result how set) ∙ sym c.refuses_change.ensures ∙ c.if-refuses_change.false in
-    let old : c.argument-2.result ≡ argument h t 2 = c.argument-2.ensures ∙ argument_is h t c.args.saved.now read.file 2 in
-    let can' : may_write h (argument h t 2) 8 ≡ true =
-    sym (write_is h c.args.pages.now t c.args.saved.now read c.argument-2.result (argument h t 2) old) ∙ sym c.may_write_set.ensures ∙ c.if-not-may_write_set.false in
-    if_false (not (eqb (argument h t 3) 8)) _ _ sized ∙ if_false (not (may_read h (argument h t 1) 8)) _ _ (not_true _ can)
-    ∙ if_false (not (eqb (argument h t 1) 0) && refuses_how (int_argument h t 0)) _ _ good ∙ if_false (not (may_write h (argument h t 2) 8)) _ _ (not_true _ can')
+    tests_are h c.args.pages.now t c.args.saved.now read c.int_argument.result c.argument-set.result c.argument-2.result c.argument.result
+    c.int_argument.ensures c.argument-set.ensures c.argument-2.ensures c.argument.ensures
+    ∙ met _ _ (eq-eqb c.argument.result 8 c.if-argument-ne-SET_SIZE.false) ∙ met _ _ (sym c.may_read_set.ensures ∙ c.if-not-may_read_set.false)
+    ∙ if_false _ _ _ (sym c.refuses_change.ensures ∙ c.if-refuses_change.false) ∙ met _ _ (sym c.may_write_set.ensures ∙ c.if-not-may_write_set.false)
 
 pub returns-clause-how : goal.returns-clause-how
 returns-clause-how c =

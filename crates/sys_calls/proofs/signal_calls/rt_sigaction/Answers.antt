@@ -1,16 +1,10 @@
 -- The action is set, and the old one is written where it is asked for.
-use Rattle.std.proofs.Common.{◌≡◌, ℕ, ◌≤◌, Bool, true, false, ◌||◌, cond, eqb, List, [], Option, refl, sym, ap, subst, ◌∙◌, inl, inr}
-use Rattle.std.specs.Prelude.{Ok, nat_lt}
+use Rattle.std.proofs.Common.{◌≡◌, ℕ, ◌≤◌, Bool, true, false, ◌||◌, cond, eqb, List, [], Option, refl, sym, ap, subst, ◌∙◌, inl, inr, Ok, nat_lt}
 use Rattle.std.proofs.lemmas.Bool.{cases_lt, false≢true, lt-ltb}
 use Rattle.mach_types.specs.Kernel.Signals.{Signalling, acted, action_of, refuses_action}
 use Rattle.mach_types.specs.declared.signal_words.Action.{Action}
-use Rattle.mach_types.specs.declared.user_memory.Write.{Write}
-use Rattle.page_map.specs.Map.{can_write_in}
-use Rattle.block_model.specs.Here.{Here}
-use Rattle.block_model.specs.Calls.Answers.{CallDone, argument, int_argument}
+use Rattle.sys_calls.proofs.Common.{CallDone, Here, IsAnswered, IsEntered, Kernel, Write, argument, can_write_in, int_argument}
 use Rattle.block_model.specs.Calls.Signals.{action_written}
-use Rattle.sys_calls.specs.declared.kernel.Kernel.{Kernel}
-use Rattle.sys_calls.specs.Answered.{IsAnswered, IsEntered}
 use Rattle.sys_calls.specs.Signalled.{pass_action}
 use Rattle.sys_calls.proofs.GuestMemory.{argument_is, int_argument_is}
 use Rattle.sys_calls.proofs.signal_calls.rt_sigaction.Goals as goal

@@ -1,16 +1,9 @@
 -- The mask is changed, and the old one is written where it is asked for.
-use Rattle.std.proofs.Common.{◌≡◌, ℕ, not, ◌&&◌, ◌||◌, cond, eqb, List, [], ◌∷◌, unwrap_or, sym, ap, subst, ◌∙◌, refl}
-use Rattle.std.specs.Prelude.{Ok}
-use Rattle.mach_types.specs.Bytes.{each_byte, word_at}
+use Rattle.std.proofs.Common.{◌≡◌, ℕ, not, ◌&&◌, ◌||◌, cond, eqb, List, [], ◌∷◌, unwrap_or, sym, ap, subst, ◌∙◌, refl, Ok}
+use Rattle.sys_calls.proofs.Common.{Here, IsAnswered, IsEntered, Kernel, Write, byte_in, can_write_in, each_byte, int_in, word_at}
 use Rattle.mach_types.specs.Kernel.Signals.{Signalling, mask_of, refuses_how}
-use Rattle.mach_types.specs.declared.user_memory.Write.{Write}
-use Rattle.page_map.specs.Map.{byte_in, can_write_in}
-use Rattle.block_model.specs.Here.{Here}
 use Rattle.block_model.specs.Calls.Answers.{CallDone, argument, double_written, int_argument, number_at}
 use Rattle.block_model.specs.Calls.Signals.{masked}
-use Rattle.sys_calls.specs.declared.kernel.Kernel.{Kernel}
-use Rattle.sys_calls.specs.Answered.{IsAnswered, IsEntered}
-use Rattle.sys_calls.specs.Registered.{int_in}
 use Rattle.sys_calls.specs.Signalled.{mask_changed}
 use Rattle.sys_calls.proofs.GuestMemory.{argument_is, int_argument_is, number_there}
 use Rattle.sys_calls.proofs.signal_calls.rt_sigprocmask.Goals as goal

@@ -2,19 +2,11 @@
 use Rattle.std.proofs.Common.{◌≡◌, ℕ, true, false, List, [], Option, Some, None, is_some, refl, sym, ap, subst, ◌∙◌}
 use Rattle.std.proofs.lemmas.Bool.{false≢true}
 use Rattle.mach_types.specs.Kernel.SignalFrames.{frame_read, restored, returned, saved_after_return}
-use Rattle.mach_types.specs.Kernel.Signals.{Signalling}
-use Rattle.mach_types.specs.Kernel.Threads.{Threads, running_on, runs}
+use Rattle.sys_calls.proofs.Common.{HasPages, Here, HoldsTables, IsCaller, IsMade, IsRead, Kernel, Map, Saved, Signalling, Threads, byte_in, memory, running_on, runs}
 use Rattle.mach_types.specs.declared.limits.End.TheVariants.{Killed}
 use Rattle.mach_types.specs.declared.signals.TheConstants.{SIGSEGV}
-use Rattle.mach_types.specs.declared.threads.Saved.{Saved}
-use Rattle.page_map.specs.Map.{Map, byte_in}
-use Rattle.block_model.specs.Here.{Here, memory}
 use Rattle.block_model.specs.Calls.Signals.{resumed}
 use Rattle.sys_calls.specs.declared.calling.CallEnd.TheVariants as over
-use Rattle.sys_calls.specs.declared.kernel.Kernel.{Kernel}
-use Rattle.sys_calls.specs.Answered.{IsCaller, IsRead}
-use Rattle.sys_calls.specs.Tables.{HoldsTables}
-use Rattle.sys_calls.specs.Made.{HasPages, IsMade}
 use Rattle.sys_calls.proofs.Laws.{holds_signals}
 use Rattle.sys_calls.proofs.CallAnswers.{kept_own, own_first, made_ended}
 use Rattle.sys_calls.proofs.ThreadSignals.{caller_signalled}
@@ -63,12 +55,11 @@ pub returns-then-pop_frame : goal.returns-then-pop_frame
 returns-then-pop_frame c = record {
   made = λ h hart told has read.
       let t = c.args.tid.0 in
-      let k = c.args.kernel.now in
-      let m = c.args.pages.now in
-      let words = frame_read (byte_in m) c.args.saved.now in
-      subst (λ (o : Option (List ℕ)). IsMade h t k m (turned k c.pop_frame.new.self) m c.pop_frame.new.saved over.Resume (resumed h t o)) (frame_there h m t c.args.saved.now read)
-      (made_resumed h t c.args.here.0 k c.pop_frame.new.self m c.args.saved.now c.pop_frame.new.saved words hart told has read.file c.requires c.pop_frame.ensures.signals c.pop_frame.ensures.file
-      (sym c.pop_frame.ensures.answer ∙ c.if-pop_frame.true));
+      let saved = c.args.saved.now in
+      let is = c.pop_frame.ensures in
+      subst (λ (o : Option (List ℕ)). IsMade h t c.args.kernel.now c.args.pages.now (turned c.args.kernel.now c.pop_frame.new.self) c.args.pages.now c.pop_frame.new.saved over.Resume (resumed h t o))
+      (frame_there h c.args.pages.now t saved read)
+      (made_resumed h t c.args.here.0 c.args.kernel.now c.pop_frame.new.self c.args.pages.now saved c.pop_frame.new.saved (frame_read (byte_in c.args.pages.now) saved) hart told has read.file c.requires is.signals is.file (sym is.answer ∙ c.if-pop_frame.true));
 }
 
 pub returns-else-pop_frame : goal.returns-else-pop_frame
@@ -77,8 +68,7 @@ returns-else-pop_frame c = record {
       let t = c.args.tid.0 in
       let k = c.args.kernel.now in
       let m = c.args.pages.now in
-      let words = frame_read (byte_in m) c.args.saved.now in
       subst (λ (o : Option (List ℕ)). IsMade h t k m (turned k c.pop_frame.new.self) m c.pop_frame.new.saved (over.ProcessEnd (Killed SIGSEGV)) (resumed h t o)) (frame_there h m t c.args.saved.now read)
-      (made_lost h t c.args.here.0 k c.pop_frame.new.self m c.args.saved.now c.pop_frame.new.saved words hart told has read.file c.requires c.pop_frame.ensures.signals c.pop_frame.ensures.file
+      (made_lost h t c.args.here.0 k c.pop_frame.new.self m c.args.saved.now c.pop_frame.new.saved (frame_read (byte_in m) c.args.saved.now) hart told has read.file c.requires c.pop_frame.ensures.signals c.pop_frame.ensures.file
       (sym c.pop_frame.ensures.answer ∙ c.if-pop_frame.false));
 }

@@ -1,10 +1,7 @@
 -- A signal that can be sent is posted.
-use Rattle.std.proofs.Common.{◌≡◌, false, eqb, [], sym, ap, subst, ◌∙◌}
-use Rattle.std.specs.Prelude.{Ok}
-use Rattle.std.proofs.lemmas.Bool.{ne_eqb}
-use Rattle.block_model.specs.Calls.Answers.{CallDone}
+use Rattle.std.proofs.Common.{◌≡◌, false, eqb, [], sym, ap, subst, ◌∙◌, Ok, ne_eqb}
+use Rattle.sys_calls.proofs.Common.{CallDone, IsAnswered}
 use Rattle.block_model.specs.Calls.Signals.{post, refuses_signal, send}
-use Rattle.sys_calls.specs.Answered.{IsAnswered}
 use Rattle.sys_calls.proofs.GuestMemory.{if_false}
 use Rattle.sys_calls.proofs.signal_posting.send.Goals as goal
 

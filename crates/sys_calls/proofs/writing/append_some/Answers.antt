@@ -1,8 +1,6 @@
 -- The first bytes that fit.
 use Rattle.std.proofs.Common.{◌≡◌, ℕ, ◌+◌, ◌-◌, min, List, length, take, ◌++◌, sym, ap, ◌∙◌, arith}
-use Rattle.mach_types.specs.declared.kernel_words.TheConstants.{CONSOLE_ROOM}
-use Rattle.page_map.specs.Map.{Map, byte_in}
-use Rattle.block_model.specs.Calls.Console.{bytes_from}
+use Rattle.sys_calls.proofs.Common.{CONSOLE_ROOM, Map, byte_in, bytes_from}
 use Rattle.sys_calls.proofs.Spans.{length-bytes_from, take-bytes_from}
 use Rattle.sys_calls.proofs.writing.append_some.Goals as goal
 

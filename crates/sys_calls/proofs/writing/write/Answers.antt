@@ -1,16 +1,8 @@
 -- The bytes are one span.
-use Rattle.std.proofs.Common.{◌≡◌, ℕ, ◌-◌, ◌≤◌, ◌<◌, Bool, true, false, ◌&&◌, List, [], ◌∷◌, ◌++◌, length, take, Option, is_some, sym, ap, ◌∙◌, arith, append-nil}
-use Rattle.std.specs.Prelude.{Ok, Err}
+use Rattle.std.proofs.Common.{◌≡◌, ℕ, ◌-◌, ◌≤◌, ◌<◌, Bool, true, false, ◌&&◌, List, [], ◌∷◌, ◌++◌, length, take, Option, is_some, sym, ap, ◌∙◌, arith, append-nil, Ok, Err}
 use Rattle.mach_types.specs.declared.errors.TheConstants.{EFAULT, ENOSPC}
-use Rattle.mach_types.specs.declared.kernel_words.TheConstants.{CONSOLE_ROOM}
-use Rattle.mach_types.specs.Bytes.{each_byte}
-use Rattle.mach_types.specs.Registers.{register}
-use Rattle.mach_types.specs.declared.threads.Saved.{Saved}
-use Rattle.page_map.specs.Map.{Map, byte_in}
-use Rattle.block_model.specs.Here.{Here, memory}
-use Rattle.block_model.specs.Calls.Answers.{argument, are_readable}
+use Rattle.sys_calls.proofs.Common.{CONSOLE_ROOM, Here, IsRead, Map, Saved, are_readable, argument, byte_in, each_byte, memory, register}
 use Rattle.block_model.specs.Calls.Console.{Span, all_readable, bytes_from, bytes_of, is_elsewhere, room, total, write}
-use Rattle.sys_calls.specs.Answered.{IsRead}
 use Rattle.sys_calls.proofs.GuestMemory.{argument_is, if_false, readable_at}
 use Rattle.sys_calls.proofs.CallAnswers.{answered_printed, answered_said}
 use Rattle.sys_calls.proofs.ConsoleWrites.{spans_full, spans_unreadable, spans_wrote}

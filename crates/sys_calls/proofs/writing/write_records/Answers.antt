@@ -1,9 +1,7 @@
 -- The bytes are those of the spans that the records name.
-use Rattle.std.proofs.Common.{◌≡◌, ℕ, ◌+◌, ◌-◌, ◌<◌, ◌^◌, true, false, leb, List, ◌++◌, length, take, sym, ap, ◌∙◌, arith, length-append}
-use Rattle.std.specs.Prelude.{Ok}
+use Rattle.std.proofs.Common.{◌≡◌, ℕ, ◌+◌, ◌-◌, ◌<◌, ◌^◌, true, false, leb, List, ◌++◌, length, take, sym, ap, ◌∙◌, arith, length-append, Ok}
 use Rattle.std.proofs.lemmas.Bool.{lt-leb}
-use Rattle.mach_types.specs.declared.kernel_words.TheConstants.{CONSOLE_ROOM}
-use Rattle.block_model.specs.Here.{memory}
+use Rattle.sys_calls.proofs.Common.{CONSOLE_ROOM, memory}
 use Rattle.block_model.specs.Calls.Console.{Span, all_readable, bytes_of, room, spans_at, total}
 use Rattle.sys_calls.specs.Joined.{write_joined}
 use Rattle.sys_calls.proofs.GuestMemory.{if_false}

@@ -1,11 +1,7 @@
 -- The records, and then the spans that they name.
-use Rattle.std.proofs.Common.{◌≡◌, ℕ, ◌*◌, true, false, not, ltb, [], sym, ap, subst, ◌∙◌, arith}
-use Rattle.std.specs.Prelude.{Err}
-use Rattle.std.proofs.lemmas.Bool.{le-ltb}
-use Rattle.mach_types.specs.declared.errors.TheConstants.{EFAULT}
-use Rattle.block_model.specs.Calls.Answers.{CallDone, argument, are_readable}
+use Rattle.std.proofs.Common.{◌≡◌, ℕ, ◌*◌, true, false, not, ltb, [], sym, ap, subst, ◌∙◌, arith, Err, le-ltb}
+use Rattle.sys_calls.proofs.Common.{CallDone, EFAULT, IsAnswered, are_readable, argument}
 use Rattle.block_model.specs.Calls.Console.{is_elsewhere, spans_at, writev}
-use Rattle.sys_calls.specs.Answered.{IsAnswered}
 use Rattle.sys_calls.specs.Joined.{write_joined}
 use Rattle.sys_calls.proofs.GuestMemory.{argument_is, if_false, if_true, not_false, not_true, readable_at}
 use Rattle.sys_calls.proofs.CallAnswers.{answered_said}

@@ -1,18 +1,13 @@
 -- What would be answered to a choice.
 use Rattle.std.proofs.Common.{refl, sym}
 use Rattle.machine_core.specs.Machines.{seen}
-use Rattle.machine_core.proofs.StretchAppends.{place_open}
+use Rattle.machine_core.proofs.StretchAppends.{code_open, place_open}
 use Rattle.machine_core.proofs.Steps.{allowed, refused}
 use Rattle.machine_core.proofs.machine.Machine.answer.Goals as goal
 
 pub answer-requires : goal.answer-requires
 answer-requires c =
-    let m = c.self.inside in
-    record {
-      seen = seen m;
-      place = place_open m c.args.hart.0 c.self.invariant (rw (← c.self.view_is) at c.in_default.ensures.goes) (rw (← c.self.view_is) at c.in_default.ensures.hart);
-      pages = refl;
-    }
+    code_open c.self.inside c.args.hart.0 c.self.invariant (rw (← c.self.view_is) at c.in_default.ensures.goes) (rw (← c.self.view_is) at c.in_default.ensures.hart)
 
 pub returns-in-Ok : goal.returns-in-Ok
 returns-in-Ok c =

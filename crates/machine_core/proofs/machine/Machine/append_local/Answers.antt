@@ -1,9 +1,7 @@
 use Rattle.std.proofs.Common.{◌-◌, sym, ap, ◌∙◌, arith}
-use Rattle.hart_state.specs.declared.hart.HartState.{HartState}
+use Rattle.machine_core.proofs.Common.{HartState, past_of, setting_of, stretch_of}
 use Rattle.block_model.specs.Deciding.{history}
 use Rattle.block_model.proofs.Laws.{is_lent, length-history}
-use Rattle.machine_core.specs.Stretches.{stretch_of}
-use Rattle.machine_core.specs.Machines.{past_of, setting_of}
 use Rattle.machine_core.proofs.StretchAppends.{appended_is, has_room, makes}
 use Rattle.machine_core.proofs.machine.Machine.append_local.Goals as goal
 

@@ -1,8 +1,7 @@
 use Rattle.std.proofs.Common.{◌++◌, map, ◌≡◌, refl, sym, ap, ◌∙◌, subst, arith, Some, true}
-use Rattle.machine_core.specs.Stretches.{executed, stretch_of}
-use Rattle.machine_core.specs.Machines.{setting_of}
+use Rattle.machine_core.proofs.Common.{executed, setting_of, stretch_of}
 use Rattle.machine_core.proofs.AdvanceAnswers.{all_of, chosen_of}
-use Rattle.machine_core.proofs.StretchAppends.{counts_fit, of_machine, ready, taken, with_hart}
+use Rattle.machine_core.proofs.StretchAppends.{counts_fit, of_machine, ready, taken_ready, with_hart}
 use Rattle.machine_core.proofs.MachineCredits.{IsSettled}
 use Rattle.machine_core.proofs.machine.Machine.append_whole.Goals as goal
 
@@ -36,14 +35,12 @@ invariant_of-self c =
     let h = c.args.hart in
     let l = stretch_of c.args.stretch in
     let x = c.index_mut-state.result.now in
-    let t = c.in-Some.tid in
-    let is = ready m h l x c.self.invariant (rw (← c.self.view_is) at c.requires.chosen) (rw (← c.self.view_is) at c.requires.fits)
-    (rw (← c.self.view_is) at c.requires.goes) (rw (← c.self.view_is) at c.requires.events) c.index_mut-state.ensures.value in
-    let all = taken m h l x t is (rw (← c.self.view_is) at c.requires.room) c.in-Some.is in
-    let log : c.append_executed.new.log.items ≡ m.log.items ++ map (executed h t) l.pcs =
-    c.append_executed.ensures.items ∙ ap (λ pcs. m.log.items ++ map (executed h t) pcs) c.as_slice.ensures.value in
+    let all = taken_ready m h l x c.in-Some.tid c.self.invariant (rw (← c.self.view_is) at c.requires.chosen) (rw (← c.self.view_is) at c.requires.fits)
+    (rw (← c.self.view_is) at c.requires.goes) (rw (← c.self.view_is) at c.requires.events) c.index_mut-state.ensures.value (rw (← c.self.view_is) at c.requires.room) c.in-Some.is in
+    let log : c.append_executed.new.log.items ≡ m.log.items ++ map (executed h c.in-Some.tid) l.pcs =
+    c.append_executed.ensures.items ∙ ap (λ pcs. m.log.items ++ map (executed h c.in-Some.tid) pcs) c.as_slice.ensures.value in
     let machine = c.self.invariant in
-    let set = subst (λ y. IsSettled (setting_of m) (m.log.items ++ map (executed h t) l.pcs) (with_hart m h.0 y) m.chooser true) (sym c.take_in.ensures) all.settled in
+    let set = subst (λ y. IsSettled (setting_of m) (m.log.items ++ map (executed h c.in-Some.tid) l.pcs) (with_hart m h.0 y) m.chooser true) (sym c.take_in.ensures) all.settled in
     let chosen_so : m.chosen ≡ true = machine.chosen ∙ sym (all_of (setting_of m) m.log.items (rw (← c.self.view_is) at c.requires.chosen)) in
     record {
       run = rw log all.run;
@@ -61,13 +58,10 @@ returns c =
     let m = c.self.inside in
     let h = c.args.hart in
     let l = stretch_of c.args.stretch in
-    let x = c.index_mut-state.result.now in
-    let t = c.in-Some.tid in
-    let is = ready m h l x c.self.invariant (rw (← c.self.view_is) at c.requires.chosen) (rw (← c.self.view_is) at c.requires.fits)
-    (rw (← c.self.view_is) at c.requires.goes) (rw (← c.self.view_is) at c.requires.events) c.index_mut-state.ensures.value in
-    let all = taken m h l x t is (rw (← c.self.view_is) at c.requires.room) c.in-Some.is in
-    let log : c.append_executed.new.log.items ≡ m.log.items ++ map (executed h t) l.pcs =
-    c.append_executed.ensures.items ∙ ap (λ pcs. m.log.items ++ map (executed h t) pcs) c.as_slice.ensures.value in
+    let all = taken_ready m h l c.index_mut-state.result.now c.in-Some.tid c.self.invariant (rw (← c.self.view_is) at c.requires.chosen) (rw (← c.self.view_is) at c.requires.fits)
+    (rw (← c.self.view_is) at c.requires.goes) (rw (← c.self.view_is) at c.requires.events) c.index_mut-state.ensures.value (rw (← c.self.view_is) at c.requires.room) c.in-Some.is in
+    let log : c.append_executed.new.log.items ≡ m.log.items ++ map (executed h c.in-Some.tid) l.pcs =
+    c.append_executed.ensures.items ∙ ap (λ pcs. m.log.items ++ map (executed h c.in-Some.tid) pcs) c.as_slice.ensures.value in
     record {
       setting = rw (← c.self.view_is) refl;
       log = rw (← c.self.view_is) (all.log_after ∙ ap Some (sym log));

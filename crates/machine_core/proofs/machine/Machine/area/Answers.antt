@@ -1,9 +1,8 @@
 -- The area of a hart's thread.
 use Rattle.std.proofs.Common.{◌<◌, ap, ◌∙◌}
-use Rattle.block_model.specs.Plain.{plain_seen}
+use Rattle.machine_core.proofs.Common.{plain_seen, seen, setting_of}
 use Rattle.block_model.proofs.Laws.{same_here}
 use Rattle.process.specs.Sequences.{area_on}
-use Rattle.machine_core.specs.Machines.{seen, setting_of}
 use Rattle.machine_core.proofs.machine.Machine.area.Goals as goal
 
 pub returns : goal.returns

@@ -1,19 +1,15 @@
 -- Whether a signal can be delivered to the thread on a hart.
 use Rattle.std.proofs.Common.{◌<◌, ap, ◌∙◌}
-use Rattle.block_model.specs.Here.{Here, runs}
-use Rattle.block_model.specs.Plain.{here_of, plain_seen}
+use Rattle.machine_core.proofs.Common.{Here, here_of, plain_seen, runs, seen, setting_of}
 use Rattle.block_model.specs.Sights.{is_deliverable_on}
 use Rattle.block_model.proofs.Laws.{same_here}
-use Rattle.machine_core.specs.Machines.{seen, setting_of}
 use Rattle.machine_core.proofs.Sights.{deliverable_read}
 use Rattle.process.proofs.Laws.{has_signals}
 use Rattle.machine_core.proofs.machine.Machine.has_signal.Goals as goal
 
 pub deliverable-requires-clause-held : goal.deliverable-requires-clause-held
 deliverable-requires-clause-held c =
-    let m = c.self.inside in
-    let lt : c.args.hart.0 < m.limits.harts = rw (← c.self.view_is) at c.requires in
-    has_signals (seen m) m.parts c.args.hart.0 c.self.invariant.run c.self.invariant.tied lt
+    has_signals (seen c.self.inside) c.self.inside.parts c.args.hart.0 c.self.invariant.run c.self.invariant.tied (rw (← c.self.view_is) at c.requires)
 
 pub returns : goal.returns
 returns c =

@@ -4,26 +4,23 @@ use Rattle.mach_types.specs.Kernel.Scheduling.{Scheduling}
 use Rattle.mach_types.specs.Kernel.Signals.{Signalling, is_held}
 use Rattle.mach_types.specs.Kernel.Threads.{Threads, is_live}
 use Rattle.scheduler.specs.Holding.{is_held as is_scheduled}
-use Rattle.block_model.specs.Plain.{plain_seen}
+use Rattle.machine_core.proofs.Common.{plain_seen, seen}
 use Rattle.block_model.specs.Record.{Kernel}
 use Rattle.block_model.proofs.Laws.{good_at, live_signals}
-use Rattle.machine_core.specs.Machines.{seen}
 use Rattle.machine_core.proofs.Readings.{console_read, kernel_read, saved_read}
 use Rattle.process.proofs.Laws.{held_as_live}
 use Rattle.machine_core.proofs.machine.Machine.kernel.Goals as goal
 
 pub returns-clause-threads : goal.returns-clause-threads
 returns-clause-threads c =
-    let m = c.self.inside in
-    rw (← c.self.view_is) (c.self.invariant.tied.tables.threads ∙ ap (λ (k : Kernel). k.threads) (kernel_read m c.self.invariant))
+    rw (← c.self.view_is) (c.self.invariant.tied.tables.threads ∙ ap (λ (k : Kernel). k.threads) (kernel_read c.self.inside c.self.invariant))
 
 pub returns-clause-saved : goal.returns-clause-saved
 returns-clause-saved c = rw (← c.self.view_is) (saved_read c.self.inside c.self.invariant)
 
 pub returns-clause-signals : goal.returns-clause-signals
 returns-clause-signals c =
-    let m = c.self.inside in
-    rw (← c.self.view_is) (c.self.invariant.tied.tables.signals ∙ ap (λ (k : Kernel). k.signals) (kernel_read m c.self.invariant))
+    rw (← c.self.view_is) (c.self.invariant.tied.tables.signals ∙ ap (λ (k : Kernel). k.signals) (kernel_read c.self.inside c.self.invariant))
 
 pub returns-clause-signals_held : goal.returns-clause-signals_held
 returns-clause-signals_held c t =
@@ -35,8 +32,7 @@ returns-clause-signals_held c t =
 
 pub returns-clause-scheduling : goal.returns-clause-scheduling
 returns-clause-scheduling c =
-    let m = c.self.inside in
-    rw (← c.self.view_is) (c.self.invariant.tied.tables.scheduling ∙ ap (λ (k : Kernel). k.scheduling) (kernel_read m c.self.invariant))
+    rw (← c.self.view_is) (c.self.invariant.tied.tables.scheduling ∙ ap (λ (k : Kernel). k.scheduling) (kernel_read c.self.inside c.self.invariant))
 
 pub returns-clause-scheduling_held : goal.returns-clause-scheduling_held
 returns-clause-scheduling_held c t =
@@ -47,13 +43,11 @@ returns-clause-scheduling_held c t =
 
 pub returns-clause-areas : goal.returns-clause-areas
 returns-clause-areas c =
-    let m = c.self.inside in
-    rw (← c.self.view_is) (c.self.invariant.tied.tables.areas ∙ ap (λ (k : Kernel). k.areas) (kernel_read m c.self.invariant))
+    rw (← c.self.view_is) (c.self.invariant.tied.tables.areas ∙ ap (λ (k : Kernel). k.areas) (kernel_read c.self.inside c.self.invariant))
 
 pub returns-clause-registered : goal.returns-clause-registered
 returns-clause-registered c =
-    let m = c.self.inside in
-    rw (← c.self.view_is) (c.self.invariant.tied.tables.barriers ∙ ap (λ (k : Kernel). k.barriers) (kernel_read m c.self.invariant))
+    rw (← c.self.view_is) (c.self.invariant.tied.tables.barriers ∙ ap (λ (k : Kernel). k.barriers) (kernel_read c.self.inside c.self.invariant))
 
 pub returns-clause-console : goal.returns-clause-console
 returns-clause-console c = rw (← c.self.view_is) (console_read c.self.inside c.self.invariant)

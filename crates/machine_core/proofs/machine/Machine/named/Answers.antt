@@ -1,9 +1,8 @@
 -- What the area of a hart's thread names.
 use Rattle.std.proofs.Common.{◌<◌, ap, ◌∙◌}
-use Rattle.block_model.specs.Plain.{plain_seen}
+use Rattle.machine_core.proofs.Common.{plain_seen, seen, setting_of}
 use Rattle.block_model.proofs.Laws.{same_here}
 use Rattle.process.specs.Sequences.{named_on}
-use Rattle.machine_core.specs.Machines.{seen, setting_of}
 use Rattle.machine_core.proofs.machine.Machine.named.Goals as goal
 
 pub returns : goal.returns

@@ -3,37 +3,29 @@ use Rattle.std.proofs.Common.{◌≡◌, ◌<◌, ◌∙◌, ◌&&◌, ap, arith
 use Rattle.std.specs.Option.{option_map, option_map_or}
 use Rattle.mach_types.specs.Kernel.Scheduling.{Scheduling, first_for}
 use Rattle.mach_types.specs.declared.events.Why.{Why}
-use Rattle.hart_state.specs.declared.hart.HartState.{HartState}
+use Rattle.machine_core.proofs.Common.{HartState, Here, events, hart_in, here_of, plain_seen, ran, runs, seen, sets_register, setting_of}
 use Rattle.page_map.specs.Map.{byte_in, can_write_in}
-use Rattle.rv_inst.specs.Class.{sets_register}
 use Rattle.rv_inst.specs.declared.effects.Effect.{Effect}
 use Rattle.block_model.specs.Choosing.{credit_at}
 use Rattle.block_model.specs.Events.Exec.{refusal_exec}
-use Rattle.block_model.specs.Here.{Here, runs}
-use Rattle.block_model.specs.History.{events, ran}
-use Rattle.block_model.specs.Plain.{here_of, plain_seen}
 use Rattle.block_model.specs.Sights.{is_all_taken, is_deliverable_on, thread}
 use Rattle.block_model.proofs.Laws.{same_here}
-use Rattle.process.specs.Holding.{IsNextAt}
-use Rattle.machine_core.specs.Machines.{seen, setting_of}
-use Rattle.process.specs.Harts.{hart_in}
+use Rattle.process.specs.ExecGates.{IsNextAt}
 use Rattle.process.proofs.Laws.{has_signals, next_at}
 use Rattle.machine_core.proofs.Readings.{bytes_read, here_read, history_of, scheduling_read, writable_read}
 use Rattle.machine_core.proofs.Sights.{deliverable_read, idle_read, local_read, none_is, numbered, same_sight, tested, untested}
 use Rattle.machine_core.proofs.machine.Machine.sight.Goals.{then-not-is_idle, else-not-is_idle}
 use Rattle.machine_core.proofs.machine.Machine.sight.Goals as goal
 
+pub deliverable-requires-clause-held : goal.deliverable-requires-clause-held
+deliverable-requires-clause-held c =
+    has_signals (seen c.self.inside) c.self.inside.parts c.args.hart.0 c.self.invariant.run c.self.invariant.tied (rw (← c.self.view_is) at c.requires)
+
 pub exec_gate-refusal-requires : goal.exec_gate-refusal-requires
 exec_gate-refusal-requires c =
     let lt : c.args.hart.0 < c.self.inside.limits.harts = rw (← c.self.view_is) at c.requires in
     let all = c.self.invariant.tied.all_harts in
     omega (arith, lt, all)
-
-pub deliverable-requires-clause-held : goal.deliverable-requires-clause-held
-deliverable-requires-clause-held c =
-    let m = c.self.inside in
-    let lt : c.args.hart.0 < m.limits.harts = rw (← c.self.view_is) at c.requires in
-    has_signals (seen m) m.parts c.args.hart.0 c.self.invariant.run c.self.invariant.tied lt
 
 pub returns : goal.returns
 returns c =

@@ -1,17 +1,11 @@
 use Rattle.std.proofs.Common.{◌≡◌, ◌<◌, Option, None, false, refl, rules, sym, ◌∙◌, arith, slice_get}
-use Rattle.mach_types.specs.declared.events.Sight.{Sight}
+use Rattle.machine_core.proofs.Common.{IsAfter, Parts, Sight, done_of, here_of, past_of, seen, seen_if, setting_of}
 use Rattle.std.proofs.lemmas.Result.{IfOk-at_ok}
 use Rattle.block_model.specs.Choosing.{has_ended}
-use Rattle.block_model.specs.Events.{done_of}
-use Rattle.block_model.specs.Plain.{here_of}
-use Rattle.process.specs.Tied.{IsAfter}
-use Rattle.machine_core.specs.Machines.{past_of, seen, setting_of}
-use Rattle.process.specs.declared.parts.Parts.{Parts}
 use Rattle.machine_core.proofs.AdvanceAnswers.{chosen_of}
-use Rattle.machine_core.specs.Credits.{seen_if}
-use Rattle.machine_core.proofs.StretchAppends.{goes_on, has_room, place_open}
+use Rattle.machine_core.proofs.StretchAppends.{code_open, goes_on, has_room, place_open}
 use Rattle.machine_core.proofs.MachineCredits.{settled, unfollowed}
-use Rattle.machine_core.proofs.Steps.{refused, stepped}
+use Rattle.machine_core.proofs.Steps.{refused, stepped, stepped_so}
 use Rattle.machine_core.proofs.machine.Machine.step.Goals as goal
 
 pub step_chosen-requires-clause-chosen : goal.step_chosen-requires-clause-chosen
@@ -21,12 +15,7 @@ step_chosen-requires-clause-chosen c =
 
 pub make-requires : goal.make-requires
 make-requires c =
-    let m = c.self.inside in
-    record {
-      seen = seen m;
-      place = place_open m c.args.hart.0 c.self.invariant (rw (← c.self.view_is) at c.in_default.ensures.goes) (rw (← c.self.view_is) at c.in_default.ensures.hart);
-      pages = refl;
-    }
+    code_open c.self.inside c.args.hart.0 c.self.invariant (rw (← c.self.view_is) at c.in_default.ensures.goes) (rw (← c.self.view_is) at c.in_default.ensures.hart)
 
 pub append-requires : goal.append-requires
 append-requires c =
@@ -62,15 +51,8 @@ pub returns-in-Ok : goal.returns-in-Ok
 returns-in-Ok c =
     let m = c.self.inside in
     let place = place_open m c.args.hart.0 c.self.invariant (rw (← c.self.view_is) at c.in_default.ensures.goes) (rw (← c.self.view_is) at c.in_default.ensures.hart) in
-    let after = IfOk-at_ok (λ e. IsAfter (seen m) c.args.hart.0 (done_of c.args.choice (here_of (seen m) c.args.hart.0)) m.parts c.make.new.self) c.in-Ok.is (c.make.ensures.after (seen m) place refl) in
-    let step = stepped (seen m) m.parts c.make.new.self c.args.hart c.args.choice c.make.result c.in-Ok.entry place (c.make.ensures.answer (seen m) place refl) c.in-Ok.is after in
-    record {
-      answer = rw (← c.self.view_is) (sym step.decided);
-      of = (step.hart, step.choice);
-      ok = search rules;
-      err = search rules;
-      block_run = rw c.append.ensures.items step.run;
-    }
+    let step = stepped_so (seen m) m.parts c.make.new.self c.args.hart c.args.choice c.make.result c.in-Ok.entry place (c.make.ensures.answer (seen m) place refl) c.in-Ok.is (c.make.ensures.after (seen m) place refl) in
+    record { answer = rw (← c.self.view_is) (sym step.decided); of = (step.hart, step.choice); ok = search rules; err = search rules; block_run = rw c.append.ensures.items step.run }
 
 pub returns-in-Err-clause-answer : goal.returns-in-Err-clause-answer
 returns-in-Err-clause-answer c =

@@ -1,9 +1,7 @@
 -- A word as a hart sees it.
 use Rattle.std.proofs.Common.{◌≡◌, ◌∙◌}
 use Rattle.block_model.specs.Choosing.{credit_at}
-use Rattle.block_model.specs.History.{events, ran}
-use Rattle.machine_core.specs.Machines.{setting_of}
-use Rattle.process.specs.Harts.{hart_in}
+use Rattle.machine_core.proofs.Common.{events, hart_in, ran, setting_of}
 use Rattle.machine_core.proofs.Readings.{here_read, history_of, word_read}
 use Rattle.machine_core.proofs.machine.Machine.view.Goals as goal
 

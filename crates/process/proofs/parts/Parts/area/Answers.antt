@@ -1,10 +1,5 @@
-use Rattle.std.proofs.Common.{sym, ap, ◌∙◌}
-use Rattle.std.specs.Option.{option_and_then}
-use Rattle.mach_types.specs.Kernel.Areas.{area_of}
-use Rattle.hart_state.specs.declared.hart.HartState.{HartState}
-use Rattle.block_model.specs.Here.{runs}
-use Rattle.block_model.specs.Plain.{here_in_plain}
-use Rattle.block_model.specs.Sequences.{area_here}
+use Rattle.std.proofs.Common.{sym, ap, ◌∙◌, option_and_then}
+use Rattle.process.proofs.Common.{HartState, area_here, area_of, here_in_plain, runs}
 use Rattle.process.proofs.Places.{thread_is}
 use Rattle.process.proofs.HartStates.{hart_tied}
 use Rattle.process.proofs.parts.Parts.area.Goals as goal

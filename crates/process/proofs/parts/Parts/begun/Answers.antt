@@ -1,17 +1,11 @@
 use Rattle.std.proofs.Common.{◌≡◌, ap, ◌∙◌, subst}
 use Rattle.mach_types.specs.Kernel.Areas.{lowest_cid}
 use Rattle.mach_types.specs.Kernel.Scheduling.{without_ready}
-use Rattle.mach_types.specs.Kernel.Threads.{state_of}
+use Rattle.process.proofs.Common.{Kernel, Table, here_of, next_id, plain_seen, state_of}
 use Rattle.scheduler.specs.Holding.{is_ready}
-use Rattle.kernel_threads.specs.Table.{Table}
-use Rattle.sys_calls.specs.declared.kernel.Kernel.{Kernel}
-use Rattle.block_model.specs.Events.Run.{done_run}
-use Rattle.block_model.specs.Ids.{next_id}
-use Rattle.block_model.specs.Plain.{here_of, plain_seen}
-use Rattle.process.specs.Beginning.{IsReadied}
+use Rattle.process.specs.ContextSwitch.{IsReadied}
 use Rattle.process.proofs.ConcurrencyIds.{held_here}
-use Rattle.process.proofs.Places.{still_there}
-use Rattle.process.proofs.RunEvent.{begun_killed, begun_running, listed, readied, runs_then, some_free}
+use Rattle.process.proofs.RunEvent.{begun_killed, begun_running, listed, readied, readied_there, runs_then, some_free}
 use Rattle.process.proofs.parts.Parts.begun.Goals as goal
 
 pub next_id-id-requires : goal.next_id-id-requires
@@ -19,25 +13,15 @@ next_id-id-requires c = some_free c.requires.seen c.args.self.now c.args.hart c.
 
 pub take_up-requires-clause-listed : goal.take_up-requires-clause-listed
 take_up-requires-clause-listed c =
-    let v = c.requires.seen in
-    let m = c.args.self.now in
-    let h = c.args.hart in
-    let t = c.args.tid in
-    let m1 = c.readied.new.self in
-    still_there v m h.0 (done_run (here_of v h.0) t.0).entered m1.harts.items c.requires.place
-    (readied v m h t c.requires.place c.requires.free _ c.area_of-area.result c.next_id-id.result c.run-saved.result c.readied.new.saved c.readied.result m1
-    c.area_of-area.ensures c.next_id-id.ensures c.run-saved.ensures.answer (c.readied.ensures.readied (here_of v h.0) t.0)).harts
+    readied_there c.requires.seen c.args.self.now c.args.hart c.args.tid c.requires.place c.requires.free _ c.area_of-area.result c.next_id-id.result c.run-saved.result
+    c.readied.new.saved c.readied.result c.readied.new.self c.area_of-area.ensures c.next_id-id.ensures c.run-saved.ensures.answer
+    (c.readied.ensures.readied (here_of c.requires.seen c.args.hart.0) c.args.tid.0)
 
 pub kill-requires-clause-listed : goal.kill-requires-clause-listed
 kill-requires-clause-listed c =
-    let v = c.requires.seen in
-    let m = c.args.self.now in
-    let h = c.args.hart in
-    let t = c.args.tid in
-    let m1 = c.readied.new.self in
-    still_there v m h.0 (done_run (here_of v h.0) t.0).entered m1.harts.items c.requires.place
-    (readied v m h t c.requires.place c.requires.free _ c.area_of-area.result c.next_id-id.result c.run-saved.result c.readied.new.saved c.readied.result m1
-    c.area_of-area.ensures c.next_id-id.ensures c.run-saved.ensures.answer (c.readied.ensures.readied (here_of v h.0) t.0)).harts
+    readied_there c.requires.seen c.args.self.now c.args.hart c.args.tid c.requires.place c.requires.free _ c.area_of-area.result c.next_id-id.result c.run-saved.result
+    c.readied.new.saved c.readied.result c.readied.new.self c.area_of-area.ensures c.next_id-id.ensures c.run-saved.ensures.answer
+    (c.readied.ensures.readied (here_of c.requires.seen c.args.hart.0) c.args.tid.0)
 
 pub take_up-requires-clause-ready : goal.take_up-requires-clause-ready
 take_up-requires-clause-ready c =
@@ -72,15 +56,13 @@ returns-then-readied c v place free =
 pub returns-else-readied : goal.returns-else-readied
 returns-else-readied c v place free =
     let m = c.args.self.now in
-    let h = c.args.hart in
-    let t = c.args.tid in
     let m1 = c.readied.new.self in
     let m2 = c.kill.new.self in
-    let is = subst (λ b. IsReadied (here_of v h.0) t.0 b c.readied.new.saved m m1) c.if-readied.false
-    (readied v m h t place free _ c.area_of-area.result c.next_id-id.result c.run-saved.result c.readied.new.saved c.readied.result m1
-    c.area_of-area.ensures c.next_id-id.ensures c.run-saved.ensures.answer (c.readied.ensures.readied (here_of v h.0) t.0)) in
+    let is = subst (λ b. IsReadied (here_of v c.args.hart.0) c.args.tid.0 b c.readied.new.saved m m1) c.if-readied.false
+    (readied v m c.args.hart c.args.tid place free _ c.area_of-area.result c.next_id-id.result c.run-saved.result c.readied.new.saved c.readied.result m1
+    c.area_of-area.ensures c.next_id-id.ensures c.run-saved.ensures.answer (c.readied.ensures.readied (here_of v c.args.hart.0) c.args.tid.0)) in
     let threads : m1.kernel.threads ≡ c.run-saved.new.self = ap (λ (k : Kernel). k.threads) c.readied.ensures.kernel in
-    begun_killed v m h t place free m1 m2 c.readied.new.saved m1.kernel.threads is c.kill.ensures.harts c.kill.ensures.pages
+    begun_killed v m c.args.hart c.args.tid place free m1 m2 c.readied.new.saved m1.kernel.threads is c.kill.ensures.harts c.kill.ensures.pages
     (ap (λ (x : Table). x.threads) threads ∙ c.run-saved.ensures.threads) (ap (λ (x : Table). x.saved) threads ∙ c.run-saved.ensures.saved)
     c.kill.ensures.threads c.kill.ensures.saved c.kill.ensures.table
     (c.kill.ensures.others ∙ ap (λ (k : Kernel). record k { threads = m2.kernel.threads }) c.readied.ensures.kernel)

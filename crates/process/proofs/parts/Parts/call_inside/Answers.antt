@@ -1,12 +1,8 @@
 use Rattle.std.proofs.Common.{◌+◌, None, arith, refl, sym}
 use Rattle.mach_types.specs.declared.events.Choice.TheVariants as asked
-use Rattle.hart_state.specs.declared.hart.HartState.{HartState}
+use Rattle.process.proofs.Common.{HartState, by_call, counted, here_of, plain_seen}
 use Rattle.block_model.specs.Calls.Answers.{killed_in_call}
-use Rattle.block_model.specs.Events.Exec.{by_call}
-use Rattle.block_model.specs.Plain.{here_of, plain_seen}
-use Rattle.process.specs.Harts.{counted}
-use Rattle.process.proofs.Entries.{uncounted_as}
-use Rattle.process.proofs.Events.{none_beside}
+use Rattle.process.proofs.Entries.{killed_as}
 use Rattle.process.proofs.ExecEvent.{done_inside}
 use Rattle.process.proofs.HartEvents.{inside_own}
 use Rattle.process.proofs.Places.{hart_is, ran_fits}
@@ -23,14 +19,6 @@ returns c v place plan =
     let here = here_of v h in
     let t = plan.thread in
     let z : HartState = record x { reserved = None; ran = x.ran + 1 } in
-    uncounted_as v h asked.Exec (by_call here (killed_in_call here)) m _ z place plan.free (done_inside here t plan.at (sym plan.fault) (sym plan.effect) (c.requires.inside v t place plan.at)) (record {
-      own = inside_own _ v.setting (plain_seen v) h t x (counted z) (hart_is v m h x place c.index_mut-state.ensures.value) plan.at refl;
-      harts = none_beside h (by_call here (killed_in_call here)) _ (record { none_begun = refl; none_taken = refl }) refl;
-      pages = place.tied.pages;
-      readable = place.tied.readable;
-      tables = place.tied.tables;
-      ids = λ k u ne runs. refl;
-      table = place.tied.table;
-      saved = place.tied.saved;
-      ended = refl;
-    })
+    killed_as v h asked.Exec (by_call here (killed_in_call here)) m _ z place plan.free
+    (done_inside here t plan.at (sym plan.fault) (sym plan.effect) (c.requires.inside v t place plan.at)) (record { none_begun = refl; none_taken = refl }) refl refl refl refl refl
+    (inside_own _ v.setting (plain_seen v) h t x (counted z) (hart_is v m h x place c.index_mut-state.ensures.value) plan.at refl)

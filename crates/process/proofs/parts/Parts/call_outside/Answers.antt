@@ -1,17 +1,8 @@
-use Rattle.std.proofs.Common.{◌≡◌, ◌+◌, set, eqb, arith, ap, ◌∙◌, slice_get}
-use Rattle.std.specs.Option.{option_map}
-use Rattle.mach_types.specs.Kernel.Threads.{is_stuck, running_on}
+use Rattle.std.proofs.Common.{◌≡◌, ◌+◌, set, eqb, arith, ap, ◌∙◌, slice_get, option_map}
+use Rattle.process.proofs.Common.{HartState, Kernel, Parts, asked_by, by_call, counted, credit_of, hart_at, here_of, is_stuck, lost_unless, plain_seen, running_on}
 use Rattle.mach_types.specs.declared.events.Choice.TheVariants as asked
-use Rattle.hart_state.specs.declared.hart.HartState.{HartState}
 use Rattle.block_model.specs.Calls.{called}
-use Rattle.block_model.specs.Events.Exec.{by_call}
 use Rattle.sys_calls.specs.Made.{gives_up}
-use Rattle.sys_calls.specs.declared.kernel.Kernel.{Kernel}
-use Rattle.block_model.specs.Plain.{here_of, plain_seen}
-use Rattle.process.specs.Barriers.{asked_by}
-use Rattle.process.specs.Harts.{counted, credit_of, hart_at}
-use Rattle.process.specs.Losing.{lost_unless}
-use Rattle.process.specs.declared.parts.Parts.{Parts}
 use Rattle.process.proofs.Membarriers.{call_beside, eighth}
 use Rattle.process.proofs.SystemCalls.{areas_found, call_own, calling, ended_after, executed, ids_kept, numbers_left, running_found, same_ran, signals_found, tables_found}
 use Rattle.process.proofs.Entries.{uncounted_as}

@@ -1,16 +1,10 @@
-use Rattle.std.proofs.Common.{◌≡◌, refl, [], ◌+◌, List, ◌∷◌, eqb, set, slice_get, ap, ◌∙◌, subst}
-use Rattle.std.specs.Option.{option_map}
+use Rattle.std.proofs.Common.{◌≡◌, refl, [], ◌+◌, List, ◌∷◌, eqb, set, slice_get, ap, ◌∙◌, subst, option_map}
 use Rattle.mach_types.specs.Bytes.{all_stored}
 use Rattle.mach_types.specs.declared.events.Choice.TheVariants as asked
-use Rattle.mach_types.specs.declared.user_memory.Store.{Store}
+use Rattle.process.proofs.Common.{HartState, IsWritten, Store, counted, here_of, lost_unless, plain_seen}
 use Rattle.mach_types.specs.declared.user_memory.Write.TheVariants.{Stored}
 use Rattle.hart_state.specs.State.{stores}
-use Rattle.hart_state.specs.declared.hart.HartState.{HartState}
 use Rattle.block_model.specs.Events.Drain.{done_drain_of}
-use Rattle.block_model.specs.Plain.{here_of, plain_seen}
-use Rattle.process.specs.Harts.{counted}
-use Rattle.process.specs.Losing.{lost_unless}
-use Rattle.process.specs.Stored.{IsWritten}
 use Rattle.process.proofs.DrainEvent.{can_enter}
 use Rattle.process.proofs.Entries.{uncounted_as, oldest}
 use Rattle.process.proofs.Events.{quietly}

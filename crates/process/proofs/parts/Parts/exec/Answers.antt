@@ -2,7 +2,7 @@ use Rattle.std.proofs.Common.{Ok, sym, ap, ◌∙◌}
 use Rattle.mach_types.specs.declared.events.Choice.TheVariants as asked
 use Rattle.block_model.specs.Deciding.{entry_in}
 use Rattle.block_model.specs.Plain.{here_of}
-use Rattle.process.specs.Tied.{answered}
+use Rattle.process.specs.Refinement.{answered}
 use Rattle.process.proofs.parts.Parts.exec.Goals as goal
 
 pub entry-made-requires : goal.entry-made-requires

@@ -1,7 +1,6 @@
 use Rattle.std.proofs.Common.{◌≡◌, Some, None, is_some, ap, refl, ◌∙◌}
-use Rattle.hart_state.specs.State.{exec_refusal}
+use Rattle.process.proofs.Common.{exec_refusal, here_in_plain}
 use Rattle.block_model.specs.Events.Exec.{is_held, others_gate}
-use Rattle.block_model.specs.Plain.{here_in_plain}
 use Rattle.process.proofs.HartStates.{hart_tied}
 use Rattle.process.proofs.ExecGates.{gate_is}
 use Rattle.process.proofs.parts.Parts.exec_gate.Goals as goal

@@ -3,14 +3,12 @@ use Rattle.std.proofs.lemmas.Bool.{and_parts}
 use Rattle.mach_types.specs.Kernel.Signals.{action_of, has_signal, is_handler, mask_of, with_pending}
 use Rattle.mach_types.specs.declared.events.Choice.TheVariants as asked
 use Rattle.mach_types.specs.declared.events.Kind.TheVariants as kind
-use Rattle.hart_state.specs.declared.hart.HartState.{HartState}
+use Rattle.process.proofs.Common.{HartState, counted, here_of, plain_seen}
 use Rattle.block_model.specs.Events.Exec.{has_handler}
 use Rattle.block_model.specs.Kernel.{signalled}
-use Rattle.block_model.specs.Plain.{here_of, plain_seen}
 use Rattle.sys_calls.proofs.Laws.{holds_signals}
-use Rattle.process.specs.Harts.{counted}
 use Rattle.process.specs.Delivering.{has_handler_in}
-use Rattle.process.proofs.Entries.{uncounted_as}
+use Rattle.process.proofs.Entries.{killed_as, uncounted_as}
 use Rattle.process.proofs.Events.{none_beside}
 use Rattle.process.proofs.ExecEvent.{done_killing, done_pending, fault_killing, fault_pending}
 use Rattle.process.proofs.HartEvents.{killing_own, pending_own}
@@ -21,27 +19,19 @@ use Rattle.process.proofs.parts.Parts.fault.Goals as goal
 pub overflow_add-state : goal.overflow_add-state
 overflow_add-state c = let plan = c.requires.1 in let few = ran_fits plan.seen c.args.self.now c.args.hart.0 c.index_mut-state.result.now plan.place c.index_mut-state.ensures.value in omega (arith, few)
 
-pub has_handler-requires-clause-held : goal.has_handler-requires-clause-held
-has_handler-requires-clause-held c =
+pub has_handler-requires : goal.has_handler-requires
+has_handler-requires c =
     let plan = c.requires.1 in
-    held_named plan.seen c.args.self.now c.args.hart kind.Exec plan.plan.thread c.index_mut-state.result.now c.entry_of-entry.result plan.place plan.plan.at c.index_mut-state.ensures.value c.entry_of-entry.ensures
+    let signal = planned_fault plan.seen c.args.hart.0 _ plan.plan in
+    let held = held_named plan.seen c.args.self.now c.args.hart kind.Exec plan.plan.thread c.index_mut-state.result.now c.entry_of-entry.result plan.place plan.plan.at c.index_mut-state.ensures.value c.entry_of-entry.ensures in
+    record { held = held; lowest = signal.0; highest = signal.1 }
 
-pub has_handler-requires-clause-lowest : goal.has_handler-requires-clause-lowest
-has_handler-requires-clause-lowest c = let plan = c.requires.1 in (planned_fault plan.seen c.args.hart.0 _ plan.plan).0
-
-pub has_handler-requires-clause-highest : goal.has_handler-requires-clause-highest
-has_handler-requires-clause-highest c = let plan = c.requires.1 in (planned_fault plan.seen c.args.hart.0 _ plan.plan).1
-
-pub post-requires-clause-held : goal.post-requires-clause-held
-post-requires-clause-held c =
+pub post-requires : goal.post-requires
+post-requires c =
     let plan = c.requires.1 in
-    held_named plan.seen c.args.self.now c.args.hart kind.Exec plan.plan.thread c.index_mut-state.result.now c.entry_of-entry.result plan.place plan.plan.at c.index_mut-state.ensures.value c.entry_of-entry.ensures
-
-pub post-requires-clause-lowest : goal.post-requires-clause-lowest
-post-requires-clause-lowest c = let plan = c.requires.1 in (planned_fault plan.seen c.args.hart.0 _ plan.plan).0
-
-pub post-requires-clause-highest : goal.post-requires-clause-highest
-post-requires-clause-highest c = let plan = c.requires.1 in (planned_fault plan.seen c.args.hart.0 _ plan.plan).1
+    let signal = planned_fault plan.seen c.args.hart.0 _ plan.plan in
+    let held = held_named plan.seen c.args.self.now c.args.hart kind.Exec plan.plan.thread c.index_mut-state.result.now c.entry_of-entry.result plan.place plan.plan.at c.index_mut-state.ensures.value c.entry_of-entry.ensures in
+    record { held = held; lowest = signal.0; highest = signal.1 }
 
 pub returns-then-has_handler : goal.returns-then-has_handler
 returns-then-has_handler c effect v place plan =
@@ -73,25 +63,14 @@ returns-then-has_handler c effect v place plan =
 
 pub returns-else-has_handler : goal.returns-else-has_handler
 returns-else-has_handler c effect v place plan =
-    let h = c.args.hart.0 in
     let m = c.args.self.now in
     let x = c.index_mut-state.result.now in
     let s = c.args.signal in
+    let here = here_of v c.args.hart.0 in
+    let its = entry_runs v m c.args.hart kind.Exec plan.thread x c.entry_of-entry.result place plan.at c.index_mut-state.ensures.value c.entry_of-entry.ensures in
+    let lacks_here : has_handler here plan.thread s ≡ false =
+    sym (c.has_handler.ensures ∙ ap (λ n. has_handler_in n s m.kernel.signals) its ∙ ap (has_handler_in plan.thread s) place.tied.tables.signals) ∙ c.if-has_handler.false in
     let z : HartState = record x { ran = x.ran + 1 } in
-    let t = plan.thread in
-    let here = here_of v h in
-    let e = c.entry_of-entry.result in
-    let its = entry_runs v m c.args.hart kind.Exec t x e place plan.at c.index_mut-state.ensures.value c.entry_of-entry.ensures in
-    let lacks_here : has_handler here t s ≡ false =
-    sym (c.has_handler.ensures ∙ ap (λ n. has_handler_in n s m.kernel.signals) its ∙ ap (has_handler_in t s) place.tied.tables.signals) ∙ c.if-has_handler.false in
-    uncounted_as v h asked.Exec (fault_killing here s) m _ z place plan.free (done_killing here t s plan.at (sym plan.fault) lacks_here) (record {
-      own = killing_own _ v.setting (plain_seen v) h s x (counted z) (hart_is v m h x place c.index_mut-state.ensures.value) refl;
-      harts = none_beside h (fault_killing here s) _ (record { none_begun = refl; none_taken = refl }) refl;
-      pages = place.tied.pages;
-      readable = place.tied.readable;
-      tables = place.tied.tables;
-      ids = λ k u ne runs. refl;
-      table = place.tied.table;
-      saved = place.tied.saved;
-      ended = refl;
-    })
+    killed_as v c.args.hart.0 asked.Exec (fault_killing here s) m _ z place plan.free (done_killing here plan.thread s plan.at (sym plan.fault) lacks_here)
+    (record { none_begun = refl; none_taken = refl }) refl refl refl refl refl
+    (killing_own _ v.setting (plain_seen v) c.args.hart.0 s x (counted z) (hart_is v m c.args.hart.0 x place c.index_mut-state.ensures.value) refl)

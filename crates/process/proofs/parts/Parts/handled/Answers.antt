@@ -2,8 +2,7 @@
 use Rattle.std.proofs.Common.{◌≡◌, false, rules, sym, ap, ◌∙◌}
 use Rattle.std.proofs.Math.Path.{fun_ext}
 use Rattle.mach_types.specs.Kernel.Signals.{is_held}
-use Rattle.mach_types.specs.declared.threads.Saved.{Saved}
-use Rattle.sys_calls.specs.declared.kernel.Kernel.{Kernel}
+use Rattle.process.proofs.Common.{Kernel, Saved}
 use Rattle.process.proofs.SignalDelivery.{IsHalfway, delivered_by, held_taken}
 use Rattle.process.proofs.Interruptions.{is_fatal}
 use Rattle.process.proofs.parts.Parts.handled.Goals as goal

@@ -1,11 +1,9 @@
 use Rattle.std.proofs.Common.{◌≡◌, sym, ap, ◌∙◌, not, ◌&&◌}
 use Rattle.std.specs.List.{list_any}
-use Rattle.hart_state.specs.declared.hart.HartState.{HartState}
+use Rattle.process.proofs.Common.{HartState, file_on, here_in_plain}
 use Rattle.block_model.specs.Calls.Answers.{call_number}
 use Rattle.block_model.specs.Calls.Memory.{lies_waiting_on, taken_by}
-use Rattle.block_model.specs.Plain.{here_in_plain}
-use Rattle.process.specs.Harts.{file_on}
-use Rattle.process.specs.Holding.{lies_in}
+use Rattle.process.specs.ExecGates.{lies_in}
 use Rattle.process.proofs.HartStates.{hart_tied}
 use Rattle.process.proofs.ExecGates.{held_is}
 use Rattle.process.proofs.parts.Parts.is_held.Goals as goal

@@ -2,10 +2,8 @@ use Rattle.std.proofs.Common.{◌≡◌, sym, ap, ◌∙◌}
 use Rattle.std.specs.Option.{option_map_or}
 use Rattle.mach_types.specs.Kernel.Areas.{is_inside, is_inside_named}
 use Rattle.mach_types.specs.declared.sequences.Named.TheVariants as names
-use Rattle.hart_state.specs.declared.hart.HartState.{HartState}
-use Rattle.block_model.specs.Plain.{here_in_plain}
+use Rattle.process.proofs.Common.{HartState, file_on, here_in_plain}
 use Rattle.block_model.specs.Sequences.{named_here}
-use Rattle.process.specs.Harts.{file_on}
 use Rattle.process.proofs.HartStates.{hart_tied}
 use Rattle.process.proofs.parts.Parts.is_inside.Goals as goal
 

@@ -1,12 +1,10 @@
 use Rattle.std.proofs.Common.{Some, ◌+◌, refl, ap, ◌∙◌}
 use Rattle.mach_types.specs.declared.events.Choice.TheVariants as asked
 use Rattle.mach_types.specs.declared.threads.ThreadState.TheVariants.{Ready}
-use Rattle.hart_state.specs.declared.hart.HartState.{HartState}
+use Rattle.process.proofs.Common.{HartState, counted, here_of, plain_seen}
 use Rattle.block_model.specs.Kernel.{left}
 use Rattle.block_model.specs.Events.Preempt.{done_preempt_by}
-use Rattle.block_model.specs.Plain.{here_of, plain_seen}
 use Rattle.sys_calls.proofs.Laws.{holds_left}
-use Rattle.process.specs.Harts.{counted}
 use Rattle.process.proofs.Entries.{uncounted_as}
 use Rattle.process.proofs.Events.{none_beside}
 use Rattle.process.proofs.HartEvents.{preempt_own}

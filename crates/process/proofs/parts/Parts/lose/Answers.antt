@@ -1,7 +1,6 @@
-use Rattle.std.proofs.Common.{◌≡◌, length, eqb, sym, ap, ◌∙◌, slice_get}
-use Rattle.std.specs.Option.{option_map}
+use Rattle.std.proofs.Common.{◌≡◌, length, eqb, sym, ap, ◌∙◌, slice_get, option_map}
 use Rattle.std.proofs.lemmas.List.{with_items_is}
-use Rattle.process.specs.Losing.{lost_unless}
+use Rattle.process.specs.Reservations.{lost_unless}
 use Rattle.process.proofs.parts.Parts.lose.Goals as goal
 
 pub returns-clause-harts : goal.returns-clause-harts

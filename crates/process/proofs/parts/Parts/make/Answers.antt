@@ -1,8 +1,6 @@
 use Rattle.std.proofs.Common.{sym, ◌∙◌}
 use Rattle.std.proofs.lemmas.Result.{IfOk-at_ok}
-use Rattle.block_model.specs.Events.{done_of}
-use Rattle.block_model.specs.Plain.{here_of}
-use Rattle.process.specs.Tied.{IsUncounted}
+use Rattle.process.proofs.Common.{IsUncounted, done_of, here_of}
 use Rattle.process.proofs.parts.Parts.make.Goals as goal
 
 pub count-requires : goal.count-requires

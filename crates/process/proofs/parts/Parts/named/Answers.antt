@@ -1,6 +1,5 @@
 use Rattle.std.proofs.Common.{sym, ap, ◌∙◌}
-use Rattle.block_model.specs.Here.{runs}
-use Rattle.block_model.specs.Plain.{here_in_plain}
+use Rattle.process.proofs.Common.{here_in_plain, runs}
 use Rattle.process.specs.Harts.{file_of}
 use Rattle.process.proofs.HartStates.{hart_tied}
 use Rattle.process.proofs.RestartableSequences.{named_by, view_is}

@@ -1,8 +1,5 @@
 use Rattle.std.proofs.Common.{rules, sym, ◌∙◌}
-use Rattle.page_map.specs.Map.{byte_in, can_write_in}
-use Rattle.block_model.specs.Plain.{here_of, plain_seen}
-use Rattle.process.specs.Harts.{credit_of}
-use Rattle.process.specs.Holding.{IsNextAt}
+use Rattle.process.proofs.Common.{IsNextAt, byte_in, can_write_in, credit_of, here_of, plain_seen}
 use Rattle.process.proofs.Places.{bytes_at, hart_is, in_list, writable_at}
 use Rattle.process.proofs.NextInstruction.{next_at, planned}
 use Rattle.process.proofs.parts.Parts.planned.Goals as goal

@@ -1,8 +1,6 @@
 use Rattle.std.proofs.Common.{rules, ◌≡◌, sym, ap, ◌∙◌, false}
 use Rattle.std.proofs.Math.Path.{fun_ext}
-use Rattle.mach_types.specs.declared.threads.Saved.{Saved}
-use Rattle.page_map.specs.Map.{can_write_in}
-use Rattle.block_model.specs.Here.{is_writable}
+use Rattle.process.proofs.Common.{Saved, can_write_in, is_writable}
 use Rattle.process.proofs.Interruptions.{is_fatal, readied_told}
 use Rattle.process.proofs.parts.Parts.readied.Goals as goal
 

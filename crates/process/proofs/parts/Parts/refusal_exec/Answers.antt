@@ -1,8 +1,5 @@
 -- Why the thread on a hart may not execute its next instruction.
-use Rattle.page_map.specs.Map.{byte_in, can_write_in}
-use Rattle.block_model.specs.Plain.{here_of, plain_seen}
-use Rattle.process.specs.Harts.{credit_of}
-use Rattle.process.specs.Holding.{IsNextAt}
+use Rattle.process.proofs.Common.{IsNextAt, byte_in, can_write_in, credit_of, here_of, plain_seen}
 use Rattle.process.proofs.Places.{bytes_at, hart_is, writable_at}
 use Rattle.process.proofs.NextInstruction.{next_at}
 use Rattle.process.proofs.parts.Parts.refusal_exec.Goals as goal

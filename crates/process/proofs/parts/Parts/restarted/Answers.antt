@@ -1,10 +1,6 @@
 -- The thread on a hart is interrupted where a request asks for it.
 use Rattle.std.proofs.Common.{◌≡◌, true, Some, sym, ap, ◌∙◌}
-use Rattle.mach_types.specs.Kernel.Areas.{area_of}
-use Rattle.hart_state.specs.declared.hart.HartState.{HartState}
-use Rattle.block_model.specs.Here.{runs}
-use Rattle.block_model.specs.Plain.{here_of}
-use Rattle.process.specs.Harts.{file_on}
+use Rattle.process.proofs.Common.{HartState, area_of, file_on, here_of, runs}
 use Rattle.process.proofs.Places.{bytes_at, hart_is, thread_is, writable_at}
 use Rattle.process.proofs.TakeEvent.{restarted}
 use Rattle.process.proofs.parts.Parts.restarted.Goals as goal

@@ -1,12 +1,13 @@
-use Rattle.std.proofs.Common.{◌≡◌, sym, ap, ◌∙◌, eqb, List, slice_get, refl}
-use Rattle.std.specs.Option.{option_map}
+use Rattle.std.proofs.Common.{◌≡◌, ℕ, sym, ap, ◌∙◌, eqb, List, slice_get, option_map}
 use Rattle.mach_types.specs.Bytes.{after_writes}
-use Rattle.mach_types.specs.Kernel.Areas.{Words, words_entered, words_on}
-use Rattle.mach_types.specs.declared.user_memory.Write.{Write}
-use Rattle.page_map.specs.Map.{byte_in}
-use Rattle.process.specs.Losing.{lost_unless}
+use Rattle.mach_types.specs.Kernel.Areas.{Words, words_entered, words_on, words_written}
+use Rattle.process.proofs.Common.{Write, byte_in, lost_unless}
 use Rattle.process.proofs.Interruptions.{lost_nothing, told_all, told_answer, told_none, told_pages, words_visible}
 use Rattle.process.proofs.parts.Parts.told.Goals as goal
+
+-- the words of a hart and an id
+words_are : {cpu hart cid id : ℕ} → cpu ≡ hart → cid ≡ id → words_on cpu cid ≡ words_on hart id
+words_are p q = λ i. words_on (p i) (q i)
 
 pub returns-then-not-set_cpu-clause-answer : goal.returns-then-not-set_cpu-clause-answer
 returns-then-not-set_cpu-clause-answer c h same =
@@ -16,10 +17,8 @@ pub returns-then-not-set_cpu-clause-pages : goal.returns-then-not-set_cpu-clause
 returns-then-not-set_cpu-clause-pages c h same =
     let m = c.args.self.now.pages in
     let area = c.in-Some.area in
-    let words : Words = words_on c.args.hart.0 c.args.id in
-    let its : Words = record { cpu_id_start = c.from-cpu.result; cpu_id = c.from-cpu.result; node_id = 0; mm_cid = c.from.result } in
-    let is : its ≡ words = rw (c.from-cpu.ensures, c.from.ensures) refl in
-    told_pages h m c.set_cpu.new.mem c.args.area area words c.set_cpu.result c.in-Some.is same c.set_cpu.ensures.answer c.set_cpu.ensures.alike
+    let is = words_are c.from-cpu.ensures c.from-cid.ensures in
+    told_pages h m c.set_cpu.new.mem c.args.area area _ c.set_cpu.result c.in-Some.is same c.set_cpu.ensures.answer c.set_cpu.ensures.alike
     (λ a. c.set_cpu.ensures.bytes a ∙ ap (λ (w : Words). after_writes (words_entered c.set_cpu.result area w) (byte_in m) a) is)
 
 pub returns-then-not-set_cpu-clause-harts : goal.returns-then-not-set_cpu-clause-harts
@@ -41,10 +40,8 @@ pub returns-clause-pages : goal.returns-clause-pages
 returns-clause-pages c h same =
     let m = c.args.self.now.pages in
     let area = c.in-Some.area in
-    let words : Words = words_on c.args.hart.0 c.args.id in
-    let its : Words = record { cpu_id_start = c.from-cpu.result; cpu_id = c.from-cpu.result; node_id = 0; mm_cid = c.from.result } in
-    let is : its ≡ words = rw (c.from-cpu.ensures, c.from.ensures) refl in
-    rw c.lose.ensures.pages (told_pages h m c.set_cpu.new.mem c.args.area area words c.set_cpu.result c.in-Some.is same c.set_cpu.ensures.answer c.set_cpu.ensures.alike
+    let is = words_are c.from-cpu.ensures c.from-cid.ensures in
+    rw c.lose.ensures.pages (told_pages h m c.set_cpu.new.mem c.args.area area _ c.set_cpu.result c.in-Some.is same c.set_cpu.ensures.answer c.set_cpu.ensures.alike
     (λ a. c.set_cpu.ensures.bytes a ∙ ap (λ (w : Words). after_writes (words_entered c.set_cpu.result area w) (byte_in m) a) is))
 
 pub returns-clause-harts : goal.returns-clause-harts
@@ -53,4 +50,5 @@ returns-clause-harts c h k same =
     let xs = c.args.self.now.harts.items in
     c.lose.ensures.harts k
     ∙ ap (λ (ws : List Write). option_map (lost_unless (eqb k c.args.hart.0) ws) (slice_get xs k))
-    (c.words_written.ensures ∙ told_all h m c.args.area c.in-Some.area (words_on c.args.hart.0 c.args.id) c.in-Some.is same (sym c.set_cpu.ensures.answer ∙ c.if-not-set_cpu.false))
+    (c.words_written.ensures ∙ ap (words_written c.in-Some.area) (words_are c.from-cpu.ensures c.from-cid.ensures)
+    ∙ told_all h m c.args.area c.in-Some.area (words_on c.args.hart.0 c.args.id) c.in-Some.is same (sym c.set_cpu.ensures.answer ∙ c.if-not-set_cpu.false))

@@ -1,7 +1,6 @@
 -- So far the first bytes were appended.
 use Rattle.std.proofs.Common.{◌≡◌, ◌++◌}
-use Rattle.page_map.specs.Map.{byte_in}
-use Rattle.block_model.specs.Calls.Console.{bytes_from}
+use Rattle.sys_calls.proofs.Common.{byte_in, bytes_from}
 use Rattle.sys_calls.proofs.console.Console.append.Given as goal
 
 abbrev pub invariant-loop-k : goal.invariant-loop-k

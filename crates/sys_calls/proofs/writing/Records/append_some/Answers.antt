@@ -2,11 +2,7 @@
 use Rattle.std.proofs.Common.{◌≡◌, ℕ, ◌+◌, ◌-◌, ◌*◌, ◌<◌, ◌≤◌, List, [], ◌++◌, length, take, Option, sym, ap, ◌∙◌, arith, append_assoc, append-nil, length-append}
 use Rattle.std.proofs.lemmas.List.{length-take}
 use Rattle.std.proofs.Math.Seq.{take-nil}
-use Rattle.mach_types.specs.declared.kernel_words.TheConstants.{CONSOLE_ROOM}
-use Rattle.page_map.specs.Map.{Map, byte_in}
-use Rattle.block_model.specs.Here.{Here, memory}
-use Rattle.block_model.specs.Calls.Answers.{number_at}
-use Rattle.block_model.specs.Calls.Console.{bytes_from, bytes_of, spans_at}
+use Rattle.sys_calls.proofs.Common.{CONSOLE_ROOM, Here, Map, byte_in, bytes_from, bytes_of, memory, number_at, spans_at}
 use Rattle.sys_calls.proofs.Spans.{spans_all, spans_more, spans_none, take-joined}
 use Rattle.sys_calls.proofs.writing.Records.append_some.Goals as goal
 

@@ -1,9 +1,6 @@
 -- So far the first bytes were appended, and the rest follows as far as it fits.
 use Rattle.std.proofs.Common.{◌≡◌, ◌+◌, ◌-◌, ◌*◌, ◌≤◌, ◌++◌, length, take}
-use Rattle.mach_types.specs.declared.kernel_words.TheConstants.{CONSOLE_ROOM}
-use Rattle.page_map.specs.Map.{byte_in}
-use Rattle.block_model.specs.Here.{Here, memory}
-use Rattle.block_model.specs.Calls.Console.{bytes_of, spans_at}
+use Rattle.sys_calls.proofs.Common.{CONSOLE_ROOM, Here, byte_in, bytes_of, memory, spans_at}
 use Rattle.sys_calls.proofs.writing.Records.append_some.Given as goal
 
 abbrev pub invariant-loop-index : goal.invariant-loop-index

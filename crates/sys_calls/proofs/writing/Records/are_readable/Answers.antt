@@ -1,10 +1,6 @@
 -- The next record's bytes can be read, or not.
 use Rattle.std.proofs.Common.{◌≡◌, ℕ, ◌+◌, ◌-◌, ◌*◌, ◌<◌, Bool, true, false, ◌&&◌, Option, is_some, sym, ap, ◌∙◌, arith}
-use Rattle.mach_types.specs.Bytes.{each_byte}
-use Rattle.page_map.specs.Map.{Map, byte_in}
-use Rattle.block_model.specs.Here.{Here, memory}
-use Rattle.block_model.specs.Calls.Answers.{are_readable, number_at}
-use Rattle.block_model.specs.Calls.Console.{all_readable, spans_at}
+use Rattle.sys_calls.proofs.Common.{Here, Map, all_readable, are_readable, byte_in, each_byte, memory, number_at, spans_at}
 use Rattle.sys_calls.proofs.Spans.{spans_all, spans_more, spans_none}
 use Rattle.sys_calls.proofs.writing.Records.are_readable.Goals as goal
 

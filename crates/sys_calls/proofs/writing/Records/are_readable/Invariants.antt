@@ -1,8 +1,6 @@
 -- So far all bytes can be read, and the rest decides.
 use Rattle.std.proofs.Common.{◌≡◌, ◌+◌, ◌-◌, ◌*◌}
-use Rattle.page_map.specs.Map.{byte_in}
-use Rattle.block_model.specs.Here.{Here, memory}
-use Rattle.block_model.specs.Calls.Console.{all_readable, spans_at}
+use Rattle.sys_calls.proofs.Common.{Here, all_readable, byte_in, memory, spans_at}
 use Rattle.sys_calls.proofs.writing.Records.are_readable.Given as goal
 
 abbrev pub invariant-loop-index : goal.invariant-loop-index

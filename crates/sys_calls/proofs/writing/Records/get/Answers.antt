@@ -1,9 +1,6 @@
 -- The record as a rule reads it.
 use Rattle.std.proofs.Common.{◌≡◌, ℕ, ◌+◌, ◌*◌, Option, unwrap_or, ap, ◌∙◌}
-use Rattle.mach_types.specs.Bytes.{word_at}
-use Rattle.page_map.specs.Map.{byte_in}
-use Rattle.block_model.specs.Here.{Here, memory}
-use Rattle.block_model.specs.Calls.Answers.{number_at}
+use Rattle.sys_calls.proofs.Common.{Here, byte_in, memory, number_at, word_at}
 use Rattle.sys_calls.proofs.writing.Records.get.Goals as goal
 
 there : (h : Here) (byte : ℕ → Option ℕ) (at size : ℕ) → byte ≡ memory h → unwrap_or (word_at byte at size) 0 ≡ number_at h at size

@@ -10,7 +10,7 @@ use Rattle.block_model.specs.Here.{Here, is_writable, memory}
 use Rattle.block_model.specs.History.{file_among}
 use Rattle.block_model.specs.Ids.{next_id}
 use Rattle.block_model.specs.Sequences.{area_here, interruption_here}
-use Rattle.process.specs.Losing.{lost_unless}
+use Rattle.process.specs.Reservations.{lost_unless}
 use Rattle.process.specs.Stored.{IsWritten}
 use Rattle.process.specs.declared.parts.Parts.{Parts}
 

@@ -16,7 +16,7 @@ use Rattle.block_model.specs.Events.{refusal_of, done_of}
 use Rattle.block_model.specs.Plain.{Plain, apply, here_of, plain_over, plain_seen}
 use Rattle.block_model.specs.Deciding.{entry_in}
 use Rattle.block_model.specs.Run.{IsBlockRun}
-use Rattle.process.specs.Beginning.{HasEvent, IsChanged}
+use Rattle.process.specs.ContextSwitch.{HasEvent, IsChanged}
 use Rattle.process.specs.Harts.{counted, credit_of, hart_at}
 use Rattle.process.specs.declared.parts.Parts.{Parts}
 
@@ -68,6 +68,10 @@ answered entry (Some why) = Err why
 
 abbrev pub answer_to : Seen → ℕ → Choice → Result Entry Why
 answer_to v h c = answered (entry_in c (here_of v h)) (refusal_of c (here_of v h))
+
+-- at each place this is why the choice isn't allowed; none where it is
+abbrev pub IsRefusal : Parts → ℕ → Choice → Option Why → Type 0
+IsRefusal m h c why = (v : Seen) → IsPlace v m h → why ≡ refusal_of c (here_of v h)
 
 -- the parts after an event of hart h that did this; no event changes a credit
 pub record IsAfter (v : Seen) (h : ℕ) (d : Done) (m m' : Parts) : Type 0 where
