@@ -419,7 +419,7 @@ unfolding decide history done barriers.asked meaning row_of rows lui_rows auipc_
 idle_hart_is_asked = refl
 
 -- `run` chooses nothing for a hart whose thread waits, and then that it returns
-chooses : map (λ (log : List Entry). choice_at fences 0 (history fences log)) (begun_log ∷ taken_log ∷ []) ≡ None ∷ Some asked.Done ∷ []
+chooses : map (λ (log : List Entry). choice_at fences 0 0 (history fences log)) (begun_log ∷ taken_log ∷ []) ≡ None ∷ Some asked.Done ∷ []
 unfolding pick all_signals is_register_only choice_at has_ended history done barriers.asked meaning row_of rows lui_rows auipc_rows jal_rows jalr_rows branch_rows load_rows store_rows op_imm_rows op_imm_32_rows op_rows op_32_rows misc_mem_rows amo_rows system_rows
 chooses = refl
 

@@ -276,44 +276,44 @@ unfolding has_ended
 goes_on_where s before is = open_parts s before (over_at s before) refl is
 
 -- a place where a hart has a choice
-record HasChoice (s : Setting) (h : ℕ) (before : History) (c : Choice) : Type 0 where
+record HasChoice (s : Setting) (seed h : ℕ) (before : History) (c : Choice) : Type 0 where
   pub goes : has_ended s before ≡ false
   pub lt : h < s.limits.harts
-  pub picked : option_map (λ (p : Pick). p.choice) (pick_at s h before) ≡ Some c
+  pub picked : option_map (λ (p : Pick). p.choice) (pick_at s seed h before) ≡ Some c
 
-choice_by : (s : Setting) (h : ℕ) (before : History) (c : Choice) (over known : Bool) → has_ended s before ≡ over
+choice_by : (s : Setting) (seed h : ℕ) (before : History) (c : Choice) (over known : Bool) → has_ended s before ≡ over
     → ltb h s.limits.harts ≡ known
-    → cond over None (cond known (option_map (λ (p : Pick). p.choice) (pick_at s h before)) None) ≡ Some c
-    → HasChoice s h before c
-choice_by s h before c true known at lt is = absurd cc
-choice_by s h before c false false at lt is = absurd cc
-choice_by s h before c false true at lt is = record { goes = at; lt = ltb-true h s.limits.harts lt; picked = is }
+    → cond over None (cond known (option_map (λ (p : Pick). p.choice) (pick_at s seed h before)) None) ≡ Some c
+    → HasChoice s seed h before c
+choice_by s seed h before c true known at lt is = absurd cc
+choice_by s seed h before c false false at lt is = absurd cc
+choice_by s seed h before c false true at lt is = record { goes = at; lt = ltb-true h s.limits.harts lt; picked = is }
 
-has_choice : (s : Setting) (h : ℕ) (before : History) (c : Choice) → choice_at s h before ≡ Some c
-    → HasChoice s h before c
+has_choice : (s : Setting) (seed h : ℕ) (before : History) (c : Choice) → choice_at s seed h before ≡ Some c
+    → HasChoice s seed h before c
 unfolding choice_at
-has_choice s h before c is = choice_by s h before c (has_ended s before) (ltb h s.limits.harts) refl refl is
+has_choice s seed h before c is = choice_by s seed h before c (has_ended s before) (ltb h s.limits.harts) refl refl is
 
 -- the choice is allowed
-pub choice_is_allowed : (s : Setting) (log : List Entry) (h : ℕ) (c : Choice) → IsAllowedLog s log
-    → choice_at s h (history s log) ≡ Some c
+pub choice_is_allowed : (s : Setting) (seed : ℕ) (log : List Entry) (h : ℕ) (c : Choice) → IsAllowedLog s log
+    → choice_at s seed h (history s log) ≡ Some c
     → refusal_of c (here_in_history s (history s log) h) ≡ None
-choice_is_allowed s log h c run chosen =
+choice_is_allowed s seed log h c run chosen =
     let before = history s log in
-    let l = luck s h before in
-    let has = has_choice s h before c chosen in
+    let l = luck s seed h before in
+    let has = has_choice s seed h before c chosen in
     let good : IsGoodHere (here_in_history s before h) = good_here s (plain_of s before) h has.lt (settled s before run).good in
-    free_choice (here_in_history s before h) (pick_at s h before) c
-    (pick_is_free (here_in_history s before h) (ran h before) l.credit (word (after_words l.drawn (first_generator s.seed h))) good)
+    free_choice (here_in_history s before h) (pick_at s seed h before) c
+    (pick_is_free (here_in_history s before h) (ran h before) l.credit (word (after_words l.drawn (first_generator seed h))) good)
     has.picked
 
-pub choice_decides : (s : Setting) (log : List Entry) (h : ℕ) (c : Choice) → IsAllowedLog s log
-    → choice_at s h (history s log) ≡ Some c
+pub choice_decides : (s : Setting) (seed : ℕ) (log : List Entry) (h : ℕ) (c : Choice) → IsAllowedLog s log
+    → choice_at s seed h (history s log) ≡ Some c
     → decide s (history s log) h c ≡ Ok (entry_in c (here_in_history s (history s log) h))
-choice_decides s log h c run chosen =
-    let has = has_choice s h (history s log) c chosen in
+choice_decides s seed log h c run chosen =
+    let has = has_choice s seed h (history s log) c chosen in
     decide-open s (history s log) h c (goes_on_where s (history s log) has.goes) has.lt
-    ∙ ap (unless (entry_in c (here_in_history s (history s log) h))) (choice_is_allowed s log h c run chosen)
+    ∙ ap (unless (entry_in c (here_in_history s (history s log) h))) (choice_is_allowed s seed log h c run chosen)
 
 -- some hart has a choice
 
@@ -442,10 +442,10 @@ entry_of : (here : Here) (o : Option Pick) → is_some o ≡ true
 entry_of here None some = absurd (false≢true some)
 entry_of here (Some p) some = refl
 
-next_where : (s : Setting) (h : ℕ) (before : History) → has_ended s before ≡ false → h < s.limits.harts
-    → is_some (pick_at s h before) ≡ true → is_some (next_entry s h before) ≡ true
+next_where : (s : Setting) (seed h : ℕ) (before : History) → has_ended s before ≡ false → h < s.limits.harts
+    → is_some (pick_at s seed h before) ≡ true → is_some (next_entry s seed h before) ≡ true
 unfolding next_entry choice_at
-next_where s h before goes lt some = rw (goes, lt-ltb h s.limits.harts lt) (entry_of (here_in_history s before h) (pick_at s h before) some)
+next_where s seed h before goes lt some = rw (goes, lt-ltb h s.limits.harts lt) (entry_of (here_in_history s before h) (pick_at s seed h before) some)
 
 -- a hart on which a store waits, if there is one
 find_waiting : (stores : ℕ → List Store) (n : ℕ)
@@ -530,51 +530,51 @@ picks_at s before run at (inl found) =
     }
 picks_at s before run at (inr none) = picks_in s before at (awaits at.hart before) run none refl
 
-pub some_hart_goes_on : (s : Setting) (log : List Entry) → IsAllowedLog s log → 0 < s.limits.harts
+pub some_hart_goes_on : (s : Setting) (seed : ℕ) (log : List Entry) → IsAllowedLog s log → 0 < s.limits.harts
     → has_ended s (history s log) ≡ false
-    → (h : ℕ) × (h < s.limits.harts) × (is_some (next_entry s h (history s log)) ≡ true)
-some_hart_goes_on s log run harts goes =
+    → (h : ℕ) × (h < s.limits.harts) × (is_some (next_entry s seed h (history s log)) ≡ true)
+some_hart_goes_on s seed log run harts goes =
     let before = history s log in
     let at = picks_at s before run (goes_on_at s before run harts (goes_on_where s before goes)) (find_waiting (λ k. waiting k before) s.limits.harts) in
-    let l = luck s at.hart before in (
+    let l = luck s seed at.hart before in (
       at.hart,
       at.lt,
-      next_where s at.hart before goes at.lt (something_picked (here_in_history s before at.hart) (ran at.hart before) l.credit
-          (word (after_words l.drawn (first_generator s.seed at.hart))) at.going),
+      next_where s seed at.hart before goes at.lt (something_picked (here_in_history s before at.hart) (ran at.hart before) l.credit
+          (word (after_words l.drawn (first_generator seed at.hart))) at.going),
     )
 
 -- logs of choices
 
 -- the luck of a hart after one more entry
-pub luck_of_other : (s : Setting) (log : List Entry) (h : ℕ) (e : Entry) → e.hart.0 ≢ h
-    → luck s h (history s (log ++ e ∷ [])) ≡ luck s h (history s log)
-luck_of_other s log h e other =
+pub luck_of_other : (s : Setting) (seed : ℕ) (log : List Entry) (h : ℕ) (e : Entry) → e.hart.0 ≢ h
+    → luck s seed h (history s (log ++ e ∷ [])) ≡ luck s seed h (history s log)
+luck_of_other s seed log h e other =
     let before = history s log in
-    ap (luck s h) (history-append s log e)
-    ∙ cond-false (eqb e.hart.0 h) (luck_after (choice_of e) (sight_with s h before (luck s h before)) (pick_with s h before (luck s h before)) (luck s h before)) (luck s h before)
+    ap (luck s seed h) (history-append s log e)
+    ∙ cond-false (eqb e.hart.0 h) (luck_after (choice_of e) (sight_with s h before (luck s seed h before)) (pick_with s seed h before (luck s seed h before)) (luck s seed h before)) (luck s seed h before)
     (ne_eqb e.hart.0 h other)
 
-pub luck_of_own : (s : Setting) (log : List Entry) (h : ℕ) (e : Entry) → e.hart.0 ≡ h
-    → luck s h (history s (log ++ e ∷ []))
-    ≡ luck_after (choice_of e) (sight_with s h (history s log) (luck s h (history s log))) (pick_with s h (history s log) (luck s h (history s log))) (luck s h (history s log))
-luck_of_own s log h e own =
+pub luck_of_own : (s : Setting) (seed : ℕ) (log : List Entry) (h : ℕ) (e : Entry) → e.hart.0 ≡ h
+    → luck s seed h (history s (log ++ e ∷ []))
+    ≡ luck_after (choice_of e) (sight_with s h (history s log) (luck s seed h (history s log))) (pick_with s seed h (history s log) (luck s seed h (history s log))) (luck s seed h (history s log))
+luck_of_own s seed log h e own =
     let before = history s log in
-    ap (luck s h) (history-append s log e)
-    ∙ cond-true (eqb e.hart.0 h) (luck_after (choice_of e) (sight_with s h before (luck s h before)) (pick_with s h before (luck s h before)) (luck s h before)) (luck s h before)
+    ap (luck s seed h) (history-append s log e)
+    ∙ cond-true (eqb e.hart.0 h) (luck_after (choice_of e) (sight_with s h before (luck s seed h before)) (pick_with s seed h before (luck s seed h before)) (luck s seed h before)) (luck s seed h before)
     (eq-eqb e.hart.0 h own)
 
 -- whether each entry is the choice of its hart, with one more entry
-pub all_chosen_next : (s : Setting) (log : List Entry) (e : Entry)
-    → all_chosen s (history s (log ++ e ∷ [])) ≡ (all_chosen s (history s log) && is_choice (choice_at s e.hart.0 (history s log)) (choice_of e))
-all_chosen_next s log e = ap (all_chosen s) (history-append s log e)
+pub all_chosen_next : (s : Setting) (seed : ℕ) (log : List Entry) (e : Entry)
+    → all_chosen s seed (history s (log ++ e ∷ [])) ≡ (all_chosen s seed (history s log) && is_choice (choice_at s seed e.hart.0 (history s log)) (choice_of e))
+all_chosen_next s seed log e = ap (all_chosen s seed) (history-append s log e)
 
 -- whether two choices are one
 pub is_choice_same : (c : Choice) → is_choice (Some c) c ≡ true
 is_choice_same c = eq-eqb (number_of_choice c) (number_of_choice c) refl
 
-pub chosen_start : (s : Setting) → IsChosen s []
+pub chosen_start : (s : Setting) (seed : ℕ) → IsChosen s seed []
 unfolding IsChosen
-chosen_start s = ap (all_chosen s) (history-nil s)
+chosen_start s seed = ap (all_chosen s seed) (history-nil s)
 
 -- the choice of a next entry
 next_of : (s : Setting) (h : ℕ) (before : History) (o : Option Choice) (e : Entry)
@@ -583,42 +583,42 @@ next_of : (s : Setting) (h : ℕ) (before : History) (o : Option Choice) (e : En
 next_of s h before None e is = absurd cc
 next_of s h before (Some c) e is = (c, refl, cc)
 
-choice_of_next : (s : Setting) (h : ℕ) (before : History) (e : Entry) → next_entry s h before ≡ Some e
-    → (c : Choice) × (choice_at s h before ≡ Some c) × (e ≡ entry_in c (here_in_history s before h))
+choice_of_next : (s : Setting) (seed h : ℕ) (before : History) (e : Entry) → next_entry s seed h before ≡ Some e
+    → (c : Choice) × (choice_at s seed h before ≡ Some c) × (e ≡ entry_in c (here_in_history s before h))
 unfolding next_entry
-choice_of_next s h before e is = next_of s h before (choice_at s h before) e is
+choice_of_next s seed h before e is = next_of s h before (choice_at s seed h before) e is
 
-chosen_next : (s : Setting) (log : List Entry) (e : Entry) → IsChosen s log
-    → choice_at s e.hart.0 (history s log) ≡ Some (choice_of e) → IsChosen s (log ++ e ∷ [])
+chosen_next : (s : Setting) (seed : ℕ) (log : List Entry) (e : Entry) → IsChosen s seed log
+    → choice_at s seed e.hart.0 (history s log) ≡ Some (choice_of e) → IsChosen s seed (log ++ e ∷ [])
 unfolding IsChosen
-chosen_next s log e chosen is = all_chosen_next s log e ∙ rw (chosen, is) (is_choice_same (choice_of e))
+chosen_next s seed log e chosen is = all_chosen_next s seed log e ∙ rw (chosen, is) (is_choice_same (choice_of e))
 
-pub chosen_more : (s : Setting) (log : List Entry) (h : ℕ) (e : Entry) → IsAllowedLog s log → IsChosen s log
-    → next_entry s h (history s log) ≡ Some e
-    → IsAllowedLog s (log ++ e ∷ []) × IsChosen s (log ++ e ∷ []) × (e.hart.0 ≡ h)
-chosen_more s log h e run chosen next =
-    let at = choice_of_next s h (history s log) e next in
-    let made : decide s (history s log) h at.0 ≡ Ok e = choice_decides s log h at.0 run at.1 ∙ ap Ok (sym at.2) in
+pub chosen_more : (s : Setting) (seed : ℕ) (log : List Entry) (h : ℕ) (e : Entry) → IsAllowedLog s log → IsChosen s seed log
+    → next_entry s seed h (history s log) ≡ Some e
+    → IsAllowedLog s (log ++ e ∷ []) × IsChosen s seed (log ++ e ∷ []) × (e.hart.0 ≡ h)
+chosen_more s seed log h e run chosen next =
+    let at = choice_of_next s seed h (history s log) e next in
+    let made : decide s (history s log) h at.0 ≡ Ok e = choice_decides s seed log h at.0 run at.1 ∙ ap Ok (sym at.2) in
     let own = decided_is s (history s log) h at.0 e made in
-    let it : choice_at s e.hart.0 (history s log) ≡ Some (choice_of e) = ap (λ k. choice_at s k (history s log)) own.0 ∙ at.1 ∙ ap Some (sym own.1) in
-    (IsAllowedLog-append s log h at.0 e run made, chosen_next s log e chosen it, own.0)
+    let it : choice_at s seed e.hart.0 (history s log) ≡ Some (choice_of e) = ap (λ k. choice_at s seed k (history s log)) own.0 ∙ at.1 ∙ ap Some (sym own.1) in
+    (IsAllowedLog-append s log h at.0 e run made, chosen_next s seed log e chosen it, own.0)
 
-chosen_before : (s : Setting) (rest : List Entry) (before : History)
-    → all_chosen s (fold (λ b e. event s b e ∷ b) before rest) ≡ true → all_chosen s before ≡ true
-chosen_before s [] before chosen = chosen
-chosen_before s (e ∷ rest) before chosen =
-    (and_parts (all_chosen s before) (is_choice (choice_at s e.hart.0 before) (choice_of e)) (chosen_before s rest (event s before e ∷ before) chosen)).0
+chosen_before : (s : Setting) (seed : ℕ) (rest : List Entry) (before : History)
+    → all_chosen s seed (fold (λ b e. event s b e ∷ b) before rest) ≡ true → all_chosen s seed before ≡ true
+chosen_before s seed [] before chosen = chosen
+chosen_before s seed (e ∷ rest) before chosen =
+    (and_parts (all_chosen s seed before) (is_choice (choice_at s seed e.hart.0 before) (choice_of e)) (chosen_before s seed rest (event s before e ∷ before) chosen)).0
 
-pub chosen_shorter : (s : Setting) (log more : List Entry) → IsChosen s (log ++ more) → IsChosen s log
+pub chosen_shorter : (s : Setting) (seed : ℕ) (log more : List Entry) → IsChosen s seed (log ++ more) → IsChosen s seed log
 unfolding IsChosen history
-chosen_shorter s log more chosen =
-    chosen_before s more (history s log) (sym (ap (all_chosen s) (fold-append (λ before e. event s before e ∷ before) [] log more)) ∙ chosen)
+chosen_shorter s seed log more chosen =
+    chosen_before s seed more (history s log) (sym (ap (all_chosen s seed) (fold-append (λ before e. event s before e ∷ before) [] log more)) ∙ chosen)
 
 -- where the run has ended no hart makes an entry
-pub next_is_none : (s : Setting) (log : List Entry) (h : ℕ) → has_ended s (history s log) ≡ true
-    → next_entry s h (history s log) ≡ None
+pub next_is_none : (s : Setting) (seed : ℕ) (log : List Entry) (h : ℕ) → has_ended s (history s log) ≡ true
+    → next_entry s seed h (history s log) ≡ None
 unfolding next_entry choice_at
-next_is_none s log h over = rw over refl
+next_is_none s seed log h over = rw over refl
 
 -- credits
 
@@ -661,10 +661,10 @@ small_after c seen r l small =
     (record { drawn = l.drawn; credit = 0 }) (λ (x : Luck). x.credit ≤ 7)
     (λ picked. pick_credit seen r small) (λ other. omega arith)
 
-pub credit_is_small : (s : Setting) (h : ℕ) (before : History) → (luck s h before).credit ≤ 7
-credit_is_small s h [] = omega arith
-credit_is_small s h (e ∷ before) =
-    let l = luck s h before in
-    cond_both (is_of_hart h e) (luck_after (choice_of e.entry) (sight_with s h before l) (pick_with s h before l) l) l (λ (x : Luck). x.credit ≤ 7)
-    (λ own. small_after (choice_of e.entry) (sight_with s h before l) (word (after_words l.drawn (first_generator s.seed h))) l (credit_is_small s h before))
-    (λ other. credit_is_small s h before)
+pub credit_is_small : (s : Setting) (seed h : ℕ) (before : History) → (luck s seed h before).credit ≤ 7
+credit_is_small s seed h [] = omega arith
+credit_is_small s seed h (e ∷ before) =
+    let l = luck s seed h before in
+    cond_both (is_of_hart h e) (luck_after (choice_of e.entry) (sight_with s h before l) (pick_with s seed h before l) l) l (λ (x : Luck). x.credit ≤ 7)
+    (λ own. small_after (choice_of e.entry) (sight_with s h before l) (word (after_words l.drawn (first_generator seed h))) l (credit_is_small s seed h before))
+    (λ other. credit_is_small s seed h before)

@@ -20,7 +20,6 @@ code_and_page code bytes = record {
     break_at = 0x21000;
   };
   limits = record { harts = 2; frames = 4096; steps = 200000 };
-  seed = 1;
 }
 
 abbrev pub code_and_data : List ℕ → Setting
@@ -28,7 +27,7 @@ code_and_data code = code_and_page code []
 
 -- the same on a machine of so many frames
 abbrev pub within_frames : ℕ → Setting → Setting
-within_frames frames s = record s { limits = record { harts = 2; frames = frames; steps = 200000 }; seed = 0 }
+within_frames frames s = record s { limits = record { harts = 2; frames = frames; steps = 200000 } }
 
 -- a line of a hart, and of hart 0
 abbrev pub line_of : ℕ → Choice → Ask

@@ -119,8 +119,8 @@ one_list file ps qs one other =
     same_pages file ps qs same one.whole other.whole
 
 -- so a file has one setting
-pub one_setting : (file : List ℕ) (a b : Image) (limits : Limits) (seed : ℕ) → IsImage file a → IsImage file b → setting_of a limits seed ≡ setting_of b limits seed
-one_setting file a b limits seed one other =
+pub one_setting : (file : List ℕ) (a b : Image) (limits : Limits) → IsImage file a → IsImage file b → setting_of a limits ≡ setting_of b limits
+one_setting file a b limits one other =
     let pages : a.pages.items ≡ b.pages.items = one_list file a.pages.items b.pages.items one.pages other.pages in
     let entry : a.entry ≡ b.entry = one.entry ∙ sym other.entry in
     let phdr : a.phdr ≡ b.phdr = one.table ∙ sym other.table in

@@ -91,14 +91,14 @@ loaded = refl
 
 -- the choices of `run`: at the start each hart of the machine would run thread 1; once hart 0 runs it, hart 1 has none
 choices_at_start :
-    (next_entry stores 0 (history stores []) ≡ Some (entry kind.Run 0x100B0))  -- chooses first
-    × (choice_at stores 1 (history stores []) ≡ Some (asked.Run (record { 0 = 1 })))  -- chooses at hart 1
-    × (choice_at stores 1 (history stores before_walk) ≡ None)  -- none for hart 1
+    (next_entry stores 1 0 (history stores []) ≡ Some (entry kind.Run 0x100B0))  -- chooses first
+    × (choice_at stores 1 1 (history stores []) ≡ Some (asked.Run (record { 0 = 1 })))  -- chooses at hart 1
+    × (choice_at stores 1 1 (history stores before_walk) ≡ None)  -- none for hart 1
 unfolding history done is_register_only has_ended choice_at next_entry pick meaning row_of rows lui_rows auipc_rows jal_rows jalr_rows branch_rows load_rows store_rows op_imm_rows op_imm_32_rows op_rows op_32_rows misc_mem_rows amo_rows system_rows
 choices_at_start = (refl, refl, refl)
 
 -- no word is drawn for a thread that begins to run
-none_drawn : luck stores 0 (history stores before_walk) ≡ record { drawn = 0; credit = 0 }
+none_drawn : luck stores 1 0 (history stores before_walk) ≡ record { drawn = 0; credit = 0 }
 unfolding history done is_register_only has_ended choice_at next_entry pick meaning row_of rows lui_rows auipc_rows jal_rows jalr_rows branch_rows load_rows store_rows op_imm_rows op_imm_32_rows op_rows op_32_rows misc_mem_rows amo_rows system_rows
 none_drawn = refl
 
@@ -106,11 +106,11 @@ none_drawn = refl
 abbrev other_hart : List Entry
 other_hart = record (entry kind.Run 0x100B0) { hart = record { 0 = 1 } } ∷ []
 
-no_second_hart : choice_at (record stores { limits = record stores.limits { harts = 1 } }) 1 (history stores other_hart) ≡ None
+no_second_hart : choice_at (record stores { limits = record stores.limits { harts = 1 } }) 1 1 (history stores other_hart) ≡ None
 unfolding history done is_register_only has_ended choice_at next_entry pick meaning row_of rows lui_rows auipc_rows jal_rows jalr_rows branch_rows load_rows store_rows op_imm_rows op_imm_32_rows op_rows op_32_rows misc_mem_rows amo_rows system_rows
 no_second_hart = refl
 
-none_after_the_end : choice_at exits 0 (history exits (before_exit ++ entry kind.Exec 0x100B8 ∷ [])) ≡ None
+none_after_the_end : choice_at exits 1 0 (history exits (before_exit ++ entry kind.Exec 0x100B8 ∷ [])) ≡ None
 unfolding history done is_register_only has_ended choice_at next_entry pick meaning row_of rows lui_rows auipc_rows jal_rows jalr_rows branch_rows load_rows store_rows op_imm_rows op_imm_32_rows op_rows op_32_rows misc_mem_rows amo_rows system_rows
 none_after_the_end = refl
 
@@ -119,7 +119,7 @@ abbrev place : ℕ → History
 place n = history stores (before_walk ++ take n walk)
 
 abbrev picks : ℕ → Luck → Option Pick
-picks n l = pick_with stores 0 (place n) l
+picks n l = pick_with stores 1 0 (place n) l
 
 abbrev and_then : Choice → ℕ → Luck → Luck
 and_then c n l = luck_after c (sight_with stores 0 (place n) l) (picks n l) l
@@ -132,51 +132,51 @@ is_picked n l c = is_choice (option_map (λ (p : Pick). p.choice) (picks n l)) c
 module _ (first : word (first_generator 1 0) ≡ 0xcfc5d07f6f03c29b)
     (second : word (next_generator (first_generator 1 0)) ≡ 0xbf424132963fe08d)
     (third : word (next_generator (next_generator (first_generator 1 0))) ≡ 0x19a37d5757aaf520) where
-  credit_given : luck stores 0 (place 1) ≡ record { drawn = 1; credit = 1 }
+  credit_given : luck stores 1 0 (place 1) ≡ record { drawn = 1; credit = 1 }
   unfolding all_signals history done is_register_only has_ended choice_at next_entry pick meaning row_of rows lui_rows auipc_rows jal_rows jalr_rows branch_rows load_rows store_rows op_imm_rows op_imm_32_rows op_rows op_32_rows misc_mem_rows amo_rows system_rows
   credit_given = rw first refl
 
-  credit_used : luck stores 0 (place 2) ≡ record { drawn = 1; credit = 0 }
+  credit_used : luck stores 1 0 (place 2) ≡ record { drawn = 1; credit = 0 }
   unfolding all_signals history done is_register_only has_ended choice_at next_entry pick meaning row_of rows lui_rows auipc_rows jal_rows jalr_rows branch_rows load_rows store_rows op_imm_rows op_imm_32_rows op_rows op_32_rows misc_mem_rows amo_rows system_rows
   credit_used = ap (and_then asked.Exec 1) credit_given
 
-  word_without_credit : luck stores 0 (place 3) ≡ record { drawn = 2; credit = 0 }
+  word_without_credit : luck stores 1 0 (place 3) ≡ record { drawn = 2; credit = 0 }
   unfolding all_signals history done is_register_only has_ended choice_at next_entry pick meaning row_of rows lui_rows auipc_rows jal_rows jalr_rows branch_rows load_rows store_rows op_imm_rows op_imm_32_rows op_rows op_32_rows misc_mem_rows amo_rows system_rows
   word_without_credit = ap (and_then asked.Exec 2) credit_used ∙ rw second refl
 
-  credit_again : luck stores 0 (place 4) ≡ record { drawn = 3; credit = 2 }
+  credit_again : luck stores 1 0 (place 4) ≡ record { drawn = 3; credit = 2 }
   unfolding all_signals history done is_register_only has_ended choice_at next_entry pick meaning row_of rows lui_rows auipc_rows jal_rows jalr_rows branch_rows load_rows store_rows op_imm_rows op_imm_32_rows op_rows op_32_rows misc_mem_rows amo_rows system_rows
   credit_again = ap (and_then asked.Exec 3) word_without_credit ∙ rw third refl
 
-  drains_when_held_up : next_entry stores 0 (place 4) ≡ Some (entry kind.Drain 0x100C0)
+  drains_when_held_up : next_entry stores 1 0 (place 4) ≡ Some (entry kind.Drain 0x100C0)
   unfolding all_signals history done is_register_only has_ended choice_at next_entry pick meaning row_of rows lui_rows auipc_rows jal_rows jalr_rows branch_rows load_rows store_rows op_imm_rows op_imm_32_rows op_rows op_32_rows misc_mem_rows amo_rows system_rows
   drains_when_held_up =
       ap (λ l. option_map (λ c. entry_in c (here_in_history stores (place 4) 0)) (option_map (λ (p : Pick). p.choice) (picks 4 l))) credit_again
 
   -- no credit is left after a drain, and no word is drawn for it
-  credit_ends : luck stores 0 (place 5) ≡ record { drawn = 3; credit = 0 }
+  credit_ends : luck stores 1 0 (place 5) ≡ record { drawn = 3; credit = 0 }
   unfolding all_signals history done is_register_only has_ended choice_at next_entry pick meaning row_of rows lui_rows auipc_rows jal_rows jalr_rows branch_rows load_rows store_rows op_imm_rows op_imm_32_rows op_rows op_32_rows misc_mem_rows amo_rows system_rows
   credit_ends = ap (and_then asked.Drain 4) credit_again
 
   -- a drain in place of the load draws no word, and leaves no credit
-  other_event_draws_none : and_then asked.Drain 3 (luck stores 0 (place 3)) ≡ record { drawn = 2; credit = 0 }
+  other_event_draws_none : and_then asked.Drain 3 (luck stores 1 0 (place 3)) ≡ record { drawn = 2; credit = 0 }
   unfolding all_signals history done is_register_only has_ended choice_at next_entry pick meaning row_of rows lui_rows auipc_rows jal_rows jalr_rows branch_rows load_rows store_rows op_imm_rows op_imm_32_rows op_rows op_32_rows misc_mem_rows amo_rows system_rows
   other_event_draws_none = ap (and_then asked.Drain 3) word_without_credit ∙ rw third refl
 
-  walk_is_chosen : IsChosen stores (before_walk ++ walk)
+  walk_is_chosen : IsChosen stores 1 (before_walk ++ walk)
   unfolding all_signals IsChosen history done is_register_only has_ended choice_at next_entry pick meaning row_of rows lui_rows auipc_rows jal_rows jalr_rows branch_rows load_rows store_rows op_imm_rows op_imm_32_rows op_rows op_32_rows misc_mem_rows amo_rows system_rows
   walk_is_chosen =
       let lui : is_picked 0 (record { drawn = 0; credit = 0 }) asked.Exec ≡ true = rw first refl in
-      let addi : is_picked 1 (luck stores 0 (place 1)) asked.Exec ≡ true = ap (λ l. is_picked 1 l asked.Exec) credit_given in
-      let sw : is_picked 2 (luck stores 0 (place 2)) asked.Exec ≡ true = ap (λ l. is_picked 2 l asked.Exec) credit_used ∙ rw second refl in
-      let lw : is_picked 3 (luck stores 0 (place 3)) asked.Exec ≡ true = ap (λ l. is_picked 3 l asked.Exec) word_without_credit ∙ rw third refl in
-      let drain : is_picked 4 (luck stores 0 (place 4)) asked.Drain ≡ true = ap (λ l. is_picked 4 l asked.Drain) credit_again in
+      let addi : is_picked 1 (luck stores 1 0 (place 1)) asked.Exec ≡ true = ap (λ l. is_picked 1 l asked.Exec) credit_given in
+      let sw : is_picked 2 (luck stores 1 0 (place 2)) asked.Exec ≡ true = ap (λ l. is_picked 2 l asked.Exec) credit_used ∙ rw second refl in
+      let lw : is_picked 3 (luck stores 1 0 (place 3)) asked.Exec ≡ true = ap (λ l. is_picked 3 l asked.Exec) word_without_credit ∙ rw third refl in
+      let drain : is_picked 4 (luck stores 1 0 (place 4)) asked.Drain ≡ true = ap (λ l. is_picked 4 l asked.Drain) credit_again in
       all_five lui addi sw lw drain
     where
       all_five : {a b c d e : Bool} → a ≡ true → b ≡ true → c ≡ true → d ≡ true → e ≡ true → (a && b && c && d && e) ≡ true
       all_five lui addi sw lw drain = rw (lui, addi, sw, lw, drain) refl
 
   -- a drain in place of the load isn't the choice
-  early_drain_is_not : is_choice (choice_at stores 0 (place 3)) asked.Drain ≡ false
+  early_drain_is_not : is_choice (choice_at stores 1 0 (place 3)) asked.Drain ≡ false
   unfolding all_signals history done is_register_only has_ended choice_at next_entry pick meaning row_of rows lui_rows auipc_rows jal_rows jalr_rows branch_rows load_rows store_rows op_imm_rows op_imm_32_rows op_rows op_32_rows misc_mem_rows amo_rows system_rows
   early_drain_is_not = ap (λ l. is_picked 3 l asked.Drain) word_without_credit ∙ rw third refl

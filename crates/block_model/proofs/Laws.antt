@@ -284,55 +284,55 @@ rule_is_read s log credit seen is = ap solo_rule (sym is)
 -- the choice of `run`
 
 -- it is allowed, and its entry is the one that is decided
-pub choice_is_allowed : (s : Setting) (log : List Entry) (h : ℕ) (c : Choice) → IsBlockRun s log → choice_at s h (history s log) ≡ Some c
+pub choice_is_allowed : (s : Setting) (seed : ℕ) (log : List Entry) (h : ℕ) (c : Choice) → IsBlockRun s log → choice_at s seed h (history s log) ≡ Some c
     → refusal_of c (here_in_history s (history s log) h) ≡ None
-choice_is_allowed s log h c run chosen = choices.choice_is_allowed s log h c run.allowed chosen
+choice_is_allowed s seed log h c run chosen = choices.choice_is_allowed s seed log h c run.allowed chosen
 
-pub choice_decides : (s : Setting) (log : List Entry) (h : ℕ) (c : Choice) → IsBlockRun s log → choice_at s h (history s log) ≡ Some c
+pub choice_decides : (s : Setting) (seed : ℕ) (log : List Entry) (h : ℕ) (c : Choice) → IsBlockRun s log → choice_at s seed h (history s log) ≡ Some c
     → decide s (history s log) h c ≡ Ok (entry_in c (here_in_history s (history s log) h))
-choice_decides s log h c run chosen = choices.choice_decides s log h c run.allowed chosen
+choice_decides s seed log h c run chosen = choices.choice_decides s seed log h c run.allowed chosen
 
 -- the luck of a hart after one more entry, of another hart or its own
-pub luck_of_other : (s : Setting) (log : List Entry) (h : ℕ) (e : Entry) → e.hart.0 ≢ h
-    → luck s h (history s (log ++ e ∷ [])) ≡ luck s h (history s log)
-luck_of_other s log h e other = choices.luck_of_other s log h e other
+pub luck_of_other : (s : Setting) (seed : ℕ) (log : List Entry) (h : ℕ) (e : Entry) → e.hart.0 ≢ h
+    → luck s seed h (history s (log ++ e ∷ [])) ≡ luck s seed h (history s log)
+luck_of_other s seed log h e other = choices.luck_of_other s seed log h e other
 
-pub luck_of_own : (s : Setting) (log : List Entry) (h : ℕ) (e : Entry) → e.hart.0 ≡ h
-    → luck s h (history s (log ++ e ∷ []))
-    ≡ luck_after (choice_of e) (sight_with s h (history s log) (luck s h (history s log))) (pick_with s h (history s log) (luck s h (history s log))) (luck s h (history s log))
-luck_of_own s log h e own = choices.luck_of_own s log h e own
+pub luck_of_own : (s : Setting) (seed : ℕ) (log : List Entry) (h : ℕ) (e : Entry) → e.hart.0 ≡ h
+    → luck s seed h (history s (log ++ e ∷ []))
+    ≡ luck_after (choice_of e) (sight_with s h (history s log) (luck s seed h (history s log))) (pick_with s seed h (history s log) (luck s seed h (history s log))) (luck s seed h (history s log))
+luck_of_own s seed log h e own = choices.luck_of_own s seed log h e own
 
 -- whether each entry is the choice of its hart, with one more entry
-pub all_chosen_next : (s : Setting) (log : List Entry) (e : Entry)
-    → all_chosen s (history s (log ++ e ∷ [])) ≡ (all_chosen s (history s log) && is_choice (choice_at s e.hart.0 (history s log)) (choice_of e))
-all_chosen_next s log e = choices.all_chosen_next s log e
+pub all_chosen_next : (s : Setting) (seed : ℕ) (log : List Entry) (e : Entry)
+    → all_chosen s seed (history s (log ++ e ∷ [])) ≡ (all_chosen s seed (history s log) && is_choice (choice_at s seed e.hart.0 (history s log)) (choice_of e))
+all_chosen_next s seed log e = choices.all_chosen_next s seed log e
 
 -- whether two choices are one
 pub is_choice_same : (c : Choice) → is_choice (Some c) c ≡ true
 is_choice_same c = choices.is_choice_same c
 
 -- a log of choices begins empty, goes on by the entry that a hart makes next, and begins with logs of choices
-pub chosen_start : (s : Setting) → IsChosen s []
-chosen_start s = choices.chosen_start s
+pub chosen_start : (s : Setting) (seed : ℕ) → IsChosen s seed []
+chosen_start s seed = choices.chosen_start s seed
 
-pub chosen_more : (s : Setting) (log : List Entry) (h : ℕ) (e : Entry) → IsBlockRun s log → IsChosen s log → next_entry s h (history s log) ≡ Some e
-    → IsBlockRun s (log ++ e ∷ []) × IsChosen s (log ++ e ∷ []) × (e.hart.0 ≡ h)
-chosen_more s log h e run chosen next =
-    let more = choices.chosen_more s log h e run.allowed chosen next in
+pub chosen_more : (s : Setting) (seed : ℕ) (log : List Entry) (h : ℕ) (e : Entry) → IsBlockRun s log → IsChosen s seed log → next_entry s seed h (history s log) ≡ Some e
+    → IsBlockRun s (log ++ e ∷ []) × IsChosen s seed (log ++ e ∷ []) × (e.hart.0 ≡ h)
+chosen_more s seed log h e run chosen next =
+    let more = choices.chosen_more s seed log h e run.allowed chosen next in
     (block_run s (log ++ e ∷ []) more.0, more.1, more.2)
 
-pub chosen_shorter : (s : Setting) (log more : List Entry) → IsChosen s (log ++ more) → IsChosen s log
-chosen_shorter s log more chosen = choices.chosen_shorter s log more chosen
+pub chosen_shorter : (s : Setting) (seed : ℕ) (log more : List Entry) → IsChosen s seed (log ++ more) → IsChosen s seed log
+chosen_shorter s seed log more chosen = choices.chosen_shorter s seed log more chosen
 
 -- where the run has ended no hart makes an entry
-pub next_is_none : (s : Setting) (log : List Entry) (h : ℕ) → has_ended s (history s log) ≡ true → next_entry s h (history s log) ≡ None
-next_is_none s log h over = choices.next_is_none s log h over
+pub next_is_none : (s : Setting) (seed : ℕ) (log : List Entry) (h : ℕ) → has_ended s (history s log) ≡ true → next_entry s seed h (history s log) ≡ None
+next_is_none s seed log h over = choices.next_is_none s seed log h over
 
 -- images
 
 -- a file starts one setting, whichever image of it is taken
-pub one_setting : (file : List ℕ) (a b : Image) (limits : Limits) (seed : ℕ) → IsImage file a → IsImage file b → setting_of a limits seed ≡ setting_of b limits seed
-one_setting file a b limits seed one other = one_image.one_setting file a b limits seed one other
+pub one_setting : (file : List ℕ) (a b : Image) (limits : Limits) → IsImage file a → IsImage file b → setting_of a limits ≡ setting_of b limits
+one_setting file a b limits one other = one_image.one_setting file a b limits one other
 
 -- what a machine that makes an event needs of its place
 

@@ -46,7 +46,6 @@ program = record {
     break_at = 0x22000;
   };
   limits = record { harts = 2; frames = 128; steps = 200000 };
-  seed = 0;
 }
 
 -- thread 1 at a pc at the start, with an area there, and hart 1 is asked

@@ -500,7 +500,7 @@ rule_drains_before = refl
 abbrev begun_again : List Entry
 begun_again = posted_log ++ entry kind.Preempt 0x100C0 ∷ entry kind.Run 0x100C0 ∷ []
 
-run_delivers : next_entry kills_itself 0 (history kills_itself begun_again) ≡ Some (entry kind.Signal 0x100C0)
+run_delivers : next_entry kills_itself 1 0 (history kills_itself begun_again) ≡ Some (entry kind.Signal 0x100C0)
 unfolding all_signals has_ended choice_at next_entry pick is_register_only history done meaning row_of rows lui_rows auipc_rows jal_rows jalr_rows branch_rows load_rows store_rows op_imm_rows op_imm_32_rows op_rows op_32_rows misc_mem_rows amo_rows system_rows
 run_delivers = refl
 

@@ -29,10 +29,10 @@ events_rise s h (e ∷ rest) before =
     one_more false = omega arith
 
 -- a thread that runs on a hart, its file, the hart's words and credit, and whether the thread waits in a barrier, as they were
-pub record HasStayed (s : Setting) (h t : ℕ) (before later : History) : Type 0 where
+pub record HasStayed (s : Setting) (seed h t : ℕ) (before later : History) : Type 0 where
   pub runs : running s h later ≡ Some t
   pub same_file : file s t later ≡ file s t before
-  pub same_luck : luck s h later ≡ luck s h before
+  pub same_luck : luck s seed h later ≡ luck s seed h before
   pub same_waits : is_some (awaits h later) ≡ is_some (awaits h before)
 
 -- an event of another hart lets a barrier wait for fewer harts, and begins and ends none
@@ -42,18 +42,18 @@ waits_as_before h true None = refl
 waits_as_before h true (Some left) = refl
 
 -- while the hart makes no event they stay
-stays_by : (s : Setting) (h t : ℕ) (e : Entry) (rest : List Entry) (before : History) (own : Bool) → eqb e.hart.0 h ≡ own
+stays_by : (s : Setting) (seed h t : ℕ) (e : Entry) (rest : List Entry) (before : History) (own : Bool) → eqb e.hart.0 h ≡ own
     → IsRunHistory s (fold (λ b e. event s b e ∷ b) before (e ∷ rest)) → running s h before ≡ Some t
     → events h (fold (λ b e. event s b e ∷ b) before (e ∷ rest)) ≡ events h before
     → (IsRunHistory s (fold (λ b e. event s b e ∷ b) before (e ∷ rest)) → running s h (event s before e ∷ before) ≡ Some t
     → events h (fold (λ b e. event s b e ∷ b) before (e ∷ rest)) ≡ events h (event s before e ∷ before)
-    → HasStayed s h t (event s before e ∷ before) (fold (λ b e. event s b e ∷ b) before (e ∷ rest)))
-    → HasStayed s h t before (fold (λ b e. event s b e ∷ b) before (e ∷ rest))
-stays_by s h t e rest before true own run at same go =
+    → HasStayed s seed h t (event s before e ∷ before) (fold (λ b e. event s b e ∷ b) before (e ∷ rest)))
+    → HasStayed s seed h t before (fold (λ b e. event s b e ∷ b) before (e ∷ rest))
+stays_by s seed h t e rest before true own run at same go =
     let more = events_rise s h rest (event s before e ∷ before) in
     let one : events h (event s before e ∷ before) ≡ events h before + 1 = cond-true (eqb e.hart.0 h) (events h before + 1) (events h before) own in
     absurd (omega (arith, more, one, same))
-stays_by s h t e rest before false own run at same go =
+stays_by s seed h t e rest before false own run at same go =
     let fit = fit_at s (event s before e) before (run_before s rest (event s before e ∷ before) run) in
     let d = done s before e in
     let ne : h ≢ e.hart.0 = λ is. eqb-false e.hart.0 h own (sym is) in
@@ -62,47 +62,47 @@ stays_by s h t e rest before false own run at same go =
     record {
       runs = is.runs;
       same_file = is.same_file ∙ fit.apart h t (file s t before) ne at;
-      same_luck = is.same_luck ∙ cond-false (eqb e.hart.0 h) _ (luck s h before) own;
+      same_luck = is.same_luck ∙ cond-false (eqb e.hart.0 h) _ (luck s seed h before) own;
       same_waits = is.same_waits
           ∙ ap is_some (cond-false (eqb e.hart.0 h) (awaits_of_own d (awaits h before)) _ own)
           ∙ waits_as_before e.hart.0 d.took (awaits h before);
     }
 
-stays_over : (s : Setting) (h t : ℕ) (rest : List Entry) (before : History)
+stays_over : (s : Setting) (seed h t : ℕ) (rest : List Entry) (before : History)
     → IsRunHistory s (fold (λ b e. event s b e ∷ b) before rest) → running s h before ≡ Some t
     → events h (fold (λ b e. event s b e ∷ b) before rest) ≡ events h before
-    → HasStayed s h t before (fold (λ b e. event s b e ∷ b) before rest)
-stays_over s h t [] before run at same = record { runs = at; same_file = refl; same_luck = refl; same_waits = refl }
-stays_over s h t (e ∷ rest) before run at same =
-    stays_by s h t e rest before (eqb e.hart.0 h) refl run at same (stays_over s h t rest (event s before e ∷ before))
+    → HasStayed s seed h t before (fold (λ b e. event s b e ∷ b) before rest)
+stays_over s seed h t [] before run at same = record { runs = at; same_file = refl; same_luck = refl; same_waits = refl }
+stays_over s seed h t (e ∷ rest) before run at same =
+    stays_by s seed h t e rest before (eqb e.hart.0 h) refl run at same (stays_over s seed h t rest (event s before e ∷ before))
 
-pub stays : (s : Setting) (h t : ℕ) (log more : List Entry) → IsAllowedLog s (log ++ more) → running s h (history s log) ≡ Some t
+pub stays : (s : Setting) (seed h t : ℕ) (log more : List Entry) → IsAllowedLog s (log ++ more) → running s h (history s log) ≡ Some t
     → events h (history s (log ++ more)) ≡ events h (history s log)
-    → HasStayed s h t (history s log) (history s (log ++ more))
-stays s h t log more run at same =
+    → HasStayed s seed h t (history s log) (history s (log ++ more))
+stays s seed h t log more run at same =
     let whole = history-more s log more in
-    subst (HasStayed s h t (history s log)) (sym whole)
-    (stays_over s h t more (history s log) (subst (IsRunHistory s) whole run) at (sym (ap (events h) whole) ∙ same))
+    subst (HasStayed s seed h t (history s log)) (sym whole)
+    (stays_over s seed h t more (history s log) (subst (IsRunHistory s) whole run) at (sym (ap (events h) whole) ∙ same))
 
 -- what is known of a stretch that was lent
-pub record IsLent (s : Setting) (h : ℕ) (before : History) (l : Stretch) : Type 0 where
+pub record IsLent (s : Setting) (seed h : ℕ) (before : History) (l : Stretch) : Type 0 where
   pub goes : has_ended s before ≡ false
   pub lt : h < s.limits.harts
-  pub on_credit : is_on_credit (sight_with s h before (luck s h before)) ≡ true
+  pub on_credit : is_on_credit (sight_with s h before (luck s seed h before)) ≡ true
   pub thread : ℕ
   pub runs : running s h before ≡ Some thread
-  pub is : l ≡ record { hart = h; events = events h before; file = file s thread before; credit = (luck s h before).credit; pcs = [] }
+  pub is : l ≡ record { hart = h; events = events h before; file = file s thread before; credit = (luck s seed h before).credit; pcs = [] }
 
 not_true : (b : Bool) → not b ≡ true → b ≡ false
 not_true true is = cc
 not_true false is = refl
 
-lent_by : (s : Setting) (h : ℕ) (before : History) (l : Stretch) (o : Option ℕ) (may : Bool) → may_lend s h before ≡ may
-    → running s h before ≡ o → cond may (lent_to s h before o) None ≡ Some l → IsLent s h before l
-lent_by s h before l o false may at is = absurd cc
-lent_by s h before l None true may at is = absurd cc
-lent_by s h before l (Some t) true may at is =
-    let credited = and_parts (not (has_ended s before) && ltb h s.limits.harts) (is_on_credit (sight_with s h before (luck s h before))) may in
+lent_by : (s : Setting) (seed h : ℕ) (before : History) (l : Stretch) (o : Option ℕ) (may : Bool) → may_lend s seed h before ≡ may
+    → running s h before ≡ o → cond may (lent_to s seed h before o) None ≡ Some l → IsLent s seed h before l
+lent_by s seed h before l o false may at is = absurd cc
+lent_by s seed h before l None true may at is = absurd cc
+lent_by s seed h before l (Some t) true may at is =
+    let credited = and_parts (not (has_ended s before) && ltb h s.limits.harts) (is_on_credit (sight_with s h before (luck s seed h before))) may in
     let open_there = and_parts (not (has_ended s before)) (ltb h s.limits.harts) credited.0 in
     record {
       goes = not_true (has_ended s before) open_there.0;
@@ -113,9 +113,9 @@ lent_by s h before l (Some t) true may at is =
       is = cc;
     }
 
-pub is_lent : (s : Setting) (h : ℕ) (before : History) (l : Stretch) → lent s h before ≡ Some l → IsLent s h before l
+pub is_lent : (s : Setting) (seed h : ℕ) (before : History) (l : Stretch) → lent s seed h before ≡ Some l → IsLent s seed h before l
 unfolding lent
-is_lent s h before l is = lent_by s h before l (running s h before) (may_lend s h before) refl refl is
+is_lent s seed h before l is = lent_by s seed h before l (running s h before) (may_lend s seed h before) refl refl is
 
 -- the instructions by which a stretch becomes another, with their addresses in order
 abbrev pub Steps : List ImagePage → Stretch → List ℕ → Stretch → Type 0

@@ -36,16 +36,16 @@ is_on_credit seen = not seen.idle && not seen.in_barrier && has_credit seen
 
 -- the stretch that is lent of hart h at the end of a history: none where the run has ended, where the machine hasn't the hart, or
 -- where the hart executes no instruction on credit next
-abbrev pub lent_to : Setting → ℕ → History → Option ℕ → Option Stretch
-lent_to s h before None = None
-lent_to s h before (Some t) =
-    Some (record { hart = h; events = events h before; file = file s t before; credit = (luck s h before).credit; pcs = [] })
+abbrev pub lent_to : Setting → ℕ → ℕ → History → Option ℕ → Option Stretch
+lent_to s seed h before None = None
+lent_to s seed h before (Some t) =
+    Some (record { hart = h; events = events h before; file = file s t before; credit = (luck s seed h before).credit; pcs = [] })
 
-abbrev pub may_lend : Setting → ℕ → History → Bool
-may_lend s h before = not (has_ended s before) && nat_lt h s.limits.harts && is_on_credit (sight_with s h before (luck s h before))
+abbrev pub may_lend : Setting → ℕ → ℕ → History → Bool
+may_lend s seed h before = not (has_ended s before) && nat_lt h s.limits.harts && is_on_credit (sight_with s h before (luck s seed h before))
 
-unfoldable pub lent : Setting → ℕ → History → Option Stretch
-lent s h before = if may_lend s h before then lent_to s h before (running s h before) else None
+unfoldable pub lent : Setting → ℕ → ℕ → History → Option Stretch
+lent s seed h before = if may_lend s seed h before then lent_to s seed h before (running s h before) else None
 
 -- whether a stretch goes on by its next instruction: credit and room are left, and the instruction sets a register and the pc
 -- alone, without a fault
@@ -74,12 +74,12 @@ worked zero pages l = l
 worked (suc n) pages l = worked n pages (gone_on pages l)
 
 -- a stretch that was lent of hart h at a log with which this one begins, and was worked since
-pub record IsStretchOf (s : Setting) (h : ℕ) (log : List Entry) (l : Stretch) : Type 0 where
+pub record IsStretchOf (s : Setting) (seed h : ℕ) (log : List Entry) (l : Stretch) : Type 0 where
   pub lent_at : List Entry
   pub since : List Entry
   pub whole : lent_at ++ since ≡ log
   pub first : Stretch
-  pub began : lent s h (history s lent_at) ≡ Some first
+  pub began : lent s seed h (history s lent_at) ≡ Some first
   pub times : ℕ
   pub so_far : worked times s.program.pages first ≡ l
 
@@ -94,6 +94,6 @@ appended s h before l =
     if is_appended s h before l then min (length l.pcs) (s.limits.steps - length before) else 0
 
 -- the log after so many entries of hart h, each the one that it makes next; none where it makes fewer
-abbrev pub advanced : Setting → ℕ → ℕ → List Entry → Option (List Entry)
-advanced s h zero log = Some log
-advanced s h (suc n) log = option_and_then (λ e. advanced s h n (log ++ e ∷ [])) (next_entry s h (history s log))
+abbrev pub advanced : Setting → ℕ → ℕ → ℕ → List Entry → Option (List Entry)
+advanced s seed h zero log = Some log
+advanced s seed h (suc n) log = option_and_then (λ e. advanced s seed h n (log ++ e ∷ [])) (next_entry s seed h (history s log))

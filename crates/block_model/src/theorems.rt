@@ -382,42 +382,44 @@ pub fn rule_has_a_choice()
 
 /// What `run` chooses for a hart at a place of a block run is allowed there.
 pub fn choices_are_allowed()
-    ensures { (s : Setting) (log : List Entry) (h : ℕ) (c : Choice) → IsBlockRun s log
-        → choice_at s h (history s log) ≡ Some c
+    ensures { (s : Setting) (seed : ℕ) (log : List Entry) (h : ℕ) (c : Choice) → IsBlockRun s log
+        → choice_at s seed h (history s log) ≡ Some c
         → decide s (history s log) h c ≡ Ok (entry_in c (here_in_history s (history s log) h)) }
 {}
 
 /// At each place of a block run that hasn't ended some hart makes an entry by the choice of `run`.
 pub fn some_hart_has_a_choice()
-    ensures { (s : Setting) (log : List Entry) → IsBlockRun s log → 0 < s.limits.harts
+    ensures { (s : Setting) (seed : ℕ) (log : List Entry) → IsBlockRun s log → 0 < s.limits.harts
         → has_ended s (history s log) ≡ false
-        → (h : ℕ) × (h < s.limits.harts) × IsSome (next_entry s h (history s log)) }
+        → (h : ℕ) × (h < s.limits.harts) × IsSome (next_entry s seed h (history s log)) }
 {}
 
 /// A log of choices begins empty, and goes on by the entry that a hart makes next; what it begins with is one too.
 pub fn chosen_runs_go_on()
-    ensures start { (s : Setting) → IsChosen s [] }
-    ensures more { (s : Setting) (log : List Entry) (h : ℕ) (e : Entry) → IsBlockRun s log → IsChosen s log
-        → next_entry s h (history s log) ≡ Some e
-        → IsBlockRun s (log ++ e ∷ []) × IsChosen s (log ++ e ∷ []) × (e.hart.0 ≡ h) }
-    ensures shorter { (s : Setting) (log more : List Entry) → IsChosen s (log ++ more) → IsChosen s log }
+    ensures start { (s : Setting) (seed : ℕ) → IsChosen s seed [] }
+    ensures more { (s : Setting) (seed : ℕ) (log : List Entry) (h : ℕ) (e : Entry) → IsBlockRun s log
+        → IsChosen s seed log
+        → next_entry s seed h (history s log) ≡ Some e
+        → IsBlockRun s (log ++ e ∷ []) × IsChosen s seed (log ++ e ∷ []) × (e.hart.0 ≡ h) }
+    ensures shorter { (s : Setting) (seed : ℕ) (log more : List Entry) → IsChosen s seed (log ++ more)
+        → IsChosen s seed log }
 {}
 
 /// While a hart makes no event, the thread that runs on it stays there with its file, and so do the words that the hart's
 /// generator gave and the hart's credit. So a stretch that was lent of it can be appended later.
 pub fn hart_stays_as_it_is()
-    ensures { (s : Setting) (log more : List Entry) (h t : ℕ) → IsBlockRun s (log ++ more)
+    ensures { (s : Setting) (seed : ℕ) (log more : List Entry) (h t : ℕ) → IsBlockRun s (log ++ more)
         → running s h (history s log) ≡ Some t
         → events h (history s (log ++ more)) ≡ events h (history s log)
         → (running s h (history s (log ++ more)) ≡ Some t)
         × (file s t (history s (log ++ more)) ≡ file s t (history s log))
-        × (luck s h (history s (log ++ more)) ≡ luck s h (history s log)) }
+        × (luck s seed h (history s (log ++ more)) ≡ luck s seed h (history s log)) }
 {}
 
 /// A file starts one setting, whichever image of it is taken.
 pub fn file_has_one_setting()
-    ensures { (file : List ℕ) (a b : Image) (limits : Limits) (seed : ℕ) → IsImage file a → IsImage file b
-        → setting_of a limits seed ≡ setting_of b limits seed }
+    ensures { (file : List ℕ) (a b : Image) (limits : Limits) → IsImage file a → IsImage file b
+        → setting_of a limits ≡ setting_of b limits }
 {}
 
 /// A program that can be booted is laid out: its break is at most where mappings begin, and no page between is mapped.

@@ -49,7 +49,6 @@ program = record {
     break_at = 0x21000;
   };
   limits = record { harts = 2; frames = 128; steps = 200000 };
-  seed = 0;
 }
 
 -- SCRIPTS AND ACTS

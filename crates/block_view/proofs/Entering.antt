@@ -60,16 +60,15 @@ tied_start s = record {
   hangs = λ tid x is. absurd cc;
 }
 
-pub logged_none : (s : Setting) (m : Seen) → m ≡ record { setting = s; log = [] } → HasMadeLog s [] m
-logged_none s m is = record {
+pub logged_none : (s : Setting) (seed : ℕ) (m : Seen) → m ≡ record { setting = s; seed = seed; log = [] } → HasMadeLog s [] m
+logged_none s seed m is = record {
   setting = ap (λ (x : Seen). x.setting) is;
   made = ap (λ (x : Seen). x.log) is;
   run = subst (λ (x : Seen). IsBlockRun x.setting x.log) (sym is) (start_run s);
 }
 
-pub made_none : (s : Setting) (m : Seen) (k : Kept) → m ≡ record { setting = s; log = [] } → k ≡ nothing_kept s.limits.harts → HasMade s [] m k
-made_none s m k is kept =
-    let start : Seen = record { setting = s; log = [] } in
+pub made_none : (s : Setting) (seed : ℕ) (m : Seen) (k : Kept) → m ≡ record { setting = s; seed = seed; log = [] } → k ≡ nothing_kept s.limits.harts → HasMade s [] m k
+made_none s seed m k is kept =
     let tied : IsTied s (history s []) k =
     subst (IsTied s (history s [])) (sym kept) (subst (λ events. IsTied s events (nothing_kept s.limits.harts)) (sym (history-nil s)) (tied_start s)) in
     record {

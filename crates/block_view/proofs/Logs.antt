@@ -48,7 +48,7 @@ pub record IsAllowedAt (here : Here) (entry : Entry) : Type 0 where
 pub allowed_at : (s : Setting) (e : Event) (before : History) → IsRunHistory s (e ∷ before)
     → IsAllowedAt (here_in_history s before e.entry.hart.0) e.entry
 allowed_at s e before run =
-    let v : Seen = record { setting = s; log = entries before } in
+    let v : Seen = record { setting = s; seed = 0; log = entries before } in
     let same = history_of_entries s before run.0 in
     let block = is_block_run s before run.0 in
     let decided = ap (λ events. decide s events e.entry.hart.0 (choice_of e.entry)) same ∙ run.1 in

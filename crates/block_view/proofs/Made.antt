@@ -38,7 +38,7 @@ pub made_at : (s : Setting) (e : Event) (before : History) → IsRunHistory s (e
 made_at s e before run =
     let h = e.entry.hart.0 in
     let c = choice_of e.entry in
-    let v : Seen = record { setting = s; log = entries before } in
+    let v : Seen = record { setting = s; seed = 0; log = entries before } in
     let same = history_of_entries s before run.0 in
     let block = is_block_run s before run.0 in
     let decided = ap (λ events. decide s events h c) same ∙ run.1 in

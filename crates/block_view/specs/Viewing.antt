@@ -1,19 +1,13 @@
 -- Viewing a log: its acts, or the first entry that a run can't have there (own).
 use Rattle.std.specs.Prelude.{◌≡◌, List}
 use Rattle.mach_types.specs.declared.events.Entry.{Entry}
-use Rattle.mach_types.specs.declared.limits.Limits.{Limits}
-use Rattle.elf_load.specs.declared.image.Image.{Image}
 use Rattle.block_model.specs.Replay.{IsFirstRefused, script_of}
 use Rattle.block_model.specs.Run.{IsBlockRun}
-use Rattle.block_model.specs.Setting.{Setting, setting_of}
+use Rattle.block_model.specs.Setting.{Setting}
 use Rattle.block_view.specs.Acts.{acts_of}
 use Rattle.block_view.specs.declared.forms.Act.{Act}
 use Rattle.block_view.specs.declared.viewing.ViewFault.{ViewFault}
 use Rattle.block_view.specs.declared.viewing.ViewFault.TheVariants.{NotARun, NoMemory}
-
--- the setting of a log of an image: no choice is drawn, so the seed is 0
-abbrev pub viewed : Image → Limits → Setting
-viewed image limits = setting_of image limits 0
 
 -- these are the acts of a log, which is a block run
 pub record AreActs (s : Setting) (log : List Entry) (list : List Act) : Type 0 where

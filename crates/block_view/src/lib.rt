@@ -20,4 +20,4 @@ pub use forms::{Act, Acts, Form, form_word};
 pub use passing::{Passed, inside, make_again};
 pub use tally::Counts;
 pub use theorems::{acts_cover_the_log, counts_add_up};
-pub use viewing::{ViewFault, acts, seeded_acts};
+pub use viewing::{ViewFault, acts};

@@ -8,7 +8,7 @@ ghost use Rattle.block_view.specs.Ledgers.{kept_in};
 ghost use Rattle.block_view.specs.Standing.{at_the_end, standings};
 ghost use Rattle.block_view.specs.Tied.{IsTied};
 ghost use Rattle.block_model.specs.Setting.{setting_of};
-ghost use Rattle.block_view.specs.Viewing.{AreActs, IsViewCause, viewed};
+ghost use Rattle.block_view.specs.Viewing.{AreActs, IsViewCause};
 
 use crate::forms::Acts;
 use crate::ledger::Ledger;
@@ -51,27 +51,10 @@ impl From<AllocError> for ViewFault {
 pub fn acts(alloc: Global, image: &Image, limits: &Limits, log: &[Entry]) -> Result<Acts, ViewFault>
     requires image { IsBootable limits.now.frames image.now }
     requires limits { InRange limits.now }
-    ensures acts { IfOk result (λ acts. AreActs (viewed image.now limits.now) log.now acts.list.items) }
-    ensures cause { IfErr result (IsViewCause (viewed image.now limits.now) log.now) }
+    ensures acts { IfOk result (λ acts. AreActs (setting_of image.now limits.now) log.now acts.list.items) }
+    ensures cause { IfErr result (IsViewCause (setting_of image.now limits.now) log.now) }
 {
-    seeded_acts(alloc, image, limits, NO_SEED, log)
-}
-
-/// The same of harts that choose by a seed, as in `run`. No act depends on the seed.
-pub fn seeded_acts(
-    alloc: Global,
-    image: &Image,
-    limits: &Limits,
-    seed: u64,
-    log: &[Entry],
-) -> Result<Acts, ViewFault>
-    requires image { IsBootable limits.now.frames image.now }
-    requires limits { InRange limits.now }
-    ensures acts { IfOk result
-        (λ acts. AreActs (setting_of image.now limits.now seed) log.now acts.list.items) }
-    ensures cause { IfErr result (IsViewCause (setting_of image.now limits.now seed) log.now) }
-{
-    let mut machine = Machine::boot(alloc, image, *limits, seed)?;
+    let mut machine = Machine::boot(alloc, image, *limits, NO_SEED)?;
     let mut ledger = Ledger::new(alloc, limits.harts)?;
     for entry in log {
         let number = machine.log().len() as u32 + 1;

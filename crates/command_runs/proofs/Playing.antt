@@ -23,9 +23,9 @@ use Rattle.outcomes.specs.Reasons.{IsBadLine, decided_fault, line_fault}
 use Rattle.outcomes.specs.Runs.{IsPlayedRun, IsWholePlay}
 
 -- before the first line
-pub playing-start : (text : List ℕ) (m : Seen) (s : Setting) (r : Unread)
-    → m ≡ record { setting = s; log = [] } → r ≡ unread text → (m.setting ≡ s) × IsPlaying text m r
-playing-start text m s r is at =
+pub playing-start : (text : List ℕ) (m : Seen) (s : Setting) (seed : ℕ) (r : Unread)
+    → m ≡ record { setting = s; seed = seed; log = [] } → r ≡ unread text → (m.setting ≡ s) × IsPlaying text m r
+playing-start text m s seed r is at =
     let left : r.left ≡ lines_of text = ap (λ (u : Unread). u.left) at in
     let log : m.log ≡ [] = ap (λ (u : Seen). u.log) is in (
       ap (λ (u : Seen). u.setting) is,

@@ -1,5 +1,5 @@
 -- What a step by the fixed rule keeps, and that it is refused only where the run is over.
-use Rattle.std.proofs.Common.{◌≡◌, ◌≢◌, ◌+◌, ◌<◌, [], ◌∷◌, ◌++◌, refl, sym, ap, ◌∙◌, subst, Bool}
+use Rattle.std.proofs.Common.{◌≡◌, ◌≢◌, ℕ, ◌+◌, ◌<◌, [], ◌∷◌, ◌++◌, refl, sym, ap, ◌∙◌, subst, Bool}
 use Rattle.std.proofs.Common.{true, false, Some, None, Result, Ok, Err, length, length-append}
 use Rattle.std.proofs.Common.{arith, ◌≤◌}
 use Rattle.std.specs.Prelude.{IfOk, OnErr}
@@ -25,19 +25,19 @@ use Rattle.block_model.proofs.Laws.{start_solo, within_limit, IsSolo-append}
 use Rattle.outcomes.specs.Runs.{IsSoloSoFar, IsSoloTurn}
 
 -- the empty log
-so_far_empty : (s : Setting) → IsSoloSoFar (record { setting = s; log = [] })
-so_far_empty s = record { block_run = start_run s; rule = start_solo s }
+so_far_empty : (s : Setting) (seed : ℕ) → IsSoloSoFar (record { setting = s; seed = seed; log = [] })
+so_far_empty s seed = record { block_run = start_run s; rule = start_solo s }
 
 -- a machine that was just booted
-pub so_far_booted : (m : Seen) (s : Setting) → m ≡ record { setting = s; log = [] }
+pub so_far_booted : (m : Seen) (s : Setting) (seed : ℕ) → m ≡ record { setting = s; seed = seed; log = [] }
     → (m.setting ≡ s) × IsSoloSoFar m
-so_far_booted m s is = (ap (λ (u : Seen). u.setting) is, subst IsSoloSoFar (sym is) (so_far_empty s))
+so_far_booted m s seed is = (ap (λ (u : Seen). u.setting) is, subst IsSoloSoFar (sym is) (so_far_empty s seed))
 
 -- one more entry by the rule, or none
 so_far_kept : (v w : Seen) (choice : Choice) (r : Result Entry Refused) → IsSoloSoFar v
     → IfOk r (λ e. solo_choice v.setting (history v.setting v.log) ≡ Some choice)
     → IfOk r (λ e. (e.hart ≡ record { 0 = 0 }) × (choice_of e ≡ choice))
-    → IfOk r (λ e. w ≡ record { setting = v.setting; log = v.log ++ e ∷ [] }) → OnErr r (w ≡ v)
+    → IfOk r (λ e. w ≡ record v { log = v.log ++ e ∷ [] }) → OnErr r (w ≡ v)
     → IsBlockRun w.setting w.log → IsSoloSoFar w
 so_far_kept v w choice (Ok e) far chosen of ok err run =
     let at : e.hart.0 ≡ 0 = ap (λ (h : Hart). h.0) of.0 in
@@ -50,7 +50,7 @@ so_far_kept v w choice (Err why) far chosen of ok err run = subst IsSoloSoFar (s
 
 -- where it is made, the log had room: the longer log is a block run too
 room_when_made : (v w : Seen) (r : Result Entry Refused)
-    → IfOk r (λ e. w ≡ record { setting = v.setting; log = v.log ++ e ∷ [] }) → IsBlockRun w.setting w.log
+    → IfOk r (λ e. w ≡ record v { log = v.log ++ e ∷ [] }) → IsBlockRun w.setting w.log
     → is_ok r ≡ true
     → length v.log < v.setting.limits.steps
 room_when_made v w (Ok e) ok run made =
@@ -61,13 +61,13 @@ room_when_made v w (Err why) ok run made = absurd cc
 
 -- it has one entry more, and the setting is as it was
 one_longer : (v w : Seen) (r : Result Entry Refused)
-    → IfOk r (λ e. w ≡ record { setting = v.setting; log = v.log ++ e ∷ [] }) → is_ok r ≡ true
+    → IfOk r (λ e. w ≡ record v { log = v.log ++ e ∷ [] }) → is_ok r ≡ true
     → length w.log ≡ length v.log + 1
 one_longer v w (Ok e) ok made = ap (λ (u : Seen). length u.log) ok ∙ length-append v.log (e ∷ [])
 one_longer v w (Err why) ok made = absurd cc
 
 same_setting : (v w : Seen) (r : Result Entry Refused)
-    → IfOk r (λ e. w ≡ record { setting = v.setting; log = v.log ++ e ∷ [] }) → OnErr r (w ≡ v)
+    → IfOk r (λ e. w ≡ record v { log = v.log ++ e ∷ [] }) → OnErr r (w ≡ v)
     → w.setting ≡ v.setting
 same_setting v w (Ok e) ok err = ap (λ (u : Seen). u.setting) ok
 same_setting v w (Err why) ok err = ap (λ (u : Seen). u.setting) err
@@ -108,18 +108,18 @@ executed_by_rule v (Err why) none answer = tt
 -- the rule's choice is what it chooses by what is seen
 abbrev IsSeenBy : Seen → Sight → Type 0
 IsSeenBy m seen = seen ≡ sight_in (here_in_history m.setting (history m.setting m.log) 0)
-    (ran 0 (history m.setting m.log)) (credit_at m.setting 0 (history m.setting m.log))
+    (ran 0 (history m.setting m.log)) (credit_at m.setting m.seed 0 (history m.setting m.log))
 
 pub choice_is_seen : (m : Seen) (seen : Sight) (choice : Choice) → IsSeenBy m seen
     → solo_rule seen ≡ Some choice → solo_choice m.setting (history m.setting m.log) ≡ Some choice
-choice_is_seen m seen choice sight is = rule_is_read m.setting m.log (credit_at m.setting 0 (history m.setting m.log)) seen sight ∙ is
+choice_is_seen m seen choice sight is = rule_is_read m.setting m.log (credit_at m.setting m.seed 0 (history m.setting m.log)) seen sight ∙ is
 
 -- a turn by the rule's choice
 turn_by_choice : (v w : Seen) (choice : Choice) (r : Result Entry Refused) → v.setting.limits.harts ≡ 1
     → IsSoloSoFar v → solo_choice v.setting (history v.setting v.log) ≡ Some choice
     → r ≡ decide v.setting (history v.setting v.log) 0 choice
     → IfOk r (λ e. (e.hart ≡ record { 0 = 0 }) × (choice_of e ≡ choice))
-    → IfOk r (λ e. w ≡ record { setting = v.setting; log = v.log ++ e ∷ [] }) → OnErr r (w ≡ v)
+    → IfOk r (λ e. w ≡ record v { log = v.log ++ e ∷ [] }) → OnErr r (w ≡ v)
     → IsBlockRun w.setting w.log → IsSoloTurn v w (is_ok r)
 turn_by_choice v w choice r one far chosen answer of ok err run = record {
   setting = same_setting v w r ok err;
@@ -134,7 +134,7 @@ pub turn_made : (v w : Seen) (choice : Choice) (r : Result Entry Refused) (made 
     → solo_choice v.setting (history v.setting v.log) ≡ Some choice
     → r ≡ decide v.setting (history v.setting v.log) 0 choice
     → IfOk r (λ e. (e.hart ≡ record { 0 = 0 }) × (choice_of e ≡ choice))
-    → IfOk r (λ e. w ≡ record { setting = v.setting; log = v.log ++ e ∷ [] }) → OnErr r (w ≡ v)
+    → IfOk r (λ e. w ≡ record v { log = v.log ++ e ∷ [] }) → OnErr r (w ≡ v)
     → IsBlockRun w.setting w.log → IsSoloTurn v w made
 turn_made v w choice r made is one far chosen answer of ok err run =
     subst (IsSoloTurn v w) (sym is) (turn_by_choice v w choice r one far chosen answer of ok err run)
@@ -143,7 +143,7 @@ turn_made v w choice r made is one far chosen answer of ok err run =
 pub turn_executed : (v w : Seen) (r : Result Entry Refused) (e : Entry) → r ≡ Ok e → has_signal v ≡ false → IsSoloSoFar v
     → r ≡ decide v.setting (history v.setting v.log) 0 asked.Exec
     → IfOk r (λ e. (e.hart ≡ record { 0 = 0 }) × (choice_of e ≡ asked.Exec))
-    → IfOk r (λ e. w ≡ record { setting = v.setting; log = v.log ++ e ∷ [] }) → OnErr r (w ≡ v)
+    → IfOk r (λ e. w ≡ record v { log = v.log ++ e ∷ [] }) → OnErr r (w ≡ v)
     → IsBlockRun w.setting w.log → IsSoloTurn v w true
 turn_executed v w r e is none far answer of ok err run = record {
   setting = same_setting v w r ok err;
@@ -164,5 +164,5 @@ turn_stopped m seen one far sight none = record {
   so_far = far;
   room = λ made. absurd cc;
   longer = λ made. absurd cc;
-  over = λ stopped. rule_stops m.setting m.log one far.block_run (rule_is_read m.setting m.log (credit_at m.setting 0 (history m.setting m.log)) seen sight ∙ none);
+  over = λ stopped. rule_stops m.setting m.log one far.block_run (rule_is_read m.setting m.log (credit_at m.setting m.seed 0 (history m.setting m.log)) seen sight ∙ none);
 }

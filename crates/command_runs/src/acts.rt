@@ -6,12 +6,12 @@ ghost use Rattle.mach_types.specs.Limits.{InRange};
 ghost use Rattle.elf_load.specs.Images.{IsBootable};
 ghost use Rattle.block_model.specs.Run.{IsBlockRun};
 ghost use Rattle.block_view.specs.Acts.{acts_of};
-ghost use Rattle.command_words.specs.Kept.{said, source_said};
-ghost use Rattle.outcomes.specs.Outputs.{seed_of, setting_for};
+ghost use Rattle.command_words.specs.Kept.{said};
+ghost use Rattle.outcomes.specs.Outputs.{setting_for};
 ghost use Rattle.outcomes.specs.Summary.{act_line};
 
-use block_view::{Act, Acts, Form, SeqEnd, ViewFault, form_word, seeded_acts};
-use command_words::{Command, Source};
+use block_view::{Act, Acts, Form, SeqEnd, ViewFault, acts, form_word};
+use command_words::Command;
 use elf_load::Image;
 use machine_core::Machine;
 use place_text::fields::{push_decimal, push_number, push_value, push_word};
@@ -31,21 +31,10 @@ pub(crate) fn acts_of_run(
     ensures acts { IfOk result (λ acts. acts.list.items ≡ acts_of machine.now.setting machine.now.log) }
     ensures few { IfOk result (λ acts. length acts.list.items < 2 ^ 32) }
 {
-    let seed = seed_of(command);
-    match seeded_acts(alloc, image, &command.limits, seed, machine.log()) {
+    match acts(alloc, image, &command.limits, machine.log()) {
         Ok(acts) => Ok(acts),
         Err(ViewFault::NoMemory) => Err(AllocError),
         Err(ViewFault::NotARun(_)) => unreachable!(),
-    }
-}
-
-/// The seed of what the harts of a command choose: 0 where no choice is drawn.
-fn seed_of(command: &Command) -> u64
-    ensures { result ≡ seed_of (source_said command.now.source) }
-{
-    match command.source {
-        Source::Rule | Source::Script(_) => 0,
-        Source::Workers { seed } => seed,
     }
 }
 

@@ -31,7 +31,7 @@ pub fn run_workers<R: Threads + Wait + Sync, G: Gate + Sync>(
 ) -> Result<Machine, AllocError>
     requires image { IsBootable limits.frames image.now }
     requires limits { InRange limits }
-    ensures { IfOk result (IsWholeRun (setting_of image.now limits seed)) }
+    ensures { IfOk result (IsWholeRun (setting_of image.now limits) seed) }
 {
     let shared = Shared::new(alloc, Machine::boot(alloc, image, limits, seed)?)?;
     let (lock, mut pass) = Turnstile::new(alloc, shared, limits.harts)?;

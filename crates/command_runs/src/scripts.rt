@@ -4,9 +4,10 @@ ghost use Rattle.std.specs.Prelude.{◌≡◌, ◌<◌, true, false, Ok, Some, I
 ghost use Rattle.mach_types.specs.Limits.{InRange};
 ghost use Rattle.elf_load.specs.Images.{IsBootable};
 ghost use Rattle.block_model.specs.Replay.{is_as_said, made_by, extended};
+ghost use Rattle.block_model.specs.Setting.{setting_of};
 ghost use Rattle.outcomes.specs.Delivery.{IsPlayReason};
 ghost use Rattle.command_runs.specs.Playing.{IsPlaying};
-ghost use Rattle.outcomes.specs.Programs.{ask_of, start_of};
+ghost use Rattle.outcomes.specs.Programs.{ask_of};
 ghost use Rattle.outcomes.specs.Reasons.{line_fault};
 ghost use Rattle.outcomes.specs.Runs.{IsWholePlay};
 
@@ -27,8 +28,8 @@ const NO_SEED: u64 = 0;
 pub fn play(alloc: Global, image: &Image, limits: Limits, script: &[u8]) -> Result<Machine, Reason>
     requires image { IsBootable limits.frames image.now }
     requires limits { InRange limits }
-    ensures whole { IfOk result (IsWholePlay (start_of image.now limits) script.now) }
-    ensures cause { IfErr result (IsPlayReason (start_of image.now limits) script.now) }
+    ensures whole { IfOk result (IsWholePlay (setting_of image.now limits) script.now) }
+    ensures cause { IfErr result (IsPlayReason (setting_of image.now limits) script.now) }
 {
     let mut machine = Machine::boot(alloc, image, limits, NO_SEED)?;
     let mut reader = LineReader::new(script);

@@ -15,15 +15,15 @@ pub(crate) struct Shared {
     machine: Box<Machine>,
     ghost few: { length machine.value.log ≤ machine.value.setting.limits.steps },
     ghost small: { machine.value.setting.limits.steps < 2 ^ 32 },
-    ghost chosen: { all_chosen machine.value.setting (history machine.value.setting machine.value.log)
-        ≡ true },
+    ghost chosen: { all_chosen machine.value.setting machine.value.seed
+        (history machine.value.setting machine.value.log) ≡ true },
 }
 
 impl Shared {
     /// Lets a machine be shared. It stands behind a pointer, so that a turn doesn't move it.
     #[tactic(auto, unfolding(block_model::specs::Choosing::IsChosen))]
     pub(crate) fn new(alloc: Global, machine: Machine) -> Result<Shared, AllocError>
-        requires chosen { IsChosen machine.setting machine.log }
+        requires chosen { IsChosen machine.setting machine.seed machine.log }
         requires few { length machine.log ≤ machine.setting.limits.steps }
         requires small { machine.setting.limits.steps < 2 ^ 32 }
         ensures machine { IfOk result (λ shared. shared.machine.value ≡ machine) }
@@ -42,12 +42,11 @@ impl Shared {
 }
 
 impl Meaning for Shared {
-    ghost use Rattle.block_model.specs.Setting.{Setting};
-    ghost use Rattle.command_runs.specs.Sharing.{ended_in, log_in, next_in, setting_in};
+    ghost use Rattle.command_runs.specs.Sharing.{Start, ended_in, log_in, next_in, start_in};
 
-    ghost Setting = { Setting };
+    ghost Setting = { Start };
 
-    ghost setting = { setting_in };
+    ghost setting = { start_in };
 
     ghost log = { log_in };
 
@@ -61,21 +60,19 @@ impl Chronicle for Shared {
     ghost use Rattle.std.specs.Option.{option_map};
     ghost use Rattle.std.proofs.Common.{◌∙◌, ap, append_assoc, subst, sym};
     ghost use Rattle.mach_types.specs.declared.events.Entry.{Entry};
-    ghost use Rattle.block_model.specs.Setting.{Setting};
-    ghost use Rattle.block_model.specs.Stretches.{IsStretchOf, appended, lent};
+    ghost use Rattle.block_model.specs.Stretches.{appended, lent};
     ghost use Rattle.block_model.proofs.Laws.{next_is_none};
     ghost use Rattle.machine_core.specs.Stretches.{stretch_of};
     ghost use Rattle.machine_lock.specs.Logs.{Adds};
-    ghost use Rattle.command_runs.specs.Sharing.{IsCodeOf, log_in, next_in, setting_in};
+    ghost use Rattle.command_runs.specs.Sharing.{IsCodeOf, IsStretchIn, Start, log_in, next_in, start_in};
 
     type Code = Code;
 
     type Stretch = Stretch;
 
-    ghost serves = { λ code shared. IsCodeOf (setting_in shared) code };
+    ghost serves = { λ code shared. IsCodeOf (start_in shared).setting code };
 
-    ghost fits = { λ stretch shared hart log. IsStretchOf (setting_in shared) hart.0 log
-        (stretch_of stretch) };
+    ghost fits = { λ stretch shared hart log. IsStretchIn (start_in shared) hart log stretch };
 
     #[tactic(auto, unfolding(block_model::specs::Choosing::IsChosen))]
     fn advance(&mut self, hart: Hart) -> Advance {
@@ -93,9 +90,9 @@ impl Chronicle for Shared {
     #[tactic(auto, unfolding(block_model::specs::Choosing::IsChosen))]
     fn lend(&self, hart: Hart) -> Option<Stretch>
         ensures fits { IfSome result
-            (λ stretch. IsStretchOf (setting_in self.now) hart.0 (log_in self.now) (stretch_of stretch)) }
-        ensures exact { option_map stretch_of result ≡ lent (setting_in self.now) hart.0
-            (history (setting_in self.now) (log_in self.now)) }
+            (λ stretch. IsStretchIn (start_in self.now) hart (log_in self.now) stretch) }
+        ensures exact { let start = start_in self.now in option_map stretch_of result
+            ≡ lent start.setting start.seed hart.0 (history start.setting (log_in self.now)) }
     {
         self.machine.lend_local(hart)
     }
@@ -106,21 +103,21 @@ impl Chronicle for Shared {
 
     #[tactic(auto, unfolding(block_model::specs::Choosing::IsChosen))]
     fn append(&mut self, hart: Hart, stretch: Stretch) -> u32
-        requires fits { IsStretchOf (setting_in self.old) hart.0 (log_in self.old) (stretch_of stretch) }
-        ensures setting { setting_in self.new ≡ setting_in self.old }
-        ensures appended { Adds (next_in (setting_in self.old)) hart result
+        requires fits { IsStretchIn (start_in self.old) hart (log_in self.old) stretch }
+        ensures setting { start_in self.new ≡ start_in self.old }
+        ensures appended { Adds (next_in (start_in self.old)) hart result
             (log_in self.old) (log_in self.new) }
-        ensures count { result ≡ appended (setting_in self.old) hart.0
-            (history (setting_in self.old) (log_in self.old)) (stretch_of stretch) }
+        ensures count { let s = (start_in self.old).setting in
+            result ≡ appended s hart.0 (history s (log_in self.old)) (stretch_of stretch) }
     {
         self.machine.append_local(hart, stretch)
     }
 
     ghost serves_by_setting = { λ code a b same serves. subst
-        (λ (s : Setting). IsCodeOf s code) same serves };
+        (λ (start : Start). IsCodeOf start.setting code) same serves };
 
     ghost fits_by_setting = { λ stretch a b hart log same fits.
-        subst (λ (s : Setting). IsStretchOf s hart.0 log (stretch_of stretch)) same fits };
+        subst (λ (start : Start). IsStretchIn start hart log stretch) same fits };
 
     ghost fits_later = { λ stretch shared hart log more fits.
         record {
@@ -134,5 +131,6 @@ impl Chronicle for Shared {
           so_far = fits.so_far;
         } };
 
-    ghost still = { λ shared log hart end. next_is_none (setting_in shared) log hart.0 end };
+    ghost still = { λ shared log hart end. let start = start_in shared in
+        next_is_none start.setting start.seed log hart.0 end };
 }

@@ -6,7 +6,7 @@ ghost use Rattle.mach_types.specs.Limits.{InRange};
 ghost use Rattle.elf_load.specs.Images.{IsBootable};
 ghost use Rattle.block_model.specs.Deciding.{history};
 ghost use Rattle.block_model.specs.Solo.{solo_choice, solo_rule};
-ghost use Rattle.outcomes.specs.Programs.{start_of};
+ghost use Rattle.block_model.specs.Setting.{setting_of};
 ghost use Rattle.outcomes.specs.Runs.{IsSoloSoFar, IsSoloTurn, IsWholeSolo};
 
 use elf_load::Image;
@@ -25,7 +25,7 @@ pub fn run_solo(alloc: Global, image: &Image, limits: Limits) -> Result<Machine,
     requires image { IsBootable limits.frames image.now }
     requires limits { InRange limits }
     requires one_hart { limits.harts ≡ 1 }
-    ensures { IfOk result (IsWholeSolo (start_of image.now limits)) }
+    ensures { IfOk result (IsWholeSolo (setting_of image.now limits)) }
 {
     let mut machine = Machine::boot(alloc, image, limits, NO_SEED)?;
     'events: while make_event(&mut machine) {}

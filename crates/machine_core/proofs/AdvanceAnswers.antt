@@ -20,13 +20,13 @@ use Rattle.machine_core.proofs.ChoiceCredits.{choice_where, pick_read}
 use Rattle.machine_core.proofs.Readings.{over_read}
 
 -- whether a log is one of choices, as it is said and as it is computed
-pub all_of : (s : Setting) (log : List Entry) → IsChosen s log → true ≡ all_chosen s (history s log)
+pub all_of : (s : Setting) (seed : ℕ) (log : List Entry) → IsChosen s seed log → true ≡ all_chosen s seed (history s log)
 unfolding IsChosen
-all_of s log chosen = sym chosen
+all_of s seed log chosen = sym chosen
 
-pub chosen_of : (s : Setting) (log : List Entry) → true ≡ all_chosen s (history s log) → IsChosen s log
+pub chosen_of : (s : Setting) (seed : ℕ) (log : List Entry) → true ≡ all_chosen s seed (history s log) → IsChosen s seed log
 unfolding IsChosen
-chosen_of s log all = sym all
+chosen_of s seed log all = sym all
 
 -- a machine whose run has ended, or whose log is full
 pub over_ended : (m : Inside) → IsMachine m → is_some m.parts.ended ≡ true → has_ended (setting_of m) (past_of m) ≡ true
@@ -52,22 +52,22 @@ ended_by_room m made machine none long =
     ap (leb m.limits.steps) (long ∙ sym (length-history (setting_of m) m.log.items)) ∙ ap (λ b. b || leb m.limits.steps (length (past_of m))) (sym over)
 
 -- each answer
-pub answers_ended : (s : Setting) (h : ℕ) (before : History) → has_ended s before ≡ true → Ended ≡ advance_at s h before
+pub answers_ended : (s : Setting) (seed h : ℕ) (before : History) → has_ended s before ≡ true → Ended ≡ advance_at s seed h before
 unfolding advance_at
-answers_ended s h before over = rw over refl
+answers_ended s seed h before over = rw over refl
 
-pub answers_past : (s : Setting) (h : ℕ) (before : History) → has_ended s before ≡ false → s.limits.harts ≤ h → NoneNow ≡ advance_at s h before
+pub answers_past : (s : Setting) (seed h : ℕ) (before : History) → has_ended s before ≡ false → s.limits.harts ≤ h → NoneNow ≡ advance_at s seed h before
 unfolding advance_at next_entry choice_at
-answers_past s h before goes past = rw (goes, le-ltb h s.limits.harts past) refl
+answers_past s seed h before goes past = rw (goes, le-ltb h s.limits.harts past) refl
 
-pub answers_none : (s : Setting) (h : ℕ) (before : History) → has_ended s before ≡ false → h < s.limits.harts → None ≡ pick_at s h before → NoneNow ≡ advance_at s h before
+pub answers_none : (s : Setting) (seed h : ℕ) (before : History) → has_ended s before ≡ false → h < s.limits.harts → None ≡ pick_at s seed h before → NoneNow ≡ advance_at s seed h before
 unfolding advance_at next_entry
-answers_none s h before goes lt none = rw (goes, choice_where s h before goes lt, ← none) refl
+answers_none s seed h before goes lt none = rw (goes, choice_where s seed h before goes lt, ← none) refl
 
-pub answers_made : (s : Setting) (h : ℕ) (before : History) (p : Pick) (e : Entry) → has_ended s before ≡ false → h < s.limits.harts → Some p ≡ pick_at s h before
-    → e ≡ entry_in p.choice (here_in_history s before h) → Made e ≡ advance_at s h before
+pub answers_made : (s : Setting) (seed h : ℕ) (before : History) (p : Pick) (e : Entry) → has_ended s before ≡ false → h < s.limits.harts → Some p ≡ pick_at s seed h before
+    → e ≡ entry_in p.choice (here_in_history s before h) → Made e ≡ advance_at s seed h before
 unfolding advance_at next_entry
-answers_made s h before p e goes lt picked is = rw (goes, choice_where s h before goes lt, ← picked, is) refl
+answers_made s seed h before p e goes lt picked is = rw (goes, choice_where s seed h before goes lt, ← picked, is) refl
 
 -- where nothing is picked no word is drawn
 pub no_draw : (x : Sight) (w : ℕ) → None ≡ pick x w → draws x ≡ false
@@ -79,20 +79,20 @@ no_draw x w none = go (case_of x) none
     go Open is = cc
 
 -- what the machine picks is the place's pick
-pub machine_picks : (m : Inside) (h : ℕ) (x : Sight) (p : Option Pick) → IsMachine m → true ≡ all_chosen (setting_of m) (past_of m) → h < m.limits.harts
-    → x ≡ sight_in (here_in_history (setting_of m) (past_of m) h) (ran h (past_of m)) (credit_at (setting_of m) h (past_of m))
-    → p ≡ pick x (word (generator_in m.chooser h)) → p ≡ pick_at (setting_of m) h (past_of m)
+pub machine_picks : (m : Inside) (h : ℕ) (x : Sight) (p : Option Pick) → IsMachine m → true ≡ all_chosen (setting_of m) m.seed (past_of m) → h < m.limits.harts
+    → x ≡ sight_in (here_in_history (setting_of m) (past_of m) h) (ran h (past_of m)) (credit_at (setting_of m) m.seed h (past_of m))
+    → p ≡ pick x (word (generator_in m.chooser h)) → p ≡ pick_at (setting_of m) m.seed h (past_of m)
 machine_picks m h x p machine all lt sees is =
     is ∙ (ap (λ y. pick y (word (generator_in m.chooser h))) sees
-    ∙ pick_read (setting_of m) (past_of m) h m.chooser all (machine.generators (machine.chosen ∙ sym all) h lt))
+    ∙ pick_read (setting_of m) m.seed (past_of m) h m.chooser all (machine.generators (machine.chosen ∙ sym all) h lt))
 
 -- what is picked is allowed
-pub pick_allowed : (m : Inside) (h : ℕ) (p : Pick) → IsMachine m → has_ended (setting_of m) (past_of m) ≡ false → h < m.limits.harts → Some p ≡ pick_at (setting_of m) h (past_of m)
+pub pick_allowed : (m : Inside) (h : ℕ) (p : Pick) → IsMachine m → has_ended (setting_of m) (past_of m) ≡ false → h < m.limits.harts → Some p ≡ pick_at (setting_of m) m.seed h (past_of m)
     → refusal_of p.choice (here_of (seen m) h) ≡ None
 pick_allowed m h p machine goes lt picked =
-    let chosen : choice_at (setting_of m) h (past_of m) ≡ Some p.choice =
-    choice_where (setting_of m) h (past_of m) goes lt ∙ ap (option_map (λ (q : Pick). q.choice)) (sym picked) in
-    ap (refusal_of p.choice) (same_here (seen m) h machine.run) ∙ choice_is_allowed (setting_of m) m.log.items h p.choice machine.run chosen
+    let chosen : choice_at (setting_of m) m.seed h (past_of m) ≡ Some p.choice =
+    choice_where (setting_of m) m.seed h (past_of m) goes lt ∙ ap (option_map (λ (q : Pick). q.choice)) (sym picked) in
+    ap (refusal_of p.choice) (same_here (seen m) h machine.run) ∙ choice_is_allowed (setting_of m) m.seed m.log.items h p.choice machine.run chosen
 
 pub never_refused : (made : Entry) (why : Why) (o : Option Why) → o ≡ None → Err why ≡ answered made o → ⊥
 never_refused made why o none is = let bad : Err why ≡ Ok made = is ∙ ap (answered made) none in cc
@@ -109,25 +109,25 @@ none_of (Some x) is = cc
 
 -- what is picked for a hart at its turn is what it makes next, and is allowed
 pub record IsPicked (m : Inside) (h : ℕ) (p : Pick) : Type 0 where
-  pub picked : Some p ≡ pick_at (setting_of m) h (past_of m)
-  pub next : next_entry (setting_of m) h (past_of m) ≡ Some (entry_in p.choice (here_in_history (setting_of m) (past_of m) h))
+  pub picked : Some p ≡ pick_at (setting_of m) m.seed h (past_of m)
+  pub next : next_entry (setting_of m) m.seed h (past_of m) ≡ Some (entry_in p.choice (here_in_history (setting_of m) (past_of m) h))
   pub decided : decide (setting_of m) (past_of m) h p.choice ≡ Ok (entry_in p.choice (here_in_history (setting_of m) (past_of m) h))
 
-next_where : (s : Setting) (h : ℕ) (before : History) (c : Choice) → choice_at s h before ≡ Some c → next_entry s h before ≡ Some (entry_in c (here_in_history s before h))
+next_where : (s : Setting) (seed h : ℕ) (before : History) (c : Choice) → choice_at s seed h before ≡ Some c → next_entry s seed h before ≡ Some (entry_in c (here_in_history s before h))
 unfolding next_entry
-next_where s h before c is = ap (option_map (λ z. entry_in z (here_in_history s before h))) is
+next_where s seed h before c is = ap (option_map (λ z. entry_in z (here_in_history s before h))) is
 
-pub turn_picks : (m : Inside) (h : ℕ) (x : Sight) (p : Pick) → IsMachine m → IsChosen (setting_of m) m.log.items → has_ended (setting_of m) (past_of m) ≡ false → h < m.limits.harts
-    → x ≡ sight_in (here_in_history (setting_of m) (past_of m) h) (ran h (past_of m)) (credit_at (setting_of m) h (past_of m))
+pub turn_picks : (m : Inside) (h : ℕ) (x : Sight) (p : Pick) → IsMachine m → IsChosen (setting_of m) m.seed m.log.items → has_ended (setting_of m) (past_of m) ≡ false → h < m.limits.harts
+    → x ≡ sight_in (here_in_history (setting_of m) (past_of m) h) (ran h (past_of m)) (credit_at (setting_of m) m.seed h (past_of m))
     → Some p ≡ pick x (word (generator_in m.chooser h)) → IsPicked m h p
 turn_picks m h x p machine chosen going lt sees is =
     let s = setting_of m in
-    let picked = machine_picks m h x (Some p) machine (all_of s m.log.items chosen) lt sees is in
-    let choice : choice_at s h (past_of m) ≡ Some p.choice = choice_where s h (past_of m) going lt ∙ ap (option_map (λ (q : Pick). q.choice)) (sym picked) in
+    let picked = machine_picks m h x (Some p) machine (all_of s m.seed m.log.items chosen) lt sees is in
+    let choice : choice_at s m.seed h (past_of m) ≡ Some p.choice = choice_where s m.seed h (past_of m) going lt ∙ ap (option_map (λ (q : Pick). q.choice)) (sym picked) in
     record {
       picked = picked;
-      next = next_where s h (past_of m) p.choice choice;
-      decided = choice_decides s m.log.items h p.choice machine.run choice;
+      next = next_where s m.seed h (past_of m) p.choice choice;
+      decided = choice_decides s m.seed m.log.items h p.choice machine.run choice;
     }
 
 pub same_entry : (e f : Entry) → (let a : Result Entry Refused = Ok e in a) ≡ Ok f → e ≡ f

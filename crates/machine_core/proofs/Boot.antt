@@ -65,19 +65,19 @@ held_if b None = refl
 held_if b (Some permission) = refl
 
 -- a machine at its start is tied to the plain machine at its start
-pub tied-start : (image : Image) (limits : Limits) (seed : ℕ) (m : Parts) → All (λ p. IsPermission p.perm) image.pages.items →
+pub tied-start : (image : Image) (limits : Limits) (m : Parts) → All (λ p. IsPermission p.perm) image.pages.items →
     ((n : ℕ) → permission_in m.pages n ≡ permission_of (start_runs image.pages.items) n) →
     ((a : ℕ) → held_in m.pages a ≡ cond (is_some (permission_of (start_runs image.pages.items) (a / 4096))) (Some (start_byte (program_of image) a)) None) →
     free_in m.pages + 65 + length image.pages.items ≡ limits.frames → break_in m.pages ≡ image.break_at → break_start_in m.pages ≡ image.break_at →
     length m.harts.items ≡ limits.harts → All (λ hart. hart ≡ idle_hart) m.harts.items →
-    m.kernel.threads ≡ start_table (start_file (program_of image)) → m.kernel.signals ≡ start_signalling → m.kernel.ready ≡ (first_kernel (setting_by image limits seed)).scheduling → m.kernel.registered ≡ none_registered → m.kernel.console ≡ [] → areas_by_number m.kernel.areas.items ≡ [] → IsTable m.kernel.threads → m.ended ≡ None →
-    IsTied (setting_by image limits seed) (plain_start (setting_by image limits seed)) m
-tied-start image limits seed m allowed permissions held free break_at break_start count idles threads signals ready registered console areas table ended = record {
+    m.kernel.threads ≡ start_table (start_file (program_of image)) → m.kernel.signals ≡ start_signalling → m.kernel.ready ≡ (first_kernel (setting_by image limits)).scheduling → m.kernel.registered ≡ none_registered → m.kernel.console ≡ [] → areas_by_number m.kernel.areas.items ≡ [] → IsTable m.kernel.threads → m.ended ≡ None →
+    IsTied (setting_by image limits) (plain_start (setting_by image limits)) m
+tied-start image limits m allowed permissions held free break_at break_start count idles threads signals ready registered console areas table ended = record {
   all_harts = count;
   harts = λ h lt.
       let at = each idle_hart m.harts.items h idles (omega (arith, count)) in
       let none : credit_of m.harts.items h ≡ 0 = ap (λ o. option_map_or (λ (x : HartState). x.credit) o 0) at in
-      at ∙ (ap Some (idle (setting_by image limits seed) h) ∙ ap (λ n. Some (hart_at (setting_by image limits seed) (plain_start (setting_by image limits seed)) h n)) (sym none));
+      at ∙ (ap Some (idle (setting_by image limits) h) ∙ ap (λ n. Some (hart_at (setting_by image limits) (plain_start (setting_by image limits)) h n)) (sym none));
   pages = record {
     permissions = permissions;
     held = λ a. held a ∙ held_if (start_byte (program_of image) a) (permission_of (start_runs image.pages.items) (a / 4096));
@@ -103,24 +103,24 @@ tied-start image limits seed m allowed permissions held free break_at break_star
 }
 
 -- no entry is of another choice at the start
-pub none_made : (s : Setting) → true ≡ all_chosen s (history s [])
+pub none_made : (s : Setting) (seed : ℕ) → true ≡ all_chosen s seed (history s [])
 unfolding history
-none_made s = refl
+none_made s seed = refl
 
 -- no hart has a credit there
-pub credits_start : (s : Setting) (harts : List HartState) (h : ℕ) → All (λ hart. hart ≡ idle_hart) harts → h < length harts → credit_of harts h ≡ credit_at s h (history s [])
+pub credits_start : (s : Setting) (seed : ℕ) (harts : List HartState) (h : ℕ) → All (λ hart. hart ≡ idle_hart) harts → h < length harts → credit_of harts h ≡ credit_at s seed h (history s [])
 unfolding credit_at history
-credits_start s harts h idles lt = ap (λ o. option_map_or (λ (x : HartState). x.credit) o 0) (each idle_hart harts h idles lt)
+credits_start s seed harts h idles lt = ap (λ o. option_map_or (λ (x : HartState). x.credit) o 0) (each idle_hart harts h idles lt)
 
 -- and no generator gave a word
-pub generators_start : (s : Setting) (h : ℕ) → h < 8 → generator_in (first_generators s.seed) h ≡ generator_at s h (history s [])
+pub generators_start : (s : Setting) (seed h : ℕ) → h < 8 → generator_in (first_generators seed) h ≡ generator_at s seed h (history s [])
 unfolding history
-generators_start s zero lt = refl
-generators_start s (suc zero) lt = refl
-generators_start s (suc (suc zero)) lt = refl
-generators_start s (suc (suc (suc zero))) lt = refl
-generators_start s (suc (suc (suc (suc zero)))) lt = refl
-generators_start s (suc (suc (suc (suc (suc zero))))) lt = refl
-generators_start s (suc (suc (suc (suc (suc (suc zero)))))) lt = refl
-generators_start s (suc (suc (suc (suc (suc (suc (suc zero))))))) lt = refl
-generators_start s (suc (suc (suc (suc (suc (suc (suc (suc h)))))))) lt = absurd (omega (arith, lt))
+generators_start s seed zero lt = refl
+generators_start s seed (suc zero) lt = refl
+generators_start s seed (suc (suc zero)) lt = refl
+generators_start s seed (suc (suc (suc zero))) lt = refl
+generators_start s seed (suc (suc (suc (suc zero)))) lt = refl
+generators_start s seed (suc (suc (suc (suc (suc zero))))) lt = refl
+generators_start s seed (suc (suc (suc (suc (suc (suc zero)))))) lt = refl
+generators_start s seed (suc (suc (suc (suc (suc (suc (suc zero))))))) lt = refl
+generators_start s seed (suc (suc (suc (suc (suc (suc (suc (suc h)))))))) lt = absurd (omega (arith, lt))

@@ -68,11 +68,11 @@ tied_with s p m m' sight generators h c tied harts pages kernel ended = record {
 }
 
 -- what is known after an event
-pub record IsSettled (s : Setting) (log : List Entry) (m : Parts) (words : List Generator) (all : Bool) : Type 0 where
+pub record IsSettled (s : Setting) (seed : ℕ) (log : List Entry) (m : Parts) (words : List Generator) (all : Bool) : Type 0 where
   pub tied : IsTied s (plain_after s log) m
-  pub chosen : all ≡ all_chosen s (history s log)
-  pub credits : (k : ℕ) → k < s.limits.harts → credit_of m.harts.items k ≡ credit_at s k (history s log)
-  pub generators : all ≡ true → (k : ℕ) → k < s.limits.harts → generator_in words k ≡ generator_at s k (history s log)
+  pub chosen : all ≡ all_chosen s seed (history s log)
+  pub credits : (k : ℕ) → k < s.limits.harts → credit_of m.harts.items k ≡ credit_at s seed k (history s log)
+  pub generators : all ≡ true → (k : ℕ) → k < s.limits.harts → generator_in words k ≡ generator_at s seed k (history s log)
   pub held : length words ≡ 8
 
 still_eight : (sight : Option Sight) (h : ℕ) (generators : List Generator) → length generators ≡ 8 → length (generators_after sight h generators) ≡ 8
@@ -84,15 +84,15 @@ still_eight (Some x) h generators eight = go (draws x)
     go false = eight
 
 -- an event is followed by the credits and generators
-pub settled_next : (s : Setting) (log : List Entry) (m : Parts) (words : List Generator) (chosen : Bool) (h : Hart) (c : Choice) (e : Entry) (p p' : Parts) (sight : Option Sight)
-    → IsSettled s log m words chosen → InRange s.limits → has_ended s (history s log) ≡ false → h.0 < s.limits.harts → IsStep (record { setting = s; log = log }) h c e p
+pub settled_next : (s : Setting) (seed : ℕ) (log : List Entry) (m : Parts) (words : List Generator) (chosen : Bool) (h : Hart) (c : Choice) (e : Entry) (p p' : Parts) (sight : Option Sight)
+    → IsSettled s seed log m words chosen → InRange s.limits → has_ended s (history s log) ≡ false → h.0 < s.limits.harts → IsStep (record { setting = s; seed = seed; log = log }) h c e p
     → ((k : ℕ) → credit_of p.harts.items k ≡ credit_of m.harts.items k)
-    → sight ≡ seen_if chosen s h.0 (history s log)
+    → sight ≡ seen_if chosen s seed h.0 (history s log)
     → ((k : ℕ) → slice_get p'.harts.items k ≡ option_map (followed sight words h.0 c k) (slice_get p.harts.items k))
     → p'.pages ≡ p.pages → p'.kernel ≡ p.kernel → p'.ended ≡ p.ended
-    → IsSettled s (log ++ e ∷ []) p' (generators_after sight h.0 words) (is_followed sight words h.0 c)
-settled_next s log m words chosen h c e p p' sight so_far limits going lt step credits sees harts pages kernel ended =
-    let is : IsFollowing s log h.0 c e chosen words = record {
+    → IsSettled s seed (log ++ e ∷ []) p' (generators_after sight h.0 words) (is_followed sight words h.0 c)
+settled_next s seed log m words chosen h c e p p' sight so_far limits going lt step credits sees harts pages kernel ended =
+    let is : IsFollowing s seed log h.0 c e chosen words = record {
       goes = going;
       lt = lt;
       hart = ap (λ (x : Hart). x.0) step.hart;
@@ -100,26 +100,26 @@ settled_next s log m words chosen h c e p p' sight so_far limits going lt step c
       so_far = so_far.chosen;
       generator = so_far.generators;
     } in
-    let next : is_followed sight words h.0 c ≡ all_chosen s (history s (log ++ e ∷ [])) = rw sees (chosen_after s log h.0 c e chosen words is) in
+    let next : is_followed sight words h.0 c ≡ all_chosen s seed (history s (log ++ e ∷ [])) = rw sees (chosen_after s seed log h.0 c e chosen words is) in
     record {
       tied = tied_with s (plain_after s (log ++ e ∷ [])) p p' sight words h.0 c step.tied harts pages kernel ended;
       chosen = next;
       credits = λ k below.
           let x : HartState = hart_at s (plain_after s (log ++ e ∷ [])) k (credit_of p.harts.items k) in
           let at : slice_get p'.harts.items k ≡ Some (followed sight words h.0 c k x) = harts k ∙ ap (option_map (followed sight words h.0 c k)) (step.tied.harts k below) in
-          let shown : x.credit ≡ credit_at s k (history s log) = credits k ∙ so_far.credits k below in
+          let shown : x.credit ≡ credit_at s seed k (history s log) = credits k ∙ so_far.credits k below in
           ap (λ o. option_map_or (λ (y : HartState). y.credit) o 0) at
-          ∙ rw sees (credit_after s log h.0 c e chosen words is k x shown);
+          ∙ rw sees (credit_after s seed log h.0 c e chosen words is k x shown);
       generators = λ followed k below.
-          let was : is_followed (seen_if chosen s h.0 (history s log)) words h.0 c ≡ true = ap (λ o. is_followed o words h.0 c) (sym sees) ∙ followed in
+          let was : is_followed (seen_if chosen s seed h.0 (history s log)) words h.0 c ≡ true = ap (λ o. is_followed o words h.0 c) (sym sees) ∙ followed in
           let few = limits.eight_harts in
           let held = so_far.held in
-          rw sees (generator_after s log h.0 c e chosen words is (omega (arith, lt, few, held)) was k below);
+          rw sees (generator_after s seed log h.0 c e chosen words is (omega (arith, lt, few, held)) was k below);
       held = still_eight sight h.0 words so_far.held;
     }
 
 -- what is known of a machine
-pub machine_settled : (m : Inside) → IsMachine m → IsSettled (setting_of m) m.log.items m.parts m.chooser m.chosen
+pub machine_settled : (m : Inside) → IsMachine m → IsSettled (setting_of m) m.seed m.log.items m.parts m.chooser m.chosen
 machine_settled m machine = record {
   tied = machine.tied;
   chosen = machine.chosen;
@@ -132,10 +132,10 @@ machine_settled m machine = record {
 pub settled : (m : Inside) (h : Hart) (c : Choice) (e : Entry) (p p' : Parts) (sight : Option Sight) → IsMachine m
     → m.parts.ended ≡ None → length m.log.items < m.limits.steps → h.0 < m.limits.harts → IsStep (seen m) h c e p
     → ((k : ℕ) → credit_of p.harts.items k ≡ credit_of m.parts.harts.items k)
-    → sight ≡ seen_if m.chosen (setting_of m) h.0 (past_of m)
+    → sight ≡ seen_if m.chosen (setting_of m) m.seed h.0 (past_of m)
     → ((k : ℕ) → slice_get p'.harts.items k ≡ option_map (followed sight m.chooser h.0 c k) (slice_get p.harts.items k))
     → p'.pages ≡ p.pages → p'.kernel ≡ p.kernel → p'.ended ≡ p.ended
-    → IsSettled (setting_of m) (m.log.items ++ e ∷ []) p' (generators_after sight h.0 m.chooser) (is_followed sight m.chooser h.0 c)
+    → IsSettled (setting_of m) m.seed (m.log.items ++ e ∷ []) p' (generators_after sight h.0 m.chooser) (is_followed sight m.chooser h.0 c)
 settled m h c e p p' sight machine goes room lt step credits sees harts pages kernel ended =
-    settled_next (setting_of m) m.log.items m.parts m.chooser m.chosen h c e p p' sight (machine_settled m machine) machine.limits
+    settled_next (setting_of m) m.seed m.log.items m.parts m.chooser m.chosen h c e p p' sight (machine_settled m machine) machine.limits
     (machine_goes m machine goes room) lt step credits sees harts pages kernel ended

@@ -22,7 +22,7 @@ abbrev pub here_read : Inside → ℕ → Here
 here_read m h = here_in_history (setting_of m) (history_of m) h
 
 -- a hart of the machine
-pub hart_read : (m : Inside) (h : ℕ) (x : HartState) → IsMachine m → h < m.limits.harts → x ≡ get_or m.parts.harts.items h x → x ≡ hart_in (here_read m h) (ran h (history_of m)) (events h (history_of m)) (credit_at (setting_of m) h (history_of m))
+pub hart_read : (m : Inside) (h : ℕ) (x : HartState) → IsMachine m → h < m.limits.harts → x ≡ get_or m.parts.harts.items h x → x ≡ hart_in (here_read m h) (ran h (history_of m)) (events h (history_of m)) (credit_at (setting_of m) m.seed h (history_of m))
 hart_read m h x machine lt value =
     let all = machine.tied.all_harts in
     let in_list : h < length m.parts.harts.items = omega (arith, all, lt) in

@@ -22,13 +22,13 @@ use Rattle.machine_core.proofs.MachineCredits.{IsSettled, machine_settled}
 use Rattle.machine_core.proofs.Steps.{place_of}
 
 -- the hart of a stretch is one of the machine's
-pub of_machine : (m : Inside) (h : Hart) (l : Stretch) → IsStretchOf (setting_of m) h.0 m.log.items l → h.0 < m.limits.harts
-of_machine m h l fits = (is_lent (setting_of m) h.0 (history (setting_of m) fits.lent_at) fits.first fits.began).lt
+pub of_machine : (m : Inside) (h : Hart) (l : Stretch) → IsStretchOf (setting_of m) m.seed h.0 m.log.items l → h.0 < m.limits.harts
+of_machine m h l fits = (is_lent (setting_of m) m.seed h.0 (history (setting_of m) fits.lent_at) fits.first fits.began).lt
 
 -- it stands as when the stretch was lent, and the stretch's instructions come next
 pub record IsReady (m : Inside) (h : Hart) (l : Stretch) (x : HartState) : Type 0 where
   pub thread : Tid
-  pub way : IsOnWay (setting_of m) m.log.items m.parts m.chooser h thread x
+  pub way : IsOnWay (setting_of m) m.seed m.log.items m.parts m.chooser h thread x
   pub first : Stretch
   pub file : first.file ≡ file_of x
   pub credit : first.credit ≡ x.credit
@@ -54,31 +54,31 @@ none_some : (o : Option ℕ) → is_some o ≡ false → o ≡ None
 none_some None is = refl
 none_some (Some x) is = cc
 
-pub ready : (m : Inside) (h : Hart) (l : Stretch) (x : HartState) → IsMachine m → IsChosen (setting_of m) m.log.items
-    → IsStretchOf (setting_of m) h.0 m.log.items l → has_ended (setting_of m) (past_of m) ≡ false → events h.0 (past_of m) ≡ l.events
+pub ready : (m : Inside) (h : Hart) (l : Stretch) (x : HartState) → IsMachine m → IsChosen (setting_of m) m.seed m.log.items
+    → IsStretchOf (setting_of m) m.seed h.0 m.log.items l → has_ended (setting_of m) (past_of m) ≡ false → events h.0 (past_of m) ≡ l.events
     → x ≡ get_or m.parts.harts.items h.0 x → IsReady m h l x
 ready m h l x machine chosen fits goes same value =
     let s = setting_of m in
-    let began = is_lent s h.0 (history s fits.lent_at) fits.first fits.began in
+    let began = is_lent s m.seed h.0 (history s fits.lent_at) fits.first fits.began in
     let has = steps_of m.code fits.times fits.first l fits.so_far in
     let kept = worked_keeps m.code has.pcs fits.first l has.steps in
     let run : IsBlockRun s (fits.lent_at ++ fits.since) = subst (IsBlockRun s) (sym fits.whole) machine.run in
     let events_at : events h.0 (history s (fits.lent_at ++ fits.since)) ≡ events h.0 (history s fits.lent_at) =
     ap (λ g. events h.0 (history s g)) fits.whole ∙ (same ∙ (kept.1 ∙ ap (λ (a : Stretch). a.events) began.is)) in
-    let stayed : HasStayed s h.0 began.thread (history s fits.lent_at) (past_of m) =
-    subst (λ g. HasStayed s h.0 began.thread (history s fits.lent_at) (history s g)) fits.whole (stays s h.0 began.thread fits.lent_at fits.since run.allowed began.runs events_at) in
+    let stayed : HasStayed s m.seed h.0 began.thread (history s fits.lent_at) (past_of m) =
+    subst (λ g. HasStayed s m.seed h.0 began.thread (history s fits.lent_at) (history s g)) fits.whole (stays s m.seed h.0 began.thread fits.lent_at fits.since run.allowed began.runs events_at) in
     let all = machine.tied.all_harts in
     let in_list : h.0 < length m.parts.harts.items = omega (arith, all, began.lt) in
     let is = hart_read m h.0 x machine began.lt value in
     let there = here_read m h.0 in
-    let all_so : true ≡ all_chosen s (past_of m) = all_of s m.log.items chosen in
+    let all_so : true ≡ all_chosen s m.seed (past_of m) = all_of s m.seed m.log.items chosen in
     let chosen_so : m.chosen ≡ true = machine.chosen ∙ sym all_so in
     let pcs : l.pcs ≡ has.pcs = has.added ∙ ap (λ (a : Stretch). a.pcs ++ has.pcs) began.is in
     record {
       thread = thread began.thread;
       way = record {
         run = machine.run;
-        settled = subst (λ b. IsSettled s m.log.items m.parts m.chooser b) chosen_so (machine_settled m machine);
+        settled = subst (λ b. IsSettled s m.seed m.log.items m.parts m.chooser b) chosen_so (machine_settled m machine);
         limits = machine.limits;
         goes = goes_on m machine goes;
         lt = began.lt;
@@ -90,7 +90,7 @@ ready m h l x machine chosen fits goes same value =
       file = ap (λ (a : Stretch). a.file) began.is ∙ (sym stayed.same_file
           ∙ (ap (λ o. let f : Saved = record { file = (file_on there o).file; pc = (file_on there o).pc } in f) (sym stayed.runs) ∙ ap file_of (sym is)));
       credit = ap (λ (a : Stretch). a.credit) began.is ∙ (ap (λ (k : Luck). k.credit) (sym stayed.same_luck)
-          ∙ (sym (credit_read s (past_of m) h.0 all_so) ∙ ap (λ (y : HartState). y.credit) (sym is)));
+          ∙ (sym (credit_read s m.seed (past_of m) h.0 all_so) ∙ ap (λ (y : HartState). y.credit) (sym is)));
       steps = subst (λ ps. Steps m.code fits.first ps l) (sym pcs) has.steps;
     }
 
@@ -99,7 +99,7 @@ pub counts_fit : (m : Inside) (h : Hart) (l : Stretch) (x : HartState) → IsRea
     → (x.ran + length l.pcs < 2 ^ 32) × (x.events + length l.pcs < 2 ^ 32)
 counts_fit m h l x is room =
     let way = is.way in
-    let own = own_is (setting_of m) m.log.items m.parts m.chooser h is.thread x way in
+    let own = own_is (setting_of m) m.seed m.log.items m.parts m.chooser h is.thread x way in
     let ran : x.ran ≡ (plain_seen (seen m)).ran h.0 = ap (λ (y : HartState). y.ran) own in
     let made : x.events ≡ (plain_seen (seen m)).events h.0 = ap (λ (y : HartState). y.events) own in
     let few_ran = ran_few (seen m) h.0 way.run in
@@ -114,19 +114,19 @@ with_hart m h y = record m.parts { harts = with_item m.parts.harts h y }
 -- the machine once it has taken the stretch in
 pub record IsTakenIn (m : Inside) (h : Hart) (l : Stretch) (x : HartState) (t : Tid) (parts : Parts) : Type 0 where
   pub run : IsBlockRun (setting_of m) (m.log.items ++ map (executed h t) l.pcs)
-  pub settled : IsSettled (setting_of m) (m.log.items ++ map (executed h t) l.pcs) parts m.chooser true
-  pub log_after : advanced (setting_of m) h.0 (length l.pcs) m.log.items ≡ Some (m.log.items ++ map (executed h t) l.pcs)
+  pub settled : IsSettled (setting_of m) m.seed (m.log.items ++ map (executed h t) l.pcs) parts m.chooser true
+  pub log_after : advanced (setting_of m) m.seed h.0 (length l.pcs) m.log.items ≡ Some (m.log.items ++ map (executed h t) l.pcs)
 
 pub taken : (m : Inside) (h : Hart) (l : Stretch) (x : HartState) (t : Tid) → IsReady m h l x → length m.log.items + length l.pcs ≤ m.limits.steps → x.running ≡ Some t
     → IsTakenIn m h l x t (with_hart m h.0 (taken_in l x))
 taken m h l x t is room busy =
     let s = setting_of m in
     let same : is.thread ≡ t = same_Some is.thread t (sym is.way.busy ∙ busy) in
-    let all = subst (λ u. AreAllOn s m.log.items m.parts m.chooser h u x l.pcs l) same
-    (all_on s l.pcs m.log.items m.parts m.chooser h is.thread x is.first l is.way room is.file is.credit is.steps) in
+    let all = subst (λ u. AreAllOn s m.seed m.log.items m.parts m.chooser h u x l.pcs l) same
+    (all_on s m.seed l.pcs m.log.items m.parts m.chooser h is.thread x is.first l is.way room is.file is.credit is.steps) in
     record {
       run = all.way.run;
-      settled = settled_alike s (m.log.items ++ map (executed h t) l.pcs) all.parts (with_hart m h.0 (taken_in l x)) m.chooser true all.way.settled
+      settled = settled_alike s m.seed (m.log.items ++ map (executed h t) l.pcs) all.parts (with_hart m h.0 (taken_in l x)) m.chooser true all.way.settled
           (λ k. sym (all.harts k)) (sym all.pages) (sym all.kernel) (sym all.ended);
       log_after = all.log_after;
     }
@@ -157,9 +157,9 @@ first_steps pages (suc n) (pc ∷ pcs) a l steps =
     (rest.0, (steps.0, steps.1, rest.1))
 
 -- so the hart makes so many entries
-pub makes : (m : Inside) (h : Hart) (l : Stretch) (n : ℕ) → IsMachine m → IsChosen (setting_of m) m.log.items
-    → IsStretchOf (setting_of m) h.0 m.log.items l → has_ended (setting_of m) (past_of m) ≡ false → events h.0 (past_of m) ≡ l.events
-    → n ≤ length l.pcs → length m.log.items + n ≤ m.limits.steps → IsSome (advanced (setting_of m) h.0 n m.log.items)
+pub makes : (m : Inside) (h : Hart) (l : Stretch) (n : ℕ) → IsMachine m → IsChosen (setting_of m) m.seed m.log.items
+    → IsStretchOf (setting_of m) m.seed h.0 m.log.items l → has_ended (setting_of m) (past_of m) ≡ false → events h.0 (past_of m) ≡ l.events
+    → n ≤ length l.pcs → length m.log.items + n ≤ m.limits.steps → IsSome (advanced (setting_of m) m.seed h.0 n m.log.items)
 makes m h l n machine chosen fits goes same within room =
     let s = setting_of m in
     let x : HartState = hart_at s (plain_seen (seen m)) h.0 (credit_of m.parts.harts.items h.0) in
@@ -167,8 +167,8 @@ makes m h l n machine chosen fits goes same within room =
     let is = ready m h l x machine chosen fits goes same there in
     let first = first_steps m.code n l.pcs is.first l is.steps in
     let long : length (take n l.pcs) ≡ n = length-take-le n l.pcs within in
-    let all = all_on s (take n l.pcs) m.log.items m.parts m.chooser h is.thread x is.first first.0 is.way (omega (arith, room, long)) is.file is.credit first.1 in
-    let made : advanced s h.0 n m.log.items ≡ Some (m.log.items ++ map (executed h is.thread) (take n l.pcs)) = ap (λ k. advanced s h.0 k m.log.items) (sym long) ∙ all.log_after in
+    let all = all_on s m.seed (take n l.pcs) m.log.items m.parts m.chooser h is.thread x is.first first.0 is.way (omega (arith, room, long)) is.file is.credit first.1 in
+    let made : advanced s m.seed h.0 n m.log.items ≡ Some (m.log.items ++ map (executed h is.thread) (take n l.pcs)) = ap (λ k. advanced s m.seed h.0 k m.log.items) (sym long) ∙ all.log_after in
     rw made refl
 
 -- how many entries come of it

@@ -84,9 +84,9 @@ goes_on_is pages a goes =
     }
 
 -- a machine's parts at a log of choices that goes on, with a thread on a hart in this state
-pub record IsOnWay (s : Setting) (log : List Entry) (m : Parts) (words : List Generator) (h : Hart) (t : Tid) (x : HartState) : Type 0 where
+pub record IsOnWay (s : Setting) (seed : ℕ) (log : List Entry) (m : Parts) (words : List Generator) (h : Hart) (t : Tid) (x : HartState) : Type 0 where
   pub run : IsBlockRun s log
-  pub settled : IsSettled s log m words true
+  pub settled : IsSettled s seed log m words true
   pub limits : InRange s.limits
   pub goes : m.ended ≡ None
   pub lt : h.0 < s.limits.harts
@@ -94,12 +94,12 @@ pub record IsOnWay (s : Setting) (log : List Entry) (m : Parts) (words : List Ge
   pub busy : x.running ≡ Some t
   pub no_barrier : x.waits ≡ None
 
-abbrev at_log : Setting → List Entry → Seen
-at_log s log = record { setting = s; log = log }
+abbrev at_log : Setting → ℕ → List Entry → Seen
+at_log s seed log = record { setting = s; seed = seed; log = log }
 
-place_on : (s : Setting) (log : List Entry) (m : Parts) (words : List Generator) (h : Hart) (t : Tid) (x : HartState) → IsOnWay s log m words h t x → length log < s.limits.steps
-    → IsPlace (at_log s log) m h.0
-place_on s log m words h t x way room = record {
+place_on : (s : Setting) (seed : ℕ) (log : List Entry) (m : Parts) (words : List Generator) (h : Hart) (t : Tid) (x : HartState) → IsOnWay s seed log m words h t x → length log < s.limits.steps
+    → IsPlace (at_log s seed log) m h.0
+place_on s seed log m words h t x way room = record {
   run = way.run;
   tied = way.settled.tied;
   limits = way.limits;
@@ -109,27 +109,27 @@ place_on s log m words h t x way room = record {
 }
 
 -- the hart's state is the plain machine's
-pub own_is : (s : Setting) (log : List Entry) (m : Parts) (words : List Generator) (h : Hart) (t : Tid) (x : HartState) → IsOnWay s log m words h t x
+pub own_is : (s : Setting) (seed : ℕ) (log : List Entry) (m : Parts) (words : List Generator) (h : Hart) (t : Tid) (x : HartState) → IsOnWay s seed log m words h t x
     → x ≡ hart_at s (plain_after s log) h.0 (credit_of m.harts.items h.0)
-own_is s log m words h t x way =
+own_is s seed log m words h t x way =
     same_Some x (hart_at s (plain_after s log) h.0 (credit_of m.harts.items h.0)) (sym way.there ∙ way.settled.tied.harts h.0 way.lt)
 
 -- so its thread runs there, with its file
-runs_is : (s : Setting) (log : List Entry) (m : Parts) (words : List Generator) (h : Hart) (t : Tid) (x : HartState) → IsOnWay s log m words h t x
-    → runs (here_of (at_log s log) h.0) ≡ Some t.0
-runs_is s log m words h t x way =
-    thread_is (runs (here_of (at_log s log) h.0)) t (sym way.busy ∙ ap (λ (y : HartState). y.running) (own_is s log m words h t x way))
+runs_is : (s : Setting) (seed : ℕ) (log : List Entry) (m : Parts) (words : List Generator) (h : Hart) (t : Tid) (x : HartState) → IsOnWay s seed log m words h t x
+    → runs (here_of (at_log s seed log) h.0) ≡ Some t.0
+runs_is s seed log m words h t x way =
+    thread_is (runs (here_of (at_log s seed log) h.0)) t (sym way.busy ∙ ap (λ (y : HartState). y.running) (own_is s seed log m words h t x way))
 
-file_is : (s : Setting) (log : List Entry) (m : Parts) (words : List Generator) (h : Hart) (t : Tid) (x : HartState) → IsOnWay s log m words h t x
-    → file_of x ≡ (here_of (at_log s log) h.0).file t.0
-file_is s log m words h t x way =
-    let here = here_of (at_log s log) h.0 in
-    ap file_of (own_is s log m words h t x way) ∙ ap (λ o. let f : Saved = record { file = (file_on here o).file; pc = (file_on here o).pc } in f) (runs_is s log m words h t x way)
+file_is : (s : Setting) (seed : ℕ) (log : List Entry) (m : Parts) (words : List Generator) (h : Hart) (t : Tid) (x : HartState) → IsOnWay s seed log m words h t x
+    → file_of x ≡ (here_of (at_log s seed log) h.0).file t.0
+file_is s seed log m words h t x way =
+    let here = here_of (at_log s seed log) h.0 in
+    ap file_of (own_is s seed log m words h t x way) ∙ ap (λ o. let f : Saved = record { file = (file_on here o).file; pc = (file_on here o).pc } in f) (runs_is s seed log m words h t x way)
 
 -- and it waits in no barrier
-waits_is : (s : Setting) (log : List Entry) (m : Parts) (words : List Generator) (h : Hart) (t : Tid) (x : HartState) → IsOnWay s log m words h t x
-    → (here_of (at_log s log) h.0).awaits ≡ None
-waits_is s log m words h t x way = sym (ap (λ (y : HartState). y.waits) (own_is s log m words h t x way)) ∙ way.no_barrier
+waits_is : (s : Setting) (seed : ℕ) (log : List Entry) (m : Parts) (words : List Generator) (h : Hart) (t : Tid) (x : HartState) → IsOnWay s seed log m words h t x
+    → (here_of (at_log s seed log) h.0).awaits ≡ None
+waits_is s seed log m words h t x way = sym (ap (λ (y : HartState). y.waits) (own_is s seed log m words h t x way)) ∙ way.no_barrier
 
 -- the next instruction there, which makes no fault and may be executed
 fault_by_effect : (here : Here) (t : ℕ) (rd value to : ℕ) → effect_at here t ≡ Some (effect.Next rd value to) → fault_at here t ≡ None
@@ -170,17 +170,17 @@ record IsMoved (v : Seen) (m : Parts) (h : Hart) (t : Tid) (x : HartState) (rd v
   pub entry : entry_in asked.Exec (here_of v h.0) ≡ executed h t x.pc
   pub after : IsAfter v h.0 (done_of asked.Exec (here_of v h.0)) m (with_state m h.0 (moved x rd value to))
 
-move : (s : Setting) (log : List Entry) (m : Parts) (words : List Generator) (h : Hart) (t : Tid) (x : HartState) (rd value to : ℕ)
-    → IsOnWay s log m words h t x → length log < s.limits.steps → next_effect s.program.pages (file_of x) ≡ Some (effect.Next rd value to)
-    → IsMoved (at_log s log) m h t x rd value to
-move s log m words h t x rd value to way room is =
-    let v = at_log s log in
+move : (s : Setting) (seed : ℕ) (log : List Entry) (m : Parts) (words : List Generator) (h : Hart) (t : Tid) (x : HartState) (rd value to : ℕ)
+    → IsOnWay s seed log m words h t x → length log < s.limits.steps → next_effect s.program.pages (file_of x) ≡ Some (effect.Next rd value to)
+    → IsMoved (at_log s seed log) m h t x rd value to
+move s seed log m words h t x rd value to way room is =
+    let v = at_log s seed log in
     let here = here_of v h.0 in
     let e : Effect = effect.Next rd value to in
-    let place = place_on s log m words h t x way room in
-    let at = runs_is s log m words h t x way in
-    let its : effect_at here t.0 ≡ Some e = sym (ap (next_effect s.program.pages) (file_is s log m words h t x way)) ∙ is in
-    let free = free_by_effect here t.0 rd value to at (waits_is s log m words h t x way) its in
+    let place = place_on s seed log m words h t x way room in
+    let at = runs_is s seed log m words h t x way in
+    let its : effect_at here t.0 ≡ Some e = sym (ap (next_effect s.program.pages) (file_is s seed log m words h t x way)) ∙ is in
+    let free = free_by_effect here t.0 rd value to at (waits_is s seed log m words h t x way) its in
     let plan : IsPlanned v h.0 (plain_next e) = record {
       thread = t.0;
       at = at;
@@ -195,7 +195,7 @@ move s log m words h t x rd value to way room is =
     let y = moved x rd value to in
     record {
       free = free;
-      entry = sym (entry_exec (credit_of m.harts.items h.0) s (plain_after s log) h x (own_is s log m words h t x way)) ∙ entry_busy h x.running t x.pc way.busy;
+      entry = sym (entry_exec (credit_of m.harts.items h.0) s (plain_after s log) h x (own_is s seed log m words h t x way)) ∙ entry_busy h x.running t x.pc way.busy;
       after = changed_as v h.0 asked.Exec (by_outcome here t.0 done.outcome) m (with_state m h.0 y) y place free done.done (record {
         own = plain_own (credit_of m.harts.items h.0) s (plain_after s log) h.0 t.0 done.outcome x y done.own at
             (same_buffer x rd value to ∙ ap (λ (o : Outcome). record (hart_after x o) { ran = x.ran + 1; events = x.events + 1 }) done.same);
@@ -229,16 +229,16 @@ no_draw_on_credit seen busy free credit = rw (busy, free, credit) refl
 both : (b c : Bool) → b ≡ true → c ≡ true → (b && c) ≡ true
 both b c first second = rw (first, second) refl
 
-next_by : (s : Setting) (h : ℕ) (before : History) (o : Option Choice) → choice_at s h before ≡ o
-    → next_entry s h before ≡ option_map (λ c. entry_in c (here_in_history s before h)) o
+next_by : (s : Setting) (seed h : ℕ) (before : History) (o : Option Choice) → choice_at s seed h before ≡ o
+    → next_entry s seed h before ≡ option_map (λ c. entry_in c (here_in_history s before h)) o
 unfolding next_entry
-next_by s h before o is = ap (option_map (λ c. entry_in c (here_in_history s before h))) is
+next_by s seed h before o is = ap (option_map (λ c. entry_in c (here_in_history s before h))) is
 
-not_ended_on : (s : Setting) (log : List Entry) (m : Parts) (words : List Generator) (h : Hart) (t : Tid) (x : HartState) → IsOnWay s log m words h t x → length log < s.limits.steps
+not_ended_on : (s : Setting) (seed : ℕ) (log : List Entry) (m : Parts) (words : List Generator) (h : Hart) (t : Tid) (x : HartState) → IsOnWay s seed log m words h t x → length log < s.limits.steps
     → has_ended s (history s log) ≡ false
-not_ended_on s log m words h t x way room =
+not_ended_on s seed log m words h t x way room =
     let long = length-history s log in
-    let goes : over_at s (history s log) ≡ None = sym (way.settled.tied.ended ∙ ap plain_over (same_state (at_log s log) way.run)) ∙ way.goes in
+    let goes : over_at s (history s log) ≡ None = sym (way.settled.tied.ended ∙ ap plain_over (same_state (at_log s seed log) way.run)) ∙ way.goes in
     not_ended s (history s log) goes (omega (arith, long, room))
 
 state_is : (pages : List ImagePage) (x : HartState) (a : Stretch) (rd value to k : ℕ) → a.file ≡ file_of x → next_effect pages a.file ≡ Some (effect.Next rd value to) → k ≡ a.credit - 1
@@ -265,43 +265,43 @@ hart_by xs h k x y y1 o p there is picked state = go (cases_eq k h)
         rw (is, ne_eqb k h ne, get_set_other xs h k y ne, get_set_other xs h k y1 ne) (same_other (slice_get xs k))
 
 -- one instruction of a stretch, as the machine makes it
-pub record IsOneOn (s : Setting) (log : List Entry) (m : Parts) (words : List Generator) (h : Hart) (t : Tid) (x : HartState) (a : Stretch) : Type 0 where
-  pub next : next_entry s h.0 (history s log) ≡ Some (executed h t x.pc)
+pub record IsOneOn (s : Setting) (seed : ℕ) (log : List Entry) (m : Parts) (words : List Generator) (h : Hart) (t : Tid) (x : HartState) (a : Stretch) : Type 0 where
+  pub next : next_entry s seed h.0 (history s log) ≡ Some (executed h t x.pc)
   pub way : let y = after_one (stepped s.program.pages a) (a.credit - 1) x in
-      IsOnWay s (log ++ executed h t x.pc ∷ []) (record m { harts = with_item m.harts h.0 y }) words h t y
+      IsOnWay s seed (log ++ executed h t x.pc ∷ []) (record m { harts = with_item m.harts h.0 y }) words h t y
 
-pub one_on : (s : Setting) (log : List Entry) (m : Parts) (words : List Generator) (h : Hart) (t : Tid) (x : HartState) (a : Stretch)
-    → IsOnWay s log m words h t x → length log < s.limits.steps → a.file ≡ file_of x → a.credit ≡ x.credit → goes_on s.program.pages a ≡ true
-    → IsOneOn s log m words h t x a
-one_on s log m words h t x a way room file credit goes =
-    let v = at_log s log in
+pub one_on : (s : Setting) (seed : ℕ) (log : List Entry) (m : Parts) (words : List Generator) (h : Hart) (t : Tid) (x : HartState) (a : Stretch)
+    → IsOnWay s seed log m words h t x → length log < s.limits.steps → a.file ≡ file_of x → a.credit ≡ x.credit → goes_on s.program.pages a ≡ true
+    → IsOneOn s seed log m words h t x a
+one_on s seed log m words h t x a way room file credit goes =
+    let v = at_log s seed log in
     let past = history s log in
     let there = here_in_history s past h.0 in
     let go = goes_on_is s.program.pages a goes in
     let i = go.instruction in
     let its : next_effect s.program.pages (file_of x) ≡ Some (effect.Next i.rd i.value i.to) = ap (next_effect s.program.pages) (sym file) ∙ i.effect in
-    let is = move s log m words h t x i.rd i.value i.to way room its in
-    let place = place_on s log m words h t x way room in
+    let is = move s seed log m words h t x i.rd i.value i.to way room its in
+    let place = place_on s seed log m words h t x way room in
     let e = executed h t x.pc in
     let y1 = moved x i.rd i.value i.to in
     let answer : Ok e ≡ answer_to v h.0 asked.Exec = ap Ok (sym is.entry) ∙ ap (answered (entry_in asked.Exec (here_of v h.0))) (sym is.free) in
     let step = stepped_by v m (with_state m h.0 y1) h asked.Exec (Ok e) e place answer refl is.after in
-    let going = not_ended_on s log m words h t x way room in
+    let going = not_ended_on s seed log m words h t x way room in
     -- what is seen
-    let shown : credit_at s h.0 past ≡ a.credit = sym (way.settled.credits h.0 way.lt) ∙ (ap (λ o. option_map_or (λ (z : HartState). z.credit) o 0) way.there ∙ sym credit) in
-    let seen = sight_in there (ran h.0 past) (credit_at s h.0 past) in
-    let at : runs there ≡ Some t.0 = sym (ap runs (same_here v h.0 way.run)) ∙ runs_is s log m words h t x way in
+    let shown : credit_at s seed h.0 past ≡ a.credit = sym (way.settled.credits h.0 way.lt) ∙ (ap (λ o. option_map_or (λ (z : HartState). z.credit) o 0) way.there ∙ sym credit) in
+    let seen = sight_in there (ran h.0 past) (credit_at s seed h.0 past) in
+    let at : runs there ≡ Some t.0 = sym (ap runs (same_here v h.0 way.run)) ∙ runs_is s seed log m words h t x way in
     let busy : seen.idle ≡ false = ap is_none at in
-    let its_file : a.file ≡ there.file t.0 = file ∙ (file_is s log m words h t x way ∙ ap (λ (k : Here). k.file t.0) (same_here v h.0 way.run)) in
+    let its_file : a.file ≡ there.file t.0 = file ∙ (file_is s seed log m words h t x way ∙ ap (λ (k : Here). k.file t.0) (same_here v h.0 way.run)) in
     let is_local : seen.«local» ≡ true =
     ap (is_local_on there) at ∙ (sym (next_local (memory there) (is_writable there) s.program.pages (there.file t.0)) ∙ (ap (λ f. option_map_or sets_register (next_effect s.program.pages f) false) (sym its_file) ∙ go.sets)) in
-    let out : seen.in_barrier ≡ false = ap (λ (k : Here). is_some k.awaits) (sym (same_here v h.0 way.run)) ∙ ap is_some (waits_is s log m words h t x way) in
-    let on_it : has_credit seen ≡ true = both (ltb 0 (credit_at s h.0 past)) seen.«local» (ap (ltb 0) shown ∙ go.credit) is_local in
+    let out : seen.in_barrier ≡ false = ap (λ (k : Here). is_some k.awaits) (sym (same_here v h.0 way.run)) ∙ ap is_some (waits_is s seed log m words h t x way) in
+    let on_it : has_credit seen ≡ true = both (ltb 0 (credit_at s seed h.0 past)) seen.«local» (ap (ltb 0) shown ∙ go.credit) is_local in
     let picks : pick seen (word (generator_in words h.0)) ≡ Some (on_credit seen) = pick_on_credit seen (word (generator_in words h.0)) busy out on_it in
     let no_draw = no_draw_on_credit seen busy out on_it in
-    let all : true ≡ all_chosen s past = way.settled.chosen in
-    let place_pick : pick_at s h.0 past ≡ Some (on_credit seen) = sym (pick_read s past h.0 words all (way.settled.generators refl h.0 way.lt)) ∙ picks in
-    let chosen : choice_at s h.0 past ≡ Some asked.Exec = choice_where s h.0 past going way.lt ∙ ap (option_map (λ (p : Pick). p.choice)) place_pick in
+    let all : true ≡ all_chosen s seed past = way.settled.chosen in
+    let place_pick : pick_at s seed h.0 past ≡ Some (on_credit seen) = sym (pick_read s seed past h.0 words all (way.settled.generators refl h.0 way.lt)) ∙ picks in
+    let chosen : choice_at s seed h.0 past ≡ Some asked.Exec = choice_where s seed h.0 past going way.lt ∙ ap (option_map (λ (p : Pick). p.choice)) place_pick in
     -- what follows
     let y = after_one (stepped s.program.pages a) (a.credit - 1) x in
     let left : (on_credit seen).credit ≡ a.credit - 1 = ap (λ n. n - 1) shown in
@@ -309,14 +309,14 @@ one_on s log m words h t x a way room file credit goes =
     let m' : Parts = record m { harts = with_item m.harts h.0 y } in
     let harts : (k : ℕ) → slice_get m'.harts.items k ≡ option_map (followed (Some seen) words h.0 asked.Exec k) (slice_get (with_state m h.0 y1).harts.items k) =
     λ k. hart_by m.harts.items h.0 k x y y1 (pick seen (word (generator_in words h.0))) (on_credit seen) way.there picks refl state in
-    let set = settled_next s log m words true h asked.Exec e (with_state m h.0 y1) m' (Some seen) way.settled way.limits going way.lt step is.after.credits refl harts refl refl refl in
+    let set = settled_next s seed log m words true h asked.Exec e (with_state m h.0 y1) m' (Some seen) way.settled way.limits going way.lt step is.after.credits refl harts refl refl refl in
     let followed_so : is_followed (Some seen) words h.0 asked.Exec ≡ true = ap (is_picked asked.Exec) picks in
     let stay : generators_after (Some seen) h.0 words ≡ words = after_pick-settled seen h.0 words no_draw in
     record {
-      next = next_by s h.0 past (Some asked.Exec) chosen ∙ ap Some (ap (entry_in asked.Exec) (sym (same_here v h.0 way.run)) ∙ is.entry);
+      next = next_by s seed h.0 past (Some asked.Exec) chosen ∙ ap Some (ap (entry_in asked.Exec) (sym (same_here v h.0 way.run)) ∙ is.entry);
       way = record {
         run = step.run;
-        settled = subst (λ b. IsSettled s (log ++ e ∷ []) m' words b) followed_so (subst (λ g. IsSettled s (log ++ e ∷ []) m' g (is_followed (Some seen) words h.0 asked.Exec)) stay set);
+        settled = subst (λ b. IsSettled s seed (log ++ e ∷ []) m' words b) followed_so (subst (λ g. IsSettled s seed (log ++ e ∷ []) m' g (is_followed (Some seen) words h.0 asked.Exec)) stay set);
         limits = way.limits;
         goes = way.goes;
         lt = way.lt;
@@ -331,14 +331,14 @@ abbrev pub state_after : Stretch → ℕ → HartState → HartState
 state_after l n x = record x { file = l.file.file; pc = l.file.pc; credit = l.credit; ran = x.ran + n; events = x.events + n }
 
 -- all instructions of a stretch, as the machine makes them
-pub record AreAllOn (s : Setting) (log : List Entry) (m : Parts) (words : List Generator) (h : Hart) (t : Tid) (x : HartState) (pcs : List ℕ) (l : Stretch) : Type 0 where
+pub record AreAllOn (s : Setting) (seed : ℕ) (log : List Entry) (m : Parts) (words : List Generator) (h : Hart) (t : Tid) (x : HartState) (pcs : List ℕ) (l : Stretch) : Type 0 where
   pub parts : Parts
-  pub way : IsOnWay s (log ++ map (executed h t) pcs) parts words h t (state_after l (length pcs) x)
+  pub way : IsOnWay s seed (log ++ map (executed h t) pcs) parts words h t (state_after l (length pcs) x)
   pub pages : parts.pages ≡ m.pages
   pub kernel : parts.kernel ≡ m.kernel
   pub ended : parts.ended ≡ m.ended
   pub harts : (k : ℕ) → slice_get parts.harts.items k ≡ slice_get (set m.harts.items h.0 (state_after l (length pcs) x)) k
-  pub log_after : advanced s h.0 (length pcs) log ≡ Some (log ++ map (executed h t) pcs)
+  pub log_after : advanced s seed h.0 (length pcs) log ≡ Some (log ++ map (executed h t) pcs)
 
 state_after_none : (a l : Stretch) (x : HartState) → a.file ≡ file_of x → a.credit ≡ x.credit → a ≡ l → state_after l 0 x ≡ x
 state_after_none a l x file credit same =
@@ -373,49 +373,49 @@ get_set_itself xs h k x there = go (cases_eq k h)
     go (inl same) = rw (same, get_set_same xs h x x there) there
     go (inr ne) = sym (get_set_other xs h k x ne)
 
-pub all_on : (s : Setting) (pcs : List ℕ) (log : List Entry) (m : Parts) (words : List Generator) (h : Hart) (t : Tid) (x : HartState) (a l : Stretch)
-    → IsOnWay s log m words h t x → length log + length pcs ≤ s.limits.steps → a.file ≡ file_of x → a.credit ≡ x.credit → Steps s.program.pages a pcs l
-    → AreAllOn s log m words h t x pcs l
-all_on s [] log m words h t x a l way room file credit steps =
+pub all_on : (s : Setting) (seed : ℕ) (pcs : List ℕ) (log : List Entry) (m : Parts) (words : List Generator) (h : Hart) (t : Tid) (x : HartState) (a l : Stretch)
+    → IsOnWay s seed log m words h t x → length log + length pcs ≤ s.limits.steps → a.file ≡ file_of x → a.credit ≡ x.credit → Steps s.program.pages a pcs l
+    → AreAllOn s seed log m words h t x pcs l
+all_on s seed [] log m words h t x a l way room file credit steps =
     let none = state_after_none a l x file credit steps in
     let same : log ≡ log ++ [] = sym (append-nil log) in
     record {
       parts = m;
-      way = subst (λ g. IsOnWay s g m words h t (state_after l 0 x)) same (subst (λ z. IsOnWay s log m words h t z) (sym none) way);
+      way = subst (λ g. IsOnWay s seed g m words h t (state_after l 0 x)) same (subst (λ z. IsOnWay s seed log m words h t z) (sym none) way);
       pages = refl;
       kernel = refl;
       ended = refl;
       harts = λ k. get_set_itself m.harts.items h.0 k x way.there ∙ ap (λ z. slice_get (set m.harts.items h.0 z) k) (sym none);
       log_after = ap Some same;
     }
-all_on s (pc ∷ pcs) log m words h t x a l way room file credit steps =
-    let one = one_on s log m words h t x a way (omega (arith, room)) file credit steps.0 in
+all_on s seed (pc ∷ pcs) log m words h t x a l way room file credit steps =
+    let one = one_on s seed log m words h t x a way (omega (arith, room)) file credit steps.0 in
     let next = stepped s.program.pages a in
     let e = executed h t x.pc in
     let y1 = after_one next (a.credit - 1) x in
     let m1 : Parts = record m { harts = with_item m.harts h.0 y1 } in
     let long : length (log ++ e ∷ []) ≡ length log + 1 = length-append log (e ∷ []) in
-    let rest = all_on s pcs (log ++ e ∷ []) m1 words h t y1 next l one.way (omega (arith, room, long)) refl refl steps.2 in
+    let rest = all_on s seed pcs (log ++ e ∷ []) m1 words h t y1 next l one.way (omega (arith, room, long)) refl refl steps.2 in
     let its : e ≡ executed h t pc = ap (executed h t) (sym (steps.1 ∙ ap (λ (f : Saved). f.pc) file)) in
     let whole : log ++ e ∷ [] ++ map (executed h t) pcs ≡ log ++ map (executed h t) (pc ∷ pcs) =
     append_assoc log (e ∷ []) (map (executed h t) pcs) ∙ ap (λ z. log ++ z ∷ map (executed h t) pcs) its in
     let state = state_after_more next l (a.credit - 1) (length pcs) x in
     record {
       parts = rest.parts;
-      way = subst (λ g. IsOnWay s g rest.parts words h t (state_after l (suc (length pcs)) x)) whole
-          (subst (λ z. IsOnWay s (log ++ e ∷ [] ++ map (executed h t) pcs) rest.parts words h t z) state rest.way);
+      way = subst (λ g. IsOnWay s seed g rest.parts words h t (state_after l (suc (length pcs)) x)) whole
+          (subst (λ z. IsOnWay s seed (log ++ e ∷ [] ++ map (executed h t) pcs) rest.parts words h t z) state rest.way);
       pages = rest.pages;
       kernel = rest.kernel;
       ended = rest.ended;
       harts = λ k. rest.harts k ∙ (get_set_twice m.harts.items h.0 k x y1 (state_after l (length pcs) y1) way.there ∙ ap (λ z. slice_get (set m.harts.items h.0 z) k) state);
-      log_after = ap (option_and_then (λ z. advanced s h.0 (length pcs) (log ++ z ∷ []))) one.next ∙ (rest.log_after ∙ ap Some whole);
+      log_after = ap (option_and_then (λ z. advanced s seed h.0 (length pcs) (log ++ z ∷ []))) one.next ∙ (rest.log_after ∙ ap Some whole);
     }
 
 -- parts with the same harts are as settled
-pub settled_alike : (s : Setting) (log : List Entry) (m m' : Parts) (words : List Generator) (chosen : Bool) → IsSettled s log m words chosen
+pub settled_alike : (s : Setting) (seed : ℕ) (log : List Entry) (m m' : Parts) (words : List Generator) (chosen : Bool) → IsSettled s seed log m words chosen
     → ((k : ℕ) → slice_get m'.harts.items k ≡ slice_get m.harts.items k) → m'.pages ≡ m.pages → m'.kernel ≡ m.kernel → m'.ended ≡ m.ended
-    → IsSettled s log m' words chosen
-settled_alike s log m m' words chosen is harts pages kernel ended = record {
+    → IsSettled s seed log m' words chosen
+settled_alike s seed log m m' words chosen is harts pages kernel ended = record {
   tied = tied_with s (plain_after s log) m m' None words 0 asked.Exec is.tied (λ k. harts k ∙ mapped_itself (slice_get m.harts.items k)) pages kernel ended;
   chosen = is.chosen;
   credits = λ k below. ap (λ o. option_map_or (λ (z : HartState). z.credit) o 0) (harts k) ∙ is.credits k below;

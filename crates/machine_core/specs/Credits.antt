@@ -13,8 +13,8 @@ use Rattle.block_model.specs.Setting.{Setting}
 use Rattle.block_model.specs.Sights.{sight_in}
 
 -- what is seen of a hart before its event, where every entry so far was chosen
-abbrev pub seen_if : Bool → Setting → ℕ → History → Option Sight
-seen_if b s h before = if b then Some (sight_in (here_in_history s before h) (ran h before) (credit_at s h before)) else None
+abbrev pub seen_if : Bool → Setting → ℕ → ℕ → History → Option Sight
+seen_if b s seed h before = if b then Some (sight_in (here_in_history s before h) (ran h before) (credit_at s seed h before)) else None
 
 -- whether this event was picked
 abbrev pub is_picked : Choice → Option Pick → Bool

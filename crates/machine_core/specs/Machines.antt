@@ -17,29 +17,28 @@ abbrev pub setting_of : Inside → Setting
 setting_of m = record {
   program = record { pages = m.code; entry = m.entry; phdr = m.phdr; phnum = m.phnum; break_at = m.break_at };
   limits = m.limits;
-  seed = m.seed;
 }
 
 -- a machine as it is seen
 abbrev pub seen : Inside → Seen
-seen m = record { setting = setting_of m; log = m.log.items }
+seen m = record { setting = setting_of m; seed = m.seed; log = m.log.items }
 
 -- the history of a machine's log
 abbrev pub past_of : Inside → History
 past_of m = history (setting_of m) m.log.items
 
 -- the generator of hart h after the choices of a history
-abbrev pub generator_at : Setting → ℕ → History → Generator
-generator_at s h before = after_words (luck s h before).drawn (first_generator s.seed h)
+abbrev pub generator_at : Setting → ℕ → ℕ → History → Generator
+generator_at s seed h before = after_words (luck s seed h before).drawn (first_generator seed h)
 
 -- the log is a block run to which the parts are tied, and has room for every step; the credits are those that are shown, and
 -- where every entry was chosen as `run` does, the generators are those after their choices
 pub record IsMachine (m : Inside) : Type 0 where
   pub run : IsBlockRun (setting_of m) m.log.items
   pub tied : IsTied (setting_of m) (plain_seen (seen m)) m.parts
-  pub chosen : m.chosen ≡ all_chosen (setting_of m) (past_of m)
-  pub credits : (h : ℕ) → h < m.limits.harts → credit_of m.parts.harts.items h ≡ credit_at (setting_of m) h (past_of m)
-  pub generators : m.chosen ≡ true → (h : ℕ) → h < m.limits.harts → generator_in m.chooser h ≡ generator_at (setting_of m) h (past_of m)
+  pub chosen : m.chosen ≡ all_chosen (setting_of m) m.seed (past_of m)
+  pub credits : (h : ℕ) → h < m.limits.harts → credit_of m.parts.harts.items h ≡ credit_at (setting_of m) m.seed h (past_of m)
+  pub generators : m.chosen ≡ true → (h : ℕ) → h < m.limits.harts → generator_in m.chooser h ≡ generator_at (setting_of m) m.seed h (past_of m)
   pub held : length m.chooser ≡ 8
   pub limits : InRange m.limits
   pub room : m.limits.steps ≤ vec_capacity m.log

@@ -105,7 +105,8 @@ impl Machine {
     ) -> Result<Machine, AllocError>
         requires image { IsBootable limits.frames image.now }
         requires limits { InRange limits }
-        ensures { IfOk result (λ m. m ≡ record { setting = setting_by image.now limits seed; log = [] }) }
+        ensures { IfOk result (λ m. m
+            ≡ record { setting = setting_by image.now limits; seed = seed; log = [] }) }
     {
         let code = Code::new(alloc, &image.pages)?;
         let pool = FramePool::new(alloc, limits.frames)?;

@@ -4,12 +4,13 @@ use Rattle.mach_types.specs.declared.limits.Limits.{Limits}
 use Rattle.elf_load.specs.declared.fault.ElfFault.{ElfFault}
 use Rattle.elf_load.specs.declared.image.Image.{Image}
 use Rattle.outside.specs.Counts.{Rose}
+use Rattle.block_model.specs.Setting.{setting_of}
 use Rattle.outcomes.specs.declared.faults.Fault.{Fault}
 use Rattle.outcomes.specs.declared.faults.Fault.TheVariants.{Usage, Read, Memory, Big, Elf, Script, Guest}
 use Rattle.command_words.specs.Commands.{Command}
 use Rattle.outcomes.specs.Needs as need
 use Rattle.outcomes.specs.Programs.{Files, IsProgram, IsRefused, IsScript, IsTooBig, most_program_bytes}
-use Rattle.outcomes.specs.Programs.{most_script_bytes, start_of}
+use Rattle.outcomes.specs.Programs.{most_script_bytes}
 use Rattle.outcomes.specs.Runs.{IsFirstBadLine}
 use Rattle.command_words.specs.Words.{command_of}
 
@@ -26,7 +27,7 @@ pub record IsScriptRefused
   pub taken : IsProgram files program limits image
   pub lines : List ℕ
   pub read : IsScript files script lines
-  pub first : IsFirstBadLine (start_of image limits) lines number
+  pub first : IsFirstBadLine (setting_of image limits) lines number
 
 -- the script that is needed is refused at the line of this number
 abbrev pub IsScriptRefusalOf : Files → need.Needs → ℕ → Type 0

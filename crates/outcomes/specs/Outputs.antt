@@ -42,15 +42,9 @@ text_of shows.Gathered s bytes log end = output_text bytes (gathered s log) end
 abbrev pub shown_text : Shown → Setting → List Entry → List ℕ
 shown_text shown s log = text_of shown s (console s (history s log)) log (end_of s (history s log))
 
--- the seed of what the harts choose: 0 where no choice is drawn
-abbrev pub seed_of : Source → ℕ
-seed_of Rule = 0
-seed_of (Script name) = 0
-seed_of (Workers seed) = seed
-
 -- what the run of a command starts from, where this is the image of its program
 abbrev pub setting_for : Command → Image → Setting
-setting_for command image = setting_of image command.limits (seed_of command.source)
+setting_for command image = setting_of image command.limits
 
 -- the script of this name was read, and a whole run by its lines made this log
 pub record IsScriptRun (files : Files) (name : List ℕ) (s : Setting) (log : List Entry) : Type 0 where
@@ -62,15 +56,15 @@ pub record IsScriptRun (files : Files) (name : List ℕ) (s : Setting) (log : Li
 abbrev pub IsLogOf : Files → Source → Setting → List Entry → Type 0
 IsLogOf files Rule s log = IsSoloRun s log
 IsLogOf files (Script name) s log = IsScriptRun files name s log
-IsLogOf files (Workers seed) s log = IsChosenRun s log
+IsLogOf files (Workers seed) s log = IsChosenRun s seed log
 
 -- the program of this name was taken, and a machine is at the end of a run of this image, whose log came about in
 -- this way
 pub record HasRun
     (files : Files) (program : List ℕ) (source : Source) (limits : Limits) (image : Image) (m : Seen) : Type 0 where
   pub taken : IsProgram files program limits image
-  pub setting : m.setting ≡ setting_of image limits (seed_of source)
-  pub made : IsLogOf files source (setting_of image limits (seed_of source)) m.log
+  pub setting : m.setting ≡ setting_of image limits
+  pub made : IsLogOf files source (setting_of image limits) m.log
 
 -- the text that a command writes: what it shows of the log of a whole run of its program, which came about as the
 -- command says
@@ -112,9 +106,9 @@ pub record IsPlainScriptRun (files : Files) (name : List ℕ) (s : Setting) (run
 
 -- this is the plain machine's run over the hart and the choice of each entry of a log, which are those of a whole
 -- run by workers
-pub record IsPlainChosenRun (s : Setting) (run : PlainRun) : Type 0 where
+pub record IsPlainChosenRun (s : Setting) (seed : ℕ) (run : PlainRun) : Type 0 where
   pub log : List Entry
-  pub chosen : IsChosenRun s log
+  pub chosen : IsChosenRun s seed log
   pub made : plain_run s (script_of log) ≡ Ok run
 
 -- the plain machine's run came about in this way; by the fixed rule it is its own run, for as many steps as the
@@ -122,7 +116,7 @@ pub record IsPlainChosenRun (s : Setting) (run : PlainRun) : Type 0 where
 abbrev pub IsPlainRunOf : Files → Source → Setting → PlainRun → Type 0
 IsPlainRunOf files Rule s run = run ≡ plain_solo s s.limits.steps
 IsPlainRunOf files (Script name) s run = IsPlainScriptRun files name s run
-IsPlainRunOf files (Workers seed) s run = IsPlainChosenRun s run
+IsPlainRunOf files (Workers seed) s run = IsPlainChosenRun s seed run
 
 -- what the plain machine prints for a command
 pub record IsPlainCommandOutput (files : Files) (command : Command) (written : List ℕ) : Type 0 where

@@ -9,7 +9,6 @@ use Rattle.elf_load.specs.Images.{IsImage}
 use Rattle.step_log.specs.Script.{line_meaning, lines_of}
 use Rattle.step_log.specs.declared.fields.Line.{Line}
 use Rattle.block_model.specs.Replay.{Ask}
-use Rattle.block_model.specs.Setting.{Setting, setting_of}
 
 -- the bytes of the file of each name, where a shelf tells them
 abbrev pub Files : Type 0
@@ -58,10 +57,6 @@ pub record IsRefused (files : Files) (name : List ℕ) (limits : Limits) (fault 
 pub record IsScript (files : Files) (name text : List ℕ) : Type 0 where
   pub read : IsReadAs files name text
   pub fits : length text ≤ most_script_bytes
-
--- what a run of an image starts from, where no choice is drawn: the seed is 0
-abbrev pub start_of : Image → Limits → Setting
-start_of image limits = setting_of image limits 0
 
 -- what a line of a script asks for
 abbrev pub ask_of : Line → Ask

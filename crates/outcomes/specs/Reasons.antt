@@ -7,7 +7,7 @@ use Rattle.mach_types.specs.declared.limits.Limits.{Limits}
 use Rattle.elf_load.specs.declared.fault.ElfFault.{ElfFault}
 use Rattle.block_model.specs.Deciding.{decide, history}
 use Rattle.block_model.specs.Replay.{Ask, is_as_said}
-use Rattle.block_model.specs.Setting.{Setting}
+use Rattle.block_model.specs.Setting.{Setting, setting_of}
 use Rattle.block_model.specs.declared.refusals.Refused.{Refused}
 use Rattle.outside.specs.Counts.{Rose}
 use Rattle.command_words.specs.declared.faults.WordsFault.{WordsFault}
@@ -28,7 +28,7 @@ use Rattle.outcomes.specs.ElfPlaces.{place_of}
 use Rattle.outcomes.specs.Needs as need
 use Rattle.outcomes.specs.Outcome.{Call, CouldNotWrite, IsOutcome, WrotePrefix, WroteText}
 use Rattle.outcomes.specs.Outputs.{IsOutput}
-use Rattle.outcomes.specs.Programs.{Files, IsRefused, IsTooBig, most_program_bytes, most_script_bytes, start_of}
+use Rattle.outcomes.specs.Programs.{Files, IsRefused, IsTooBig, most_program_bytes, most_script_bytes}
 use Rattle.outcomes.specs.Runs.{IsFirstBadLine}
 use Rattle.outcomes.specs.Text.{fault_line}
 
@@ -112,7 +112,7 @@ IsRefusalAbout files (need.Script program script limits) fault about =
 pub record IsScriptRefusedFor
     (files : Files) (program script : List ℕ) (limits : Limits) (number : ℕ) (fault : LineFault) : Type 0 where
   pub refused : IsScriptRefused files program script limits number
-  pub why : line_fault (start_of refused.image limits) refused.first.log refused.first.line ≡ Some fault
+  pub why : line_fault (setting_of refused.image limits) refused.first.log refused.first.line ≡ Some fault
 
 -- the script that is needed is
 abbrev pub IsScriptRefusalFor : Files → need.Needs → ℕ → LineFault → Type 0

@@ -17,11 +17,11 @@ pub record IsSoloRun (s : Setting) (log : List Entry) : Type 0 where
   pub rule : IsSolo s log
   pub over : end_of s (history s log) ≢ Unended
 
--- a whole run by workers: each entry is allowed at its place and is the choice of its hart there, and the run
--- isn't left open
-pub record IsChosenRun (s : Setting) (log : List Entry) : Type 0 where
+-- a whole run by workers: each entry is allowed at its place and is the choice of its hart there by this seed, and
+-- the run isn't left open
+pub record IsChosenRun (s : Setting) (seed : ℕ) (log : List Entry) : Type 0 where
   pub block_run : IsBlockRun s log
-  pub chosen : IsChosen s log
+  pub chosen : IsChosen s seed log
   pub over : end_of s (history s log) ≢ Unended
 
 -- a whole run of a script: each line can be read, each entry is allowed at its place, and the log has one
@@ -56,10 +56,10 @@ pub record IsWholeSolo (s : Setting) (m : Seen) : Type 0 where
   pub setting : m.setting ≡ s
   pub run : IsSoloRun s m.log
 
--- a machine at the end of a whole run by workers from this setting
-pub record IsWholeRun (s : Setting) (m : Seen) : Type 0 where
+-- a machine at the end of a whole run by workers from this setting, who choose by this seed
+pub record IsWholeRun (s : Setting) (seed : ℕ) (m : Seen) : Type 0 where
   pub setting : m.setting ≡ s
-  pub run : IsChosenRun s m.log
+  pub run : IsChosenRun s seed m.log
 
 -- a machine at the end of a whole run of a script from this setting
 pub record IsWholePlay (s : Setting) (text : List ℕ) (m : Seen) : Type 0 where

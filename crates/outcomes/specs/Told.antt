@@ -6,8 +6,9 @@ use Rattle.mach_types.specs.declared.limits.Limits.{Limits}
 use Rattle.elf_load.specs.declared.fault.ElfFault.{ElfFault}
 use Rattle.elf_load.specs.declared.image.Image.{Image}
 use Rattle.elf_load.specs.Images.{IsImage}
+use Rattle.block_model.specs.Setting.{setting_of}
 use Rattle.outcomes.specs.Needs.{Needs, Nothing, Program, Script}
-use Rattle.outcomes.specs.Programs.{Files, IsFaulty, IsGood, most_program_bytes, most_script_bytes, start_of}
+use Rattle.outcomes.specs.Programs.{Files, IsFaulty, IsGood, most_program_bytes, most_script_bytes}
 use Rattle.outcomes.specs.Runs.{IsFirstBadLine, IsPlayedRun}
 
 -- the file of this name is told, and its bytes are a program that the loader takes
@@ -44,13 +45,13 @@ pub record TellsBoth (files : Files) (program script : List ℕ) (limits : Limit
 pub record TellsAllowed (files : Files) (program script : List ℕ) (limits : Limits) : Type 0 where
   pub both : TellsBoth files program script limits
   pub log : List Entry
-  pub run : IsPlayedRun (start_of both.image limits) both.lines log
+  pub run : IsPlayedRun (setting_of both.image limits) both.lines log
 
 -- a line of the script is the first that can't be read, isn't allowed, or differs
 pub record TellsBadLine (files : Files) (program script : List ℕ) (limits : Limits) : Type 0 where
   pub both : TellsBoth files program script limits
   pub number : ℕ
-  pub first : IsFirstBadLine (start_of both.image limits) both.lines number
+  pub first : IsFirstBadLine (setting_of both.image limits) both.lines number
 
 -- the files that are needed are told
 abbrev pub AreTold : Files → Needs → Type 0

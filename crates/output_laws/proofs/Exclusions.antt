@@ -16,9 +16,9 @@ use Rattle.outcomes.specs.declared.faults.Fault.TheVariants.{Usage, Read, Memory
 use Rattle.outcomes.specs.Causes.{HasBigFile, IsBigScript, IsCauseOf, IsRefusalOf, IsScriptRefusalOf}
 use Rattle.outcomes.specs.Causes.{IsScriptRefused, ReadFailed}
 use Rattle.outcomes.specs.Needs.{Needs, Nothing, Program, Script, needs_by, needs_of}
-use Rattle.outcomes.specs.Outputs.{IsLogOf, IsOutputOf, seed_of}
+use Rattle.outcomes.specs.Outputs.{IsLogOf, IsOutputOf}
 use Rattle.outcomes.specs.Programs.{Files, IsFaulty, IsGood, IsProgram, IsReadAs, IsRefused, IsScript}
-use Rattle.outcomes.specs.Programs.{IsTooBig, asks_of, most_program_bytes, most_script_bytes, start_of}
+use Rattle.outcomes.specs.Programs.{IsTooBig, asks_of, most_program_bytes, most_script_bytes}
 use Rattle.outcomes.specs.Runs.{IsFirstBadLine, IsPlayedRun}
 use Rattle.outcomes.specs.Statuses.{fault_status}
 use Rattle.outcomes.specs.Told.{TellsBadScript, TellsBig, TellsBigFile, TellsBoth, TellsFaulty}
@@ -85,10 +85,10 @@ allowed_not_bad s text log n run first =
 -- the same program and script were taken as are told
 same_start : (files : Files) (program script : List ℕ) (limits : Limits) (image : Image)
     → (both : TellsBoth files program script limits) → IsProgram files program limits image
-    → start_of image limits ≡ start_of both.image limits
+    → setting_of image limits ≡ setting_of both.image limits
 same_start files program script limits image both taken =
     let same = read_as_told files program taken.bytes both.bytes taken.read both.told in
-    one_setting both.bytes image both.image limits 0 (subst (λ b. IsImage b image) same taken.loaded)
+    one_setting both.bytes image both.image limits (subst (λ b. IsImage b image) same taken.loaded)
     both.loaded
 
 -- what an output used of the files that are needed
@@ -97,11 +97,11 @@ AreUsed files Nothing = Unit {0}
 AreUsed files (Program program limits) = (image : Image) × IsProgram files program limits image
 AreUsed files (Script program script limits) =
     (image : Image) × (lines : List ℕ) × (log : List Entry) × IsProgram files program limits image
-    × IsScript files script lines × IsPlayedRun (start_of image limits) lines log
+    × IsScript files script lines × IsPlayedRun (setting_of image limits) lines log
 
 used_by_run : (files : Files) (program : List ℕ) (limits : Limits) (source : words.Source) (image : Image)
     (log : List Entry) → IsProgram files program limits image
-    → IsLogOf files source (setting_of image limits (seed_of source)) log → AreUsed files (needs_by program source limits)
+    → IsLogOf files source (setting_of image limits) log → AreUsed files (needs_by program source limits)
 used_by_run files program limits words.Rule image log taken made = (image, taken)
 used_by_run files program limits (words.Script name) image log taken made =
     (image, made.lines, log, taken, made.read, made.run)
@@ -134,13 +134,13 @@ no_big_file files program script limits both (inr big) = script_fits files progr
 same_first : (files : Files) (program script : List ℕ) (limits : Limits) (n : ℕ)
     → (both : TellsBoth files program script limits)
     → (refused : IsScriptRefused files program script limits n)
-    → IsFirstBadLine (start_of both.image limits) both.lines n
+    → IsFirstBadLine (setting_of both.image limits) both.lines n
 same_first files program script limits n both refused =
     let lines : refused.lines ≡ both.lines =
     read_as_told files script refused.lines both.lines refused.read.read both.script_told in
     let first = subst (λ (s : Setting). IsFirstBadLine s refused.lines n)
     (same_start files program script limits refused.image both refused.taken) refused.first in
-    subst (λ text. IsFirstBadLine (start_of both.image limits) text n) lines first
+    subst (λ text. IsFirstBadLine (setting_of both.image limits) text n) lines first
 
 -- what can't be where good files are told
 no_big_when_good : (files : Files) (needs : Needs) → TellsGoodFiles files needs → ¬ (HasBigFile files needs)
@@ -163,7 +163,7 @@ no_bad_line_when_good : (files : Files) (needs : Needs) (n : ℕ) → TellsGoodF
 no_bad_line_when_good files Nothing n told refused = absurd told
 no_bad_line_when_good files (Program program limits) n told refused = refused
 no_bad_line_when_good files (Script program script limits) n told refused =
-    allowed_not_bad (start_of told.both.image limits) told.both.lines told.log n told.run
+    allowed_not_bad (setting_of told.both.image limits) told.both.lines told.log n told.run
     (same_first files program script limits n told.both refused)
 
 -- a fault comes for a command's needs, for want of memory, or where there is no command
@@ -264,8 +264,8 @@ unused_when_bad_line files (Script program script limits) told used =
     let lines = read_as_told files script used.1 told.both.lines used.4.read told.both.script_told in
     let run = subst (λ (s : Setting). IsPlayedRun s used.1 used.2)
     (same_start files program script limits used.0 told.both used.3) used.5 in
-    allowed_not_bad (start_of told.both.image limits) told.both.lines used.2 told.number
-    (subst (λ text. IsPlayedRun (start_of told.both.image limits) text used.2) lines run) told.first
+    allowed_not_bad (setting_of told.both.image limits) told.both.lines used.2 told.number
+    (subst (λ text. IsPlayedRun (setting_of told.both.image limits) text used.2) lines run) told.first
 
 -- where a bad line is told, the script is refused
 pub fault_when_bad_line : (files : Files) (command : Option words.Command) (old new : List ℕ → ℕ) (fault : Fault)

@@ -4,4 +4,3 @@ pub mod Laws
 mod OneOutput
 mod PlainOutputs
 mod Repeats
-mod Seeds

@@ -11,7 +11,7 @@ use Rattle.block_model.specs.Setting.{Setting, setting_of}
 use Rattle.block_model.proofs.Laws.{one_setting}
 use Rattle.command_words.specs.Commands as words
 use Rattle.outcomes.specs.Needs.{Needs, Nothing, Program, Script, needs_by, needs_of}
-use Rattle.outcomes.specs.Outputs.{IsOutputOf, IsPlainOutputOf, IsPlainRunOf, plain_text, seed_of, setting_for}
+use Rattle.outcomes.specs.Outputs.{IsOutputOf, IsPlainOutputOf, IsPlainRunOf, plain_text, setting_for}
 use Rattle.outcomes.specs.Programs.{Files, IsProgram, asks_of}
 use Rattle.outcomes.specs.Told.{AreTold, TellsGoodFiles}
 use Rattle.output_laws.proofs.Exclusions.{AreUsed, used_by_output}
@@ -24,12 +24,12 @@ one_reading None a b told first second = absurd cc
 one_reading (Some bytes) a b told first second = first ∙ sym second
 
 -- a program that is told starts in one way
-one_start : (files : Files) (name : List ℕ) (limits : Limits) (seed : ℕ) (a b : Image) → IsSome (files name)
+one_start : (files : Files) (name : List ℕ) (limits : Limits) (a b : Image) → IsSome (files name)
     → IsProgram files name limits a → IsProgram files name limits b
-    → setting_of a limits seed ≡ setting_of b limits seed
-one_start files name limits seed a b told first second =
+    → setting_of a limits ≡ setting_of b limits
+one_start files name limits a b told first second =
     let same = one_reading (files name) first.bytes second.bytes told first.read second.read in
-    one_setting second.bytes a b limits seed (subst (λ (x : List ℕ). IsImage x a) same first.loaded)
+    one_setting second.bytes a b limits (subst (λ (x : List ℕ). IsImage x a) same first.loaded)
     second.loaded
 
 -- a script that can be read asks for one list of events
@@ -67,7 +67,7 @@ one_plain : (files : Files) (command : Option words.Command) (a b : List ℕ) �
     → IsPlainOutputOf files command a → IsPlainOutputOf files command b → a ≡ b
 one_plain files None a b quiet told first second = absurd first
 one_plain files (Some command) a b quiet told first second =
-    let start = one_start files command.program command.limits (seed_of command.source) first.image second.image
+    let start = one_start files command.program command.limits first.image second.image
     (program_told files command.program command.source command.limits told) first.taken second.taken in
     let run = one_run files command.program command.source command.limits (setting_for command second.image) first.run
     second.run quiet told

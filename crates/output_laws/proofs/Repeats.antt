@@ -21,16 +21,14 @@ use Rattle.step_log.specs.Text.{entry_line, entry_text, hex_text, kind_word, new
 use Rattle.step_log.proofs.Laws.{length-decimal_32, length-hex_text, length-kind_word-le, log_meanings}
 use Rattle.block_model.specs.Replay.{script_of}
 use Rattle.block_model.specs.Run.{IsBlockRun}
-use Rattle.block_model.specs.Setting.{Setting}
+use Rattle.block_model.specs.Setting.{Setting, setting_of}
 use Rattle.block_model.proofs.Laws.{HaveBytes, all_addresses, all_harts, all_threads, answers_itself, image_bytes, within_limit}
 use Rattle.command_words.specs.declared.table.Shown.{Shown}
 use Rattle.command_words.specs.declared.table.Shown.TheVariants.{Output}
 use Rattle.command_words.specs.Commands.{Command, Source, Rule, Script, Workers}
 use Rattle.outcomes.specs.Outputs.{IsCommandOutput, IsLogOf, IsPlayOutput, log_output, setting_for, shown_text}
 use Rattle.outcomes.specs.Programs.{Files, IsProgram, IsReadAs, ask_in, ask_of, asks_of, most_script_bytes}
-use Rattle.outcomes.specs.Programs.{start_of}
 use Rattle.outcomes.specs.Runs.{IsPlayedRun}
-use Rattle.output_laws.proofs.Seeds.{reseeded_output, reseeded_run}
 
 -- the entry of a program lies in a segment, and so is an address of 64 bits
 entry_within : (n entry : ℕ) (h : ProgramHeader) → is_misplaced n h ≡ false → has_code entry h ≡ true
@@ -148,11 +146,11 @@ taken_again files later program limits image same taken = record {
 
 pub output_again : (files later : Files) (program script : List ℕ) (limits : Limits) (written : List ℕ)
     (image : Image) (log : List Entry) → InRange limits → later program ≡ files program
-    → IsProgram files program limits image → IsBlockRun (start_of image limits) log
-    → written ≡ log_output (start_of image limits) log → IsReadAs later script (log_text log)
+    → IsProgram files program limits image → IsBlockRun (setting_of image limits) log
+    → written ≡ log_output (setting_of image limits) log → IsReadAs later script (log_text log)
     → IsPlayOutput later program script limits written
 output_again files later program script limits written image log range same taken run text read =
-    let fits = run_prints (start_of image limits) log range
+    let fits = run_prints (setting_of image limits) log range
     (entry_fits files program limits image taken) (image_bytes taken.bytes image taken.are_bytes taken.loaded) run in
     record {
       image = image;
@@ -160,8 +158,8 @@ output_again files later program script limits written image log range same take
       log = log;
       made = record {
         lines = log_text log;
-        read = record { read = read; fits = log_fits (start_of image limits) log range run fits };
-        run = played_again (start_of image limits) log run fits;
+        read = record { read = read; fits = log_fits (setting_of image limits) log range run fits };
+        run = played_again (setting_of image limits) log run fits;
       };
       text = text;
     }
@@ -173,7 +171,7 @@ block_run_of files Rule s log made = made.block_run
 block_run_of files (Script name) s log made = made.run.block_run
 block_run_of files (Workers seed) s log made = made.block_run
 
--- a run that draws choices is one without a seed too, with the same text
+-- so it is played again to the same text
 pub printed_again : (files later : Files) (command : Command) (script written : List ℕ)
     → InRange command.limits → command.shown ≡ Output → later command.program ≡ files command.program
     → (output : IsCommandOutput files command written) → IsReadAs later script (log_text output.log)
@@ -181,5 +179,5 @@ pub printed_again : (files later : Files) (command : Command) (script written : 
 printed_again files later command script written range shows same output read =
     let s = setting_for command output.image in
     output_again files later command.program script command.limits written output.image output.log range same
-    output.taken (reseeded_run 0 s output.log (block_run_of files command.source s output.log output.made))
-    (output.text ∙ ap (λ (x : Shown). shown_text x s output.log) shows ∙ sym (reseeded_output 0 s output.log)) read
+    output.taken (block_run_of files command.source s output.log output.made)
+    (output.text ∙ ap (λ (x : Shown). shown_text x s output.log) shows) read

@@ -90,7 +90,6 @@ module _ (k : Kernel) (m : Map) (here : Hart) (busy harts : ℕ) (tid : Tid) (sa
   setting = record {
     program = record { pages = []; entry = 0; phdr = 0; phnum = 0; break_at = break_start_in m };
     limits = record { harts = harts; frames = 0; steps = 0 };
-    seed = 0;
   }
 
   abbrev place : Here

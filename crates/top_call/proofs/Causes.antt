@@ -8,6 +8,7 @@ use Rattle.mach_types.specs.declared.limits.Limits.{Limits}
 use Rattle.elf_load.specs.declared.image.Image.{Image}
 use Rattle.elf_load.specs.Faults.{first_fault}
 use Rattle.outside.specs.Counts.{NeverFalls, NoneFalls, Rose}
+use Rattle.block_model.specs.Setting.{setting_of}
 use Rattle.outcomes.specs.declared.reasons.FileRole.{FileRole}
 use Rattle.outcomes.specs.declared.reasons.FileRole.TheVariants as role
 use Rattle.outcomes.specs.declared.reasons.Reason.{Reason}
@@ -17,7 +18,7 @@ use Rattle.outcomes.specs.Delivery.{IsFileReason, IsLoadReason, IsPlayReason}
 use Rattle.outcomes.specs.ElfPlaces.{place_of}
 use Rattle.outcomes.specs.Needs as need
 use Rattle.outcomes.specs.Programs.{Files, IsProgram, IsReadAs, IsScript, IsTooBig, most_program_bytes}
-use Rattle.outcomes.specs.Programs.{most_script_bytes, start_of}
+use Rattle.outcomes.specs.Programs.{most_script_bytes}
 use Rattle.outcomes.specs.Reasons.{IsBadLine, IsBig, IsReasonFor, IsReasonOf, IsRefusalAbout}
 use Rattle.outcomes.specs.Reasons.{IsScriptRefusalFor, IsUnread, fault_told}
 
@@ -124,7 +125,7 @@ unread_script files same program script limits image old mid new said (Unwritten
 pub unplayed : (files same : Files) (program script lines text : List ℕ) (limits : Limits) (image : Image)
     (old new : List ℕ → ℕ) (said : Option ErrorKind) (reason : Reason) → same ≡ files → text ≡ lines
     → IsProgram files program limits image
-    → IsScript same script lines → IsPlayReason (start_of image limits) text reason
+    → IsScript same script lines → IsPlayReason (setting_of image limits) text reason
     → IsReasonFor files (need.Script program script limits) old new said reason
 unplayed files same program script lines text limits image old new said (Words fault) is equal taken read why =
     absurd why
@@ -136,7 +137,7 @@ unplayed files same program script lines text limits image old new said (TooBig 
 unplayed files same program script lines text limits image old new said (Elf fault about) is equal taken read why =
     absurd why
 unplayed files same program script lines text limits image old new said (Script number fault) is equal taken read why =
-    let bad = subst (λ t. IsBadLine (start_of image limits) t number fault) equal why in
+    let bad = subst (λ t. IsBadLine (setting_of image limits) t number fault) equal why in
     record {
       refused = record {
         image = image;

@@ -5,20 +5,20 @@ use Rattle.elf_load.specs.declared.image.Image.{Image}
 use Rattle.block_model.specs.Run.{IsBlockRun}
 use Rattle.block_model.specs.Setting.{Setting, Seen, setting_of}
 use Rattle.command_words.specs.Commands.{Command, Source, Rule, Script, Workers}
-use Rattle.outcomes.specs.Outputs.{HasRun, IsCommandOutput, seed_of, shown_text}
-use Rattle.outcomes.specs.Programs.{Files, IsProgram, IsScript, start_of}
+use Rattle.outcomes.specs.Outputs.{HasRun, IsCommandOutput, shown_text}
+use Rattle.outcomes.specs.Programs.{Files, IsProgram, IsScript}
 use Rattle.outcomes.specs.Runs.{IsPlayedRun, IsWholePlay, IsWholeRun, IsWholeSolo}
 use Rattle.output_laws.proofs.Laws.{block_run_of}
 
 pub run_by_rule : (files : Files) (program : List ℕ) (limits : Limits) (image : Image) (m : Seen)
-    → IsProgram files program limits image → IsWholeSolo (start_of image limits) m
+    → IsProgram files program limits image → IsWholeSolo (setting_of image limits) m
     → HasRun files program Rule limits image m
 run_by_rule files program limits image m taken whole =
     record { taken = taken; setting = whole.setting; made = whole.run }
 
 pub run_by_script : (files same : Files) (program script lines given : List ℕ) (limits : Limits)
     (image : Image) (m : Seen) → same ≡ files → given ≡ lines → IsProgram files program limits image
-    → IsScript same script lines → IsWholePlay (start_of image limits) given m
+    → IsScript same script lines → IsWholePlay (setting_of image limits) given m
     → HasRun files program (Script script) limits image m
 run_by_script files same program script lines given limits image m is equal taken read whole = record {
   taken = taken;
@@ -26,12 +26,12 @@ run_by_script files same program script lines given limits image m is equal take
   made = record {
     lines = lines;
     read = subst (λ f. IsScript f script lines) is read;
-    run = subst (λ t. IsPlayedRun (start_of image limits) t m.log) equal whole.run;
+    run = subst (λ t. IsPlayedRun (setting_of image limits) t m.log) equal whole.run;
   };
 }
 
 pub run_by_workers : (files : Files) (program : List ℕ) (limits : Limits) (seed : ℕ) (image : Image) (m : Seen)
-    → IsProgram files program limits image → IsWholeRun (setting_of image limits seed) m
+    → IsProgram files program limits image → IsWholeRun (setting_of image limits) seed m
     → HasRun files program (Workers seed) limits image m
 run_by_workers files program limits seed image m taken whole =
     record { taken = taken; setting = whole.setting; made = whole.run }
@@ -41,7 +41,7 @@ pub block_run_at_end : (files : Files) (program : List ℕ) (source : Source) (l
     → HasRun files program source limits image m → IsBlockRun m.setting m.log
 block_run_at_end files program source limits image m run =
     subst (λ (s : Setting). IsBlockRun s m.log) (sym run.setting)
-    (block_run_of files source (setting_of image limits (seed_of source)) m.log run.made)
+    (block_run_of files source (setting_of image limits) m.log run.made)
 
 -- what the command shows of it is its output
 pub output_of_run : (files : Files) (command : Command) (image : Image) (m : Seen) (text : List ℕ)

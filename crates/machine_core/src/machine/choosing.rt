@@ -20,10 +20,11 @@ impl Machine {
     /// `Ended` comes exactly where the run has ended or the log is full, and `NoneNow` where neither holds and the hart has
     /// nothing to do now, as a hart that the machine hasn't. Each entry of the log was chosen so.
     pub fn advance(&mut self, hart: Hart) -> Advance
-        requires chosen { IsChosen self.old.setting self.old.log }
-        ensures answer { result ≡ advance_at self.old.setting hart.0 (history self.old.setting self.old.log) }
+        requires chosen { IsChosen self.old.setting self.old.seed self.old.log }
+        ensures answer { result
+            ≡ advance_at self.old.setting self.old.seed hart.0 (history self.old.setting self.old.log) }
         ensures log { self.new ≡ record self.old { log = self.old.log ++ made_in result } }
-        ensures chosen { IsChosen self.new.setting self.new.log }
+        ensures chosen { IsChosen self.new.setting self.new.seed self.new.log }
         ensures block_run { IsBlockRun self.new.setting self.new.log }
     {
         if self.has_ended() {
@@ -44,7 +45,7 @@ impl Machine {
 
     /// Whether every entry so far was the choice of its hart.
     pub(crate) fn is_chosen(&self) -> bool
-        ensures { result ≡ all_chosen self.now.setting (history self.now.setting self.now.log) }
+        ensures { result ≡ all_chosen self.now.setting self.now.seed (history self.now.setting self.now.log) }
     {
         self.chosen
     }
@@ -52,7 +53,7 @@ impl Machine {
     /// [`Machine::step`] of a hart of the machine, where the run goes on and every entry so far was the choice of its hart.
     #[inline(never)]
     pub(crate) fn step_chosen(&mut self, hart: Hart, choice: Choice) -> Result<Entry, Refused>
-        requires chosen { IsChosen self.old.setting self.old.log }
+        requires chosen { IsChosen self.old.setting self.old.seed self.old.log }
         requires goes { has_ended self.old.setting (history self.old.setting self.old.log) ≡ false }
         requires hart { hart.0 < self.old.setting.limits.harts }
         ensures answer { result
@@ -68,13 +69,13 @@ impl Machine {
 
     /// The same where this is what is seen of the hart.
     fn step_seen(&mut self, hart: Hart, choice: Choice, sight: &Sight) -> Result<Entry, Refused>
-        requires chosen { IsChosen self.old.setting self.old.log }
+        requires chosen { IsChosen self.old.setting self.old.seed self.old.log }
         requires goes { has_ended self.old.setting (history self.old.setting self.old.log) ≡ false }
         requires hart { hart.0 < self.old.setting.limits.harts }
         requires sight { sight.now
             ≡ sight_in (here_in_history self.old.setting (history self.old.setting self.old.log) hart.0)
             (ran hart.0 (history self.old.setting self.old.log))
-            (credit_at self.old.setting hart.0 (history self.old.setting self.old.log)) }
+            (credit_at self.old.setting self.old.seed hart.0 (history self.old.setting self.old.log)) }
         ensures answer { result
             ≡ decide self.old.setting (history self.old.setting self.old.log) hart.0 choice }
         ensures of { IfOk result (λ e. (e.hart ≡ hart) × (choice_of e ≡ choice)) }

@@ -95,9 +95,9 @@ impl Machine {
     /// or where the hart doesn't execute its next instruction on credit. Each entry of the log was made by
     /// [`Machine::advance`].
     pub fn lend_local(&self, hart: Hart) -> Option<Stretch>
-        requires chosen { IsChosen self.now.setting self.now.log }
+        requires chosen { IsChosen self.now.setting self.now.seed self.now.log }
         ensures { option_map stretch_of result
-            ≡ lent self.now.setting hart.0 (history self.now.setting self.now.log) }
+            ≡ lent self.now.setting self.now.seed hart.0 (history self.now.setting self.now.log) }
     {
         if self.has_ended() || hart.0 >= self.limits.harts {
             return None;
@@ -112,13 +112,14 @@ impl Machine {
     ///
     /// [`work`]: crate::work
     pub fn append_local(&mut self, hart: Hart, stretch: Stretch) -> u32
-        requires chosen { IsChosen self.old.setting self.old.log }
-        requires fits { IsStretchOf self.old.setting hart.0 self.old.log (stretch_of stretch) }
+        requires chosen { IsChosen self.old.setting self.old.seed self.old.log }
+        requires fits { IsStretchOf self.old.setting self.old.seed hart.0 self.old.log (stretch_of stretch) }
         ensures count { result
             ≡ appended self.old.setting hart.0 (history self.old.setting self.old.log) (stretch_of stretch) }
         ensures setting { self.new.setting ≡ self.old.setting }
-        ensures log { advanced self.old.setting hart.0 result self.old.log ≡ Some self.new.log }
-        ensures chosen { IsChosen self.new.setting self.new.log }
+        ensures seed { self.new.seed ≡ self.old.seed }
+        ensures log { advanced self.old.setting self.old.seed hart.0 result self.old.log ≡ Some self.new.log }
+        ensures chosen { IsChosen self.new.setting self.new.seed self.new.log }
         ensures block_run { IsBlockRun self.new.setting self.new.log }
     {
         if self.has_ended() || stretch.pcs.is_empty() || self.hart(hart).events != stretch.events {
@@ -137,12 +138,13 @@ impl Machine {
 
     /// Makes the next entry of a hart so many times, where it makes so many.
     fn advance_often(&mut self, hart: Hart, count: u32)
-        requires chosen { IsChosen self.old.setting self.old.log }
+        requires chosen { IsChosen self.old.setting self.old.seed self.old.log }
         requires block_run { IsBlockRun self.old.setting self.old.log }
-        requires makes { IsSome (advanced self.old.setting hart.0 count self.old.log) }
+        requires makes { IsSome (advanced self.old.setting self.old.seed hart.0 count self.old.log) }
         ensures setting { self.new.setting ≡ self.old.setting }
-        ensures log { advanced self.old.setting hart.0 count self.old.log ≡ Some self.new.log }
-        ensures chosen { IsChosen self.new.setting self.new.log }
+        ensures seed { self.new.seed ≡ self.old.seed }
+        ensures log { advanced self.old.setting self.old.seed hart.0 count self.old.log ≡ Some self.new.log }
+        ensures chosen { IsChosen self.new.setting self.new.seed self.new.log }
         ensures block_run { IsBlockRun self.new.setting self.new.log }
     {
         for _ in 0..count {
@@ -152,15 +154,16 @@ impl Machine {
 
     /// Appends a stretch for all of whose instructions the log has room.
     fn append_whole(&mut self, hart: Hart, stretch: Stretch)
-        requires chosen { IsChosen self.old.setting self.old.log }
-        requires fits { IsStretchOf self.old.setting hart.0 self.old.log (stretch_of stretch) }
+        requires chosen { IsChosen self.old.setting self.old.seed self.old.log }
+        requires fits { IsStretchOf self.old.setting self.old.seed hart.0 self.old.log (stretch_of stretch) }
         requires events { events hart.0 (history self.old.setting self.old.log) ≡ stretch.events }
         requires goes { has_ended self.old.setting (history self.old.setting self.old.log) ≡ false }
         requires room { length self.old.log + length stretch.pcs.items ≤ self.old.setting.limits.steps }
         ensures setting { self.new.setting ≡ self.old.setting }
-        ensures log { advanced self.old.setting hart.0 (length stretch.pcs.items) self.old.log
+        ensures seed { self.new.seed ≡ self.old.seed }
+        ensures log { advanced self.old.setting self.old.seed hart.0 (length stretch.pcs.items) self.old.log
             ≡ Some self.new.log }
-        ensures chosen { IsChosen self.new.setting self.new.log }
+        ensures chosen { IsChosen self.new.setting self.new.seed self.new.log }
         ensures block_run { IsBlockRun self.new.setting self.new.log }
     {
         let state = &mut self.parts.harts[hart.0 as usize];

@@ -41,7 +41,7 @@ impl Machine {
             ≡ hart_in (here_in_history self.now.setting (history self.now.setting self.now.log) hart.0)
             (ran hart.0 (history self.now.setting self.now.log))
             (events hart.0 (history self.now.setting self.now.log))
-            (credit_at self.now.setting hart.0 (history self.now.setting self.now.log)) }
+            (credit_at self.now.setting self.now.seed hart.0 (history self.now.setting self.now.log)) }
     {
         &self.parts.harts[hart.0 as usize]
     }
@@ -128,7 +128,7 @@ impl Machine {
         ensures { result
             ≡ sight_in (here_in_history self.now.setting (history self.now.setting self.now.log) hart.0)
             (ran hart.0 (history self.now.setting self.now.log))
-            (credit_at self.now.setting hart.0 (history self.now.setting self.now.log)) }
+            (credit_at self.now.setting self.now.seed hart.0 (history self.now.setting self.now.log)) }
     {
         let state = self.hart(hart);
         let next = next_of(&self.code, &self.parts.pages, state);

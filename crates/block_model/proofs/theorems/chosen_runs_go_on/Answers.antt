@@ -3,7 +3,7 @@ use Rattle.block_model.proofs.Laws.{chosen_start, chosen_more, chosen_shorter}
 
 pub returns : goal.returns
 returns c = record {
-  start = λ s. chosen_start s;
-  more = λ s log h e run chosen next. chosen_more s log h e run chosen next;
-  shorter = λ s log more chosen. chosen_shorter s log more chosen;
+  start = λ s seed. chosen_start s seed;
+  more = λ s seed log h e run chosen next. chosen_more s seed log h e run chosen next;
+  shorter = λ s seed log more chosen. chosen_shorter s seed log more chosen;
 }

@@ -1,4 +1,4 @@
-use Rattle.std.proofs.Common.{◌≡◌, ◌∙◌, ◌<◌, ◌^◌, List, ap, length, subst, sym}
+use Rattle.std.proofs.Common.{◌<◌, ◌^◌, ◌∙◌, List, ap, length, subst, sym}
 use Rattle.block_model.specs.Run.{IsBlockRun}
 use Rattle.block_model.specs.Setting.{Setting, setting_of}
 use Rattle.block_view.specs.Acts.{acts_of}
@@ -10,24 +10,21 @@ use Rattle.command_runs.proofs.acts.acts_of_run.Goals as goal
 
 pub unreachable-requires : goal.unreachable-requires
 unreachable-requires c =
-    let s = setting_of c.args.image.now c.args.command.now.limits c.seed_of-seed.result in
-    let same : c.args.machine.now.setting ≡ s = c.requires.setting
-    ∙ ap (setting_of c.args.image.now c.args.command.now.limits) (sym c.seed_of-seed.ensures) in
+    let s = setting_of c.args.image.now c.args.command.now.limits in
     let cause = subst (λ (fault : ViewFault). IsViewCause s c.log.result.now fault) c.in-Err-NotARun.field-0-is
     c.in-Err-NotARun.ensures.cause in
     none_refused s c.log.result.now c.in-Err-NotARun.field-0-0
-    (subst (λ (setting : Setting). IsBlockRun setting c.log.result.now) same
+    (subst (λ (setting : Setting). IsBlockRun setting c.log.result.now) c.requires.setting
     (subst (λ log. IsBlockRun c.args.machine.now.setting log) (sym c.log.ensures) c.requires.run)) cause
 
 pub returns-in-Ok-clause-acts : goal.returns-in-Ok-clause-acts
 returns-in-Ok-clause-acts c =
-    let s = setting_of c.args.image.now c.args.command.now.limits c.seed_of-seed.result in
-    let same : s ≡ c.args.machine.now.setting =
-    ap (setting_of c.args.image.now c.args.command.now.limits) c.seed_of-seed.ensures ∙ sym c.requires.setting in
-    c.in-Ok.ensures.acts.acts ∙ ap (acts_of s) c.log.ensures ∙ ap (λ setting. acts_of setting c.args.machine.now.log) same
+    let s = setting_of c.args.image.now c.args.command.now.limits in
+    c.in-Ok.ensures.acts.acts ∙ ap (acts_of s) c.log.ensures
+    ∙ ap (λ setting. acts_of setting c.args.machine.now.log) (sym c.requires.setting)
 
 pub returns-in-Ok-clause-few : goal.returns-in-Ok-clause-few
 returns-in-Ok-clause-few c =
-    let s = setting_of c.args.image.now c.args.command.now.limits c.seed_of-seed.result in
+    let s = setting_of c.args.image.now c.args.command.now.limits in
     subst (λ (acts : List Act). length acts < 2 ^ 32) (sym c.in-Ok.ensures.acts.acts)
     (few_acts s c.log.result.now c.requires.limits c.in-Ok.ensures.acts.block_run)

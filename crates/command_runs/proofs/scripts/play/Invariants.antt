@@ -1,10 +1,10 @@
+use Rattle.block_model.specs.Setting.{setting_of}
 use Rattle.std.proofs.Common.{◌≡◌, length}
-use Rattle.outcomes.specs.Programs.{start_of}
 use Rattle.command_runs.specs.Playing.{IsPlaying}
 use Rattle.command_runs.proofs.scripts.play.Given as goal
 
 abbrev pub invariant-lines : goal.invariant-lines
-invariant-lines l = (l.machine.setting ≡ start_of l.fn.image l.fn.limits)
+invariant-lines l = (l.machine.setting ≡ setting_of l.fn.image l.fn.limits)
     × IsPlaying l.fn.script l.machine l.reader
 
 abbrev pub decreases-lines : goal.decreases-lines

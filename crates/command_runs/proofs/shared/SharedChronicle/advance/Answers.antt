@@ -4,6 +4,7 @@ use Rattle.block_model.specs.Deciding.{history}
 use Rattle.block_model.specs.Setting.{Seen}
 use Rattle.block_model.proofs.Laws.{within_limit}
 use Rattle.machine_core.specs.Advancing.{made_in}
+use Rattle.command_runs.specs.Sharing.{start_in}
 use Rattle.command_runs.proofs.Chosen.{advanced}
 use Rattle.command_runs.proofs.shared.SharedChronicle.advance.Goals as goal
 
@@ -21,8 +22,8 @@ invariant_of-self c =
 pub returns-clause-advanced : goal.returns-clause-advanced
 returns-clause-advanced c =
     let m = c.args.self.now.machine.value in
-    advanced m.setting m.log c.args.hart c.advance.result c.advance.new.self.log
-    (subst (λ (v : Seen). c.advance.result ≡ advance_at v.setting c.args.hart.0 (history v.setting v.log)) c.deref_mut.ensures.value
+    advanced (start_in c.args.self.now) m.log c.args.hart c.advance.result c.advance.new.self.log
+    (subst (λ (v : Seen). c.advance.result ≡ advance_at v.setting v.seed c.args.hart.0 (history v.setting v.log)) c.deref_mut.ensures.value
     c.advance.ensures.answer)
     (subst (λ (v : Seen). c.advance.new.self.log ≡ v.log ++ made_in c.advance.result) c.deref_mut.ensures.value
     (ap (λ (v : Seen). v.log) c.advance.ensures.log))

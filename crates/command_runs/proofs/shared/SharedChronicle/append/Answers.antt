@@ -3,6 +3,7 @@ use Rattle.block_model.specs.Choosing.{IsChosen}
 use Rattle.block_model.specs.Setting.{Seen, Setting}
 use Rattle.block_model.specs.Stretches.{advanced}
 use Rattle.block_model.proofs.Laws.{within_limit}
+use Rattle.command_runs.specs.Sharing.{start_in}
 use Rattle.command_runs.proofs.Stretches.{adds_advanced}
 use Rattle.command_runs.proofs.shared.SharedChronicle.append.Goals as goal
 
@@ -20,6 +21,6 @@ invariant_of-self c =
 pub returns-clause-appended : goal.returns-clause-appended
 returns-clause-appended c =
     let m = c.args.self.now.machine.value in
-    adds_advanced m.setting c.args.hart c.append_local.result m.log c.append_local.new.self.log
-    (subst (λ (v : Seen). advanced v.setting c.args.hart.0 c.append_local.result v.log ≡ Some c.append_local.new.self.log)
+    adds_advanced (start_in c.args.self.now) c.args.hart c.append_local.result m.log c.append_local.new.self.log
+    (subst (λ (v : Seen). advanced v.setting v.seed c.args.hart.0 c.append_local.result v.log ≡ Some c.append_local.new.self.log)
     c.deref_mut.ensures.value c.append_local.ensures.log)

@@ -10,6 +10,6 @@ use Rattle.command_runs.proofs.shared.SharedChronicle.lend.Goals as goal
 pub returns-clause-fits : goal.returns-clause-fits
 returns-clause-fits c =
     let m = c.args.self.now.machine.value in
-    stretches_lent m.setting c.args.hart.0 m.log c.lend_local.result
-    (subst (λ (v : Seen). option_map stretch_of c.lend_local.result ≡ lent v.setting c.args.hart.0 (history v.setting v.log))
+    stretches_lent m.setting m.seed c.args.hart.0 m.log c.lend_local.result
+    (subst (λ (v : Seen). option_map stretch_of c.lend_local.result ≡ lent v.setting v.seed c.args.hart.0 (history v.setting v.log))
     c.deref.ensures c.lend_local.ensures)

@@ -9,22 +9,22 @@ use Rattle.machine_core.proofs.machine.Machine.advance.Goals as goal
 pub returns-then-has_ended-clause-answer : goal.returns-then-has_ended-clause-answer
 returns-then-has_ended-clause-answer c =
     let m = c.self.inside in
-    rw (← c.self.view_is) (answers_ended (setting_of m) c.args.hart.0 (past_of m) (rw (← c.self.view_is) at (sym c.has_ended.ensures.answer ∙ c.if-has_ended.true)))
+    rw (← c.self.view_is) (answers_ended (setting_of m) m.seed c.args.hart.0 (past_of m) (rw (← c.self.view_is) at (sym c.has_ended.ensures.answer ∙ c.if-has_ended.true)))
 
 pub returns-then-hart-self-clause-answer : goal.returns-then-hart-self-clause-answer
 returns-then-hart-self-clause-answer c =
     let m = c.self.inside in
-    rw (← c.self.view_is) (answers_past (setting_of m) c.args.hart.0 (past_of m) (rw (← c.self.view_is) at (sym c.has_ended.ensures.answer ∙ c.if-has_ended.false)) c.if-hart-self.true)
+    rw (← c.self.view_is) (answers_past (setting_of m) m.seed c.args.hart.0 (past_of m) (rw (← c.self.view_is) at (sym c.has_ended.ensures.answer ∙ c.if-has_ended.false)) c.if-hart-self.true)
 
 pub returns-in_default-clause-answer : goal.returns-in_default-clause-answer
 returns-in_default-clause-answer c =
     let m = c.self.inside in
     let h = c.args.hart.0 in
-    let chosen : IsChosen (setting_of m) m.log.items = rw (← c.self.view_is) at c.requires.chosen in
+    let chosen : IsChosen (setting_of m) m.seed m.log.items = rw (← c.self.view_is) at c.requires.chosen in
     let going = rw (← c.self.view_is) at (sym c.has_ended.ensures.answer ∙ c.if-has_ended.false) in
-    let picked = machine_picks m h c.sight-sight.result None c.self.invariant (all_of (setting_of m) m.log.items chosen) c.if-hart-self.false
+    let picked = machine_picks m h c.sight-sight.result None c.self.invariant (all_of (setting_of m) m.seed m.log.items chosen) c.if-hart-self.false
     (rw (← c.self.view_is) at c.sight-sight.ensures) (sym c.in_default.is ∙ c.peek.ensures) in
-    rw (← c.self.view_is) (answers_none (setting_of m) h (past_of m) going c.if-hart-self.false picked)
+    rw (← c.self.view_is) (answers_none (setting_of m) m.seed h (past_of m) going c.if-hart-self.false picked)
 
 pub unreachable-requires : goal.unreachable-requires
 unreachable-requires c =
@@ -42,14 +42,14 @@ returns-clause-answer c =
     let going = rw (← c.self.view_is) at (sym c.has_ended.ensures.answer ∙ c.if-has_ended.false) in
     let is = turn_picks m h c.sight-sight.result c.in-Some.pick c.self.invariant (rw (← c.self.view_is) at c.requires.chosen) going c.if-hart-self.false
     (rw (← c.self.view_is) at c.sight-sight.ensures) (sym c.in-Some.is ∙ c.peek.ensures) in
-    rw (← c.self.view_is) (answers_made (setting_of m) h (past_of m) c.in-Some.pick c.in-Ok.entry going c.if-hart-self.false is.picked
+    rw (← c.self.view_is) (answers_made (setting_of m) m.seed h (past_of m) c.in-Some.pick c.in-Ok.entry going c.if-hart-self.false is.picked
     (same_entry _ _ (sym c.in-Ok.is ∙ ((rw (← c.self.view_is) at c.step_seen.ensures.answer) ∙ is.decided))))
 
 pub returns-clause-chosen : goal.returns-clause-chosen
 returns-clause-chosen c =
     let m = c.self.inside in
     let h = c.args.hart.0 in
-    let chosen : IsChosen (setting_of m) m.log.items = rw (← c.self.view_is) at c.requires.chosen in
+    let chosen : IsChosen (setting_of m) m.seed m.log.items = rw (← c.self.view_is) at c.requires.chosen in
     let going = rw (← c.self.view_is) at (sym c.has_ended.ensures.answer ∙ c.if-has_ended.false) in
     let is = turn_picks m h c.sight-sight.result c.in-Some.pick c.self.invariant chosen going c.if-hart-self.false
     (rw (← c.self.view_is) at c.sight-sight.ensures) (sym c.in-Some.is ∙ c.peek.ensures) in
@@ -57,4 +57,4 @@ returns-clause-chosen c =
     let same = same_entry _ _ (sym c.in-Ok.is ∙ ((rw (← c.self.view_is) at c.step_seen.ensures.answer) ∙ is.decided)) in
     let new = IfOk-at_ok (λ f. c.step_seen.new.self ≡ record (seen m) { log = m.log.items ++ f ∷ [] }) c.in-Ok.is (rw (← c.self.view_is) at c.step_seen.ensures.ok) in
     let whole : c.step_seen.new.self ≡ record (seen m) { log = m.log.items ++ e ∷ [] } = new ∙ ap (λ f. let v : Seen = record (seen m) { log = m.log.items ++ f ∷ [] } in v) same in
-    subst (λ (v : Seen). IsChosen v.setting v.log) (sym whole) (chosen_more (setting_of m) m.log.items h e c.self.invariant.run chosen is.next).1
+    subst (λ (v : Seen). IsChosen v.setting v.seed v.log) (sym whole) (chosen_more (setting_of m) m.seed m.log.items h e c.self.invariant.run chosen is.next).1

@@ -1,4 +1,4 @@
-use Rattle.std.proofs.Common.{arith, ◌≡◌, ◌+◌, ap, subst, sym, ◌∙◌}
+use Rattle.std.proofs.Common.{arith, ◌≡◌, ℕ, ◌+◌, ap, ap₂, subst, sym, ◌∙◌}
 use Rattle.block_model.specs.Choosing.{advance_at}
 use Rattle.block_model.specs.Deciding.{history}
 use Rattle.block_model.specs.Setting.{Seen, Setting}
@@ -8,20 +8,23 @@ use Rattle.machine_core.proofs.machine.Machine.advance_often.Goals as goal
 pub loop-preserved : goal.loop-preserved
 loop-preserved c =
     let s = c.args.self.now.setting in
+    let seed = c.args.self.now.seed in
     let h = c.args.hart.0 in
     let begun = c.args.self.now.log in
     let now = c.loop.self.log in
     let same : c.loop.self.setting ≡ s = c.loop.invariant.0 in
-    let is = c.advance.ensures.answer ∙ ap (λ (x : Setting). advance_at x h (history x now)) same in
-    let way = goes_its_way s h begun now c.loop.counter c.args.count c.advance.result c.loop.invariant.3 c.loop-test.true c.requires.makes is in
+    let same_seed : c.loop.self.seed ≡ seed = c.loop.invariant.1 in
+    let is = c.advance.ensures.answer ∙ ap₂ (λ (x : Setting) (n : ℕ). advance_at x n h (history x now)) same same_seed in
+    let way = goes_its_way s seed h begun now c.loop.counter c.args.count c.advance.result c.loop.invariant.4 c.loop-test.true c.requires.makes is in
     let log = ap (λ (v : Seen). v.log) c.advance.ensures.log in (
       ap (λ (v : Seen). v.setting) c.advance.ensures.log ∙ same,
+      ap (λ (v : Seen). v.seed) c.advance.ensures.log ∙ same_seed,
       c.advance.ensures.chosen,
       c.advance.ensures.block_run,
-      subst (λ l. IsOnItsWay s h begun l (c.loop.counter + 1) c.args.count) (sym log) way,
+      subst (λ l. IsOnItsWay s seed h begun l (c.loop.counter + 1) c.args.count) (sym log) way,
     )
 
 pub returns-clause-log : goal.returns-clause-log
 returns-clause-log c =
     let none_left : c.loop.counter ≡ c.args.count = omega (arith, c.loop.auto.counter-end, c.loop-test.false) in
-    is_there c.args.self.now.setting c.args.hart.0 c.args.self.now.log c.loop.self.log c.loop.counter c.args.count c.loop.invariant.3 none_left
+    is_there c.args.self.now.setting c.args.self.now.seed c.args.hart.0 c.args.self.now.log c.loop.self.log c.loop.counter c.args.count c.loop.invariant.4 none_left

@@ -6,7 +6,7 @@ use Rattle.machine_core.proofs.StretchAppends.{appended_is, has_room, makes}
 use Rattle.machine_core.proofs.machine.Machine.append_local.Goals as goal
 
 pub hart-requires : goal.hart-requires
-hart-requires c = (is_lent c.args.self.now.setting c.args.hart.0 (history c.args.self.now.setting c.requires.fits.lent_at) c.requires.fits.first c.requires.fits.began).lt
+hart-requires c = (is_lent c.args.self.now.setting c.args.self.now.seed c.args.hart.0 (history c.args.self.now.setting c.requires.fits.lent_at) c.requires.fits.first c.requires.fits.began).lt
 
 pub overflow_cast-room : goal.overflow_cast-room
 overflow_cast-room c =

@@ -40,8 +40,8 @@ invariant_of-self c =
     let log : c.append_executed.new.log.items ≡ m.log.items ++ map (executed h c.in-Some.tid) l.pcs =
     c.append_executed.ensures.items ∙ ap (λ pcs. m.log.items ++ map (executed h c.in-Some.tid) pcs) c.as_slice.ensures.value in
     let machine = c.self.invariant in
-    let set = subst (λ y. IsSettled (setting_of m) (m.log.items ++ map (executed h c.in-Some.tid) l.pcs) (with_hart m h.0 y) m.chooser true) (sym c.take_in.ensures) all.settled in
-    let chosen_so : m.chosen ≡ true = machine.chosen ∙ sym (all_of (setting_of m) m.log.items (rw (← c.self.view_is) at c.requires.chosen)) in
+    let set = subst (λ y. IsSettled (setting_of m) m.seed (m.log.items ++ map (executed h c.in-Some.tid) l.pcs) (with_hart m h.0 y) m.chooser true) (sym c.take_in.ensures) all.settled in
+    let chosen_so : m.chosen ≡ true = machine.chosen ∙ sym (all_of (setting_of m) m.seed m.log.items (rw (← c.self.view_is) at c.requires.chosen)) in
     record {
       run = rw log all.run;
       tied = rw log set.tied;
@@ -64,7 +64,8 @@ returns c =
     c.append_executed.ensures.items ∙ ap (λ pcs. m.log.items ++ map (executed h c.in-Some.tid) pcs) c.as_slice.ensures.value in
     record {
       setting = rw (← c.self.view_is) refl;
+      seed = rw (← c.self.view_is) refl;
       log = rw (← c.self.view_is) (all.log_after ∙ ap Some (sym log));
-      chosen = chosen_of (setting_of m) c.append_executed.new.log.items (rw log all.settled.chosen);
+      chosen = chosen_of (setting_of m) m.seed c.append_executed.new.log.items (rw log all.settled.chosen);
       block_run = rw log all.run;
     }

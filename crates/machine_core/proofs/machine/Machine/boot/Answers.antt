@@ -20,13 +20,13 @@ invariant_of-result c =
       ended = None;
     } in
     let first : c.in_ok-threads.threads ≡ start_table (start_file (program_of c.args.image.now)) = c.in_ok-threads.ensures.start ∙ ap start_table c.first_file.ensures in
-    let tied = tied-start c.args.image.now c.args.limits c.args.seed parts c.requires.image.permissions c.in_ok-pages.ensures.permissions c.in_ok-pages.ensures.held (c.in_ok-pages.ensures.free ∙ c.in_ok-pool.ensures.free) c.in_ok-pages.ensures.break_at c.in_ok-pages.ensures.break_start c.in_ok-harts.ensures.count c.in_ok-harts.ensures.idle first c.new-signals.ensures c.new-ready.ensures refl c.in_ok-console.ensures (ap areas_by_number c.new-areas.ensures) c.in_ok-threads.ensures.table refl in
+    let tied = tied-start c.args.image.now c.args.limits parts c.requires.image.permissions c.in_ok-pages.ensures.permissions c.in_ok-pages.ensures.held (c.in_ok-pages.ensures.free ∙ c.in_ok-pool.ensures.free) c.in_ok-pages.ensures.break_at c.in_ok-pages.ensures.break_start c.in_ok-harts.ensures.count c.in_ok-harts.ensures.idle first c.new-signals.ensures c.new-ready.ensures refl c.in_ok-console.ensures (ap areas_by_number c.new-areas.ensures) c.in_ok-threads.ensures.table refl in
     record {
-      run = rw (c.in_ok-log.ensures.items, same_pages) (start_run (setting_by c.args.image.now c.args.limits c.args.seed));
-      tied = rw (c.in_ok-log.ensures.items, same_pages, start_plain (setting_by c.args.image.now c.args.limits c.args.seed)) tied;
-      chosen = rw (c.in_ok-log.ensures.items, same_pages) (none_made (setting_by c.args.image.now c.args.limits c.args.seed));
-      credits = λ h lt. rw (c.in_ok-log.ensures.items, same_pages) (credits_start (setting_by c.args.image.now c.args.limits c.args.seed) c.in_ok-harts.harts.items h c.in_ok-harts.ensures.idle (omega (arith, lt, c.in_ok-harts.ensures.count)));
-      generators = λ chosen h lt. rw (c.in_ok-log.ensures.items, same_pages, c.new-chooser.ensures) (generators_start (setting_by c.args.image.now c.args.limits c.args.seed) h (omega (arith, lt, c.requires.limits.eight_harts)));
+      run = rw (c.in_ok-log.ensures.items, same_pages) (start_run (setting_by c.args.image.now c.args.limits));
+      tied = rw (c.in_ok-log.ensures.items, same_pages, start_plain (setting_by c.args.image.now c.args.limits)) tied;
+      chosen = rw (c.in_ok-log.ensures.items, same_pages) (none_made (setting_by c.args.image.now c.args.limits) c.args.seed);
+      credits = λ h lt. rw (c.in_ok-log.ensures.items, same_pages) (credits_start (setting_by c.args.image.now c.args.limits) c.args.seed c.in_ok-harts.harts.items h c.in_ok-harts.ensures.idle (omega (arith, lt, c.in_ok-harts.ensures.count)));
+      generators = λ chosen h lt. rw (c.in_ok-log.ensures.items, same_pages, c.new-chooser.ensures) (generators_start (setting_by c.args.image.now c.args.limits) c.args.seed h (omega (arith, lt, c.requires.limits.eight_harts)));
       held = ap length c.new-chooser.ensures;
       limits = c.requires.limits;
       room = c.in_ok-log.ensures.capacity;

@@ -11,7 +11,7 @@ returns-else-is_idle c =
     let m = c.self.inside in
     let h = c.args.hart.0 in
     let x = c.hart-state.result.now in
-    let here : x ≡ hart_in (here_read m h) (ran h (history_of m)) (events h (history_of m)) (credit_at (setting_of m) h (history_of m)) = rw (← c.self.view_is) at c.hart-state.ensures in
+    let here : x ≡ hart_in (here_read m h) (ran h (history_of m)) (events h (history_of m)) (credit_at (setting_of m) m.seed h (history_of m)) = rw (← c.self.view_is) at c.hart-state.ensures in
     rw (← c.self.view_is) (c.effect_of_next.ensures ∙ effect_read (here_read m h) x _ _ _ here (is_busy x.running c.is_idle.result c.is_idle.ensures c.if-is_idle.false))
 
 pub returns-then-is_idle : goal.returns-then-is_idle
@@ -19,5 +19,5 @@ returns-then-is_idle c =
     let m = c.self.inside in
     let h = c.args.hart.0 in
     let x = c.hart-state.result.now in
-    let here : x ≡ hart_in (here_read m h) (ran h (history_of m)) (events h (history_of m)) (credit_at (setting_of m) h (history_of m)) = rw (← c.self.view_is) at c.hart-state.ensures in
+    let here : x ≡ hart_in (here_read m h) (ran h (history_of m)) (events h (history_of m)) (credit_at (setting_of m) m.seed h (history_of m)) = rw (← c.self.view_is) at c.hart-state.ensures in
     rw (← c.self.view_is) (no_effect_read (here_read m h) x _ _ _ here c.is_idle.result c.is_idle.ensures c.if-is_idle.true)

@@ -34,10 +34,10 @@ returns c =
     let x = c.hart-state.result.now in
     let next = c.next_of-next.result in
     let at = here_read m h in
-    let here : x ≡ hart_in at (ran h (history_of m)) (events h (history_of m)) (credit_at (setting_of m) h (history_of m)) = rw (← c.self.view_is) at c.hart-state.ensures in
+    let here : x ≡ hart_in at (ran h (history_of m)) (events h (history_of m)) (credit_at (setting_of m) m.seed h (history_of m)) = rw (← c.self.view_is) at c.hart-state.ensures in
     let lt : h < m.limits.harts = rw (← c.self.view_is) at c.requires in
     let same = same_here (seen m) h c.self.invariant.run in
-    let is : IsNextAt at next = next_at at x (ran h (history_of m)) (events h (history_of m)) (credit_at (setting_of m) h (history_of m)) m.code (byte_in m.parts.pages) (can_write_in m.parts.pages) next here refl (bytes_read m h c.self.invariant) (writable_read m h c.self.invariant) c.next_of-next.ensures.effect c.next_of-next.ensures.fault in
+    let is : IsNextAt at next = next_at at x (ran h (history_of m)) (events h (history_of m)) (credit_at (setting_of m) m.seed h (history_of m)) m.code (byte_in m.parts.pages) (can_write_in m.parts.pages) next here refl (bytes_read m h c.self.invariant) (writable_read m h c.self.invariant) c.next_of-next.ensures.effect c.next_of-next.ensures.fault in
     let refusal : c.exec_gate-refusal.result ≡ refusal_exec at =
     c.exec_gate-refusal.ensures (setting_of m) (plain_seen (seen m)) c.self.invariant.tied lt (subst (λ (z : Here). IsNextAt z next) (sym same) is) ∙ ap refusal_exec same in
     let local : c.if-not-is_idle.result ≡ (is_some x.running && option_map_or sets_register next.effect false) = elim c.if-not-is_idle.branch [

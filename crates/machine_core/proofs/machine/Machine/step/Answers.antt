@@ -11,7 +11,7 @@ use Rattle.machine_core.proofs.machine.Machine.step.Goals as goal
 pub step_chosen-requires-clause-chosen : goal.step_chosen-requires-clause-chosen
 step_chosen-requires-clause-chosen c =
     let m = c.self.inside in
-    rw (← c.self.view_is) (chosen_of (setting_of m) m.log.items (rw (← c.self.view_is) at (sym c.if-is_chosen.true ∙ c.is_chosen.ensures)))
+    rw (← c.self.view_is) (chosen_of (setting_of m) m.seed m.log.items (rw (← c.self.view_is) at (sym c.if-is_chosen.true ∙ c.is_chosen.ensures)))
 
 pub make-requires : goal.make-requires
 make-requires c =
@@ -33,7 +33,7 @@ invariant_of-self c =
     let step = stepped (seen m) m.parts c.make.new.self c.args.hart c.args.choice c.make.result c.in-Ok.entry place (c.make.ensures.answer (seen m) place refl) c.in-Ok.is after in
     let p' : Parts = c.make.new.self in
     let apart : m.chosen ≡ false = c.self.invariant.chosen ∙ (rw (← c.self.view_is) at (sym c.is_chosen.ensures ∙ c.if-is_chosen.false)) in
-    let sees : (let none : Option Sight = None in none) ≡ seen_if m.chosen (setting_of m) c.args.hart.0 (past_of m) = rw apart refl in
+    let sees : (let none : Option Sight = None in none) ≡ seen_if m.chosen (setting_of m) m.seed c.args.hart.0 (past_of m) = rw apart refl in
     let is = settled m c.args.hart c.args.choice c.in-Ok.entry p' p' None c.self.invariant (goes_on m c.self.invariant goes) (has_room m goes) lt step after.credits sees
     (λ k. unfollowed m.chooser c.args.hart.0 c.args.choice k (slice_get p'.harts.items k)) refl refl refl in
     record {

@@ -17,8 +17,8 @@ invariant_of-self c =
     let place = place_open m c.args.hart.0 c.self.invariant (rw (← c.self.view_is) at c.requires.goes) (rw (← c.self.view_is) at c.requires.hart) in
     let after = IfOk-at_ok (λ e. IsAfter (seen m) c.args.hart.0 (done_of c.args.choice (here_of (seen m) c.args.hart.0)) m.parts c.make.new.self) c.in-Ok.is (c.make.ensures.after (seen m) place refl) in
     let step = stepped (seen m) m.parts c.make.new.self c.args.hart c.args.choice c.make.result c.in-Ok.entry place (c.make.ensures.answer (seen m) place refl) c.in-Ok.is after in
-    let all : m.chosen ≡ true = c.self.invariant.chosen ∙ sym (all_of (setting_of m) m.log.items (rw (← c.self.view_is) at c.requires.chosen)) in
-    let sees : Some c.args.sight.now ≡ seen_if m.chosen (setting_of m) c.args.hart.0 (past_of m) = rw all (ap Some (rw (← c.self.view_is) at c.requires.sight)) in
+    let all : m.chosen ≡ true = c.self.invariant.chosen ∙ sym (all_of (setting_of m) m.seed m.log.items (rw (← c.self.view_is) at c.requires.chosen)) in
+    let sees : Some c.args.sight.now ≡ seen_if m.chosen (setting_of m) m.seed c.args.hart.0 (past_of m) = rw all (ap Some (rw (← c.self.view_is) at c.requires.sight)) in
     let p' : Parts = record c.make.new.self { harts = c.follow-self-inside.new.harts } in
     let is = settled m c.args.hart c.args.choice c.in-Ok.entry c.make.new.self p' (Some c.args.sight.now) c.self.invariant (goes_on m c.self.invariant (rw (← c.self.view_is) at c.requires.goes)) room (rw (← c.self.view_is) at c.requires.hart) step after.credits sees c.follow-self-inside.ensures.harts refl refl refl in
     record {

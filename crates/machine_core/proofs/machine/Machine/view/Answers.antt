@@ -10,5 +10,5 @@ returns c =
     let m = c.self.inside in
     let h = c.args.hart.0 in
     let x = c.hart.result.now in
-    let here : x ≡ hart_in (here_read m h) (ran h (history_of m)) (events h (history_of m)) (credit_at (setting_of m) h (history_of m)) = rw (← c.self.view_is) at c.hart.ensures in
+    let here : x ≡ hart_in (here_read m h) (ran h (history_of m)) (events h (history_of m)) (credit_at (setting_of m) m.seed h (history_of m)) = rw (← c.self.view_is) at c.hart.ensures in
     rw (← c.self.view_is) (c.look.ensures.seen ∙ word_read m h x _ _ _ c.args.at c.args.size c.self.invariant here)

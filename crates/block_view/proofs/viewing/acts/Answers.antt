@@ -6,7 +6,7 @@ use Rattle.block_model.specs.Setting.{setting_of}
 use Rattle.block_view.specs.Ledgers.{Kept, kept_in, noted}
 use Rattle.block_view.proofs.Closing.{has_places}
 use Rattle.block_view.proofs.Entering.{HasMade, are_acts, first_refused, hart_is_kept, logged_few, made_more, made_none}
-use Rattle.block_view.proofs.viewing.seeded_acts.Goals as goal
+use Rattle.block_view.proofs.viewing.acts.Goals as goal
 
 -- the entry that a loop is at, within the log
 abbrev no_entry : Entry
@@ -14,7 +14,7 @@ no_entry = record { hart = record { 0 = 0 }; kind = kind.Exec; tid = record { 0 
 
 pub loop-entry-init : goal.loop-entry-init
 loop-entry-init c =
-    made_none (setting_of c.args.image.now c.args.limits.now c.args.seed) c.in_ok-machine.machine (kept_in c.in_ok-ledger.ledger) c.in_ok-machine.ensures
+    made_none (setting_of c.args.image.now c.args.limits.now) 0 c.in_ok-machine.machine (kept_in c.in_ok-ledger.ledger) c.in_ok-machine.ensures
     c.in_ok-ledger.ensures
 
 pub overflow_cast-number : goal.overflow_cast-number
@@ -32,7 +32,7 @@ returns-in_default-clause-cause c =
     let log = c.args.log.now in
     let i = c.loop-entry.entry-index in
     let entry = get_or log i no_entry in
-    first_refused (setting_of c.args.image.now c.args.limits.now c.args.seed) log i c.loop-entry.machine entry (length c.log.result.now + 1)
+    first_refused (setting_of c.args.image.now c.args.limits.now) log i c.loop-entry.machine entry (length c.log.result.now + 1)
     c.loop-entry.invariant.so_far (get_or_default log i no_entry entry c.loop-entry-test.true) c.loop-entry-test.true c.in_default.ensures.refused
     (ap (λ (entries : List Entry). length entries + 1) c.log.ensures)
 
@@ -46,7 +46,7 @@ note-requires-clause-places c = has_places _ _ (kept_in c.loop-entry.ledger) c.l
 
 pub loop-entry-preserved : goal.loop-entry-preserved
 loop-entry-preserved c =
-    let s = setting_of c.args.image.now c.args.limits.now c.args.seed in
+    let s = setting_of c.args.image.now c.args.limits.now in
     let log = c.args.log.now in
     let i = c.loop-entry.entry-index in
     let entry = get_or log i no_entry in
@@ -58,7 +58,7 @@ loop-entry-preserved c =
 
 pub returns-clause-acts : goal.returns-clause-acts
 returns-clause-acts c =
-    let s = setting_of c.args.image.now c.args.limits.now c.args.seed in
+    let s = setting_of c.args.image.now c.args.limits.now in
     let log = c.args.log.now in
     let whole : take c.loop-entry.entry-index log ≡ log = take_all c.loop-entry.entry-index log (omega arith) in
     are_acts s log c.loop-entry.machine (kept_in c.loop-entry.ledger) c.close.new.ledger.list.items
