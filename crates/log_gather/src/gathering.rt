@@ -21,12 +21,13 @@ fn entries_of(alloc: Global, steps: &[Step]) -> Result<Vec<Entry>, AllocError>
     steps.iter().map(|step| step.entry).collect(alloc)
 }
 
-/// The gathered log of a log of an image under limits. Its restartable sequences (rseq(2)) have their turn in the order of their first
-/// entries: the entries of other harts that stand in a sequence come before it, if it is private in the log as it then stands. It is
-/// private where its thread left its range by its own instruction, all events of its span are plain, and none of another hart touches
-/// the bytes that it touches.
+/// The gathered log of a log of an image under limits. Its restartable sequences (rseq(2)) have their turn in
+/// the order of their first entries: the entries of other harts that stand in a sequence come before it, if
+/// it is private in the log as it then stands. It is private where its thread left its range by its own
+/// instruction, all events of its span are plain, and none of another hart touches the bytes that it touches.
 ///
-/// Refused with the number of the first entry that isn't allowed at its place; else it errs only for want of memory.
+/// Refused with the number of the first entry that isn't allowed at its place; else it errs only for want of
+/// memory.
 pub fn gather(
     alloc: Global,
     image: &Image,
@@ -35,7 +36,8 @@ pub fn gather(
 ) -> Result<Vec<Entry>, ViewFault>
     requires image { IsBootable limits.now.frames image.now }
     requires limits { InRange limits.now }
-    ensures entries { IfOk result (λ entries. IsGathered (viewed image.now limits.now) log.now entries.items) }
+    ensures entries { IfOk result
+        (λ entries. IsGathered (viewed image.now limits.now) log.now entries.items) }
     ensures cause { IfErr result (IsViewCause (viewed image.now limits.now) log.now) }
 {
     let mut passage = pass(alloc, image, limits, log)?;
