@@ -78,8 +78,8 @@ fn reads_of(effect: &Effect) -> Option<Range>
     }
 }
 
-/// What an instruction with this effect writes, now or when its store enters memory. SC writes the aligned 8 bytes that it must have
-/// reserved, whether it succeeds or not.
+/// What an instruction with this effect writes, now or when its store enters memory. SC writes the aligned 8
+/// bytes that it must have reserved, whether it succeeds or not.
 fn writes_of(effect: &Effect) -> Option<Range>
     ensures { bytes_in result ≡ written_by effect.now }
 {

@@ -1,6 +1,7 @@
 //! A log is gone through on a machine that makes its entries again, and each event is seen.
 
-ghost use Rattle.std.specs.Prelude.{ℕ, ◌≡◌, ◌<◌, ◌&&◌, not, false, [], ◌∷◌, ◌++◌, None, if◌then◌else◌, slice_index_or, length, IfOk, IfErr, IfSome, IfNone, OnOk, is_some};
+ghost use Rattle.std.specs.Prelude.{ℕ, ◌≡◌, ◌<◌, ◌&&◌, not, false, [], ◌∷◌, ◌++◌, None, if◌then◌else◌};
+ghost use Rattle.std.specs.Prelude.{slice_index_or, length, IfOk, IfErr, IfSome, IfNone, OnOk, is_some};
 ghost use Rattle.mach_types.specs.Events.{choice_of};
 ghost use Rattle.mach_types.specs.Kernel.Areas.{is_inside_named};
 ghost use Rattle.mach_types.specs.Limits.{InRange};
@@ -16,7 +17,8 @@ ghost use Rattle.block_view.specs.Passing.{IsDecided, IsMadeAgain};
 ghost use Rattle.block_view.specs.Viewing.{IsViewCause, viewed};
 ghost use Rattle.log_gather.specs.Accesses.{IsAccess, plain_effect_here};
 ghost use Rattle.log_gather.specs.Facts.{facts_in};
-ghost use Rattle.log_gather.specs.Passing.{IsPassage, IsReadBefore, IsSeen, here_on, inside_there, reserved_on};
+ghost use Rattle.log_gather.specs.Passing.{IsPassage, IsReadBefore, IsSeen};
+ghost use Rattle.log_gather.specs.Passing.{here_on, inside_there, reserved_on};
 ghost use Rattle.log_gather.specs.Steps.{facts_seen, reserved_in};
 
 use crate::accesses::{Access, NO_ACCESS, access_of, access_of_drain};
@@ -58,7 +60,8 @@ pub(crate) struct Before {
 impl Before {
     /// Whether the event is plain and moves the pc of its thread out of what the area named, to this one.
     fn moves_out(&self, pc: u64) -> bool
-        ensures { result ≡ (self.now.plain && (not self.now.idle && not (is_inside_named self.now.named pc))) }
+        ensures { result
+            ≡ (self.now.plain && (not self.now.idle && not (is_inside_named self.now.named pc))) }
     {
         self.plain && !self.idle && !is_inside_named(&self.named, pc)
     }
@@ -108,7 +111,8 @@ fn is_within(passed: &Passed, was: bool) -> bool
     }
 }
 
-/// Whether an entry begins a sequence, where it is of one or isn't, and its hart's entry before it was or wasn't.
+/// Whether an entry begins a sequence, where it is of one or isn't, and its hart's entry before it was or
+/// wasn't.
 fn is_first(within: bool, was: bool) -> bool
     ensures { result ≡ (within && not was) }
 {
@@ -210,8 +214,8 @@ fn read_before(machine: &Machine, entry: Entry) -> Before
     }
 }
 
-/// Makes an entry of one of so many harts again, and sees it, where its hart's entry before it was of a sequence or wasn't; None where
-/// it isn't the one that is decided.
+/// Makes an entry of one of so many harts again, and sees it, where its hart's entry before it was of a
+/// sequence or wasn't; None where it isn't the one that is decided.
 fn see(machine: &mut Machine, harts: u8, entry: Entry, was: bool) -> Option<Step>
     requires limits { InRange machine.old.setting.limits }
     requires harts { harts ≡ machine.old.setting.limits.harts }
@@ -249,7 +253,8 @@ const NO_SEED: u64 = 0;
 
 /// What is seen of a log of an image under limits, which is gone through once.
 ///
-/// Refused with the number of the first entry that isn't allowed at its place; else it errs only for want of memory.
+/// Refused with the number of the first entry that isn't allowed at its place; else it errs only for want of
+/// memory.
 pub(crate) fn pass(
     alloc: Global,
     image: &Image,
