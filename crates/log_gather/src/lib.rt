@@ -5,6 +5,7 @@
 mod accesses;
 mod byte_sets;
 mod clashes;
+mod gathering;
 mod moving;
 mod passing;
 mod spans;
@@ -12,4 +13,5 @@ mod steps;
 mod theorems;
 mod turns;
 
+pub use gathering::gather;
 pub use theorems::gathered_logs_are_block_runs;

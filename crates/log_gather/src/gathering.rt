@@ -1,0 +1,44 @@
+//! The gathered log of a log.
+
+ghost use Rattle.std.specs.Prelude.{◌≡◌, map, IfOk, IfErr};
+ghost use Rattle.mach_types.specs.Limits.{InRange};
+ghost use Rattle.elf_load.specs.Images.{IsBootable};
+ghost use Rattle.block_view.specs.Viewing.{IsViewCause, viewed};
+ghost use Rattle.log_gather.specs.Gathered.{IsGathered};
+
+use crate::passing::pass;
+use crate::steps::Step;
+use crate::turns::gather_all;
+use block_view::ViewFault;
+use elf_load::Image;
+use mach_types::{Entry, Limits};
+use std::alloc::{AllocError, Global};
+
+/// The entries of events, in their order.
+fn entries_of(alloc: Global, steps: &[Step]) -> Result<Vec<Entry>, AllocError>
+    ensures { IfOk result (λ entries. entries.items ≡ map (λ x. x.entry) steps.now) }
+{
+    steps.iter().map(|step| step.entry).collect(alloc)
+}
+
+/// The gathered log of a log of an image under limits. Its restartable sequences (rseq(2)) have their turn in the order of their first
+/// entries: the entries of other harts that stand in a sequence come before it, if it is private in the log as it then stands. It is
+/// private where its thread left its range by its own instruction, all events of its span are plain, and none of another hart touches
+/// the bytes that it touches.
+///
+/// Refused with the number of the first entry that isn't allowed at its place; else it errs only for want of memory.
+pub fn gather(
+    alloc: Global,
+    image: &Image,
+    limits: &Limits,
+    log: &[Entry],
+) -> Result<Vec<Entry>, ViewFault>
+    requires image { IsBootable limits.now.frames image.now }
+    requires limits { InRange limits.now }
+    ensures entries { IfOk result (λ entries. IsGathered (viewed image.now limits.now) log.now entries.items) }
+    ensures cause { IfErr result (IsViewCause (viewed image.now limits.now) log.now) }
+{
+    let mut passage = pass(alloc, image, limits, log)?;
+    gather_all(alloc, &mut passage.steps, &passage.inside_at_end)?;
+    Ok(entries_of(alloc, &passage.steps)?)
+}
