@@ -2,7 +2,8 @@
 
 ghost use Rattle.std.specs.Prelude.{ℕ, ◌≡◌, ◌&&◌, [], IfOk, map, not};
 ghost use Rattle.std.specs.List.{list_all, list_any};
-ghost use Rattle.log_gather.specs.ByteSets.{HasLookedAt, HasTouched, IsBounded, IsReady, IsTouched, any_in, clashes_in, holds};
+ghost use Rattle.log_gather.specs.ByteSets.{HasLookedAt, HasTouched, IsBounded, IsReady, IsTouched};
+ghost use Rattle.log_gather.specs.ByteSets.{any_in, clashes_in, holds};
 ghost use Rattle.log_gather.specs.LogEvents as events;
 ghost use Rattle.log_gather.specs.Turns.{event_of, own_steps};
 
@@ -87,7 +88,8 @@ impl Touched {
     /// Whether an event of another hart in a span does.
     fn clashes_in_span(&self, span: &[Step], hart: Hart) -> bool
         requires { IsReady self.now }
-        ensures { result ≡ list_any (λ y. not (events.is_own hart.0 y) && clashes_in self.now y) (map event_of span.now) }
+        ensures { result
+            ≡ list_any (λ y. not (events.is_own hart.0 y) && clashes_in self.now y) (map event_of span.now) }
     {
         for step in span {
             if !step.is_of(hart) && self.clashes(step) {

@@ -66,7 +66,8 @@ impl Step {
 
     /// The aligned 8 bytes that its hart has reserved, where it is of a sequence: it reads them.
     pub(crate) fn held(&self) -> Option<Range>
-        ensures { bytes_in result ≡ held_by self.now.within (slice_index_or self.now.reserved self.now.entry.hart.0 None) }
+        ensures { bytes_in result
+            ≡ held_by self.now.within (slice_index_or self.now.reserved self.now.entry.hart.0 None) }
     {
         if !self.within {
             return None;

@@ -3,7 +3,8 @@
 ghost use Rattle.std.specs.Prelude.{ℕ, ◌≡◌, ◌<◌, true, IfOk, length, map};
 ghost use Rattle.std.specs.List.{list_all};
 ghost use Rattle.log_gather.specs.Steps.{AllAwait, AreOfEight, located_of};
-ghost use Rattle.log_gather.specs.Turns.{IsNext, IsPrivateLength, after_turn, after_turns, inside_in, is_of_eight, taken_first};
+ghost use Rattle.log_gather.specs.Turns.{IsNext, IsPrivateLength, after_turn, after_turns};
+ghost use Rattle.log_gather.specs.Turns.{inside_in, is_of_eight, taken_first};
 
 use crate::clashes::is_undisturbed;
 use crate::moving::move_others;
