@@ -99,9 +99,9 @@ pub record HasSeen (s : Setting) (log : List Entry) (m : Seen) (steps : List Ste
   pub within_are : (k : ℕ) → get_or within k false ≡ (place_after s log).within k
   pub eight : length within ≡ 8
 
-pub seen_none : (s : Setting) (m : Seen) → m ≡ record { setting = s; log = [] } → HasSeen s [] m [] (replicate 8 false)
-seen_none s m is = record {
-  so_far = logged_none s m is;
+pub seen_none : (s : Setting) (seed : ℕ) (m : Seen) → m ≡ record { setting = s; seed = seed; log = [] } → HasSeen s [] m [] (replicate 8 false)
+seen_none s seed m is = record {
+  so_far = logged_none s seed m is;
   placed =
       subst (λ q. IsPlaced s q (history s [])) (sym (at_first s []))
       (subst (IsPlaced s (first_place s)) (sym (history-nil s)) (placed_start s (start_run s)));

@@ -3,7 +3,7 @@
 ghost use Rattle.std.specs.Prelude.{◌≡◌, map, IfOk, IfErr};
 ghost use Rattle.mach_types.specs.Limits.{InRange};
 ghost use Rattle.elf_load.specs.Images.{IsBootable};
-ghost use Rattle.block_view.specs.Viewing.{IsViewCause, viewed};
+ghost use Rattle.block_view.specs.Viewing.{IsViewCause};
 ghost use Rattle.log_gather.specs.Gathered.{IsGathered};
 
 use crate::passing::pass;
@@ -37,8 +37,8 @@ pub fn gather(
     requires image { IsBootable limits.now.frames image.now }
     requires limits { InRange limits.now }
     ensures entries { IfOk result
-        (λ entries. IsGathered (viewed image.now limits.now) log.now entries.items) }
-    ensures cause { IfErr result (IsViewCause (viewed image.now limits.now) log.now) }
+        (λ entries. IsGathered (setting_of image.now limits.now) log.now entries.items) }
+    ensures cause { IfErr result (IsViewCause (setting_of image.now limits.now) log.now) }
 {
     let mut passage = pass(alloc, image, limits, log)?;
     gather_all(alloc, &mut passage.steps, &passage.inside_at_end)?;

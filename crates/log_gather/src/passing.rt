@@ -14,7 +14,7 @@ ghost use Rattle.block_model.specs.Setting.{Seen};
 ghost use Rattle.process.specs.Sequences.{looked_at_on};
 ghost use Rattle.block_view.specs.Ledgers as ledgers;
 ghost use Rattle.block_view.specs.Passing.{IsDecided, IsMadeAgain};
-ghost use Rattle.block_view.specs.Viewing.{IsViewCause, viewed};
+ghost use Rattle.block_view.specs.Viewing.{IsViewCause};
 ghost use Rattle.log_gather.specs.Accesses.{IsAccess, plain_effect_here};
 ghost use Rattle.log_gather.specs.Facts.{facts_in};
 ghost use Rattle.log_gather.specs.Passing.{IsPassage, IsReadBefore, IsSeen};
@@ -263,8 +263,8 @@ pub(crate) fn pass(
 ) -> Result<Passage, ViewFault>
     requires image { IsBootable limits.now.frames image.now }
     requires limits { InRange limits.now }
-    ensures passage { IfOk result (IsPassage (viewed image.now limits.now) log.now) }
-    ensures cause { IfErr result (IsViewCause (viewed image.now limits.now) log.now) }
+    ensures passage { IfOk result (IsPassage (setting_of image.now limits.now) log.now) }
+    ensures cause { IfErr result (IsViewCause (setting_of image.now limits.now) log.now) }
 {
     let mut machine = Machine::boot(alloc, image, *limits, NO_SEED)?;
     let mut steps = Vec::new(alloc);

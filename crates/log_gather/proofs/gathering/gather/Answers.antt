@@ -1,6 +1,6 @@
 use Rattle.std.proofs.Common.{◌≡◌, ◌++◌, ◌∙◌, List, drop, length, map, take, ap, arith, subst, sym}
 use Rattle.std.proofs.Math.Seq.{take-append_seam}
-use Rattle.block_view.specs.Viewing.{viewed}
+use Rattle.block_model.specs.Setting.{setting_of}
 use Rattle.log_gather.specs.declared.steps.Step.{Step}
 use Rattle.log_gather.specs.Steps.{located_of}
 use Rattle.log_gather.specs.Turns.{after_turns, inside_in}
@@ -9,7 +9,7 @@ use Rattle.log_gather.proofs.gathering.gather.Goals as goal
 
 pub returns-clause-entries : goal.returns-clause-entries
 returns-clause-entries c =
-    let s = viewed c.args.image.now c.args.limits.now in
+    let s = setting_of c.args.image.now c.args.limits.now in
     let x = c.in_ok-passage.passage in
     let ys = c.gather_all.new.steps in
     let made : map located_of ys ≡ after_turns (inside_in x.inside_at_end) x.steps.items =

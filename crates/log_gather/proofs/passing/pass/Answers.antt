@@ -2,7 +2,7 @@ use Rattle.std.proofs.Common.{◌≡◌, ◌+◌, ◌∷◌, ◌++◌, [], List,
 use Rattle.std.proofs.lemmas.List.{get_or_default, take_all, take_more}
 use Rattle.mach_types.specs.declared.events.Entry.{Entry}
 use Rattle.mach_types.specs.declared.events.Kind.TheVariants as kind
-use Rattle.block_view.specs.Viewing.{viewed}
+use Rattle.block_model.specs.Setting.{setting_of}
 use Rattle.block_view.proofs.Laws.{first_refused, logged_few}
 use Rattle.log_gather.specs.declared.steps.Step.{Step}
 use Rattle.log_gather.specs.Passing.{IsSeen}
@@ -15,7 +15,7 @@ no_entry = record { hart = record { 0 = 0 }; kind = kind.Exec; tid = record { 0 
 
 pub loop-entry-init : goal.loop-entry-init
 loop-entry-init c =
-    let s = viewed c.args.image.now c.args.limits.now in
+    let s = setting_of c.args.image.now c.args.limits.now in
     let none : c.new-steps.result.items ≡ [] = search rules in
     subst (λ (xs : List Step). HasSeen s [] c.in_ok-machine.machine xs (replicate 8 false)) (sym none)
     (seen_none s c.in_ok-machine.machine c.in_ok-machine.ensures)
@@ -35,13 +35,13 @@ returns-in_default-clause-cause c =
     let log = c.args.log.now in
     let i = c.loop-entry.entry-index in
     let entry = get_or log i no_entry in
-    first_refused (viewed c.args.image.now c.args.limits.now) log i c.loop-entry.machine entry (length c.log.result.now + 1)
+    first_refused (setting_of c.args.image.now c.args.limits.now) log i c.loop-entry.machine entry (length c.log.result.now + 1)
     c.loop-entry.invariant.so_far (get_or_default log i no_entry entry c.loop-entry-test.true) c.loop-entry-test.true c.in_default.ensures.refused
     (ap (λ (entries : List Entry). length entries + 1) c.log.ensures)
 
 pub loop-entry-preserved : goal.loop-entry-preserved
 loop-entry-preserved c =
-    let s = viewed c.args.image.now c.args.limits.now in
+    let s = setting_of c.args.image.now c.args.limits.now in
     let log = c.args.log.now in
     let i = c.loop-entry.entry-index in
     let entry = get_or log i no_entry in
@@ -58,7 +58,7 @@ loop-entry-preserved c =
 
 pub returns-clause-passage : goal.returns-clause-passage
 returns-clause-passage c =
-    let s = viewed c.args.image.now c.args.limits.now in
+    let s = setting_of c.args.image.now c.args.limits.now in
     let log = c.args.log.now in
     let m = c.loop-entry.machine in
     let steps = c.loop-entry.steps.items in
