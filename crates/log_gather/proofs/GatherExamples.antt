@@ -21,7 +21,6 @@ program_with code = record {
     break_at = 0x21000;
   };
   limits = record { harts = 2; frames = 128; steps = 200000 };
-  seed = 0;
 }
 
 abbrev entry_by : Kind → ℕ → ℕ → ℕ → Entry

@@ -15,7 +15,6 @@ use Rattle.outcomes.specs.Outputs.{IsCommandOutput, IsPlayOutput, log_output, se
 use Rattle.outcomes.specs.Programs.{Files, IsReadAs}
 use Rattle.outcomes.specs.Text.{output_text}
 use Rattle.output_laws.proofs.Repeats.{block_run_of, output_again}
-use Rattle.output_laws.proofs.Seeds.{reseeded_output, reseeded_run}
 
 -- the gathered log of a run comes to the console and the end that are shown with it
 gathered_output : (s : Setting) (log : List Entry) → IsEquivalentRun s log (gathered s log)
@@ -34,6 +33,5 @@ gathered_again files later command script written range shows same output read =
     let log = gathered s output.log in
     let alike = gathered_run s output.log (block_run_of files command.source s output.log output.made) in
     output_again files later command.program script command.limits written output.image log range same output.taken
-    (reseeded_run 0 s log alike.block_run)
-    (output.text ∙ ap (λ (x : Shown). shown_text x s output.log) shows ∙ gathered_output s output.log alike
-    ∙ sym (reseeded_output 0 s log)) read
+    alike.block_run
+    (output.text ∙ ap (λ (x : Shown). shown_text x s output.log) shows ∙ gathered_output s output.log alike) read
