@@ -72,7 +72,7 @@ made_none s seed m k is kept =
     let tied : IsTied s (history s []) k =
     subst (IsTied s (history s [])) (sym kept) (subst (λ events. IsTied s events (nothing_kept s.limits.harts)) (sym (history-nil s)) (tied_start s)) in
     record {
-      so_far = logged_none s m is;
+      so_far = logged_none s seed m is;
       tied = subst (λ (x : Seen). IsTied x.setting (history x.setting x.log) k) (sym is) tied;
     }
 

@@ -32,7 +32,7 @@ unfolding plain_after
 plain_after-append s log more = fold-append (plain_next s) (plain_start s) log more
 
 abbrev pub seen : Setting → List Entry → Seen
-seen s log = record { setting = s; log = log }
+seen s log = record { setting = s; seed = 0; log = log }
 
 -- what is decided hangs on the plain machine and on how many entries there are
 decided_alike : (s : Setting) (a b : List Entry) (h : ℕ) (c : Choice) → IsBlockRun s a → IsBlockRun s b → plain_after s a ≡ plain_after s b → length a ≡ length b
