@@ -10,6 +10,8 @@ mod moving;
 mod passing;
 mod spans;
 mod steps;
+#[cfg(test)]
+mod tests;
 mod theorems;
 mod turns;
 
