@@ -14,7 +14,7 @@ use Rattle.block_model.specs.History.{History, file, here_in_history, kernel, ru
 use Rattle.block_model.specs.Run.{IsRunHistory}
 use Rattle.block_model.specs.Sequences.{is_inside_here, is_inside_waiting, named_here}
 use Rattle.block_model.specs.Setting.{Setting}
-use Rattle.block_model.specs.Footprints.{Bytes}
+use Rattle.rv_inst.specs.Accesses.{Bytes}
 use Rattle.block_model.specs.Whole.{WasTouched, before_last, touched_in, watched_at, watched_of}
 use Rattle.block_model.proofs.NamedSequences.{named_stays}
 use Rattle.block_model.proofs.Sequences.{runs_throughout}

@@ -16,7 +16,8 @@ use Rattle.block_model.specs.Here.{Done, Here, memory, view, waiting_here}
 use Rattle.block_model.specs.History.{Event, History, byte, drains, here_in_history, kernel, stores, waiting}
 use Rattle.block_model.specs.Run.{IsRunHistory}
 use Rattle.block_model.specs.Setting.{Setting}
-use Rattle.block_model.specs.Footprints.{Bytes, meets}
+use Rattle.rv_inst.specs.Accesses.{Bytes}
+use Rattle.block_model.specs.Footprints.{meets}
 use Rattle.block_model.specs.Whole.{changed_page, is_same, permission_changed, store_meets, touches, write_meets}
 use Rattle.block_model.proofs.PlainEvents.{drop_more}
 use Rattle.block_model.proofs.EventEffects.{Drains, EventDeed, deed_of}

@@ -22,7 +22,7 @@ use Rattle.block_model.specs.Record.{Kernel}
 use Rattle.block_model.specs.Run.{IsRunHistory}
 use Rattle.block_model.specs.Setting.{Setting}
 use Rattle.block_model.specs.Tables.{on}
-use Rattle.block_model.specs.Footprints.{Bytes}
+use Rattle.rv_inst.specs.Accesses.{Bytes}
 use Rattle.block_model.specs.Whole.{before_last, touched_in, touches}
 use Rattle.block_model.proofs.Runs.{allowed_at, settled}
 use Rattle.block_model.proofs.Invariants.Events.{none_waits, out_of_barrier, ready_apart}

@@ -21,7 +21,7 @@ use Rattle.block_model.specs.History.{Event, History, file, file_among, here_in_
 use Rattle.block_model.specs.Record.{Kernel}
 use Rattle.block_model.specs.Run.{IsRunHistory}
 use Rattle.block_model.specs.Setting.{Setting}
-use Rattle.block_model.specs.Footprints.{Bytes}
+use Rattle.rv_inst.specs.Accesses.{Bytes}
 use Rattle.block_model.specs.Whole.{before_last, touched_in, touches}
 use Rattle.block_model.proofs.Invariants.Calls.Conditions.{runs_apart}
 use Rattle.block_model.proofs.NamedSequences.{Agree}

@@ -1,22 +1,12 @@
 -- Which bytes of memory an event reads and writes (own; what a hart's accesses are, and in which order they are made, is of the RISC-V
 -- Unprivileged ISA, chapters RV32I, RV64I, "A" and "Ztso").
-use Rattle.std.specs.Prelude.{ℕ, ◌+◌, ◌&&◌, ◌≡◌, Bool, true, false, List, [], ◌∷◌, nat_le, nat_lt, Option, Some, None}
+use Rattle.std.specs.Prelude.{ℕ, ◌+◌, ◌&&◌, ◌≡◌, Bool, true, false, List, [], ◌∷◌, nat_le, nat_lt}
 use Rattle.std.specs.List.{list_any}
 use Rattle.mach_types.specs.declared.user_memory.Write.{Write}
 use Rattle.mach_types.specs.declared.user_memory.Write.TheVariants.{Stored, Zeroed}
-use Rattle.rv_inst.specs.Execution.{reserved_at}
-use Rattle.rv_inst.specs.declared.effects.Effect.{Effect}
-use Rattle.rv_inst.specs.declared.effects.Effect.TheVariants as effect
+use Rattle.rv_inst.specs.Accesses.{Bytes, bytes}
 
 -- BYTES
-
--- bytes of memory: so many from an address on
-pub record Bytes : Type 0 where
-  pub at : ℕ
-  pub count : ℕ
-
-abbrev pub bytes : ℕ → ℕ → Bytes
-bytes at n = record { at = at; count = n }
 
 -- whether one of so many bytes from an address on is one of these
 abbrev pub meets : Bytes → ℕ → ℕ → Bool
@@ -48,50 +38,6 @@ pub record AreApart (x y : Footprint) : Type 0 where
   pub unread : (a : ℕ) → have_byte x.writes a ≡ true → have_byte y.reads a ≡ false
   pub unwritten : (a : ℕ) → have_byte x.writes a ≡ true → have_byte y.writes a ≡ false
   pub unread_too : (a : ℕ) → have_byte y.writes a ≡ true → have_byte x.reads a ≡ false
-
--- OF AN INSTRUCTION
-
--- the bytes that an instruction with this effect reads, and those that it writes, now or when its store enters memory. LR reads the
--- aligned 8 bytes that it reserves, and SC writes them, whether it succeeds or not
-abbrev pub read_by : Effect → List Bytes
-read_by (effect.Next rd value to) = []
-read_by (effect.Load at size is_signed rd) = bytes at size ∷ []
-read_by (effect.Store at size value) = []
-read_by (effect.Amo op at size value rd) = bytes at size ∷ []
-read_by (effect.Lr at size rd) = bytes (reserved_at at) 8 ∷ []
-read_by (effect.Sc at size value rd) = []
-read_by (effect.Fence full) = []
-read_by effect.FenceI = []
-read_by effect.Call = []
-read_by effect.Break = []
-read_by effect.Misaligned = []
-
-abbrev pub written_by : Effect → List Bytes
-written_by (effect.Next rd value to) = []
-written_by (effect.Load at size is_signed rd) = []
-written_by (effect.Store at size value) = bytes at size ∷ []
-written_by (effect.Amo op at size value rd) = bytes at size ∷ []
-written_by (effect.Lr at size rd) = []
-written_by (effect.Sc at size value rd) = bytes (reserved_at at) 8 ∷ []
-written_by (effect.Fence full) = []
-written_by effect.FenceI = []
-written_by effect.Call = []
-written_by effect.Break = []
-written_by effect.Misaligned = []
-
--- what its hart has reserved after an instruction with this effect; nothing where that is what it had
-abbrev pub reserved_by : Effect → Option (Option ℕ)
-reserved_by (effect.Next rd value to) = None
-reserved_by (effect.Load at size is_signed rd) = None
-reserved_by (effect.Store at size value) = None
-reserved_by (effect.Amo op at size value rd) = None
-reserved_by (effect.Lr at size rd) = Some (Some (reserved_at at))
-reserved_by (effect.Sc at size value rd) = Some None
-reserved_by (effect.Fence full) = None
-reserved_by effect.FenceI = None
-reserved_by effect.Call = None
-reserved_by effect.Break = None
-reserved_by effect.Misaligned = None
 
 -- OF WRITES
 

@@ -8,7 +8,8 @@ use Rattle.mach_types.specs.declared.user_memory.Store.{Store}
 use Rattle.rv_inst.specs.Class.{is_call}
 use Rattle.rv_inst.specs.declared.effects.Effect.{Effect}
 use Rattle.block_model.specs.Events.Exec.{next_effect, next_fault}
-use Rattle.block_model.specs.Footprints.{Footprint, bytes, read_by, reserved_by, written_by}
+use Rattle.rv_inst.specs.Accesses.{bytes, read_by, reserved_by, written_by}
+use Rattle.block_model.specs.Footprints.{Footprint}
 use Rattle.block_model.specs.Here.{Here, runs, waiting_here}
 
 -- whether the thread on the hart executes an instruction that makes neither a fault nor a call

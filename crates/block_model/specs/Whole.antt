@@ -31,7 +31,8 @@ use Rattle.block_model.specs.declared.acts.SeqEnd.{SeqEnd}
 use Rattle.block_model.specs.declared.acts.SeqEnd.TheVariants as ends
 use Rattle.block_model.specs.Acts.{Sequence, end_at_verdict, end_before, end_so_far, hanging, is_inside_at, is_instruction, named_at, sequence_on}
 use Rattle.block_model.specs.Events.Exec.{next_effect, next_fault}
-use Rattle.block_model.specs.Footprints.{Bytes, meets}
+use Rattle.rv_inst.specs.Accesses.{Bytes}
+use Rattle.block_model.specs.Footprints.{meets}
 use Rattle.block_model.specs.Here.{Here, is_writable, memory, view}
 use Rattle.block_model.specs.History.{Event, History, can_be_written, file, here_in_history, kernel, running}
 use Rattle.block_model.specs.Sequences.{area_here, can_write_words, named_waiting}

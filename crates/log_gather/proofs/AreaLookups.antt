@@ -11,7 +11,8 @@ use Rattle.mach_types.specs.declared.sequences.Named.{Named}
 use Rattle.mach_types.specs.declared.sequences.Named.TheVariants as names
 use Rattle.mach_types.specs.declared.sequences.Seq.{Seq}
 use Rattle.mach_types.specs.declared.sequences.TheConstants.{DESCRIPTOR_SIZE, FLAGS, RSEQ_CS}
-use Rattle.block_model.specs.Footprints.{Bytes, bytes, has_byte, have_byte}
+use Rattle.rv_inst.specs.Accesses.{Bytes, bytes}
+use Rattle.block_model.specs.Footprints.{has_byte, have_byte}
 use Rattle.rseq_area.specs.Lookups.{fields_of, signature_of}
 use Rattle.log_gather.specs.Lookups.{bytes_if, bytes_looked_at, looked_over}
 use Rattle.block_model.proofs.Swaps.Untouched.{word_same}

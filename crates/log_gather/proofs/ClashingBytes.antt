@@ -4,7 +4,8 @@ use Rattle.std.proofs.Math.Path.{fun_ext}
 use Rattle.std.specs.List.{flat_map, list_all, list_any, range_with_len}
 use Rattle.std.proofs.lemmas.Bool.Decides.{nat_tests}
 use Rattle.std.proofs.lemmas.List.Folds.{list_any-append}
-use Rattle.block_model.specs.Footprints.{Bytes, bytes, has_byte, have_byte, overlap, overlap_any}
+use Rattle.rv_inst.specs.Accesses.{Bytes, bytes}
+use Rattle.block_model.specs.Footprints.{has_byte, have_byte, overlap, overlap_any}
 use Rattle.log_gather.specs.ByteSets.{IsBounded, any_byte, any_in, holds}
 use Rattle.log_gather.specs.declared.byte_sets.ByteSet.{ByteSet}
 use Rattle.std.proofs.lemmas.Bool.{and_cases, false_from_ne_true, ltb-false}

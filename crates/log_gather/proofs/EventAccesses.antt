@@ -12,7 +12,8 @@ use Rattle.rv_inst.specs.declared.effects.Effect.{Effect}
 use Rattle.rv_inst.specs.declared.effects.Effect.TheVariants as effect
 use Rattle.block_model.specs.Events.Drain.{done_drain_of}
 use Rattle.block_model.specs.Events.Exec.{by_call, by_effect, by_outcome, called_here, done_exec_by, next_effect, next_fault, outcome_of}
-use Rattle.block_model.specs.Footprints.{bytes_of_all, read_by, reserved_by, written_by}
+use Rattle.rv_inst.specs.Accesses.{read_by, reserved_by, written_by}
+use Rattle.block_model.specs.Footprints.{bytes_of_all}
 use Rattle.block_model.specs.Here.{Here, runs, waiting_here}
 use Rattle.block_model.specs.PlainEvents.{footprint_drain, footprint_exec, footprint_of, is_plain, is_plain_exec_by, is_plain_exec_of, reserved_exec}
 use Rattle.block_model.specs.Sights.{effect_here, effect_on, fault_here, fault_on}

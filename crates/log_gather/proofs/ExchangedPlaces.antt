@@ -8,7 +8,8 @@ use Rattle.block_model.specs.Events.{done_of}
 use Rattle.block_model.specs.Here.{runs}
 use Rattle.block_model.specs.History.{file_among}
 use Rattle.block_model.specs.Setting.{Setting}
-use Rattle.block_model.specs.Footprints.{AreApart, Bytes, Footprint, have_byte}
+use Rattle.rv_inst.specs.Accesses.{Bytes}
+use Rattle.block_model.specs.Footprints.{AreApart, Footprint, have_byte}
 use Rattle.block_model.specs.PlainEvents.{footprint}
 use Rattle.block_model.proofs.Swaps.PlainDone.{plain_done}
 use Rattle.log_gather.proofs.Gatherable.{AreFree}

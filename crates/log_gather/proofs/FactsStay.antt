@@ -13,7 +13,8 @@ use Rattle.block_model.specs.Events.{done_of}
 use Rattle.block_model.specs.Here.{Done, Here, runs, view}
 use Rattle.block_model.specs.History.{file_among}
 use Rattle.block_model.specs.Sequences.{area_here, named_here}
-use Rattle.block_model.specs.Footprints.{Bytes, Footprint, bytes_of_all, has_byte, have_byte}
+use Rattle.rv_inst.specs.Accesses.{Bytes}
+use Rattle.block_model.specs.Footprints.{Footprint, bytes_of_all, has_byte, have_byte}
 use Rattle.block_model.proofs.Swaps.PlainDone.{PlainDone}
 use Rattle.block_model.specs.PlainEvents.{footprint, is_plain, no_bytes}
 use Rattle.log_gather.specs.Facts.{facts_in, inside_on, looked_here, looked_on, moves_out_on, touched_by, with_files, within_by}

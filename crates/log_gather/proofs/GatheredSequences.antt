@@ -9,7 +9,8 @@ use Rattle.block_model.proofs.Laws.{run_before, same_state}
 use Rattle.block_model.specs.Plain.{plain_after, plain_next}
 use Rattle.block_model.specs.Run.{IsBlockRun}
 use Rattle.block_model.specs.Setting.{Setting}
-use Rattle.block_model.specs.Footprints.{Bytes, has_byte, have_byte, overlap, overlap_any}
+use Rattle.rv_inst.specs.Accesses.{Bytes}
+use Rattle.block_model.specs.Footprints.{has_byte, have_byte, overlap, overlap_any}
 use Rattle.log_gather.specs.LogEvents.{LogEvent, Name, clash, entry_of, clashes_with_none, is_own, is_undisturbed, log_event, log_events, others_of, own_of, reads_of, facts_of, writes_of}
 use Rattle.log_gather.specs.Spans.{after_act, after_from, before_act, begins_own, from_act, gather_span, gathered_by_spans, gathered_if, gathered_in, has_moved_out, is_inside_next, is_sequence, names_of, goes_on, is_inside_at_place, is_private, rest_of_act, span_from}
 use Rattle.block_model.specs.Swaps.{IsEquivalentRun}

@@ -16,7 +16,8 @@ use Rattle.rv_inst.specs.declared.effects.Effect.{Effect}
 use Rattle.rv_inst.specs.declared.effects.Effect.TheVariants as effect
 use Rattle.block_model.specs.Events.{done_of}
 use Rattle.block_model.specs.Events.Exec.{next_effect}
-use Rattle.block_model.specs.Footprints.{bytes_of_all, reserved_by}
+use Rattle.rv_inst.specs.Accesses.{reserved_by}
+use Rattle.block_model.specs.Footprints.{bytes_of_all}
 use Rattle.block_model.specs.Here.{Done, Here, runs, view, waiting_here}
 use Rattle.block_model.specs.History.{lost_after}
 use Rattle.block_model.specs.PlainEvents.{is_plain, reserved_exec, reserved_of}

@@ -6,7 +6,8 @@ use Rattle.std.specs.Option.{option_map_or}
 use Rattle.std.proofs.lemmas.Bool.{or_left}
 use Rattle.std.proofs.lemmas.List.{map-append, take_more}
 use Rattle.std.proofs.lemmas.List.Folds.{list_any-append}
-use Rattle.block_model.specs.Footprints.{Bytes, have_byte, overlap_any}
+use Rattle.rv_inst.specs.Accesses.{Bytes}
+use Rattle.block_model.specs.Footprints.{have_byte, overlap_any}
 use Rattle.rseq_area.specs.declared.lookups.Lookups.{Lookups}
 use Rattle.log_gather.specs.ByteSets.{AreWith, HasLookedAt, HasTouched, IsBounded, IsReady, IsTouched, any_in, clashes_in, holds}
 use Rattle.log_gather.specs.Facts.{is_of}

@@ -4,7 +4,7 @@ use Rattle.std.proofs.Math.Path.{fun_ext}
 use Rattle.std.specs.List.{list_all}
 use Rattle.std.proofs.lemmas.List.{get_or-map, get_or-set_other, get_or-set_same, get_or_past, length-map, length-set, map-append}
 use Rattle.std.proofs.lemmas.Bool.{and_from, and_parts, cases_lt, eqb-true, eqb-false, ltb-true}
-use Rattle.block_model.specs.Footprints.{Bytes}
+use Rattle.rv_inst.specs.Accesses.{Bytes}
 use Rattle.log_gather.specs.declared.steps.Step.{Step}
 use Rattle.log_gather.specs.Facts.{Facts, is_of}
 use Rattle.log_gather.specs.Located.{Located, event_in, facts_in, gather_located, located_from, lost_to_bytes, moved_if, moved_in, others_in, own_in, reserved_next}

@@ -7,7 +7,8 @@ use Rattle.rv_inst.specs.Execution.{is_reserved}
 use Rattle.rv_inst.specs.declared.effects.Effect.{Effect}
 use Rattle.rv_inst.specs.declared.effects.Effect.TheVariants as effect
 use Rattle.block_model.specs.Events.{done_of}
-use Rattle.block_model.specs.Footprints.{Bytes, bytes, bytes_of_all}
+use Rattle.rv_inst.specs.Accesses.{Bytes, bytes}
+use Rattle.block_model.specs.Footprints.{bytes_of_all}
 use Rattle.block_model.specs.Here.{Here}
 use Rattle.block_model.specs.PlainEvents.{footprint, reserved_of}
 use Rattle.block_model.specs.Sights.{effect_here, fault_here}

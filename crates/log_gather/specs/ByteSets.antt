@@ -3,7 +3,8 @@ use Rattle.std.specs.Prelude.{ℕ, ◌+◌, ◌<◌, ◌≤◌, ◌≡◌, ◌||
 use Rattle.std.specs.HashSet.{contains}
 use Rattle.std.specs.Option.{option_map_or}
 use Rattle.std.specs.List.{flat_map, list_any, range_with_len}
-use Rattle.block_model.specs.Footprints.{Bytes, has_byte, have_byte}
+use Rattle.rv_inst.specs.Accesses.{Bytes}
+use Rattle.block_model.specs.Footprints.{has_byte, have_byte}
 use Rattle.rseq_area.specs.declared.lookups.Lookups.{Lookups}
 use Rattle.log_gather.specs.LogEvents.{LogEvent, reads_of, writes_of}
 use Rattle.log_gather.specs.Lookups.{bytes_looked_at}

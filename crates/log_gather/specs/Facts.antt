@@ -10,7 +10,8 @@ use Rattle.mach_types.specs.declared.threads.Saved.{Saved}
 use Rattle.mach_types.specs.Kernel.Areas.{is_inside_named}
 use Rattle.block_model.specs.Acts.{is_instruction, is_taken_in}
 use Rattle.block_model.specs.Events.{done_of}
-use Rattle.block_model.specs.Footprints.{Bytes, Footprint, bytes_of_all}
+use Rattle.rv_inst.specs.Accesses.{Bytes}
+use Rattle.block_model.specs.Footprints.{Footprint, bytes_of_all}
 use Rattle.block_model.specs.Here.{Here, runs, view}
 use Rattle.block_model.specs.History.{file_among}
 use Rattle.block_model.specs.Plain.{Plain, here_in_plain, plain_next, plain_start}

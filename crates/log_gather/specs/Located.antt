@@ -3,7 +3,7 @@
 use Rattle.std.specs.Prelude.{ℕ, ◌==◌, Bool, not, List, [], ◌∷◌, ◌++◌, filter, fold, map, if◌then◌else◌, Option, unwrap_or}
 use Rattle.mach_types.specs.declared.events.Entry.{Entry}
 use Rattle.rv_inst.specs.Execution.{lost_by}
-use Rattle.block_model.specs.Footprints.{Bytes}
+use Rattle.rv_inst.specs.Accesses.{Bytes}
 use Rattle.block_model.specs.Setting.{Setting}
 use Rattle.log_gather.specs.Facts.{Facts, Place, facts_at, is_of, next_place, place_after}
 use Rattle.log_gather.specs.LogEvents.{LogEvent, Name, held_by}

@@ -2,7 +2,8 @@
 use Rattle.std.specs.Prelude.{ℕ, ◌&&◌, ◌||◌, Bool, not, List, [], ◌∷◌, ◌++◌, filter, if◌then◌else◌, Option, Some, None}
 use Rattle.std.specs.List.{list_all}
 use Rattle.mach_types.specs.declared.events.Entry.{Entry}
-use Rattle.block_model.specs.Footprints.{Bytes, bytes, overlap_any}
+use Rattle.rv_inst.specs.Accesses.{Bytes, bytes}
+use Rattle.block_model.specs.Footprints.{overlap_any}
 use Rattle.block_model.specs.Setting.{Setting}
 use Rattle.log_gather.specs.Facts.{Facts, Place, facts_at, here_at, is_of, next_place}
 

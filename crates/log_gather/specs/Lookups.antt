@@ -4,7 +4,7 @@ use Rattle.mach_types.specs.declared.sequences.Area.{Area}
 use Rattle.mach_types.specs.declared.sequences.TheConstants.{DESCRIPTOR_SIZE, FLAGS, RSEQ_CS}
 use Rattle.rseq_area.specs.Lookups.{looked_at}
 use Rattle.rseq_area.specs.declared.lookups.Lookups.{Lookups}
-use Rattle.block_model.specs.Footprints.{Bytes, bytes}
+use Rattle.rv_inst.specs.Accesses.{Bytes, bytes}
 
 -- so many bytes from an address on, if there is one
 abbrev pub bytes_if : Option ℕ → ℕ → List Bytes

@@ -2,7 +2,7 @@
 
 ghost use Rattle.std.specs.Prelude.{◌≡◌, [], None};
 ghost use Rattle.rv_inst.specs.Execution as execution;
-ghost use Rattle.block_model.specs.Footprints.{read_by, reserved_by, written_by};
+ghost use Rattle.rv_inst.specs.Accesses.{read_by, reserved_by, written_by};
 ghost use Rattle.log_gather.specs.Accesses.{bytes_in, bytes_of_store, entered_by};
 
 use mach_types::Store;

@@ -1,7 +1,7 @@
 //! Sets of bytes of memory.
 
 ghost use Rattle.std.specs.Prelude.{ℕ, ◌≡◌, ◌<◌, ◌^◌, ◌&&◌, [], IfOk, nat_lt};
-ghost use Rattle.block_model.specs.Footprints.{bytes};
+ghost use Rattle.rv_inst.specs.Accesses.{bytes};
 ghost use Rattle.log_gather.specs.Accesses.{bytes_in};
 ghost use Rattle.log_gather.specs.ByteSets.{AreWith, IsBounded, IsSetOf, IsWith, any_byte, any_in, holds};
 ghost use Rattle.log_gather.specs.Lookups.{bytes_if, bytes_looked_at};

@@ -12,7 +12,8 @@ use Rattle.rv_inst.specs.Sizes.{HasAccessSizes}
 use Rattle.rv_inst.specs.declared.effects.Effect.{Effect}
 use Rattle.rv_inst.specs.declared.effects.Effect.TheVariants as effect
 use Rattle.block_model.specs.History.{lost_after}
-use Rattle.block_model.specs.Footprints.{Bytes, bytes, bytes_of_all, has_byte, have_byte, read_by, written_by}
+use Rattle.rv_inst.specs.Accesses.{Bytes, bytes, read_by, written_by}
+use Rattle.block_model.specs.Footprints.{bytes_of_all, has_byte, have_byte}
 use Rattle.block_model.proofs.Swaps.Untouched.{lost_apart, lost_none, lost_or_kept, word_same}
 
 -- the bytes of an access that is aligned are among the aligned 8

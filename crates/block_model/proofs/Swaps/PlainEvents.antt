@@ -27,7 +27,8 @@ use Rattle.block_model.specs.Here.{Here, is_writable, memory, memory_in, runs, v
 use Rattle.block_model.specs.History.{lost_after}
 use Rattle.block_model.specs.Instruction.{fault_by, fetched, instruction_of}
 use Rattle.block_model.specs.Instruction as instruction
-use Rattle.block_model.specs.Footprints.{Footprint, bytes_of_all, have_byte, read_by, reserved_by}
+use Rattle.rv_inst.specs.Accesses.{read_by, reserved_by}
+use Rattle.block_model.specs.Footprints.{Footprint, bytes_of_all, have_byte}
 use Rattle.block_model.specs.PlainEvents.{footprint, footprint_drain, footprint_exec, footprint_of, is_plain, is_plain_exec_by, is_plain_exec_of, reserved_exec, reserved_of}
 use Rattle.block_model.proofs.Swaps.PlainDone.{PlainDone, as_done, plain_drain, plain_effect, plain_exec, plain_done, plain_outcome}
 use Rattle.block_model.proofs.Swaps.Outcomes.{IsFine, IsUnseen, entered_within, lost_outcome, outcome_same}

@@ -13,7 +13,8 @@ use Rattle.rv_inst.specs.declared.effects.Effect.{Effect}
 use Rattle.block_model.specs.Here.{memory_in}
 use Rattle.block_model.specs.History.{lost_after, lost_to}
 use Rattle.block_model.specs.Record.{Kernel}
-use Rattle.block_model.specs.Footprints.{bytes, bytes_of, bytes_of_all, has_byte, have_byte}
+use Rattle.rv_inst.specs.Accesses.{bytes}
+use Rattle.block_model.specs.Footprints.{bytes_of, bytes_of_all, has_byte, have_byte}
 
 -- a byte that a write doesn't have stays as it is
 untouched_one : (w : Write) (a b : ℕ) → has_byte (bytes_of w) a ≡ false → byte_after w a b ≡ b
