@@ -3,8 +3,8 @@
 
     bench/gate.py [WORD..]
 
-The words are those of `rt ci`; with none they are `--anew`, so that nothing is taken from earlier runs. What `rt ci` prints goes to
-standard error. On standard output comes a table for docs/PERFORMANCE.md: for each crate, in the order of crates.txt, how many processor
+The words are those of `rt ci`; with none they are `--anew` where the kit keeps what passed, so that nothing is taken from earlier runs.
+What `rt ci` prints goes to standard error. On standard output comes a table for docs/PERFORMANCE.md: for each crate, in the order of crates.txt, how many processor
 seconds its proof took, how many wrong bodies it has and what their tries took (with the check that they all begin with), and how many
 tests it has and what proving them took; below it all together, the clock, and what the system counted of all processes of the run.
 
@@ -95,8 +95,14 @@ def line_of(name, row):
     return f'| {name} | ' + ' | '.join(f'{value:.0f}' for value in row) + ' |'
 
 
+def from_nothing():
+    """The words by which `rt ci` takes nothing from earlier runs: none where the kit keeps nothing."""
+    told = subprocess.run(['rt', 'help'], capture_output=True, text=True)
+    return ['--anew'] if '--anew' in told.stdout + told.stderr else []
+
+
 def main():
-    words, seen, ended = sys.argv[1:] or ['--anew'], {}, threading.Event()
+    words, seen, ended = sys.argv[1:] or from_nothing(), {}, threading.Event()
     start = time.time()
     gate = subprocess.Popen(['rt', 'ci', *words], cwd=TOP, stdout=sys.stderr, start_new_session=True)
     watcher = threading.Thread(target=watch, args=(gate.pid, ended, seen))
@@ -111,7 +117,7 @@ def main():
     print('\n'.join(table(seen)))
     used = resource.getrusage(resource.RUSAGE_CHILDREN)
     kit = subprocess.run(['rt', 'version'], capture_output=True, text=True).stdout.strip()
-    print(f'\n`rt ci {" ".join(words)}` on {len(os.sched_getaffinity(0))} processors, {kit}, {time.strftime("%d %B %Y")}: '
+    print(f'\n`{" ".join(["rt", "ci", *words])}` on {len(os.sched_getaffinity(0))} processors, {kit}, {time.strftime("%d %B %Y")}: '
           f'{clock / 60:.0f} minutes on the clock, {used.ru_utime + used.ru_stime:.0f} processor seconds, status {status}')
     return status
 
