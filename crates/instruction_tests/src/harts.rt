@@ -1,10 +1,10 @@
-//! Tests: worked examples, with values found by hand.
+//! Tests of `hart_state`: worked examples, with values found by hand.
 
 ghost use Rattle.std.specs.Prelude.{◌≢◌};
 ghost use Rattle.mach_types.specs.Bytes.{IsAccessSize};
 ghost use Rattle.rv_inst.specs.Sizes.{HasAccessSizes};
 
-use crate::HartState;
+use hart_state::HartState;
 use mach_types::{FLAT_START, FlatMemory, Tid, UserMem, Why};
 use rv_inst::{AmoOp, Effect};
 use std::alloc::{AllocError, Global};

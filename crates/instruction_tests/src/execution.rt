@@ -1,12 +1,12 @@
-//! What the functions give on vectors from outside, and on cases of the manual.
+//! Tests of `rv_exec`: what its functions give on vectors from outside, and on cases of the manual.
 
 mod manual;
 mod vectors;
 
-use super::*;
 use mach_types::Regs;
 use manual::EFFECTS;
-use rv_inst::Inst;
+use rv_exec::{amo_value, effect, finish_load};
+use rv_inst::Effect;
 use std::test::Fail;
 use vectors::{AMOS, BRANCHES, IMMEDIATES, LOADS, REGISTERS};
 

@@ -1,6 +1,6 @@
 //! Code with labels. Expected words come from GNU as 2.40 for the same source.
 
-use crate::{Asm, AsmFault, encode};
+use rv_asm::{Asm, AsmFault, encode};
 use rv_inst::Inst;
 use std::alloc::Global;
 use std::test::Fail;

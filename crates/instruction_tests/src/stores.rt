@@ -1,10 +1,12 @@
+//! Tests of `store_buffers`: what a hart sees through its waiting stores, with values found by hand.
+
 ghost use Rattle.std.specs.Prelude.{◌≡◌, ◌+◌, ◌≤◌, ◌<◌, length};
 ghost use Rattle.mach_types.specs.Bytes.{IsAccessSize, word_at};
 
-use crate::{Store, StoreBuffer};
-use mach_types::UserMem;
+use mach_types::{Store, UserMem};
 use std::process::Abort;
 use std::test::Fail;
+use store_buffers::StoreBuffer;
 
 /// Memory that can be read from `first` to `last`, and not written: the byte at an address is the address's
 /// lowest byte.

@@ -1,6 +1,6 @@
-//! Words from outside: what GNU as 2.40 gives for the source beside each of them.
+//! Tests of `rv_decode`, words from outside: what GNU as 2.40 gives for the source beside each of them.
 
-use crate::decode;
+use rv_decode::decode;
 use rv_inst::Inst;
 use std::process::Abort;
 

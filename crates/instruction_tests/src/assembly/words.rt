@@ -2,7 +2,7 @@
 //! every other word is right too, the contract of `encode` says over `decode`, whose tests have a word for
 //! each instruction.
 
-use crate::encode;
+use rv_asm::encode;
 use rv_inst::Inst;
 
 /// A table of instructions and their words, a line each.

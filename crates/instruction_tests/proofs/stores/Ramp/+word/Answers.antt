@@ -4,8 +4,8 @@ use Rattle.std.proofs.lemmas.Nat.{mul-le, pow-add}
 use Rattle.mach_types.specs.Bytes.{joined, word_at}
 use Rattle.store_buffers.proofs.Powers.{pow_256-positive}
 use Rattle.store_buffers.proofs.WordsSeen.{word_at-bytes}
-use Rattle.store_buffers.specs.contracts.tests.RampUserMem.TheImpl.{byte-value}
-use Rattle.store_buffers.proofs.tests.Ramp.+word.Goals as goal
+use Rattle.instruction_tests.specs.contracts.stores.RampUserMem.TheImpl.{byte-value}
+use Rattle.instruction_tests.proofs.stores.Ramp.+word.Goals as goal
 
 joined-none : (o : Option ℕ) → joined o None ≡ None
 joined-none None = refl
