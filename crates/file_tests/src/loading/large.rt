@@ -1,8 +1,8 @@
 //! The largest file, with memory for all frames.
 
 use super::programs::EXITS;
-use crate::load;
 use byte_views::write_word;
+use elf_load::load;
 use mach_types::Limits;
 use std::test::Fail;
 

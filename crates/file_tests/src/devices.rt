@@ -1,6 +1,6 @@
-//! Tests: the two adapters to the system.
+//! Tests of `outside`: the two adapters to the system.
 
-use super::*;
+use outside::{Failed, FetchError, FileShelf, OutSink, Shelf, Sink, emit, fetch};
 use std::io::{ErrorKind, Write};
 use std::test::Fail;
 use std::{fs, io};

@@ -39,7 +39,7 @@
 //! executed, and one at 0x11128 that is read and written, with 16 bytes from 0x128 of the file and
 //! 0x2010 bytes of memory.
 
-use crate::load;
+use elf_load::load;
 use mach_types::Limits;
 use std::test::Fail;
 

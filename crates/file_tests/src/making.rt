@@ -1,7 +1,7 @@
-//! Files for programs, what is due for them, and parts that are refused.
+//! Tests of `elf_make`: files for programs, what is due for them, and parts that are refused.
 
-use crate::{MakeFault, Part, Parts, write_elf};
 use elf_load::load;
+use elf_make::{MakeFault, Part, Parts, write_elf};
 use mach_types::Limits;
 use std::alloc::{AllocError, Global};
 use std::test::Fail;

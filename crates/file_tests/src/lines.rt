@@ -1,8 +1,10 @@
-use crate::{BadLine, Line, LineReader, print_entry};
+//! Tests of `step_log`: lines of the log, printed and read.
+
 use arrayvec::ArrayVec;
 use mach_types::{Choice, Entry, Hart, Kind, Tid};
 use std::process::Abort;
 use std::test::Fail;
+use step_log::{BadLine, Line, LineReader, print_entry};
 
 fn prints(rt: &impl Abort, entry: Entry, text: &[u8]) {
     if entry.hart.0 < 8 {

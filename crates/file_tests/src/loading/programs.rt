@@ -1,6 +1,6 @@
 //! Small programs, and the answers that are due for them.
 
-use crate::{ElfFault, load};
+use elf_load::{ElfFault, load};
 use mach_types::Limits;
 use std::alloc::Global;
 use std::test::Fail;
