@@ -1,9 +1,9 @@
-//! Gathered logs against a second way: each sequence by the acts of the log as it then stands, with each byte
+//! Tests of `log_gather`: gathered logs against a second way: each sequence by the acts of the log as it then stands, with each byte
 //! that an event touches, read of a machine that plays the log again.
 
-use crate::gather;
 use block_view::{Act, Form, SeqEnd, ViewFault, acts};
 use elf_load::load;
+use log_gather::gather;
 use mach_types::sequences::{DESCRIPTOR_SIZE, FLAGS, RSEQ_CS};
 use mach_types::{Choice, Entry, Hart, Kind, Limits, Tid};
 use machine_core::Machine;

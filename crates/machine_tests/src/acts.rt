@@ -1,7 +1,7 @@
-//! A log that is no run is refused by the number of its first wrong entry. No command meets one: summaries of
+//! Tests of `block_view`: a log that is no run is refused by the number of its first wrong entry. No command meets one: summaries of
 //! runs are worked runs.
 
-use crate::{ViewFault, acts};
+use block_view::{ViewFault, acts};
 use elf_load::load;
 use mach_types::{Entry, Hart, Kind, Limits, Tid};
 use std::test::Fail;
