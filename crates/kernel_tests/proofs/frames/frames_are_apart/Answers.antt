@@ -1,5 +1,5 @@
 use Rattle.std.proofs.Common.{sym}
-use Rattle.frame_pool.proofs.tests.frames_are_apart.Goals as goal
+use Rattle.kernel_tests.proofs.frames.frames_are_apart.Goals as goal
 
 pub mark-requires : goal.mark-requires
 mark-requires g c = rw c.is_used_up.ensures (c.taken-second.ensures.kept c.taken-first.result c.taken-first.ensures.held)

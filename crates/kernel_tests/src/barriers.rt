@@ -1,7 +1,7 @@
-//! Tests: worked rows, with values found by hand.
+//! Tests of `membarrier_cmds`: worked rows, with values found by hand.
 
-use crate::{Answer, Registered, command};
-use mach_types::Hart;
+use mach_types::{Answer, Hart, Registered};
+use membarrier_cmds::command;
 use std::test::Fail;
 
 /// Nothing is registered.

@@ -1,9 +1,9 @@
 use Rattle.std.proofs.Common.{None, Some, slice_set, ap, ◌∙◌}
 use Rattle.std.proofs.lemmas.List.{set-set}
-use Rattle.frame_pool.proofs.Holding.{IsTaken-here}
-use Rattle.frame_pool.proofs.Places.{slice_set-same}
+use Rattle.frame_pool.proofs.Laws.{IsTaken-here}
+use Rattle.kernel_tests.proofs.TakenFrames.{slice_set-same}
 use Rattle.frame_pool.specs.Pool.{fresh}
-use Rattle.frame_pool.proofs.tests.is_used_up.Goals as goal
+use Rattle.kernel_tests.proofs.frames.is_used_up.Goals as goal
 
 pub give-requires : goal.give-requires
 give-requires c = rw c.in-Some.ensures.taken (IsTaken-here c.args.pool.now c.in-Some.frame None fresh c.in-Some.ensures.was_free)

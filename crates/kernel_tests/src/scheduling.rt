@@ -1,5 +1,7 @@
-use crate::Ready;
+//! Tests of `scheduler`: whose turn it is, and on which harts threads may run.
+
 use mach_types::{Errno, Hart, Tid};
+use scheduler::Ready;
 use std::test::Fail;
 
 /// The harts of four on which a thread may run, one bit each.

@@ -1,7 +1,9 @@
+//! Tests of `frame_pool`: frames that are taken, written and given back.
+
 ghost use Rattle.std.specs.Prelude.{◌≡◌, ◌≢◌, ◌<◌, ℕ};
 ghost use Rattle.frame_pool.specs.Pool.{IsTaken};
 
-use crate::{Frame, FramePool};
+use frame_pool::{Frame, FramePool};
 use std::process::Abort;
 use std::test::Fail;
 

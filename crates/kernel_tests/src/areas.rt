@@ -1,8 +1,8 @@
-//! Tests: worked rows, with values found by hand from the layout of the two structures.
+//! Tests of `rseq_area`: worked rows, with values found by hand from the layout of the two structures.
 
-use crate::{Lookups, looked_at, lowest_cid, named, register, set_cpu, unregister};
 use mach_types::errors::{EBUSY, EFAULT, EINVAL, EPERM};
 use mach_types::{Area, BadWhy, Errno, FlatMemory, Named, Seq, UserMem};
+use rseq_area::{Lookups, looked_at, lowest_cid, named, register, set_cpu, unregister};
 use std::test::Fail;
 
 /// The signature that librseq has on RISC-V.

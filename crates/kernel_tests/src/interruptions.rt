@@ -1,7 +1,7 @@
-//! Tests: worked rows, with values found by hand from the layout of the two structures.
+//! Tests of `rseq_abort`: worked rows, with values found by hand from the layout of the two structures.
 
-use crate::interrupt;
 use mach_types::{Area, BadWhy, FlatMemory, Outcome, UserMem};
+use rseq_abort::interrupt;
 use std::test::Fail;
 
 /// The area of the tests.

@@ -1,7 +1,8 @@
 use Rattle.std.proofs.Common.{None}
-use Rattle.frame_pool.proofs.Holding.{IsTaken-here, IsTaken-kept}
+use Rattle.frame_pool.proofs.Laws.{IsTaken-here}
+use Rattle.kernel_tests.proofs.TakenFrames.{IsTaken-written}
 use Rattle.frame_pool.specs.Pool.{fresh}
-use Rattle.frame_pool.proofs.tests.taken.Goals as goal
+use Rattle.kernel_tests.proofs.frames.taken.Goals as goal
 
 pub returns-clause-held : goal.returns-clause-held
 returns-clause-held g c =
@@ -12,4 +13,4 @@ returns-clause-held g c =
 pub returns-clause-kept : goal.returns-clause-kept
 returns-clause-kept g c = λ n held.
     let taken = rw c.expect.ensures at c.take.ensures.taken in
-    rw taken (IsTaken-kept c.args.pool.now c.expect.result n fresh held)
+    rw taken (IsTaken-written c.args.pool.now c.expect.result n fresh held)
