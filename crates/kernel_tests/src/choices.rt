@@ -1,8 +1,8 @@
-use crate::cases::by_word;
-use crate::chooser::generator;
-use crate::{Chooser, Pick};
+//! Tests of `chooser`: what harts do next, by what is seen of them and by the words of their generators. The
+//! words were computed apart from this program, by the algorithms of the generators' authors.
+
+use chooser::{Chooser, Pick};
 use mach_types::{Choice, Hart, Sight, Tid};
-use rand_core::Rng;
 
 /// An idle hart, and no thread that could run there.
 const IDLE: Sight = Sight {
@@ -166,99 +166,118 @@ fn harts_that_draw_no_word(rt: HostRuntime) {
     }
 }
 
+/// What is seen of hart 0, the low bits of the first word that it draws, a seed that gives such a word, and
+/// what it does next.
+type ByWord = (Sight, u64, u64, Pick);
+
 #[test]
 fn words_decide(rt: HostRuntime) {
-    for (row, sight, word, expected) in [
-        (0, RUNNING, 0, plain(Choice::Preempt)),
-        (1, RUNNING, 8, plain(Choice::Preempt)),
-        (2, RUNNING, 16 * 5, plain(Choice::Preempt)),
-        (3, ran(17, RUNNING), 0, plain(Choice::Preempt)),
-        (4, ran(15, RUNNING), 16 * 5, executed(5)),
+    let rows: [ByWord; 19] = [
+        (RUNNING, 0, 185, plain(Choice::Preempt)),
+        (RUNNING, 8, 28, plain(Choice::Preempt)),
+        (RUNNING, 16 * 5, 88, plain(Choice::Preempt)),
+        (ran(17, RUNNING), 0, 185, plain(Choice::Preempt)),
+        (ran(15, RUNNING), 16 * 5, 88, executed(5)),
         (
-            5,
             Sight {
                 first_ready: None,
                 ..RUNNING
             },
             16 * 5,
+            88,
             executed(5),
         ),
-        (6, STORING, 16 * 5, executed(5)),
-        (7, RUNNING, 4, executed(0)),
-        (8, RUNNING, 12, executed(0)),
-        (9, RUNNING, 1, executed(0)),
-        (10, STORING, 1, plain(Choice::Drain)),
-        (11, STORING, 5, plain(Choice::Drain)),
+        (STORING, 16 * 5, 88, executed(5)),
+        (RUNNING, 4, 130, executed(0)),
+        (RUNNING, 12, 250, executed(0)),
+        (RUNNING, 1, 291, executed(0)),
+        (STORING, 1, 291, plain(Choice::Drain)),
+        (STORING, 5, 979, plain(Choice::Drain)),
         (
-            12,
             ran(0, storing(8, RUNNING)),
             16 * 5 + 13,
+            108,
             plain(Choice::Drain),
         ),
-        (13, STORING, 2, executed(0)),
-        (14, STORING, 15, executed(0)),
-        (15, STORING, 16 * 1 + 7, executed(1)),
-        (16, RUNNING, 16 * 7 + 15, executed(7)),
-        (17, RUNNING, 16 * 8 + 2, executed(0)),
-        (18, RUNNING, u64::MAX, executed(7)),
-    ] {
-        assert_eq!(rt; by_word(&sight, word), expected, "row {row}");
+        (STORING, 2, 80, executed(0)),
+        (STORING, 15, 1233, executed(0)),
+        (STORING, 16 * 1 + 7, 72, executed(1)),
+        (RUNNING, 16 * 7 + 15, 1409, executed(7)),
+        (RUNNING, 16 * 8 + 2, 182, executed(0)),
+        (RUNNING, 0xffff, 13890, executed(7)),
+    ];
+    for (sight, word, seed, expected) in rows {
+        let next = Chooser::new(seed).next(Hart(0), &sight);
+        assert_eq!(rt; next, Some(expected), "word {word}");
     }
 }
 
-/// The values were computed apart from this program, by the algorithms of the generators' authors.
+/// A seed, a hart, and the first words of its generator.
+type Words = (u64, u8, [u64; 3]);
+
+const WORDS: [Words; 5] = [
+    (
+        1,
+        0,
+        [
+            0xcfc5_d07f_6f03_c29b,
+            0xbf42_4132_963f_e08d,
+            0x19a3_7d57_57aa_f520,
+        ],
+    ),
+    (
+        1,
+        1,
+        [
+            0xc3e6_7584_b5c4_fc2a,
+            0x8983_7ec3_9e40_f2c8,
+            0xa6bb_0b29_87ac_94cd,
+        ],
+    ),
+    (
+        42,
+        0,
+        [
+            0xd076_4d4f_4476_689f,
+            0x519e_4174_576f_3791,
+            0xfbe0_7cfb_0c24_ed8c,
+        ],
+    ),
+    (
+        42,
+        1,
+        [
+            0x2b05_935e_6f17_747d,
+            0x9906_60bf_c6a5_df45,
+            0xe04e_1719_81a8_90d4,
+        ],
+    ),
+    (
+        u64::MAX,
+        1,
+        [
+            0x5317_5d61_490b_23df,
+            0x61da_6f3d_c380_d507,
+            0x5c0f_df91_ec9a_7bfc,
+        ],
+    ),
+];
+
+/// A thread that neither leaves nor drains shows three bits of each word: its credit. All bits of these words
+/// are worked examples of `chooser`.
 #[test]
 fn first_words(rt: HostRuntime) {
-    for (seed, hart, words) in [
-        (
-            1,
-            0,
-            [
-                0xcfc5_d07f_6f03_c29b,
-                0xbf42_4132_963f_e08d,
-                0x19a3_7d57_57aa_f520,
-            ],
-        ),
-        (
-            1,
-            1,
-            [
-                0xc3e6_7584_b5c4_fc2a,
-                0x8983_7ec3_9e40_f2c8,
-                0xa6bb_0b29_87ac_94cd,
-            ],
-        ),
-        (
-            42,
-            0,
-            [
-                0xd076_4d4f_4476_689f,
-                0x519e_4174_576f_3791,
-                0xfbe0_7cfb_0c24_ed8c,
-            ],
-        ),
-        (
-            42,
-            1,
-            [
-                0x2b05_935e_6f17_747d,
-                0x9906_60bf_c6a5_df45,
-                0xe04e_1719_81a8_90d4,
-            ],
-        ),
-        (
-            u64::MAX,
-            1,
-            [
-                0x5317_5d61_490b_23df,
-                0x61da_6f3d_c380_d507,
-                0x5c0f_df91_ec9a_7bfc,
-            ],
-        ),
-    ] {
-        let mut given = generator(seed, hart);
+    let alone = Sight {
+        first_ready: None,
+        ..RUNNING
+    };
+    for (seed, hart, words) in WORDS {
+        assert!(rt; hart < 8);
+        let mut chooser = Chooser::new(seed);
         for word in words {
-            assert_eq!(rt; given.next_u64(), word, "seed {seed}, hart {hart}");
+            let next = chooser.next(Hart(hart), &alone);
+            let credit = (word / 16 % 8) as u8;
+            assert_eq!(rt; next, Some(executed(credit)), "seed {seed}, hart {hart}");
         }
     }
 }
