@@ -1,1 +1,2 @@
+mod RunningThreads
 mod TakenFrames

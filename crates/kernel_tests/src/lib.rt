@@ -1,10 +1,12 @@
-//! Tests of the kernel: of its tables, and of what `run` lets a hart do next.
+//! Tests of the kernel: of its tables, of what `run` lets a hart do next, and of the calls that threads make.
 #![tactic(auto)]
 
 #[cfg(test)]
 mod areas;
 #[cfg(test)]
 mod barriers;
+#[cfg(test)]
+mod calls;
 #[cfg(test)]
 mod choices;
 #[cfg(test)]

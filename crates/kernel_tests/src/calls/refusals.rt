@@ -1,7 +1,7 @@
 //! Each refusal of each call, beside calls that succeed.
 
-use crate::tests::scenes::{console, memory, sequences, signalling, threads};
-use crate::tests::steps::{Scene, play};
+use crate::calls::scenes::{console, memory, sequences, signalling, threads};
+use crate::calls::steps::{Scene, play};
 use std::test::Fail;
 
 #[test]

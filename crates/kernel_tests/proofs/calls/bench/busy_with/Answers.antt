@@ -1,7 +1,7 @@
 -- The thread is the one of its hart.
 use Rattle.std.proofs.Common.{ℕ, Option, is_some, sym, ap}
 use Rattle.block_model.proofs.Laws.{running_there}
-use Rattle.sys_calls.proofs.tests.bench.busy_with.Goals as goal
+use Rattle.kernel_tests.proofs.calls.bench.busy_with.Goals as goal
 
 pub returns : goal.returns
 returns c =

@@ -8,8 +8,7 @@ ghost use Rattle.block_model.specs.Calls.Barriers.{running_harts};
 ghost use Rattle.block_model.specs.Tables.{AreOfLive, AreSignalsOfLive, IsTables};
 ghost use Rattle.sys_calls.specs.Registered.{areas_by_number};
 
-use crate::tests::words::EXIT;
-use crate::{Areas, CallEnd, Called, Console, Kernel, area_of, make_call};
+use crate::calls::words::EXIT;
 use elf_load::load;
 use frame_pool::FramePool;
 use kernel_threads::Threads;
@@ -19,6 +18,7 @@ use signals::Signals;
 use std::alloc::Global;
 use std::process::Abort;
 use std::test::Fail;
+use sys_calls::{Areas, CallEnd, Called, Console, Kernel, area_of, make_call};
 
 /// A page of instructions, which can be read and can't be written.
 pub const CODE: u64 = 0x10000;

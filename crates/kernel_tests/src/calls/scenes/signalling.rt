@@ -1,8 +1,8 @@
 //! sigaction(2), sigprocmask(2), tkill(2) and tgkill(2).
 
-use crate::tests::bench::{CODE, DATA, DATA_END, Row};
-use crate::tests::steps::{Scene, Step};
-use crate::tests::words::{
+use crate::calls::bench::{CODE, DATA, DATA_END, Row};
+use crate::calls::steps::{Scene, Step};
+use crate::calls::words::{
     ABOVE, ALL, CLONE, EFAULT, EINVAL, ESRCH, RT_SIGACTION, RT_SIGPROCMASK, TGKILL, THREAD, TKILL,
 };
 

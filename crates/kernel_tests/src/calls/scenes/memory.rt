@@ -1,8 +1,8 @@
 //! brk(2), mmap(2), munmap(2) and mprotect(2).
 
-use crate::tests::bench::{CODE, DATA, DATA_END, Row, USER_END};
-use crate::tests::steps::{Scene, Step};
-use crate::tests::words::{
+use crate::calls::bench::{CODE, DATA, DATA_END, Row, USER_END};
+use crate::calls::steps::{Scene, Step};
+use crate::calls::words::{
     ABOVE, AT_MAPPED, BREAK, BRK, EACCES, EINVAL, ENOMEM, FLAGS, MAPPED, MMAP, MPROTECT, MUNMAP,
     PAGE,
 };

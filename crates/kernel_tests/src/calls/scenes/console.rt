@@ -1,8 +1,8 @@
 //! write(2) and writev(2).
 
-use crate::tests::bench::{CODE, DATA, DATA_END, Row};
-use crate::tests::steps::{Scene, Step};
-use crate::tests::words::{ABOVE, EBADF, EFAULT, EINVAL, ENOSPC, WRITE, WRITEV};
+use crate::calls::bench::{CODE, DATA, DATA_END, Row};
+use crate::calls::steps::{Scene, Step};
+use crate::calls::words::{ABOVE, EBADF, EFAULT, EINVAL, ENOSPC, WRITE, WRITEV};
 
 /// The pages of the stack, 262,144 bytes.
 const STACK: u64 = 0x3f_fff0_0000;

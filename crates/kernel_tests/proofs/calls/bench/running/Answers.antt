@@ -1,7 +1,7 @@
 -- The set of two harts, bit by bit.
 use Rattle.std.proofs.Common.{◌≡◌, ◌+◌, Bool, true, false, cond, is_some, refl, sym, ◌∙◌}
 use Rattle.mach_types.specs.Kernel.Threads.{running_on}
-use Rattle.sys_calls.proofs.tests.bench.running.Goals as goal
+use Rattle.kernel_tests.proofs.calls.bench.running.Goals as goal
 
 two_harts : (a b : Bool) → 0 + cond a 1 0 + cond b 2 0 ≡ cond a 1 0 + cond b 2 0
 two_harts true true = refl

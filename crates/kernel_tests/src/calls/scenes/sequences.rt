@@ -1,8 +1,8 @@
 //! rseq(2), and membarrier(2) (uapi linux/membarrier.h).
 
-use crate::tests::bench::{CODE, DATA, Row, USER_END};
-use crate::tests::steps::{Scene, Step};
-use crate::tests::words::{ABOVE, EBUSY, EFAULT, EINVAL, EPERM, MEMBARRIER, RSEQ, SIGNATURE};
+use crate::calls::bench::{CODE, DATA, Row, USER_END};
+use crate::calls::steps::{Scene, Step};
+use crate::calls::words::{ABOVE, EBUSY, EFAULT, EINVAL, EPERM, MEMBARRIER, RSEQ, SIGNATURE};
 
 /// Another place of an area than [`DATA`].
 const OTHER: u64 = DATA + 32;

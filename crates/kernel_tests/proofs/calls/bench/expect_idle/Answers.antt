@@ -1,6 +1,6 @@
 use Rattle.std.proofs.Common.{◌+◌, ◌≤◌, arith}
-use Rattle.sys_calls.proofs.RunningThreads.{idle_among}
-use Rattle.sys_calls.proofs.tests.bench.expect_idle.Goals as goal
+use Rattle.kernel_tests.proofs.RunningThreads.{idle_among}
+use Rattle.kernel_tests.proofs.calls.bench.expect_idle.Goals as goal
 
 pub returns : goal.returns
 returns g c =

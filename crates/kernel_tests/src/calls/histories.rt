@@ -1,9 +1,8 @@
 //! What threads do to one another by their calls, and what the kernel writes.
 
-use crate::CallEnd;
-use crate::tests::bench::{Bench, CID, CODE, DATA, DATA_END, Row, USER_END};
-use crate::tests::steps::{Scene, Step, play};
-use crate::tests::words::{
+use crate::calls::bench::{Bench, CID, CODE, DATA, DATA_END, Row, USER_END};
+use crate::calls::steps::{Scene, Step, play};
+use crate::calls::words::{
     ABOVE, ALL, AT_MAPPED, BREAK, BRK, CLONE, EAGAIN, EFAULT, EINTR, EINVAL, ESRCH, EXIT,
     EXIT_GROUP, FLAGS, FUTEX, GETCPU, GETPID, GETTID, MAPPED, MASKABLE, MMAP, MPROTECT, MUNMAP,
     PAGE, RSEQ, RT_SIGACTION, RT_SIGPROCMASK, SCHED_SETAFFINITY, SCHED_YIELD, SET_TID_ADDRESS,
@@ -12,6 +11,7 @@ use crate::tests::words::{
 use mach_types::signals::SIGSEGV;
 use mach_types::{Area, End, Hart, Store, ThreadState, Tid, Write};
 use std::test::Fail;
+use sys_calls::CallEnd;
 
 /// No arguments, and those of a thread that is made.
 const NONE: [u64; 5] = [0; 5];

@@ -8,7 +8,7 @@ use Rattle.mach_types.specs.declared.threads.ThreadState.TheVariants.{Running}
 use Rattle.block_model.proofs.Laws.{ready_listed, tables_ran, areas_changed, signals_stay}
 use Rattle.sys_calls.specs.Registered.{areas_by_number}
 use Rattle.block_model.specs.Tables.{AreOfLive, AreSignalsOfLive}
-use Rattle.sys_calls.proofs.tests.bench.Bench.begin.Goals as goal
+use Rattle.kernel_tests.proofs.calls.bench.Bench.begin.Goals as goal
 
 pub invariant_of-self : goal.invariant_of-self
 invariant_of-self g c =

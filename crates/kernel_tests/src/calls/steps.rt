@@ -1,11 +1,11 @@
 //! Scenes: what threads of a process do, step by step, and what must come of it.
 
-use crate::CallEnd;
-use crate::tests::bench::{Bench, Row};
+use crate::calls::bench::{Bench, Row};
 use mach_types::{Area, ThreadState, Tid, Write};
 use std::alloc::Global;
 use std::process::Abort;
 use std::test::Fail;
+use sys_calls::CallEnd;
 
 /// A step of a scene.
 #[derive(Clone, Copy)]

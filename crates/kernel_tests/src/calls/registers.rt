@@ -1,9 +1,8 @@
 //! Calls after which a thread goes on with other registers: a handler that returns, and a barrier that
 //! begins.
 
-use crate::CallEnd;
-use crate::tests::bench::{Bench, CODE, DATA, DATA_END, Row};
-use crate::tests::words::{
+use crate::calls::bench::{Bench, CODE, DATA, DATA_END, Row};
+use crate::calls::words::{
     ABOVE, ALL, CLONE, EPERM, MASKABLE, MEMBARRIER, MPROTECT, RT_SIGPROCMASK, RT_SIGRETURN, THREAD,
     TKILL,
 };
@@ -11,6 +10,7 @@ use mach_types::signals::SIGSEGV;
 use mach_types::{End, Regs, Saved};
 use std::process::Abort;
 use std::test::Fail;
+use sys_calls::CallEnd;
 
 /// A thread whose handler returns with this stack pointer.
 fn returning(sp: u64) -> Saved {

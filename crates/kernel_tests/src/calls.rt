@@ -1,4 +1,4 @@
-//! Tests: each refusal of each call beside a call that succeeds, with answers from the manual pages; what
+//! Tests of `sys_calls`: each refusal of each call beside a call that succeeds, with answers from the manual pages; what
 //! threads do to one another by calls; and what the kernel writes.
 
 mod bench;

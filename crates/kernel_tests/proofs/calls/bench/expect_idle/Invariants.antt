@@ -1,7 +1,7 @@
 use Rattle.std.proofs.Common.{◌≡◌, ◌<◌, Some, ℕ}
 use Rattle.mach_types.specs.Kernel.Threads.{state_of}
 use Rattle.mach_types.specs.declared.threads.ThreadState.TheVariants.{Running}
-use Rattle.sys_calls.proofs.tests.bench.expect_idle.Given as goal
+use Rattle.kernel_tests.proofs.calls.bench.expect_idle.Given as goal
 
 -- no thread of a number so far runs on the hart
 abbrev pub invariant-loop-number : goal.invariant-loop-number

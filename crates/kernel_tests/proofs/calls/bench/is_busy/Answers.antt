@@ -1,7 +1,7 @@
 -- A hart on which none of the threads runs is idle.
 use Rattle.std.proofs.Common.{◌+◌, ◌≤◌, ℕ, Option, is_some, sym, ap, arith}
-use Rattle.sys_calls.proofs.RunningThreads.{idle_among}
-use Rattle.sys_calls.proofs.tests.bench.is_busy.Goals as goal
+use Rattle.kernel_tests.proofs.RunningThreads.{idle_among}
+use Rattle.kernel_tests.proofs.calls.bench.is_busy.Goals as goal
 
 pub returns : goal.returns
 returns g c =

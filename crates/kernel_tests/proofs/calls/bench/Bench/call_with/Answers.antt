@@ -1,6 +1,6 @@
 -- The thread is the one of its hart.
 use Rattle.block_model.proofs.Laws.{running_there}
-use Rattle.sys_calls.proofs.tests.bench.Bench.call_with.Goals as goal
+use Rattle.kernel_tests.proofs.calls.bench.Bench.call_with.Goals as goal
 
 pub make_call-requires-clause-runs : goal.make_call-requires-clause-runs
 make_call-requires-clause-runs g c =

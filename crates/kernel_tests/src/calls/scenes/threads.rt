@@ -1,9 +1,9 @@
 //! futex(2), sched_setaffinity(2), sched_getaffinity(2), getcpu(2), clone(2), numbers that a thread is
 //! told, and those of no call.
 
-use crate::tests::bench::{CODE, DATA, DATA_END, Row, USER_END};
-use crate::tests::steps::{Scene, Step};
-use crate::tests::words::{
+use crate::calls::bench::{CODE, DATA, DATA_END, Row, USER_END};
+use crate::calls::steps::{Scene, Step};
+use crate::calls::words::{
     ABOVE, CLONE, EAGAIN, EFAULT, EINVAL, ENOSYS, EPERM, ESRCH, FUTEX, GETCPU, GETPID, GETTID,
     SCHED_GETAFFINITY, SCHED_SETAFFINITY, SET_TID_ADDRESS, THREAD,
 };
