@@ -119,7 +119,8 @@ fn what_an_area_names(rt: HostRuntime) -> Result<(), Fail> {
     Ok(())
 }
 
-/// A word that is changed, and the addresses of the descriptor and of the signature at which the check of the area then looks.
+/// A word that is changed, and the addresses of the descriptor and of the signature at which the check of the
+/// area then looks.
 const LOOKED_AT: [(u64, u64, Option<u64>, Option<u64>); 13] = [
     (UNUSED, 0, Some(DESCRIPTOR), Some(0x104C)),
     (POINTER, 0, None, None),

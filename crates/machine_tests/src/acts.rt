@@ -1,5 +1,5 @@
-//! Tests of `block_view`: a log that is no run is refused by the number of its first wrong entry. No command meets one: summaries of
-//! runs are worked runs.
+//! Tests of `block_view`: a log that is no run is refused by the number of its first wrong entry. No command
+//! meets one: summaries of runs are worked runs.
 
 use block_view::{ViewFault, acts};
 use elf_load::load;

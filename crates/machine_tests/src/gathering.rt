@@ -1,5 +1,5 @@
-//! Tests of `log_gather`: gathered logs against a second way: each sequence by the acts of the log as it then stands, with each byte
-//! that an event touches, read of a machine that plays the log again.
+//! Tests of `log_gather`: gathered logs against a second way, each sequence by the acts of the log as it then
+//! stands, with each byte that an event touches, read of a machine that plays the log again.
 
 use block_view::{Act, Form, SeqEnd, ViewFault, acts};
 use elf_load::load;
