@@ -9,8 +9,6 @@ mod forms;
 mod ledger;
 mod passing;
 mod tally;
-#[cfg(test)]
-mod tests;
 mod theorems;
 mod viewing;
 

@@ -133,9 +133,17 @@ pub word_80_preempts : pick running 80 ≡ plain asked.Preempt
 unfolding pick
 word_80_preempts = refl
 
+pub thread_leaves_after_17_instructions : pick (record running { ran = 17 }) 0 ≡ plain asked.Preempt
+unfolding pick
+thread_leaves_after_17_instructions = refl
+
 pub word_4_executes : pick running 4 ≡ executed 0
 unfolding pick
 word_4_executes = refl
+
+pub word_12_executes : pick running 12 ≡ executed 0
+unfolding pick
+word_12_executes = refl
 
 pub thread_stays_for_16_instructions : pick (record running { ran = 15 }) 80 ≡ executed 5
 unfolding pick
@@ -157,6 +165,10 @@ pub word_5_drains : pick storing 5 ≡ plain asked.Drain
 unfolding pick
 word_5_drains = refl
 
+pub word_93_drains : pick (record storing { stores = 8; ran = 0 }) 93 ≡ plain asked.Drain
+unfolding pick
+word_93_drains = refl
+
 pub word_1_has_no_store_to_drain : pick running 1 ≡ executed 0
 unfolding pick
 word_1_has_no_store_to_drain = refl
@@ -169,6 +181,14 @@ pub word_15_gives_no_credit : pick running 15 ≡ executed 0
 unfolding pick
 word_15_gives_no_credit = refl
 
+pub word_15_drains_nothing : pick storing 15 ≡ executed 0
+unfolding pick
+word_15_drains_nothing = refl
+
+pub word_23_gives_credit : pick storing 23 ≡ executed 1
+unfolding pick
+word_23_gives_credit = refl
+
 pub word_82_gives_credit : pick storing 82 ≡ executed 5
 unfolding pick
 word_82_gives_credit = refl
@@ -180,6 +200,10 @@ word_127_gives_most_credit = refl
 pub word_130_gives_no_credit : pick running 130 ≡ executed 0
 unfolding pick
 word_130_gives_no_credit = refl
+
+pub largest_word_gives_most_credit : pick running 0xffffffffffffffff ≡ executed 7
+unfolding pick
+largest_word_gives_most_credit = refl
 
 -- each hart has the generator of its number, and an open pick moves it alone
 pub generator_of_hart_3 : generator_in (first_generators 1) 3 ≡ first_generator 1 3
@@ -205,11 +229,55 @@ pub second_word_of_seed_1 : word (after_words 1 (first_generator 1 0)) ≡ 0xbf4
 unfolding first_generator word next_generator fill_bytes stream_of word_bytes u32_at
 second_word_of_seed_1 = refl
 
+pub third_word_of_seed_1 : word (after_words 2 (first_generator 1 0)) ≡ 0x19a37d5757aaf520
+unfolding first_generator word next_generator fill_bytes stream_of word_bytes u32_at
+third_word_of_seed_1 = refl
+
 pub seed_1_hart_1 : word (first_generator 1 1) ≡ 0xc3e67584b5c4fc2a
 unfolding first_generator word next_generator fill_bytes stream_of word_bytes u32_at
 seed_1_hart_1 = refl
+
+pub seed_1_hart_1_second : word (after_words 1 (first_generator 1 1)) ≡ 0x89837ec39e40f2c8
+unfolding first_generator word next_generator fill_bytes stream_of word_bytes u32_at
+seed_1_hart_1_second = refl
+
+pub seed_1_hart_1_third : word (after_words 2 (first_generator 1 1)) ≡ 0xa6bb0b2987ac94cd
+unfolding first_generator word next_generator fill_bytes stream_of word_bytes u32_at
+seed_1_hart_1_third = refl
+
+pub seed_42_hart_0 : word (first_generator 42 0) ≡ 0xd0764d4f4476689f
+unfolding first_generator word next_generator fill_bytes stream_of word_bytes u32_at
+seed_42_hart_0 = refl
+
+pub seed_42_hart_0_second : word (after_words 1 (first_generator 42 0)) ≡ 0x519e4174576f3791
+unfolding first_generator word next_generator fill_bytes stream_of word_bytes u32_at
+seed_42_hart_0_second = refl
+
+pub seed_42_hart_0_third : word (after_words 2 (first_generator 42 0)) ≡ 0xfbe07cfb0c24ed8c
+unfolding first_generator word next_generator fill_bytes stream_of word_bytes u32_at
+seed_42_hart_0_third = refl
+
+pub seed_42_hart_1 : word (first_generator 42 1) ≡ 0x2b05935e6f17747d
+unfolding first_generator word next_generator fill_bytes stream_of word_bytes u32_at
+seed_42_hart_1 = refl
+
+pub seed_42_hart_1_second : word (after_words 1 (first_generator 42 1)) ≡ 0x990660bfc6a5df45
+unfolding first_generator word next_generator fill_bytes stream_of word_bytes u32_at
+seed_42_hart_1_second = refl
+
+pub seed_42_hart_1_third : word (after_words 2 (first_generator 42 1)) ≡ 0xe04e171981a890d4
+unfolding first_generator word next_generator fill_bytes stream_of word_bytes u32_at
+seed_42_hart_1_third = refl
 
 -- the largest seed and hart 1 give seed 0
 pub seeds_wrap : word (first_generator 0xffffffffffffffff 1) ≡ 0x53175d61490b23df
 unfolding first_generator word next_generator fill_bytes stream_of word_bytes u32_at
 seeds_wrap = refl
+
+pub seeds_wrap_second : word (after_words 1 (first_generator 0xffffffffffffffff 1)) ≡ 0x61da6f3dc380d507
+unfolding first_generator word next_generator fill_bytes stream_of word_bytes u32_at
+seeds_wrap_second = refl
+
+pub seeds_wrap_third : word (after_words 2 (first_generator 0xffffffffffffffff 1)) ≡ 0x5c0fdf91ec9a7bfc
+unfolding first_generator word next_generator fill_bytes stream_of word_bytes u32_at
+seeds_wrap_third = refl

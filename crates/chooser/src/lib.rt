@@ -12,6 +12,3 @@ mod theorems;
 
 pub use chooser::{Chooser, Pick};
 pub use theorems::{credit_is_small, only_execution_leaves_credit, only_open_picks_draw};
-
-#[cfg(test)]
-mod tests;

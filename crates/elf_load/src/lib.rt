@@ -13,6 +13,3 @@ pub use fault::ElfFault;
 pub use image::{Image, ImagePage};
 pub use loading::load;
 pub use program_headers::ProgramHeader;
-
-#[cfg(test)]
-mod tests;

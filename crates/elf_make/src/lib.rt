@@ -10,6 +10,3 @@ mod writing;
 pub use parts::{MakeFault, Part, Parts};
 pub use theorems::parts_stand_at_the_lowest_places;
 pub use writing::write_elf;
-
-#[cfg(test)]
-mod tests;

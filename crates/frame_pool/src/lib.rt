@@ -6,8 +6,6 @@
 
 mod frame;
 mod pool;
-#[cfg(test)]
-mod tests;
 mod theorems;
 
 pub use frame::Frame;

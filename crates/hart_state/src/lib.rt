@@ -10,7 +10,5 @@ mod faults;
 mod gate;
 mod hart;
 mod reservation;
-#[cfg(test)]
-mod tests;
 
 pub use hart::HartState;

@@ -10,8 +10,6 @@ mod moving;
 mod passing;
 mod spans;
 mod steps;
-#[cfg(test)]
-mod tests;
 mod theorems;
 mod turns;
 

@@ -8,8 +8,6 @@
 mod commands;
 mod numbers;
 mod targets;
-#[cfg(test)]
-mod tests;
 
 pub use commands::command;
 pub use mach_types::{Answer, BarrierCommand, Registered};

@@ -15,8 +15,6 @@ mod open_gate;
 mod out_sink;
 mod sure_shelf;
 mod sure_sink;
-#[cfg(test)]
-mod tests;
 mod traits;
 
 pub use faults::{Failed, FetchError, StartFault};

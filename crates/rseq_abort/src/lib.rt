@@ -5,8 +5,6 @@
 #![tactic(auto)]
 
 mod interruption;
-#[cfg(test)]
-mod tests;
 
 pub use interruption::interrupt;
 pub use mach_types::{Area, BadWhy, Outcome};

@@ -11,8 +11,6 @@ mod ids;
 mod lookups;
 mod naming;
 mod registration;
-#[cfg(test)]
-mod tests;
 mod words;
 
 pub use ids::lowest_cid;

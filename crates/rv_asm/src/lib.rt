@@ -14,8 +14,6 @@ mod fields;
 mod formats;
 mod item;
 mod labels;
-#[cfg(test)]
-mod tests;
 
 pub use assembler::Asm;
 pub use encoder::encode;

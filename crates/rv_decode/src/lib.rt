@@ -10,7 +10,5 @@ mod decoder;
 mod fields;
 mod memory;
 pub mod opcodes;
-#[cfg(test)]
-mod tests;
 
 pub use decoder::decode;

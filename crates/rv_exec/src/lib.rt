@@ -14,6 +14,3 @@ mod words;
 pub use effects::effect;
 pub use memory::{amo_value, finish_load};
 pub use rv_inst::{AmoOp, Effect};
-
-#[cfg(test)]
-mod tests;

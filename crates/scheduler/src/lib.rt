@@ -12,6 +12,3 @@ mod theorems;
 
 pub use ready::Ready;
 pub use theorems::{affinity_changes_alone, first_for_is_allowed, scheduling_stays_whole};
-
-#[cfg(test)]
-mod tests;

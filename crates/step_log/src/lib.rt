@@ -14,6 +14,3 @@ pub use fields::Line;
 pub use printing::print_entry;
 pub use reading::{BadLine, LineReader};
 pub use theorems::{line_has_one_text, printed_entry_is_read, printed_log_is_read};
-
-#[cfg(test)]
-mod tests;

@@ -8,6 +8,3 @@ mod forwarding;
 
 pub use buffer::StoreBuffer;
 pub use mach_types::Store;
-
-#[cfg(test)]
-mod tests;

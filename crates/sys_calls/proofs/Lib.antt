@@ -13,7 +13,6 @@ pub mod GuestMemory
 pub mod KernelWrites
 pub mod Laws
 pub mod PageCalls
-mod RunningThreads
 pub mod SignalPosting
 pub mod Spans
 pub mod TablesAfterCalls

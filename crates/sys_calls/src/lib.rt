@@ -20,8 +20,6 @@ mod rseq_areas;
 mod sequences;
 mod signal_calls;
 mod signal_posting;
-#[cfg(test)]
-mod tests;
 mod writing;
 
 pub use calling::{CallEnd, Called, call, make_call};

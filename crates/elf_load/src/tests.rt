@@ -1,6 +1,0 @@
-//! Files and what is due for them.
-
-mod hostile;
-mod large;
-mod linked;
-mod programs;

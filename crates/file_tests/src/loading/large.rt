@@ -1,0 +1,34 @@
+//! The largest file, with memory for all frames.
+
+use super::programs::EXITS;
+use byte_views::write_word;
+use elf_load::load;
+use mach_types::Limits;
+use std::test::Fail;
+
+/// The most bytes of a file, and the most pages of segments.
+const FILE_SIZE: usize = 8_388_608;
+
+const PAGES: usize = 16_319;
+
+#[test]
+fn largest_file(rt: HostRuntime) -> Result<(), Fail> {
+    let mut file = vec![in rt.alloc(); 1u8; FILE_SIZE]?;
+    for (byte, start) in file.iter_mut().zip(&EXITS) {
+        *byte = *start;
+    }
+    assert!(rt; write_word(&mut file, 96, 8, FILE_SIZE as u64));
+    assert!(rt; write_word(&mut file, 104, 8, PAGES as u64 * 4096));
+    let limits = Limits {
+        harts: 1,
+        frames: 16_384,
+        steps: 1,
+    };
+    let image = load(rt.alloc(), &file, &limits)?;
+    assert_eq!(rt; image.pages.len(), PAGES);
+    assert_eq!(rt; image.pages[2047].bytes[4095], 1);
+    assert_eq!(rt; image.pages[2048].bytes[0], 0);
+    assert_eq!(rt; image.pages[16_318].number, 16_334);
+    assert_eq!(rt; image.break_at, 16_335 * 4096);
+    Ok(())
+}

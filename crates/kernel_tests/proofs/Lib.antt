@@ -1,0 +1,2 @@
+mod RunningThreads
+mod TakenFrames

@@ -1,0 +1,122 @@
+//! Tests of `rseq_abort`: worked rows, with values found by hand from the layout of the two structures.
+
+use mach_types::{Area, BadWhy, FlatMemory, Outcome, UserMem};
+use rseq_abort::interrupt;
+use std::test::Fail;
+
+/// The area of the tests.
+const AREA: Area = Area {
+    at: 0x1000,
+    sig: 0xF140_1073,
+};
+
+/// Where `rseq_cs` of the area stands.
+const POINTER: u64 = 0x1008;
+
+/// Where the descriptor stands, of the sequence of 12 bytes from 0x400000 on with its abort handler at
+/// 0x1050.
+const DESCRIPTOR: u64 = 0x1020;
+
+/// Where the word stands whose upper half is the signature before the abort handler.
+const BEFORE_ABORT: u64 = 0x1048;
+
+/// Stores 8 bytes.
+fn put(memory: &mut FlatMemory, at: u64, value: u64) {
+    let _written = memory.set(at, 8, value);
+}
+
+/// A memory in which the area names the sequence.
+fn good_memory() -> FlatMemory {
+    let mut memory = FlatMemory::new(1024);
+    put(&mut memory, POINTER, DESCRIPTOR);
+    put(&mut memory, DESCRIPTOR + 8, 0x40_0000);
+    put(&mut memory, DESCRIPTOR + 16, 12);
+    put(&mut memory, DESCRIPTOR + 24, 0x1050);
+    put(&mut memory, BEFORE_ABORT, 0xF140_1073 << 32);
+    memory
+}
+
+/// A word of the memory that is changed, a pc, what an interruption there comes to, and whether the pointer
+/// becomes 0.
+type Row = ((u64, u64), u64, Outcome, bool);
+
+/// Bytes that nobody looks at.
+const UNUSED: (u64, u64) = (0x1070, 0);
+
+const ROWS: [Row; 12] = [
+    (UNUSED, 0x40_0000, Outcome::Aborted(0x1050), true),
+    (UNUSED, 0x40_0004, Outcome::Aborted(0x1050), true),
+    (UNUSED, 0x40_000B, Outcome::Aborted(0x1050), true),
+    (UNUSED, 0x40_000C, Outcome::Cleared, true),
+    (UNUSED, 0x3F_FFFC, Outcome::Cleared, true),
+    (UNUSED, 0, Outcome::Cleared, true),
+    ((POINTER, 0), 0x40_0000, Outcome::Nothing, true),
+    (
+        (POINTER, 1 << 38),
+        0,
+        Outcome::Killed(BadWhy::Pointer),
+        false,
+    ),
+    ((DESCRIPTOR, 1), 0, Outcome::Killed(BadWhy::Version), false),
+    (
+        (DESCRIPTOR + 24, 0x40_0000),
+        0,
+        Outcome::Killed(BadWhy::AbortInside),
+        false,
+    ),
+    (
+        (BEFORE_ABORT, 0),
+        0,
+        Outcome::Killed(BadWhy::Signature),
+        false,
+    ),
+    (
+        (DESCRIPTOR, 1 << 32),
+        0x40_0000,
+        Outcome::Killed(BadWhy::SeqFlags),
+        false,
+    ),
+];
+
+#[test]
+fn each_outcome_of_an_interruption(rt: HostRuntime) -> Result<(), Fail> {
+    for ((at, value), pc, outcome, cleared) in ROWS {
+        let mut memory = good_memory();
+        put(&mut memory, at, value);
+        let before = memory.get(POINTER, 8);
+        let after = if cleared { Some(0) } else { before };
+        assert_eq!(rt;
+            interrupt(&mut memory, Some(AREA), pc),
+            outcome,
+            "{at:x} {pc:x}"
+        );
+        assert_eq!(rt; memory.get(POINTER, 8), after, "{at:x} {pc:x}");
+    }
+    Ok(())
+}
+
+#[test]
+fn pointer_must_be_writable(rt: HostRuntime) -> Result<(), Fail> {
+    let rows = [
+        (15, 0x40_0000, Outcome::Killed(BadWhy::AreaBytes)),
+        (15, 0x40_000C, Outcome::Killed(BadWhy::AreaBytes)),
+        (16, 0x40_0000, Outcome::Aborted(0x1050)),
+    ];
+    for (writable, pc, outcome) in rows {
+        let mut memory = good_memory();
+        memory.writable = writable;
+        assert_eq!(rt;
+            interrupt(&mut memory, Some(AREA), pc),
+            outcome,
+            "{writable} {pc:x}"
+        );
+    }
+    let mut memory = good_memory();
+    let far = Area {
+        at: u64::MAX - 7,
+        sig: 0,
+    };
+    let killed = Outcome::Killed(BadWhy::AreaBytes);
+    assert_eq!(rt; interrupt(&mut memory, Some(far), 0), killed);
+    Ok(())
+}

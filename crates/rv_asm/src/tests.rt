@@ -1,4 +1,0 @@
-//! Tests against words from outside.
-
-mod code;
-mod words;

@@ -1,8 +1,0 @@
-use Rattle.std.proofs.Common.{◌≡◌, ◌<◌, Some, ℕ}
-use Rattle.mach_types.specs.Kernel.Threads.{state_of}
-use Rattle.mach_types.specs.declared.threads.ThreadState.TheVariants.{Running}
-use Rattle.sys_calls.proofs.tests.bench.expect_idle.Given as goal
-
--- no thread of a number so far runs on the hart
-abbrev pub invariant-loop-number : goal.invariant-loop-number
-invariant-loop-number g l = (t : ℕ) → t < l.number → state_of t l.threads.threads ≡ Some (Running l.hart) → ⊥

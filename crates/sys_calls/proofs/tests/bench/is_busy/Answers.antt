@@ -1,9 +1,0 @@
--- A hart on which none of the threads runs is idle.
-use Rattle.std.proofs.Common.{◌+◌, ◌≤◌, ℕ, Option, is_some, sym, ap, arith}
-use Rattle.sys_calls.proofs.RunningThreads.{idle_among}
-use Rattle.sys_calls.proofs.tests.bench.is_busy.Goals as goal
-
-pub returns : goal.returns
-returns g c =
-    let past : c.args.threads.now.threads.given + 1 ≤ c.loop-number.number = omega (arith, c.loop-number-test.false, c.numbers_given-given.ensures) in
-    ap (λ (o : Option ℕ). is_some o) (sym (idle_among 2 c.args.hart.0 c.args.threads.now.threads c.requires.0 c.requires.1 (λ t lt at. c.loop-number.invariant t (omega (arith, lt, past)) at)))
