@@ -26,6 +26,6 @@ pub fn gathered_logs_are_block_runs()
     // It is computed from the events of the given log alone.
     ensures by_events { (s : Setting) (log : List Entry) → IsBlockRun s log
         → gathered s log
-            ≡ gathered_by_events (at_end s log) (names_in (λ k. 0) (acts_of s log))
-                (located s (first_place s) log) }
+        ≡ gathered_by_events (at_end s log) (names_in (λ k. 0) (acts_of s log))
+        (located s (first_place s) log) }
 {}
