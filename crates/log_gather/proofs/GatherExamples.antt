@@ -1,4 +1,4 @@
--- Worked examples: two logs, proved by computation.
+-- Worked examples: three logs, proved by computation. They compute `gathered_by_spans`, which is `gathered` (proofs/GatheredByActs.antt).
 use Rattle.std.proofs.Common.{◌≡◌, ℕ, List, [], ◌∷◌, ◌++◌, replicate, refl}
 use Rattle.mach_types.specs.declared.events.Entry.{Entry}
 use Rattle.mach_types.specs.declared.events.Kind.{Kind}

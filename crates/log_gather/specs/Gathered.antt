@@ -11,7 +11,7 @@ use Rattle.block_view.specs.declared.forms.Form.TheVariants.{Step, Kernel, Seque
 use Rattle.block_view.specs.Acts.{acts_of}
 use Rattle.block_view.specs.Counting.{is_ended, is_left}
 use Rattle.log_gather.specs.LogEvents.{LogEvent, Name, entry_of, is_own, is_undisturbed, log_events, others_of, own_of}
-use Rattle.log_gather.specs.Facts.{first_place}
+use Rattle.log_gather.specs.Facts.{first_place, own_entries}
 
 abbrev pub is_sequence_form : Form → Bool
 is_sequence_form Step = false
@@ -61,11 +61,17 @@ pub record IsPrivate (s : Setting) (log : List Entry) (x : Name) : Type 0 where
   pub there : nth_act x.hart x.number (acts_of s log) ≡ Some act
   pub private : is_private_act (log_events s (first_place s) log) act ≡ true
 
--- a sequence stands together in a log: from its first entry to its last there is none of another hart
-pub record StandsTogether (s : Setting) (log : List Entry) (x : Name) : Type 0 where
+-- the entries of a log from an act's first to its last, those of other harts with them
+abbrev pub span_entries : Setting → List Entry → Act → List Entry
+span_entries s log a = map entry_of (span_of a (log_events s (first_place s) log))
+
+-- an act of an earlier log stands together in a log: in its span there is none of another hart, and this span is what the hart had of
+-- the act's span in the earlier log
+pub record StandsTogether (s : Setting) (earlier : List Entry) (was : Act) (log : List Entry) (x : Name) : Type 0 where
   pub act : Act
   pub there : nth_act x.hart x.number (acts_of s log) ≡ Some act
   pub alone : list_all (is_own x.hart) (span_of act (log_events s (first_place s) log)) ≡ true
+  pub entries : span_entries s log act ≡ own_entries x.hart (span_entries s earlier was)
 
 -- these are the entries of the gathered log of a log, which is a block run
 pub record IsGathered (s : Setting) (log : List Entry) (entries : List Entry) : Type 0 where

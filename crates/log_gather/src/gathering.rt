@@ -25,7 +25,8 @@ fn entries_of(alloc: Global, steps: &[Step]) -> Result<Vec<Entry>, AllocError>
 /// The gathered log of a log of an image under limits. Its restartable sequences (rseq(2)) have their turn in
 /// the order of their first entries: the entries of other harts that stand in a sequence come before it, if
 /// it is private in the log as it then stands. It is private where its thread left its range by its own
-/// instruction, all events of its span are plain, and none of another hart touches the bytes that it touches.
+/// instruction, all events of its span are plain, and no event of another hart in it writes a byte that the
+/// sequence reads or writes, or reads one that it writes.
 ///
 /// Refused with the number of the first entry that isn't allowed at its place; else it errs only for want of
 /// memory.
