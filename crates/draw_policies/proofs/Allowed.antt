@@ -158,8 +158,8 @@ turn-allowed weights seen threads last held w t settled can e =
     subst (λ (o : Option Turn). IsTurnAllowed seen threads o) e (any_allowed weights seen threads last held w settled can)
 
 -- where a thread may begin to run, one does
-among_below : (n count : ℕ) → 0 < count → place_among n count < count
-among_below n count some = go (eqb count 0)
+pub place_among-below : (n count : ℕ) → 0 < count → place_among n count < count
+place_among-below n count some = go (eqb count 0)
   where
     go : (b : Bool) → cond b 0 (n % count) < count
     go true = some
@@ -179,11 +179,11 @@ out_of_more threads out false is some = absurd (false≢true some)
 
 other_within : (threads : List ℕ) (n : ℕ) (out : Option ℕ) → (is_some out ≡ true → 1 < length threads) → 0 < length threads
     → place_of_other out (place_among n (others threads out)) < length threads
-other_within threads n None more some = among_below n (length threads) some
+other_within threads n None more some = place_among-below n (length threads) some
 other_within threads n (Some place) more some =
     let two : 1 < length threads = more refl in
     past_within (place_among n (length threads - 1)) place (length threads)
-    (among_below n (length threads - 1) (omega arith)) two
+    (place_among-below n (length threads - 1) (omega arith)) two
 
 place_within : (threads : List ℕ) (last : Option Tid) (w : ℕ) → 0 < length threads → place_to_run threads last w < length threads
 place_within threads last w some =
