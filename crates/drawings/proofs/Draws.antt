@@ -13,7 +13,7 @@ use Rattle.draw_policies.specs.Words.{hart_place, stay_of}
 use Rattle.draw_policies.specs.declared.turns.Turn.{Turn}
 use Rattle.draw_policies.proofs.Laws.{place_among-below, turn-allowed, turn-comes}
 use Rattle.drawings.specs.Allowed.{AreSettled, IsAllowedOf}
-use Rattle.drawings.specs.Drawings.{Drawn, IsFor, after_word, current, draw, drawn_by_actor, drawn_by_hart, drawn_by_priority, drawn_by_store, drawn_by_word, drawn_of, goes_on, hart_by_word, lots_after, on_credit, stays, turn_at}
+use Rattle.drawings.specs.Drawings.{Drawn, IsFor, after_word, current, draw, drawn_by_actor, drawn_by_hart, drawn_by_priority, drawn_by_store, drawn_by_word, drawn_of, goes_on, hart_by_word, kept_after, lots_after, on_credit, stays, turn_at}
 use Rattle.drawings.specs.Priorities.{actors, acts, hart_of, is_enabled, is_hart, leader}
 use Rattle.drawings.specs.Scenes.{Scene, able, is_able, startable}
 use Rattle.drawings.specs.declared.drawing.Drawing.{Drawing}
@@ -105,6 +105,49 @@ unfolding draw
 draw-allowed scene d x ready settled e =
     subst (λ (o : Option Drawn). Fits scene d o) e
     (any_fits scene d (goes_on scene d) (current d).by_priority refl ready settled)
+
+-- the harts of the drawing stay among those of the machine
+turn_ready : (scene : Scene) (d : Drawing) (h : ℕ) (lots : Turn → Lots) (o : Option Turn) → IsFor scene.harts d → h < scene.harts
+    → IsFor scene.harts (kept_after (option_map (λ (t : Turn). drawn_of h (lots t) d t) o) d)
+turn_ready scene d h lots None ready below = ready
+turn_ready scene d h lots (Some t) ready below = record { few = ready.few; last = below; opened = ready.opened }
+
+word_ready : (scene : Scene) (d : Drawing) (w : ℕ) (o : Option ℕ) → IsFor scene.harts d
+    → PassesIfSome (is_able scene d.opened) scene.harts o
+    → IsFor scene.harts (kept_after (option_and_then (λ h. option_map (drawn_of h (after_word d) d) (turn_at scene d h w)) o) d)
+word_ready scene d w None ready can = ready
+word_ready scene d w (Some h) ready can = turn_ready scene d h (λ t. after_word d) (turn_at scene d h w) ready can.0
+
+one_ready : (scene : Scene) (d : Drawing) (actor : ℕ) (b : Bool) → IsFor scene.harts d → hart_of actor < scene.harts
+    → IsFor scene.harts (kept_after (cond b (drawn_by_hart scene d actor) (Some (drawn_by_store scene d actor))) d)
+one_ready scene d actor true ready below =
+    let h = hart_of actor in
+    turn_ready scene d h (λ (t : Turn). lots_after scene actor h t.choice (after_word d)) (turn_at scene d h (word d.lots.generator))
+    ready below
+one_ready scene d actor false ready below = record { few = ready.few; last = below; opened = ready.opened }
+
+actor_ready : (scene : Scene) (d : Drawing) (o : Option ℕ) → IsFor scene.harts d
+    → PassesIfSome (is_enabled scene d.opened d.aims) (actors scene.harts) o
+    → IsFor scene.harts (kept_after (option_and_then (drawn_by_actor scene d) o) d)
+actor_ready scene d None ready can = ready
+actor_ready scene d (Some actor) ready can =
+    let below : actor < scene.harts + scene.harts = can.0 in
+    one_ready scene d actor (is_hart actor) ready (div_below actor 2 scene.harts (omega arith) (omega arith))
+
+any_ready : (scene : Scene) (d : Drawing) (credit priority : Bool) → IsFor scene.harts d
+    → IsFor scene.harts
+    (kept_after (cond credit (Some (on_credit d)) (cond priority (drawn_by_priority scene d) (drawn_by_word scene d))) d)
+any_ready scene d true priority ready = record { few = ready.few; last = ready.last; opened = ready.opened }
+any_ready scene d false true ready =
+    actor_ready scene d (leader (is_enabled scene d.opened d.aims) d.lots.priorities (actors scene.harts)) ready
+    (leader_passes (is_enabled scene d.opened d.aims) d.lots.priorities (actors scene.harts))
+any_ready scene d false false ready =
+    let w = word d.lots.generator in
+    word_ready scene d w (hart_by_word scene d w) ready (hart_passes scene d w ready)
+
+pub draw-ready : (scene : Scene) (d : Drawing) → IsFor scene.harts d → IsFor scene.harts (kept_after (draw scene d) d)
+unfolding draw
+draw-ready scene d ready = any_ready scene d (goes_on scene d) (current d).by_priority ready
 
 -- where a hart can act something is drawn
 mapped : {A B : Type 0} (f : A → B) (o : Option A) → IsSome o → IsSome (option_map f o)

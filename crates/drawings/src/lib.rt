@@ -14,4 +14,4 @@ mod theorems;
 
 pub use drawing::{Drawing, DrawnEvent};
 pub use harts::Harts;
-pub use theorems::{an_event_is_drawn, drawn_event_is_allowed};
+pub use theorems::{an_event_is_drawn, drawing_goes_on, drawn_event_is_allowed};
