@@ -156,8 +156,9 @@ fn running_turn(weights: &Weights, sight: &Sight, held: Option<Aim>, word: Word)
     }
 }
 
-/// What a hart does in its turn, of which this is seen, by one word: these threads may begin to run there, one
-/// ran there last, and it means to do this. None exactly where it is idle, and has no request and no such thread.
+/// What a hart does in its turn, of which this is seen, by one word: these threads may begin to run there,
+/// one ran there last, and it means to do this. None exactly where it is idle, and has no request and no such
+/// thread.
 pub fn turn_of(
     weights: &Weights,
     sight: &Sight,
