@@ -1,6 +1,7 @@
 -- What a call leaves of the ids: all of them, or all but that of its thread.
 use Rattle.std.proofs.Common.{◌≡◌, ℕ, ◌⊎◌, Bool, true, false, cond, List, refl, ap, inl, inr}
 use Rattle.mach_types.specs.Kernel.Threads.{clear_of}
+use Rattle.mach_types.specs.declared.user_memory.Write.{Write}
 use Rattle.block_model.specs.Calls.{called}
 use Rattle.block_model.specs.Calls.Answers.{CallDone, argument}
 use Rattle.block_model.specs.Calls.Cloning.{clone_child_cleartid, has_flag}
@@ -27,7 +28,7 @@ either_kept true x y ids p q = p
 either_kept false x y ids p q = q
 
 module _ (here : Here) (t number : ℕ) where
-  ids_step : {k : Kernel} → TableStep here t number k → HasLostOne t here.kernel.ids k.ids
+  ids_step : {entered : List Write} {k : Kernel} → TableStep here t number entered k → HasLostOne t here.kernel.ids k.ids
   ids_step Leaves = inr refl
   ids_step (Waits at none) = inr refl
   ids_step (MovesOff set below some) = inr refl

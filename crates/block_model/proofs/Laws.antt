@@ -68,6 +68,12 @@ pub use Rattle.block_model.proofs.Good.{IsFit, IsGood, IsGoodHere, IsSound, MayE
 pub use Rattle.block_model.proofs.HartSets.{harts_fit, same_sets, some_hart, with_hart-fits, with_hart-itself, with_hart-or, with_hart-other, without_hart-and, without_hart-fits, without_hart-has, without_hart-itself, without_hart-other}
 pub use Rattle.block_model.proofs.KernelCalls.{as_many_held, child_not_held, child_same, ended_idle, order_has, tables_allowed, tables_child, tables_ended, tables_waited, tables_woken, waited_idle, woken_same}
 pub use Rattle.block_model.proofs.IdsOnHarts.{IsHeldOnHart, has_hart-set, is_held_below, is_held_by}
+pub use Rattle.block_model.proofs.Allowed.{allowed_at}
+pub use Rattle.block_model.proofs.OwnEvents.{IsAreaAfter, new_area, no_area, own_area, ran_before, stays_area}
+pub use Rattle.block_model.proofs.ReadyFiles.{area_stays, ready_file_stays, ready_stays}
+pub use Rattle.block_model.proofs.RegisterFiles.{HasRegisters, has_registers}
+pub use Rattle.block_model.proofs.RunSteps.{IsStep, drains_none, file_apart, not_ready, one_hart, runs_apart, step_of, waits_apart}
+pub use Rattle.block_model.proofs.SequenceSteps.{Begins, Elsewhere, IsOf, Own, SequenceStep, TakesIn, sequence_step}
 pub use Rattle.block_model.proofs.Stretches.{HasStayed, HasSteps, IsLent, Steps, is_lent, stays, steps_of, worked_keeps}
 pub use Rattle.block_model.proofs.KernelTables.{cleared_same, left_idle, running_is, state_now, tables_cleared, tables_left, tables_ran, tables_start}
 

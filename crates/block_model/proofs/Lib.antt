@@ -45,6 +45,7 @@ mod MemoryExamples
 mod NamedStays
 mod OneImage
 mod Open
+mod OwnEvents
 mod Paged
 mod PagedCalls
 mod Pcs
@@ -54,9 +55,11 @@ mod PlainSolo
 mod Proper
 mod ProperCalls
 mod ReadyFiles
+mod RegisterFiles
 mod Replay
 mod Rules
 mod Runs
+mod RunSteps
 mod SequenceExamples
 mod SequencePlaces
 mod SequenceSteps

@@ -76,7 +76,7 @@ goes_on s e before run taken inside =
 module _ (s : Setting) (e : Event) (before : History) (h : ℕ) (run : IsRunHistory s (e ∷ before))
     (rest : (r : Sequence) → sequence_on s h before ≡ Some r → RunsThroughout s before h r) where
   own_runs : {q : Sequence} → GoesOn s e before h → IsOf s e before h q → RunsThroughout s (e ∷ before) h q
-  own_runs goes (Begins first) = record { hart = refl; first = goes.thread; now = goes.still ∙ goes.thread }
+  own_runs goes (Begins none first) = record { hart = refl; first = goes.thread; now = goes.still ∙ goes.thread }
   own_runs goes (TakesIn r was taken) = let old = rest r was in record { hart = old.hart; first = old.first; now = goes.still ∙ old.now }
 
   runs_by : {q : Sequence} → SequenceStep s e before h q → RunsThroughout s (e ∷ before) h q
