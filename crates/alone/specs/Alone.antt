@@ -1,6 +1,6 @@
 -- A thread that runs alone: its file, and the stores that it executed, after so many instructions. Nobody
--- else writes what it reads,
--- so each byte is that of its own last store, else what was seen at the start (own).
+-- else writes what it reads, so each byte is that of its own last store, else what was seen at the start
+-- (own).
 use Rattle.std.specs.Prelude.{ℕ, zero, suc, ◌≡◌, Bool, true, List, [], ◌++◌, Option, None}
 use Rattle.std.specs.Option.{option_map, option_map_or}
 use Rattle.mach_types.specs.Bytes.{each_byte}

@@ -11,8 +11,8 @@ use Rattle.alone.specs.Alone.{IsWithin, Stand, alone, effect_at}
 use Rattle.alone.specs.Temps.{IsAt}
 
 -- code in a range, the bytes that it uses and the registers that it may change, of which the rest are as
--- before; what holds of the
--- stores that were executed as long as the thread is inside, and what where it leaves
+-- before; what holds of the stores that were executed as long as the thread is inside, and what where it
+-- leaves
 pub record Path : Type 1 where
   pub code : ℕ → Option Inst
   pub seen : ℕ → Option ℕ
