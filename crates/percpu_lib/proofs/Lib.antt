@@ -1,0 +1,7 @@
+pub mod AddLaw
+pub mod BlockWords
+pub mod CellPath
+pub mod Emittable
+pub mod Emitting
+pub mod HeldWords
+pub mod UsesLaw
