@@ -28,7 +28,7 @@ use Rattle.alone_laws.specs.Entering.{AreEntered, IsIn}
 use Rattle.alone_laws.proofs.Sequences.{is_none_true}
 use Rattle.alone_laws.proofs.Steps.{drain_idle, take_idle}
 
-first_none : (a b : Option End) → option_or a b ≡ None → (a ≡ None) × (b ≡ None)
+pub first_none : (a b : Option End) → option_or a b ≡ None → (a ≡ None) × (b ≡ None)
 first_none None b is = (refl, is)
 first_none (Some x) b is = cc
 
@@ -149,7 +149,7 @@ module _ (s : Setting) (range : Seq) (t h : ℕ) where
     run : IsRunHistory s q.begun
     entered : AreEntered s range t q.begun
 
-  goes_there : (e : Event) (before : History) → IsRunHistory s (e ∷ before) → ended before ≡ None
+  pub goes_there : (e : Event) (before : History) → IsRunHistory s (e ∷ before) → ended before ≡ None
   goes_there e before run = (first_none (ended before) _
       (allowed_at s before e.entry.hart.0 (choice_of e.entry) e.entry run.1).goes).0
 

@@ -1,3 +1,6 @@
+pub mod Arrivals
+pub mod Described
+pub mod Entered
 pub mod Entering
 pub mod PathLaw
 pub mod Processors

@@ -64,6 +64,9 @@ pub use Rattle.block_model.proofs.Awaited.{IsAwaited, IsAwaitedBy, alone_awaits,
 pub use Rattle.block_model.proofs.BarrierSteps.{IsAtOthers, IsBegun, IsFitBarriers, IsStill}
 pub use Rattle.block_model.proofs.BytesOfMemory.{HaveBytes, image_bytes}
 pub use Rattle.block_model.proofs.Choosing.{no_call_held, none_of_both}
+pub use Rattle.block_model.proofs.EventDeeds.{IsNext as IsNextInstruction}
+pub use Rattle.block_model.proofs.FileSteps.{Aborts, Answered, AtBirth, AtHandler, AtRun, AtTake, ByCall, ByInstruction}
+pub use Rattle.block_model.proofs.FileSteps.{FileStays, FileStep, IsInterrupted, file_step}
 pub use Rattle.block_model.proofs.Good.{IsFit, IsGood, IsGoodHere, IsSound, MayEnter}
 pub use Rattle.block_model.proofs.HartSets.{harts_fit, same_sets, some_hart, with_hart-fits, with_hart-itself, with_hart-or, with_hart-other, without_hart-and, without_hart-fits, without_hart-has, without_hart-itself, without_hart-other}
 pub use Rattle.block_model.proofs.KernelCalls.{as_many_held, child_not_held, child_same, ended_idle, order_has, tables_allowed, tables_child, tables_ended, tables_waited, tables_woken, waited_idle, woken_same}
@@ -75,7 +78,8 @@ pub use Rattle.block_model.proofs.RegisterFiles.{HasRegisters, has_registers}
 pub use Rattle.block_model.proofs.RunSteps.{IsStep, drains_none, file_apart, not_ready, one_hart, runs_apart, step_of, waits_apart}
 pub use Rattle.block_model.proofs.SequenceSteps.{Begins, Elsewhere, IsOf, Own, SequenceStep, TakesIn, sequence_step}
 pub use Rattle.block_model.proofs.Stretches.{HasStayed, HasSteps, IsLent, Steps, is_lent, stays, steps_of, worked_keeps}
-pub use Rattle.block_model.proofs.KernelTables.{cleared_same, left_idle, running_is, state_now, tables_cleared, tables_left, tables_ran, tables_start}
+pub use Rattle.block_model.proofs.WholeBarriers.{in_no_barrier}
+pub use Rattle.block_model.proofs.KernelTables.{cleared_same, left_idle, running_is, running_there, state_now, tables_cleared, tables_left, tables_ran, tables_start}
 
 -- a log of which every entry is allowed is a block run
 pub block_run : (s : Setting) (log : List Entry) → IsAllowedLog s log → IsBlockRun s log

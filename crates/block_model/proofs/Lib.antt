@@ -22,6 +22,7 @@ mod Counts
 mod Ends
 mod EventDeeds
 mod Entries
+mod FileSteps
 mod ErrorCalls
 mod ErrorEvents
 mod Examples

@@ -112,7 +112,7 @@ module _ (s : Setting) (p : Slots) (at : ℕ) (area : Area) (cells h t : ℕ) (b
         like = record {
           temp = λ r is. refl;
           rest = λ r is. refl;
-          many = place.begins.many;
+          many = place.many;
         };
         executed = refl;
       } in
@@ -159,7 +159,7 @@ module _ (s : Setting) (p : Slots) (at : ℕ) (area : Area) (cells h t : ℕ) (b
 
   points_in : (es : List Store) → Inside es → word_at (seen_byte es seen) (area.at + 8) 8 ≡ Some p.table
   points_in es none = ap (λ (x : List Store). word_at (seen_byte x seen) (area.at + 8) 8) none
-      ∙ word_unchanged seen (area.at + 8) 8 ∙ place.begins.points
+      ∙ word_unchanged seen (area.at + 8) 8 ∙ place.points
 
   points_out : (to : ℕ) (temps : ℕ → ℕ) (es : List Store) → Left to temps es
       → word_at (seen_byte es seen) (area.at + 8) 8 ≡ Some p.table
@@ -167,7 +167,7 @@ module _ (s : Setting) (p : Slots) (at : ℕ) (area : Area) (cells h t : ℕ) (b
   points_out to temps es (inr done) =
       ap (λ (x : List Store). word_at (seen_byte x seen) (area.at + 8) 8) done.1
       ∙ beside_word seen (cell_store cells h sum) (area.at + 8) 8 (beside_pointer place.begins.apart.beside)
-      ∙ place.begins.points
+      ∙ place.points
 
   -- where it stands at the post-commit address, and where not
   module _ (last : History) (n : ℕ) (was : IsStanding s block.words h t begun last (alone_from s h t begun n))

@@ -1,3 +1,4 @@
+pub mod AddCode
 pub mod AddLaw
 pub mod BlockWords
 pub mod CellPath

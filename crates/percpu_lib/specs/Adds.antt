@@ -10,6 +10,7 @@ use Rattle.rv_inst.specs.declared.instruction.Inst.TheVariants as inst
 use Rattle.alone.specs.Temps.{is_scratch}
 use Rattle.alone_laws.specs.Blocks.{Block, among}
 use Rattle.alone_laws.specs.Spans.{seen_at}
+use Rattle.alone_laws.specs.Uses.{Placed}
 use Rattle.block_model.specs.History.{History, file, running, stores}
 use Rattle.block_model.specs.Setting.{Setting}
 use Rattle.mach_types.specs.declared.sequences.Area.{Area}
@@ -82,6 +83,11 @@ add_of p at area cells cpu = record {
       area.at cells cpu;
 }
 
+-- the block as it stands in a program, of whose words it has 14
+abbrev pub placed_add : Slots → ℕ → Area → Placed
+placed_add p at area =
+    record { at = at; count = 14; range = add_range at; area = area; register = p.area; table = p.table }
+
 -- the store to it
 abbrev pub cell_store : ℕ → ℕ → ℕ → Store
 cell_store cells cpu value = record { at = cell_at cells cpu; size = 8; value = value }
@@ -109,20 +115,20 @@ pub record IsNoAdd (s : Setting) (cells h t : ℕ) (begun reached : History) : T
   pub kept : (r : ℕ) → is_scratch r ≡ false
       → register (file s t reached).file r ≡ register (file s t begun).file r
 
--- a place at which thread t is about to begin the sequence of an add block on hart h: its registers, its
--- data, and the pointer of its area
+-- a place at which thread t is about to begin the sequence of an add block on hart h: its registers, and its
+-- data
 pub record IsAddBegin (s : Setting) (p : Slots) (at : ℕ) (area : Area) (cells h t : ℕ) (begun : History)
     : Type 0 where
   pub apart : AreApart at area.at cells h
-  pub many : length (file s t begun).file.x ≡ 32
   pub area_is : register (file s t begun).file p.area ≡ area.at
   pub cells_is : register (file s t begun).file p.cells ≡ cells
-  pub points : word_at (seen_at s h begun) (area.at + 8) 8 ≡ Some p.table
 
--- and there the area tells the processor
+-- and there a file has 32 registers, and the area names the block and tells the processor
 pub record IsAddPlace (s : Setting) (p : Slots) (at : ℕ) (area : Area) (cells h t : ℕ) (begun : History)
     : Type 0 where
   pub runs : running s h begun ≡ Some t
   pub pc : (file s t begun).pc ≡ at + 16
   pub begins : IsAddBegin s p at area cells h t begun
+  pub many : length (file s t begun).file.x ≡ 32
+  pub points : word_at (seen_at s h begun) (area.at + 8) 8 ≡ Some p.table
   pub on_cpu : word_at (seen_at s h begun) (area.at + 4) 4 ≡ Some h

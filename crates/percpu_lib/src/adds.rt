@@ -37,16 +37,18 @@ fn lines_of_add(base: u32, slots: Slots) -> [Line; 19]
 
 /// Appends a block that adds the value to the cell of its processor.
 ///
-/// Labels: `base` is the retry label, `base + 1` the start, `base + 2` the post-commit address, `base + 3` the abort
-/// address, and `base + 4` stands behind the block; `base + 5` to `base + 7` stay free. `Room` exactly where one of
-/// the eight isn't free, and then nothing changes. `NoMemory` leaves the lines that were appended before.
+/// Labels: `base` is the retry label, `base + 1` the start, `base + 2` the post-commit address, `base + 3` the
+/// abort address, and `base + 4` stands behind the block; `base + 5` to `base + 7` stay free. `Room` exactly
+/// where one of the eight isn't free, and then nothing changes. `NoMemory` leaves the lines that were appended
+/// before.
 pub fn emit_add(_alloc: Global, asm: &mut Asm, base: u32, slots: &Slots) -> Result<(), EmitFault>
     requires slots { AreSlots slots.now }
     requires low { slots.now.table < 0x7FFFF800 }
     ensures room { (result ≡ Err EmitFault.Room) ↔ (HasRoom asm.old.labels base → ⊥) }
     ensures refused { result ≡ Err EmitFault.Room → asm.new ≡ asm.old }
     ensures ok { OnOk result (AreEmitted (add_lines slots.now base) asm.old asm.new) }
-    ensures memory { result ≡ Err EmitFault.NoMemory → (n : ℕ) × AreEmitted (take n (add_lines slots.now base)) asm.old asm.new }
+    ensures memory { result ≡ Err EmitFault.NoMemory
+        → (n : ℕ) × AreEmitted (take n (add_lines slots.now base)) asm.old asm.new }
 {
     if !has_room(asm, base) {
         return Err(EmitFault::Room);

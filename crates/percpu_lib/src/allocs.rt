@@ -40,18 +40,21 @@ fn lines_of_alloc(base: u32, slots: Slots) -> [Line; 24]
     )
 }
 
-/// Appends a block that takes the last item out of the pool of its processor into the value, which is 0 where there is none.
+/// Appends a block that takes the last item out of the pool of its processor into the value, which is 0 where
+/// there is none.
 ///
-/// Labels: `base` is the retry label, `base + 1` the start, `base + 2` the post-commit address, `base + 3` the abort
-/// address, and `base + 4` stands behind the block; `base + 5` to `base + 7` stay free. `Room` exactly where one of
-/// the eight isn't free, and then nothing changes. `NoMemory` leaves the lines that were appended before.
+/// Labels: `base` is the retry label, `base + 1` the start, `base + 2` the post-commit address, `base + 3` the
+/// abort address, and `base + 4` stands behind the block; `base + 5` to `base + 7` stay free. `Room` exactly
+/// where one of the eight isn't free, and then nothing changes. `NoMemory` leaves the lines that were appended
+/// before.
 pub fn emit_alloc(_alloc: Global, asm: &mut Asm, base: u32, slots: &Slots) -> Result<(), EmitFault>
     requires slots { AreSlots slots.now }
     requires low { slots.now.table < 0x7FFFF800 }
     ensures room { (result ≡ Err EmitFault.Room) ↔ (HasRoom asm.old.labels base → ⊥) }
     ensures refused { result ≡ Err EmitFault.Room → asm.new ≡ asm.old }
     ensures ok { OnOk result (AreEmitted (alloc_lines slots.now base) asm.old asm.new) }
-    ensures memory { result ≡ Err EmitFault.NoMemory → (n : ℕ) × AreEmitted (take n (alloc_lines slots.now base)) asm.old asm.new }
+    ensures memory { result ≡ Err EmitFault.NoMemory
+        → (n : ℕ) × AreEmitted (take n (alloc_lines slots.now base)) asm.old asm.new }
 {
     if !has_room(asm, base) {
         return Err(EmitFault::Room);

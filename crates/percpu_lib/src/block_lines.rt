@@ -7,8 +7,8 @@ macro_rules! inst {
     };
 }
 
-/// The lines of a block: what it does at its retry label, the distance of the shift that makes an offset of the
-/// processor's number, what it does inside, and what it does at its abort label before it begins anew.
+/// The lines of a block: what it does at its retry label, the distance of the shift that makes an offset of
+/// the processor's number, what it does inside, and what it does at its abort label before it begins anew.
 macro_rules! block_lines {
     (
         $base:ident,

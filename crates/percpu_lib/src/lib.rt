@@ -1,9 +1,10 @@
-//! Code that works on data of its processor inside a restartable sequence (rseq(2)): emitted into an assembler, with
-//! what it does in any run as a theorem.
+//! Code that works on data of its processor inside a restartable sequence (rseq(2)): emitted into an assembler,
+//! with what it does in any run as a theorem.
 //!
 //! A block asks the thread's area for the processor, stores the address of its descriptor in the area, and starts
-//! its sequence: it asks for the processor once more, and begins anew where that has changed. Its last instruction
-//! inside is the store that commits. An abort, or a change of the processor, leads back to its first word.
+//! its sequence: it asks for the processor once more, and begins anew where that has changed. Its last
+//! instruction inside is the store that commits. An abort, or a change of the processor, leads back to its first
+//! word.
 #![tactic(auto)]
 
 mod adds;

@@ -2,7 +2,8 @@
 
 /// The registers that a block works with, and where its descriptor stands.
 ///
-/// The three registers are from 1 to 31, differ, and are none of 5, 6, 7 and 28 to 31, which a block may change.
+/// The three registers are from 1 to 31, differ, and are none of 5, 6, 7 and 28 to 31, which a block may
+/// change.
 #[derive(Clone, Copy, Debug, PartialEq, Eq, Drop)]
 pub struct Slots {
     /// The register that holds the address of the thread's area (`struct rseq`).
