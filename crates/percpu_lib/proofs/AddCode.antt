@@ -241,11 +241,11 @@ module _ (s : Setting) (p : Slots) (at : ℕ) (area : Area)
         sym (ap (option_map (λ j. meaning j f.file f.pc)) there) ∙ is in
         one_effect e (meaning i f.file f.pc) (sym same)
 
-    outcome_of_word : (i : Inst) → code_of s.program.pages f.pc ≡ Some i
+    pub outcome_of_word : (i : Inst) → code_of s.program.pages f.pc ≡ Some i
         → o ≡ outcome seen f.file f.pc r (meaning i f.file f.pc)
     outcome_of_word i there = ap (outcome seen f.file f.pc r) (effect_of_word i there)
 
-    at_word : (k : ℕ) (i : Inst) → f.pc ≡ at + 4 * k → slice_get (add_block p) k ≡ Some (Some i)
+    pub at_word : (k : ℕ) (i : Inst) → f.pc ≡ at + 4 * k → slice_get (add_block p) k ≡ Some (Some i)
         → code_of s.program.pages f.pc ≡ Some i
     at_word k i pc slot = ap (code_of s.program.pages) pc ∙ held.holds k i slot
 
@@ -401,7 +401,7 @@ module _ (s : Setting) (p : Slots) (at : ℕ) (area : Area)
         → is_call e ≡ false
     calls_not i there plain = ap is_call (effect_of_word i there) ∙ plain
 
-    plain_at : (k : ℕ) → f.pc ≡ at + 4 * k → k < 14 → Know k f.file → is_call e ≡ false
+    pub plain_at : (k : ℕ) → f.pc ≡ at + 4 * k → k < 14 → Know k f.file → is_call e ≡ false
     plain_at zero pc lt know =
         calls_not (inst.Lw 5 p.area (pos 0)) (at_word 0 (inst.Lw 5 p.area (pos 0)) pc refl)
         (plain_lw f.file f.pc 5 p.area (pos 0))

@@ -22,7 +22,7 @@ label_items : (a : Assembly) (n : ℕ) (b : Bool)
 label_items a n true = refl
 label_items a n false = refl
 
-labelled_items : (a : Assembly) (n : ℕ) → (with_label a n).items ≡ a.items
+pub labelled_items : (a : Assembly) (n : ℕ) → (with_label a n).items ≡ a.items
 labelled_items a n = label_items a n (is_free (slice_get a.labels n))
 
 -- items come behind those that are there
@@ -42,7 +42,7 @@ emitted_behind (line.Data w ∷ xs) a b is =
     let rest = emitted_behind xs (with_item a (item.Word w)) b is in
     (item.Word w ∷ rest.0, rest.1 ∙ append_assoc a.items (item.Word w ∷ []) rest.0)
 
-get_behind : (xs ys : List Item) (y : Item) → slice_get (xs ++ y ∷ ys) (length xs) ≡ Some y
+pub get_behind : (xs ys : List Item) (y : Item) → slice_get (xs ++ y ∷ ys) (length xs) ≡ Some y
 get_behind [] ys y = refl
 get_behind (x ∷ xs) ys y = get_behind xs ys y
 

@@ -3,7 +3,9 @@
 -- the block begins anew. A shift of the processor's number makes the offset of its data, whose address is
 -- then in x5. Behind the sequence a jump leads to the word after the block; then stand the signature and the
 -- abort handler, which begins anew.
-use Rattle.std.specs.Prelude.{ℕ, ◌+◌, List, [], ◌∷◌, ◌++◌, pos}
+use Rattle.std.specs.Prelude.{ℕ, ◌≡◌, ◌+◌, ◌<◌, List, [], ◌∷◌, ◌++◌, length, slice_get, Some, pos}
+use Rattle.rv_asm.specs.Assembly.{Assembly, index_of}
+use Rattle.rv_asm.specs.declared.item.Item.TheVariants as item
 use Rattle.rv_inst.specs.declared.instruction.Inst.TheVariants as inst
 use Rattle.percpu_lib.specs.Words.{lower, upper}
 use Rattle.percpu_lib.specs.declared.lines.Line.{Line}
@@ -41,3 +43,19 @@ end_lines base = line.Branch (inst.Jal 0 (pos 0)) base ∷ line.Label (base + 4)
 abbrev pub block_lines : Slots → ℕ → ℕ → List Line → List Line → List Line → List Line
 block_lines p base shift first inside aborted =
     line.Label base ∷ (first ++ (start_lines p base shift ++ (inside ++ (leave_lines base ++ (aborted ++ end_lines base)))))
+
+-- lines without a label
+abbrev pub HasNoLabel : List Line → Type 0
+HasNoLabel [] = Unit {0}
+HasNoLabel (line.Label n ∷ rest) = ⊥
+HasNoLabel (line.Plain i ∷ rest) = HasNoLabel rest
+HasNoLabel (line.Branch i n ∷ rest) = HasNoLabel rest
+HasNoLabel (line.Data w ∷ rest) = HasNoLabel rest
+
+-- the labels of a block are bound; and at the post-commit address stands a jump to the word after the block
+pub record IsLabelled (base : ℕ) (b : Assembly) : Type 0 where
+  pub bound : (k : ℕ) → k < 5 → (index : ℕ) × (index_of b.labels (base + k) ≡ Some index)
+  pub committed : ℕ
+  pub post_commit : index_of b.labels (base + 2) ≡ Some committed
+  pub jump : slice_get b.items committed ≡ Some (item.Aimed (inst.Jal 0 (pos 0)) (base + 4))
+  pub behind : index_of b.labels (base + 4) ≡ Some (length b.items)

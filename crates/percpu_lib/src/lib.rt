@@ -27,4 +27,4 @@ pub use lines::{Line, emit_lines};
 pub use pops::emit_pop;
 pub use pushes::emit_push;
 pub use slots::Slots;
-pub use theorems::adds_once_or_not_at_all;
+pub use theorems::{add_keeps_registers, adds_once_or_not_at_all, labels_of_blocks_are_bound};
