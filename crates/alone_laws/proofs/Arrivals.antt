@@ -63,7 +63,7 @@ use Rattle.block_model.proofs.Laws.{run_ready, running_is, running_there, runs_a
 use Rattle.alone_laws.specs.Spans.{Leaves, code_of, seen_at, sees}
 use Rattle.alone_laws.specs.Uses.{AreUsed, Arrives, HasItsArea, HasLeft, IsDescribed, IsTakenOut, IsUsed}
 use Rattle.alone_laws.specs.Uses.{IsWellPlaced, Placed, at_first, came_back, executed, in_block, interrupted}
-use Rattle.alone_laws.specs.Uses.{pointer_of_area, stayed}
+use Rattle.alone_laws.specs.Uses.{DeliversNone, pointer_of_area, stayed}
 use Rattle.alone_laws.proofs.Described.{interrupted_inside}
 use Rattle.alone_laws.proofs.Entering.{first_none}
 use Rattle.alone_laws.proofs.Sequences.{each_among}
@@ -366,7 +366,7 @@ module _ (s : Setting) (b : Placed) (t : ℕ) (Know : ℕ → Regs → Type 0) (
         → interruption_here here t ≡ comes_to.Aborted to
         → f ≡ record (file s t before) { pc = to } → Knows (record (file s t before) { pc = to })
 
-    word_from : is_live t (kernel s before).threads ≡ true → e.entry.kind ≢ kind.Signal
+    word_from : is_live t (kernel s before).threads ≡ true → DeliversNone s t e before
         → in_block b (file s t before).pc ≡ true → (f : Saved) → GoesToHandler f
         → FileStep here e.entry.tid.0 t e.entry.kind f
         → in_block b f.pc ≡ true → Knows f
@@ -386,7 +386,7 @@ module _ (s : Setting) (b : Placed) (t : ℕ) (Know : ℕ → Regs → Type 0) (
               (file s t before).file w.know;
         }
     word_from live other inside f aborts (Aborts to its comes) now = aborts to its comes refl
-    word_from live other inside f aborts (AtHandler g is at) now = absurd (other is)
+    word_from live other inside f aborts (AtHandler g is at) now = absurd (other is at)
     word_from live other inside f aborts (AtBirth g is new) now = absurd (not_born s e before step t live new)
 
     at_handler : (to : ℕ) → to ≡ b.range.abort → (regs : Regs) → Knows (record { file = regs; pc = to })
@@ -424,7 +424,7 @@ module _ (s : Setting) (b : Placed) (t : ℕ) (Know : ℕ → Regs → Type 0) (
             its_step now
         by_arrival (executed at is inside) =
             word_from (live_where s e before step t own at)
-            (λ signal. let both : kind.Exec ≡ kind.Signal = sym is ∙ signal in cc) inside after
+            (λ signal there. let both : kind.Exec ≡ kind.Signal = sym is ∙ signal in cc) inside after
             (λ to its comes same. absurd (exec_apart is its)) its_step now
         by_arrival (interrupted live other inside) =
             word_from live other (placed.within (file s t before).pc inside) after
@@ -433,15 +433,15 @@ module _ (s : Setting) (b : Placed) (t : ℕ) (Know : ℕ → Regs → Type 0) (
 
     -- INSIDE
 
-    pub no_signal : In (e ∷ before) → e.entry.kind ≢ kind.Signal
-    no_signal now signal = by_arrival (used.enters (placed.within after.pc now))
+    pub no_signal : In (e ∷ before) → DeliversNone s t e before
+    no_signal now signal here_runs = by_arrival (used.enters (placed.within after.pc now))
       where
         by_arrival : Arrives s b t e before → ⊥
         by_arrival (at_first is) = false≢true (sym placed.first ∙ sym (ap (is_inside b.range) is) ∙ now)
         by_arrival (came_back left) = false≢true (sym (was.left after left).1 ∙ now)
-        by_arrival (stayed live other same) = other signal
+        by_arrival (stayed live other same) = other signal here_runs
         by_arrival (executed at is inside) = let both : kind.Exec ≡ kind.Signal = sym is ∙ signal in cc
-        by_arrival (interrupted live other inside) = other signal
+        by_arrival (interrupted live other inside) = other signal here_runs
 
     -- the instruction just before the start
     pub record ComesIn : Type 0 where
@@ -493,7 +493,7 @@ module _ (s : Setting) (b : Placed) (t : ℕ) (Know : ℕ → Regs → Type 0) (
             absurd (false≢true (sym (code.no_call (file s t before) x (was.word inside) next.is) ∙ calls))
         by_step at is inside f same (Answered v) there = inl there
         by_step at is inside f same (Aborts to its comes) there = absurd (exec_apart is its)
-        by_step at is inside f same (AtHandler g k runs) there = absurd (no_signal now k)
+        by_step at is inside f same (AtHandler g k runs) there = absurd (no_signal now k runs)
         by_step at is inside f same (AtBirth g k new) there =
             absurd (not_born s e before step t (live_where s e before step t own at) new)
 
@@ -696,7 +696,8 @@ module _ (s : Setting) (b : Placed) (t : ℕ) (Know : ℕ → Regs → Type 0) (
         (ap (λ (d : Done). running_on own d.kernel.threads) (preempt_done is at)) ∙ now_at))
     seen_kind now_at now kind.Run is =
         absurd (run_out is (begins_it is now_at) (was_in now (λ exec. run_exec (sym is ∙ exec))) now)
-    seen_kind now_at now kind.Signal is = absurd (no_signal now is)
+    seen_kind now_at now kind.Signal is =
+        absurd (no_signal now is (ran_here kind.Signal is (λ same. cc) now_at))
 
     seen_next : (h : ℕ) → running s h (e ∷ before) ≡ Some t → In (e ∷ before) → SeesTable h (e ∷ before)
     seen_next h at now = by_hart (eqb own h) refl
@@ -775,7 +776,7 @@ module _ (s : Setting) (b : Placed) (t : ℕ) (Know : ℕ → Regs → Type 0) (
         ∙ was.seen own at inside
     stored_kind at off now kind.Run is = absurd
         (no_one t (sym (run_ready here e.entry.tid.0 (free_at kind.Run is)).0 ∙ at))
-    stored_kind at off now kind.Signal is = absurd (no_signal now is)
+    stored_kind at off now kind.Signal is = absurd (no_signal now is at)
 
     stored_next : IsOff (e ∷ before) → In (e ∷ before) → HoldsTable (e ∷ before)
     stored_next off now = by_place (on_or_off s e before step t)

@@ -130,7 +130,8 @@ module _ (s : Setting) (b : Placed) (t : ℕ) (Know : ℕ → Regs → Type 0) (
         (begins_it s b t Know placed code e before run was used goes is now_at)
         (was_in s b t Know placed code e before run was used goes now (λ exec. run_exec (sym is ∙ exec))) now)
     by_kind now_at now past kind.Signal is = absurd
-        (no_signal s b t Know placed code e before run was used goes now is)
+        (no_signal s b t Know placed code e before run was used goes now is
+        (ran_here s b t Know placed code e before run was used goes kind.Signal is (λ same. cc) now_at))
 
   pub entered : (before : History) → IsRunHistory s before → AreUsed s b t before
       → AreEntered s b.range t before

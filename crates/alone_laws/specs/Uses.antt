@@ -69,16 +69,20 @@ abbrev pub HasLeft : Setting → Placed → ℕ → Saved → History → Type 0
 HasLeft s b t f [] = ⊥
 HasLeft s b t f (e ∷ before) = IsTakenOut s b t f e before ⊎ HasLeft s b t f before
 
+-- an event delivers no signal to thread t
+abbrev pub DeliversNone : Setting → ℕ → Event → History → Type 0
+DeliversNone s t e before = e.entry.kind ≡ kind.Signal → running s e.entry.hart.0 before ≢ Some t
+
 -- how thread t came to a word of the block by an event: to its first; it was there; it executed another word
 -- of the block; it was in the block's sequence, and no signal was delivered to it; or a handler returned to
 -- where a signal took it out
 pub data Arrives (s : Setting) (b : Placed) (t : ℕ) (e : Event) (before : History) : Type 0 where
   at_first : (file s t (e ∷ before)).pc ≡ b.at → Arrives s b t e before
-  stayed : is_live t (kernel s before).threads ≡ true → e.entry.kind ≢ kind.Signal
+  stayed : is_live t (kernel s before).threads ≡ true → DeliversNone s t e before
       → (file s t (e ∷ before)).pc ≡ (file s t before).pc → Arrives s b t e before
   executed : running s e.entry.hart.0 before ≡ Some t → e.entry.kind ≡ kind.Exec
       → in_block b (file s t before).pc ≡ true → Arrives s b t e before
-  interrupted : is_live t (kernel s before).threads ≡ true → e.entry.kind ≢ kind.Signal
+  interrupted : is_live t (kernel s before).threads ≡ true → DeliversNone s t e before
       → is_inside b.range (file s t before).pc ≡ true → Arrives s b t e before
   came_back : HasLeft s b t (file s t (e ∷ before)) before → Arrives s b t e before
 
