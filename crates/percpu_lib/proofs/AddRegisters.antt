@@ -154,8 +154,8 @@ module _ (s : Setting) (p : Slots) (at : ℕ) (area : Area)
 
 -- EVENTS
 
-module _ (s : Setting) (p : Slots) (at : ℕ) (area : Area) (cells t : ℕ) (e : Event) (before : History)
-    (run : IsRunHistory s (e ∷ before)) (holds : HoldsAdd s (e ∷ before) p at area cells t)
+module _ (s : Setting) (p : Slots) (at : ℕ) (area : Area) (t : ℕ) (e : Event) (before : History)
+    (run : IsRunHistory s (e ∷ before)) (holds : HoldsAdd s (e ∷ before) p at area t)
     (exec : e.entry.kind ≡ kind.Exec) (runs : running s e.entry.hart.0 before ≡ Some t)
     (inside : in_block (placed_add p at area) (file s t before).pc ≡ true) (x : ℕ)
         (kept : is_scratch x ≡ false) where

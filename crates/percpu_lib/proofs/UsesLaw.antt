@@ -20,14 +20,17 @@ use Rattle.block_model.proofs.Laws.{Begins, Elsewhere, IsOf, Own, SequenceStep, 
 use Rattle.block_model.proofs.Laws.{sequence_step}
 use Rattle.percpu_lib.specs.Adds.{IsAddPlace, IsNoAdd, IsWholeAdd, add_of, add_range, placed_add}
 use Rattle.percpu_lib.proofs.AddCode.{KnowsTable, add_code, add_placed, within_range}
-use Rattle.percpu_lib.specs.Uses.{AreAddUsed, HoldsAdd, IsAtStart}
+use Rattle.percpu_lib.specs.Uses.{AreAddUsed, HoldsAdd, IsAtStart, cells_of}
 use Rattle.percpu_lib.specs.declared.slots.Slots.{Slots}
 use Rattle.percpu_lib.proofs.AddLaw.{adds_once}
 
-module _ (s : Setting) (p : Slots) (at : ℕ) (area : Area) (cells h t : ℕ) (begun : History)
+module _ (s : Setting) (p : Slots) (at : ℕ) (area : Area) (h t : ℕ) (begun : History)
     (start : IsAtStart s at h t begun) (low : at < 2 ^ 37) (placed : IsWellPlaced (placed_add p at area))
     (code : IsCode s (placed_add p at area) (KnowsTable p)) where
-  fair_since : (before : History) → AreAddUsed s p at area cells t before
+  abbrev cells : ℕ
+  cells = cells_of s p t begun
+
+  fair_since : (before : History) → AreAddUsed s p at area t before
       → IsFairSince s (add_of p at area cells h) h t begun before
   fair_since [] used = tt
   fair_since (e ∷ before) used = (fair_since before used.0, λ open_here. used.1.fair h begun start open_here)
@@ -38,7 +41,7 @@ module _ (s : Setting) (p : Slots) (at : ℕ) (area : Area) (cells h t : ℕ) (b
 
   -- the place where an open sequence began is one before an event
   place_of : s.limits.harts ≤ 8 → (before : History) (q : Sequence) → IsRunHistory s before
-      → AreAddUsed s p at area cells t before → ProcessorKept s t area before
+      → AreAddUsed s p at area t before → ProcessorKept s t area before
       → AreUsed s (placed_add p at area) t before → sequence_on s h before ≡ Some q → q.begun ≡ begun
       → IsAddPlace s p at area cells h t begun
   place_of few [] q run used kept uses is from = absurd cc
@@ -55,7 +58,7 @@ module _ (s : Setting) (p : Slots) (at : ℕ) (area : Area) (cells h t : ℕ) (b
           let inside : is_inside (add_range at) (file s t before).pc ≡ true =
           ap (is_inside (add_range at)) there.pc ∙ within_range at 16 low (omega arith) (omega arith) in
           let went = goes_there s (add_range at) t h e before run in
-          subst (λ (x : History). IsAddPlace s p at area cells h t x) here (record {
+          subst (λ (x : History). IsAddPlace s p at area (cells_of s p t x) h t x) here (record {
             runs = there.runs;
             pc = there.pc;
             begins = used.1.begins h there;
@@ -77,13 +80,15 @@ first_runs : (s : Setting) (before : History) (h : ℕ) (q : Sequence) → IsWho
 first_runs s [] h q whole is = (whole.runs h q is).first
 first_runs s (e ∷ before) h q whole is = (whole.1.place.runs h q is).first
 
-pub adds : (s : Setting) (history : History) (p : Slots) (at : ℕ) (area : Area) (cells h : ℕ) (q : Sequence)
+pub adds : (s : Setting) (history : History) (p : Slots) (at : ℕ) (area : Area) (h : ℕ) (q : Sequence)
     → IsRunHistory s history → IsWholeHistory s history
-    → HoldsAdd s history p at area cells q.thread → sequence_on s h history ≡ Some q
+    → HoldsAdd s history p at area q.thread → sequence_on s h history ≡ Some q
     → IsIn s (add_range at) q.thread q.begun
-    → ((file s q.thread q.reached).pc ≡ at + 44 → IsWholeAdd s p cells h q.thread q.begun q.reached)
-    × ((file s q.thread q.reached).pc ≢ at + 44 → IsNoAdd s cells h q.thread q.begun q.reached)
-adds s history p at area cells h q run whole held is inside =
+    → ((file s q.thread q.reached).pc ≡ at + 44
+        → IsWholeAdd s p (cells_of s p q.thread q.begun) h q.thread q.begun q.reached)
+    × ((file s q.thread q.reached).pc ≢ at + 44
+        → IsNoAdd s (cells_of s p q.thread q.begun) h q.thread q.begun q.reached)
+adds s history p at area h q run whole held is inside =
     let t = q.thread in
     let b = placed_add p at area in
     let runs = first_runs s history h q whole is in
@@ -97,8 +102,8 @@ adds s history p at area cells h q run whole held is inside =
       pc = begins_at_start s (add_range at) t h history q run comes is runs inside;
     } in
     let place =
-    place_of s p at area cells h t q.begun start held.low placed code held.few history q run held.used
+    place_of s p at area h t q.begun start held.low placed code held.few history q run held.used
     held.processor held.uses is
     refl in
-    adds_once s p at area cells h t q.begun held.stands held.slots place history q run
-    (fair_since s p at area cells h t q.begun start held.low placed code history held.used) is refl
+    adds_once s p at area (cells_of s p t q.begun) h t q.begun held.stands held.slots place history q run
+    (fair_since s p at area h t q.begun start held.low placed code history held.used) is refl

@@ -17,28 +17,30 @@ ghost use Rattle.rv_asm.specs.Assembly.{Assembly};
 ghost use Rattle.percpu_lib.specs.Adds.{IsNoAdd, IsWholeAdd, add_range, placed_add};
 ghost use Rattle.percpu_lib.specs.BlockLines.{HasNoLabel, IsLabelled, block_lines};
 ghost use Rattle.percpu_lib.specs.Lines.{AreEmitted, HasRoom};
-ghost use Rattle.percpu_lib.specs.Uses.{HoldsAdd};
+ghost use Rattle.percpu_lib.specs.Uses.{HoldsAdd, cells_of};
 ghost use Rattle.percpu_lib.specs.declared.lines.Line.{Line};
 ghost use Rattle.percpu_lib.specs.declared.slots.Slots.{Slots};
 
 /// In a block run a restartable sequence of an add block adds once, where its thread is at the post-commit address
 /// after it, and else changes nothing but registers that a block may change.
 pub fn adds_once_or_not_at_all()
-    ensures whole { (s : Setting) (log : List Entry) (p : Slots) (at : ℕ) (area : Area) (cells h : ℕ) (q : Sequence)
-        → IsBlockRun s log → HoldsAdd s (history s log) p at area cells q.thread
+    ensures whole { (s : Setting) (log : List Entry) (p : Slots) (at : ℕ) (area : Area) (h : ℕ) (q : Sequence)
+        → IsBlockRun s log → HoldsAdd s (history s log) p at area q.thread
         → sequence_on s h (history s log) ≡ Some q → IsIn s (add_range at) q.thread q.begun
-        → (file s q.thread q.reached).pc ≡ at + 44 → IsWholeAdd s p cells h q.thread q.begun q.reached }
-    ensures not_whole { (s : Setting) (log : List Entry) (p : Slots) (at : ℕ) (area : Area) (cells h : ℕ) (q : Sequence)
-        → IsBlockRun s log → HoldsAdd s (history s log) p at area cells q.thread
+        → (file s q.thread q.reached).pc ≡ at + 44
+        → IsWholeAdd s p (cells_of s p q.thread q.begun) h q.thread q.begun q.reached }
+    ensures not_whole { (s : Setting) (log : List Entry) (p : Slots) (at : ℕ) (area : Area) (h : ℕ) (q : Sequence)
+        → IsBlockRun s log → HoldsAdd s (history s log) p at area q.thread
         → sequence_on s h (history s log) ≡ Some q → IsIn s (add_range at) q.thread q.begun
-        → (file s q.thread q.reached).pc ≢ at + 44 → IsNoAdd s cells h q.thread q.begun q.reached }
+        → (file s q.thread q.reached).pc ≢ at + 44
+        → IsNoAdd s (cells_of s p q.thread q.begun) h q.thread q.begun q.reached }
 {}
 
 /// In a block run an instruction of an add block changes no register but those that a block may change, whether or not
 /// a sequence is open.
 pub fn add_keeps_registers()
-    ensures { (s : Setting) (log : List Entry) (entry : Entry) (p : Slots) (at : ℕ) (area : Area) (cells t r : ℕ)
-        → IsBlockRun s (log ++ entry ∷ []) → HoldsAdd s (history s (log ++ entry ∷ [])) p at area cells t
+    ensures { (s : Setting) (log : List Entry) (entry : Entry) (p : Slots) (at : ℕ) (area : Area) (t r : ℕ)
+        → IsBlockRun s (log ++ entry ∷ []) → HoldsAdd s (history s (log ++ entry ∷ [])) p at area t
         → entry.kind ≡ kind.Exec → running s entry.hart.0 (history s log) ≡ Some t
         → in_block (placed_add p at area) (file s t (history s log)).pc ≡ true → is_scratch r ≡ false
         → register (file s t (history s (log ++ entry ∷ []))).file r ≡ register (file s t (history s log)).file r }

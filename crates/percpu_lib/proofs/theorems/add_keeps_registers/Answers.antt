@@ -9,10 +9,10 @@ use Rattle.percpu_lib.proofs.AddRegisters.{registers_kept}
 use Rattle.percpu_lib.proofs.theorems.add_keeps_registers.Goals as goal
 
 pub returns : goal.returns
-returns c s log entry p at area cells t r run holds exec runs inside kept =
+returns c s log entry p at area t r run holds exec runs inside kept =
     let before = history s log in
     let e : Event = event s before entry in
     let more = history-append s log entry in
     ap (λ (x : History). register (file s t x).file r) more
-    ∙ registers_kept s p at area cells t e before (subst (IsRunHistory s) more run.allowed)
-    (subst (λ (x : History). HoldsAdd s x p at area cells t) more holds) exec runs inside r kept
+    ∙ registers_kept s p at area t e before (subst (IsRunHistory s) more run.allowed)
+    (subst (λ (x : History). HoldsAdd s x p at area t) more holds) exec runs inside r kept
