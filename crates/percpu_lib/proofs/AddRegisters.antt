@@ -100,9 +100,9 @@ not_scratch x rd other scratch same = false≢true (sym other ∙ ap is_scratch 
 module _ (s : Setting) (p : Slots) (at : ℕ) (area : Area)
     (held : AreHeld (code_of s.program.pages) at (add_block p)) (slots : AreSlots p)
     (low : p.table < 0x7FFFF800) (low_at : at < 2 ^ 37) (aligned : at % 4 ≡ 0)
-        (low_area : area.at + 32 ≤ 2 ^ 38)
+    (low_area : area.at + 32 ≤ 2 ^ 38)
     (f : Saved) (e : Effect) (seen : ℕ → Option ℕ) (r : Option ℕ)
-        (is : effect_at (code_of s.program.pages) f ≡ Some e)
+    (is : effect_at (code_of s.program.pages) f ≡ Some e)
     (x : ℕ) (kept : is_scratch x ≡ false) where
   by_word : (k : ℕ) (i : Inst) → f.pc ≡ at + 4 * k → slice_get (add_block p) k ≡ Some (Some i)
       → register (outcome seen f.file f.pc r (meaning i f.file f.pc)).regs x ≡ register f.file x
@@ -158,7 +158,7 @@ module _ (s : Setting) (p : Slots) (at : ℕ) (area : Area) (t : ℕ) (e : Event
     (run : IsRunHistory s (e ∷ before)) (holds : HoldsAdd s (e ∷ before) p at area t)
     (exec : e.entry.kind ≡ kind.Exec) (runs : running s e.entry.hart.0 before ≡ Some t)
     (inside : in_block (placed_add p at area) (file s t before).pc ≡ true) (x : ℕ)
-        (kept : is_scratch x ≡ false) where
+    (kept : is_scratch x ≡ false) where
   abbrev here : Here
   here = here_in_history s before e.entry.hart.0
 
@@ -179,30 +179,30 @@ module _ (s : Setting) (p : Slots) (at : ℕ) (area : Area) (t : ℕ) (e : Event
   effect_keeps None None plain same = refl
   effect_keeps None (Some y) plain same =
       ap (λ c. register (file_among
-          (cond c (by_call here (called_here here t)) (by_outcome here t (outcome_of here t y))).files t
-          now).file x) (plain y refl)
+      (cond c (by_call here (called_here here t)) (by_outcome here t (outcome_of here t y))).files t
+      now).file x) (plain y refl)
       ∙ ap (λ c. register (cond c
-          (record { file = (outcome_of here t y).regs; pc = (outcome_of here t y).pc }) now).file x)
-          (eqb_same t)
+      (record { file = (outcome_of here t y).regs; pc = (outcome_of here t y).pc }) now).file x)
+      (eqb_same t)
       ∙ same y refl
 
   pub registers_kept : register (file s t (e ∷ before)).file x ≡ register now.file x
   registers_kept =
       let code = add_code s p at area holds.stands holds.slots holds.low_table holds.low holds.aligned
-          holds.low_area in
+      holds.low_area in
       let placed = add_placed s p at area holds.stands holds.slots holds.low_table holds.low holds.aligned
-          holds.low_area holds.some_table in
+      holds.low_area holds.some_table in
       let went = goes_there s (placed_add p at area).range t e.entry.hart.0 e before run in
       let at_it = (sound s (placed_add p at area) t (KnowsTable p) placed code before run.0 holds.uses.0
-          went).word inside in
+      went).word inside in
       let step = step_of s e before run in
       let did : e.done ≡ by_effect here t (next_fault here t) (next_effect here t) =
       step.did ∙ ap (λ k. done_of (choice_with k e.entry) here) exec ∙ ap (done_exec_by here) runs in
       ap (λ (d : Done). register (file_among d.files t now).file x) did
       ∙ effect_keeps (next_fault here t) (next_effect here t)
       (λ y is. plain_at s p at area holds.stands holds.slots holds.low_table holds.low holds.aligned
-          holds.low_area now y (view here) here.reserved is
+      holds.low_area now y (view here) here.reserved is
       at_it.word at_it.pc at_it.below at_it.know)
       (λ y is. registers_at s p at area holds.stands holds.slots holds.low_table holds.low holds.aligned
-          holds.low_area now y (view here) here.reserved is
+      holds.low_area now y (view here) here.reserved is
       x kept at_it.word at_it.pc at_it.below at_it.know)

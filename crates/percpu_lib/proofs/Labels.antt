@@ -48,7 +48,7 @@ label_own : (a : Assembly) (n : ℕ) → slice_get a.labels n ≡ Some None
     → slice_get (with_label a n).labels n ≡ Some (Some (length a.items))
 label_own a n free =
     ap (λ o. slice_get (cond (is_free o) (record a { labels = set a.labels n (Some (length a.items)) })
-        a).labels n) free
+    a).labels n) free
     ∙ get_same a.labels n (Some (length a.items)) None free
 
 label_keeps : (a : Assembly) (n l i : ℕ) → slice_get a.labels l ≡ Some (Some i)
@@ -59,9 +59,9 @@ label_keeps a n l i is = by_same (eqb l n) refl
     by_same false other = label_other a n l (eqb-false l n other) ∙ is
     by_same true same =
         let here : slice_get a.labels n ≡ Some (Some i) = ap (slice_get a.labels) (sym (eqb-true l n same))
-            ∙ is in
+        ∙ is in
         ap (λ o. slice_get (cond (is_free o) (record a { labels = set a.labels n (Some (length a.items)) })
-            a).labels l) here ∙ is
+        a).labels l) here ∙ is
 
 -- LINES
 
@@ -159,126 +159,126 @@ index_is b l o is = ap (λ x. unwrap_or x None) is
 module _ (p : Slots) (base shift : ℕ) (first inside aborted : List Line) (a b : Assembly)
     (is : AreEmitted (block_lines p base shift first inside aborted) a b) (room : HasRoom a.labels base)
     (none_first : HasNoLabel first) (none_inside : HasNoLabel inside) (none_aborted : HasNoLabel aborted)
-        where
-  abbrev from_aborted : List Line
-  from_aborted = aborted ++ end_lines base
+  where
+    abbrev from_aborted : List Line
+    from_aborted = aborted ++ end_lines base
 
-  abbrev from_leave : List Line
-  from_leave = leave_lines base ++ from_aborted
+    abbrev from_leave : List Line
+    from_leave = leave_lines base ++ from_aborted
 
-  abbrev from_inside : List Line
-  from_inside = inside ++ from_leave
+    abbrev from_inside : List Line
+    from_inside = inside ++ from_leave
 
-  abbrev from_start : List Line
-  from_start = start_lines p base shift ++ from_inside
+    abbrev from_start : List Line
+    from_start = start_lines p base shift ++ from_inside
 
-  -- where each of them stands
-  stands_at : (k : ℕ) → k < 5 → Stands (base + k) (block_lines p base shift first inside aborted)
-  stands_at zero lt = inl (omega arith)
-  stands_at (suc zero) lt = inr (stands_behind (base + 1) first from_start (inl refl))
-  stands_at (suc (suc zero)) lt =
-      inr (stands_behind (base + 2) first from_start
-          (inr (stands_behind (base + 2) inside from_leave (inl refl))))
-  stands_at (suc (suc (suc zero))) lt =
-      inr (stands_behind (base + 3) first from_start
-      (inr (stands_behind (base + 3) inside from_leave (inr (inl refl)))))
-  stands_at (suc (suc (suc (suc zero)))) lt =
-      inr (stands_behind (base + 4) first from_start
-      (inr (stands_behind (base + 4) inside from_leave
-      (inr (inr (stands_behind (base + 4) aborted (end_lines base) (inl refl)))))))
-  stands_at (suc (suc (suc (suc (suc k))))) lt = absurd (omega arith)
+    -- where each of them stands
+    stands_at : (k : ℕ) → k < 5 → Stands (base + k) (block_lines p base shift first inside aborted)
+    stands_at zero lt = inl (omega arith)
+    stands_at (suc zero) lt = inr (stands_behind (base + 1) first from_start (inl refl))
+    stands_at (suc (suc zero)) lt =
+        inr (stands_behind (base + 2) first from_start
+        (inr (stands_behind (base + 2) inside from_leave (inl refl))))
+    stands_at (suc (suc (suc zero))) lt =
+        inr (stands_behind (base + 3) first from_start
+        (inr (stands_behind (base + 3) inside from_leave (inr (inl refl)))))
+    stands_at (suc (suc (suc (suc zero)))) lt =
+        inr (stands_behind (base + 4) first from_start
+        (inr (stands_behind (base + 4) inside from_leave
+        (inr (inr (stands_behind (base + 4) aborted (end_lines base) (inl refl)))))))
+    stands_at (suc (suc (suc (suc (suc k))))) lt = absurd (omega arith)
 
-  bound_at : (k : ℕ) → k < 5 → (index : ℕ) × (index_of b.labels (base + k) ≡ Some index)
-  bound_at k lt =
-      let one = binds (block_lines p base shift first inside aborted) a b (base + k) is.are
-          (room k (omega arith)) (stands_at k lt) in
-      (one.0, index_is b (base + k) (Some one.0) one.1)
+    bound_at : (k : ℕ) → k < 5 → (index : ℕ) × (index_of b.labels (base + k) ≡ Some index)
+    bound_at k lt =
+        let one = binds (block_lines p base shift first inside aborted) a b (base + k) is.are
+        (room k (omega arith)) (stands_at k lt) in
+        (one.0, index_is b (base + k) (Some one.0) one.1)
 
-  -- the assembler before and behind the parts
-  first_part : Parts first from_start (with_label a base) b
-  first_part = parts first from_start (with_label a base) b is.are
+    -- the assembler before and behind the parts
+    first_part : Parts first from_start (with_label a base) b
+    first_part = parts first from_start (with_label a base) b is.are
 
-  start_part : Parts (start_lines p base shift) from_inside first_part.between b
-  start_part = parts (start_lines p base shift) from_inside first_part.between b first_part.rest
+    start_part : Parts (start_lines p base shift) from_inside first_part.between b
+    start_part = parts (start_lines p base shift) from_inside first_part.between b first_part.rest
 
-  inside_part : Parts inside from_leave start_part.between b
-  inside_part = parts inside from_leave start_part.between b start_part.rest
+    inside_part : Parts inside from_leave start_part.between b
+    inside_part = parts inside from_leave start_part.between b start_part.rest
 
-  -- a later label is free up to there
-  free_there : (k : ℕ) → 2 ≤ k → k < 8 → slice_get inside_part.between.labels (base + k) ≡ Some None
-  free_there k from lt =
-      stays inside start_part.between inside_part.between (base + k) inside_part.first
-          (no_label (base + k) inside none_inside)
-      ∙ stays (start_lines p base shift) first_part.between start_part.between (base + k) start_part.first
-          not_started
-      ∙ stays first (with_label a base) first_part.between (base + k) first_part.first
-          (no_label (base + k) first none_first)
-      ∙ label_other a base (base + k) (λ same. absurd (omega arith)) ∙ room k lt
-    where
-      not_started : Stands (base + k) (start_lines p base shift) → ⊥
-      not_started (inl same) = omega arith
-      not_started (inr rest) = rest
+    -- a later label is free up to there
+    free_there : (k : ℕ) → 2 ≤ k → k < 8 → slice_get inside_part.between.labels (base + k) ≡ Some None
+    free_there k from lt =
+        stays inside start_part.between inside_part.between (base + k) inside_part.first
+        (no_label (base + k) inside none_inside)
+        ∙ stays (start_lines p base shift) first_part.between start_part.between (base + k) start_part.first
+        not_started
+        ∙ stays first (with_label a base) first_part.between (base + k) first_part.first
+        (no_label (base + k) first none_first)
+        ∙ label_other a base (base + k) (λ same. absurd (omega arith)) ∙ room k lt
+      where
+        not_started : Stands (base + k) (start_lines p base shift) → ⊥
+        not_started (inl same) = omega arith
+        not_started (inr rest) = rest
 
-  abbrev at_leave : Assembly
-  at_leave = inside_part.between
+    abbrev at_leave : Assembly
+    at_leave = inside_part.between
 
-  abbrev left : Assembly
-  left = with_label at_leave (base + 2)
+    abbrev left : Assembly
+    left = with_label at_leave (base + 2)
 
-  abbrev behind_label : List Line
-  behind_label = line.Branch (inst.Jal 0 (pos 0)) (base + 4) ∷ line.Data 0xF1401073 ∷ line.Label (base + 3) ∷
-      from_aborted
+    abbrev behind_label : List Line
+    behind_label = line.Branch (inst.Jal 0 (pos 0)) (base + 4) ∷ line.Data 0xF1401073 ∷ line.Label (base + 3) ∷
+        from_aborted
 
-  post_commit_at : slice_get b.labels (base + 2) ≡ Some (Some (length at_leave.items))
-  post_commit_at =
-      keeps behind_label left b (base + 2) (length at_leave.items) inside_part.rest
-      (label_own at_leave (base + 2) (free_there 2 (omega arith) (omega arith)))
+    post_commit_at : slice_get b.labels (base + 2) ≡ Some (Some (length at_leave.items))
+    post_commit_at =
+        keeps behind_label left b (base + 2) (length at_leave.items) inside_part.rest
+        (label_own at_leave (base + 2) (free_there 2 (omega arith) (omega arith)))
 
-  jump_there : slice_get b.items (length at_leave.items) ≡ Some (item.Aimed (inst.Jal 0 (pos 0)) (base + 4))
-  jump_there =
-      let jump : Item = item.Aimed (inst.Jal 0 (pos 0)) (base + 4) in
-      let rest : List Line = line.Data 0xF1401073 ∷ line.Label (base + 3) ∷ from_aborted in
-      let behind = emitted_behind rest (with_item left jump) b inside_part.rest in
-      let same = labelled_items at_leave (base + 2) in
-      ap (λ (ys : List Item). slice_get b.items (length ys)) (sym same)
-      ∙ ap (λ (ys : List Item). slice_get ys (length left.items))
-          (behind.1 ∙ append_assoc left.items (jump ∷ []) behind.0)
-      ∙ get_behind left.items behind.0 jump
+    jump_there : slice_get b.items (length at_leave.items) ≡ Some (item.Aimed (inst.Jal 0 (pos 0)) (base + 4))
+    jump_there =
+        let jump : Item = item.Aimed (inst.Jal 0 (pos 0)) (base + 4) in
+        let rest : List Line = line.Data 0xF1401073 ∷ line.Label (base + 3) ∷ from_aborted in
+        let behind = emitted_behind rest (with_item left jump) b inside_part.rest in
+        let same = labelled_items at_leave (base + 2) in
+        ap (λ (ys : List Item). slice_get b.items (length ys)) (sym same)
+        ∙ ap (λ (ys : List Item). slice_get ys (length left.items))
+        (behind.1 ∙ append_assoc left.items (jump ∷ []) behind.0)
+        ∙ get_behind left.items behind.0 jump
 
-  abbrev at_abort : Assembly
-  at_abort =
-      with_label (with_item (with_item left (item.Aimed (inst.Jal 0 (pos 0)) (base + 4)))
-          (item.Word 0xF1401073)) (base + 3)
+    abbrev at_abort : Assembly
+    at_abort =
+        with_label (with_item (with_item left (item.Aimed (inst.Jal 0 (pos 0)) (base + 4)))
+        (item.Word 0xF1401073)) (base + 3)
 
-  last_part : Parts aborted (end_lines base) at_abort b
-  last_part = parts aborted (end_lines base) at_abort b inside_part.rest
+    last_part : Parts aborted (end_lines base) at_abort b
+    last_part = parts aborted (end_lines base) at_abort b inside_part.rest
 
-  abbrev last : Assembly
-  last = with_item last_part.between (item.Aimed (inst.Jal 0 (pos 0)) base)
+    abbrev last : Assembly
+    last = with_item last_part.between (item.Aimed (inst.Jal 0 (pos 0)) base)
 
-  free_at_last : slice_get last.labels (base + 4) ≡ Some None
-  free_at_last =
-      stays aborted at_abort last_part.between (base + 4) last_part.first
-          (no_label (base + 4) aborted none_aborted)
-      ∙ label_other (with_item (with_item left (item.Aimed (inst.Jal 0 (pos 0)) (base + 4)))
-          (item.Word 0xF1401073))
-      (base + 3) (base + 4) (λ same. absurd (omega arith))
-      ∙ label_other at_leave (base + 2) (base + 4) (λ same. absurd (omega arith))
-      ∙ free_there 4 (omega arith) (omega arith)
+    free_at_last : slice_get last.labels (base + 4) ≡ Some None
+    free_at_last =
+        stays aborted at_abort last_part.between (base + 4) last_part.first
+        (no_label (base + 4) aborted none_aborted)
+        ∙ label_other (with_item (with_item left (item.Aimed (inst.Jal 0 (pos 0)) (base + 4)))
+        (item.Word 0xF1401073))
+        (base + 3) (base + 4) (λ same. absurd (omega arith))
+        ∙ label_other at_leave (base + 2) (base + 4) (λ same. absurd (omega arith))
+        ∙ free_there 4 (omega arith) (omega arith)
 
-  behind_all : index_of b.labels (base + 4) ≡ Some (length b.items)
-  behind_all =
-      let is_last : b ≡ with_label last (base + 4) = last_part.rest in
-      index_is b (base + 4) (Some (length last.items))
-      (ap (λ (x : Assembly). slice_get x.labels (base + 4)) is_last ∙ label_own last (base + 4) free_at_last)
-      ∙ ap (λ (ys : List Item). Some (length ys))
-      (sym (ap (λ (x : Assembly). x.items) is_last ∙ labelled_items last (base + 4)))
+    behind_all : index_of b.labels (base + 4) ≡ Some (length b.items)
+    behind_all =
+        let is_last : b ≡ with_label last (base + 4) = last_part.rest in
+        index_is b (base + 4) (Some (length last.items))
+        (ap (λ (x : Assembly). slice_get x.labels (base + 4)) is_last ∙ label_own last (base + 4) free_at_last)
+        ∙ ap (λ (ys : List Item). Some (length ys))
+        (sym (ap (λ (x : Assembly). x.items) is_last ∙ labelled_items last (base + 4)))
 
-  pub labelled : IsLabelled base b
-  labelled = record {
-    bound = bound_at;
-    committed = length at_leave.items;
-    post_commit = index_is b (base + 2) (Some (length at_leave.items)) post_commit_at;
-    jump = jump_there;
-    behind = behind_all;
-  }
+    pub labelled : IsLabelled base b
+    labelled = record {
+      bound = bound_at;
+      committed = length at_leave.items;
+      post_commit = index_is b (base + 2) (Some (length at_leave.items)) post_commit_at;
+      jump = jump_there;
+      behind = behind_all;
+    }

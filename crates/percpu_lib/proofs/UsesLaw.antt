@@ -85,9 +85,9 @@ pub adds : (s : Setting) (history : History) (p : Slots) (at : ℕ) (area : Area
     → HoldsAdd s history p at area q.thread → sequence_on s h history ≡ Some q
     → IsIn s (add_range at) q.thread q.begun
     → ((file s q.thread q.reached).pc ≡ at + 44
-        → IsWholeAdd s p (cells_of s p q.thread q.begun) h q.thread q.begun q.reached)
+    → IsWholeAdd s p (cells_of s p q.thread q.begun) h q.thread q.begun q.reached)
     × ((file s q.thread q.reached).pc ≢ at + 44
-        → IsNoAdd s (cells_of s p q.thread q.begun) h q.thread q.begun q.reached)
+    → IsNoAdd s (cells_of s p q.thread q.begun) h q.thread q.begun q.reached)
 adds s history p at area h q run whole held is inside =
     let t = q.thread in
     let b = placed_add p at area in
