@@ -3,6 +3,7 @@
 ghost use Rattle.std.specs.Prelude.{◌≡◌, map, IfOk, IfErr};
 ghost use Rattle.mach_types.specs.Limits.{InRange};
 ghost use Rattle.elf_load.specs.Images.{IsBootable};
+ghost use Rattle.block_model.specs.Setting.{setting_of};
 ghost use Rattle.block_view.specs.Viewing.{IsViewCause};
 ghost use Rattle.log_gather.specs.Gathered.{IsGathered};
 

@@ -10,7 +10,7 @@ ghost use Rattle.mach_types.specs.declared.events.Entry.{Entry};
 ghost use Rattle.rv_inst.specs.Class as class;
 ghost use Rattle.elf_load.specs.Images.{IsBootable};
 ghost use Rattle.block_model.specs.PlainEvents.{is_plain};
-ghost use Rattle.block_model.specs.Setting.{Seen};
+ghost use Rattle.block_model.specs.Setting.{Seen, setting_of};
 ghost use Rattle.process.specs.Sequences.{looked_at_on};
 ghost use Rattle.block_view.specs.Ledgers as ledgers;
 ghost use Rattle.block_view.specs.Passing.{IsDecided, IsMadeAgain};

@@ -131,8 +131,8 @@ taken m h l x t is room busy =
       log_after = all.log_after;
     }
 
-pub taken_ready : (m : Inside) (h : Hart) (l : Stretch) (x : HartState) (t : Tid) → IsMachine m → IsChosen (setting_of m) m.log.items
-    → IsStretchOf (setting_of m) h.0 m.log.items l → has_ended (setting_of m) (past_of m) ≡ false → events h.0 (past_of m) ≡ l.events
+pub taken_ready : (m : Inside) (h : Hart) (l : Stretch) (x : HartState) (t : Tid) → IsMachine m → IsChosen (setting_of m) m.seed m.log.items
+    → IsStretchOf (setting_of m) m.seed h.0 m.log.items l → has_ended (setting_of m) (past_of m) ≡ false → events h.0 (past_of m) ≡ l.events
     → x ≡ get_or m.parts.harts.items h.0 x → length m.log.items + length l.pcs ≤ m.limits.steps → x.running ≡ Some t → IsTakenIn m h l x t (with_hart m h.0 (taken_in l x))
 taken_ready m h l x t machine chosen fits goes same value = taken m h l x t (ready m h l x machine chosen fits goes same value)
 

@@ -18,7 +18,7 @@ loop-entry-init c =
     let s = setting_of c.args.image.now c.args.limits.now in
     let none : c.new-steps.result.items ≡ [] = search rules in
     subst (λ (xs : List Step). HasSeen s [] c.in_ok-machine.machine xs (replicate 8 false)) (sym none)
-    (seen_none s c.in_ok-machine.machine c.in_ok-machine.ensures)
+    (seen_none s 0 c.in_ok-machine.machine c.in_ok-machine.ensures)
 
 pub overflow_cast-number : goal.overflow_cast-number
 overflow_cast-number c =

@@ -14,7 +14,7 @@ returns-else-is_idle c =
     let m = c.self.inside in
     let h = c.args.hart.0 in
     let x = c.hart-state.result.now in
-    let here : x ≡ hart_in (here_read m h) (ran h (history_of m)) (events h (history_of m)) (credit_at (setting_of m) h (history_of m)) = rw (← c.self.view_is) at c.hart-state.ensures in
+    let here : x ≡ hart_in (here_read m h) (ran h (history_of m)) (events h (history_of m)) (credit_at (setting_of m) m.seed h (history_of m)) = rw (← c.self.view_is) at c.hart-state.ensures in
     rw (← c.self.view_is) (c.next_of.ensures.fault
     ∙ fault_read (here_read m h) x _ _ _ (byte_in m.parts.pages) (can_write_in m.parts.pages) here (bytes_read m h c.self.invariant) (writable_read m h c.self.invariant)
     (is_busy x.running c.is_idle.result c.is_idle.ensures c.if-is_idle.false))
@@ -24,5 +24,5 @@ returns-then-is_idle c =
     let m = c.self.inside in
     let h = c.args.hart.0 in
     let x = c.hart-state.result.now in
-    let here : x ≡ hart_in (here_read m h) (ran h (history_of m)) (events h (history_of m)) (credit_at (setting_of m) h (history_of m)) = rw (← c.self.view_is) at c.hart-state.ensures in
+    let here : x ≡ hart_in (here_read m h) (ran h (history_of m)) (events h (history_of m)) (credit_at (setting_of m) m.seed h (history_of m)) = rw (← c.self.view_is) at c.hart-state.ensures in
     rw (← c.self.view_is) (no_fault_read (here_read m h) x _ _ _ here c.is_idle.result c.is_idle.ensures c.if-is_idle.true)
