@@ -1,0 +1,3 @@
+mod Draws
+pub mod Laws
+mod Passing
