@@ -1,2 +1,3 @@
 mod Allowed
+mod Examples
 pub mod Laws

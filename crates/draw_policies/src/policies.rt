@@ -16,7 +16,7 @@ pub enum Policy {
     Pos,
     /// Each event on any hart.
     Spread,
-    /// Each thread goes on in the end, and each store enters memory soon.
+    /// A hart goes on for a while, and its stores enter memory before its next instruction.
     Fair,
 }
 
