@@ -113,7 +113,7 @@ abbrev pub drawn_by_priority : Scene → Drawing → Option Drawn
 drawn_by_priority scene d =
     option_and_then (drawn_by_actor scene d) (leader (is_enabled scene d.opened d.aims) d.lots.priorities (actors scene.harts))
 
--- the next event; none where no hart can act, and then nothing changes
+-- the next event, where there is one
 unfoldable pub draw : Scene → Drawing → Option Drawn
 draw scene d =
     if goes_on scene d then Some (on_credit d)

@@ -12,7 +12,7 @@ use mach_types::{Choice, Hart};
 use rand_core::utils::NextWord;
 
 impl Drawing {
-    /// The next event; None exactly where no hart can act, and then nothing changes.
+    /// The next event, where there is one; else nothing changes.
     #[tactic(auto, unfolding(crate::specs::Drawings::draw))]
     pub fn next<H: Harts>(&mut self, harts: &H) -> Option<DrawnEvent>
         requires { drawings.IsFor (H.scene harts.now).harts self.old }

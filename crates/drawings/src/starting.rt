@@ -1,6 +1,7 @@
 //! How a drawing begins.
 
-ghost use Rattle.std.specs.Prelude.{◌≡◌, ◌≤◌};
+ghost use Rattle.std.specs.Prelude.{◌≡◌, ◌<◌, ◌≤◌};
+ghost use Rattle.drawings.specs.Drawings.{IsFor};
 ghost use Rattle.drawings.specs.Starts as starts;
 ghost use Rattle.chooser.specs.Generators.{first_generator};
 
@@ -67,6 +68,7 @@ impl Drawing {
         requires { harts ≤ 8 }
         ensures start { result ≡ starts.start policy harts seed left }
         ensures few { result.opened ≤ 8 }
+        ensures ready { 0 < harts → IsFor harts result }
     {
         let mut generator = generator_of(seed);
         let opened = first_open(policy, harts, &mut generator);
