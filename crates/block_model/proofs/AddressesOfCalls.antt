@@ -9,6 +9,7 @@ use Rattle.mach_types.specs.declared.threads.Saved.{Saved}
 use Rattle.mach_types.specs.declared.threads.ThreadState.TheVariants.{Ready, Waiting}
 use Rattle.block_model.specs.Record.{Kernel}
 use Rattle.mach_types.specs.Kernel.Threads.{Thread, clear_if, clear_of, is_thread, new_thread, numbers, state_if}
+use Rattle.mach_types.specs.declared.user_memory.Write.{Write}
 use Rattle.rv_inst.specs.Words.{sum_64}
 use Rattle.block_model.specs.Here.{Here}
 use Rattle.block_model.specs.Kernel.{cleared, had_child, left, next_number, restricted, signalled, waited, woken}
@@ -111,11 +112,11 @@ child_stand_if t child at k false stand = stand
 
 module _ (here : Here) (t number : ℕ) where
   -- a step keeps handlers below 2^64, and all threads
-  stand_step : {k : Kernel} → TableStep here t number k → AllStand here → HandlersStand k.signals
+  stand_step : {entered : List Write} {k : Kernel} → TableStep here t number entered k → AllStand here → HandlersStand k.signals
   stand_step (Signalled g keeps stand heeds calm) all = stand all
   stand_step step all = all.handlers
 
-  lives_step : {k : Kernel} → TableStep here t number k → lives k ≡ lives here.kernel
+  lives_step : {entered : List Write} {k : Kernel} → TableStep here t number entered k → lives k ≡ lives here.kernel
   lives_step (Clears at) = cleared_lives t at here.kernel
   lives_step Leaves = left_lives t here.kernel
   lives_step (Waits at none) = waited_lives t at here.kernel

@@ -1,6 +1,7 @@
 -- What a call's deed can be. Each call of the table is one of these (CallEffects/EachCall.antt); a law of all
 -- calls goes over them, and names no call.
 use Rattle.std.proofs.Common.{◌≡◌, ◌≢◌, ℕ, ◌+◌, ◌≤◌, ◌<◌, ◌^◌, List, [], ◌∷◌, length, map, refl, Bool, true, false, cond, Option, Some, None, arith}
+use Rattle.mach_types.specs.Kernel.Areas.{words_on, words_written}
 use Rattle.mach_types.specs.Kernel.Pages.{Pages}
 use Rattle.mach_types.specs.Kernel.SignalFrames.{frame_read}
 use Rattle.mach_types.specs.Kernel.Signals.{Signalling, next_for}
@@ -21,6 +22,7 @@ use Rattle.block_model.specs.Calls.Memory.{taken_by}
 use Rattle.block_model.specs.Calls.Signals.{broken_wait, resumed}
 use Rattle.block_model.specs.ErrorCalls.{IsError}
 use Rattle.block_model.specs.Here.{Here, memory}
+use Rattle.block_model.specs.Ids.{id_of}
 use Rattle.block_model.specs.Kernel.{cleared, for_barriers, left, next_number, paged, printed, registered, restricted, signalled, unregistered, waited, woken}
 use Rattle.block_model.specs.Record.{Kernel}
 use Rattle.block_model.specs.Sequences.{area_here}
@@ -65,36 +67,38 @@ NotOpen o = o ≢ Some over.Unended
 -- THE DEEDS
 
 -- what the caller, which goes on or leaves its hart, makes of the record: of one table, or of those in which
--- it stands
-pub data TableStep (here : Here) (t number : ℕ) : Kernel → Type 0 where
-  Same : TableStep here t number here.kernel
+-- it stands; and what the call writes, where that is told
+pub data TableStep (here : Here) (t number : ℕ) (entered : List Write) : Kernel → Type 0 where
+  Same : TableStep here t number entered here.kernel
   Prints : (bytes : List ℕ) → length here.kernel.console + length bytes ≤ CONSOLE_ROOM
-      → TableStep here t number (printed bytes here.kernel)
-  Clears : (at : ℕ) → TableStep here t number (cleared t at here.kernel)
-  Leaves : TableStep here t number (left t here.kernel)
-  Waits : (at : ℕ) → next_for t here.kernel.signals ≡ None → TableStep here t number (waited t at here.kernel)
+      → TableStep here t number entered (printed bytes here.kernel)
+  Clears : (at : ℕ) → TableStep here t number entered (cleared t at here.kernel)
+  Leaves : TableStep here t number entered (left t here.kernel)
+  Waits : (at : ℕ) → next_for t here.kernel.signals ≡ None → TableStep here t number entered (waited t at here.kernel)
   Stays : (set : ℕ) → set < 2 ^ here.setting.limits.harts → set ≢ 0
-      → TableStep here t number (restricted t set here.kernel)
+      → TableStep here t number entered (restricted t set here.kernel)
   MovesOff : (set : ℕ) → set < 2 ^ here.setting.limits.harts → set ≢ 0
-      → TableStep here t number (left t (restricted t set here.kernel))
+      → TableStep here t number entered (left t (restricted t set here.kernel))
   Registers : (area : Area) → area_here here t ≡ None
-      → TableStep here t number (registered t area here.kernel)
-  Unregisters : TableStep here t number (unregistered t here.kernel)
+      → entered ≡ words_written area (words_on here.hart (id_of t here.kernel.ids))
+      → TableStep here t number entered (registered t area here.kernel)
+  Unregisters : TableStep here t number entered (unregistered t here.kernel)
   Signalled : (g : Signalling) → KeepsThreads here.kernel.signals g → (AllStand here → HandlersStand g)
       → (AllHeeded here.kernel.signals → AllHeeded g)
       → ((w : ℕ) → w ≢ t → waits here.kernel.threads w → next_for w here.kernel.signals ≡ None → next_for w g ≡ None)
-      → TableStep here t number (signalled g here.kernel)
-  EnrolsFor : (r : Registered) → TableStep here t number (for_barriers r here.kernel)
+      → TableStep here t number entered (signalled g here.kernel)
+  EnrolsFor : (r : Registered) → TableStep here t number entered (for_barriers r here.kernel)
   Remaps : (pages : Pages) → StaysWritable here.kernel.pages (taken_by number here t) pages
       → (IsPaged here.setting here.kernel.pages → IsPaged here.setting pages)
-      → TableStep here t number (paged pages here.kernel)
+      → TableStep here t number entered (paged pages here.kernel)
 
 -- it only answers, perhaps with an error; it answers, writes and makes a step of the record; it wakes those
 -- who wait at an address; it breaks the wait of a thread; its thread is gone; it has a child; it begins a
 -- barrier; it goes on from a frame of memory; or the process ends
 pub data CallDeed (here : Here) (t number : ℕ) : CallDone → Type 0 where
   Says : (n : ℕ) → CallDeed here t number (said here t n)
-  Answers : (n : ℕ) (entered : List Write) (k : Kernel) → IsAnswer here t n → TableStep here t number k
+  Answers : (n : ℕ) (entered : List Write) (k : Kernel) → IsAnswer here t n
+      → TableStep here t number entered k
       → CallDeed here t number (record (said here t n) { entered = entered; kernel = k })
   Wakes : (n at : ℕ) → n < 2 ^ 32
       → CallDeed here t number (record {
@@ -149,8 +153,8 @@ module _ {here : Here} {t number : ℕ} where
   either true p q = p refl
   either false p q = q refl
 
-  pub step_either : (b : Bool) {x y : Kernel} → TableStep here t number x → TableStep here t number y
-      → TableStep here t number (cond b x y)
+  pub step_either : (b : Bool) {entered : List Write} {x y : Kernel} → TableStep here t number entered x
+      → TableStep here t number entered y → TableStep here t number entered (cond b x y)
   step_either true p q = p
   step_either false p q = q
 
@@ -168,7 +172,8 @@ small_no_error n small error =
     omega arith
 
 -- it answers 0
-pub answers_0 : {here : Here} {t number : ℕ} (entered : List Write) (k : Kernel) → TableStep here t number k
+pub answers_0 : {here : Here} {t number : ℕ} (entered : List Write) (k : Kernel)
+    → TableStep here t number entered k
     → CallDeed here t number (record (said here t 0) { entered = entered; kernel = k })
 answers_0 entered k step = Answers 0 entered k (λ _. small_no_error 0 (omega arith)) step
 

@@ -1,6 +1,7 @@
 -- Which concurrency ids a call leaves, and that a thread holds the same one while it runs.
 use Rattle.std.proofs.Common.{◌≡◌, ℕ, ◌⊎◌, Bool, true, false, cond, List, refl, ap, inl, inr, ◌≢◌, ◌≤◌, ◌∷◌, ◌++◌, ◌∙◌, ◌||◌, not, eqb, [], find, Option, Some, sym, subst}
 use Rattle.mach_types.specs.Kernel.Threads.{clear_of}
+use Rattle.mach_types.specs.declared.user_memory.Write.{Write}
 use Rattle.block_model.specs.Calls.{called}
 use Rattle.block_model.specs.Calls.Answers.{CallDone, argument}
 use Rattle.block_model.specs.Calls.Cloning.{clone_child_cleartid, has_flag}
@@ -45,7 +46,7 @@ either_kept true x y ids p q = p
 either_kept false x y ids p q = q
 
 module _ (here : Here) (t number : ℕ) where
-  ids_step : {k : Kernel} → TableStep here t number k → HasLostOne t here.kernel.ids k.ids
+  ids_step : {entered : List Write} {k : Kernel} → TableStep here t number entered k → HasLostOne t here.kernel.ids k.ids
   ids_step Leaves = inr refl
   ids_step (Waits at none) = inr refl
   ids_step (MovesOff set below some) = inr refl

@@ -1,10 +1,11 @@
 -- At each place of a block run no signal is pending that its action ignores: what calls and events keep of this.
-use Rattle.std.proofs.Common.{ℕ, Bool, true, false, not, cond, ◌∷◌, [], Some, sym, subst}
+use Rattle.std.proofs.Common.{ℕ, List, Bool, true, false, not, cond, ◌∷◌, [], Some, sym, subst}
 use Rattle.std.proofs.lemmas.Bool.{and_parts}
 use Rattle.mach_types.specs.Kernel.Signals.{action_of, has_signal, is_handler, mask_of}
 use Rattle.mach_types.specs.Kernel.Threads.{clear_of}
 use Rattle.mach_types.specs.declared.events.Entry.{Entry}
 use Rattle.mach_types.specs.declared.events.Kind.{Kind}
+use Rattle.mach_types.specs.declared.user_memory.Write.{Write}
 use Rattle.block_model.specs.Calls.Answers.{CallDone, argument, call_number}
 use Rattle.block_model.specs.Calls.Cloning.{clone_child_cleartid, has_flag}
 use Rattle.block_model.specs.Calls.Ending.{clears}
@@ -31,7 +32,7 @@ heeded_if child at k true all = all
 heeded_if child at k false all = all
 
 module _ (here : Here) (t number : ℕ) (all : AllHeeded here.kernel.signals) where
-  heeded_step : {k : Kernel} → TableStep here t number k → AllHeeded k.signals
+  heeded_step : {entered : List Write} {k : Kernel} → TableStep here t number entered k → AllHeeded k.signals
   heeded_step (Signalled g keeps stand heeds calm) = heeds all
   heeded_step step = all
 

@@ -60,14 +60,24 @@ pub use Rattle.block_model.proofs.Barriers.Requests.{IsAwaited, IsAwaitedBy, alo
 pub use Rattle.block_model.proofs.Barriers.Events.{IsAtOthers, IsBegun, IsFitBarriers, IsStill}
 pub use Rattle.block_model.proofs.Images.{HaveBytes, image_bytes}
 pub use Rattle.block_model.proofs.Choosing.{no_call_held, none_of_both}
+pub use Rattle.block_model.proofs.EventEffects.{IsNext as IsNextInstruction}
+pub use Rattle.block_model.proofs.FileSteps.{Aborts, Answered, AtBirth, AtHandler, AtRun, AtTake, ByCall, ByInstruction}
+pub use Rattle.block_model.proofs.FileSteps.{FileStays, FileStep, IsInterrupted, file_step}
 pub use Rattle.block_model.proofs.PlaceInvariant.{IsFit, IsGood, IsGoodHere, IsSound, MayEnter}
 pub use Rattle.block_model.proofs.HartSets.{harts_fit, same_sets, some_hart, with_hart-fits, with_hart-itself, with_hart-or, with_hart-other, without_hart-and, without_hart-fits, without_hart-has, without_hart-itself, without_hart-other}
 pub use Rattle.block_model.proofs.KernelCalls.{as_many_held, child_not_held, child_same, ended_idle, order_has, tables_allowed, tables_child, tables_ended, tables_waited, tables_woken, waited_idle, woken_same}
 pub use Rattle.block_model.proofs.IdsOnHarts.{IsHeldOnHart, has_hart-set, is_held_below, is_held_by}
+pub use Rattle.block_model.proofs.Runs.{allowed_at}
+pub use Rattle.block_model.proofs.OwnEvents.{IsAreaAfter, new_area, no_area, own_area, ran_before, stays_area}
+pub use Rattle.block_model.proofs.ReadyFiles.{area_stays, ready_file_stays, ready_stays}
+pub use Rattle.block_model.proofs.RegisterFiles.{HasRegisters, has_registers}
+pub use Rattle.block_model.proofs.RunSteps.{IsStep, drains_none, file_apart, not_ready, one_hart, runs_apart, step_of, waits_apart}
+pub use Rattle.block_model.proofs.Sequences.{Begins, Elsewhere, IsOf, Own, SequenceStep, TakesIn, sequence_step}
 pub use Rattle.block_model.proofs.Stretches.{HasStayed, HasSteps, IsLent, Steps, is_lent, stays, steps_of, worked_keeps}
 pub use Rattle.block_model.proofs.ThreadRecords.{areas_changed, areas_fit, live_changed, registered_areas, signals_stay}
 pub use Rattle.block_model.proofs.Invariants.Calls.Futexes.{longest_waits, wake_by, wake_keeps}
 pub use Rattle.block_model.proofs.KernelTables.{any_live, cleared_same, left_idle, running_idle, running_is, running_there, waits_elsewhere, state_now, tables_cleared, tables_left, tables_ran, tables_start}
+pub use Rattle.block_model.proofs.Barriers.OutsideSequences.{in_no_barrier}
 
 -- a log of which every entry is allowed is a block run
 pub block_run : (s : Setting) (log : List Entry) → IsAllowedLog s log → IsBlockRun s log

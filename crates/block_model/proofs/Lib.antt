@@ -12,6 +12,7 @@ mod ErrorCalls
 mod EventEffects
 mod ExamplePrograms
 mod Examples
+mod FileSteps
 mod FixedRule
 mod HartSets
 mod Ids
@@ -30,6 +31,7 @@ pub mod Laws
 mod MemoryExamples
 mod NamedSequences
 mod OtherThreads
+mod OwnEvents
 mod Pages
 mod Pcs
 mod PlaceInvariant
@@ -37,9 +39,11 @@ mod PlainAgreement
 mod PlainEvents
 mod PlainMachine
 mod ReadyFiles
+mod RegisterFiles
 mod Replay
 mod Restarts
 mod RunEnds
+mod RunSteps
 mod Runs
 mod SequenceEnds
 mod SequenceExamples

@@ -163,7 +163,7 @@ alike : (t : ℕ) (before after : Kernel) → after.threads ≡ before.threads �
 alike t before after threads areas = record { ready = λ u ne is. rw threads is; areas = λ u ne. rw areas refl }
 
 module _ (here : Here) (t number : ℕ) where
-  beside_step : {k : Kernel} → TableStep here t number k → IsBeside t here.kernel k
+  beside_step : {entered : List Write} {k : Kernel} → TableStep here t number entered k → IsBeside t here.kernel k
   beside_step Same = beside_same t here.kernel
   beside_step (Clears at) = beside_cleared t t at here.kernel
   beside_step Leaves = beside_left t t here.kernel
@@ -171,7 +171,7 @@ module _ (here : Here) (t number : ℕ) where
   beside_step (MovesOff set below some) =
       let k = restricted t set here.kernel in
       beside_after t here.kernel k (left t k) (alike t here.kernel k refl refl) (beside_left t t k)
-  beside_step (Registers area none) = beside_registered t area here.kernel
+  beside_step (Registers area none writes) = beside_registered t area here.kernel
   beside_step Unregisters = beside_unregistered t here.kernel
   beside_step (Signalled g keeps stand heeds calm) = beside_signalled t g here.kernel
   beside_step step = alike t here.kernel _ refl refl

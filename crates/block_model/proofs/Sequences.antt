@@ -30,9 +30,10 @@ instruction_taken k o is = absurd (false≢true is)
 
 -- THE NEWEST SEQUENCE OF A HART
 
--- an event is of a sequence: it begins with the event, or was there before and takes it in
+-- an event is of a sequence: it begins with the event, where there was none, or was there before and takes it in
 pub data IsOf (s : Setting) (e : Event) (before : History) (h : ℕ) : Sequence → Type 0 where
-  Begins : is_instruction e.entry.kind ≡ true → IsOf s e before h (begun_with h e before)
+  Begins : sequence_on s h before ≡ None → is_instruction e.entry.kind ≡ true
+      → IsOf s e before h (begun_with h e before)
   TakesIn : (r : Sequence) → sequence_on s h before ≡ Some r
       → is_taken_in e.entry.kind e.done.interrupted ≡ true
       → IsOf s e before h (with_event e before r)
@@ -46,19 +47,19 @@ pub data SequenceStep (s : Setting) (e : Event) (before : History) (h : ℕ) (q 
 
 module _ (s : Setting) (e : Event) (before : History) (h : ℕ) where
   pub is_taken : {q : Sequence} → IsOf s e before h q → is_taken_in e.entry.kind e.done.interrupted ≡ true
-  is_taken (Begins first) = instruction_taken e.entry.kind e.done.interrupted first
+  is_taken (Begins none first) = instruction_taken e.entry.kind e.done.interrupted first
   is_taken (TakesIn r was taken) = taken
 
   pub is_reached : {q : Sequence} → IsOf s e before h q → q.reached ≡ e ∷ before
-  is_reached (Begins first) = refl
+  is_reached (Begins none first) = refl
   is_reached (TakesIn r was taken) = refl
 
 module _ (s : Setting) (e : Event) (before : History) (h : ℕ) (q : Sequence) where
-  begins_by : (b : Bool) → is_instruction e.entry.kind ≡ b
+  begins_by : (b : Bool) → sequence_on s h before ≡ None → is_instruction e.entry.kind ≡ b
       → cond b (Some (begun_with h e before)) None ≡ Some q → IsOf s e before h q
-  begins_by false first is = absurd cc
-  begins_by true first is = let same : begun_with h e before ≡ q = cc in
-      subst (IsOf s e before h) same (Begins first)
+  begins_by false none first is = absurd cc
+  begins_by true none first is = let same : begun_with h e before ≡ q = cc in
+      subst (IsOf s e before h) same (Begins none first)
 
   takes_by : (r : Sequence) (b : Bool) → sequence_on s h before ≡ Some r
       → is_taken_in e.entry.kind e.done.interrupted ≡ b
@@ -69,7 +70,7 @@ module _ (s : Setting) (e : Event) (before : History) (h : ℕ) (q : Sequence) w
 
   of_by : (o : Option Sequence) → sequence_on s h before ≡ o → taken_up h e before o ≡ Some q
       → IsOf s e before h q
-  of_by None was is = begins_by (is_instruction e.entry.kind) refl is
+  of_by None was is = begins_by (is_instruction e.entry.kind) was refl is
   of_by (Some r) was is = takes_by r (is_taken_in e.entry.kind e.done.interrupted) was refl is
 
   own_by : (c : Bool) → is_inside_at s h before ≡ c → e.entry.hart.0 ≡ h
@@ -184,7 +185,7 @@ goes_on s e before run taken inside =
 module _ (s : Setting) (e : Event) (before : History) (h : ℕ) (run : IsRunHistory s (e ∷ before))
     (rest : (r : Sequence) → sequence_on s h before ≡ Some r → RunsThroughout s before h r) where
   own_runs : {q : Sequence} → GoesOn s e before h → IsOf s e before h q → RunsThroughout s (e ∷ before) h q
-  own_runs goes (Begins first) = record { hart = refl; first = goes.thread; now = goes.still ∙ goes.thread }
+  own_runs goes (Begins none first) = record { hart = refl; first = goes.thread; now = goes.still ∙ goes.thread }
   own_runs goes (TakesIn r was taken) = let old = rest r was in record { hart = old.hart; first = old.first; now = goes.still ∙ old.now }
 
   runs_by : {q : Sequence} → SequenceStep s e before h q → RunsThroughout s (e ∷ before) h q

@@ -1,11 +1,12 @@
 -- At each place of a block run no thread waits with a signal that can be delivered to it: what calls and events keep of this.
-use Rattle.std.proofs.Common.{◌≡◌, ◌≢◌, ℕ, Bool, true, false, cond, eqb, ◌∷◌, [], Some, None, sym, subst, ◌∙◌}
+use Rattle.std.proofs.Common.{◌≡◌, ◌≢◌, ℕ, List, Bool, true, false, cond, eqb, ◌∷◌, [], Some, None, sym, subst, ◌∙◌}
 use Rattle.std.specs.Option.{option_map}
 use Rattle.mach_types.specs.Kernel.Signals.{next_for, start_signalling}
 use Rattle.mach_types.specs.Kernel.Threads.{Thread, clear_of, new_thread, start_threads, waits}
 use Rattle.mach_types.specs.declared.events.Entry.{Entry}
 use Rattle.mach_types.specs.declared.events.Kind.{Kind}
 use Rattle.mach_types.specs.declared.threads.ThreadState.TheVariants.{Ready, Running, Waiting}
+use Rattle.mach_types.specs.declared.user_memory.Write.{Write}
 use Rattle.block_model.specs.Calls.Answers.{CallDone, argument, call_number}
 use Rattle.block_model.specs.Calls.Cloning.{clone_child_cleartid, has_flag}
 use Rattle.block_model.specs.Calls.Ending.{clears}
@@ -42,7 +43,8 @@ module _ (here : Here) (harts : ℕ) (tables : IsTables harts here.kernel.thread
   apart : (t : ℕ) → runs here ≡ Some t → (u : ℕ) → waits here.kernel.threads u → u ≢ t
   apart t at u is = waits_elsewhere harts here.hart t u here.kernel.threads here.kernel.scheduling tables at is
 
-  calm_step : (t number : ℕ) {k : Kernel} → runs here ≡ Some t → TableStep here t number k → IsCalm k
+  calm_step : (t number : ℕ) {entered : List Write} {k : Kernel} → runs here ≡ Some t
+      → TableStep here t number entered k → IsCalm k
   calm_step t number at (Clears p) = λ u is. calm u (waited_uncleared t p u here.kernel.threads is)
   calm_step t number at Leaves = λ u is. calm u (waited_before t u Ready here.kernel.threads (λ p no. cc) is)
   calm_step t number at (Waits p none) = λ u is.

@@ -1,9 +1,10 @@
 -- Whatever else holds at a place, each call leaves tables that agree: where the threads, the scheduling, the areas and the signals
 -- agreed before it, they agree after it.
-use Rattle.std.proofs.Common.{◌≡◌, ℕ, Bool, true, false, cond, Some, is_some, refl, ap, ◌∙◌, arith, Option}
+use Rattle.std.proofs.Common.{◌≡◌, ℕ, List, Bool, true, false, cond, Some, is_some, refl, ap, ◌∙◌, arith, Option}
 use Rattle.mach_types.specs.Kernel.SignalFrames as frame
 use Rattle.mach_types.specs.Kernel.Threads.{clear_of, running_on, waits}
 use Rattle.mach_types.specs.declared.threads.ThreadState.{ThreadState}
+use Rattle.mach_types.specs.declared.user_memory.Write.{Write}
 use Rattle.block_model.specs.Calls.{called}
 use Rattle.block_model.specs.Calls.Answers.{CallDone, argument, call_number}
 use Rattle.block_model.specs.Calls.Cloning.{clone_child_cleartid, has_flag}
@@ -83,7 +84,7 @@ module _ (here : Here) (t number harts : ℕ) (at : runs here ≡ Some t) (is : 
   lives : has_state t here.kernel.threads ≡ true
   lives = ap (λ (o : Option ThreadState). is_some o) (running_is harts here.hart t here.kernel.threads here.kernel.scheduling is.tables at)
 
-  agreed_step : {k : Kernel} → TableStep here t number k → IsAgreed harts k
+  agreed_step : {entered : List Write} {k : Kernel} → TableStep here t number entered k → IsAgreed harts k
   agreed_step Same = is
   agreed_step (Prints bytes room) = agreed_of harts _ is.tables (held_printed 9 bytes now held)
   agreed_step (Clears p) = agreed_cleared harts t p now is
@@ -92,7 +93,7 @@ module _ (here : Here) (t number harts : ℕ) (at : runs here ≡ Some t) (is : 
       agreed_of harts _ (tables_waited harts here.hart t p now.threads now.scheduling is.tables at) (held_waited 9 t p now held)
   agreed_step (Stays set below some) = agreed_restricted harts t set now is
   agreed_step (MovesOff set below some) = agreed_left harts here.hart t (restricted t set now) at (agreed_restricted harts t set now is)
-  agreed_step (Registers area none) = agreed_of harts _ is.tables (held_registered 9 t area now lives none held)
+  agreed_step (Registers area none writes) = agreed_of harts _ is.tables (held_registered 9 t area now lives none held)
   agreed_step Unregisters = agreed_of harts _ is.tables (held_unregistered 9 t now held)
   agreed_step (Signalled g keeps stand heeds calm) = agreed_of harts _ is.tables (held_signalled 9 g now keeps held)
   agreed_step (EnrolsFor r) = agreed_of harts _ is.tables (held_for_barriers 9 r now held)

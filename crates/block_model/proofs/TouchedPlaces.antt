@@ -97,7 +97,7 @@ module _ (s : Setting) (e : Event) (before : History) (h : ℕ) (q : Sequence) (
   last_is false is r = inr is
 
   last_of : {r : Sequence} → IsOf s e before h r → (r.last_instruction ≡ before) ⊎ (is_instruction e.entry.kind ≡ false)
-  last_of (Begins first) = inl refl
+  last_of (Begins none first) = inl refl
   last_of (TakesIn r was taken) = last_is (is_instruction e.entry.kind) refl r
 
   since_own : sequence_on s h (e ∷ before) ≡ Some q → e.entry.hart.0 ≡ h → is_inside_at s h before ≡ true → IsOf s e before h q

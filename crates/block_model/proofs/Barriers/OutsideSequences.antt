@@ -60,7 +60,7 @@ other_awaits false k waits out = out
 module _ (s : Setting) (e : Event) (before : History) (h : ℕ) (run : IsRunHistory s (e ∷ before))
     (rest : (r : Sequence) → sequence_on s h before ≡ Some r → awaits h before ≡ None) where
   was_out : {q : Sequence} → e.entry.hart.0 ≡ h → IsOf s e before h q → awaits h before ≡ None
-  was_out own (Begins first) =
+  was_out own (Begins none first) =
       ap (λ k. awaits k before) (sym own) ∙ instruction_free e.entry.kind e.entry (place s e before run) first (is_free s e before run e.entry.kind refl)
   was_out own (TakesIn r was taken) = rest r was
 

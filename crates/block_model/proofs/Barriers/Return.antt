@@ -92,7 +92,7 @@ IsAnew s call before k = (q : Sequence) → sequence_on s k before ≡ Some q �
 
 module _ (s : Setting) (call : History) (e : Event) (before : History) (k : ℕ) (place : length call ≤ length before) (was : IsAnew s call before k) where
   anew_own : {q : Sequence} → IsOf s e before k q → length call ≤ length q.begun
-  anew_own (Begins first) = place
+  anew_own (Begins none first) = place
   anew_own (TakesIn r at taken) = was r at
 
   anew_by : (q : Sequence) → SequenceStep s e before k q → length call ≤ length q.begun

@@ -35,7 +35,7 @@ module _ (here : Here) (t number : ℕ) where
   deed_registers (Err e) first = Says _
   deed_registers (Ok area) first =
       either (are_words_writable (is_writable here) area)
-      (λ _. answers_0 _ _ (Registers area (first area refl))) (λ _. deed_killed)
+      (λ _. answers_0 _ _ (Registers area (first area refl) refl)) (λ _. deed_killed)
 
   deed_unregisters : (old : Option Area) → CallDeed here t number (unregisters here t old)
   deed_unregisters None = Says _

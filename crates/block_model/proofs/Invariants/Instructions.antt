@@ -96,7 +96,7 @@ plain here t e good at out is room = record {
 }
 
 -- a call wants no store to wait
-call_wants_empty : (e : Effect) → is_call e ≡ true → wants_empty e ≡ true
+pub call_wants_empty : (e : Effect) → is_call e ≡ true → wants_empty e ≡ true
 call_wants_empty effect.Call is = refl
 call_wants_empty e is = cc
 
@@ -106,7 +106,7 @@ gate_waiting n true true c p q e = cc
 gate_waiting n true false c p q e = cc
 gate_waiting n false b c p q e = cc
 
-none_waits : (ws : List Store) (e : Effect) → wants_empty e ≡ true → instruction_gate (length ws) (Some e) false ≡ None → ws ≡ []
+pub none_waits : (ws : List Store) (e : Effect) → wants_empty e ≡ true → instruction_gate (length ws) (Some e) false ≡ None → ws ≡ []
 none_waits [] e is free = refl
 none_waits (w ∷ ws) e is free = absurd (gate_waiting (length ws) (ltb 0 (length (w ∷ ws))) (wants_empty e) _ (lt-ltb 0 (length (w ∷ ws)) (omega arith)) is free)
 
@@ -116,7 +116,7 @@ call_held true true free is = cc
 call_held true false free is = refl
 call_held false held free is = cc
 
-gates : (a b : Option Why) → option_or a b ≡ None → (a ≡ None) × (b ≡ None)
+pub gates : (a b : Option Why) → option_or a b ≡ None → (a ≡ None) × (b ≡ None)
 gates None b free = (refl, free)
 gates (Some why) b free = absurd cc
 

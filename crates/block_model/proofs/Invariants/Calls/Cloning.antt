@@ -39,10 +39,10 @@ apart_child here x good k u f ne run =
 -- the record with a child: who runs, and that it is sound
 module _ (s : Setting) (h t : ℕ) (k : Kernel)
     (sound : IsSound s k) (at : running_on h k.threads ≡ Some t) (free : is_full k.threads ≡ false) where
-  running_child : (j : ℕ) → running_on j (had_child t k).threads ≡ running_on j k.threads
+  pub running_child : (j : ℕ) → running_on j (had_child t k).threads ≡ running_on j k.threads
   running_child j = child_same s.limits.harts t k.threads k.scheduling sound.tables free j
 
-  sound_child : IsSound s (had_child t k)
+  pub sound_child : IsSound s (had_child t k)
   sound_child =
       let harts = s.limits.harts in
       let new = child_not_held harts t k.threads k.scheduling sound.tables free in
@@ -59,7 +59,7 @@ kept_if_cleared : (s : Setting) (b : Bool) (t at : ℕ) (k : Kernel) → IsSound
 kept_if_cleared s true t at k sound = kept_cleared s t at k sound
 kept_if_cleared s false t at k sound = kept_still s k sound
 
-kept_child : (here : Here) (t : ℕ) → IsSound here.setting (had_child t here.kernel)
+pub kept_child : (here : Here) (t : ℕ) → IsSound here.setting (had_child t here.kernel)
     → IsKept here.setting (had_child t here.kernel) (with_new_child here t)
 kept_child here t sound =
     let asked = has_flag (argument here t 0) clone_child_cleartid in

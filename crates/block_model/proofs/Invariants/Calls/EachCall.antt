@@ -58,7 +58,7 @@ module _ (here : Here) (t number : ℕ) (good : IsGoodHere here) (at : runs here
   keeping : (n : ℕ) (entered : List Write) (k : Kernel) → IsKept s now k → IsFitTaking here taken (record (said here t n) { entered = entered; kernel = k })
   keeping n entered k kept = moving n entered k (kept_moved s h now k kept)
 
-  fit_step : (n : ℕ) (entered : List Write) {k : Kernel} → TableStep here t number k → IsFitTaking here taken (record (said here t n) { entered = entered; kernel = k })
+  fit_step : (n : ℕ) (entered : List Write) {k : Kernel} → TableStep here t number entered k → IsFitTaking here taken (record (said here t n) { entered = entered; kernel = k })
   fit_step n entered Same = keeping n entered now (kept_still s now good.kernel)
   fit_step n entered (Prints bytes room) = keeping n entered _ (kept_printed s bytes now good.kernel room)
   fit_step n entered (Clears p) = keeping n entered _ (kept_cleared s t p now good.kernel)
@@ -69,7 +69,7 @@ module _ (here : Here) (t number : ℕ) (good : IsGoodHere here) (at : runs here
       let k = restricted t set now in
       let kept = kept_restricted s t set now good.kernel below some in
       moving n entered _ (moved_after s h now k (left t k) kept (moved_left s h t k kept.sound (kept.running h ∙ at)))
-  fit_step n entered (Registers area none) =
+  fit_step n entered (Registers area none writes) =
       keeping n entered _ (kept_tables s now (registered t area now) good.kernel refl refl refl refl (held_registered s.limits.harts t area now (running_lives here t good at) none))
   fit_step n entered Unregisters = keeping n entered _ (kept_tables s now (unregistered t now) good.kernel refl refl refl refl (held_unregistered s.limits.harts t now))
   fit_step n entered (Signalled g keeps stand heeds calm) = keeping n entered _ (kept_signalled s g now good.kernel keeps)

@@ -1,0 +1,121 @@
+-- A path, instruction by instruction: each takes the proof of what comes after it.
+use Rattle.std.proofs.Common.{◌≡◌, ℕ, zero, suc, ◌+◌, ◌-◌, ◌%◌, ◌^◌, ◌<◌, List, [], ◌∷◌, ◌++◌, refl, sym, ap}
+use Rattle.std.proofs.Common.{◌∙◌, arith, subst, Bool, true, false, eqb, ltb, Some}
+use Rattle.std.proofs.lemmas.Bool.{false≢true, lt-ltb}
+use Rattle.mach_types.specs.Bytes.{each_byte, word_at}
+use Rattle.mach_types.specs.Kernel.Areas.{is_inside}
+use Rattle.mach_types.specs.declared.registers.Regs.{Regs}
+use Rattle.mach_types.specs.declared.sequences.Seq.{Seq}
+use Rattle.mach_types.specs.declared.user_memory.Store.{Store}
+use Rattle.rv_inst.specs.Execution.{seen_byte}
+use Rattle.rv_inst.specs.Meaning.{meaning}
+use Rattle.rv_inst.specs.Memory.{loaded}
+use Rattle.rv_inst.specs.Words.{sum_64}
+use Rattle.rv_inst.specs.declared.effects.Effect.TheVariants as effect
+use Rattle.rv_inst.specs.declared.instruction.Inst.{Inst}
+use Rattle.alone.specs.Alone.{Stand, alone, next_stand}
+use Rattle.alone.specs.Paths.{IsOn, IsReady, KeepsOn, Path}
+use Rattle.alone.specs.Temps.{IsAt, IsLike, put}
+use Rattle.alone.proofs.Laws.{at_branch, at_load, at_next, at_store, effect_there}
+
+-- an address so many bytes past the start of a range is inside where the range is longer, and outside where
+-- it isn't
+pub inside_is : (g : Seq) (k : ℕ) → g.start < 2 ^ 40 → k < 2 ^ 40 → k < g.length
+    → is_inside g (g.start + k) ≡ true
+inside_is g k low few lt =
+    let far : (g.start + k + (2 ^ 64 - g.start)) % 2 ^ 64 ≡ k = omega arith in
+    ap (λ n. ltb n g.length) far ∙ lt-ltb k g.length lt
+
+-- one instruction first, and then the rest
+shifted : (w : Path) (x : Stand) (n : ℕ)
+    → alone w.code w.seen x (suc n) ≡ alone w.code w.seen (next_stand w.code w.seen x) n
+shifted w x zero = refl
+shifted w x (suc n) = ap (next_stand w.code w.seen) (shifted w x n)
+
+module _ (w : Path) (at : ℕ) (temps : ℕ → ℕ) (stores : List Store) (x : Stand)
+    (was : IsAt w.may w.old at temps stores x) where
+  -- it has left
+  pub leaves : is_inside w.range at ≡ false → w.Left at temps stores → KeepsOn w x
+  leaves out left zero begin = record {
+    at = at;
+    temps = temps;
+    stores = stores;
+    stands = was;
+    inside = λ is. absurd (false≢true (sym out ∙ is));
+    left = λ is. left;
+  }
+  leaves out left (suc n) begin = absurd (false≢true
+      (sym (ap (is_inside w.range) was.pc ∙ out) ∙ begin 0 (omega arith)))
+
+  -- it executes an instruction, and goes on
+  goes : is_inside w.range at ≡ true → w.Inside stores → IsReady w.code w.words x
+      → KeepsOn w (next_stand w.code w.seen x) → KeepsOn w x
+  goes here keeps ready on zero begin = record {
+    at = at;
+    temps = temps;
+    stores = stores;
+    stands = was;
+    inside = λ is. (keeps, ready);
+    left = λ out. absurd (false≢true (sym out ∙ here));
+  }
+  goes here keeps ready on (suc n) begin =
+      subst (IsOn w) (sym (shifted w x n))
+      (on n (λ k lt. sym (ap (λ (y : Stand). is_inside w.range y.file.pc) (shifted w x k))
+      ∙ begin (suc k) (omega arith)))
+
+  module _ (here : is_inside w.range at ≡ true) (keeps : w.Inside stores) (i : Inst)
+      (there : w.code at ≡ Some i) where
+    pub then_next : (rd v to : ℕ) → ((f : Regs) → IsLike w.may w.old temps f → meaning i f at ≡ effect.Next rd
+        v to)
+        → w.may rd ≡ true → eqb rd 0 ≡ false → rd < 32
+        → ((y : Stand) → IsAt w.may w.old to (put rd v temps) stores y → KeepsOn w y) → KeepsOn w x
+    then_next rd v to means may some low on =
+        goes here keeps (
+          effect.Next rd v to,
+          effect_there w.code w.may w.old at temps stores x i
+              (effect.Next rd v to) was there means,
+          tt,
+        )
+        (on _ (at_next w.code w.seen w.may w.old at temps stores x i rd v to was there means may some low))
+
+    pub then_branch : (v to : ℕ) → ((f : Regs) → IsLike w.may w.old temps f → meaning i f at ≡ effect.Next 0 v
+        to)
+        → ((y : Stand) → IsAt w.may w.old to temps stores y → KeepsOn w y) → KeepsOn w x
+    then_branch v to means on =
+        goes here keeps (
+          effect.Next 0 v to,
+          effect_there w.code w.may w.old at temps stores x i
+              (effect.Next 0 v to) was there means,
+          tt,
+        )
+        (on _ (at_branch w.code w.seen w.may w.old at temps stores x i v to was there means))
+
+    pub then_load : (from size rd v to : ℕ) (is_signed : Bool)
+        → ((f : Regs) → IsLike w.may w.old temps f → meaning i f at ≡ effect.Load from size is_signed rd)
+        → each_byte w.words from size ≡ true → word_at (seen_byte stores w.seen) from size ≡ Some v
+        → w.may rd ≡ true → eqb rd 0 ≡ false → rd < 32 → sum_64 at 4 ≡ to
+        → ((y : Stand) → IsAt w.may w.old to (put rd (loaded v size is_signed) temps) stores y → KeepsOn w y)
+        → KeepsOn w x
+    then_load from size rd v to is_signed means within reads may some low next on =
+        goes here keeps (
+          effect.Load from size is_signed rd,
+          effect_there w.code w.may w.old at temps stores x
+              i (effect.Load from size is_signed rd) was there means,
+          within,
+        )
+        (on _ (at_load w.code w.seen w.may w.old at temps stores x i from size rd v to is_signed was there
+        means reads may some low next))
+
+    pub then_store : (into size v to : ℕ) → ((f : Regs) → IsLike w.may w.old temps f → meaning i f
+        at ≡ effect.Store into size v)
+        → each_byte w.words into size ≡ true → sum_64 at 4 ≡ to
+        → ((y : Stand) → IsAt w.may w.old to temps
+        (stores ++ record { at = into; size = size; value = v } ∷ []) y → KeepsOn w y) → KeepsOn w x
+    then_store into size v to means within next on =
+        goes here keeps (
+          effect.Store into size v,
+          effect_there w.code w.may w.old at temps stores x i
+              (effect.Store into size v) was there means,
+          within,
+        )
+        (on _ (at_store w.code w.seen w.may w.old at temps stores x i into size v to was there means next))

@@ -1,0 +1,10 @@
+pub mod Arrivals
+pub mod Described
+pub mod Entered
+pub mod Entering
+pub mod PathLaw
+pub mod Processors
+pub mod Sequences
+pub mod Steps
+pub mod StoredWords
+pub mod WalkLaw

@@ -1,0 +1,164 @@
+-- Who sets the file of a thread: the thread by its instruction or its call, an interruption, the handler of a
+-- signal, whoever ends its wait, or its parent.
+use Rattle.std.proofs.Common.{◌≡◌, ℕ, [], ◌∷◌, List, map, refl, sym, ap, ◌∙◌, subst, Bool, true}
+use Rattle.std.proofs.Common.{false, cond}
+use Rattle.std.proofs.Common.{eqb, Some, None}
+use Rattle.std.proofs.lemmas.Bool.{eqb-true}
+use Rattle.mach_types.specs.Registers.{with_register}
+use Rattle.mach_types.specs.declared.errors.TheConstants.{EINTR}
+use Rattle.mach_types.specs.declared.events.Kind.{Kind}
+use Rattle.mach_types.specs.declared.events.Kind.TheVariants as kind
+use Rattle.mach_types.specs.declared.limits.End.{End}
+use Rattle.mach_types.specs.declared.sequences.Outcome.{Outcome}
+use Rattle.mach_types.specs.declared.sequences.Outcome.TheVariants as comes_to
+use Rattle.mach_types.specs.declared.threads.Saved.{Saved}
+use Rattle.rv_inst.specs.Class.{is_call}
+use Rattle.rv_inst.specs.declared.effects.Effect.{Effect}
+use Rattle.block_model.specs.Calls.Answers.{CallDone, negative}
+use Rattle.block_model.specs.Calls.Cloning.{child_file}
+use Rattle.block_model.specs.Calls.Ending.{woken_at_exit}
+use Rattle.block_model.specs.Calls.Futexes.{answered_wait, wake}
+use Rattle.block_model.specs.Deciding.{done}
+use Rattle.block_model.specs.Events.Exec.{outcome_of}
+use Rattle.block_model.specs.Here.{Done, Here, runs}
+use Rattle.block_model.specs.History.{Event, History, file, file_among, here_in_history}
+use Rattle.block_model.specs.Kernel.{next_number}
+use Rattle.block_model.specs.Run.{IsRunHistory}
+use Rattle.block_model.specs.Sequences.{files_interrupted, interruption_here}
+use Rattle.block_model.specs.Setting.{Setting}
+use Rattle.block_model.proofs.CallEffects.{Answers, Bears, Begins, Breaks, CallDeed, Ends, Exits, Resumes, Says}
+use Rattle.block_model.proofs.CallEffects.{Wakes}
+use Rattle.block_model.proofs.CallEffects.EachCall.{deed_called}
+use Rattle.block_model.proofs.EventEffects.{Calls, EventDeed, Executes, Handles, IsNext, Restarts, Returns}
+use Rattle.block_model.proofs.EventEffects.{RunKills}
+use Rattle.block_model.proofs.EventEffects.{Runs, SignalKills, deed_of}
+
+-- thread u is interrupted where it begins to run, or by a `take` on its hart
+pub data IsInterrupted (here : Here) (tid u : ℕ) (k : Kind) : Type 0 where
+  AtRun : k ≡ kind.Run → tid ≡ u → IsInterrupted here tid u k
+  AtTake : k ≡ kind.Take → runs here ≡ Some u → IsInterrupted here tid u k
+
+-- the file of thread u after an event of this kind that didn't end the process: as it was; set by its
+-- instruction; by its call; an answer in a0; at its abort handler; at the handler of a signal; or as its
+-- parent's call set it
+pub data FileStep (here : Here) (tid u : ℕ) (k : Kind) : Saved → Type 0 where
+  FileStays : FileStep here tid u k (here.file u)
+  ByInstruction : (e : Effect) → k ≡ kind.Exec → IsNext here u e
+      → FileStep here tid u k (record { file = (outcome_of here u e).regs; pc = (outcome_of here u e).pc })
+  ByCall : (e : Effect) (f : Saved) → k ≡ kind.Exec → IsNext here u e → is_call e ≡ true
+      → FileStep here tid u k f
+  Answered : (v : ℕ)
+      → FileStep here tid u k (record (here.file u) { file = with_register (here.file u).file 10 v })
+  Aborts : (at : ℕ) → IsInterrupted here tid u k → interruption_here here u ≡ comes_to.Aborted at
+      → FileStep here tid u k (record (here.file u) { pc = at })
+  AtHandler : (f : Saved) → k ≡ kind.Signal → runs here ≡ Some u → FileStep here tid u k f
+  AtBirth : (f : Saved) → k ≡ kind.Exec → next_number here.kernel ≡ u → FileStep here tid u k f
+
+module _ (here : Here) (tid u : ℕ) where
+  abbrev Is : Kind → Saved → Type 0
+  Is k f = FileStep here tid u k f
+
+  -- a file that is set first, where it is that of the thread, or what is set behind it
+  either_by : (k : Kind) (t : ℕ) (x rest : Saved) (b : Bool) → eqb t u ≡ b → (t ≡ u → Is k x) → Is k rest
+      → Is k (cond b x rest)
+  either_by k t x rest true is own other = own (eqb-true t u is)
+  either_by k t x rest false is own other = other
+
+  either : (k : Kind) (t : ℕ) (x rest : Saved) → (t ≡ u → Is k x) → Is k rest → Is k (cond (eqb t u) x rest)
+  either k t x rest own other = either_by k t x rest (eqb t u) refl own other
+
+  answered : (k : Kind) (v : ℕ) (n : ℕ) → v ≡ u
+      → Is k (record (here.file v) { file = with_register (here.file v).file 10 n })
+  answered k v n same =
+      subst (λ w. Is k (record (here.file w) { file = with_register (here.file w).file 10 n })) (sym same)
+      (Answered n)
+
+  woken : (k : Kind) (us : List ℕ) → Is k (file_among (map (answered_wait here) us) u (here.file u))
+  woken k [] = FileStays
+  woken k (v ∷ us) =
+      either k v (answered_wait here v).1 (file_among (map (answered_wait here) us) u (here.file u))
+      (answered k v 0) (woken k us)
+
+  interrupted : (k : Kind) (t : ℕ) (o : Outcome) → interruption_here here t ≡ o
+      → (t ≡ u → IsInterrupted here tid u k) → Is k (file_among (files_interrupted here t o) u (here.file u))
+  interrupted k t comes_to.Nothing is its = FileStays
+  interrupted k t comes_to.Cleared is its = FileStays
+  interrupted k t (comes_to.Aborted at) is its =
+      either k t (record (here.file t) { pc = at }) (here.file u)
+      (λ same. subst (λ w. interruption_here here w ≡ comes_to.Aborted at
+      → Is k (record (here.file w) { pc = at })) (sym same) (λ aborts. Aborts at (its same) aborts) is)
+      FileStays
+  interrupted k t (comes_to.Killed why) is its = FileStays
+
+  -- CALLS
+
+  module _ (t : ℕ) (e : Effect) (next : IsNext here t e) (calls : is_call e ≡ true) where
+    own : (f : Saved) → t ≡ u → Is kind.Exec f
+    own f same = ByCall e f refl (subst (λ v. IsNext here v e) same next) calls
+
+    only_own : (f : Saved) → Is kind.Exec (cond (eqb t u) f (here.file u))
+    only_own f = either kind.Exec t f (here.file u) (own f) FileStays
+
+    step_called : {number : ℕ} {c : CallDone} → CallDeed here t number c
+        → Is kind.Exec (file_among c.files u (here.file u))
+    step_called (Says n) = only_own _
+    step_called (Answers n entered k no_error step) = only_own _
+    step_called (Wakes n at small) =
+        either kind.Exec t _ _ (own _) (woken kind.Exec (wake n at here.kernel).threads)
+    step_called (Breaks v g waiting keeps stand heeds calm) =
+        either kind.Exec t _ _ (own _)
+        (either kind.Exec v _ (here.file u) (answered kind.Exec v (negative EINTR.0)) FileStays)
+    step_called (Exits more) = woken kind.Exec (woken_at_exit here t).threads
+    step_called (Bears entered free) =
+        either kind.Exec t _ _ (own _)
+        (either kind.Exec (next_number here.kernel) (child_file here t) (here.file u)
+        (λ same. AtBirth (child_file here t) refl same) FileStays)
+    step_called (Begins targets restart others no_error) = only_own _
+    step_called (Resumes words is its) = only_own _
+    step_called (Ends entered x over) = FileStays
+
+  -- EVENTS
+
+  never_ended : (x : End) → Some x ≡ None → ⊥
+  never_ended x is = cc
+
+  step_deed : {k : Kind} {d : Done} → EventDeed here tid k d → d.ended ≡ None
+      → Is k (file_among d.files u (here.file u))
+  step_deed (Calls t e next calls outside) goes = step_called t e next calls (deed_called here t)
+  step_deed (Executes t e next) goes =
+      either kind.Exec t (record { file = (outcome_of here t e).regs; pc = (outcome_of here t e).pc })
+      (here.file u)
+      (λ same. subst (λ v. IsNext here v e
+      → Is kind.Exec (record { file = (outcome_of here v e).regs; pc = (outcome_of here v e).pc })) (sym same)
+      (λ its. ByInstruction e refl its) next)
+      FileStays
+  step_deed (Restarts t at) goes =
+      interrupted kind.Take t (interruption_here here t) refl
+      (λ same. AtTake refl (subst (λ v. runs here ≡ Some v) same at))
+  step_deed (Returns t at) goes =
+      either kind.Done t _ (here.file u) (answered kind.Done t 0) FileStays
+  step_deed Runs goes = interrupted kind.Run tid (interruption_here here tid) refl (λ same. AtRun refl same)
+  step_deed RunKills goes = absurd (never_ended _ goes)
+  step_deed (Handles t signal at) goes =
+      either kind.Signal t _ (here.file u)
+      (λ same. AtHandler _ refl (subst (λ v. runs here ≡ Some v) same at)) FileStays
+  step_deed (SignalKills t signal killer at) goes = absurd (never_ended _ goes)
+  step_deed deed goes = FileStays
+
+-- EVENTS OF A RUN
+
+step_done : (s : Setting) (e : Event) (before : History) (u : ℕ) → (done s before e.entry).ended ≡ None
+    → FileStep (here_in_history s before e.entry.hart.0) e.entry.tid.0 u e.entry.kind
+    (file_among (done s before e.entry).files u (file s u before))
+unfolding done
+step_done s e before u goes =
+    let here = here_in_history s before e.entry.hart.0 in
+    step_deed here e.entry.tid.0 u (deed_of here e.entry.kind e.entry) goes
+
+pub file_step : (s : Setting) (e : Event) (before : History) (u : ℕ) → IsRunHistory s (e ∷ before)
+    → e.done.ended ≡ None
+    → FileStep (here_in_history s before e.entry.hart.0) e.entry.tid.0 u e.entry.kind (file s u (e ∷ before))
+file_step s e before u run goes =
+    subst (λ (x : Event). FileStep (here_in_history s before e.entry.hart.0) e.entry.tid.0 u e.entry.kind
+    (file_among x.done.files u (file s u before))) (sym run.2)
+    (step_done s e before u (sym (ap (λ (x : Event). x.done.ended) run.2) ∙ goes))

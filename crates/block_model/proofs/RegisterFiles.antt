@@ -1,0 +1,188 @@
+-- Each thread has 32 registers at every place of a run.
+use Rattle.std.proofs.Common.{◌≡◌, ℕ, zero, suc, ◌+◌, List, [], ◌∷◌, length, map, drop, set, length-set, refl}
+use Rattle.std.proofs.Common.{sym, ap, ◌∙◌}
+use Rattle.std.proofs.Common.{arith, subst, Bool, true, false, cond, not, eqb, Option, Some, None}
+use Rattle.std.proofs.Common.{length-drop}
+use Rattle.std.proofs.lemmas.List.{length-take}
+use Rattle.std.specs.List.{AllByRecursion}
+use Rattle.mach_types.specs.Bytes.{word_at}
+use Rattle.mach_types.specs.Kernel.SignalFrames.{frame_read, restored, word_before, words_at}
+use Rattle.mach_types.specs.Registers.{with_register}
+use Rattle.mach_types.specs.declared.address_space.TheConstants.{HANDLER_RETURN}
+use Rattle.mach_types.specs.declared.events.Kind.{Kind}
+use Rattle.mach_types.specs.declared.registers.Regs.{Regs}
+use Rattle.mach_types.specs.declared.sequences.Outcome as interruptions
+use Rattle.mach_types.specs.declared.sequences.Outcome.TheVariants as comes_to
+use Rattle.mach_types.specs.declared.threads.Saved.{Saved}
+use Rattle.rv_inst.specs.Execution.{Outcome, is_reserved, outcome}
+use Rattle.rv_inst.specs.declared.effects.Effect.{Effect}
+use Rattle.rv_inst.specs.declared.effects.Effect.TheVariants as effect
+use Rattle.block_model.specs.Calls.Answers.{CallDone, argument}
+use Rattle.block_model.specs.Calls.Cloning.{child_file, clone_settls, has_flag, set_if}
+use Rattle.block_model.specs.Calls.Ending.{woken_at_exit}
+use Rattle.block_model.specs.Calls.Futexes.{answered_wait, wake}
+use Rattle.block_model.specs.Deciding.{done}
+use Rattle.block_model.specs.Here.{Done, Here, memory, view}
+use Rattle.block_model.specs.History.{Event, History, file, file_among, here_in_history}
+use Rattle.block_model.specs.Run.{IsRunHistory}
+use Rattle.block_model.specs.Sequences.{files_interrupted, interruption_here}
+use Rattle.block_model.specs.Setting.{Setting}
+use Rattle.block_model.proofs.CallEffects.{Answers, Bears, Begins, Breaks, CallDeed, Ends, Exits, Resumes, Says}
+use Rattle.block_model.proofs.CallEffects.{Wakes}
+use Rattle.block_model.proofs.CallEffects.EachCall.{deed_called}
+use Rattle.block_model.proofs.EventEffects.{Calls, EventDeed, Executes, Handles, Restarts, Returns, RunKills}
+use Rattle.block_model.proofs.EventEffects.{Runs}
+use Rattle.block_model.proofs.EventEffects.{SignalKills, deed_of}
+
+abbrev pub HasRegisters : Saved → Type 0
+HasRegisters f = length f.file.x ≡ 32
+
+abbrev HaveRegisters : List (ℕ × Saved) → Type 0
+HaveRegisters files = AllByRecursion (λ (p : ℕ × Saved). HasRegisters p.1) files
+
+-- a register that is set leaves their number
+as_many : (regs : Regs) (rd v : ℕ) → length (with_register regs rd v).x ≡ length regs.x
+as_many regs rd v = by_rd (eqb rd 0)
+  where
+    by_rd : (b : Bool) → length (cond b regs (record { x = set regs.x rd v })).x ≡ length regs.x
+    by_rd true = refl
+    by_rd false = length-set regs.x rd v
+
+as_many_if : (b : Bool) (rd v : ℕ) (regs : Regs) → length (set_if b rd v regs).x ≡ length regs.x
+as_many_if true rd v regs = as_many regs rd v
+as_many_if false rd v regs = refl
+
+-- INSTRUCTIONS
+
+module _ (seen : ℕ → Option ℕ) (regs : Regs) (pc : ℕ) (r : Option ℕ) where
+  either_many : (b : Bool) (x y : Outcome) → length x.regs.x ≡ length regs.x → length y.regs.x ≡ length regs.x
+      → length (cond b x y).regs.x ≡ length regs.x
+  either_many true x y p q = p
+  either_many false x y p q = q
+
+  as_many_after : (e : Effect) → length (outcome seen regs pc r e).regs.x ≡ length regs.x
+  as_many_after (effect.Next rd value to) = as_many regs rd value
+  as_many_after (effect.Load at size is_signed rd) = as_many regs rd _
+  as_many_after (effect.Store at size value) = refl
+  as_many_after (effect.Amo op at size value rd) = as_many regs rd _
+  as_many_after (effect.Lr at size rd) = as_many regs rd _
+  as_many_after (effect.Sc at size value rd) =
+      either_many (is_reserved r at) _ _ (as_many regs rd 0) (as_many regs rd 1)
+  as_many_after (effect.Fence full) = refl
+  as_many_after effect.FenceI = refl
+  as_many_after effect.Call = refl
+  as_many_after effect.Break = refl
+  as_many_after effect.Misaligned = refl
+
+-- CALLS
+
+woken_have : (here : Here) (us : List ℕ) → ((t : ℕ) → HasRegisters (here.file t))
+    → HaveRegisters (map (answered_wait here) us)
+woken_have here [] all = tt
+woken_have here (u ∷ us) all = (as_many (here.file u).file 10 0 ∙ all u, woken_have here us all)
+
+words_counted : (byte : ℕ → Option ℕ) (at n : ℕ) (ws : List ℕ) → words_at byte at n ≡ Some ws → length ws ≡ n
+words_counted byte at zero [] is = refl
+words_counted byte at zero (w ∷ ws) is = absurd cc
+words_counted byte at (suc n) ws is =
+    by_words (word_at byte at 8) (words_at byte (at + 8) n) (λ rest. words_counted byte (at + 8) n rest) ws is
+  where
+    by_words : (o : Option ℕ) (p : Option (List ℕ)) → ((rest : List ℕ) → p ≡ Some rest → length rest ≡ n)
+        → (ws : List ℕ) → word_before o p ≡ Some ws → length ws ≡ suc n
+    by_words None p counted ws is = absurd cc
+    by_words (Some w) None counted ws is = absurd cc
+    by_words (Some w) (Some rest) counted ws is =
+        let same : w ∷ rest ≡ ws = cc in
+        sym (ap (λ (xs : List ℕ). length xs) same) ∙ ap suc (counted rest refl)
+
+frame_counted : (byte : ℕ → Option ℕ) (f : Saved) (ws : List ℕ) → frame_read byte f ≡ Some ws → length ws ≡ 34
+unfolding frame_read
+frame_counted byte f ws is = words_counted byte _ 34 ws is
+
+restored_has : (ws : List ℕ) → length ws ≡ 34 → HasRegisters (restored ws)
+restored_has ws count =
+    let dropped = length-drop 1 ws in
+    let taken = length-take 31 (drop 1 ws) in
+    omega (arith, dropped, taken)
+
+module _ (here : Here) (all : (t : ℕ) → HasRegisters (here.file t)) where
+  child_has : (t : ℕ) → HasRegisters (child_file here t)
+  child_has t =
+      let stack = argument here t 1 in
+      let regs = (here.file t).file in
+      let first = set_if (not (eqb stack 0)) 2 stack regs in
+      let flag = has_flag (argument here t 0) clone_settls in
+      let second = set_if flag 4 (argument here t 3) first in
+      as_many second 10 0 ∙ as_many_if flag 4 (argument here t 3) first
+      ∙ as_many_if (not (eqb stack 0)) 2 stack regs ∙ all t
+
+  call_has : {t number : ℕ} {c : CallDone} → CallDeed here t number c → HaveRegisters c.files
+  call_has {t = t} (Says n) = (as_many (here.file t).file 10 n ∙ all t, tt)
+  call_has {t = t} (Answers n entered k no_error step) = (as_many (here.file t).file 10 n ∙ all t, tt)
+  call_has {t = t} (Wakes n at small) =
+      let us = (wake n at here.kernel).threads in
+      (as_many (here.file t).file 10 (length us) ∙ all t, woken_have here us all)
+  call_has {t = t} (Breaks u g waiting keeps stand heeds calm) =
+      (as_many (here.file t).file 10 0 ∙ all t, (as_many (here.file u).file 10 _ ∙ all u, tt))
+  call_has {t = t} (Exits more) = woken_have here (woken_at_exit here t).threads all
+  call_has {t = t} (Bears entered free) = (as_many (here.file t).file 10 _ ∙ all t, (child_has t, tt))
+  call_has {t = t} (Begins targets restart others no_error) = (all t, tt)
+  call_has {t = t} (Resumes words is its) =
+      (restored_has words (frame_counted (memory here) (here.file t) words is), tt)
+  call_has (Ends entered e over) = tt
+
+  -- EVENTS
+
+  interrupted_has : (t : ℕ) (o : interruptions.Outcome) → HaveRegisters (files_interrupted here t o)
+  interrupted_has t comes_to.Nothing = tt
+  interrupted_has t comes_to.Cleared = tt
+  interrupted_has t (comes_to.Aborted at) = (all t, tt)
+  interrupted_has t (comes_to.Killed why) = tt
+
+  handler_has : (t s at : ℕ) → length (with_register (with_register (with_register (with_register
+      (with_register (here.file t).file 10 s) 11 0) 12 at) 2 at) 1 HANDLER_RETURN).x ≡ 32
+  handler_has t s at =
+      let a = with_register (here.file t).file 10 s in
+      let b = with_register a 11 0 in
+      let c = with_register b 12 at in
+      let d = with_register c 2 at in
+      as_many d 1 HANDLER_RETURN ∙ as_many c 2 at ∙ as_many b 12 at ∙ as_many a 11 0
+      ∙ as_many (here.file t).file 10 s ∙ all t
+
+  event_has : {tid : ℕ} {k : Kind} {d : Done} → EventDeed here tid k d → HaveRegisters d.files
+  event_has (Calls t e next calls outside) = call_has (deed_called here t)
+  event_has (Executes t e next) =
+      (as_many_after (view here) (here.file t).file (here.file t).pc here.reserved e ∙ all t, tt)
+  event_has (Restarts t at) = interrupted_has t (interruption_here here t)
+  event_has (Returns t at) = (as_many (here.file t).file 10 0 ∙ all t, tt)
+  event_has {tid = tid} Runs = interrupted_has tid (interruption_here here tid)
+  event_has {tid = tid} RunKills = interrupted_has tid (interruption_here here tid)
+  event_has (Handles t signal at) = (handler_has t signal _, tt)
+  event_has (SignalKills t signal killer at) = interrupted_has t (interruption_here here t)
+  event_has deed = tt
+
+-- RUNS
+
+among_has : (ps : List (ℕ × Saved)) (t : ℕ) (f : Saved) → HaveRegisters ps → HasRegisters f
+    → HasRegisters (file_among ps t f)
+among_has [] t f all has = has
+among_has (p ∷ ps) t f all has =
+    elim (eqb p.0 t) as (λ b. HasRegisters (cond b p.1 (file_among ps t f))) [
+      | true ↦ all.0
+      | false ↦ among_has ps t f all.1 has
+    ]
+
+done_has : (s : Setting) (e : Event) (before : History) → ((t : ℕ) → HasRegisters (file s t before))
+    → HaveRegisters (done s before e.entry).files
+unfolding done
+done_has s e before all =
+    let here = here_in_history s before e.entry.hart.0 in
+    event_has here all (deed_of here e.entry.kind e.entry)
+
+pub has_registers : (s : Setting) (before : History) → IsRunHistory s before → (t : ℕ)
+    → HasRegisters (file s t before)
+has_registers s [] run t = refl
+has_registers s (e ∷ before) run t =
+    let all = has_registers s before run.0 in
+    among_has e.done.files t (file s t before)
+    (subst (λ (x : Event). HaveRegisters x.done.files) (sym run.2) (done_has s e before all)) (all t)

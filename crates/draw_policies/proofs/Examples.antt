@@ -1,0 +1,139 @@
+-- Worked examples: what is done in a turn by each rule and which digits of a word decide it, and which accesses race.
+use Rattle.std.proofs.Common.{◌≡◌, ℕ, List, [], ◌∷◌, Option, Some, None, true, false, refl}
+use Rattle.mach_types.specs.declared.events.Choice.{Choice}
+use Rattle.mach_types.specs.declared.events.Choice.TheVariants as asked
+use Rattle.mach_types.specs.declared.events.Sight.{Sight}
+use Rattle.mach_types.specs.declared.events.Tid.{Tid}
+use Rattle.draw_policies.specs.Accesses.{race}
+use Rattle.draw_policies.specs.Acting.{can_act}
+use Rattle.draw_policies.specs.Beginning.{thread_to_run}
+use Rattle.draw_policies.specs.Policies.{weights_of}
+use Rattle.draw_policies.specs.Turns.{turn}
+use Rattle.draw_policies.specs.Words.{hart_place, thread_place}
+use Rattle.draw_policies.specs.declared.accesses.Access.{Access}
+use Rattle.draw_policies.specs.declared.aims.Aim.{Aim}
+use Rattle.draw_policies.specs.declared.aims.Aim.TheVariants as means
+use Rattle.draw_policies.specs.declared.policies.Policy.{Policy}
+use Rattle.draw_policies.specs.declared.policies.Policy.TheVariants as policy
+use Rattle.draw_policies.specs.declared.turns.Turn.{Turn}
+
+abbrev thread : ℕ → Tid
+thread t = record { 0 = t }
+
+-- a hart whose thread may execute, and one of whose stores waits
+abbrev storing : Sight
+storing = record {
+  idle = false;
+  first_ready = None;
+  in_barrier = false;
+  all_taken = false;
+  requested = false;
+  stores = 1;
+  deliverable = false;
+  exec_enabled = true;
+  local = false;
+  ran = 0;
+  credit = 0;
+}
+
+-- the same hart without the store, and an idle one
+abbrev running : Sight
+running = record storing { stores = 0 }
+
+abbrev idle : Sight
+idle = record running { idle = true; exec_enabled = false }
+
+-- what a hart does that is no idle one
+abbrev turn_of : Policy → Sight → Option Aim → ℕ → Option Turn
+turn_of p seen held w = turn (weights_of p) seen [] None held w
+
+abbrev done : Choice → Option Aim → ℕ → Option Turn
+done c a credit = Some (record { choice = c; aim = a; credit = credit })
+
+-- which thread begins: the word 2 · 840 · 10^12 names place 2 of three, and place 0 of two
+abbrev two_times : ℕ
+two_times = 1680000000000000
+
+pub place_of_a_thread : thread_place two_times 3 ≡ 2
+place_of_a_thread = refl
+
+pub place_of_a_hart : hart_place two_times 8 ≡ 0
+place_of_a_hart = refl
+
+pub third_of_three : thread_to_run (4 ∷ 5 ∷ 6 ∷ []) None two_times ≡ Some (thread 6)
+third_of_three = refl
+
+pub last_one_is_left_out : thread_to_run (4 ∷ 5 ∷ 6 ∷ []) (Some (thread 4)) two_times ≡ Some (thread 5)
+last_one_is_left_out = refl
+
+pub last_one_alone_runs_again : thread_to_run (4 ∷ []) (Some (thread 4)) two_times ≡ Some (thread 4)
+last_one_alone_runs_again = refl
+
+pub idle_hart_takes_first : turn (weights_of policy.Long) (record idle { requested = true }) (4 ∷ []) None None 0
+    ≡ done asked.Take None 256
+idle_hart_takes_first = refl
+
+-- the digits of 7 and those of 8 decide for a thread and for a store: below 30 in 1,000 the one, below 60 the other
+pub thread_means_to_leave : turn_of policy.Long storing None 59029999 ≡ done asked.Drain (Some means.Preempt) 0
+thread_means_to_leave = refl
+
+pub then_it_leaves : turn_of policy.Long running (Some means.Preempt) 999999999999 ≡ done asked.Preempt None 0
+then_it_leaves = refl
+
+pub store_enters : turn_of policy.Long storing None 59030000 ≡ done asked.Drain None 0
+store_enters = refl
+
+pub store_goes_on_waiting : turn_of policy.Long storing None 60030000 ≡ done asked.Exec None 256
+store_goes_on_waiting = refl
+
+pub one_gives_no_credit : turn_of policy.One storing None 250015000 ≡ done asked.Exec None 0
+one_gives_no_credit = refl
+
+-- a hart that must wait for its stores means no thread to leave, and lets the oldest one enter
+pub held_up_hart_drains : turn_of policy.Long (record storing { exec_enabled = false }) None 999000000
+    ≡ done asked.Drain None 0
+held_up_hart_drains = refl
+
+-- a request comes before a signal; by priorities at once where no store waits
+pub request_comes_first : turn_of policy.Long (record storing { requested = true; deliverable = true }) None 49999999999
+    ≡ done asked.Drain (Some means.Take) 0
+request_comes_first = refl
+
+pub signal_alone : turn_of policy.Long (record running { deliverable = true }) None 49999999999
+    ≡ done asked.Signal None 0
+signal_alone = refl
+
+pub request_waits_by_the_word : turn_of policy.Pos (record storing { requested = true }) None 50999999999
+    ≡ done asked.Exec None 256
+request_waits_by_the_word = refl
+
+pub request_is_taken_at_once : turn_of policy.Pos (record running { requested = true }) None 50999999999
+    ≡ done asked.Take None 0
+request_is_taken_at_once = refl
+
+-- an aim that can't be done any more is none, also while a store waits
+pub aim_is_given_up : turn_of policy.Long storing (Some means.Signal) 999999999999 ≡ done asked.Exec None 256
+aim_is_given_up = refl
+
+-- a hart held up by the stores of others alone can't act
+pub held_up_by_others : can_act (record running { exec_enabled = false }) true ≡ false
+held_up_by_others = refl
+
+pub barrier_waits_for_others : can_act (record running { in_barrier = true; exec_enabled = false }) true ≡ false
+barrier_waits_for_others = refl
+
+-- 8 bytes that are read at 100, and 1 that is written at 107 or 108
+abbrev read_at_100 : Option Access
+read_at_100 = Some (record { at = 100; size = 8; is_write = false })
+
+abbrev written : ℕ → Option Access
+written at = Some (record { at = at; size = 1; is_write = true })
+
+pub last_byte_races : race read_at_100 (written 107) ≡ true
+last_byte_races = refl
+
+pub next_byte_does_not : race read_at_100 (written 108) ≡ false
+next_byte_does_not = refl
+
+pub reads_do_not : race read_at_100 read_at_100 ≡ false
+reads_do_not = refl

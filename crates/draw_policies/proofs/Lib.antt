@@ -1,0 +1,3 @@
+mod Allowed
+mod Examples
+pub mod Laws

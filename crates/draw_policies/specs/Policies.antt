@@ -1,0 +1,78 @@
+-- The policies of drawn runs (own): five that are taken in turn by the seed, and the fair one by which each run goes on after some
+-- time. A policy is a record of weights.
+use Rattle.std.specs.Prelude.{ℕ, ◌%◌, ◌==◌, true, false, if◌then◌else◌}
+use Rattle.draw_policies.specs.declared.policies.Policy.{Policy}
+use Rattle.draw_policies.specs.declared.policies.Policy.TheVariants as policy
+use Rattle.draw_policies.specs.declared.policies.Weights.{Weights}
+
+-- the five in turn
+abbrev pub policy_of_seed : ℕ → Policy
+policy_of_seed seed =
+    if seed % 5 == 0 then policy.One
+    else if seed % 5 == 1 then policy.Long
+    else if seed % 5 == 2 then policy.Short
+    else if seed % 5 == 3 then policy.Pos
+    else policy.Spread
+
+-- how often a policy does what, in thousandths of the words that could let it happen; and whether it goes by priorities
+abbrev pub weights_of : Policy → Weights
+weights_of policy.One = record {
+  stay = 0;
+  preempt = 15;
+  drain = 250;
+  take = 20;
+  signal = 20;
+  credit = 0;
+  alone = true;
+  by_priority = false;
+}
+weights_of policy.Long = record {
+  stay = 970;
+  preempt = 30;
+  drain = 60;
+  take = 50;
+  signal = 50;
+  credit = 256;
+  alone = false;
+  by_priority = false;
+}
+weights_of policy.Short = record {
+  stay = 800;
+  preempt = 10;
+  drain = 30;
+  take = 50;
+  signal = 50;
+  credit = 256;
+  alone = false;
+  by_priority = false;
+}
+weights_of policy.Pos = record {
+  stay = 0;
+  preempt = 30;
+  drain = 0;
+  take = 50;
+  signal = 50;
+  credit = 256;
+  alone = false;
+  by_priority = true;
+}
+weights_of policy.Spread = record {
+  stay = 0;
+  preempt = 30;
+  drain = 30;
+  take = 50;
+  signal = 50;
+  credit = 256;
+  alone = false;
+  by_priority = false;
+}
+weights_of policy.Fair = record {
+  stay = 969;
+  preempt = 8;
+  drain = 1000;
+  take = 1000;
+  signal = 125;
+  credit = 0;
+  alone = false;
+  by_priority = false;
+}

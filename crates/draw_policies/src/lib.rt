@@ -1,0 +1,23 @@
+//! Which event comes next in a run that is drawn from a seed: the rules of the policies, each for one hart.
+//!
+//! The policies and their weights are own; priorities follow partial order sampling (Yuan, Yang and Gu,
+//! "Partial Order Aware Concurrency Sampling", 2018). Nothing here takes memory.
+#![tactic(auto)]
+
+mod accesses;
+mod acting;
+mod aims;
+mod beginning;
+mod policies;
+mod theorems;
+mod turns;
+mod words;
+
+pub use accesses::{Access, access_of_effect, access_of_store, race};
+pub use acting::{can_act, has_stores};
+pub use aims::{Aim, still_due};
+pub use beginning::thread_to_run;
+pub use policies::{Policy, Weights};
+pub use theorems::{turn_is_allowed, turns_come};
+pub use turns::{Turn, turn_of};
+pub use words::Word;

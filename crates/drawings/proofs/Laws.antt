@@ -1,0 +1,2 @@
+-- The laws that crates above cite.
+pub use Rattle.drawings.proofs.Draws.{draw-allowed, draw-comes, draw-ready}

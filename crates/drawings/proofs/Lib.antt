@@ -1,0 +1,4 @@
+mod Draws
+mod Examples
+pub mod Laws
+mod Passing

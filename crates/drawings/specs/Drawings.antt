@@ -1,0 +1,135 @@
+-- The drawing of events (own): what is kept between them, and the next one. The hart of the next event is the last one's by its
+-- credit; or else the last one's by the word, where it can act; or else any that can, each as likely as the next. What it does is its
+-- turn by the same word.
+use Rattle.std.specs.Prelude.{ℕ, ◌-◌, ◌<◌, ◌≤◌, ◌==◌, ◌&&◌, Bool, not, List, length, Option, Some, None, if◌then◌else◌, nat_lt, slice_get, slice_index_or, slice_set}
+use Rattle.std.specs.Option.{option_and_then, option_map}
+use Rattle.mach_types.specs.declared.events.Choice.{Choice}
+use Rattle.mach_types.specs.declared.events.Choice.TheVariants as asked
+use Rattle.mach_types.specs.declared.events.Tid.{Tid}
+use Rattle.chooser.specs.Generators.{next_generator, word}
+use Rattle.draw_policies.specs.Policies.{weights_of}
+use Rattle.draw_policies.specs.Turns.{draining, turn}
+use Rattle.draw_policies.specs.Words.{hart_place, stay_of}
+use Rattle.draw_policies.specs.declared.policies.Policy.TheVariants as policy
+use Rattle.draw_policies.specs.declared.policies.Weights.{Weights}
+use Rattle.draw_policies.specs.declared.turns.Turn.{Turn}
+use Rattle.drawings.specs.Priorities.{access_by, actors, all_drawn, hart_of, is_drawn_anew, is_enabled, is_hart, leader}
+use Rattle.drawings.specs.Scenes.{Scene, able, is_able, startable}
+use Rattle.drawings.specs.declared.drawing.Drawing.{Drawing}
+use Rattle.drawings.specs.declared.drawing.DrawnEvent.{DrawnEvent}
+use Rattle.drawings.specs.declared.priorities.Lots.{Lots}
+
+-- a drawn event, and what is kept after it
+pub record Drawn : Type 0 where
+  pub hart : ℕ
+  pub choice : Choice
+  pub after : Drawing
+
+-- the weights of the next event: those of the policy, until so many events were drawn; then it goes on fairly
+abbrev pub current : Drawing → Weights
+current d = if d.left == 0 then weights_of policy.Fair else weights_of d.policy
+
+-- whether the last hart goes on by its credit: its next instruction may be executed and touches registers alone, and its thread is
+-- inside no sequence, where it might be interrupted
+abbrev pub goes_on : Scene → Drawing → Bool
+goes_on scene d =
+    nat_lt 0 d.credit && (scene.sight d.last.0).exec_enabled && (scene.sight d.last.0).«local» && not (scene.is_inside d.last.0)
+
+abbrev pub on_credit : Drawing → Drawn
+on_credit d = record {
+  hart = d.last.0;
+  choice = asked.Exec;
+  after = record d { left = d.left - 1; credit = d.credit - 1 };
+}
+
+-- the turn of hart h by a word
+abbrev pub turn_at : Scene → Drawing → ℕ → ℕ → Option Turn
+turn_at scene d h w =
+    turn (current d) (scene.sight h) (startable d.opened h scene.scheduling) (slice_index_or d.ran h None) (slice_index_or d.aims h None) w
+
+-- the thread that ran last on each hart, after an event of hart h
+abbrev pub ran_after : ℕ → Choice → List (Option Tid) → List (Option Tid)
+ran_after h asked.Exec ran = ran
+ran_after h asked.Drain ran = ran
+ran_after h asked.Take ran = ran
+ran_after h asked.Done ran = ran
+ran_after h asked.Preempt ran = ran
+ran_after h (asked.Run t) ran = slice_set ran h (Some t)
+ran_after h asked.Signal ran = ran
+
+-- a turn of hart h, and what is kept after it with these priorities and this generator
+abbrev pub after_turn : ℕ → Turn → Lots → Drawing → Drawing
+after_turn h t lots d = record d {
+  left = d.left - 1;
+  last = record { 0 = h };
+  credit = t.credit;
+  aims = slice_set d.aims h t.aim;
+  ran = ran_after h t.choice d.ran;
+  lots = lots;
+}
+
+abbrev pub drawn_of : ℕ → Lots → Drawing → Turn → Drawn
+drawn_of h lots d t = record { hart = h; choice = t.choice; after = after_turn h t lots d }
+
+-- by a word: whether the last hart goes on, and which hart acts
+abbrev pub stays : Scene → Drawing → ℕ → Bool
+stays scene d w = nat_lt (stay_of w) (current d).stay && is_able scene d.opened d.last.0
+
+abbrev pub hart_by_word : Scene → Drawing → ℕ → Option ℕ
+hart_by_word scene d w =
+    if stays scene d w then Some d.last.0
+    else slice_get (able scene d.opened) (hart_place w (length (able scene d.opened)))
+
+-- the priorities as they are, after a word
+abbrev pub after_word : Drawing → Lots
+after_word d = record d.lots { generator = next_generator d.lots.generator }
+
+abbrev pub drawn_by_word : Scene → Drawing → Option Drawn
+drawn_by_word scene d =
+    let w = word d.lots.generator in
+    option_and_then (λ h. option_map (drawn_of h (after_word d) d) (turn_at scene d h w)) (hart_by_word scene d w)
+
+-- by priorities: the leader acts, a hart by a word, a store without one; then it and those whose next access races with its own get
+-- new priorities
+abbrev pub lots_after : Scene → ℕ → ℕ → Choice → Lots → Lots
+lots_after scene actor h c lots = all_drawn (is_drawn_anew scene actor (access_by scene h c)) (actors scene.harts) lots
+
+abbrev pub drawn_by_hart : Scene → Drawing → ℕ → Option Drawn
+drawn_by_hart scene d actor =
+    let h = hart_of actor in
+    option_map (λ (t : Turn). drawn_of h (lots_after scene actor h t.choice (after_word d)) d t)
+    (turn_at scene d h (word d.lots.generator))
+
+abbrev pub drawn_by_store : Scene → Drawing → ℕ → Drawn
+drawn_by_store scene d actor =
+    let h = hart_of actor in
+    drawn_of h (lots_after scene actor h asked.Drain d.lots) d (draining (slice_index_or d.aims h None))
+
+abbrev pub drawn_by_actor : Scene → Drawing → ℕ → Option Drawn
+drawn_by_actor scene d actor =
+    if is_hart actor then drawn_by_hart scene d actor else Some (drawn_by_store scene d actor)
+
+abbrev pub drawn_by_priority : Scene → Drawing → Option Drawn
+drawn_by_priority scene d =
+    option_and_then (drawn_by_actor scene d) (leader (is_enabled scene d.opened d.aims) d.lots.priorities (actors scene.harts))
+
+-- the next event, where there is one
+unfoldable pub draw : Scene → Drawing → Option Drawn
+draw scene d =
+    if goes_on scene d then Some (on_credit d)
+    else if (current d).by_priority then drawn_by_priority scene d
+    else drawn_by_word scene d
+
+-- the event that is drawn, and what is kept after the draw
+abbrev pub event_of : Drawn → DrawnEvent
+event_of x = record { hart = record { 0 = x.hart }; choice = x.choice }
+
+abbrev pub kept_after : Option Drawn → Drawing → Drawing
+kept_after None d = d
+kept_after (Some x) d = x.after
+
+-- a machine has so many harts, 8 at most, and the harts that a drawing speaks of are among them
+pub record IsFor (harts : ℕ) (d : Drawing) : Type 0 where
+  pub few : harts ≤ 8
+  pub last : d.last.0 < harts
+  pub opened : d.opened ≤ 8

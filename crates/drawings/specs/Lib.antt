@@ -1,0 +1,5 @@
+pub mod Allowed
+pub mod Drawings
+pub mod Priorities
+pub mod Scenes
+pub mod Starts

@@ -1,0 +1,43 @@
+-- How a drawing begins (own): one generator, seeded as that of hart 0 of `run`; then how many harts are open, and the priorities,
+-- each by a word where one is needed.
+use Rattle.std.specs.Prelude.{ℕ, ◌+◌, ◌-◌, ◌%◌, Bool, true, false, None, if◌then◌else◌, nat_lt, replicate}
+use Rattle.chooser.specs.Generators.{Generator, first_generator, next_generator, word}
+use Rattle.draw_policies.specs.Policies.{weights_of}
+use Rattle.draw_policies.specs.declared.policies.Policy.{Policy}
+use Rattle.drawings.specs.Priorities.{actors, all_drawn}
+use Rattle.drawings.specs.declared.drawing.Drawing.{Drawing}
+use Rattle.drawings.specs.declared.priorities.Lots.{Lots}
+
+-- whether a word says how many harts are open
+abbrev pub opens_by_word : Policy → ℕ → Bool
+opens_by_word policy harts = if (weights_of policy).alone then false else nat_lt 1 harts
+
+-- how many are, from hart 0 on: 2 at least, each number as likely as the next; hart 0 alone where no word says it
+abbrev pub first_open : Policy → ℕ → Generator → ℕ
+first_open policy harts g = if opens_by_word policy harts then 2 + word g % (harts - 1) else 1
+
+abbrev pub after_open : Policy → ℕ → Generator → Generator
+after_open policy harts g = if opens_by_word policy harts then next_generator g else g
+
+-- no priority yet; and then a word for each actor, where the policy goes by priorities
+abbrev pub no_lots : Generator → Lots
+no_lots g = record { priorities = replicate 16 0; generator = g }
+
+abbrev pub first_lots : Policy → ℕ → Generator → Lots
+first_lots policy harts g =
+    if (weights_of policy).by_priority then all_drawn (λ actor. true) (actors harts) (no_lots g) else no_lots g
+
+-- the start, for a machine of so many harts, of a run that goes on fairly after so many events
+abbrev pub start : Policy → ℕ → ℕ → ℕ → Drawing
+start policy harts seed left =
+    let g = first_generator seed 0 in
+    record {
+      policy = policy;
+      left = left;
+      opened = first_open policy harts g;
+      last = record { 0 = 0 };
+      credit = 0;
+      aims = replicate 8 None;
+      ran = replicate 8 None;
+      lots = first_lots policy harts (after_open policy harts g);
+    }

@@ -1,0 +1,105 @@
+//! What a policy sees of the harts of a machine, and which of them can make an event.
+
+ghost use Rattle.std.specs.Prelude.{◌≡◌, ◌<◌, ◌≤◌, ◌++◌, ◌∷◌, [], ℕ, IfSome, if◌then◌else◌, length, nat_lt, slice_get};
+ghost use Rattle.draw_policies.specs.Words.{hart_place};
+ghost use Rattle.drawings.specs.Scenes as scenes;
+ghost use Rattle.drawings.specs.Scenes.{Scene};
+
+use arrayvec::ArrayVec;
+use draw_policies::{Access, Word, can_act};
+use mach_types::{Hart, Sight};
+
+/// The harts of a machine at a place, as a policy sees them.
+pub trait Harts {
+    /// What is seen.
+    ghost scene: { Self → Scene };
+
+    /// How many there are, at most 8.
+    fn count(&self) -> u8
+        ensures count { result ≡ (scene self.now).harts }
+        ensures few { result ≤ 8 };
+
+    /// What a scheduler sees of a hart.
+    fn sight(&self, hart: Hart) -> Sight
+        requires { hart.0 < (scene self.now).harts }
+        ensures { result ≡ (scene self.now).sight hart.0 };
+
+    /// Whether the thread on a hart is inside a good restartable sequence, as the hart sees memory.
+    fn is_inside(&self, hart: Hart) -> bool
+        requires { hart.0 < (scene self.now).harts }
+        ensures { result ≡ (scene self.now).is_inside hart.0 };
+
+    /// What the next instruction of the thread on a hart accesses; None on an idle hart, and in a barrier.
+    fn next_access(&self, hart: Hart) -> Option<Access>
+        requires { hart.0 < (scene self.now).harts }
+        ensures { result ≡ (scene self.now).next_access hart.0 };
+
+    /// What the oldest waiting store of a hart accesses.
+    fn oldest_store(&self, hart: Hart) -> Option<Access>
+        requires { hart.0 < (scene self.now).harts }
+        ensures { result ≡ (scene self.now).oldest_store hart.0 };
+
+    /// The ready threads that may begin to run on a hart where the first so many harts are open, in order.
+    fn startable(&self, hart: Hart, opened: u8) -> ArrayVec<u32, 64>
+        requires { opened ≤ 8 }
+        ensures { result.items ≡ scenes.startable opened hart.0 (scene self.now).scheduling };
+
+    /// Whether there is one.
+    fn has_startable(&self, hart: Hart, opened: u8) -> bool
+        requires { opened ≤ 8 }
+        ensures { result ≡ nat_lt 0 (length (scenes.startable opened hart.0 (scene self.now).scheduling)) };
+}
+
+/// Whether a hart can make an event, where the first so many harts are open.
+pub fn is_able<H: Harts>(harts: &H, hart: Hart, opened: u8) -> bool
+    requires hart { hart.0 < (H.scene harts.now).harts }
+    requires opened { opened ≤ 8 }
+    ensures { result ≡ scenes.is_able (H.scene harts.now) opened hart.0 }
+{
+    let sight = harts.sight(hart);
+    if sight.idle {
+        can_act(&sight, harts.has_startable(hart, opened))
+    } else {
+        can_act(&sight, false)
+    }
+}
+
+/// Appends a number where it passes.
+fn push_if(numbers: &mut ArrayVec<u8, 8>, number: u8, passes: bool)
+    requires { length numbers.old.items < 8 }
+    ensures { numbers.new.items ≡ numbers.old.items ++ (if passes then number ∷ [] else []) }
+{
+    if passes {
+        numbers.push(number);
+    }
+}
+
+/// The harts that can, rising.
+fn able<H: Harts>(harts: &H, opened: u8) -> ArrayVec<u8, 8>
+    requires { opened ≤ 8 }
+    ensures { result.items ≡ scenes.able (H.scene harts.now) opened }
+{
+    let mut able = ArrayVec::new();
+    for number in 0..harts.count() {
+        push_if(&mut able, number, is_able(harts, Hart(number), opened));
+    }
+    able
+}
+
+/// The number at a place; None exactly where there are fewer.
+fn number_at(numbers: &[u8], place: u8) -> Option<u8>
+    ensures { result ≡ slice_get numbers.now place }
+{
+    numbers.get(place as usize).copied()
+}
+
+/// The one of them that a word names; None exactly where there is none.
+pub fn able_by_word<H: Harts>(harts: &H, opened: u8, word: Word) -> Option<u8>
+    requires { opened ≤ 8 }
+    ensures named { result ≡ slice_get (scenes.able (H.scene harts.now) opened)
+        (hart_place word.0 (length (scenes.able (H.scene harts.now) opened))) }
+    ensures within { IfSome result (λ hart. hart < (H.scene harts.now).harts) }
+{
+    let able = able(harts, opened);
+    number_at(&able, word.hart_place(able.len() as u8))
+}

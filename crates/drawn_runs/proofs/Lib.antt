@@ -1,0 +1,7 @@
+mod Able
+mod Allowed
+pub mod Laws
+mod Logs
+mod Opened
+mod Places
+mod Work

@@ -1,0 +1,78 @@
+-- Drawn runs (own): logs each of whose entries is the one that a policy draws at its place, from the seed and the log so far.
+use Rattle.std.specs.Prelude.{ℕ, ◌≡◌, Bool, false, List, [], ◌∷◌, length, Option, Some, None, if◌then◌else◌, nat_lt, slice_get}
+use Rattle.std.specs.Option.{option_and_then, option_map}
+use Rattle.mach_types.specs.declared.events.Entry.{Entry}
+use Rattle.rv_inst.specs.declared.effects.Effect.{Effect}
+use Rattle.draw_policies.specs.Accesses.{access_of_effect, access_of_store}
+use Rattle.draw_policies.specs.declared.accesses.Access.{Access}
+use Rattle.draw_policies.specs.declared.policies.Policy.{Policy}
+use Rattle.drawings.specs.Drawings.{Drawn, draw, kept_after}
+use Rattle.drawings.specs.Scenes.{Scene}
+use Rattle.drawings.specs.Starts.{start}
+use Rattle.drawings.specs.declared.drawing.Drawing.{Drawing}
+use Rattle.block_model.specs.Choosing.{has_ended}
+use Rattle.block_model.specs.Deciding.{entry_in, history}
+use Rattle.block_model.specs.Here.{Here, runs, waiting_here}
+use Rattle.block_model.specs.History.{History, here_in_history, kernel, ran}
+use Rattle.block_model.specs.Sequences.{is_inside_here}
+use Rattle.block_model.specs.Setting.{Setting}
+use Rattle.block_model.specs.Sights.{effect_here, sight_in}
+
+-- how the events of a run are drawn: the seed; the policy; how many entries were there before, by a script; and how many are drawn
+-- before it goes on fairly
+pub record Manner : Type 0 where
+  pub seed : ℕ
+  pub policy : Policy
+  pub scripted : ℕ
+  pub calm : ℕ
+
+-- whether the thread on the hart is inside a good sequence
+abbrev pub is_inside_on : Here → Option ℕ → Bool
+is_inside_on here None = false
+is_inside_on here (Some t) = is_inside_here here t
+
+-- what the next instruction of the hart's thread accesses; nothing on an idle hart, and in a barrier
+abbrev pub access_in : Option ℕ → Option Effect → Option Access
+access_in None effect = option_and_then access_of_effect effect
+access_in (Some left) effect = None
+
+-- what a policy sees at a place. No rule of drawn runs reads a credit of `run`, so there it is 0
+abbrev pub scene_at : Setting → History → Scene
+scene_at s before = record {
+  harts = s.limits.harts;
+  sight = λ h. sight_in (here_in_history s before h) (ran h before) 0;
+  is_inside = λ h. is_inside_on (here_in_history s before h) (runs (here_in_history s before h));
+  next_access = λ h. access_in (here_in_history s before h).awaits (effect_here (here_in_history s before h));
+  oldest_store = λ h. option_map access_of_store (slice_get (waiting_here (here_in_history s before h)) 0);
+  scheduling = (kernel s before).scheduling;
+}
+
+-- what is kept at a place: the start behind the script's entries, and then what each draw leaves
+abbrev pub first_drawing : Setting → Manner → Drawing
+first_drawing s m = start m.policy s.limits.harts m.seed m.calm
+
+abbrev pub drawing_at : Setting → Manner → History → Drawing
+drawing_at s m [] = first_drawing s m
+drawing_at s m (e ∷ before) =
+    if nat_lt (length before) m.scripted then first_drawing s m
+    else kept_after (draw (scene_at s before) (drawing_at s m before)) (drawing_at s m before)
+
+-- the event that is drawn at a place, if one is: none where the run has ended
+unfoldable pub drawn_at : Setting → Manner → History → Option Drawn
+drawn_at s m before = if has_ended s before then None else draw (scene_at s before) (drawing_at s m before)
+
+-- its entry
+abbrev pub entry_of : Setting → History → Drawn → Entry
+entry_of s before x = entry_in x.choice (here_in_history s before x.hart)
+
+unfoldable pub drawn_entry : Setting → Manner → History → Option Entry
+drawn_entry s m before = option_map (entry_of s before) (drawn_at s m before)
+
+-- every entry but the script's is the one that is drawn at its place
+abbrev pub IsDrawnHistory : Setting → Manner → History → Type 0
+IsDrawnHistory s m [] = Unit {0}
+IsDrawnHistory s m (e ∷ before) =
+    IsDrawnHistory s m before × (nat_lt (length before) m.scripted ≡ false → drawn_entry s m before ≡ Some e.entry)
+
+abbrev pub IsDrawn : Setting → Manner → List Entry → Type 0
+IsDrawn s m log = IsDrawnHistory s m (history s log)

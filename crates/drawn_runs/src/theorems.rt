@@ -1,0 +1,34 @@
+//! Laws of drawn runs, each as the contract of a function that does nothing.
+
+ghost use Rattle.std.specs.Prelude.{◌≡◌, ◌<◌, ◌≤◌, ◌++◌, [], ◌∷◌, ℕ, List, Some, Ok, IsSome, length};
+ghost use Rattle.mach_types.specs.declared.events.Entry.{Entry};
+ghost use Rattle.block_model.specs.Choosing.{next_entry};
+ghost use Rattle.block_model.specs.Deciding.{decide, history};
+ghost use Rattle.block_model.specs.Run.{IsBlockRun};
+ghost use Rattle.block_model.specs.Setting.{Setting};
+ghost use Rattle.drawings.specs.Drawings.{Drawn};
+ghost use Rattle.drawn_runs.specs.DrawnRuns.{IsDrawn, Manner, drawn_at, drawn_entry, entry_of};
+
+/// What is drawn at a place of a block run is allowed there.
+pub fn drawn_events_are_allowed()
+    ensures { (s : Setting) (m : Manner) (log : List Entry) (x : Drawn) → 0 < s.limits.harts
+        → s.limits.harts ≤ 8 → IsBlockRun s log → drawn_at s m (history s log) ≡ Some x
+        → decide s (history s log) x.hart x.choice ≡ Ok (entry_of s (history s log) x) }
+{}
+
+/// Where a hart makes an entry by the choice of `run` at some seed, an event is drawn.
+pub fn an_event_is_drawn()
+    ensures { (s : Setting) (m : Manner) (log : List Entry) (seed h : ℕ) → 0 < s.limits.harts
+        → s.limits.harts ≤ 8 → IsBlockRun s log → h < s.limits.harts
+        → IsSome (next_entry s seed h (history s log)) → IsSome (drawn_entry s m (history s log)) }
+{}
+
+/// A drawn log begins behind its script, and goes on by the entry that is drawn.
+pub fn drawn_runs_go_on()
+    ensures start { (s : Setting) (m : Manner) (log : List Entry) → length log ≤ m.scripted
+        → IsDrawn s m log }
+    ensures more { (s : Setting) (m : Manner) (log : List Entry) (e : Entry) → 0 < s.limits.harts
+        → s.limits.harts ≤ 8 → IsBlockRun s log → IsDrawn s m log
+        → drawn_entry s m (history s log) ≡ Some e
+        → IsBlockRun s (log ++ e ∷ []) × IsDrawn s m (log ++ e ∷ []) }
+{}

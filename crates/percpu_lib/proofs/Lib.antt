@@ -1,0 +1,10 @@
+pub mod AddCode
+pub mod AddLaw
+pub mod AddRegisters
+pub mod BlockWords
+pub mod CellPath
+pub mod Emittable
+pub mod Emitting
+pub mod HeldWords
+pub mod Labels
+pub mod UsesLaw

@@ -1,0 +1,109 @@
+-- A sequence of an add block that is used as it should be.
+use Rattle.std.proofs.Common.{◌≡◌, ◌≢◌, ℕ, ◌+◌, ◌^◌, ◌<◌, ◌≤◌, [], ◌∷◌, refl, sym, ap, ◌∙◌, subst, arith}
+use Rattle.std.proofs.Common.{true, Some, inl}
+use Rattle.mach_types.specs.Kernel.Areas.{is_inside}
+use Rattle.mach_types.specs.declared.sequences.Area.{Area}
+use Rattle.block_model.specs.Acts.{Sequence, sequence_on}
+use Rattle.block_model.specs.History.{History, file, running}
+use Rattle.block_model.specs.Run.{IsRunHistory}
+use Rattle.block_model.specs.Setting.{Setting}
+use Rattle.alone_laws.specs.Areas.{ProcessorKept}
+use Rattle.alone_laws.specs.Blocks.{IsFairSince}
+use Rattle.alone_laws.specs.Entering.{IsIn}
+use Rattle.alone_laws.specs.Uses.{AreUsed, IsWellPlaced}
+use Rattle.alone_laws.proofs.Arrivals.{IsCode}
+use Rattle.alone_laws.proofs.Entered.{entered, points}
+use Rattle.alone_laws.proofs.Entering.{begins_at_start, goes_there}
+use Rattle.alone_laws.proofs.Processors.{tells}
+use Rattle.block_model.specs.Whole.{IsWholeHistory}
+use Rattle.block_model.proofs.Laws.{Begins, Elsewhere, IsOf, Own, SequenceStep, TakesIn, has_registers}
+use Rattle.block_model.proofs.Laws.{sequence_step}
+use Rattle.percpu_lib.specs.Adds.{IsAddPlace, IsNoAdd, IsWholeAdd, add_of, add_range, placed_add}
+use Rattle.percpu_lib.proofs.AddCode.{KnowsTable, add_code, add_placed, within_range}
+use Rattle.percpu_lib.specs.Uses.{AreAddUsed, HoldsAdd, IsAtStart, cells_of}
+use Rattle.percpu_lib.specs.declared.slots.Slots.{Slots}
+use Rattle.percpu_lib.proofs.AddLaw.{adds_once}
+
+module _ (s : Setting) (p : Slots) (at : ℕ) (area : Area) (h t : ℕ) (begun : History)
+    (start : IsAtStart s at h t begun) (low : at < 2 ^ 37) (placed : IsWellPlaced (placed_add p at area))
+    (code : IsCode s (placed_add p at area) (KnowsTable p)) where
+  abbrev cells : ℕ
+  cells = cells_of s p t begun
+
+  fair_since : (before : History) → AreAddUsed s p at area t before
+      → IsFairSince s (add_of p at area cells h) h t begun before
+  fair_since [] used = tt
+  fair_since (e ∷ before) used = (fair_since before used.0, λ open_here. used.1.fair h begun start open_here)
+
+  abbrev Earlier : History → Type 0
+  Earlier before = (r : Sequence) → sequence_on s h before ≡ Some r → r.begun ≡ begun
+      → IsAddPlace s p at area cells h t begun
+
+  -- the place where an open sequence began is one before an event
+  place_of : s.limits.harts ≤ 8 → (before : History) (q : Sequence) → IsRunHistory s before
+      → AreAddUsed s p at area t before → ProcessorKept s t area before
+      → AreUsed s (placed_add p at area) t before → sequence_on s h before ≡ Some q → q.begun ≡ begun
+      → IsAddPlace s p at area cells h t begun
+  place_of few [] q run used kept uses is from = absurd cc
+  place_of few (e ∷ before) q run used kept uses is from =
+      by_step (λ r was begins. place_of few before r run.0 used.0 kept.0 uses.0 was begins)
+      (sequence_step s e before h q is) from
+    where
+      of_own : Earlier before → {r : Sequence} → IsOf s e before h r → r.begun ≡ begun
+          → IsAddPlace s p at area cells h t begun
+      of_own earlier (Begins none first) here =
+          let fair = used.1.fair h begun start (inl here) in
+          let there : IsAtStart s at h t before =
+          subst (λ (x : History). IsAtStart s at h t x) (sym here) start in
+          let inside : is_inside (add_range at) (file s t before).pc ≡ true =
+          ap (is_inside (add_range at)) there.pc ∙ within_range at 16 low (omega arith) (omega arith) in
+          let went = goes_there s (add_range at) t h e before run in
+          subst (λ (x : History). IsAddPlace s p at area (cells_of s p t x) h t x) here (record {
+            runs = there.runs;
+            pc = there.pc;
+            begins = used.1.begins h there;
+            many = has_registers s before run.0 t;
+            points = points s (placed_add p at area) t (KnowsTable p) placed code before h run.0 uses.0 went
+                there.runs inside;
+            on_cpu = tells s t area few before h run.0 kept.0 there.runs fair.place.registered;
+          })
+      of_own earlier (TakesIn r was takes) begins = earlier r was begins
+
+      by_step : Earlier before → SequenceStep s e before h q → q.begun ≡ begun
+          → IsAddPlace s p at area cells h t begun
+      by_step earlier (Elsewhere apart was) begins = earlier q was begins
+      by_step earlier (Own own inside its) begins = of_own earlier its begins
+
+-- the thread of a sequence ran on its hart where it began
+first_runs : (s : Setting) (before : History) (h : ℕ) (q : Sequence) → IsWholeHistory s before
+    → sequence_on s h before ≡ Some q → running s h q.begun ≡ Some q.thread
+first_runs s [] h q whole is = (whole.runs h q is).first
+first_runs s (e ∷ before) h q whole is = (whole.1.place.runs h q is).first
+
+pub adds : (s : Setting) (history : History) (p : Slots) (at : ℕ) (area : Area) (h : ℕ) (q : Sequence)
+    → IsRunHistory s history → IsWholeHistory s history
+    → HoldsAdd s history p at area q.thread → sequence_on s h history ≡ Some q
+    → IsIn s (add_range at) q.thread q.begun
+    → ((file s q.thread q.reached).pc ≡ at + 44
+    → IsWholeAdd s p (cells_of s p q.thread q.begun) h q.thread q.begun q.reached)
+    × ((file s q.thread q.reached).pc ≢ at + 44
+    → IsNoAdd s (cells_of s p q.thread q.begun) h q.thread q.begun q.reached)
+adds s history p at area h q run whole held is inside =
+    let t = q.thread in
+    let b = placed_add p at area in
+    let runs = first_runs s history h q whole is in
+    let placed = add_placed s p at area held.stands held.slots held.low_table held.low held.aligned
+    held.low_area held.some_table in
+    let code = add_code s p at area held.stands held.slots held.low_table held.low held.aligned held.low_area
+    in
+    let comes = entered s b t (KnowsTable p) placed code history run held.uses in
+    let start : IsAtStart s at h t q.begun = record {
+      runs = runs;
+      pc = begins_at_start s (add_range at) t h history q run comes is runs inside;
+    } in
+    let place =
+    place_of s p at area h t q.begun start held.low placed code held.few history q run held.used
+    held.processor held.uses is
+    refl in
+    adds_once s p at area (cells_of s p t q.begun) h t q.begun held.stands held.slots place history q run
+    (fair_since s p at area h t q.begun start held.low placed code history held.used) is refl

@@ -1,0 +1,16 @@
+use Rattle.std.proofs.Common.{length, All, subst, sym, arith}
+use Rattle.percpu_lib.proofs.Emittable.{pop_emittable}
+use Rattle.percpu_lib.specs.Lines.{IsEmittable}
+use Rattle.percpu_lib.proofs.pops.emit_pop.Goals as goal
+
+pub lines_of_pop-lines-requires-clause-fits : goal.lines_of_pop-lines-requires-clause-fits
+lines_of_pop-lines-requires-clause-fits c =
+    let few = c.has_room.ensures.few in
+    let within = c.if-not-has_room.ensures.within in
+    omega arith
+
+pub emit_lines-requires : goal.emit_lines-requires
+emit_lines-requires c =
+    subst (λ xs. All (IsEmittable (length c.args.asm.now.labels)) xs) (sym c.lines_of_pop-lines.ensures)
+    (pop_emittable c.args.slots.now c.args.base (length c.args.asm.now.labels) c.requires.slots c.requires.low
+    c.if-not-has_room.ensures.within)

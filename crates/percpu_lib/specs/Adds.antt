@@ -1,0 +1,134 @@
+-- The block that adds to the cell of its processor (librseq, rseq_addv).
+use Rattle.std.specs.Prelude.{ℕ, ◌≡◌, ◌+◌, ◌*◌, ◌<◌, ◌≤◌, ◌%◌, ◌^◌, ◌||◌, ◌⊎◌, Bool, false, List, [], ◌∷◌}
+use Rattle.std.specs.Prelude.{◌++◌, length, Option, Some, None, pos, negsuc}
+use Rattle.mach_types.specs.Bytes.{word_at}
+use Rattle.mach_types.specs.Registers.{register}
+use Rattle.mach_types.specs.declared.sequences.Seq.{Seq}
+use Rattle.mach_types.specs.declared.user_memory.Store.{Store}
+use Rattle.rv_inst.specs.declared.instruction.Inst.{Inst}
+use Rattle.rv_inst.specs.declared.instruction.Inst.TheVariants as inst
+use Rattle.alone.specs.Temps.{is_scratch}
+use Rattle.alone_laws.specs.Blocks.{Block, among}
+use Rattle.alone_laws.specs.Spans.{seen_at}
+use Rattle.alone_laws.specs.Uses.{Placed}
+use Rattle.block_model.specs.History.{History, file, running, stores}
+use Rattle.block_model.specs.Setting.{Setting}
+use Rattle.mach_types.specs.declared.sequences.Area.{Area}
+use Rattle.percpu_lib.specs.BlockLines.{block_lines}
+use Rattle.percpu_lib.specs.Words.{lower, upper}
+use Rattle.percpu_lib.specs.declared.lines.Line.{Line}
+use Rattle.percpu_lib.specs.declared.lines.Line.TheVariants as line
+use Rattle.percpu_lib.specs.declared.slots.Slots.{Slots}
+
+-- its words from the retry label on. The area is read for the processor, and the address of the descriptor is
+-- stored in it. Then the sequence starts: the area must still name that processor, else the block begins
+-- anew; and the cell of the processor grows
+abbrev pub add_block : Slots → List (Option Inst)
+add_block p =
+    Some (inst.Lw 5 p.area (pos 0))
+    ∷ Some (inst.Lui 6 (upper p.table))
+    ∷ Some (inst.Addi 6 6 (lower p.table))
+    ∷ Some (inst.Sd p.area 6 (pos 8))
+    ∷ Some (inst.Lw 6 p.area (pos 4))
+    ∷ Some (inst.Bne 6 5 (negsuc 19))
+    ∷ Some (inst.Slli 5 5 6)
+    ∷ Some (inst.Add 5 5 p.cells)
+    ∷ Some (inst.Ld 6 5 (pos 0))
+    ∷ Some (inst.Add 6 6 p.value)
+    ∷ Some (inst.Sd 5 6 (pos 0))
+    ∷ Some (inst.Jal 0 (pos 12))
+    ∷ None
+    ∷ Some (inst.Jal 0 (negsuc 51))
+    ∷ []
+
+-- the same as lines with labels: what it does inside once the address of the cell is in x5
+abbrev pub add_steps : Slots → List Line
+add_steps p =
+    line.Plain (inst.Ld 6 5 (pos 0))
+    ∷ line.Plain (inst.Add 6 6 p.value)
+    ∷ line.Plain (inst.Sd 5 6 (pos 0))
+    ∷ []
+
+-- its lines
+abbrev pub add_lines : Slots → ℕ → List Line
+add_lines p base = block_lines p base 6 [] (add_steps p) []
+
+-- the range of its sequence
+abbrev pub add_range : ℕ → Seq
+add_range at = record { start = at + 16; length = 28; abort = at + 52 }
+
+-- the bytes that it uses inside: those of the area, and the cell of a processor
+abbrev pub cell_at : ℕ → ℕ → ℕ
+cell_at cells cpu = cells + 64 * cpu
+
+abbrev pub add_bytes : ℕ → ℕ → ℕ → ℕ → Bool
+add_bytes area cells cpu a = among area 32 a || among (cell_at cells cpu) 8 a
+
+-- where a block stands, and on what it works: no address wraps, and the cell doesn't lie on the area
+pub record AreApart (at area cells cpu : ℕ) : Type 0 where
+  pub aligned : at % 4 ≡ 0
+  pub low : at < 2 ^ 37
+  pub low_area : area + 32 ≤ 2 ^ 38
+  pub few : cpu < 8
+  pub low_cells : cell_at cells cpu + 8 ≤ 2 ^ 64
+  pub beside : (cell_at cells cpu + 8 ≤ area) ⊎ (area + 32 ≤ cell_at cells cpu)
+
+-- the block of the sequence, where it is of this area
+abbrev pub add_of : Slots → ℕ → Area → ℕ → ℕ → Block
+add_of p at area cells cpu = record {
+  area = area;
+  table = p.table;
+  range = add_range at;
+  words = add_bytes
+      area.at cells cpu;
+}
+
+-- the block as it stands in a program, of whose words it has 14
+abbrev pub placed_add : Slots → ℕ → Area → Placed
+placed_add p at area =
+    record { at = at; count = 14; range = add_range at; area = area; register = p.area; table = p.table }
+
+-- the store to it
+abbrev pub cell_store : ℕ → ℕ → ℕ → Store
+cell_store cells cpu value = record { at = cell_at cells cpu; size = 8; value = value }
+
+-- the word of a cell as hart h sees it
+abbrev pub cell_seen : Setting → ℕ → ℕ → History → Option ℕ
+cell_seen s h cells before = word_at (seen_at s h before) (cell_at cells h) 8
+
+-- what a whole add did from the place before its first event to the place after its last: the cell of its
+-- processor grew by the value, the only store that it executed is the one to the cell, and no register
+-- changed but those that a block may change
+pub record IsWholeAdd (s : Setting) (p : Slots) (cells h t : ℕ) (begun reached : History) : Type 0 where
+  pub old : ℕ
+  pub was : cell_seen s h cells begun ≡ Some old
+  pub grown : cell_seen s h cells reached ≡ Some ((old + register (file s t begun).file p.value) % 2 ^ 64)
+  pub stored : stores h reached ≡ stores h begun
+      ++ cell_store cells h ((old + register (file s t begun).file p.value) % 2 ^ 64) ∷ []
+  pub kept : (r : ℕ) → is_scratch r ≡ false
+      → register (file s t reached).file r ≡ register (file s t begun).file r
+
+-- and what one did that isn't whole: nothing but to registers that a block may change
+pub record IsNoAdd (s : Setting) (cells h t : ℕ) (begun reached : History) : Type 0 where
+  pub same : cell_seen s h cells reached ≡ cell_seen s h cells begun
+  pub stored : stores h reached ≡ stores h begun
+  pub kept : (r : ℕ) → is_scratch r ≡ false
+      → register (file s t reached).file r ≡ register (file s t begun).file r
+
+-- a place at which thread t is about to begin the sequence of an add block on hart h: its registers, and its
+-- data
+pub record IsAddBegin (s : Setting) (p : Slots) (at : ℕ) (area : Area) (cells h t : ℕ) (begun : History)
+    : Type 0 where
+  pub apart : AreApart at area.at cells h
+  pub area_is : register (file s t begun).file p.area ≡ area.at
+  pub cells_is : register (file s t begun).file p.cells ≡ cells
+
+-- and there a file has 32 registers, and the area names the block and tells the processor
+pub record IsAddPlace (s : Setting) (p : Slots) (at : ℕ) (area : Area) (cells h t : ℕ) (begun : History)
+    : Type 0 where
+  pub runs : running s h begun ≡ Some t
+  pub pc : (file s t begun).pc ≡ at + 16
+  pub begins : IsAddBegin s p at area cells h t begun
+  pub many : length (file s t begun).file.x ≡ 32
+  pub points : word_at (seen_at s h begun) (area.at + 8) 8 ≡ Some p.table
+  pub on_cpu : word_at (seen_at s h begun) (area.at + 4) 4 ≡ Some h

@@ -1,0 +1,9 @@
+pub mod Adds
+pub mod Allocs
+pub mod BlockLines
+pub mod Frees
+pub mod Lines
+pub mod Pops
+pub mod Pushes
+pub mod Uses
+pub mod Words

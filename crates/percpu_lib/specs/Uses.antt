@@ -1,0 +1,54 @@
+-- How a program uses an add block: what is asked of a setting and a log, one condition at each event, read
+-- back from it.
+use Rattle.std.specs.Prelude.{ℕ, ◌≡◌, ◌≢◌, ◌+◌, ◌%◌, ◌^◌, ◌<◌, ◌≤◌, [], ◌∷◌, Some}
+use Rattle.mach_types.specs.Registers.{register}
+use Rattle.mach_types.specs.declared.sequences.Area.{Area}
+use Rattle.block_model.specs.History.{Event, History, file, running}
+use Rattle.block_model.specs.Setting.{Setting}
+use Rattle.alone_laws.specs.Areas.{ProcessorKept}
+use Rattle.alone_laws.specs.Blocks.{IsFair, IsOpen}
+use Rattle.alone_laws.specs.Spans.{code_of}
+use Rattle.alone_laws.specs.Uses.{AreUsed}
+use Rattle.percpu_lib.specs.Adds.{IsAddBegin, add_block, add_of, placed_add}
+use Rattle.percpu_lib.specs.Words.{AreHeld, AreSlots}
+use Rattle.percpu_lib.specs.declared.slots.Slots.{Slots}
+
+-- thread t stands at the start of the sequence of an add block, on hart h
+pub record IsAtStart (s : Setting) (at h t : ℕ) (begun : History) : Type 0 where
+  pub runs : running s h begun ≡ Some t
+  pub pc : (file s t begun).pc ≡ at + 16
+
+-- the address of the data of processor 0, as thread t has it in its register
+abbrev pub cells_of : Setting → Slots → ℕ → History → ℕ
+cells_of s p t before = register (file s t before).file p.cells
+
+-- an event: as long as a sequence of the block is open, or about to begin, on some hart, its area is the
+-- thread's, its descriptor stands, its bytes can be used, and nobody else writes them; and where one is about
+-- to begin the registers hold the area and the cells, which lie apart
+pub record IsAddUsed (s : Setting) (p : Slots) (at : ℕ) (area : Area) (t : ℕ) (e : Event) (before : History)
+    : Type 0 where
+  pub fair : (h : ℕ) (begun : History) → IsAtStart s at h t begun → IsOpen s h begun before
+      → IsFair s (add_of p at area (cells_of s p t begun) h) h t e before
+  pub begins : (h : ℕ) → IsAtStart s at h t before → IsAddBegin s p at area (cells_of s p t before) h t before
+
+-- every event of a history
+abbrev pub AreAddUsed : Setting → Slots → ℕ → Area → ℕ → History → Type 0
+AreAddUsed s p at area t [] = Unit {0}
+AreAddUsed s p at area t (e ∷ before) = AreAddUsed s p at area t before × IsAddUsed s p at area t e before
+
+-- an add block that stands in the program of a setting, at addresses of users, and is used so in a log: by
+-- its thread (AreUsed), with its data (AreAddUsed), and with the processor's words of its area
+-- (ProcessorKept)
+pub record HoldsAdd (s : Setting) (history : History) (p : Slots) (at : ℕ) (area : Area) (t : ℕ) : Type 0
+  where
+    pub stands : AreHeld (code_of s.program.pages) at (add_block p)
+    pub slots : AreSlots p
+    pub some_table : p.table ≢ 0
+    pub low_table : p.table < 0x7FFFF800
+    pub aligned : at % 4 ≡ 0
+    pub low : at < 2 ^ 37
+    pub low_area : area.at + 32 ≤ 2 ^ 38
+    pub used : AreAddUsed s p at area t history
+    pub processor : ProcessorKept s t area history
+    pub few : s.limits.harts ≤ 8
+    pub uses : AreUsed s (placed_add p at area) t history

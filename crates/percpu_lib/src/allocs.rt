@@ -1,0 +1,65 @@
+//! The block that takes an item out of the pool of its processor (own).
+
+ghost use Rattle.std.specs.Prelude.{◌≡◌, ◌↔◌, ◌+◌, ◌^◌, ◌<◌, ℕ, Ok, Err, OnOk, take};
+ghost use Rattle.percpu_lib.specs.Allocs.{alloc_lines};
+ghost use Rattle.percpu_lib.specs.Lines.{AreEmitted, HasRoom};
+ghost use Rattle.percpu_lib.specs.Words.{AreSlots};
+
+use crate::block_lines::{block_lines, inst};
+use crate::fault::EmitFault;
+use crate::lines::{Line, emit_lines};
+use crate::room::{has_room, lower_part, upper_part};
+use crate::slots::Slots;
+use rv_asm::Asm;
+use rv_inst::Inst;
+use std::alloc::Global;
+
+/// The lines of a block that takes the last item out of the pool of its processor.
+fn lines_of_alloc(base: u32, slots: Slots) -> [Line; 24]
+    requires slots { AreSlots slots }
+    requires low { slots.table < 0x7FFFF800 }
+    requires fits { base + 8 < 2 ^ 32 }
+    ensures { result ≡ alloc_lines slots base }
+{
+    block_lines!(
+        base,
+        slots,
+        first [],
+        shift 13,
+        inside [
+            inst!(Ld rd = 6, rs1 = 5, imm = 0),
+            inst!(Addi rd = slots.value, rs1 = 0, imm = 0),
+            Line::Branch(Inst::Beq { rs1: 6, rs2: 0, imm: 0 }, base + 2),
+            inst!(Addi rd = 6, rs1 = 6, imm = -1),
+            inst!(Slli rd = 7, rs1 = 6, shamt = 3),
+            inst!(Add rd = 7, rs1 = 7, rs2 = 5),
+            inst!(Ld rd = slots.value, rs1 = 7, imm = 64),
+            inst!(Sd rs1 = 5, rs2 = 6, imm = 0)
+        ],
+        aborted []
+    )
+}
+
+/// Appends a block that takes the last item out of the pool of its processor into the value, which is 0 where
+/// there is none.
+///
+/// Labels: `base` is the retry label, `base + 1` the start, `base + 2` the post-commit address, `base + 3` the
+/// abort address, and `base + 4` stands behind the block; `base + 5` to `base + 7` stay free. `Room` exactly
+/// where one of the eight isn't free, and then nothing changes. `NoMemory` leaves the lines that were appended
+/// before.
+pub fn emit_alloc(_alloc: Global, asm: &mut Asm, base: u32, slots: &Slots) -> Result<(), EmitFault>
+    requires slots { AreSlots slots.now }
+    requires low { slots.now.table < 0x7FFFF800 }
+    ensures room { (result ≡ Err EmitFault.Room) ↔ (HasRoom asm.old.labels base → ⊥) }
+    ensures refused { result ≡ Err EmitFault.Room → asm.new ≡ asm.old }
+    ensures ok { OnOk result (AreEmitted (alloc_lines slots.now base) asm.old asm.new) }
+    ensures memory { result ≡ Err EmitFault.NoMemory
+        → (n : ℕ) × AreEmitted (take n (alloc_lines slots.now base)) asm.old asm.new }
+{
+    if !has_room(asm, base) {
+        return Err(EmitFault::Room);
+    }
+    let lines = lines_of_alloc(base, *slots);
+    emit_lines(asm, &lines)?;
+    Ok(())
+}

@@ -1,0 +1,30 @@
+//! Code that works on data of its processor inside a restartable sequence (rseq(2)): emitted into an assembler,
+//! with what it does in any run as a theorem.
+//!
+//! A block asks the thread's area for the processor, stores the address of its descriptor in the area, and starts
+//! its sequence: it asks for the processor once more, and begins anew where that has changed. Its last
+//! instruction inside is the store that commits. An abort, or a change of the processor, leads back to its first
+//! word.
+#![tactic(auto)]
+
+mod adds;
+mod allocs;
+mod block_lines;
+mod fault;
+mod frees;
+mod lines;
+mod pops;
+mod pushes;
+mod room;
+mod slots;
+mod theorems;
+
+pub use adds::emit_add;
+pub use allocs::emit_alloc;
+pub use fault::EmitFault;
+pub use frees::emit_free;
+pub use lines::{Line, emit_lines};
+pub use pops::emit_pop;
+pub use pushes::emit_push;
+pub use slots::Slots;
+pub use theorems::{add_keeps_registers, adds_once_or_not_at_all, labels_of_blocks_are_bound};

@@ -1,0 +1,56 @@
+//! Laws of blocks in runs, each as the contract of a function that does nothing.
+
+ghost use Rattle.std.specs.Prelude.{ℕ, List, [], ◌∷◌, ◌++◌, Some, true, false, ◌+◌, ◌≡◌, ◌≢◌};
+ghost use Rattle.mach_types.specs.Registers.{register};
+ghost use Rattle.mach_types.specs.declared.events.Entry.{Entry};
+ghost use Rattle.mach_types.specs.declared.events.Kind.TheVariants as kind;
+ghost use Rattle.mach_types.specs.declared.sequences.Area.{Area};
+ghost use Rattle.block_model.specs.Acts.{Sequence, sequence_on};
+ghost use Rattle.block_model.specs.Deciding.{history};
+ghost use Rattle.block_model.specs.History.{file, running};
+ghost use Rattle.block_model.specs.Run.{IsBlockRun};
+ghost use Rattle.block_model.specs.Setting.{Setting};
+ghost use Rattle.alone.specs.Temps.{is_scratch};
+ghost use Rattle.alone_laws.specs.Entering.{IsIn};
+ghost use Rattle.alone_laws.specs.Uses.{in_block};
+ghost use Rattle.rv_asm.specs.Assembly.{Assembly};
+ghost use Rattle.percpu_lib.specs.Adds.{IsNoAdd, IsWholeAdd, add_range, placed_add};
+ghost use Rattle.percpu_lib.specs.BlockLines.{HasNoLabel, IsLabelled, block_lines};
+ghost use Rattle.percpu_lib.specs.Lines.{AreEmitted, HasRoom};
+ghost use Rattle.percpu_lib.specs.Uses.{HoldsAdd, cells_of};
+ghost use Rattle.percpu_lib.specs.declared.lines.Line.{Line};
+ghost use Rattle.percpu_lib.specs.declared.slots.Slots.{Slots};
+
+/// In a block run a restartable sequence of an add block adds once, where its thread is at the post-commit address
+/// after it, and else changes nothing but registers that a block may change.
+pub fn adds_once_or_not_at_all()
+    ensures whole { (s : Setting) (log : List Entry) (p : Slots) (at : ℕ) (area : Area) (h : ℕ) (q : Sequence)
+        → IsBlockRun s log → HoldsAdd s (history s log) p at area q.thread
+        → sequence_on s h (history s log) ≡ Some q → IsIn s (add_range at) q.thread q.begun
+        → (file s q.thread q.reached).pc ≡ at + 44
+        → IsWholeAdd s p (cells_of s p q.thread q.begun) h q.thread q.begun q.reached }
+    ensures not_whole { (s : Setting) (log : List Entry) (p : Slots) (at : ℕ) (area : Area) (h : ℕ) (q : Sequence)
+        → IsBlockRun s log → HoldsAdd s (history s log) p at area q.thread
+        → sequence_on s h (history s log) ≡ Some q → IsIn s (add_range at) q.thread q.begun
+        → (file s q.thread q.reached).pc ≢ at + 44
+        → IsNoAdd s (cells_of s p q.thread q.begun) h q.thread q.begun q.reached }
+{}
+
+/// In a block run an instruction of an add block changes no register but those that a block may change, whether or not
+/// a sequence is open.
+pub fn add_keeps_registers()
+    ensures { (s : Setting) (log : List Entry) (entry : Entry) (p : Slots) (at : ℕ) (area : Area) (t r : ℕ)
+        → IsBlockRun s (log ++ entry ∷ []) → HoldsAdd s (history s (log ++ entry ∷ [])) p at area t
+        → entry.kind ≡ kind.Exec → running s entry.hart.0 (history s log) ≡ Some t
+        → in_block (placed_add p at area) (file s t (history s log)).pc ≡ true → is_scratch r ≡ false
+        → register (file s t (history s (log ++ entry ∷ []))).file r ≡ register (file s t (history s log)).file r }
+{}
+
+/// Once the lines of a block were appended where its labels were free, they are bound: the retry label, the start, the
+/// post-commit address, the abort address and the word after the block; and from the post-commit address one jump
+/// leads to that word.
+pub fn labels_of_blocks_are_bound()
+    ensures { (p : Slots) (base shift : ℕ) (first inside aborted : List Line) (a b : Assembly)
+        → AreEmitted (block_lines p base shift first inside aborted) a b → HasRoom a.labels base
+        → HasNoLabel first → HasNoLabel inside → HasNoLabel aborted → IsLabelled base b }
+{}
