@@ -1,6 +1,7 @@
--- A worked log, by computation: a thread registers its area and adds 32 to the cell of its processor, in a
--- sequence of an add block. It uses the block as HoldsAdd asks.
-use Rattle.std.proofs.Common.{◌≡◌, ℕ, suc, zero, ◌+◌, ◌*◌, ◌^◌, ◌<◌, ◌≤◌, List, [], ◌∷◌, ◌++◌, replicate, take, refl, sym, ap, ◌∙◌}
+-- A worked log, by computation: a thread registers its area and is to add 32 to the cell of its processor by an
+-- add block. It is preempted inside, begins anew at the abort handler, and adds once. It uses the block as
+-- HoldsAdd asks.
+use Rattle.std.proofs.Common.{◌≡◌, ℕ, suc, zero, ◌+◌, ◌*◌, ◌^◌, ◌<◌, ◌≤◌, List, [], ◌∷◌, ◌++◌, replicate, take, refl, ap, ◌∙◌}
 use Rattle.std.proofs.Common.{subst, arith, true, Option, Some, None, Ok, slice_get, unwrap_or}
 use Rattle.std.proofs.lemmas.Bool.{eqb-false, leb-true, ltb-true}
 use Rattle.mach_types.specs.Kernel.Areas.{are_readable, is_inside, number_at}
@@ -24,7 +25,6 @@ use Rattle.block_model.proofs.Laws.{played_is_run}
 use Rattle.alone_laws.specs.Spans.{code_of}
 use Rattle.percpu_lib.specs.Adds.{add_block, add_range, cell_seen}
 use Rattle.percpu_lib.specs.Uses.{HoldsAdd, cells_of}
-use Rattle.percpu_lib.specs.Words.{AreHeld}
 use Rattle.percpu_lib.specs.declared.slots.Slots.{Slots}
 use Rattle.percpu_lib.proofs.UseTests.{all_used, are_fine}
 
@@ -63,15 +63,20 @@ at = 0x100D0
 abbrev pub area : Area
 area = record { at = 0x20000; sig = 0xF1401073 }
 
--- the thread runs, and executes the first eight instructions, the first six words of the block, whose store
--- then enters memory, and five more words
+-- the thread runs, and executes the first eight instructions and the first six words of the block, whose store
+-- then enters memory. It is preempted and runs again; it executes the jump at the abort handler, the first six
+-- words once more, whose store enters memory, and five more words
 abbrev line : Choice → Ask
 line choice = record { hart = record { 0 = 0 }; choice = choice; check = None }
 
 abbrev lines : List Ask
 lines =
     line (asked.Run (record { 0 = 1 }))
-    ∷ (replicate 14 (line asked.Exec) ++ (line asked.Drain ∷ replicate 5 (line asked.Exec)))
+    ∷ (replicate 14 (line asked.Exec)
+    ++ (line asked.Drain
+    ∷ line asked.Preempt
+    ∷ line (asked.Run (record { 0 = 1 }))
+    ∷ (replicate 7 (line asked.Exec) ++ (line asked.Drain ∷ replicate 5 (line asked.Exec)))))
 
 abbrev entry : Kind → ℕ → Entry
 entry k pc = record { hart = record { 0 = 0 }; kind = k; tid = record { 0 = 1 }; pc = pc }
@@ -94,6 +99,16 @@ log =
     ∷ entry kind.Exec 0x100E0
     ∷ entry kind.Exec 0x100E4
     ∷ entry kind.Drain 0x100E8
+    ∷ entry kind.Preempt 0x100E8
+    ∷ entry kind.Run 0x100E8
+    ∷ entry kind.Exec 0x10104
+    ∷ entry kind.Exec 0x100D0
+    ∷ entry kind.Exec 0x100D4
+    ∷ entry kind.Exec 0x100D8
+    ∷ entry kind.Exec 0x100DC
+    ∷ entry kind.Exec 0x100E0
+    ∷ entry kind.Exec 0x100E4
+    ∷ entry kind.Drain 0x100E8
     ∷ entry kind.Exec 0x100E8
     ∷ entry kind.Exec 0x100EC
     ∷ entry kind.Exec 0x100F0
@@ -107,13 +122,13 @@ is_played = refl
 pub is_run : IsBlockRun adding log
 is_run = (played_is_run adding lines log is_played).0
 
--- its sequence, from the place before its first instruction on
+-- its second sequence, from the place before its first instruction on
 abbrev pub sequence : Sequence
 sequence = record {
   hart = 0;
   thread = 1;
-  begun = history adding (take 13 log);
-  last_instruction = history adding (take 20 log);
+  begun = history adding (take 23 log);
+  last_instruction = history adding (take 30 log);
   reached = history adding log;
 }
 

@@ -1,5 +1,5 @@
 -- Code that was finished holds the instructions of an add block where its lines were appended.
-use Rattle.std.proofs.Common.{◌≡◌, ℕ, zero, suc, ◌+◌, List, [], ◌∷◌, ◌++◌, length, slice_get, refl, sym, ap, ◌∙◌}
+use Rattle.std.proofs.Common.{◌≡◌, ℕ, zero, suc, ◌+◌, List, [], ◌∷◌, ◌++◌, length, slice_get, refl, ap, ◌∙◌}
 use Rattle.std.proofs.Common.{arith, subst, Option, Some, None, length-append}
 use Rattle.rv_asm.specs.Assembly.{AreAssembled, Assembly, index_of}
 use Rattle.rv_asm.specs.declared.item.Item.{Item}

@@ -2,16 +2,16 @@
 -- should: what HoldsAdd asks of each event, by computation. They ask for more than it does.
 use Rattle.std.proofs.Common.{◌≡◌, ◌≢◌, ℕ, zero, suc, ◌+◌, ◌<◌, ◌≤◌, ◌%◌, ◌^◌, List, [], ◌∷◌, refl, sym, ap}
 use Rattle.std.proofs.Common.{◌∙◌, arith, subst, Bool, true, false, not, ◌&&◌, ◌||◌, ◌⊎◌, inl, inr, ⊎_elim, cond}
-use Rattle.std.proofs.Common.{eqb, leb, ltb, Option, Some, None, is_some}
+use Rattle.std.proofs.Common.{eqb, leb, Option, Some, None}
 use Rattle.std.specs.Option.{option_map_or}
 use Rattle.std.proofs.lemmas.Bool.Decides.{nat_tests}
 use Rattle.mach_types.proofs.Laws.{eqb_same}
-use Rattle.std.proofs.lemmas.Bool.{and_from, and_parts, cases_eq, eqb-true, eqb-false, false≢true, leb-true, ltb-true}
-use Rattle.mach_types.specs.Bytes.{byte_over, covers, each_byte, overlay, written}
+use Rattle.std.proofs.lemmas.Bool.{and_from, and_parts, cases_eq, eqb-true, false≢true, leb-true}
+use Rattle.mach_types.specs.Bytes.{byte_over, each_byte, overlay, written}
 use Rattle.mach_types.specs.Kernel.Areas.{area_of, can_read_area, can_read_descriptor, descriptor_at}
 use Rattle.mach_types.specs.Kernel.Areas.{has_flags, is_inside, is_signed, sequence_of}
 use Rattle.mach_types.specs.Kernel.Pages.{can_read, can_write, permission_at}
-use Rattle.mach_types.specs.Kernel.Threads.{is_live}
+use Rattle.mach_types.specs.Kernel.Threads.{is_live, is_ready}
 use Rattle.mach_types.specs.Registers.{register}
 use Rattle.mach_types.specs.declared.events.Kind.{Kind}
 use Rattle.mach_types.specs.declared.events.Kind.TheVariants as kind
@@ -20,19 +20,18 @@ use Rattle.mach_types.specs.declared.sequences.Seq.{Seq}
 use Rattle.mach_types.specs.declared.user_memory.Store.{Store}
 use Rattle.mach_types.specs.declared.user_memory.Write.{Write}
 use Rattle.block_model.specs.Acts.{Sequence, is_inside_at, is_instruction, sequence_on, taken_up}
-use Rattle.block_model.specs.Here.{view}
+use Rattle.block_model.specs.Here.{memory, view}
 use Rattle.block_model.specs.History.{Event, History, file, here_in_history, kernel, running}
-use Rattle.block_model.specs.Record.{Kernel}
 use Rattle.block_model.specs.Run.{IsRunHistory}
 use Rattle.block_model.specs.Setting.{Setting}
-use Rattle.block_model.proofs.Laws.{IsStep, one_hart, step_of}
+use Rattle.block_model.proofs.Laws.{IsStep, not_ready, one_hart, step_of}
 use Rattle.alone_laws.specs.Areas.{LeavesProcessor, ProcessorKept}
-use Rattle.alone_laws.specs.Blocks.{IsFair, IsOpen, among}
-use Rattle.alone_laws.specs.Spans.{IsUsable, Leaves}
-use Rattle.alone_laws.specs.Uses.{AreUsed, Arrives, HasItsArea, IsDescribed, IsUsed, LeavesPointer, in_block}
-use Rattle.alone_laws.specs.Uses.{DeliversNone, at_first, executed, stayed}
+use Rattle.alone_laws.specs.Blocks.{IsFair, among}
+use Rattle.alone_laws.specs.Spans.{Leaves}
+use Rattle.alone_laws.specs.Uses.{AreUsed, Arrives, IsDescribed, IsUsed, in_block}
+use Rattle.alone_laws.specs.Uses.{DeliversNone, at_first, executed, interrupted, stayed}
 use Rattle.alone_laws.proofs.StoredWords.{among_low}
-use Rattle.percpu_lib.specs.Adds.{AreApart, IsAddBegin, add_bytes, add_of, add_range, cell_at, placed_add}
+use Rattle.percpu_lib.specs.Adds.{AreApart, IsAddBegin, add_of, add_range, cell_at, placed_add}
 use Rattle.percpu_lib.specs.Uses.{AreAddUsed, IsAddUsed, IsAtStart, cells_of}
 use Rattle.percpu_lib.specs.declared.slots.Slots.{Slots}
 
@@ -85,6 +84,33 @@ drain_is kind.Done is = absurd (false≢true is)
 drain_is kind.Preempt is = absurd (false≢true is)
 drain_is kind.Run is = absurd (false≢true is)
 drain_is kind.Signal is = absurd (false≢true is)
+
+abbrev is_signal : Kind → Bool
+is_signal kind.Exec = false
+is_signal kind.Drain = false
+is_signal kind.Take = false
+is_signal kind.Done = false
+is_signal kind.Preempt = false
+is_signal kind.Run = false
+is_signal kind.Signal = true
+
+abbrev is_run : Kind → Bool
+is_run kind.Exec = false
+is_run kind.Drain = false
+is_run kind.Take = false
+is_run kind.Done = false
+is_run kind.Preempt = false
+is_run kind.Run = true
+is_run kind.Signal = false
+
+run_is : (k : Kind) → is_run k ≡ true → k ≡ kind.Run
+run_is kind.Exec is = absurd (false≢true is)
+run_is kind.Drain is = absurd (false≢true is)
+run_is kind.Take is = absurd (false≢true is)
+run_is kind.Done is = absurd (false≢true is)
+run_is kind.Preempt is = absurd (false≢true is)
+run_is kind.Run is = refl
+run_is kind.Signal is = absurd (false≢true is)
 
 instruction_is : (k : Kind) → is_instruction k ≡ true → k ≡ kind.Exec
 instruction_is kind.Exec is = refl
@@ -208,48 +234,58 @@ module _ (s : Setting) (p : Slots) (at : ℕ) (area : Area) (t : ℕ) where
   is_apart cells = leb (cell_at cells 0 + 8) (2 ^ 64)
       && (leb (cell_at cells 0 + 8) area.at || leb (area.at + 32) (cell_at cells 0))
 
-  -- the thread comes to a word of the block at its first, by another word that it executes, or by staying where
-  -- it is as a store enters memory
+  -- the thread comes to a word of the block at its first, by another word that it executes, or, where no signal is
+  -- delivered, by staying or by an interruption inside
   abbrev by_word : Event → History → Bool
   by_word e before = runs_there before && (is_instruction e.entry.kind && in_words (file s t before).pc)
 
-  abbrev by_drain : Event → History → Bool
-  by_drain e before =
-      is_drain e.entry.kind
-      && (is_live t (kernel s before).threads && eqb (file s t (e ∷ before)).pc (file s t before).pc)
+  abbrev by_staying : Event → History → Bool
+  by_staying e before =
+      not (is_signal e.entry.kind)
+      && (is_live t (kernel s before).threads && (eqb (file s t (e ∷ before)).pc (file s t before).pc
+      || in_sequence (file s t before).pc))
 
   abbrev comes : Event → History → Bool
   comes e before =
       eqb (file s t (e ∷ before)).pc at
-      || (by_word e before || by_drain e before)
+      || (by_word e before || by_staying e before)
 
   abbrev is_entered : Event → History → Bool
   is_entered e before = implies (in_words (file s t (e ∷ before)).pc) (comes e before)
 
-  -- where it is at one its register holds the area; and inside the area is its own, and nothing stores to its
-  -- pointer
+  -- where it is at one its register holds the area; and inside the area is its own, its descriptor stands, and
+  -- nothing stores to its pointer. It runs there, or is ready and begins to run
   abbrev is_held : History → Bool
   is_held before =
       implies (in_words (file s t before).pc) (eqb (register (file s t before).file p.area) area.at)
 
+  abbrev begins_to_run : Event → History → Bool
+  begins_to_run e before =
+      is_ready t (kernel s before).threads && (is_run e.entry.kind && eqb e.entry.tid.0 t)
+
+  abbrev on_hart_0 : History → Bool
+  on_hart_0 before = runs_there before && is_described (view (here_in_history s before 0))
+
+  abbrev off_harts : Event → History → Bool
+  off_harts e before = begins_to_run e before && is_described (memory (here_in_history s before 0))
+
   abbrev goes_on : Event → History → Bool
   goes_on e before =
-      runs_there before
+      (on_hart_0 before || off_harts e before)
       && (has_area before
       && (are_usable before (area.at + 8) 8
-      && (is_described (view (here_in_history s before 0))
       && (are_beside (area.at + 8) 8 e.done.executed
-      && implies (is_instruction e.entry.kind) (is_empty e.done.entered)))))
+      && implies (is_instruction e.entry.kind) (is_empty e.done.entered))))
 
   abbrev is_kept : Event → History → Bool
   is_kept e before = implies (in_sequence (file s t before).pc) (goes_on e before)
 
-  -- from the registration on the thread runs there, and nothing but a store that enters memory writes the
-  -- processor's words
+  -- from the registration on nothing stores to the processor's words, and nothing but a store that enters memory
+  -- or the thread's beginning to run writes them
   abbrev leaves_words : Event → History → Bool
   leaves_words e before =
-      runs_there before
-      && (are_beside area.at 8 e.done.executed && (is_drain e.entry.kind || is_empty e.done.entered))
+      are_beside area.at 8 e.done.executed
+      && ((runs_there before && (is_drain e.entry.kind || is_empty e.done.entered)) || begins_to_run e before)
 
   abbrev is_told : Event → History → Bool
   is_told e before = implies (has_area before) (leaves_words e before)
@@ -366,42 +402,83 @@ module _ (s : Setting) (p : Slots) (at : ℕ) (area : Area) (t : ℕ) where
 
     arrives : in_words (file s t (e ∷ before)).pc ≡ true → Arrives s (placed_add p at area) t e before
     arrives here =
-        by_way (either (eqb (file s t (e ∷ before)).pc at) (by_word e before || by_drain e before)
+        by_way (either (eqb (file s t (e ∷ before)).pc at) (by_word e before || by_staying e before)
         (follows (in_words (file s t (e ∷ before)).pc) (comes e before) entered_is here))
       where
-        no_signal : is_drain e.entry.kind ≡ true → DeliversNone s t e before
-        no_signal drains signal = absurd (false≢true (sym (ap is_drain signal) ∙ drains))
+        no_signal : not (is_signal e.entry.kind) ≡ true → DeliversNone s t e before
+        no_signal other signal = absurd (false≢true (sym (ap (λ k. not (is_signal k)) signal) ∙ other))
 
-        by_event : (by_word e before ≡ true) ⊎ (by_drain e before ≡ true)
+        by_place : is_live t (kernel s before).threads ≡ true → DeliversNone s t e before
+            → (eqb (file s t (e ∷ before)).pc (file s t before).pc ≡ true)
+            ⊎ (in_sequence (file s t before).pc ≡ true) → Arrives s (placed_add p at area) t e before
+        by_place live none (inl same) =
+            stayed live none (eqb-true (file s t (e ∷ before)).pc (file s t before).pc same)
+        by_place live none (inr inside) = interrupted live none inside
+
+        by_event : (by_word e before ≡ true) ⊎ (by_staying e before ≡ true)
             → Arrives s (placed_add p at area) t e before
         by_event (inl word) =
             let one = and_parts (runs_there before) _ word in
             let two = and_parts (is_instruction e.entry.kind) (in_words (file s t before).pc) one.1 in
             executed (on_own one.0) (instruction_is e.entry.kind two.0) two.1
-        by_event (inr drain) =
-            let one = and_parts (is_drain e.entry.kind) _ drain in
+        by_event (inr stays) =
+            let one = and_parts (not (is_signal e.entry.kind)) _ stays in
             let two = and_parts (is_live t (kernel s before).threads)
-            (eqb (file s t (e ∷ before)).pc (file s t before).pc) one.1 in
-            stayed two.0 (no_signal one.0) (eqb-true (file s t (e ∷ before)).pc (file s t before).pc two.1)
+            (eqb (file s t (e ∷ before)).pc (file s t before).pc || in_sequence (file s t before).pc) one.1 in
+            by_place two.0 (no_signal one.0)
+            (either (eqb (file s t (e ∷ before)).pc (file s t before).pc) (in_sequence (file s t before).pc)
+            two.1)
 
-        by_way : (eqb (file s t (e ∷ before)).pc at ≡ true) ⊎ (by_word e before || by_drain e before ≡ true)
+        by_way : (eqb (file s t (e ∷ before)).pc at ≡ true) ⊎ (by_word e before || by_staying e before ≡ true)
             → Arrives s (placed_add p at area) t e before
         by_way (inl first) = at_first (eqb-true (file s t (e ∷ before)).pc at first)
-        by_way (inr moved) = by_event (either (by_word e before) (by_drain e before) moved)
+        by_way (inr moved) = by_event (either (by_word e before) (by_staying e before) moved)
 
-    keeps : in_sequence (file s t before).pc ≡ true → (runs_there before ≡ true) × (has_area before ≡ true)
+    -- a thread that begins to run runs nowhere before
+    not_both : begins_to_run e before ≡ true → (h : ℕ) → running s h before ≡ Some t → ⊥
+    not_both begins h runs =
+        false≢true (sym (not_ready s e before step h t runs)
+        ∙ (and_parts (is_ready t (kernel s before).threads) _ begins).0)
+
+    not_named : begins_to_run e before ≡ true → (e.entry.kind ≡ kind.Run → e.entry.tid.0 ≢ t) → ⊥
+    not_named begins other =
+        let parts = and_parts (is_run e.entry.kind) (eqb e.entry.tid.0 t)
+        (and_parts (is_ready t (kernel s before).threads) _ begins).1 in
+        other (run_is e.entry.kind parts.0) (eqb-true e.entry.tid.0 t parts.1)
+
+    abbrev Stands : Type 0
+    Stands = (on_hart_0 before ≡ true) ⊎ (off_harts e before ≡ true)
+
+    keeps : in_sequence (file s t before).pc ≡ true → Stands × (has_area before ≡ true)
         × (are_usable before (area.at + 8) 8 ≡ true)
-        × (is_described (view (here_in_history s before 0)) ≡ true)
         × (are_beside (area.at + 8) 8 e.done.executed ≡ true)
         × (implies (is_instruction e.entry.kind) (is_empty e.done.entered) ≡ true)
     keeps inside =
-        let one = and_parts (runs_there before) _
+        let one = and_parts (on_hart_0 before || off_harts e before) _
         (follows (in_sequence (file s t before).pc) (goes_on e before) kept_is inside) in
         let two = and_parts (has_area before) _ one.1 in
         let three = and_parts (are_usable before (area.at + 8) 8) _ two.1 in
-        let four = and_parts (is_described (view (here_in_history s before 0))) _ three.1 in
-        let five = and_parts (are_beside (area.at + 8) 8 e.done.executed) _ four.1 in
-        (one.0, two.0, three.0, four.0, five.0, five.1)
+        let four = and_parts (are_beside (area.at + 8) 8 e.done.executed) _ three.1 in
+        (either (on_hart_0 before) (off_harts e before) one.0, two.0, three.0, four.0, four.1)
+
+    described_on : Stands → (h : ℕ) → running s h before ≡ Some t
+        → IsDescribed (view (here_in_history s before h)) (placed_add p at area)
+    described_on (inl on) h runs =
+        let parts = and_parts (runs_there before) _ on in
+        subst (λ n. IsDescribed (view (here_in_history s before n)) (placed_add p at area))
+        (only_hart parts.0 h runs) (described (view (here_in_history s before 0)) parts.1)
+    described_on (inr off) h runs = absurd (not_both (and_parts (begins_to_run e before) _ off).0 h runs)
+
+    described_off : Stands → ((h : ℕ) → running s h before ≢ Some t) → (h : ℕ)
+        → IsDescribed (memory (here_in_history s before h)) (placed_add p at area)
+    described_off (inl on) never h = absurd (never 0 (there (and_parts (runs_there before) _ on).0))
+    described_off (inr off) never h =
+        described (memory (here_in_history s before 0)) (and_parts (begins_to_run e before) _ off).1
+
+    no_other : Stands → running s e.entry.hart.0 before ≢ Some t → (e.entry.kind ≡ kind.Run → e.entry.tid.0 ≢ t)
+        → ⊥
+    no_other (inl on) elsewhere begins = elsewhere (on_own (and_parts (runs_there before) _ on).0)
+    no_other (inr off) elsewhere begins = not_named (and_parts (begins_to_run e before) _ off).0 begins
 
     used : IsUsed s (placed_add p at area) t e before
     used = record {
@@ -418,19 +495,17 @@ module _ (s : Setting) (p : Slots) (at : ℕ) (area : Area) (t : ℕ) where
               read = reads_are before (area.at + 8) 8 k.2;
               write = writes_are before (area.at + 8) 8 k.2;
             };
-            on_hart = λ h runs.
-                subst (λ n. IsDescribed (view (here_in_history s before n)) (placed_add p at area))
-                (only_hart k.0 h runs) (described (view (here_in_history s before 0)) k.3);
-            off_hart = λ never. absurd (never 0 (there k.0));
+            on_hart = described_on k.0;
+            off_hart = described_off k.0;
           };
       pointer = λ inside.
           let k = keeps inside in
           record {
-            others = λ elsewhere begins. absurd (elsewhere (on_own k.0));
+            others = λ elsewhere begins. absurd (no_other k.0 elsewhere begins);
             own = λ runs is.
                 leaves_all (among (area.at + 8) 8) e.done.entered
-                (follows (is_instruction e.entry.kind) (is_empty e.done.entered) k.5 (ap is_instruction is));
-            stores = λ runs a c has. overlay_beside (area.at + 8) 8 e.done.executed k.4 a c has;
+                (follows (is_instruction e.entry.kind) (is_empty e.done.entered) k.4 (ap is_instruction is));
+            stores = λ runs a c has. overlay_beside (area.at + 8) 8 e.done.executed k.3 a c has;
           };
     }
 
@@ -441,13 +516,23 @@ module _ (s : Setting) (p : Slots) (at : ℕ) (area : Area) (t : ℕ) where
         ap (λ (o : Option Area). option_map_or is_area o false) is
         ∙ and_from (eqb area.at area.at) (eqb area.sig area.sig) (eqb_same area.at) (eqb_same area.sig)
 
-    tells : has_area before ≡ true → (runs_there before ≡ true) × (are_beside area.at 8 e.done.executed ≡ true)
-        × (is_drain e.entry.kind || is_empty e.done.entered ≡ true)
+    abbrev Tells : Type 0
+    Tells = (runs_there before && (is_drain e.entry.kind || is_empty e.done.entered) ≡ true)
+        ⊎ (begins_to_run e before ≡ true)
+
+    tells : has_area before ≡ true → (are_beside area.at 8 e.done.executed ≡ true) × Tells
     tells had =
-        let one = and_parts (runs_there before) _
-        (follows (has_area before) (leaves_words e before) told_is had) in
-        let two = and_parts (are_beside area.at 8 e.done.executed) _ one.1 in
-        (one.0, two.0, two.1)
+        let one = and_parts (are_beside area.at 8 e.done.executed) _
+        (follows (has_area before) (leaves_words e before) told_is had) in (
+          one.0,
+          either (runs_there before && (is_drain e.entry.kind || is_empty e.done.entered))
+              (begins_to_run e before) one.1,
+        )
+
+    no_stranger : Tells → running s e.entry.hart.0 before ≢ Some t
+        → (e.entry.kind ≡ kind.Run → e.entry.tid.0 ≢ t) → ⊥
+    no_stranger (inl on) elsewhere begins = elsewhere (on_own (and_parts (runs_there before) _ on).0)
+    no_stranger (inr off) elsewhere begins = not_named off begins
 
     enters_none : e.entry.kind ≢ kind.Drain → is_drain e.entry.kind || is_empty e.done.entered ≡ true
         → Leaves (among area.at 8) e.done.entered
@@ -459,12 +544,17 @@ module _ (s : Setting) (p : Slots) (at : ℕ) (area : Area) (t : ℕ) where
         by_kind (inl drains) = absurd (other (drain_is e.entry.kind drains))
         by_kind (inr none) = leaves_all (among area.at 8) e.done.entered none
 
+    words_left : Tells → running s e.entry.hart.0 before ≡ Some t → e.entry.kind ≢ kind.Drain
+        → Leaves (among area.at 8) e.done.entered
+    words_left (inl on) runs other = enters_none other (and_parts (runs_there before) _ on).1
+    words_left (inr off) runs other = absurd (not_both off e.entry.hart.0 runs)
+
     processor_kept : LeavesProcessor s t area e before
     processor_kept = record {
-      others = λ had elsewhere begins. absurd (elsewhere (on_own (tells (registered_is had)).0));
-      own = λ runs had has other. enters_none other (tells (registered_is had)).2;
+      others = λ had elsewhere begins. absurd (no_stranger (tells (registered_is had)).1 elsewhere begins);
+      own = λ runs had has other. words_left (tells (registered_is had)).1 runs other;
       stores = λ runs had a c inside.
-          overlay_beside area.at 8 e.done.executed (tells (registered_is had)).1 a c inside;
+          overlay_beside area.at 8 e.done.executed (tells (registered_is had)).0 a c inside;
     }
 
     -- THE DATA
