@@ -8,7 +8,7 @@ use Rattle.rv_inst.specs.Table.{row_of}
 use Rattle.rv_inst.specs.declared.instruction.Inst.{Inst}
 use Rattle.percpu_lib.specs.Adds.{add_block, add_lines, add_steps}
 use Rattle.percpu_lib.specs.BlockLines.{end_lines, leave_lines, start_lines}
-use Rattle.percpu_lib.specs.Lines.{AreEmitted, HasRoom, IsContinued, IsEmitted, instructions, with_item, with_label}
+use Rattle.percpu_lib.specs.Lines.{AreEmitted, HasRoom, IsContinued, IsEmitted, with_item, with_label}
 use Rattle.percpu_lib.specs.declared.lines.Line.{Line}
 use Rattle.percpu_lib.specs.declared.lines.Line.TheVariants as line
 use Rattle.percpu_lib.specs.declared.slots.Slots.{Slots}

@@ -7,7 +7,7 @@ use Rattle.std.specs.Option.{option_map_or}
 use Rattle.std.proofs.lemmas.Bool.Decides.{nat_tests}
 use Rattle.mach_types.proofs.Laws.{eqb_same}
 use Rattle.std.proofs.lemmas.Bool.{and_from, and_parts, cases_eq, eqb-true, false≢true, leb-true}
-use Rattle.mach_types.specs.Bytes.{byte_over, each_byte, overlay, written}
+use Rattle.mach_types.specs.Bytes.{byte_over, each_byte, overlay}
 use Rattle.mach_types.specs.Kernel.Areas.{area_of, can_read_area, can_read_descriptor, descriptor_at}
 use Rattle.mach_types.specs.Kernel.Areas.{has_flags, is_inside, is_signed, sequence_of}
 use Rattle.mach_types.specs.Kernel.Pages.{can_read, can_write, permission_at}
