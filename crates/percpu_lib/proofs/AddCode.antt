@@ -14,7 +14,7 @@ use Rattle.mach_types.specs.declared.sequences.Area.{Area}
 use Rattle.mach_types.specs.declared.threads.Saved.{Saved}
 use Rattle.rv_inst.specs.Class.{is_call}
 use Rattle.rv_inst.specs.Execution.{Outcome, outcome}
-use Rattle.rv_inst.specs.Meaning.{branch, go_to, jump, meaning}
+use Rattle.rv_inst.specs.Meaning.{branch, go_to, meaning}
 use Rattle.rv_inst.specs.Memory.{low_bytes}
 use Rattle.rv_inst.specs.Words.{sum_64, word}
 use Rattle.rv_inst.specs.declared.effects.Effect.{Effect}

@@ -44,7 +44,7 @@ label_other a n l other = by_free (is_free (slice_get a.labels n))
     by_free true = get_other a.labels n l (Some (length a.items)) other
     by_free false = refl
 
-label_own : (a : Assembly) (n : ℕ) → slice_get a.labels n ≡ Some None
+pub label_own : (a : Assembly) (n : ℕ) → slice_get a.labels n ≡ Some None
     → slice_get (with_label a n).labels n ≡ Some (Some (length a.items))
 label_own a n free =
     ap (λ o. slice_get (cond (is_free o) (record a { labels = set a.labels n (Some (length a.items)) })
@@ -87,7 +87,7 @@ no_label l (line.Plain i ∷ xs) none is = no_label l xs none is
 no_label l (line.Branch i n ∷ xs) none is = no_label l xs none is
 no_label l (line.Data w ∷ xs) none is = no_label l xs none is
 
-keeps : (xs : List Line) (a b : Assembly) (l i : ℕ) → IsEmitted xs a b → slice_get a.labels l ≡ Some (Some i)
+pub keeps : (xs : List Line) (a b : Assembly) (l i : ℕ) → IsEmitted xs a b → slice_get a.labels l ≡ Some (Some i)
     → slice_get b.labels l ≡ Some (Some i)
 keeps [] a b l i is bound = ap (λ (x : Assembly). slice_get x.labels l) is ∙ bound
 keeps (line.Label n ∷ xs) a b l i is bound = keeps xs (with_label a n) b l i is (label_keeps a n l i bound)
@@ -153,7 +153,7 @@ parts (line.Data w ∷ xs) ys a c is =
 
 -- BLOCKS
 
-index_is : (b : Assembly) (l : ℕ) (o : Option ℕ) → slice_get b.labels l ≡ Some o → index_of b.labels l ≡ o
+pub index_is : (b : Assembly) (l : ℕ) (o : Option ℕ) → slice_get b.labels l ≡ Some o → index_of b.labels l ≡ o
 index_is b l o is = ap (λ x. unwrap_or x None) is
 
 module _ (p : Slots) (base shift : ℕ) (first inside aborted : List Line) (a b : Assembly)

@@ -1,10 +1,13 @@
 pub mod AddCode
+pub mod AddExample
 pub mod AddLaw
 pub mod AddRegisters
+pub mod AddWords
 pub mod BlockWords
 pub mod CellPath
 pub mod Emittable
 pub mod Emitting
 pub mod HeldWords
 pub mod Labels
+pub mod UseTests
 pub mod UsesLaw

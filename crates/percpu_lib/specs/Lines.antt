@@ -43,6 +43,12 @@ IsEmitted (line.Data w ∷ rest) a b = IsEmitted rest (with_item a (item.Word w)
 pub record AreEmitted (lines : List Line) (a b : Assembly) : Type 0 where
   pub are : IsEmitted lines a b
 
+-- an assembler goes on from another: its words and branches come behind those, and what was bound is bound so
+pub record IsContinued (a b : Assembly) : Type 0 where
+  pub later : List Item
+  pub items : b.items ≡ a.items ++ later
+  pub labels : (n index : ℕ) → index_of a.labels n ≡ Some index → index_of b.labels n ≡ Some index
+
 -- eight labels from one on are free
 abbrev pub HasRoom : List (Option ℕ) → ℕ → Type 0
 HasRoom labels base = (k : ℕ) → k < 8 → slice_get labels (base + k) ≡ Some None

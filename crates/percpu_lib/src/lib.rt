@@ -27,4 +27,7 @@ pub use lines::{Line, emit_lines};
 pub use pops::emit_pop;
 pub use pushes::emit_push;
 pub use slots::Slots;
-pub use theorems::{add_keeps_registers, adds_once_or_not_at_all, labels_of_blocks_are_bound};
+pub use theorems::{
+    add_blocks_are_used, add_keeps_registers, adds_once_or_not_at_all, finished_code_holds_add,
+    labels_of_blocks_are_bound,
+};

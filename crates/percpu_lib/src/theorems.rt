@@ -1,6 +1,7 @@
 //! Laws of blocks in runs, each as the contract of a function that does nothing.
 
-ghost use Rattle.std.specs.Prelude.{ℕ, List, [], ◌∷◌, ◌++◌, Some, true, false, ◌+◌, ◌≡◌, ◌≢◌};
+ghost use Rattle.std.specs.Prelude.{ℕ, List, [], ◌∷◌, ◌++◌, Some, length, slice_get, true, false};
+ghost use Rattle.std.specs.Prelude.{◌+◌, ◌≡◌, ◌≢◌};
 ghost use Rattle.mach_types.specs.Registers.{register};
 ghost use Rattle.mach_types.specs.declared.events.Entry.{Entry};
 ghost use Rattle.mach_types.specs.declared.events.Kind.TheVariants as kind;
@@ -13,10 +14,12 @@ ghost use Rattle.block_model.specs.Setting.{Setting};
 ghost use Rattle.alone.specs.Temps.{is_scratch};
 ghost use Rattle.alone_laws.specs.Entering.{IsIn};
 ghost use Rattle.alone_laws.specs.Uses.{in_block};
-ghost use Rattle.rv_asm.specs.Assembly.{Assembly};
-ghost use Rattle.percpu_lib.specs.Adds.{IsNoAdd, IsWholeAdd, add_range, placed_add};
+ghost use Rattle.rv_asm.specs.Assembly.{AreAssembled, Assembly};
+ghost use Rattle.rv_inst.specs.Table.{row_of};
+ghost use Rattle.rv_inst.specs.declared.instruction.Inst.{Inst};
+ghost use Rattle.percpu_lib.specs.Adds.{IsNoAdd, IsWholeAdd, add_block, add_lines, add_range, cell_seen, placed_add};
 ghost use Rattle.percpu_lib.specs.BlockLines.{HasNoLabel, IsLabelled, block_lines};
-ghost use Rattle.percpu_lib.specs.Lines.{AreEmitted, HasRoom};
+ghost use Rattle.percpu_lib.specs.Lines.{AreEmitted, HasRoom, IsContinued};
 ghost use Rattle.percpu_lib.specs.Uses.{HoldsAdd, cells_of};
 ghost use Rattle.percpu_lib.specs.declared.lines.Line.{Line};
 ghost use Rattle.percpu_lib.specs.declared.slots.Slots.{Slots};
@@ -53,4 +56,23 @@ pub fn labels_of_blocks_are_bound()
     ensures { (p : Slots) (base shift : ℕ) (first inside aborted : List Line) (a b : Assembly)
         → AreEmitted (block_lines p base shift first inside aborted) a b → HasRoom a.labels base
         → HasNoLabel first → HasNoLabel inside → HasNoLabel aborted → IsLabelled base b }
+{}
+
+/// Finished code holds an add block where its lines were appended, whatever was appended behind them: word k of the
+/// block is of instruction k of `add_block`.
+pub fn finished_code_holds_add()
+    ensures { (p : Slots) (base k w : ℕ) (a b c : Assembly) (bytes : List ℕ) (i : Inst) → HasRoom a.labels base
+        → AreEmitted (add_lines p base) a b → IsContinued b c → (code : AreAssembled c.labels c.items bytes)
+        → slice_get (add_block p) k ≡ Some (Some i) → slice_get code.words (length a.items + k) ≡ Some w
+        → row_of w ≡ Some i }
+{}
+
+/// What `HoldsAdd` asks can be met: there is a block run in which a thread uses an add block so, and comes to the
+/// post-commit address by a sequence of the block. The cell of its processor is 32 then.
+pub fn add_blocks_are_used()
+    ensures { (s : Setting) × (log : List Entry) × (p : Slots) × (at : ℕ) × (area : Area) × (h : ℕ) × (q : Sequence)
+        × IsBlockRun s log × HoldsAdd s (history s log) p at area q.thread
+        × (sequence_on s h (history s log) ≡ Some q) × IsIn s (add_range at) q.thread q.begun
+        × ((file s q.thread q.reached).pc ≡ at + 44)
+        × (cell_seen s h (cells_of s p q.thread q.begun) q.reached ≡ Some 32) }
 {}

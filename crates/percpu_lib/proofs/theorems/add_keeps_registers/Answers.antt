@@ -1,4 +1,4 @@
-use Rattle.std.proofs.Common.{ap, ◌∙◌, subst, ◌∷◌}
+use Rattle.std.proofs.Common.{ap, ◌∙◌, subst}
 use Rattle.mach_types.specs.Registers.{register}
 use Rattle.block_model.specs.Deciding.{event, history}
 use Rattle.block_model.specs.History.{Event, History, file}

@@ -1,0 +1,210 @@
+-- A worked log, by computation: a thread registers its area and is to add 32 to the cell of its processor by an
+-- add block. It is preempted inside, begins anew at the abort handler, and adds once. It uses the block as
+-- HoldsAdd asks.
+use Rattle.std.proofs.Common.{◌≡◌, ℕ, suc, zero, ◌+◌, ◌*◌, ◌^◌, ◌<◌, ◌≤◌, List, [], ◌∷◌, ◌++◌, replicate, take, refl, ap, ◌∙◌}
+use Rattle.std.proofs.Common.{subst, arith, true, Option, Some, None, Ok, slice_get, unwrap_or}
+use Rattle.std.proofs.lemmas.Bool.{eqb-false, leb-true, ltb-true}
+use Rattle.mach_types.specs.Kernel.Areas.{are_readable, is_inside, number_at}
+use Rattle.mach_types.specs.declared.events.Choice.{Choice}
+use Rattle.mach_types.specs.declared.events.Choice.TheVariants as asked
+use Rattle.mach_types.specs.declared.events.Entry.{Entry}
+use Rattle.mach_types.specs.declared.events.Kind.{Kind}
+use Rattle.mach_types.specs.declared.events.Kind.TheVariants as kind
+use Rattle.mach_types.specs.declared.sequences.Area.{Area}
+use Rattle.rv_inst.specs.Meaning.{meaning}
+use Rattle.rv_inst.specs.Table.{row_of, rows, lui_rows, auipc_rows, jal_rows, jalr_rows, branch_rows, load_rows, store_rows}
+use Rattle.rv_inst.specs.Table.{op_imm_rows, op_imm_32_rows, op_rows, op_32_rows, misc_mem_rows, amo_rows, system_rows}
+use Rattle.rv_inst.specs.declared.instruction.Inst.{Inst}
+use Rattle.block_model.specs.Acts.{Sequence, sequence_on}
+use Rattle.block_model.specs.Deciding.{decide, done, history}
+use Rattle.block_model.specs.History.{file}
+use Rattle.block_model.specs.Replay.{Ask, played}
+use Rattle.block_model.specs.Run.{IsBlockRun}
+use Rattle.block_model.specs.Setting.{Setting}
+use Rattle.block_model.proofs.Laws.{played_is_run}
+use Rattle.alone_laws.specs.Spans.{code_of}
+use Rattle.percpu_lib.specs.Adds.{add_block, add_range, cell_seen}
+use Rattle.percpu_lib.specs.Uses.{HoldsAdd, cells_of}
+use Rattle.percpu_lib.specs.declared.slots.Slots.{Slots}
+use Rattle.percpu_lib.proofs.UseTests.{all_used, are_fine}
+
+-- `lui x8, 0x20`, `addi x10, x8, 0`, `addi x11, x0, 32`, `lui x13, 0xF1401`, `addi x13, x13, 0x73`,
+-- `addi x17, x0, 293`, `ecall`, `addi x9, x8, 64`; from 0x100D0 on the block, and at 0x10120 its descriptor
+abbrev code : List ℕ
+code =
+    0x37 ∷ 0x04 ∷ 0x02 ∷ 0x00 ∷ 0x13 ∷ 0x05 ∷ 0x04 ∷ 0x00 ∷ 0x93 ∷ 0x05 ∷ 0x00 ∷ 0x02 ∷ 0xB7 ∷ 0x16 ∷ 0x40 ∷ 0xF1
+    ∷ 0x93 ∷ 0x86 ∷ 0x36 ∷ 0x07 ∷ 0x93 ∷ 0x08 ∷ 0x50 ∷ 0x12 ∷ 0x73 ∷ 0x00 ∷ 0x00 ∷ 0x00 ∷ 0x93 ∷ 0x04 ∷ 0x04 ∷ 0x04
+    ∷ 0x83 ∷ 0x22 ∷ 0x04 ∷ 0x00 ∷ 0x37 ∷ 0x03 ∷ 0x01 ∷ 0x00 ∷ 0x13 ∷ 0x03 ∷ 0x03 ∷ 0x12 ∷ 0x23 ∷ 0x34 ∷ 0x64 ∷ 0x00
+    ∷ 0x03 ∷ 0x23 ∷ 0x44 ∷ 0x00 ∷ 0xE3 ∷ 0x16 ∷ 0x53 ∷ 0xFE ∷ 0x93 ∷ 0x92 ∷ 0x62 ∷ 0x00 ∷ 0xB3 ∷ 0x82 ∷ 0x92 ∷ 0x00
+    ∷ 0x03 ∷ 0xB3 ∷ 0x02 ∷ 0x00 ∷ 0x33 ∷ 0x03 ∷ 0xB3 ∷ 0x00 ∷ 0x23 ∷ 0xB0 ∷ 0x62 ∷ 0x00 ∷ 0x6F ∷ 0x00 ∷ 0xC0 ∷ 0x00
+    ∷ 0x73 ∷ 0x10 ∷ 0x40 ∷ 0xF1 ∷ 0x6F ∷ 0xF0 ∷ 0xDF ∷ 0xFC ∷ 0x00 ∷ 0x00 ∷ 0x00 ∷ 0x00 ∷ 0x00 ∷ 0x00 ∷ 0x00 ∷ 0x00
+    ∷ 0x00 ∷ 0x00 ∷ 0x00 ∷ 0x00 ∷ 0x00 ∷ 0x00 ∷ 0x00 ∷ 0x00 ∷ 0x00 ∷ 0x00 ∷ 0x00 ∷ 0x00 ∷ 0x00 ∷ 0x00 ∷ 0x00 ∷ 0x00
+    ∷ 0x00 ∷ 0x00 ∷ 0x00 ∷ 0x00 ∷ 0x00 ∷ 0x00 ∷ 0x00 ∷ 0x00 ∷ 0xE0 ∷ 0x00 ∷ 0x01 ∷ 0x00 ∷ 0x00 ∷ 0x00 ∷ 0x00 ∷ 0x00
+    ∷ 0x1C ∷ 0x00 ∷ 0x00 ∷ 0x00 ∷ 0x00 ∷ 0x00 ∷ 0x00 ∷ 0x00 ∷ 0x04 ∷ 0x01 ∷ 0x01 ∷ 0x00 ∷ 0x00 ∷ 0x00 ∷ 0x00 ∷ 0x00 ∷ []
+
+abbrev pub adding : Setting
+adding = record {
+  program = record {
+    pages = record { number = 0x10; perm = 5; bytes = replicate 0xB0 0 ++ code } ∷ record { number = 0x20; perm = 6; bytes = [] } ∷ [];
+    entry = 0x100B0;
+    phdr = 0x10040;
+    phnum = 2;
+    break_at = 0x21000;
+  };
+  limits = record { harts = 1; frames = 128; steps = 200 };
+}
+
+abbrev pub slots : Slots
+slots = record { area = 8; cells = 9; value = 11; table = 0x10120 }
+
+abbrev pub at : ℕ
+at = 0x100D0
+
+abbrev pub area : Area
+area = record { at = 0x20000; sig = 0xF1401073 }
+
+-- the thread runs, and executes the first eight instructions and the first six words of the block, whose store
+-- then enters memory. It is preempted and runs again; it executes the jump at the abort handler, the first six
+-- words once more, whose store enters memory, and five more words
+abbrev line : Choice → Ask
+line choice = record { hart = record { 0 = 0 }; choice = choice; check = None }
+
+abbrev lines : List Ask
+lines =
+    line (asked.Run (record { 0 = 1 }))
+    ∷ (replicate 14 (line asked.Exec)
+    ++ (line asked.Drain
+    ∷ line asked.Preempt
+    ∷ line (asked.Run (record { 0 = 1 }))
+    ∷ (replicate 7 (line asked.Exec) ++ (line asked.Drain ∷ replicate 5 (line asked.Exec)))))
+
+abbrev entry : Kind → ℕ → Entry
+entry k pc = record { hart = record { 0 = 0 }; kind = k; tid = record { 0 = 1 }; pc = pc }
+
+abbrev pub log : List Entry
+log =
+    entry kind.Run 0x100B0
+    ∷ entry kind.Exec 0x100B0
+    ∷ entry kind.Exec 0x100B4
+    ∷ entry kind.Exec 0x100B8
+    ∷ entry kind.Exec 0x100BC
+    ∷ entry kind.Exec 0x100C0
+    ∷ entry kind.Exec 0x100C4
+    ∷ entry kind.Exec 0x100C8
+    ∷ entry kind.Exec 0x100CC
+    ∷ entry kind.Exec 0x100D0
+    ∷ entry kind.Exec 0x100D4
+    ∷ entry kind.Exec 0x100D8
+    ∷ entry kind.Exec 0x100DC
+    ∷ entry kind.Exec 0x100E0
+    ∷ entry kind.Exec 0x100E4
+    ∷ entry kind.Drain 0x100E8
+    ∷ entry kind.Preempt 0x100E8
+    ∷ entry kind.Run 0x100E8
+    ∷ entry kind.Exec 0x10104
+    ∷ entry kind.Exec 0x100D0
+    ∷ entry kind.Exec 0x100D4
+    ∷ entry kind.Exec 0x100D8
+    ∷ entry kind.Exec 0x100DC
+    ∷ entry kind.Exec 0x100E0
+    ∷ entry kind.Exec 0x100E4
+    ∷ entry kind.Drain 0x100E8
+    ∷ entry kind.Exec 0x100E8
+    ∷ entry kind.Exec 0x100EC
+    ∷ entry kind.Exec 0x100F0
+    ∷ entry kind.Exec 0x100F4
+    ∷ entry kind.Exec 0x100F8 ∷ []
+
+is_played : played adding lines ≡ Ok log
+unfolding played decide history done meaning row_of rows lui_rows auipc_rows jal_rows jalr_rows branch_rows load_rows store_rows op_imm_rows op_imm_32_rows op_rows op_32_rows misc_mem_rows amo_rows system_rows are_readable number_at
+is_played = refl
+
+pub is_run : IsBlockRun adding log
+is_run = (played_is_run adding lines log is_played).0
+
+-- its second sequence, from the place before its first instruction on
+abbrev pub sequence : Sequence
+sequence = record {
+  hart = 0;
+  thread = 1;
+  begun = history adding (take 23 log);
+  last_instruction = history adding (take 30 log);
+  reached = history adding log;
+}
+
+pub is_sequence : sequence_on adding 0 (history adding log) ≡ Some sequence
+unfolding decide history done meaning row_of rows lui_rows auipc_rows jal_rows jalr_rows branch_rows load_rows store_rows op_imm_rows op_imm_32_rows op_rows op_32_rows misc_mem_rows amo_rows system_rows are_readable number_at
+is_sequence = refl
+
+pub begins_inside : is_inside (add_range at) (file adding 1 sequence.begun).pc ≡ true
+unfolding decide history done meaning row_of rows lui_rows auipc_rows jal_rows jalr_rows branch_rows load_rows store_rows op_imm_rows op_imm_32_rows op_rows op_32_rows misc_mem_rows amo_rows system_rows are_readable number_at
+begins_inside = refl
+
+pub leaves : (file adding 1 sequence.reached).pc ≡ at + 44
+unfolding decide history done meaning row_of rows lui_rows auipc_rows jal_rows jalr_rows branch_rows load_rows store_rows op_imm_rows op_imm_32_rows op_rows op_32_rows misc_mem_rows amo_rows system_rows are_readable number_at
+leaves = refl
+
+-- the cell was 0 and is 32
+pub adds : cell_seen adding 0 (cells_of adding slots 1 sequence.begun) sequence.reached ≡ Some 32
+unfolding decide history done meaning row_of rows lui_rows auipc_rows jal_rows jalr_rows branch_rows load_rows store_rows op_imm_rows op_imm_32_rows op_rows op_32_rows misc_mem_rows amo_rows system_rows are_readable number_at
+adds = refl
+
+-- the words of the block stand there
+abbrev AreThere : (ℕ → Option Inst) → ℕ → List (Option Inst) → Type 0
+AreThere reads from [] = Unit {0}
+AreThere reads from (o ∷ rest) = (reads from ≡ o) × AreThere reads (from + 4) rest
+
+word_is : (reads : ℕ → Option Inst) (block : List (Option Inst)) (from : ℕ) → AreThere reads from block
+    → (k : ℕ) (i : Inst) → slice_get block k ≡ Some (Some i) → reads (from + 4 * k) ≡ Some i
+word_is reads [] from there k i is = absurd cc
+word_is reads (o ∷ rest) from there zero i is =
+    let same : from ≡ from + 4 * zero = omega arith in
+    subst (λ n. reads n ≡ Some i) same (there.0 ∙ ap (λ (x : Option (Option Inst)). unwrap_or x None) is)
+word_is reads (o ∷ rest) from there (suc k) i is =
+    let same : (from + 4) + 4 * k ≡ from + 4 * suc k = omega arith in
+    subst (λ n. reads n ≡ Some i) same (word_is reads rest (from + 4) there.1 k i is)
+
+there : AreThere (code_of adding.program.pages) at (add_block slots)
+unfolding row_of rows lui_rows auipc_rows jal_rows jalr_rows branch_rows load_rows store_rows op_imm_rows op_imm_32_rows op_rows op_32_rows misc_mem_rows amo_rows system_rows
+there =
+    (refl, (refl, (refl, (refl, (refl, (refl, (refl, (refl, (refl, (refl, (refl, (refl, (refl, (refl, tt))))))))))))))
+
+fine : are_fine adding slots at area 1 (history adding log) ≡ true
+unfolding decide history done meaning row_of rows lui_rows auipc_rows jal_rows jalr_rows branch_rows load_rows store_rows op_imm_rows op_imm_32_rows op_rows op_32_rows misc_mem_rows amo_rows system_rows are_readable number_at
+fine = refl
+
+low : at < 2 ^ 37
+low = ltb-true at (2 ^ 37) refl
+
+low_area : area.at + 32 ≤ 2 ^ 38
+low_area = leb-true (area.at + 32) (2 ^ 38) refl
+
+pub holds : HoldsAdd adding (history adding log) slots at area 1
+holds =
+    let used = all_used adding slots at area 1 refl low low_area (history adding log) is_run.allowed fine in
+    record {
+      stands = record { holds = word_is (code_of adding.program.pages) (add_block slots) at there };
+      slots = record {
+        area = refl;
+        cells = refl;
+        value = refl;
+        some_area = eqb-false 8 0 refl;
+        some_cells = eqb-false 9 0 refl;
+        some_value = eqb-false 11 0 refl;
+        low_area = ltb-true 8 32 refl;
+        low_cells = ltb-true 9 32 refl;
+        low_value = ltb-true 11 32 refl;
+        area_cells = eqb-false 8 9 refl;
+        area_value = eqb-false 8 11 refl;
+        cells_value = eqb-false 9 11 refl;
+      };
+      some_table = eqb-false 0x10120 0 refl;
+      low_table = ltb-true 0x10120 0x7FFFF800 refl;
+      aligned = refl;
+      low = low;
+      low_area = low_area;
+      used = used.0;
+      processor = used.1;
+      few = leb-true 1 8 refl;
+      uses = used.2;
+    }

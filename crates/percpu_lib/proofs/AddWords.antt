@@ -1,0 +1,84 @@
+-- Code that was finished holds the instructions of an add block where its lines were appended.
+use Rattle.std.proofs.Common.{◌≡◌, ℕ, zero, suc, ◌+◌, List, [], ◌∷◌, ◌++◌, length, slice_get, refl, ap, ◌∙◌}
+use Rattle.std.proofs.Common.{arith, subst, Option, Some, None, length-append}
+use Rattle.rv_asm.specs.Assembly.{AreAssembled, Assembly, index_of}
+use Rattle.rv_asm.specs.declared.item.Item.{Item}
+use Rattle.rv_asm.specs.declared.item.Item.TheVariants as item
+use Rattle.rv_inst.specs.Table.{row_of}
+use Rattle.rv_inst.specs.declared.instruction.Inst.{Inst}
+use Rattle.percpu_lib.specs.Adds.{add_block, add_lines, add_steps}
+use Rattle.percpu_lib.specs.BlockLines.{end_lines, leave_lines, start_lines}
+use Rattle.percpu_lib.specs.Lines.{AreEmitted, HasRoom, IsContinued, IsEmitted, with_item, with_label}
+use Rattle.percpu_lib.specs.declared.lines.Line.{Line}
+use Rattle.percpu_lib.specs.declared.lines.Line.TheVariants as line
+use Rattle.percpu_lib.specs.declared.slots.Slots.{Slots}
+use Rattle.percpu_lib.proofs.HeldWords.{FindsItem, add_instructions, items_held, labelled_items}
+use Rattle.percpu_lib.proofs.Labels.{index_is, keeps, label_own, labelled}
+
+-- how many words lines have
+abbrev words_of : List Line → ℕ
+words_of [] = 0
+words_of (line.Label n ∷ xs) = words_of xs
+words_of (line.Plain i ∷ xs) = suc (words_of xs)
+words_of (line.Branch i n ∷ xs) = suc (words_of xs)
+words_of (line.Data w ∷ xs) = suc (words_of xs)
+
+one_more : (a : Assembly) (x : Item) (n m : ℕ) → m ≡ length (a.items ++ x ∷ []) + n → m ≡ length a.items + suc n
+one_more a x n m is =
+    let longer : length (a.items ++ x ∷ []) ≡ length a.items + 1 = length-append a.items (x ∷ []) ∙ refl in
+    omega arith
+
+emitted_length : (xs : List Line) (a b : Assembly) → IsEmitted xs a b
+    → length b.items ≡ length a.items + words_of xs
+emitted_length [] a b is =
+    let same = ap (λ (x : Assembly). length x.items) is in
+    omega arith
+emitted_length (line.Label n ∷ xs) a b is =
+    emitted_length xs (with_label a n) b is
+    ∙ ap (λ (ys : List Item). length ys + words_of xs) (labelled_items a n)
+emitted_length (line.Plain i ∷ xs) a b is =
+    one_more a (item.Word is.0) (words_of xs) (length b.items)
+    (emitted_length xs (with_item a (item.Word is.0)) b is.2)
+emitted_length (line.Branch i n ∷ xs) a b is =
+    one_more a (item.Aimed i n) (words_of xs) (length b.items)
+    (emitted_length xs (with_item a (item.Aimed i n)) b is)
+emitted_length (line.Data w ∷ xs) a b is =
+    one_more a (item.Word w) (words_of xs) (length b.items)
+    (emitted_length xs (with_item a (item.Word w)) b is)
+
+-- an item stays where it is when others are appended
+still_there : (xs ys : List Item) (n : ℕ) (x : Item) → slice_get xs n ≡ Some x → slice_get (xs ++ ys) n ≡ Some x
+still_there [] ys n x is = absurd cc
+still_there (y ∷ xs) ys zero x is = is
+still_there (y ∷ xs) ys (suc n) x is = still_there xs ys n x is
+
+module _ (p : Slots) (base : ℕ) (a b c : Assembly) (room : HasRoom a.labels base)
+    (is : AreEmitted (add_lines p base) a b) (more : IsContinued b c) where
+  -- the lines behind the retry label
+  abbrev behind_retry : List Line
+  behind_retry = start_lines p base 6 ++ (add_steps p ++ (leave_lines base ++ end_lines base))
+
+  retry_at : index_of b.labels base ≡ Some (length a.items)
+  retry_at =
+      let same : base + 0 ≡ base = omega arith in
+      index_is b base (Some (length a.items))
+      (keeps behind_retry (with_label a base) b base (length a.items) is.are
+      (label_own a base (subst (λ n. slice_get a.labels n ≡ Some None) same (room 0 (omega arith)))))
+
+  end_at : index_of b.labels (base + 4) ≡ Some (length a.items + 14)
+  end_at = (labelled p base 6 [] (add_steps p) [] a b is room tt tt tt).behind
+      ∙ ap Some (emitted_length (add_lines p base) a b is.are)
+
+  pub held : (bytes : List ℕ) (code : AreAssembled c.labels c.items bytes) (k : ℕ) (i : Inst) (w : ℕ)
+      → slice_get (add_block p) k ≡ Some (Some i) → slice_get code.words (length a.items + k) ≡ Some w
+      → row_of w ≡ Some i
+  held bytes code k i w at word =
+      let same = add_instructions p base (length a.items) c.labels (more.labels base (length a.items) retry_at)
+      (more.labels (base + 4) (length a.items + 14) end_at) in
+      let found : FindsItem c.labels b.items (length a.items + k) i =
+      items_held c.labels (add_lines p base) a b k i is.are
+      (ap (λ (xs : List (Option Inst)). slice_get xs k) same ∙ at) in
+      let entry_there : slice_get c.items (length a.items + k) ≡ Some found.entry =
+      ap (λ (ys : List Item). slice_get ys (length a.items + k)) more.items
+      ∙ still_there b.items more.later (length a.items + k) found.entry found.there in
+      found.is w (code.each (length a.items + k) found.entry w entry_there word)

@@ -1,0 +1,695 @@
+-- Tests of each event of a run on hart 0 that find from its history that a thread uses an add block as it
+-- should: what HoldsAdd asks of each event, by computation. They ask for more than it does.
+use Rattle.std.proofs.Common.{◌≡◌, ◌≢◌, ℕ, zero, suc, ◌+◌, ◌<◌, ◌≤◌, ◌%◌, ◌^◌, List, [], ◌∷◌, refl, sym, ap}
+use Rattle.std.proofs.Common.{◌∙◌, arith, subst, Bool, true, false, not, ◌&&◌, ◌||◌, ◌⊎◌, inl, inr, ⊎_elim, cond}
+use Rattle.std.proofs.Common.{eqb, leb, Option, Some, None}
+use Rattle.std.specs.Option.{option_map_or}
+use Rattle.std.proofs.lemmas.Bool.Decides.{nat_tests}
+use Rattle.mach_types.proofs.Laws.{eqb_same}
+use Rattle.std.proofs.lemmas.Bool.{and_from, and_parts, cases_eq, eqb-true, false≢true, leb-true}
+use Rattle.mach_types.specs.Bytes.{byte_over, each_byte, overlay}
+use Rattle.mach_types.specs.Kernel.Areas.{area_of, can_read_area, can_read_descriptor, descriptor_at}
+use Rattle.mach_types.specs.Kernel.Areas.{has_flags, is_inside, is_signed, sequence_of}
+use Rattle.mach_types.specs.Kernel.Pages.{can_read, can_write, permission_at}
+use Rattle.mach_types.specs.Kernel.Threads.{is_live, is_ready}
+use Rattle.mach_types.specs.Registers.{register}
+use Rattle.mach_types.specs.declared.events.Kind.{Kind}
+use Rattle.mach_types.specs.declared.events.Kind.TheVariants as kind
+use Rattle.mach_types.specs.declared.sequences.Area.{Area}
+use Rattle.mach_types.specs.declared.sequences.Seq.{Seq}
+use Rattle.mach_types.specs.declared.user_memory.Store.{Store}
+use Rattle.mach_types.specs.declared.user_memory.Write.{Write}
+use Rattle.block_model.specs.Acts.{Sequence, is_inside_at, is_instruction, sequence_on, taken_up}
+use Rattle.block_model.specs.Here.{memory, view}
+use Rattle.block_model.specs.History.{Event, History, file, here_in_history, kernel, running}
+use Rattle.block_model.specs.Run.{IsRunHistory}
+use Rattle.block_model.specs.Setting.{Setting}
+use Rattle.block_model.proofs.Laws.{IsStep, not_ready, one_hart, step_of}
+use Rattle.alone_laws.specs.Areas.{LeavesProcessor, ProcessorKept}
+use Rattle.alone_laws.specs.Blocks.{IsFair, among}
+use Rattle.alone_laws.specs.Spans.{Leaves}
+use Rattle.alone_laws.specs.Uses.{AreUsed, Arrives, IsDescribed, IsUsed, in_block}
+use Rattle.alone_laws.specs.Uses.{DeliversNone, at_first, executed, interrupted, stayed}
+use Rattle.alone_laws.proofs.StoredWords.{among_low}
+use Rattle.percpu_lib.specs.Adds.{AreApart, IsAddBegin, add_of, add_range, cell_at, placed_add}
+use Rattle.percpu_lib.specs.Uses.{AreAddUsed, IsAddUsed, IsAtStart, cells_of}
+use Rattle.percpu_lib.specs.declared.slots.Slots.{Slots}
+
+-- BOOLS
+
+abbrev pub implies : Bool → Bool → Bool
+implies a b = cond a b true
+
+follows : (a b : Bool) → implies a b ≡ true → a ≡ true → b ≡ true
+follows true b is holds = is
+follows false b is holds = absurd (false≢true holds)
+
+either : (a b : Bool) → a || b ≡ true → (a ≡ true) ⊎ (b ≡ true)
+either true b is = inl refl
+either false b is = inr is
+
+not_is : (b : Bool) → not b ≡ true → b ≡ false
+not_is true is = absurd (false≢true is)
+not_is false is = refl
+
+abbrev is_just : Option ℕ → ℕ → Bool
+is_just o n = option_map_or (λ m. eqb m n) o false
+
+just_is : (o : Option ℕ) (n : ℕ) → is_just o n ≡ true → o ≡ Some n
+just_is None n is = absurd (false≢true is)
+just_is (Some m) n is = ap Some (eqb-true m n is)
+
+abbrev is_empty : List Write → Bool
+is_empty [] = true
+is_empty (w ∷ ws) = false
+
+leaves_all : (words : ℕ → Bool) (ws : List Write) → is_empty ws ≡ true → Leaves words ws
+leaves_all words [] is a b has = refl
+leaves_all words (w ∷ ws) is a b has = absurd (false≢true is)
+
+abbrev is_drain : Kind → Bool
+is_drain kind.Exec = false
+is_drain kind.Drain = true
+is_drain kind.Take = false
+is_drain kind.Done = false
+is_drain kind.Preempt = false
+is_drain kind.Run = false
+is_drain kind.Signal = false
+
+drain_is : (k : Kind) → is_drain k ≡ true → k ≡ kind.Drain
+drain_is kind.Exec is = absurd (false≢true is)
+drain_is kind.Drain is = refl
+drain_is kind.Take is = absurd (false≢true is)
+drain_is kind.Done is = absurd (false≢true is)
+drain_is kind.Preempt is = absurd (false≢true is)
+drain_is kind.Run is = absurd (false≢true is)
+drain_is kind.Signal is = absurd (false≢true is)
+
+abbrev is_signal : Kind → Bool
+is_signal kind.Exec = false
+is_signal kind.Drain = false
+is_signal kind.Take = false
+is_signal kind.Done = false
+is_signal kind.Preempt = false
+is_signal kind.Run = false
+is_signal kind.Signal = true
+
+abbrev is_run : Kind → Bool
+is_run kind.Exec = false
+is_run kind.Drain = false
+is_run kind.Take = false
+is_run kind.Done = false
+is_run kind.Preempt = false
+is_run kind.Run = true
+is_run kind.Signal = false
+
+run_is : (k : Kind) → is_run k ≡ true → k ≡ kind.Run
+run_is kind.Exec is = absurd (false≢true is)
+run_is kind.Drain is = absurd (false≢true is)
+run_is kind.Take is = absurd (false≢true is)
+run_is kind.Done is = absurd (false≢true is)
+run_is kind.Preempt is = absurd (false≢true is)
+run_is kind.Run is = refl
+run_is kind.Signal is = absurd (false≢true is)
+
+instruction_is : (k : Kind) → is_instruction k ≡ true → k ≡ kind.Exec
+instruction_is kind.Exec is = refl
+instruction_is kind.Drain is = absurd (false≢true is)
+instruction_is kind.Take is = absurd (false≢true is)
+instruction_is kind.Done is = absurd (false≢true is)
+instruction_is kind.Preempt is = absurd (false≢true is)
+instruction_is kind.Run is = absurd (false≢true is)
+instruction_is kind.Signal is = absurd (false≢true is)
+
+-- BYTES
+
+each_holds : (test : ℕ → Bool) (at n a : ℕ) → each_byte test at n ≡ true → at ≤ a → a < at + n → test a ≡ true
+each_holds test at zero a all low high = absurd (omega arith)
+each_holds test at (suc n) a all low high =
+    let parts = and_parts (test at) (each_byte test (at + 1) n) all in
+    by_place (λ past. each_holds test (at + 1) n a parts.1 past (omega arith)) (cases_eq at a)
+  where
+    by_place : (at + 1 ≤ a → test a ≡ true) → (at ≡ a) ⊎ (at ≢ a) → test a ≡ true
+    by_place later (inl here) =
+        subst (λ k. test k ≡ true) here (and_parts (test at) (each_byte test (at + 1) n) all).0
+    by_place later (inr past) = later (omega arith)
+
+in_either : (goal x y : Bool) → x || y ≡ true → (x ≡ true → goal ≡ true) → (y ≡ true → goal ≡ true)
+    → goal ≡ true
+in_either goal x y has first second = ⊎_elim first second (either x y has)
+
+each_among : (test : ℕ → Bool) (at n : ℕ) → each_byte test at n ≡ true → (a : ℕ) → among at n a ≡ true
+    → test a ≡ true
+each_among test at n all a has =
+    let place = among_low at n a has in
+    each_holds test at n a all place.0 place.1
+
+-- a store beside some bytes, and stores beside them
+abbrev is_beside : ℕ → ℕ → Store → Bool
+is_beside at n w = leb (w.at + w.size) at || leb (at + n) w.at
+
+abbrev are_beside : ℕ → ℕ → List Store → Bool
+are_beside at n [] = true
+are_beside at n (w ∷ ws) = is_beside at n w && are_beside at n ws
+
+-- a byte beside a store is what it was
+beside_byte : (w : Store) (a c : ℕ) → (w.at + w.size ≤ a) ⊎ (a < w.at) → byte_over w a c ≡ c
+beside_byte w a c (inl behind) = grind (arith, nat_tests)
+beside_byte w a c (inr before) = grind (arith, nat_tests)
+
+beside_one : (at n : ℕ) (w : Store) → is_beside at n w ≡ true → (a c : ℕ) → among at n a ≡ true
+    → byte_over w a c ≡ c
+beside_one at n w is a c has = by_side (either (leb (w.at + w.size) at) (leb (at + n) w.at) is)
+  where
+    by_side : (leb (w.at + w.size) at ≡ true) ⊎ (leb (at + n) w.at ≡ true) → byte_over w a c ≡ c
+    by_side (inl low) =
+        let place = among_low at n a has in
+        let under = leb-true (w.at + w.size) at low in
+        beside_byte w a c (inl (omega arith))
+    by_side (inr high) =
+        let place = among_low at n a has in
+        let over = leb-true (at + n) w.at high in
+        beside_byte w a c (inr (omega arith))
+
+overlay_beside : (at n : ℕ) (ws : List Store) → are_beside at n ws ≡ true → (a c : ℕ) → among at n a ≡ true
+    → overlay ws a c ≡ c
+overlay_beside at n [] is a c has = refl
+overlay_beside at n (w ∷ ws) is a c has =
+    let parts = and_parts (is_beside at n w) (are_beside at n ws) is in
+    ap (overlay ws a) (beside_one at n w parts.0 a c has) ∙ overlay_beside at n ws parts.1 a c has
+
+-- THE TESTS
+
+module _ (s : Setting) (p : Slots) (at : ℕ) (area : Area) (t : ℕ) where
+  abbrev in_words : ℕ → Bool
+  in_words pc = in_block (placed_add p at area) pc
+
+  abbrev in_sequence : ℕ → Bool
+  in_sequence pc = is_inside (add_range at) pc
+
+  -- the thread runs on hart 0, and has the area
+  abbrev runs_there : History → Bool
+  runs_there before = is_just (running s 0 before) t
+
+  abbrev is_area : Area → Bool
+  is_area a = eqb a.at area.at && eqb a.sig area.sig
+
+  abbrev has_area : History → Bool
+  has_area before = option_map_or is_area (area_of t (kernel s before).areas) false
+
+  abbrev is_range : Seq → Bool
+  is_range g = eqb g.start (add_range at).start && (eqb g.length 28 && eqb g.abort (add_range at).abort)
+
+  -- bytes can be read and written
+  abbrev reads : History → ℕ → Bool
+  reads before a = can_read (permission_at (kernel s before).pages a)
+
+  abbrev writes : History → ℕ → Bool
+  writes before a = can_write (permission_at (kernel s before).pages a)
+
+  abbrev are_usable : History → ℕ → ℕ → Bool
+  are_usable before from n = each_byte (reads before) from n && each_byte (writes before) from n
+
+  -- the descriptor stands where these bytes are read
+  abbrev is_described : (ℕ → Option ℕ) → Bool
+  is_described byte =
+      let d = descriptor_at byte p.table in
+      can_read_area byte area
+      && (can_read_descriptor byte p.table
+      && (eqb d.version 0
+      && (is_range (sequence_of d)
+      && (is_signed byte area (add_range at)
+      && not (has_flags byte area d)))))
+
+  -- the data of processor 0 lies beside the area and can be used, and the descriptor stands
+  abbrev is_fair : ℕ → History → Bool
+  is_fair cells before =
+      runs_there before
+      && (has_area before
+      && (are_usable before area.at 32
+      && (are_usable before (cell_at cells 0) 8
+      && is_range (sequence_of (descriptor_at (view (here_in_history s before 0)) p.table)))))
+
+  abbrev is_apart : ℕ → Bool
+  is_apart cells = leb (cell_at cells 0 + 8) (2 ^ 64)
+      && (leb (cell_at cells 0 + 8) area.at || leb (area.at + 32) (cell_at cells 0))
+
+  -- the thread comes to a word of the block at its first, by another word that it executes, or, where no signal is
+  -- delivered, by staying or by an interruption inside
+  abbrev by_word : Event → History → Bool
+  by_word e before = runs_there before && (is_instruction e.entry.kind && in_words (file s t before).pc)
+
+  abbrev by_staying : Event → History → Bool
+  by_staying e before =
+      not (is_signal e.entry.kind)
+      && (is_live t (kernel s before).threads && (eqb (file s t (e ∷ before)).pc (file s t before).pc
+      || in_sequence (file s t before).pc))
+
+  abbrev comes : Event → History → Bool
+  comes e before =
+      eqb (file s t (e ∷ before)).pc at
+      || (by_word e before || by_staying e before)
+
+  abbrev is_entered : Event → History → Bool
+  is_entered e before = implies (in_words (file s t (e ∷ before)).pc) (comes e before)
+
+  -- where it is at one its register holds the area; and inside the area is its own, its descriptor stands, and
+  -- nothing stores to its pointer. It runs there, or is ready and begins to run
+  abbrev is_held : History → Bool
+  is_held before =
+      implies (in_words (file s t before).pc) (eqb (register (file s t before).file p.area) area.at)
+
+  abbrev begins_to_run : Event → History → Bool
+  begins_to_run e before =
+      is_ready t (kernel s before).threads && (is_run e.entry.kind && eqb e.entry.tid.0 t)
+
+  abbrev on_hart_0 : History → Bool
+  on_hart_0 before = runs_there before && is_described (view (here_in_history s before 0))
+
+  abbrev off_harts : Event → History → Bool
+  off_harts e before = begins_to_run e before && is_described (memory (here_in_history s before 0))
+
+  abbrev goes_on : Event → History → Bool
+  goes_on e before =
+      (on_hart_0 before || off_harts e before)
+      && (has_area before
+      && (are_usable before (area.at + 8) 8
+      && (are_beside (area.at + 8) 8 e.done.executed
+      && implies (is_instruction e.entry.kind) (is_empty e.done.entered))))
+
+  abbrev is_kept : Event → History → Bool
+  is_kept e before = implies (in_sequence (file s t before).pc) (goes_on e before)
+
+  -- from the registration on nothing stores to the processor's words, and nothing but a store that enters memory
+  -- or the thread's beginning to run writes them
+  abbrev leaves_words : Event → History → Bool
+  leaves_words e before =
+      are_beside area.at 8 e.done.executed
+      && ((runs_there before && (is_drain e.entry.kind || is_empty e.done.entered)) || begins_to_run e before)
+
+  abbrev is_told : Event → History → Bool
+  is_told e before = implies (has_area before) (leaves_words e before)
+
+  -- where a sequence begins, and as long as it is open
+  abbrev starts : History → Bool
+  starts before =
+      is_fair (cells_of s p t before) before
+      && (is_apart (cells_of s p t before) && eqb (register (file s t before).file p.area) area.at)
+
+  abbrev is_begun : History → Bool
+  is_begun before = implies (eqb (file s t before).pc (at + 16)) (starts before)
+
+  abbrev is_open : History → Bool
+  is_open before =
+      option_map_or (λ q. is_fair (cells_of s p t q.begun) before) (sequence_on s 0 before) true
+
+  abbrev is_fine : Event → History → Bool
+  is_fine e before =
+      eqb e.entry.hart.0 0
+      && (is_entered e before
+      && (is_held before && (is_kept e before && (is_told e before && (is_begun before && is_open before)))))
+
+  abbrev pub are_fine : History → Bool
+  are_fine [] = implies (in_words s.program.entry) (eqb s.program.entry at)
+  are_fine (e ∷ before) = are_fine before && is_fine e before
+
+  -- WHAT THEY FIND
+
+  area_is : (o : Option Area) → option_map_or is_area o false ≡ true → o ≡ Some area
+  area_is None is = absurd (false≢true is)
+  area_is (Some a) is =
+      let parts = and_parts (eqb a.at area.at) (eqb a.sig area.sig) is in
+      let place : a.at ≡ area.at = eqb-true a.at area.at parts.0 in
+      let signature : a.sig ≡ area.sig = eqb-true a.sig area.sig parts.1 in
+      λ i. Some (record { at = place i; sig = signature i })
+
+  range_is : (g : Seq) → is_range g ≡ true → g ≡ add_range at
+  range_is g is =
+      let parts = and_parts (eqb g.start (add_range at).start)
+      (eqb g.length 28 && eqb g.abort (add_range at).abort) is in
+      let more = and_parts (eqb g.length 28) (eqb g.abort (add_range at).abort) parts.1 in
+      let start : g.start ≡ (add_range at).start = eqb-true g.start (add_range at).start parts.0 in
+      let long : g.length ≡ 28 = eqb-true g.length 28 more.0 in
+      let handler : g.abort ≡ (add_range at).abort = eqb-true g.abort (add_range at).abort more.1 in
+      λ i. record { start = start i; length = long i; abort = handler i }
+
+  reads_are : (before : History) (from n : ℕ) → are_usable before from n ≡ true → (a : ℕ)
+      → among from n a ≡ true → reads before a ≡ true
+  reads_are before from n is =
+      each_among (reads before) from n
+      (and_parts (each_byte (reads before) from n) (each_byte (writes before) from n) is).0
+
+  writes_are : (before : History) (from n : ℕ) → are_usable before from n ≡ true → (a : ℕ)
+      → among from n a ≡ true → writes before a ≡ true
+  writes_are before from n is =
+      each_among (writes before) from n
+      (and_parts (each_byte (reads before) from n) (each_byte (writes before) from n) is).1
+
+  described : (byte : ℕ → Option ℕ) → is_described byte ≡ true → IsDescribed byte (placed_add p at area)
+  described byte is =
+      let d = descriptor_at byte p.table in
+      let one = and_parts (can_read_area byte area) _ is in
+      let two = and_parts (can_read_descriptor byte p.table) _ one.1 in
+      let three = and_parts (eqb d.version 0) _ two.1 in
+      let four = and_parts (is_range (sequence_of d)) _ three.1 in
+      let five = and_parts (is_signed byte area (add_range at)) (not (has_flags byte area d)) four.1 in
+      record {
+        area_read = one.0;
+        descriptor_read = two.0;
+        version = eqb-true d.version 0 three.0;
+        sequence = range_is (sequence_of d) four.0;
+        signed = five.0;
+        no_flags = not_is (has_flags byte area d) five.1;
+      }
+
+  module _ (e : Event) (before : History) (step : IsStep s e before) (fine : is_fine e before ≡ true) where
+    own_hart : e.entry.hart.0 ≡ 0
+    own_hart = eqb-true e.entry.hart.0 0 (and_parts (eqb e.entry.hart.0 0) _ fine).0
+
+    rest : is_entered e before && (is_held before && (is_kept e before && (is_told e before
+        && (is_begun before && is_open before)))) ≡ true
+    rest = (and_parts (eqb e.entry.hart.0 0) _ fine).1
+
+    entered_is : is_entered e before ≡ true
+    entered_is = (and_parts (is_entered e before) _ rest).0
+
+    held_is : is_held before ≡ true
+    held_is = (and_parts (is_held before) _ (and_parts (is_entered e before) _ rest).1).0
+
+    more : is_kept e before && (is_told e before && (is_begun before && is_open before)) ≡ true
+    more = (and_parts (is_held before) _ (and_parts (is_entered e before) _ rest).1).1
+
+    kept_is : is_kept e before ≡ true
+    kept_is = (and_parts (is_kept e before) _ more).0
+
+    told_is : is_told e before ≡ true
+    told_is = (and_parts (is_told e before) _ (and_parts (is_kept e before) _ more).1).0
+
+    last : is_begun before && is_open before ≡ true
+    last = (and_parts (is_told e before) _ (and_parts (is_kept e before) _ more).1).1
+
+    -- where the thread runs on hart 0 it does on the event's, and on no other
+    there : runs_there before ≡ true → running s 0 before ≡ Some t
+    there runs = just_is (running s 0 before) t runs
+
+    on_own : runs_there before ≡ true → running s e.entry.hart.0 before ≡ Some t
+    on_own runs = ap (λ h. running s h before) own_hart ∙ there runs
+
+    only_hart : runs_there before ≡ true → (h : ℕ) → running s h before ≡ Some t → 0 ≡ h
+    only_hart runs h at_h = one_hart s e before step 0 t (there runs) h at_h
+
+    -- HOW THE BLOCK IS USED
+
+    arrives : in_words (file s t (e ∷ before)).pc ≡ true → Arrives s (placed_add p at area) t e before
+    arrives here =
+        by_way (either (eqb (file s t (e ∷ before)).pc at) (by_word e before || by_staying e before)
+        (follows (in_words (file s t (e ∷ before)).pc) (comes e before) entered_is here))
+      where
+        no_signal : not (is_signal e.entry.kind) ≡ true → DeliversNone s t e before
+        no_signal other signal = absurd (false≢true (sym (ap (λ k. not (is_signal k)) signal) ∙ other))
+
+        by_place : is_live t (kernel s before).threads ≡ true → DeliversNone s t e before
+            → (eqb (file s t (e ∷ before)).pc (file s t before).pc ≡ true)
+            ⊎ (in_sequence (file s t before).pc ≡ true) → Arrives s (placed_add p at area) t e before
+        by_place live none (inl same) =
+            stayed live none (eqb-true (file s t (e ∷ before)).pc (file s t before).pc same)
+        by_place live none (inr inside) = interrupted live none inside
+
+        by_event : (by_word e before ≡ true) ⊎ (by_staying e before ≡ true)
+            → Arrives s (placed_add p at area) t e before
+        by_event (inl word) =
+            let one = and_parts (runs_there before) _ word in
+            let two = and_parts (is_instruction e.entry.kind) (in_words (file s t before).pc) one.1 in
+            executed (on_own one.0) (instruction_is e.entry.kind two.0) two.1
+        by_event (inr stays) =
+            let one = and_parts (not (is_signal e.entry.kind)) _ stays in
+            let two = and_parts (is_live t (kernel s before).threads)
+            (eqb (file s t (e ∷ before)).pc (file s t before).pc || in_sequence (file s t before).pc) one.1 in
+            by_place two.0 (no_signal one.0)
+            (either (eqb (file s t (e ∷ before)).pc (file s t before).pc) (in_sequence (file s t before).pc)
+            two.1)
+
+        by_way : (eqb (file s t (e ∷ before)).pc at ≡ true) ⊎ (by_word e before || by_staying e before ≡ true)
+            → Arrives s (placed_add p at area) t e before
+        by_way (inl first) = at_first (eqb-true (file s t (e ∷ before)).pc at first)
+        by_way (inr moved) = by_event (either (by_word e before) (by_staying e before) moved)
+
+    -- a thread that begins to run runs nowhere before
+    not_both : begins_to_run e before ≡ true → (h : ℕ) → running s h before ≡ Some t → ⊥
+    not_both begins h runs =
+        false≢true (sym (not_ready s e before step h t runs)
+        ∙ (and_parts (is_ready t (kernel s before).threads) _ begins).0)
+
+    not_named : begins_to_run e before ≡ true → (e.entry.kind ≡ kind.Run → e.entry.tid.0 ≢ t) → ⊥
+    not_named begins other =
+        let parts = and_parts (is_run e.entry.kind) (eqb e.entry.tid.0 t)
+        (and_parts (is_ready t (kernel s before).threads) _ begins).1 in
+        other (run_is e.entry.kind parts.0) (eqb-true e.entry.tid.0 t parts.1)
+
+    abbrev Stands : Type 0
+    Stands = (on_hart_0 before ≡ true) ⊎ (off_harts e before ≡ true)
+
+    keeps : in_sequence (file s t before).pc ≡ true → Stands × (has_area before ≡ true)
+        × (are_usable before (area.at + 8) 8 ≡ true)
+        × (are_beside (area.at + 8) 8 e.done.executed ≡ true)
+        × (implies (is_instruction e.entry.kind) (is_empty e.done.entered) ≡ true)
+    keeps inside =
+        let one = and_parts (on_hart_0 before || off_harts e before) _
+        (follows (in_sequence (file s t before).pc) (goes_on e before) kept_is inside) in
+        let two = and_parts (has_area before) _ one.1 in
+        let three = and_parts (are_usable before (area.at + 8) 8) _ two.1 in
+        let four = and_parts (are_beside (area.at + 8) 8 e.done.executed) _ three.1 in
+        (either (on_hart_0 before) (off_harts e before) one.0, two.0, three.0, four.0, four.1)
+
+    described_on : Stands → (h : ℕ) → running s h before ≡ Some t
+        → IsDescribed (view (here_in_history s before h)) (placed_add p at area)
+    described_on (inl on) h runs =
+        let parts = and_parts (runs_there before) _ on in
+        subst (λ n. IsDescribed (view (here_in_history s before n)) (placed_add p at area))
+        (only_hart parts.0 h runs) (described (view (here_in_history s before 0)) parts.1)
+    described_on (inr off) h runs = absurd (not_both (and_parts (begins_to_run e before) _ off).0 h runs)
+
+    described_off : Stands → ((h : ℕ) → running s h before ≢ Some t) → (h : ℕ)
+        → IsDescribed (memory (here_in_history s before h)) (placed_add p at area)
+    described_off (inl on) never h = absurd (never 0 (there (and_parts (runs_there before) _ on).0))
+    described_off (inr off) never h =
+        described (memory (here_in_history s before 0)) (and_parts (begins_to_run e before) _ off).1
+
+    no_other : Stands → running s e.entry.hart.0 before ≢ Some t → (e.entry.kind ≡ kind.Run → e.entry.tid.0 ≢ t)
+        → ⊥
+    no_other (inl on) elsewhere begins = elsewhere (on_own (and_parts (runs_there before) _ on).0)
+    no_other (inr off) elsewhere begins = not_named (and_parts (begins_to_run e before) _ off).0 begins
+
+    used : IsUsed s (placed_add p at area) t e before
+    used = record {
+      enters = arrives;
+      registers = λ h runs inside.
+          eqb-true (register (file s t before).file p.area) area.at
+          (follows (in_words (file s t before).pc)
+          (eqb (register (file s t before).file p.area) area.at) held_is inside);
+      area = λ inside.
+          let k = keeps inside in
+          record {
+            registered = area_is (area_of t (kernel s before).areas) k.1;
+            usable = record {
+              read = reads_are before (area.at + 8) 8 k.2;
+              write = writes_are before (area.at + 8) 8 k.2;
+            };
+            on_hart = described_on k.0;
+            off_hart = described_off k.0;
+          };
+      pointer = λ inside.
+          let k = keeps inside in
+          record {
+            others = λ elsewhere begins. absurd (no_other k.0 elsewhere begins);
+            own = λ runs is.
+                leaves_all (among (area.at + 8) 8) e.done.entered
+                (follows (is_instruction e.entry.kind) (is_empty e.done.entered) k.4 (ap is_instruction is));
+            stores = λ runs a c has. overlay_beside (area.at + 8) 8 e.done.executed k.3 a c has;
+          };
+    }
+
+    -- THE PROCESSOR'S WORDS
+
+    registered_is : area_of t (kernel s before).areas ≡ Some area → has_area before ≡ true
+    registered_is is =
+        ap (λ (o : Option Area). option_map_or is_area o false) is
+        ∙ and_from (eqb area.at area.at) (eqb area.sig area.sig) (eqb_same area.at) (eqb_same area.sig)
+
+    abbrev Tells : Type 0
+    Tells = (runs_there before && (is_drain e.entry.kind || is_empty e.done.entered) ≡ true)
+        ⊎ (begins_to_run e before ≡ true)
+
+    tells : has_area before ≡ true → (are_beside area.at 8 e.done.executed ≡ true) × Tells
+    tells had =
+        let one = and_parts (are_beside area.at 8 e.done.executed) _
+        (follows (has_area before) (leaves_words e before) told_is had) in (
+          one.0,
+          either (runs_there before && (is_drain e.entry.kind || is_empty e.done.entered))
+              (begins_to_run e before) one.1,
+        )
+
+    no_stranger : Tells → running s e.entry.hart.0 before ≢ Some t
+        → (e.entry.kind ≡ kind.Run → e.entry.tid.0 ≢ t) → ⊥
+    no_stranger (inl on) elsewhere begins = elsewhere (on_own (and_parts (runs_there before) _ on).0)
+    no_stranger (inr off) elsewhere begins = not_named off begins
+
+    enters_none : e.entry.kind ≢ kind.Drain → is_drain e.entry.kind || is_empty e.done.entered ≡ true
+        → Leaves (among area.at 8) e.done.entered
+    enters_none other is =
+        by_kind (either (is_drain e.entry.kind) (is_empty e.done.entered) is)
+      where
+        by_kind : (is_drain e.entry.kind ≡ true) ⊎ (is_empty e.done.entered ≡ true)
+            → Leaves (among area.at 8) e.done.entered
+        by_kind (inl drains) = absurd (other (drain_is e.entry.kind drains))
+        by_kind (inr none) = leaves_all (among area.at 8) e.done.entered none
+
+    words_left : Tells → running s e.entry.hart.0 before ≡ Some t → e.entry.kind ≢ kind.Drain
+        → Leaves (among area.at 8) e.done.entered
+    words_left (inl on) runs other = enters_none other (and_parts (runs_there before) _ on).1
+    words_left (inr off) runs other = absurd (not_both off e.entry.hart.0 runs)
+
+    processor_kept : LeavesProcessor s t area e before
+    processor_kept = record {
+      others = λ had elsewhere begins. absurd (no_stranger (tells (registered_is had)).1 elsewhere begins);
+      own = λ runs had has other. words_left (tells (registered_is had)).1 runs other;
+      stores = λ runs had a c inside.
+          overlay_beside area.at 8 e.done.executed (tells (registered_is had)).0 a c inside;
+    }
+
+    -- THE DATA
+
+    fair : (cells : ℕ) → is_fair cells before ≡ true → IsFair s (add_of p at area cells 0) 0 t e before
+    fair cells is =
+        let one = and_parts (runs_there before) _ is in
+        let two = and_parts (has_area before) _ one.1 in
+        let three = and_parts (are_usable before area.at 32) _ two.1 in
+        let four = and_parts (are_usable before (cell_at cells 0) 8) _ three.1 in
+        let view_here = view (here_in_history s before 0) in
+        record {
+          place = record {
+            usable = record {
+              read = λ a has.
+                  in_either (reads before a) (among area.at 32 a) (among (cell_at cells 0) 8 a) has
+                  (reads_are before area.at 32 three.0 a) (reads_are before (cell_at cells 0) 8 four.0 a);
+              write = λ a has.
+                  in_either (writes before a) (among area.at 32 a) (among (cell_at cells 0) 8 a) has
+                  (writes_are before area.at 32 three.0 a) (writes_are before (cell_at cells 0) 8 four.0 a);
+            };
+            registered = area_is (area_of t (kernel s before).areas) two.0;
+            described = range_is (sequence_of (descriptor_at view_here p.table)) four.1;
+          };
+          spared = record {
+            pointer = λ other. absurd (other own_hart);
+            words = λ other inside. absurd (other own_hart);
+          };
+        }
+
+    apart_is : (cells : ℕ) → at % 4 ≡ 0 → at < 2 ^ 37 → area.at + 32 ≤ 2 ^ 38 → is_apart cells ≡ true
+        → AreApart at area.at cells 0
+    apart_is cells aligned low low_area is =
+        let one = and_parts (leb (cell_at cells 0 + 8) (2 ^ 64)) _ is in
+        record {
+          aligned = aligned;
+          low = low;
+          low_area = low_area;
+          few = omega arith;
+          low_cells = leb-true (cell_at cells 0 + 8) (2 ^ 64) one.0;
+          beside =
+              ⊎_elim (λ (under : leb (cell_at cells 0 + 8) area.at ≡ true). inl (leb-true (cell_at cells 0 + 8) area.at under))
+              (λ (over : leb (area.at + 32) (cell_at cells 0) ≡ true). inr (leb-true (area.at + 32) (cell_at cells 0) over))
+              (either (leb (cell_at cells 0 + 8) area.at) (leb (area.at + 32) (cell_at cells 0)) one.1);
+        }
+
+    -- where a sequence begins
+    begun_is : (file s t before).pc ≡ at + 16 → (is_fair (cells_of s p t before) before ≡ true)
+        × (is_apart (cells_of s p t before) ≡ true)
+        × (register (file s t before).file p.area ≡ area.at)
+    begun_is here =
+        let test = follows (eqb (file s t before).pc (at + 16)) (starts before)
+        (and_parts (is_begun before) (is_open before) last).0
+        (ap (λ n. eqb n (at + 16)) here ∙ eqb_same (at + 16)) in
+        let one = and_parts (is_fair (cells_of s p t before) before) _ test in
+        let two = and_parts (is_apart (cells_of s p t before)) _ one.1 in
+        (one.0, two.0, eqb-true (register (file s t before).file p.area) area.at two.1)
+
+    -- and as long as it is open
+    open_is : (q : Sequence) → sequence_on s 0 before ≡ Some q → is_fair (cells_of s p t q.begun) before ≡ true
+    open_is q is =
+        sym (ap (λ (o : Option Sequence). option_map_or (λ (r : Sequence). is_fair (cells_of s p t r.begun) before) o true) is)
+        ∙ (and_parts (is_begun before) (is_open before) last).1
+
+    abbrev Fair : ℕ → History → Type 0
+    Fair h begun = IsFair s (add_of p at area (cells_of s p t begun) h) h t e before
+
+    fair_first : (h : ℕ) (begun : History) → IsAtStart s at h t begun → before ≡ begun → Fair h begun
+    fair_first h begun start here =
+        let there_now : IsAtStart s at h t before =
+        subst (λ (x : History). IsAtStart s at h t x) (sym here) start in
+        let test = (begun_is there_now.pc).0 in
+        let runs = (and_parts (runs_there before) _ test).0 in
+        subst (λ (x : History). Fair h x) here
+        (subst (λ n. Fair n before) (only_hart runs h there_now.runs) (fair (cells_of s p t before) test))
+
+    fair_later : (begun : History) (q : Sequence) → sequence_on s 0 before ≡ Some q → q.begun ≡ begun
+        → Fair 0 begun
+    fair_later begun q is from =
+        subst (λ (x : History). Fair 0 x) from (fair (cells_of s p t q.begun) (open_is q is))
+
+    add_used : at % 4 ≡ 0 → at < 2 ^ 37 → area.at + 32 ≤ 2 ^ 38
+        → ((h : ℕ) (q : Sequence) → sequence_on s h before ≡ Some q → 0 ≡ h) → IsAddUsed s p at area t e before
+    add_used aligned low low_area sole = record {
+      fair = λ h begun start opened.
+          ⊎_elim (λ (here : before ≡ begun). fair_first h begun start here)
+          (λ (that : (q : Sequence) × (sequence_on s h before ≡ Some q) × (q.begun ≡ begun)).
+          subst (λ n. Fair n begun) (sole h that.0 that.1)
+          (fair_later begun that.0 (ap (λ n. sequence_on s n before) (sole h that.0 that.1) ∙ that.1) that.2))
+          opened;
+      begins = λ h start.
+          let test = begun_is start.pc in
+          let runs = (and_parts (runs_there before) _ test.0).0 in
+          subst (λ n. IsAddBegin s p at area (cells_of s p t before) n t before) (only_hart runs h start.runs)
+          (record {
+            apart = apart_is (cells_of s p t before) aligned low low_area test.1;
+            area_is = test.2;
+            cells_is = refl;
+          });
+    }
+
+  -- ALL EVENTS
+
+  -- no sequence is open on another hart
+  sole : (before : History) → are_fine before ≡ true → (h : ℕ) (q : Sequence) → sequence_on s h before ≡ Some q
+      → 0 ≡ h
+  sole [] fine h q is = absurd cc
+  sole (e ∷ before) fine h q is =
+      by_hart (sole before (and_parts (are_fine before) _ fine).0 h q) (eqb e.entry.hart.0 h) refl
+    where
+      by_hart : (sequence_on s h before ≡ Some q → 0 ≡ h) → (b : Bool) → eqb e.entry.hart.0 h ≡ b → 0 ≡ h
+      by_hart earlier true own =
+          sym (eqb-true e.entry.hart.0 0
+          (and_parts (eqb e.entry.hart.0 0) _ (and_parts (are_fine before) _ fine).1).0)
+          ∙ eqb-true e.entry.hart.0 h own
+      by_hart earlier false apart =
+          earlier
+          (sym (ap (λ b. cond (not b) (sequence_on s h before)
+          (cond (is_inside_at s h before) (taken_up h e before (sequence_on s h before)) None)) apart) ∙ is)
+
+  pub all_used : at % 4 ≡ 0 → at < 2 ^ 37 → area.at + 32 ≤ 2 ^ 38 → (history : History)
+      → IsRunHistory s history → are_fine history ≡ true
+      → AreAddUsed s p at area t history × ProcessorKept s t area history
+      × AreUsed s (placed_add p at area) t history
+  all_used aligned low low_area [] run fine = (
+    tt,
+    tt,
+    λ inside.
+        eqb-true s.program.entry at (follows (in_words s.program.entry) (eqb s.program.entry at) fine inside),
+  )
+  all_used aligned low low_area (e ∷ before) run fine =
+      let parts = and_parts (are_fine before) (is_fine e before) fine in
+      let earlier = all_used aligned low low_area before run.0 parts.0 in
+      let step = step_of s e before run in (
+        (earlier.0, add_used e before step parts.1 aligned low low_area (sole before parts.0)),
+        (earlier.1, processor_kept e before step parts.1),
+        (earlier.2, used e before step parts.1),
+      )
