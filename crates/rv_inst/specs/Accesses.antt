@@ -12,8 +12,8 @@ pub record Bytes : Type 0 where
 abbrev pub bytes : ℕ → ℕ → Bytes
 bytes at n = record { at = at; count = n }
 
--- the bytes that an instruction with this effect reads, and those that it writes, now or when its store enters memory. LR reads the
--- aligned 8 bytes that it reserves, and SC writes them, whether it succeeds or not
+-- the bytes that an instruction with this effect reads, and those that it writes, now or when its store enters memory. LR reads, and SC
+-- writes, the aligned 8 bytes around its address, whether SC succeeds or not
 abbrev pub read_by : Effect → List Bytes
 read_by (effect.Next rd value to) = []
 read_by (effect.Load at size is_signed rd) = bytes at size ∷ []
