@@ -1,8 +1,7 @@
 -- Worked examples: how many harts are open, which hart and which actor comes next, and which priorities are drawn anew. The words of
 -- these seeds were computed apart from the definitions.
-use Rattle.std.proofs.Common.{◌≡◌, ℕ, zero, suc, List, [], ◌∷◌, ◌++◌, replicate, Option, Some, None, true, false, refl}
+use Rattle.std.proofs.Common.{◌≡◌, ℕ, zero, suc, List, [], ◌∷◌, replicate, Option, Some, None, true, false, refl}
 use Rattle.std.specs.Option.{option_map}
-use Rattle.mach_types.specs.Kernel.Scheduling.{Scheduling}
 use Rattle.mach_types.specs.declared.events.Choice.{Choice}
 use Rattle.mach_types.specs.declared.events.Choice.TheVariants as asked
 use Rattle.mach_types.specs.declared.events.Sight.{Sight}
