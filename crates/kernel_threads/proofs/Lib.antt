@@ -1,6 +1,7 @@
 mod Addresses
 mod Kept
 pub mod Laws
+mod Moved
 mod Opened
 mod RowsRead
 mod SavedAfter

@@ -1,4 +1,5 @@
 pub mod Laws
 mod Masks
 mod Rows
+mod Selected
 mod Shapes

@@ -1,5 +1,5 @@
 -- From what is known of a word's fields to its row.
-use Rattle.std.proofs.Common.{◌≡◌, ℕ, ◌+◌, ◌-◌, ◌*◌, ◌/◌, ◌^◌, ◌==◌, Bool, true, false, not, ◌&&◌, cond, if◌then◌else◌, List, [], ◌∷◌, Option, Some, None, refl, ap, sym, ◌∙◌, eqb-true, eq-eqb}
+use Rattle.std.proofs.Common.{◌≡◌, ℕ, ◌+◌, ◌-◌, ◌*◌, ◌/◌, ◌^◌, ◌==◌, Bool, true, false, not, ◌&&◌, ◌||◌, cond, if◌then◌else◌, List, [], ◌∷◌, Option, Some, None, refl, ap, sym, ◌∙◌, eqb-true, eq-eqb}
 use Rattle.std.proofs.lemmas.Bool.{false≢true}
 use Rattle.std.specs.Int.Bits.{bit_and}
 use Rattle.std.proofs.lemmas.Nat.{and_assoc, and_comm, shl-shr}
@@ -180,11 +180,75 @@ no_two_fields op low count known below width values w is_op is_known passed =
 pub none_more : (n m : ℕ) (ms : List ℕ) → (n ≡ m → ⊥) → is_none_of ms n ≡ true → is_none_of (m ∷ ms) n ≡ true
 none_more n m ms differs rest = both_true (not (n == m)) (is_none_of ms n) (not_equal n m differs) rest
 
--- and where two are
-pub no_three_fields : (op low count known low' count' known' below width : ℕ) (values : List ℕ) (w : ℕ) → opcode w ≡ op → field low count w ≡ known → field low' count' w ≡ known' → is_none_of values (field below width w) ≡ true →
-    row_of w ≡ first_row (kept below width (is_none_of values) (kept low' count' (λ n. n == known') (kept low count (λ n. n == known) (kept 0 7 (λ n. n == op) rows)))) w
+-- ---- one field tells the row
+
+-- the rows of an opcode, and those of them where a field is known
+abbrev pub rows_of : ℕ → List Row
+rows_of op = kept 0 7 (λ n. n == op) rows
+
+abbrev pub rows_with : ℕ → ℕ → ℕ → ℕ → List Row
+rows_with op low count known = kept low count (λ n. n == known) (rows_of op)
+
+-- the first row of a list by a field, which decides the rows with this mask
+abbrev told_by : ℕ → ℕ → ℕ → ℕ → Row → ℕ → Option Inst → Option Inst
+told_by mask low count n r w rest =
+    if n == field low count r.match then (if (r.mask == mask) || is_of_row w r then Some (r.read w) else rest) else rest
+
+abbrev pub by_field : ℕ → ℕ → ℕ → ℕ → List Row → ℕ → Option Inst
+by_field mask low count n [] w = None
+by_field mask low count n (r ∷ rs) w = told_by mask low count n r w (by_field mask low count n rs w)
+
+-- whether the rows of a list fix the field, and those with this mask all else that is known
+abbrev differs_in : ℕ → ℕ → ℕ → ℕ → Row → Bool
+differs_in mask base low count r =
+    (bit_and r.mask (field_mask low count) == field_mask low count)
+    && (not (r.mask == mask) || (r.match == base + field low count r.match * 2 ^ low))
+
+abbrev pub differ_in : ℕ → ℕ → ℕ → ℕ → List Row → Bool
+differ_in mask base low count [] = true
+differ_in mask base low count (r ∷ rs) = differs_in mask base low count r && differ_in mask base low count rs
+
+one_told : (equal same of_r : Bool) (here rest rest' : Option Inst) → (of_r ≡ true → equal ≡ true) → (same ≡ true → equal ≡ true → of_r ≡ true) → rest ≡ rest' →
+    cond of_r here rest ≡ (if equal then (if same || of_r then here else rest') else rest')
+one_told true true true here rest rest' p q e = refl
+one_told true true false here rest rest' p q e = absurd (false≢true (q refl refl))
+one_told true false true here rest rest' p q e = refl
+one_told true false false here rest rest' p q e = e
+one_told false same true here rest rest' p q e = absurd (false≢true (p refl))
+one_told false same false here rest rest' p q e = e
+
+if_not : (b c : Bool) → (not b || c) ≡ true → b ≡ true → c ≡ true
+if_not true c either is = either
+if_not false c either is = absurd (false≢true is)
+
+-- a row with this mask is a word's where the field is
+is_told : (mask base low count w : ℕ) (r : Row) → r.mask ≡ mask → r.match ≡ base + field low count r.match * 2 ^ low →
+    bit_and w mask ≡ base + field low count w * 2 ^ low → field low count w ≡ field low count r.match → is_of_row w r ≡ true
+is_told mask base low count w r same is_match known equal =
+    eq-eqb _ _ (ap (bit_and w) same ∙ known ∙ ap (λ n. base + n * 2 ^ low) equal ∙ sym is_match)
+
+pub told : (mask base low count w : ℕ) (rs : List Row) → differ_in mask base low count rs ≡ true →
+    bit_and w mask ≡ base + field low count w * 2 ^ low → first_row rs w ≡ by_field mask low count (field low count w) rs w
+told mask base low count w [] differ known = refl
+told mask base low count w (r ∷ rs) differ known =
+    let one = left_true (differs_in mask base low count r) (differ_in mask base low count rs) differ in
+    let fixed = left_true (bit_and r.mask (field_mask low count) == field_mask low count) (not (r.mask == mask) || (r.match == base + field low count r.match * 2 ^ low)) one in
+    let rest = right_true (bit_and r.mask (field_mask low count) == field_mask low count) (not (r.mask == mask) || (r.match == base + field low count r.match * 2 ^ low)) one in
+    one_told (field low count w == field low count r.match) (r.mask == mask) (is_of_row w r) (Some (r.read w)) (first_row rs w) (by_field mask low count (field low count w) rs w)
+    (λ of_r. eq-eqb _ _ (same_field low count w r (eqb-true _ _ fixed) of_r))
+    (λ same equal. is_told mask base low count w r (eqb-true _ _ same)
+    (eqb-true _ _ (if_not (r.mask == mask) (r.match == base + field low count r.match * 2 ^ low) rest same)) known (eqb-true _ _ equal))
+    (told mask base low count w rs (right_true (differs_in mask base low count r) (differ_in mask base low count rs) differ) known)
+
+pub of_opcode : (op w : ℕ) → opcode w ≡ op → row_of w ≡ first_row (rows_of op) w
 unfolding row_of
-no_three_fields op low count known low' count' known' below width values w is_op is_known is_known' passed =
-    narrowed 0 7 (λ n. n == op) rows w (eq-eqb _ _ is_op) ∙ narrowed low count (λ n. n == known) (kept 0 7 (λ n. n == op) rows) w (eq-eqb _ _ is_known)
-    ∙ narrowed low' count' (λ n. n == known') (kept low count (λ n. n == known) (kept 0 7 (λ n. n == op) rows)) w (eq-eqb _ _ is_known')
-    ∙ narrowed below width (is_none_of values) (kept low' count' (λ n. n == known') (kept low count (λ n. n == known) (kept 0 7 (λ n. n == op) rows))) w passed
+of_opcode op w is_op = narrowed 0 7 (λ n. n == op) rows w (eq-eqb _ _ is_op)
+
+pub of_field : (op low count known w : ℕ) → opcode w ≡ op → field low count w ≡ known → row_of w ≡ first_row (rows_with op low count known) w
+of_field op low count known w is_op is_known =
+    of_opcode op w is_op ∙ narrowed low count (λ n. n == known) (rows_of op) w (eq-eqb _ _ is_known)
+
+pub of_two_fields : (op low count known low' count' known' w : ℕ) → opcode w ≡ op → field low count w ≡ known → field low' count' w ≡ known' →
+    row_of w ≡ first_row (kept low' count' (λ n. n == known') (rows_with op low count known)) w
+of_two_fields op low count known low' count' known' w is_op is_known is_known' =
+    of_field op low count known w is_op is_known ∙ narrowed low' count' (λ n. n == known') (rows_with op low count known) w (eq-eqb _ _ is_known')

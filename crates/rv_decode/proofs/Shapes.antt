@@ -8,12 +8,6 @@ use Rattle.rv_inst.specs.Table.{row_of}
 pub one_and_imm : (make : ℕ → ℤ → Inst) (w a a' : ℕ) (z z' : ℤ) → FitsSigned w64 z → a ≡ a' → z ≡ z' → row_of w ≡ Some (make a' z') → Some (make a (to_z w64 (of_z w64 z))) ≡ row_of w
 one_and_imm make w a a' z z' fits e f row = rw (to_z-of_z w64 z fits, e, f) (sym row)
 
--- two registers and an immediate
-pub two_and_imm : (make : ℕ → ℕ → ℤ → Inst) (w a a' b b' : ℕ) (z z' : ℤ) → FitsSigned w64 z → a ≡ a' → b ≡ b' → z ≡ z' → row_of w ≡ Some (make a' b' z') → Some (make a b (to_z w64 (of_z w64 z))) ≡ row_of w
-two_and_imm make w a a' b b' z z' fits e f g row = rw (to_z-of_z w64 z fits, e, f, g) (sym row)
-
-pub two : (make : ℕ → ℕ → Inst) (w a a' b b' : ℕ) → a ≡ a' → b ≡ b' → row_of w ≡ Some (make a' b') → Some (make a b) ≡ row_of w
-two make w a a' b b' e f row = rw (e, f) (sym row)
-
+-- three registers
 pub three : (make : ℕ → ℕ → ℕ → Inst) (w a a' b b' c c' : ℕ) → a ≡ a' → b ≡ b' → c ≡ c' → row_of w ≡ Some (make a' b' c') → Some (make a b c) ≡ row_of w
 three make w a a' b b' c c' e f g row = rw (e, f, g) (sym row)

@@ -10,6 +10,7 @@ use crate::fields::{
 use rv_inst::Inst;
 
 /// Computation with an immediate.
+#[tactic(auto, using(crate::proofs::Selected::immediates), unfolding(crate::proofs::Selected::table))]
 pub fn decode_op_imm(word: u32) -> Option<Inst>
     requires { opcode word ≡ 0x13 }
     ensures { result ≡ row_of word }
@@ -31,6 +32,7 @@ pub fn decode_op_imm(word: u32) -> Option<Inst>
 }
 
 /// SLLI.
+#[tactic(auto, using(crate::proofs::Selected::shift_left), unfolding(crate::proofs::Selected::table))]
 fn decode_shift_left(word: u32) -> Option<Inst>
     requires is_op_imm { opcode word ≡ 0x13 }
     requires is_left { funct3 word ≡ 1 }
@@ -46,6 +48,7 @@ fn decode_shift_left(word: u32) -> Option<Inst>
 }
 
 /// SRLI and SRAI.
+#[tactic(auto, using(crate::proofs::Selected::shift_right), unfolding(crate::proofs::Selected::table))]
 fn decode_shift_right(word: u32) -> Option<Inst>
     requires is_op_imm { opcode word ≡ 0x13 }
     requires is_right { funct3 word ≡ 5 }
@@ -62,6 +65,7 @@ fn decode_shift_right(word: u32) -> Option<Inst>
 }
 
 /// Computation with an immediate on the low 32 bits.
+#[tactic(auto, using(crate::proofs::Selected::immediates), unfolding(crate::proofs::Selected::table))]
 pub fn decode_op_imm_32(word: u32) -> Option<Inst>
     requires { opcode word ≡ 0x1b }
     ensures { result ≡ row_of word }
@@ -78,6 +82,7 @@ pub fn decode_op_imm_32(word: u32) -> Option<Inst>
 }
 
 /// SLLIW.
+#[tactic(auto, using(crate::proofs::Selected::shift_left_32), unfolding(crate::proofs::Selected::table))]
 fn decode_shift_left_32(word: u32) -> Option<Inst>
     requires is_op_imm_32 { opcode word ≡ 0x1b }
     requires is_left { funct3 word ≡ 1 }
@@ -93,6 +98,7 @@ fn decode_shift_left_32(word: u32) -> Option<Inst>
 }
 
 /// SRLIW and SRAIW.
+#[tactic(auto, using(crate::proofs::Selected::shift_right_32), unfolding(crate::proofs::Selected::table))]
 fn decode_shift_right_32(word: u32) -> Option<Inst>
     requires is_op_imm_32 { opcode word ≡ 0x1b }
     requires is_right { funct3 word ≡ 5 }
@@ -109,6 +115,7 @@ fn decode_shift_right_32(word: u32) -> Option<Inst>
 }
 
 /// Computation with two registers.
+#[tactic(auto, using(crate::proofs::Selected::op), unfolding(crate::proofs::Selected::table))]
 pub fn decode_op(word: u32) -> Option<Inst>
     requires { opcode word ≡ 0x33 }
     ensures { result ≡ row_of word }
@@ -160,6 +167,7 @@ fn decode_op_alternate(word: u32) -> Option<Inst>
 }
 
 /// The M instructions of OP.
+#[tactic(auto, using(crate::proofs::Selected::op_multiply), unfolding(crate::proofs::Selected::table))]
 fn decode_op_multiply(word: u32) -> Option<Inst>
     requires is_op { opcode word ≡ 0x33 }
     requires is_multiply { funct7 word ≡ 0x01 }
@@ -182,6 +190,7 @@ fn decode_op_multiply(word: u32) -> Option<Inst>
 }
 
 /// Computation with two registers on the low 32 bits.
+#[tactic(auto, using(crate::proofs::Selected::op_32), unfolding(crate::proofs::Selected::table))]
 pub fn decode_op_32(word: u32) -> Option<Inst>
     requires { opcode word ≡ 0x3b }
     ensures { result ≡ row_of word }
@@ -195,6 +204,7 @@ pub fn decode_op_32(word: u32) -> Option<Inst>
 }
 
 /// OP-32 with funct7 0.
+#[tactic(auto, using(crate::proofs::Selected::op_32_base), unfolding(crate::proofs::Selected::table))]
 fn decode_op_32_base(word: u32) -> Option<Inst>
     requires is_op_32 { opcode word ≡ 0x3b }
     requires is_base { funct7 word ≡ 0x00 }
@@ -212,6 +222,7 @@ fn decode_op_32_base(word: u32) -> Option<Inst>
 }
 
 /// SUBW and SRAW, OP-32 with bit 30 set.
+#[tactic(auto, using(crate::proofs::Selected::op_32_alternate), unfolding(crate::proofs::Selected::table))]
 fn decode_op_32_alternate(word: u32) -> Option<Inst>
     requires is_op_32 { opcode word ≡ 0x3b }
     requires is_alternate { funct7 word ≡ 0x20 }
@@ -228,6 +239,7 @@ fn decode_op_32_alternate(word: u32) -> Option<Inst>
 }
 
 /// The M instructions of OP-32.
+#[tactic(auto, using(crate::proofs::Selected::op_32_multiply), unfolding(crate::proofs::Selected::table))]
 fn decode_op_32_multiply(word: u32) -> Option<Inst>
     requires is_op_32 { opcode word ≡ 0x3b }
     requires is_multiply { funct7 word ≡ 0x01 }

@@ -1,4 +1,5 @@
 //! Jumps and branches.
+#![tactic(auto, using(crate::proofs::Selected::selections), unfolding(crate::proofs::Selected::table))]
 
 ghost use Rattle.std.specs.Prelude.{◌≡◌};
 ghost use Rattle.rv_inst.specs.Table.{row_of};

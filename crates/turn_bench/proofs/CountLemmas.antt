@@ -1,8 +1,9 @@
 -- The counts of a log, after an entry more and an entry fewer.
 use Rattle.std.proofs.Common.{◌≡◌, ℕ, ◌+◌, ◌*◌, ◌<◌, ◌≤◌, List, [], ◌∷◌, ◌++◌, length, length-set, get_or, set, sym, refl, ap, ◌∙◌, subst, add-one, arith}
-use Rattle.std.specs.Prelude.{sum, Some, replicate}
+use Rattle.std.specs.Option.{option_to_list}
+use Rattle.std.specs.Prelude.{sum, Option, Some, replicate}
 use Rattle.std.proofs.lemmas.Bool.Decides.{nat_tests}
-use Rattle.std.proofs.lemmas.List.{get_or-set_other, get_or-replicate, length-replicate, length_push}
+use Rattle.std.proofs.lemmas.List.{get_or_read, get_or-set_other, get_or-replicate, length-replicate, length_push}
 use Rattle.std.proofs.lemmas.List.Elements.{All-set, All-push, All-pop, All-replicate, All-nil, All-get_or}
 use Rattle.std.proofs.lemmas.List.Folds.{sum_by-replicate}
 use Rattle.std.proofs.lemmas.List.Sums.{sum_by-set, sum_by-le}
@@ -50,6 +51,17 @@ last_known quota counts log e c = (All-pop (λ (e : Entry). e.hart.0 < quota.har
 -- it has made an entry
 pub last_counted : (quota : Quota) (counts : List ℕ) (log : List Entry) (e : Entry) → Counted quota counts (log ++ e ∷ []) → 1 ≤ get_or counts e.hart.0 0
 last_counted quota counts log e c = let k = last_known quota counts log e c in let old = c.each e.hart.0 k in let m = made_push e.hart.0 log e in grind (arith, nat_tests)
+
+-- an entry is taken away: the counts were of it too, and its hart's count is at least 1
+pub popped : (quota : Quota) (counts : List ℕ) (entries log : List Entry) (last : Option Entry) (e : Entry) (own count : ℕ) → Counted quota counts entries → entries ≡ log ++ option_to_list last → last ≡ Some e → own ≡ e.hart.0 → count ≡ get_or counts own count → (Counted quota counts (log ++ e ∷ [])) × (count ≡ get_or counts own 0) × (1 ≤ count)
+popped quota counts entries log last e own count c whole is same at =
+    let both : Counted quota counts (log ++ e ∷ []) = subst (Counted quota counts) (whole ∙ ap (λ r. log ++ option_to_list r) is) c in
+    let known = last_known quota counts log e both in
+    let long = both.harts in
+    let one = last_counted quota counts log e both in
+    let moved = ap (λ n. get_or counts n 0) same in
+    let read : count ≡ get_or counts own 0 = get_or_read counts own count (omega arith) at 0 in
+    (both, read, omega arith)
 
 -- an entry fewer
 pub counted_pop : (quota : Quota) (counts : List ℕ) (log : List Entry) (e : Entry) (count : ℕ) → Counted quota counts (log ++ e ∷ []) → count + 1 ≡ get_or counts e.hart.0 0 → Counted quota (set counts e.hart.0 count) log

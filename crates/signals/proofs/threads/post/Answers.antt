@@ -1,16 +1,9 @@
-use Rattle.std.proofs.Common.{◌<◌, length, get_or, set, ap, ◌∙◌, arith}
-use Rattle.std.proofs.lemmas.List.{get_or_default}
-use Rattle.std.proofs.lemmas.List.Edits.{map_over_more}
+use Rattle.std.proofs.Common.{arith}
 use Rattle.mach_types.specs.Kernel.Signals.{post_if}
-use Rattle.signals.proofs.Entries.{no_entry}
+use Rattle.signals.proofs.Entries.{one_more}
 use Rattle.signals.proofs.threads.post.Goals as goal
 
 pub loop-entry-preserved : goal.loop-entry-preserved
 loop-entry-preserved c =
-    let entries = c.loop-entry.threads in
-    let i = c.loop-entry.entry-index in
-    let entry = get_or entries i no_entry in
-    let within : i < length entries = omega arith in
-    ap (set entries i) c.with_signal.ensures
-    ∙ map_over_more (post_if c.args.tid c.args.sig) c.args.threads.now entries i entry (omega arith) c.loop-entry.invariant
-    (get_or_default entries i no_entry entry within)
+    one_more (post_if c.args.tid c.args.sig) c.args.threads.now c.loop-entry.threads c.loop-entry.entry-index
+    c.with_signal.result (omega arith) (omega arith) c.loop-entry.invariant c.with_signal.ensures

@@ -1,36 +1,22 @@
 use Rattle.std.proofs.Common.{refl}
-use Rattle.kernel_threads.proofs.Opened.{same_kept, same_state, rising, same_table}
-use Rattle.kernel_threads.proofs.Viewed.{moved_threads, moved_saved}
+use Rattle.kernel_threads.proofs.Moved.{moved}
+use Rattle.kernel_threads.proofs.Opened.{rising}
 use Rattle.kernel_threads.specs.declared.rows.Stage.TheVariants as stage
 use Rattle.mach_types.specs.declared.threads.ThreadState.TheVariants.{Running}
-use Rattle.kernel_threads.specs.Waits.{numbers_of}
-use Rattle.kernel_threads.proofs.Kept.{kept_moved}
 use Rattle.kernel_threads.proofs.table.Threads.leave.Goals as goal
 
 pub invariant_of-self : goal.invariant_of-self
 invariant_of-self c =
-    let lent = c.deref_mut.result.now in
-    kept_moved lent.rows.items c.set_stage.new.rows.items c.self.inside.given lent.waiters.items
-    (same_kept c.self.inside.slots.value lent c.self.inside.given c.deref_mut.ensures.value c.self.invariant)
-    c.args.tid.0 (stage.Ready c.args.saved) (Running c.requires.0) c.set_stage.ensures refl
-    (same_state c.args.tid.0 c.self.inside.slots.value lent c.self.inside.given c.args.self.now (Running c.requires.0) c.deref_mut.ensures.value c.self.view_is c.requires.1) refl
+    (moved c.self.inside.slots.value c.deref_mut.result.now c.self.inside.given c.args.self.now c.set_stage.new.rows.items
+    c.args.tid.0 (stage.Ready c.args.saved) (Running c.requires.0) c.deref_mut.ensures.value c.self.view_is c.self.invariant c.set_stage.ensures
+    c.requires.1 refl refl).kept
 
-pub returns-clause-threads : goal.returns-clause-threads
-returns-clause-threads c =
-    let lent = c.deref_mut.result.now in
-    moved_threads lent.rows.items c.set_stage.new.rows.items c.self.inside.given (numbers_of lent.waiters.items) c.args.tid.0 (stage.Ready c.args.saved) c.args.self.now
-    c.set_stage.ensures
-    (same_table c.self.inside.slots.value lent c.self.inside.given c.args.self.now c.deref_mut.ensures.value c.self.view_is)
-
-pub returns-clause-saved : goal.returns-clause-saved
-returns-clause-saved c =
-    let lent = c.deref_mut.result.now in
-    moved_saved lent.rows.items c.set_stage.new.rows.items c.self.inside.given (numbers_of lent.waiters.items) c.args.tid.0 (stage.Ready c.args.saved) c.args.self.now
-    c.set_stage.ensures
-    (same_table c.self.inside.slots.value lent c.self.inside.given c.args.self.now c.deref_mut.ensures.value c.self.view_is)
-
-pub returns-clause-table : goal.returns-clause-table
-returns-clause-table c = (invariant_of-self c).table
+pub returns : goal.returns
+returns c =
+    let after = moved c.self.inside.slots.value c.deref_mut.result.now c.self.inside.given c.args.self.now c.set_stage.new.rows.items
+    c.args.tid.0 (stage.Ready c.args.saved) (Running c.requires.0) c.deref_mut.ensures.value c.self.view_is c.self.invariant c.set_stage.ensures
+    c.requires.1 refl refl in
+    record { threads = after.threads; saved = after.saved; table = after.kept.table }
 
 pub set_stage-requires : goal.set_stage-requires
 set_stage-requires c = rising c.self.inside.slots.value c.deref_mut.result.now c.self.inside.given c.deref_mut.ensures.value c.self.invariant.table
