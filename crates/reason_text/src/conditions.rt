@@ -5,7 +5,7 @@ use mach_types::{End, Why};
 use std::fmt;
 
 /// Why an event isn't allowed, for a person.
-#[derive(Debug, Drop)]
+#[derive(Drop)]
 pub(crate) struct Cause(pub(crate) Refused);
 
 impl fmt::Display for Cause {

@@ -1,9 +1,8 @@
 //! The calls that are made of a run, over devices in memory.
 
-use crate::meeting::Meeting;
 use crate::rows::{NamedFile, Run};
 use outcomes::{Explained, Reason};
-use outside::{MemShelf, MemSink, OpenGate, SureShelf, SureSink};
+use outside::{Gate, MemShelf, MemSink, OpenGate, SureShelf, SureSink};
 use reason_text::{AtHand, KeepingShelf, explain};
 use std::alloc::{AllocError, Global};
 use std::sync::Wait;
@@ -51,15 +50,16 @@ fn shelf_files(alloc: Global, files: &[NamedFile]) -> Result<Vec<(String, Vec<u8
     Ok(shelf)
 }
 
-/// `rseq_main` over devices that fail where the run says so.
-pub(crate) fn by_main<R: Threads + Wait + Sync>(
+/// `rseq_main` over devices that fail where the run says so, with this gate.
+pub(crate) fn by_main<R: Threads + Wait + Sync, G: Gate + Sync>(
     alloc: Global,
     rt: &R,
     run: &Run,
+    gate: &G,
 ) -> Result<Outcome, AllocError> {
     let mut shelf = mem_shelf(alloc, run)?;
     let mut sink = mem_sink(alloc, run)?;
-    let status = rseq_main(alloc, rt, run.words, &mut shelf, &mut sink, &OpenGate);
+    let status = rseq_main(alloc, rt, run.words, &mut shelf, &mut sink, gate);
     Ok(Outcome {
         status: Some(status),
         text: sink.held().to_vec(alloc)?,
@@ -107,24 +107,6 @@ fn push_reason(
         Some(reason) => text.push_str(explain(alloc, reason, at_hand)?.as_str()),
         None => Ok(()),
     }
-}
-
-/// `rseq_main` with a gate at which the workers of harts 0 and 1 wait for one another, and whether they met
-/// there.
-pub(crate) fn by_meeting<R: Threads + Wait + Sync>(
-    alloc: Global,
-    rt: &R,
-    run: &Run,
-) -> Result<(Outcome, bool), AllocError> {
-    let gate = Meeting::new();
-    let mut shelf = mem_shelf(alloc, run)?;
-    let mut sink = mem_sink(alloc, run)?;
-    let status = rseq_main(alloc, rt, run.words, &mut shelf, &mut sink, &gate);
-    let outcome = Outcome {
-        status: Some(status),
-        text: sink.held().to_vec(alloc)?,
-    };
-    Ok((outcome, gate.met()))
 }
 
 /// `rseq_quiet` over devices that fail where the run says so.

@@ -1,14 +1,16 @@
 //! What is checked of a run.
 
 use crate::calls::{
-    Outcome, by_explained, by_main, by_meeting, by_quiet, by_sure_main, by_sure_quiet, words_of,
+    Outcome, by_explained, by_main, by_quiet, by_sure_main, by_sure_quiet, words_of,
 };
 use crate::differences::{Call, Difference, Unlike};
 use crate::dues::{DONE, Due, DueSaid, unlike_outcome};
+use crate::meeting::Meeting;
 use crate::printed::Printed;
 use crate::rows::{Failing, NamedFile, Run};
 use command_words::{Command, Shown, Source, WordsError, read_words};
 use mach_types::Limits;
+use outside::OpenGate;
 use std::alloc::{AllocError, Global};
 use std::sync::Wait;
 use std::thread::Threads;
@@ -31,7 +33,7 @@ pub(crate) fn difference_of<R: Threads + Wait + Sync>(
     if let Some(unlike) = explained_unlike(alloc, rt, run, due, said)? {
         return told(Call::Explained, unlike);
     }
-    let made = by_main(alloc, rt, run)?;
+    let made = by_main(alloc, rt, run, &OpenGate)?;
     if let Some(unlike) = due.unlike(alloc, &made)? {
         return told(Call::Main, unlike);
     }
@@ -59,8 +61,9 @@ pub(crate) fn meeting_difference<R: Threads + Wait + Sync>(
     run: &Run,
     due: &Due,
 ) -> Result<Option<Difference>, AllocError> {
-    let (made, has_met) = by_meeting(alloc, rt, run)?;
-    if !has_met {
+    let gate = Meeting::new();
+    let made = by_main(alloc, rt, run, &gate)?;
+    if !gate.met() {
         return told(Call::Meeting, Unlike::Apart);
     }
     match due.unlike(alloc, &made)? {
@@ -189,7 +192,7 @@ fn replayed<R: Threads + Wait + Sync>(
         files: &files,
         failing: &Failing::none(alloc),
     };
-    by_main(alloc, rt, &replay)
+    by_main(alloc, rt, &replay, &OpenGate)
 }
 
 /// The command line that plays the file S on the program F with these limits.

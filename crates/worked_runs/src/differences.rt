@@ -23,16 +23,17 @@ pub(crate) enum Call {
     Meeting,
 }
 
-impl fmt::Display for Call {
-    fn fmt<W: fmt::Write>(&self, f: &mut fmt::Formatter<W>) -> fmt::Result {
+impl Call {
+    /// What the call is told as.
+    fn name(self) -> &'static str {
         match self {
-            Call::Main => write!(f, "rseq_main"),
-            Call::Quiet => write!(f, "rseq_quiet"),
-            Call::SureMain => write!(f, "sure_main"),
-            Call::SureQuiet => write!(f, "sure_quiet"),
-            Call::Replay => write!(f, "play of its log"),
-            Call::Explained => write!(f, "rseq_explained"),
-            Call::Meeting => write!(f, "rseq_main by workers that meet"),
+            Call::Main => "rseq_main",
+            Call::Quiet => "rseq_quiet",
+            Call::SureMain => "sure_main",
+            Call::SureQuiet => "sure_quiet",
+            Call::Replay => "play of its log",
+            Call::Explained => "rseq_explained",
+            Call::Meeting => "rseq_main by workers that meet",
         }
     }
 }
@@ -58,28 +59,35 @@ pub(crate) enum Unlike {
 impl fmt::Display for Unlike {
     fn fmt<W: fmt::Write>(&self, f: &mut fmt::Formatter<W>) -> fmt::Result {
         match self {
-            Unlike::Status { found, due } => {
-                write!(f, "its status is ")?;
-                write_status(f, *found)?;
-                write!(f, ", and ")?;
-                write_status(f, *due)?;
-                write!(f, " is due")
-            }
+            Unlike::Status { found, due } => write_statuses(f, *found, *due),
             Unlike::Line(line) => write!(f, "{line}"),
-            Unlike::Beginning => write!(f, "its text begins otherwise"),
-            Unlike::Ending => write!(f, "its text ends otherwise"),
-            Unlike::NoLog => write!(f, "its text has no log"),
-            Unlike::Said => write!(f, "standard error and the status don't fit"),
-            Unlike::Apart => write!(f, "its workers don't overlap"),
+            Unlike::Beginning => f.write_str("its text begins otherwise"),
+            Unlike::Ending => f.write_str("its text ends otherwise"),
+            Unlike::NoLog => f.write_str("its text has no log"),
+            Unlike::Said => f.write_str("standard error and the status don't fit"),
+            Unlike::Apart => f.write_str("its workers don't overlap"),
         }
     }
+}
+
+/// Writes two statuses that differ.
+fn write_statuses<W: fmt::Write>(
+    f: &mut fmt::Formatter<W>,
+    found: Option<u8>,
+    due: Option<u8>,
+) -> fmt::Result {
+    f.write_str("its status is ")?;
+    write_status(f, found)?;
+    f.write_str(", and ")?;
+    write_status(f, due)?;
+    f.write_str(" is due")
 }
 
 /// Writes a status.
 fn write_status<W: fmt::Write>(f: &mut fmt::Formatter<W>, status: Option<u8>) -> fmt::Result {
     match status {
         Some(number) => write!(f, "{number}"),
-        None => write!(f, "none"),
+        None => f.write_str("none"),
     }
 }
 
@@ -148,7 +156,7 @@ pub(crate) struct Difference {
 
 impl fmt::Display for Difference {
     fn fmt<W: fmt::Write>(&self, f: &mut fmt::Formatter<W>) -> fmt::Result {
-        let call = self.call;
+        let call = self.call.name();
         let unlike = &self.unlike;
         write!(f, "{call}: {unlike}")
     }

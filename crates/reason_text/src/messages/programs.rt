@@ -26,61 +26,57 @@ pub(crate) fn push_elf_fault(
 }
 
 /// What is wrong with a program's file.
-#[derive(Debug, Drop)]
+#[derive(Drop)]
 struct Sentence(ElfFault);
 
 impl fmt::Display for Sentence {
     fn fmt<W: fmt::Write>(&self, f: &mut fmt::Formatter<W>) -> fmt::Result {
-        match self.0 {
-            ElfFault::Short => f.write_str("it is shorter than an ELF header"),
-            ElfFault::Magic => f.write_str("it doesn't begin with the magic number of ELF"),
-            ElfFault::Class => f.write_str("it isn't of 64 bits (ELFCLASS64)"),
-            ElfFault::Endian => f.write_str("it isn't little-endian"),
-            ElfFault::Version => f.write_str("its ELF version isn't 1"),
-            ElfFault::FileKind => {
-                f.write_str("it isn't an executable linked at fixed addresses (ET_EXEC)")
-            }
-            ElfFault::Machine => f.write_str("it isn't for RISC-V"),
-            ElfFault::Flags(flags) => write!(
-                f,
-                "its e_flags are {flags:#x}, and only 0 and 0x10 (TSO) are supported: \
-                 no compressed code, no floating-point ABI"
-            ),
-            ElfFault::Headers => f.write_str(
-                "its program header table is empty, has more than 64 entries \
-                 or entries of another size than 56 bytes, or isn't whole in the file",
-            ),
-            ElfFault::Dynamic => f.write_str("it asks for a dynamic linker or an interpreter"),
-            ElfFault::Segment(k) => write!(
-                f,
-                "{} isn't whole in the file, has more bytes there than in memory, \
-                 or doesn't lie between the addresses 0x1000 and 0x2000000000",
-                Numbered(k)
-            ),
-            ElfFault::Align(k) => write!(
-                f,
-                "{} has an address and a file offset that differ modulo 4096",
-                Numbered(k)
-            ),
-            ElfFault::WritableCode(k) => write!(f, "{} is writable and executable", Numbered(k)),
-            ElfFault::Overlap(k) => write!(f, "{} has a page of an earlier segment", Numbered(k)),
-            ElfFault::Entry => {
-                f.write_str("the entry isn't a multiple of 4, or its 4 bytes aren't in code")
-            }
-            ElfFault::TooLarge(needed) => write!(f, "{needed} frames are needed"),
-            ElfFault::NoMemory => f.write_str("out of memory"),
-        }
+        write_numbers(f, self.0)?;
+        f.write_str(complaint(self.0))
     }
 }
 
-/// The segment whose program header stands at this index of the table.
-#[derive(Debug, Drop)]
-struct Numbered(usize);
+/// Writes the beginning of the sentence, where it has a number.
+fn write_numbers<W: fmt::Write>(f: &mut fmt::Formatter<W>, fault: ElfFault) -> fmt::Result {
+    match fault {
+        ElfFault::Flags(flags) => write!(f, "its e_flags are {flags:#x}, and "),
+        ElfFault::TooLarge(needed) => write!(f, "{needed} "),
+        ElfFault::Segment(k)
+        | ElfFault::Align(k)
+        | ElfFault::WritableCode(k)
+        | ElfFault::Overlap(k) => write!(f, "segment {k} (program headers are counted from 0) "),
+        _ => Ok(()),
+    }
+}
 
-impl fmt::Display for Numbered {
-    fn fmt<W: fmt::Write>(&self, f: &mut fmt::Formatter<W>) -> fmt::Result {
-        let k = self.0;
-        write!(f, "segment {k} (program headers are counted from 0)")
+/// The sentence behind its numbers.
+fn complaint(fault: ElfFault) -> &'static str {
+    match fault {
+        ElfFault::Short => "it is shorter than an ELF header",
+        ElfFault::Magic => "it doesn't begin with the magic number of ELF",
+        ElfFault::Class => "it isn't of 64 bits (ELFCLASS64)",
+        ElfFault::Endian => "it isn't little-endian",
+        ElfFault::Version => "its ELF version isn't 1",
+        ElfFault::FileKind => "it isn't an executable linked at fixed addresses (ET_EXEC)",
+        ElfFault::Machine => "it isn't for RISC-V",
+        ElfFault::Flags(_) => {
+            "only 0 and 0x10 (TSO) are supported: no compressed code, no floating-point ABI"
+        }
+        ElfFault::Headers => {
+            "its program header table is empty, has more than 64 entries \
+             or entries of another size than 56 bytes, or isn't whole in the file"
+        }
+        ElfFault::Dynamic => "it asks for a dynamic linker or an interpreter",
+        ElfFault::Segment(_) => {
+            "isn't whole in the file, has more bytes there than in memory, \
+             or doesn't lie between the addresses 0x1000 and 0x2000000000"
+        }
+        ElfFault::Align(_) => "has an address and a file offset that differ modulo 4096",
+        ElfFault::WritableCode(_) => "is writable and executable",
+        ElfFault::Overlap(_) => "has a page of an earlier segment",
+        ElfFault::Entry => "the entry isn't a multiple of 4, or its 4 bytes aren't in code",
+        ElfFault::TooLarge(_) => "frames are needed",
+        ElfFault::NoMemory => "out of memory",
     }
 }
 
@@ -123,7 +119,7 @@ fn push_segment(
 }
 
 /// Where a span begins and ends. One that ends at the greatest number may be cut off there.
-#[derive(Debug, Drop)]
+#[derive(Drop)]
 struct Bounds(Span);
 
 impl fmt::Display for Bounds {

@@ -4,7 +4,7 @@ use std::fmt;
 use std::fmt::Write;
 
 /// A name or a word: control characters as `\xNN`, and quotes alone where it is empty.
-#[derive(Debug, Drop)]
+#[derive(Drop)]
 pub(crate) struct Shown<'a>(pub(crate) &'a str);
 
 impl fmt::Display for Shown<'_> {

@@ -12,48 +12,54 @@ pub(crate) fn push_words_fault(
     fault: WordsFault,
     words: &[String],
 ) -> Result<(), AllocError> {
-    let command = Shown(word_at(words, 1));
-    match fault {
-        WordsFault::NoCommand => writeln!(text, "there is no command")?,
-        WordsFault::UnknownCommand => writeln!(text, "{command}: there is no such command")?,
-        WordsFault::UnknownOption(n) => {
-            let word = Shown(word_at(words, n));
-            writeln!(text, "{word}: there is no such option")?;
-        }
-        WordsFault::NotTaken(n) => {
-            let word = Shown(word_at(words, n));
-            writeln!(text, "{word}: {command} has no such option")?;
-        }
-        WordsFault::Twice(n) => {
-            let word = Shown(word_at(words, n));
-            writeln!(text, "{word}: the option is given twice")?;
-        }
-        WordsFault::NoValue(n) => {
-            let word = Shown(word_at(words, n));
-            writeln!(
-                text,
-                "{word}: its value is missing; a value doesn't begin with -"
-            )?;
-        }
-        WordsFault::OutOfRange { word, least, most } => {
-            push_value(text, words, word)?;
-            writeln!(
-                text,
-                ": the value isn't a number from {least} to {most}, of 20 digits at most"
-            )?;
-        }
-        WordsFault::OneNameTooMany(n) => {
-            let word = Shown(word_at(words, n));
-            writeln!(text, "{word}: a name too many for {command}")?;
-        }
-        WordsFault::NoProgram => writeln!(text, "{command}: the name of the program is missing")?,
-        WordsFault::NoScript => writeln!(text, "{command}: the name of the script is missing")?,
-    }
+    push_word(text, fault, words)?;
+    push_complaint(text, fault, word_at(words, 1))?;
     push_usage(text)?;
     if asks_for_help(words) {
         push_help(text)?;
     }
     Ok(())
+}
+
+/// Appends the word that is wrong, if there is one; an option stands before its value.
+fn push_word(text: &mut String, fault: WordsFault, words: &[String]) -> Result<(), AllocError> {
+    let number = match fault {
+        WordsFault::NoCommand => return Ok(()),
+        WordsFault::UnknownCommand | WordsFault::NoProgram | WordsFault::NoScript => 1,
+        WordsFault::UnknownOption(number)
+        | WordsFault::NotTaken(number)
+        | WordsFault::Twice(number)
+        | WordsFault::NoValue(number)
+        | WordsFault::OneNameTooMany(number) => number,
+        WordsFault::OutOfRange { word, .. } => {
+            push_option(text, words, word)?;
+            word
+        }
+    };
+    let word = Shown(word_at(words, number));
+    write!(text, "{word}: ")
+}
+
+/// Appends what is said of the word that is wrong.
+fn push_complaint(text: &mut String, fault: WordsFault, command: &str) -> Result<(), AllocError> {
+    let command = Shown(command);
+    match fault {
+        WordsFault::NotTaken(_) => writeln!(text, "{command} has no such option"),
+        WordsFault::OneNameTooMany(_) => writeln!(text, "a name too many for {command}"),
+        WordsFault::OutOfRange { least, most, .. } => writeln!(
+            text,
+            "the value isn't a number from {least} to {most}, of 20 digits at most"
+        ),
+        WordsFault::NoCommand => text.push_str("there is no command\n"),
+        WordsFault::UnknownCommand => text.push_str("there is no such command\n"),
+        WordsFault::UnknownOption(_) => text.push_str("there is no such option\n"),
+        WordsFault::Twice(_) => text.push_str("the option is given twice\n"),
+        WordsFault::NoValue(_) => {
+            text.push_str("its value is missing; a value doesn't begin with -\n")
+        }
+        WordsFault::NoProgram => text.push_str("the name of the program is missing\n"),
+        WordsFault::NoScript => text.push_str("the name of the script is missing\n"),
+    }
 }
 
 /// Whether the only word asks for help or for the version. The grammar has no such word.
@@ -72,14 +78,11 @@ fn word_at(words: &[String], number: usize) -> &str {
     }
 }
 
-/// Appends an option with the value that stands in this word, or is this word.
-fn push_value(text: &mut String, words: &[String], number: usize) -> Result<(), AllocError> {
-    let value = word_at(words, number);
-    if !value.starts_with('-') {
-        let option = Shown(word_at(words, number.saturating_sub(1)));
-        write!(text, "{option} ")?;
+/// Appends the option of the value in this word, unless the word is an option itself.
+fn push_option(text: &mut String, words: &[String], number: usize) -> Result<(), AllocError> {
+    if word_at(words, number).starts_with('-') {
+        return Ok(());
     }
-    let value = Shown(value);
-    write!(text, "{value}")?;
-    Ok(())
+    let option = Shown(word_at(words, number.saturating_sub(1)));
+    write!(text, "{option} ")
 }
