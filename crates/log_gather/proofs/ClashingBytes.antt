@@ -1,14 +1,19 @@
 -- Two lists of bytes overlap where a byte is in both; and so an event clashes with one of several where it touches their bytes.
-use Rattle.std.proofs.Common.{◌≡◌, ℕ, zero, suc, ◌+◌, ◌<◌, List, [], ◌∷◌, filter, refl, sym, ap, ◌∙◌, arith, Bool, true, false, not, cond, ltb, leb, ◌&&◌, ◌||◌, inl, inr}
+use Rattle.std.proofs.Common.{◌≡◌, ℕ, zero, suc, ◌+◌, ◌<◌, ◌≤◌, List, [], ◌∷◌, ◌++◌, filter, length, refl, sym, ap, ◌∙◌, arith, Bool, true, false, not, cond, ltb, leb, ◌&&◌, ◌||◌, inl, inr}
 use Rattle.std.proofs.Math.Path.{fun_ext}
+use Rattle.std.specs.HashSet.{contains}
+use Rattle.std.specs.Prelude.{nat_eq}
 use Rattle.std.specs.List.{flat_map, list_all, list_any, range_with_len}
 use Rattle.std.proofs.lemmas.Bool.Decides.{nat_tests}
 use Rattle.std.proofs.lemmas.List.Folds.{list_any-append}
 use Rattle.rv_inst.specs.Accesses.{Bytes, bytes}
 use Rattle.block_model.specs.Footprints.{has_byte, have_byte, overlap, overlap_any}
-use Rattle.log_gather.specs.ByteSets.{IsBounded, any_byte, any_in, holds}
+use Rattle.log_gather.specs.ByteSets.{HasEach, IsBounded, IsWith, any_byte, any_in, covers, has_each, holds, in_extent, meets}
 use Rattle.log_gather.specs.declared.byte_sets.ByteSet.{ByteSet}
-use Rattle.std.proofs.lemmas.Bool.{and_cases, false_from_ne_true, ltb-false}
+use Rattle.log_gather.specs.declared.byte_sets.Extent.{Extent}
+use Rattle.log_gather.specs.declared.byte_sets.TheConstants.{MOST_EXTENTS}
+use Rattle.std.proofs.Math.Bool.{or-true}
+use Rattle.std.proofs.lemmas.Bool.{and_cases, and_from, and_parts, false_from_ne_true, false≢true, le-leb, leb-true, lt-ltb, ltb-false, ltb-true, or_cases, or_left}
 use Rattle.log_gather.specs.LogEvents.{LogEvent, clash, is_own, is_undisturbed, others_of, own_of, reads_of, writes_of}
 
 -- TESTS OF LISTS
@@ -154,3 +159,116 @@ none_outside s at count bounded out =
       | inl past ↦ omega (arith, ltb-false at s.end past, w.1)
       | inr before ↦ omega (arith, ltb-false s.lowest (at + count) before, w.0)
     ])))
+
+-- an extent has one of several bytes where it meets them
+none_met : (s e a : ℕ) → false ≡ (ltb s (a + 0) && (ltb a e && (ltb s e && ltb a (a + 0))))
+none_met s e a = grind (arith, nat_tests)
+
+one_met_more : (s e a n : ℕ) → ((leb s a && ltb a e) || (ltb s (a + 1 + n) && (ltb (a + 1) e && (ltb s e && ltb (a + 1) (a + 1 + n))))) ≡ (ltb s (a + suc n) && (ltb a e && (ltb s e && ltb a (a + suc n))))
+one_met_more s e a n = grind (arith, nat_tests)
+
+met : (x : Extent) (at start n : ℕ) → list_any (λ k. in_extent (at + k) x) (range_with_len start n) ≡ meets (at + start) (at + start + n) x
+met x at start zero = none_met x.at x.end (at + start)
+met x at start (suc n) =
+    let next : at + (start + 1) ≡ at + start + 1 = omega arith in
+    ap (λ b. in_extent (at + start) x || b) (met x at (start + 1) n ∙ ap (λ a. meets a (a + n) x) next) ∙ one_met_more x.at x.end (at + start) n
+
+met_any : (xs : List Extent) (at n : ℕ) → list_any (λ k. list_any (in_extent (at + k)) xs) (range_with_len 0 n) ≡ list_any (meets at (at + n)) xs
+met_any [] at n = any_none (range_with_len 0 n)
+met_any (x ∷ xs) at n =
+    let start : at + 0 ≡ at = omega arith in
+    any_or (λ k. in_extent (at + k) x) (λ k. list_any (in_extent (at + k)) xs) (range_with_len 0 n)
+    ∙ ap (λ b. b || list_any (λ k. list_any (in_extent (at + k)) xs) (range_with_len 0 n)) (met x at 0 n ∙ ap (λ a. meets a (a + n) x) start)
+    ∙ ap (λ b. meets at (at + n) x || b) (met_any xs at n)
+
+-- so a set has one of them in an extent, or by itself
+any_parted : (s : ByteSet) (at count : ℕ) → any_byte (holds s) (bytes at count) ≡ (list_any (meets at (at + count)) s.extents.items || any_byte (has_each s) (bytes at count))
+any_parted s at count =
+    any_or (λ k. list_any (in_extent (at + k)) s.extents.items) (λ k. has_each s (at + k)) (range_with_len 0 count)
+    ∙ ap (λ b. b || any_byte (has_each s) (bytes at count)) (met_any s.extents.items at count)
+
+pub any_met : (s : ByteSet) (at count : ℕ) → list_any (meets at (at + count)) s.extents.items ≡ true → true ≡ any_byte (holds s) (bytes at count)
+any_met s at count is = sym (any_parted s at count ∙ ap (λ b. b || any_byte (has_each s) (bytes at count)) is)
+
+pub none_each : (s : ByteSet) (at count : ℕ) → IsBounded s → list_any (meets at (at + count)) s.extents.items ≡ false → length s.extents.items < MOST_EXTENTS → false ≡ any_byte (holds s) (bytes at count)
+none_each s at count bounded is few =
+    sym (any_parted s at count ∙ ap (λ b. b || any_byte (has_each s) (bytes at count)) is
+    ∙ none_at (λ k. has_each s (at + k)) 0 count (λ k below. bounded.extents_first few (at + k)))
+
+pub any_each : (s : ByteSet) (at count : ℕ) → list_any (meets at (at + count)) s.extents.items ≡ false → any_byte (has_each s) (bytes at count) ≡ any_byte (holds s) (bytes at count)
+any_each s at count is = sym (any_parted s at count ∙ ap (λ b. b || any_byte (has_each s) (bytes at count)) is)
+
+-- what is added that is there already
+or_there : (b c : Bool) → (c ≡ true → b ≡ true) → b ≡ (b || c)
+or_there true c there = refl
+or_there false true there = there refl
+or_there false false there = refl
+
+in_covering : (s e at end a : ℕ) → (leb s at && leb end e) ≡ true → (leb at a && ltb a end) ≡ true → (leb s a && ltb a e) ≡ true
+in_covering s e at end a around inside =
+    let p = and_parts (leb s at) (leb end e) around in
+    let q = and_parts (leb at a) (ltb a end) inside in
+    and_from (leb s a) (ltb a e) (le-leb s a (omega (arith, leb-true s at p.0, leb-true at a q.0))) (lt-ltb a e (omega (arith, ltb-true a end q.1, leb-true end e p.1)))
+
+covered : (xs : List Extent) (at end a : ℕ) → list_any (covers at end) xs ≡ true → (leb at a && ltb a end) ≡ true → list_any (in_extent a) xs ≡ true
+covered [] at end a there inside = absurd (false≢true there)
+covered (x ∷ xs) at end a there inside = elim (or_cases (covers at end x) (list_any (covers at end) xs) there) [
+  | inl here ↦ or_left (in_extent a x) (list_any (in_extent a) xs) (in_covering x.at x.end at end a here inside)
+  | inr later ↦ ap (λ b. in_extent a x || b) (covered xs at end a later inside) ∙ or-true (in_extent a x)
+]
+
+pub with_covered : (s : ByteSet) (at count : ℕ) → IsBounded s → list_any (covers at (at + count)) s.extents.items ≡ true → IsWith s (bytes at count) s
+with_covered s at count bounded there = record {
+  members = λ a. or_there (holds s a) (has_byte (bytes at count) a) (λ is. or_left (list_any (in_extent a) s.extents.items) (has_each s a) (covered s.extents.items at (at + count) a there is));
+  bounded = bounded;
+}
+
+-- and what is added in an extent, or byte by byte
+module _ (s t : ByteSet) (at count past : ℕ) (past_is : past ≡ at + count) (bounded : IsBounded s) (low : t.lowest ≤ s.lowest) (low_here : t.lowest ≤ at) (high : s.end ≤ t.end) (high_here : past ≤ t.end) where
+  bounded_by : (members : (a : ℕ) → holds t a ≡ (holds s a || has_byte (bytes at count) a)) (a : ℕ) → holds t a ≡ true → (t.lowest ≤ a) × (a < t.end)
+  bounded_by members a there = elim (or_cases (holds s a) (has_byte (bytes at count) a) (sym (members a) ∙ there)) [
+    | inl old ↦ let w = bounded.within a old in (omega (arith, w.0, low), omega (arith, w.1, high))
+    | inr new ↦
+        let q = and_parts (leb at a) (ltb a (at + count)) new in
+        (omega (arith, leb-true at a q.0, low_here), omega (arith, ltb-true a (at + count) q.1, high_here, past_is))
+  ]
+
+  shuffle : (p c h : Bool) → ((p || (h || false)) || c) ≡ ((p || c) || h)
+  shuffle true c h = refl
+  shuffle false true true = refl
+  shuffle false true false = refl
+  shuffle false false true = refl
+  shuffle false false false = refl
+
+  or_or : (p c h : Bool) → (p || (c || h)) ≡ ((p || c) || h)
+  or_or true c h = refl
+  or_or false c h = refl
+
+  pub with_pushed : t.extents.items ≡ s.extents.items ++ record { at = at; end = past } ∷ [] → t.bytes ≡ s.bytes → length s.extents.items < MOST_EXTENTS → IsWith s (bytes at count) t
+  with_pushed extents same few =
+      let members : (a : ℕ) → holds t a ≡ (holds s a || has_byte (bytes at count) a) = λ a.
+      ap (λ xs. list_any (in_extent a) xs || has_each t a) (extents ∙ ap (λ p. s.extents.items ++ record { at = at; end = p } ∷ []) past_is)
+      ∙ ap (λ b. list_any (in_extent a) (s.extents.items ++ record { at = at; end = at + count } ∷ []) || contains nat_eq b a) same
+      ∙ ap (λ b. b || has_each s a) (list_any-append (in_extent a) s.extents.items (record { at = at; end = at + count } ∷ []))
+      ∙ shuffle (list_any (in_extent a) s.extents.items) (has_each s a) (has_byte (bytes at count) a) in
+      record {
+        members = members;
+        bounded = record {
+          within = bounded_by members;
+          extents_first = λ more a. ap (λ b. contains nat_eq b a) same ∙ bounded.extents_first few a;
+        };
+      }
+
+  pub with_each : ((a : ℕ) → has_each t a ≡ (has_each s a || (leb at a && ltb a past))) → t.extents ≡ s.extents → MOST_EXTENTS ≤ length s.extents.items → IsWith s (bytes at count) t
+  with_each each extents many =
+      let members : (a : ℕ) → holds t a ≡ (holds s a || has_byte (bytes at count) a) = λ a.
+      ap (λ v. list_any (in_extent a) v.items || has_each t a) extents
+      ∙ ap (λ b. list_any (in_extent a) s.extents.items || b) (each a ∙ ap (λ p. has_each s a || (leb at a && ltb a p)) past_is)
+      ∙ or_or (list_any (in_extent a) s.extents.items) (has_each s a) (has_byte (bytes at count) a) in
+      record {
+        members = members;
+        bounded = record {
+          within = bounded_by members;
+          extents_first = λ few a. absurd (omega (arith, many, few, ap (λ v. length v.items) extents));
+        };
+      }

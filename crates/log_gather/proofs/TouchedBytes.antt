@@ -6,13 +6,14 @@ use Rattle.std.specs.Option.{option_map_or}
 use Rattle.std.proofs.lemmas.Bool.{or_left}
 use Rattle.std.proofs.lemmas.List.{map-append, take_more}
 use Rattle.std.proofs.lemmas.List.Folds.{list_any-append}
-use Rattle.rv_inst.specs.Accesses.{Bytes}
-use Rattle.block_model.specs.Footprints.{have_byte, overlap_any}
+use Rattle.mach_types.specs.declared.sequences.TheConstants.{DESCRIPTOR_SIZE, FLAGS, RSEQ_CS}
+use Rattle.rv_inst.specs.Accesses.{Bytes, bytes}
+use Rattle.block_model.specs.Footprints.{has_byte, have_byte, overlap_any}
 use Rattle.rseq_area.specs.declared.lookups.Lookups.{Lookups}
-use Rattle.log_gather.specs.ByteSets.{AreWith, HasLookedAt, HasTouched, IsBounded, IsReady, IsTouched, any_in, clashes_in, holds}
+use Rattle.log_gather.specs.ByteSets.{AreWith, HasLookedAt, HasTouched, IsBounded, IsReady, IsTouched, IsWith, any_in, clashes_in, holds}
 use Rattle.log_gather.specs.Facts.{is_of}
 use Rattle.log_gather.specs.LogEvents.{LogEvent, clash, is_own, is_undisturbed, own_of, reads_of, writes_of}
-use Rattle.log_gather.specs.Lookups.{bytes_looked_at}
+use Rattle.log_gather.specs.Lookups.{bytes_if, bytes_looked_at}
 use Rattle.log_gather.specs.Turns.{event_of, own_steps}
 use Rattle.log_gather.specs.declared.byte_sets.ByteSet.{ByteSet}
 use Rattle.log_gather.specs.declared.clashes.Touched.{Touched}
@@ -47,6 +48,20 @@ with_both {s = s} xs ys front back = record {
   members = λ a. back.members a ∙ ap (λ b. b || have_byte ys a) (front.members a) ∙ or_all (holds s a) (have_byte xs a) (have_byte ys a) ∙ ap (λ b. holds s a || b) (sym (have_both xs ys a));
   bounded = back.bounded;
 }
+
+one_with : {s t : ByteSet} (x : Bytes) → IsWith s x t → AreWith s (x ∷ []) t
+one_with {s = s} x one = record { members = λ a. one.members a ∙ ap (λ b. holds s a || b) (or_false (has_byte x a)); bounded = one.bounded }
+
+-- the bytes at which the check of an area looks, one range after the other
+pub looked_with : {s t u v w : ByteSet} (l : Lookups) (a b : ℕ) → a ≡ l.area + RSEQ_CS → b ≡ l.area + FLAGS → IsWith s (bytes a 8) t → IsWith t (bytes b 4) u
+    → AreWith u (bytes_if l.descriptor DESCRIPTOR_SIZE) v → AreWith v (bytes_if l.signature 4) w → AreWith s (bytes_looked_at l) w
+looked_with {s = s} {w = w} l a b pointer flags one two three four =
+    let rest = bytes_if l.descriptor DESCRIPTOR_SIZE ++ bytes_if l.signature 4 in
+    let P : ℕ → Type 0 = λ n. AreWith s (bytes n 8 ∷ bytes b 4 ∷ rest) w in
+    let Q : ℕ → Type 0 = λ n. AreWith s (bytes (l.area + RSEQ_CS) 8 ∷ bytes n 4 ∷ rest) w in
+    let last = with_both (bytes_if l.descriptor DESCRIPTOR_SIZE) (bytes_if l.signature 4) three four in
+    let whole = with_both (bytes a 8 ∷ []) (bytes b 4 ∷ rest) (one_with (bytes a 8) one) (with_both (bytes b 4 ∷ []) rest (one_with (bytes b 4) two) last) in
+    subst Q flags (subst P pointer whole)
 
 grown : {s t : ByteSet} (xs : List Bytes) → AreWith s xs t → (a : ℕ) → holds s a ≡ true → holds t a ≡ true
 grown {s = s} xs with a there = with.members a ∙ or_left (holds s a) (have_byte xs a) there

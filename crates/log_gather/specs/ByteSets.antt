@@ -1,5 +1,5 @@
 -- Sets of bytes of memory, and what the events of a sequence touch, as code keeps them (own).
-use Rattle.std.specs.Prelude.{ℕ, ◌+◌, ◌<◌, ◌≤◌, ◌≡◌, ◌||◌, Bool, true, List, nat_eq, Option, []}
+use Rattle.std.specs.Prelude.{ℕ, ◌+◌, ◌<◌, ◌≤◌, ◌≡◌, ◌&&◌, ◌||◌, Bool, true, false, List, length, nat_eq, nat_le, nat_lt, Option, []}
 use Rattle.std.specs.HashSet.{contains}
 use Rattle.std.specs.Option.{option_map_or}
 use Rattle.std.specs.List.{flat_map, list_any, range_with_len}
@@ -9,15 +9,38 @@ use Rattle.rseq_area.specs.declared.lookups.Lookups.{Lookups}
 use Rattle.log_gather.specs.LogEvents.{LogEvent, reads_of, writes_of}
 use Rattle.log_gather.specs.Lookups.{bytes_looked_at}
 use Rattle.log_gather.specs.declared.byte_sets.ByteSet.{ByteSet}
+use Rattle.log_gather.specs.declared.byte_sets.Extent.{Extent}
+use Rattle.log_gather.specs.declared.byte_sets.TheConstants.{MOST_EXTENTS}
 use Rattle.log_gather.specs.declared.clashes.Touched.{Touched}
 
--- whether the byte at an address is in a set
-abbrev pub holds : ByteSet → ℕ → Bool
-holds s a = contains nat_eq s.bytes a
+-- whether the byte at an address is in an extent; whether the bytes between two addresses are all in it, and whether one of them is
+abbrev pub in_extent : ℕ → Extent → Bool
+in_extent a x = nat_le x.at a && nat_lt a x.end
 
--- each byte of a set is in its bounds
+abbrev pub covers : ℕ → ℕ → Extent → Bool
+covers at end x = nat_le x.at at && nat_le end x.end
+
+abbrev pub meets : ℕ → ℕ → Extent → Bool
+meets at end x = nat_lt x.at end && (nat_lt at x.end && (nat_lt x.at x.end && nat_lt at end))
+
+-- whether the byte at an address was added by itself; whether it is in a set
+abbrev pub has_each : ByteSet → ℕ → Bool
+has_each s a = contains nat_eq s.bytes a
+
+abbrev pub holds : ByteSet → ℕ → Bool
+holds s a = list_any (in_extent a) s.extents.items || has_each s a
+
+-- each byte of a set is in its bounds, and none was added by itself while there was room for extents
 pub record IsBounded (s : ByteSet) : Type 0 where
   pub within : (a : ℕ) → holds s a ≡ true → (s.lowest ≤ a) × (a < s.end)
+  pub extents_first : length s.extents.items < MOST_EXTENTS → (a : ℕ) → has_each s a ≡ false
+
+-- a set to which the bytes between two addresses were added each by itself
+pub record HasEach (s : ByteSet) (at past : ℕ) (t : ByteSet) : Type 0 where
+  pub members : (a : ℕ) → has_each t a ≡ (has_each s a || (nat_le at a && nat_lt a past))
+  pub extents : t.extents ≡ s.extents
+  pub lowest : t.lowest ≡ s.lowest
+  pub end : t.end ≡ s.end
 
 -- whether one of these bytes has this, and one of those of several ranges
 abbrev pub any_byte : (ℕ → Bool) → Bytes → Bool
