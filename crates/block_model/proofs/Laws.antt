@@ -59,7 +59,7 @@ pub use Rattle.block_model.proofs.TablesOfCalls.{IsAgreed, agreed_called}
 pub use Rattle.block_model.proofs.Barriers.Requests.{IsAwaited, IsAwaitedBy, alone_awaits, alone_requests, asked_below}
 pub use Rattle.block_model.proofs.Barriers.Events.{IsAtOthers, IsBegun, IsFitBarriers, IsStill}
 pub use Rattle.block_model.proofs.Images.{HaveBytes, image_bytes}
-pub use Rattle.block_model.proofs.Choosing.{no_call_held, none_of_both}
+pub use Rattle.block_model.proofs.Choosing.{no_call_held, none_of_both, some_hart_goes_on}
 pub use Rattle.block_model.proofs.EventEffects.{IsNext as IsNextInstruction}
 pub use Rattle.block_model.proofs.FileSteps.{Aborts, Answered, AtBirth, AtHandler, AtRun, AtTake, ByCall, ByInstruction}
 pub use Rattle.block_model.proofs.FileSteps.{FileStays, FileStep, IsInterrupted, file_step}
