@@ -18,7 +18,8 @@ use Rattle.block_model.specs.Run.{IsBlockRun}
 use Rattle.block_model.specs.Setting.{Setting}
 use Rattle.block_model.specs.Sights.{thread}
 use Rattle.block_model.proofs.Laws.{next_is_none}
-use Rattle.drawn_runs.specs.DrawnRuns.{Manner, drawing_at, drawn_entry}
+use Rattle.drawn_runs.specs.declared.manner.Manner.{Manner}
+use Rattle.drawn_runs.specs.DrawnRuns.{drawing_at, drawn_entry}
 use Rattle.drawn_runs.proofs.Able.{HasWork, some_able}
 use Rattle.drawn_runs.proofs.Opened.{entry_comes, opened_of_machine}
 

@@ -5,11 +5,11 @@ use Rattle.mach_types.specs.declared.events.Entry.{Entry}
 use Rattle.rv_inst.specs.declared.effects.Effect.{Effect}
 use Rattle.draw_policies.specs.Accesses.{access_of_effect, access_of_store}
 use Rattle.draw_policies.specs.declared.accesses.Access.{Access}
-use Rattle.draw_policies.specs.declared.policies.Policy.{Policy}
 use Rattle.drawings.specs.Drawings.{Drawn, draw, kept_after}
 use Rattle.drawings.specs.Scenes.{Scene}
 use Rattle.drawings.specs.Starts.{start}
 use Rattle.drawings.specs.declared.drawing.Drawing.{Drawing}
+use Rattle.drawn_runs.specs.declared.manner.Manner.{Manner}
 use Rattle.block_model.specs.Choosing.{has_ended}
 use Rattle.block_model.specs.Deciding.{entry_in, history}
 use Rattle.block_model.specs.Here.{Here, runs, waiting_here}
@@ -17,14 +17,6 @@ use Rattle.block_model.specs.History.{History, here_in_history, kernel, ran}
 use Rattle.block_model.specs.Sequences.{is_inside_here}
 use Rattle.block_model.specs.Setting.{Setting}
 use Rattle.block_model.specs.Sights.{effect_here, sight_in}
-
--- how the events of a run are drawn: the seed; the policy; how many entries were there before, by a script; and how many are drawn
--- before it goes on fairly
-pub record Manner : Type 0 where
-  pub seed : ℕ
-  pub policy : Policy
-  pub scripted : ℕ
-  pub calm : ℕ
 
 -- whether the thread on the hart is inside a good sequence
 abbrev pub is_inside_on : Here → Option ℕ → Bool

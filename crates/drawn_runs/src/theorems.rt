@@ -7,7 +7,8 @@ ghost use Rattle.block_model.specs.Deciding.{decide, history};
 ghost use Rattle.block_model.specs.Run.{IsBlockRun};
 ghost use Rattle.block_model.specs.Setting.{Setting};
 ghost use Rattle.drawings.specs.Drawings.{Drawn};
-ghost use Rattle.drawn_runs.specs.DrawnRuns.{IsDrawn, Manner, drawn_at, drawn_entry, entry_of};
+ghost use Rattle.drawn_runs.specs.declared.manner.Manner.{Manner};
+ghost use Rattle.drawn_runs.specs.DrawnRuns.{IsDrawn, drawn_at, drawn_entry, entry_of};
 
 /// What is drawn at a place of a block run is allowed there.
 pub fn drawn_events_are_allowed()
