@@ -4,4 +4,5 @@ pub mod Laws
 mod Logs
 mod Opened
 mod Places
+mod ReadyNumbers
 mod Work

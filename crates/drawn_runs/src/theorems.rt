@@ -1,8 +1,8 @@
 //! Laws of drawn runs, each as the contract of a function that does nothing.
 
-ghost use Rattle.std.specs.Prelude.{◌≡◌, ◌<◌, ◌≤◌, ◌++◌, [], ◌∷◌, ℕ, List, Some, Ok, IsSome, length};
+ghost use Rattle.std.specs.Prelude.{◌≡◌, ◌<◌, ◌≤◌, ◌++◌, [], ◌∷◌, false, List, Some, Ok, IsSome, length};
 ghost use Rattle.mach_types.specs.declared.events.Entry.{Entry};
-ghost use Rattle.block_model.specs.Choosing.{next_entry};
+ghost use Rattle.block_model.specs.Choosing.{has_ended};
 ghost use Rattle.block_model.specs.Deciding.{decide, history};
 ghost use Rattle.block_model.specs.Run.{IsBlockRun};
 ghost use Rattle.block_model.specs.Setting.{Setting};
@@ -17,11 +17,11 @@ pub fn drawn_events_are_allowed()
         → decide s (history s log) x.hart x.choice ≡ Ok (entry_of s (history s log) x) }
 {}
 
-/// Where a hart makes an entry by the choice of `run` at some seed, an event is drawn.
+/// At each place of a block run that hasn't ended, an event is drawn.
 pub fn an_event_is_drawn()
-    ensures { (s : Setting) (m : Manner) (log : List Entry) (seed h : ℕ) → 0 < s.limits.harts
-        → s.limits.harts ≤ 8 → IsBlockRun s log → h < s.limits.harts
-        → IsSome (next_entry s seed h (history s log)) → IsSome (drawn_entry s m (history s log)) }
+    ensures { (s : Setting) (m : Manner) (log : List Entry) → 0 < s.limits.harts
+        → s.limits.harts ≤ 8 → IsBlockRun s log → has_ended s (history s log) ≡ false
+        → IsSome (drawn_entry s m (history s log)) }
 {}
 
 /// A drawn log begins behind its script, and goes on by the entry that is drawn.
