@@ -1,0 +1,3 @@
+mod DrawnSteps
+mod Readings
+mod Starting
