@@ -1,5 +1,5 @@
 -- A drawn run goes on by each event that is drawn: one is where the run hasn't ended, and it is allowed.
-use Rattle.std.proofs.Common.{◌≡◌, ◌≢◌, ℕ, ◌+◌, ◌<◌, ◌≤◌, ◌||◌, Bool, true, false, cond, leb, ltb, List, [], ◌∷◌, ◌++◌, length, length-append, take, Option, Some, None, Result, Ok, Err, is_some, refl, sym, ap, ◌∙◌, subst, arith}
+use Rattle.std.proofs.Common.{◌≡◌, ◌≢◌, ◌+◌, ◌<◌, ◌≤◌, ◌||◌, Bool, true, false, cond, leb, List, [], ◌∷◌, ◌++◌, length, length-append, take, Option, Some, None, Result, Ok, is_some, refl, sym, ap, ◌∙◌, subst, arith}
 use Rattle.std.specs.Prelude.{IfOk, IsSome}
 use Rattle.std.specs.Option.{option_map}
 use Rattle.std.specs.Result.{is_ok}
@@ -14,7 +14,7 @@ use Rattle.drawings.specs.Drawings.{Drawn, IsFor, draw, event_of, kept_after}
 use Rattle.drawings.specs.declared.drawing.Drawing.{Drawing}
 use Rattle.drawings.specs.declared.drawing.DrawnEvent.{DrawnEvent}
 use Rattle.block_model.specs.Choosing.{has_ended}
-use Rattle.block_model.specs.Deciding.{decide, end_of, event, history, over_at}
+use Rattle.block_model.specs.Deciding.{decide, end_of, history}
 use Rattle.block_model.specs.History.{History}
 use Rattle.block_model.specs.Run.{IsBlockRun}
 use Rattle.block_model.specs.Setting.{Seen, Setting}
@@ -75,6 +75,11 @@ has_room s log run unended =
     let room = (is_open s (history s log) run.allowed unended).1 in
     omega (arith, room, length-history s log)
 
+-- the limits stay as they are
+in_range : (s : Setting) (m : Manner) (first : List Entry) (now : Seen) (d : Drawing) → InRange s.limits
+    → IsDrawnSoFar s m first now d → InRange now.setting.limits
+in_range s m first now d range far = subst (λ (t : Setting). InRange t.limits) (sym far.setting) range
+
 -- there an event is drawn
 record IsDue (m : Manner) (now : Seen) (d : Drawing) (x : Drawn) : Type 0 where
   pub is : draw (scene_of now) d ≡ Some x
@@ -96,24 +101,25 @@ due_at s m log range run unended =
     comes (has_ended s before) (draw (scene_at s before) (drawing_at s m before)) (entry_of s before) goes
     (drawn_where_open s m log range.some_hart range.eight_harts run goes)
 
-due : (s : Setting) (m : Manner) (first : List Entry) (now : Seen) (d : Drawing) → InRange now.setting.limits
+due : (s : Setting) (m : Manner) (first : List Entry) (now : Seen) (d : Drawing) → InRange s.limits
     → IsDrawnSoFar s m first now d → end_of now.setting (history now.setting now.log) ≡ Unended → (x : Drawn) × IsDue m now d x
 due s m first now d range far unended =
-    let found = due_at now.setting m now.log range far.block_run unended in (
+    let found = due_at now.setting m now.log (in_range s m first now d range far) far.block_run unended in (
       found.0,
       record { is = ap (λ (e : Drawing). draw (scene_of now) e) far.kept ∙ found.1; at = found.2 },
     )
 
 -- the drawing speaks of harts of the machine
-pub is_for : (s : Setting) (m : Manner) (first : List Entry) (now : Seen) (d : Drawing) → InRange now.setting.limits
-    → IsDrawnSoFar s m first now d → IsFor (scene_of now).harts d
+pub is_for : (s : Setting) (m : Manner) (first : List Entry) (now : Seen) (d : Drawing) → InRange s.limits
+    → IsDrawnSoFar s m first now d → IsFor now.setting.limits.harts d
 is_for s m first now d range far =
+    let limits = in_range s m first now d range far in
     subst (IsFor now.setting.limits.harts) (sym far.kept)
-    (drawing_is_for now.setting m (history now.setting now.log) range.some_hart range.eight_harts)
+    (drawing_is_for now.setting m (history now.setting now.log) limits.some_hart limits.eight_harts)
 
 -- so one is there
 pub some_event : (s : Setting) (m : Manner) (first : List Entry) (now : Seen) (d : Drawing) (o : Option DrawnEvent)
-    → InRange now.setting.limits → IsDrawnSoFar s m first now d → end_of now.setting (history now.setting now.log) ≡ Unended
+    → InRange s.limits → IsDrawnSoFar s m first now d → end_of now.setting (history now.setting now.log) ≡ Unended
     → o ≡ option_map event_of (draw (scene_of now) d) → o ≢ None
 some_event s m first now d o range far unended is none =
     let x = due s m first now d range far unended in
@@ -145,11 +151,11 @@ the_event : (o : Option Drawn) (x : Drawn) (e : DrawnEvent) → Some e ≡ optio
 the_event o x e is some = same_Some e (event_of x) (is ∙ ap (option_map event_of) some)
 
 pub never_refused : (s : Setting) (m : Manner) (first : List Entry) (now : Seen) (d : Drawing) (e : DrawnEvent) (r : Result Entry Refused)
-    → InRange now.setting.limits → IsDrawnSoFar s m first now d → end_of now.setting (history now.setting now.log) ≡ Unended
+    → InRange s.limits → IsDrawnSoFar s m first now d → end_of now.setting (history now.setting now.log) ≡ Unended
     → Some e ≡ option_map event_of (draw (scene_of now) d) → Answers now e r → is_ok r ≡ true
 never_refused s m first now d e r range far unended is answer =
     let x = due s m first now d range far unended in
-    ap is_ok (made m now d x.0 e r range far.block_run x.1 (the_event (draw (scene_of now) d) x.0 e is x.1.is) answer)
+    ap is_ok (made m now d x.0 e r (in_range s m first now d range far) far.block_run x.1 (the_event (draw (scene_of now) d) x.0 e is x.1.is) answer)
 
 -- and the run goes on by it
 grown : (now next : Seen) (r : Result Entry Refused) (e : Entry) → r ≡ Ok e
@@ -191,7 +197,7 @@ longer_by s m first now d after e range far entry is =
 
 pub so_far_more : (s : Setting) (m : Manner) (first : List Entry) (now next : Seen) (d after : Drawing) (e : DrawnEvent)
     (r : Result Entry Refused)
-    → InRange now.setting.limits → IsDrawnSoFar s m first now d → end_of now.setting (history now.setting now.log) ≡ Unended
+    → InRange s.limits → IsDrawnSoFar s m first now d → end_of now.setting (history now.setting now.log) ≡ Unended
     → Some e ≡ option_map event_of (draw (scene_of now) d) → after ≡ kept_after (draw (scene_of now) d) d → Answers now e r
     → IfOk r (λ e. next ≡ record now { log = now.log ++ e ∷ [] })
     → IsDrawnSoFar s m first next after × (length next.log ≡ length now.log + 1)
@@ -199,10 +205,10 @@ so_far_more s m first now next d after e r range far unended is kept answer ok =
     let x = due s m first now d range far unended in
     let before = history now.setting now.log in
     let entry = entry_of now.setting before x.0 in
-    let made_it = made m now d x.0 e r range far.block_run x.1 (the_event (draw (scene_of now) d) x.0 e is x.1.is) answer in
+    let made_it = made m now d x.0 e r (in_range s m first now d range far) far.block_run x.1 (the_event (draw (scene_of now) d) x.0 e is x.1.is) answer in
     let same = grown now next r entry made_it ok in (
       subst (λ (v : Seen). IsDrawnSoFar s m first v after) (sym same)
-          (longer_by s m first now d after entry range far (entry_drawn now.setting m before x.0 x.1.at) kept),
+          (longer_by s m first now d after entry (in_range s m first now d range far) far (entry_drawn now.setting m before x.0 x.1.at) kept),
       ap (λ (v : Seen). length v.log) same ∙ length-append now.log (entry ∷ []),
     )
 

@@ -1,3 +1,2 @@
 mod DrawnSteps
-mod Readings
 mod Starting

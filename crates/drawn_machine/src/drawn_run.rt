@@ -36,8 +36,8 @@ pub fn run_drawn(
     Ok(machine)
 }
 
-/// Draws the events of a machine on from where it stands, until the run has ended or the log is full. The manner's script has
-/// come to the log so far.
+/// Draws the events of a machine from where it stands, until the run has ended or the log is full. The log so far has the
+/// entries of the manner's script.
 pub fn draw_on(machine: &mut Machine, manner: &Manner)
     requires limits { InRange machine.old.setting.limits }
     requires block_run { IsBlockRun machine.old.setting machine.old.log }

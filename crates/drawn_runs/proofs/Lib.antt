@@ -1,5 +1,6 @@
 mod Able
 mod Allowed
+mod Examples
 pub mod Laws
 mod Logs
 mod Opened

@@ -1,4 +1,4 @@
-use Rattle.std.proofs.Common.{sym, ◌∙◌, ap, arith, List, ℕ, ◌≡◌, ◌+◌}
+use Rattle.std.proofs.Common.{sym, ◌∙◌, ap, arith, ℕ, ◌≡◌, ◌+◌}
 use Rattle.drawings.specs.Scenes.{passing}
 use Rattle.drawn_machine.proofs.Starting.{all_startable, has_room, none_so_far, starts}
 use Rattle.drawn_machine.proofs.starting_threads.startable_threads.Goals as goal
