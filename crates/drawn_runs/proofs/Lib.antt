@@ -3,6 +3,7 @@ mod Allowed
 mod Examples
 pub mod Laws
 mod Logs
+mod OneRun
 mod Opened
 mod Places
 mod ReadyNumbers

@@ -5,4 +5,6 @@ mod manner;
 mod theorems;
 
 pub use manner::Manner;
-pub use theorems::{an_event_is_drawn, drawn_events_are_allowed, drawn_runs_go_on};
+pub use theorems::{
+    an_event_is_drawn, drawn_events_are_allowed, drawn_runs_are_one, drawn_runs_go_on,
+};

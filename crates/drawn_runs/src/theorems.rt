@@ -9,6 +9,7 @@ ghost use Rattle.block_model.specs.Setting.{Setting};
 ghost use Rattle.drawings.specs.Drawings.{Drawn};
 ghost use Rattle.drawn_runs.specs.declared.manner.Manner.{Manner};
 ghost use Rattle.drawn_runs.specs.DrawnRuns.{IsDrawn, drawn_at, drawn_entry, entry_of};
+ghost use Rattle.drawn_runs.specs.WholeRuns.{IsDrawnRun};
 
 /// What is drawn at a place of a block run is allowed there.
 pub fn drawn_events_are_allowed()
@@ -32,4 +33,11 @@ pub fn drawn_runs_go_on()
         → s.limits.harts ≤ 8 → IsBlockRun s log → IsDrawn s m log
         → drawn_entry s m (history s log) ≡ Some e
         → IsBlockRun s (log ++ e ∷ []) × IsDrawn s m (log ++ e ∷ []) }
+{}
+
+/// Whole drawn runs of one manner that begin with the same entries, no fewer than a script made, go on alike: without a script there
+/// is one such run.
+pub fn drawn_runs_are_one()
+    ensures { (s : Setting) (m : Manner) (first more other : List Entry) → m.scripted ≤ length first
+        → IsDrawnRun s m (first ++ more) → IsDrawnRun s m (first ++ other) → more ≡ other }
 {}
