@@ -25,7 +25,8 @@ For each example NAME:
   error, and `status N` where that isn't 0;
 - `run`, with each of SEEDS on 1, 2, 4 and 8 harts, prints the same console and end, or those of NAME/outcomes/*.console with the
   *.end beside it (else the example's), where they hang on the interleaving (a *.pattern there is a regular expression for the
-  whole console); and the log lines that it prints, played on as many harts, give the same text.
+  whole console); and the log lines that it prints, played on as many harts, give the same text;
+- `draw`, with each of DRAWN_SEEDS on as many harts, does so too, and prints the same text at a second call.
 
 For each worked run crates/worked_runs/data/GROUP/NAME, each line of its file `words`, given to the program in that folder, gives its
 `status` and its `stdout` (but for the number of the hart, where a file `any-hart` is there and all log lines are of one hart); or a
@@ -48,6 +49,7 @@ BUILT = HERE.parent / 'crates' / 'rseq_run' / 'out' / 'rseq_run'
 ROWS = HERE.parent / 'crates' / 'worked_runs' / 'data'
 STEPS = '1000000'
 SEEDS = range(1, 11)
+DRAWN_SEEDS = range(5)
 HARTS = ('1', '2', '4', '8')
 SECONDS = 120
 DONE, SCRIPT_REFUSED, UNREAD = 0, 4, 5
@@ -287,16 +289,36 @@ def end_of_outcome(outcome, end):
     return own.read_bytes() if own.is_file() else end
 
 
+def with_seed(program, command, elf, harts, seed):
+    """The text of a command on so many harts with a seed."""
+    status, text = run(program, command, elf, '--harts', harts, '--seed', str(seed), '--steps', STEPS)
+    want(f'its status with seed {seed}', status, DONE)
+    return text
+
+
+def check_outcome(program, elf, text, harts, seed, allowed):
+    """The text of a run with a seed has one of these consoles with its end, and its log replays."""
+    output = Output(text)
+    if not any(re.fullmatch(console, output.console) and end == output.end for console, end in allowed):
+        raise Difference(f'with seed {seed} it prints {output.console[:60]!r} and {output.end!r}')
+    check_replay(program, elf, text, harts)
+
+
 def check_runs(program, folder, elf, harts):
     """`run` on so many harts, with each seed: it ends as the example may end, and its log replays."""
     allowed = list(outcomes(folder))
     for seed in SEEDS:
-        status, text = run(program, 'run', elf, '--harts', harts, '--seed', str(seed), '--steps', STEPS)
-        want(f'its status with seed {seed}', status, DONE)
-        output = Output(text)
-        if not any(re.fullmatch(console, output.console) and end == output.end for console, end in allowed):
-            raise Difference(f'with seed {seed} it prints {output.console[:60]!r} and {output.end!r}')
-        check_replay(program, elf, text, harts)
+        check_outcome(program, elf, with_seed(program, 'run', elf, harts, seed), harts, seed, allowed)
+
+
+def check_draws(program, folder, elf, harts):
+    """`draw` on so many harts, with a seed of each policy: it ends as the example may end, its log replays, and a second call prints
+    the same."""
+    allowed = list(outcomes(folder))
+    for seed in DRAWN_SEEDS:
+        text = with_seed(program, 'draw', elf, harts, seed)
+        want(f'its text at a second call with seed {seed}', with_seed(program, 'draw', elf, harts, seed), text)
+        check_outcome(program, elf, text, harts, seed, allowed)
 
 
 def on_hart_0(text):
@@ -382,6 +404,7 @@ def checks(program, folder):
         yield session.name, lambda: check_session(program, session)
     for harts in HARTS:
         yield f'run on {harts}', lambda: check_runs(program, folder, elf, harts)
+        yield f'draw on {harts}', lambda: check_draws(program, folder, elf, harts)
 
 
 def passes(program, folder):

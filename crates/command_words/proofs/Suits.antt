@@ -9,8 +9,8 @@ use Rattle.std.proofs.lemmas.Bool.Decides.{nat_tests}
 use Rattle.step_log.specs.Script.{◌>>=◌}
 use Rattle.command_words.specs.declared.table.CommandKind.{CommandKind}
 use Rattle.command_words.specs.declared.table.SourceKind.{SourceKind}
-use Rattle.command_words.specs.declared.table.SourceKind.TheVariants.{ByRule, ByScript, ByWorkers}
-use Rattle.command_words.specs.Commands.{Source, Rule, Workers}
+use Rattle.command_words.specs.declared.table.SourceKind.TheVariants.{ByRule, ByScript, ByWorkers, ByDraws}
+use Rattle.command_words.specs.Commands.{Source, Rule, Workers, Drawn}
 use Rattle.command_words.specs.Grammar.{Arguments, asked_by, asked_for, command_for, files_for, number_for, one_name, two_names}
 use Rattle.command_words.specs.Options.{OptionName, Harts, Frames, Steps, Seed, chosen, range_of}
 use Rattle.command_words.specs.Table.{command_kind}
@@ -81,6 +81,7 @@ files_are : (source : SourceKind) (names : List (List ℕ)) (seed : ℕ)
 files_are ByRule names seed = one_is Rule names
 files_are ByScript names seed = two_are names
 files_are ByWorkers names seed = one_is (Workers seed) names
+files_are ByDraws names seed = one_is (Drawn seed) names
 
 -- so a command of a kind is asked for exactly where the arguments are its own
 kind_fits : (kind : CommandKind) (given : Arguments) → is_some (asked_for kind given) ≡ fits (takes_by kind.source) given
@@ -119,6 +120,7 @@ two_names_most : (source : SourceKind) → (takes_by source).names ≤ 2
 two_names_most ByRule = omega arith
 two_names_most ByScript = omega arith
 two_names_most ByWorkers = omega arith
+two_names_most ByDraws = omega arith
 
 pub few_taken : (word : List ℕ) (takes : Takes) → takes_of word ≡ Some takes → takes.names ≤ 2
 few_taken word takes is = by_kind (command_kind word) is

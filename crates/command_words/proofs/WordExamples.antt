@@ -3,7 +3,7 @@ use Rattle.std.proofs.Common.{◌≡◌, ℕ, ◌-◌, ◌^◌, List, [], ◌∷
 use Rattle.mach_types.specs.declared.limits.Limits.{Limits}
 use Rattle.command_words.specs.declared.table.Shown.{Shown}
 use Rattle.command_words.specs.declared.table.Shown.TheVariants.{Output, Summary, Place, Gathered}
-use Rattle.command_words.specs.Commands.{Command, Source, Rule, Script, Workers}
+use Rattle.command_words.specs.Commands.{Command, Source, Rule, Script, Workers, Drawn}
 use Rattle.command_words.specs.Options.{number_of}
 use Rattle.command_words.specs.Words.{arguments_of, command_of}
 
@@ -31,6 +31,9 @@ gather program script limits = asked program (Script script) Gathered limits
 
 abbrev run : List ℕ → Limits → ℕ → Command
 run program limits seed = asked program (Workers seed) Output limits
+
+abbrev draw : List ℕ → Limits → ℕ → Command
+draw program limits seed = asked program (Drawn seed) Output limits
 
 abbrev three_harts : Option Command
 three_harts = Some (play (codes "F") (codes "S") (limits 3 4096 200000))
@@ -276,6 +279,25 @@ run_no_name = refl
 run_two_names : command_of (codes "run" ∷ codes "F" ∷ codes "S" ∷ []) ≡ None
 unfolding command_of arguments_of
 run_two_names = refl
+
+-- so has `draw F`
+draw_defaults : command_of (codes "draw" ∷ codes "F" ∷ []) ≡ Some (draw (codes "F") (limits 2 4096 200000) 1)
+unfolding command_of arguments_of
+draw_defaults = refl
+
+draw_options : command_of
+    (codes "draw" ∷ codes "--harts" ∷ codes "3" ∷ codes "F" ∷ codes "--frames=128" ∷ codes "--steps=5"
+    ∷ codes "--seed" ∷ codes "7" ∷ []) ≡ Some (draw (codes "F") (limits 3 128 5) 7)
+unfolding command_of arguments_of
+draw_options = refl
+
+draw_seed_twice : command_of (codes "draw" ∷ codes "--seed=1" ∷ codes "--seed=1" ∷ codes "F" ∷ []) ≡ None
+unfolding command_of arguments_of
+draw_seed_twice = refl
+
+draw_two_names : command_of (codes "draw" ∷ codes "F" ∷ codes "S" ∷ []) ≡ None
+unfolding command_of arguments_of
+draw_two_names = refl
 
 -- `blocks F S` has the limits that are given, or else the defaults
 blocks_defaults : command_of (codes "blocks" ∷ codes "F" ∷ codes "S" ∷ [])

@@ -3,12 +3,13 @@ use Rattle.std.specs.Prelude.{ℕ, ◌≡◌, Bool, true, false, List, Option, S
 use Rattle.mach_types.specs.declared.limits.Limits.{Limits}
 use Rattle.command_words.specs.declared.table.Shown.{Shown}
 
--- how the log of the run comes about: on one hart by the fixed rule; by the events of a script; or by workers, one
--- for each hart, that choose by a seed
+-- how the log of the run comes about: on one hart by the fixed rule; by the events of a script; by workers, one for
+-- each hart, that choose by a seed; or by the events that a seed draws
 pub data Source : Type 0 where
   Rule : Source
   Script : (name : List ℕ) → Source
   Workers : (seed : ℕ) → Source
+  Drawn : (seed : ℕ) → Source
 
 pub record Command : Type 0 where
   pub program : List ℕ
@@ -21,6 +22,7 @@ abbrev pub is_by_workers : Source → Bool
 is_by_workers Rule = false
 is_by_workers (Script name) = false
 is_by_workers (Workers seed) = true
+is_by_workers (Drawn seed) = false
 
 -- whether the words ask for a run by workers
 abbrev pub is_run : Option Command → Bool
@@ -32,6 +34,7 @@ abbrev pub HasHartsOf : Source → Limits → Type 0
 HasHartsOf Rule limits = limits.harts ≡ 1
 HasHartsOf (Script name) limits = Unit {0}
 HasHartsOf (Workers seed) limits = Unit {0}
+HasHartsOf (Drawn seed) limits = Unit {0}
 
 abbrev pub HasItsHarts : Command → Type 0
 HasItsHarts command = HasHartsOf command.source command.limits

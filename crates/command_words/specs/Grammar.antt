@@ -12,8 +12,8 @@ use Rattle.std.specs.Option.{is_some}
 use Rattle.step_log.specs.Script.{◌>>=◌}
 use Rattle.command_words.specs.declared.table.CommandKind.{CommandKind}
 use Rattle.command_words.specs.declared.table.SourceKind.{SourceKind}
-use Rattle.command_words.specs.declared.table.SourceKind.TheVariants.{ByRule, ByScript, ByWorkers}
-use Rattle.command_words.specs.Commands.{Command, Source, Rule, Script, Workers}
+use Rattle.command_words.specs.declared.table.SourceKind.TheVariants.{ByRule, ByScript, ByWorkers, ByDraws}
+use Rattle.command_words.specs.Commands.{Command, Source, Rule, Script, Workers, Drawn}
 use Rattle.command_words.specs.Options.{OptionName, Harts, Frames, Steps, Seed, option_word, same_option}
 use Rattle.command_words.specs.Options.{chosen, range_of}
 use Rattle.command_words.specs.Table.{command_kind}
@@ -107,6 +107,7 @@ abbrev pub harts_for : SourceKind → ℕ → ℕ
 harts_for ByRule harts = 1
 harts_for ByScript harts = harts
 harts_for ByWorkers harts = harts
+harts_for ByDraws harts = harts
 
 -- the program that one name gives, where there is one
 abbrev pub one_name : Source → List (List ℕ) → Option (List ℕ × Source)
@@ -123,6 +124,7 @@ abbrev pub files_for : SourceKind → List (List ℕ) → ℕ → Option (List �
 files_for ByRule names seed = one_name Rule names
 files_for ByScript names seed = two_names names
 files_for ByWorkers names seed = one_name (Workers seed) names
+files_for ByDraws names seed = one_name (Drawn seed) names
 
 -- the command of these numbers and names
 abbrev pub command_for : CommandKind → ℕ → ℕ → ℕ → List ℕ × Source → Command

@@ -15,7 +15,7 @@ use Rattle.command_words.specs.declared.reader.Reading.{Reading}
 use Rattle.command_words.specs.declared.reader.Reading.TheVariants as reading
 use Rattle.command_words.specs.declared.takes.OptionSet.{OptionSet}
 use Rattle.command_words.specs.declared.takes.Takes.{Takes}
-use Rattle.command_words.specs.Commands.{Command as Asked, Source as FromSource, Rule, Script, Workers}
+use Rattle.command_words.specs.Commands.{Command as Asked, Source as FromSource, Rule, Script, Workers, Drawn}
 use Rattle.command_words.specs.Grammar.{Arguments as Stated}
 use Rattle.command_words.specs.Options.{OptionName as Named, Harts, Frames, Steps, Seed, Range}
 use Rattle.command_words.specs.Takes.{OptionSet as SomeOptions, Takes as Taken}
@@ -54,6 +54,7 @@ abbrev pub source_said : Source → FromSource
 source_said code.Rule = Rule
 source_said (code.Script name) = Script name.now
 source_said (code.Workers seed) = Workers seed
+source_said (code.Drawn seed) = Drawn seed
 
 -- the command, with the texts of its names
 abbrev pub said : Command → Asked

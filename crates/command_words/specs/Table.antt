@@ -5,7 +5,7 @@ use Rattle.command_words.specs.declared.table.CommandKind.{CommandKind}
 use Rattle.command_words.specs.declared.table.Shown.{Shown}
 use Rattle.command_words.specs.declared.table.Shown.TheVariants as shows
 use Rattle.command_words.specs.declared.table.SourceKind.{SourceKind}
-use Rattle.command_words.specs.declared.table.SourceKind.TheVariants.{ByRule, ByScript, ByWorkers}
+use Rattle.command_words.specs.declared.table.SourceKind.TheVariants.{ByRule, ByScript, ByWorkers, ByDraws}
 
 -- a row: how the log comes about, and what is shown
 abbrev pub row : SourceKind → Shown → Option CommandKind
@@ -21,4 +21,5 @@ command_kind word =
     else if bytes_eq word (codes "acts") then row ByScript shows.Acts
     else if bytes_eq word (codes "gather") then row ByScript shows.Gathered
     else if bytes_eq word (codes "run") then row ByWorkers shows.Output
+    else if bytes_eq word (codes "draw") then row ByDraws shows.Output
     else None

@@ -2,7 +2,7 @@
 use Rattle.std.specs.Prelude.{ℕ, Bool, true, false, List, Option, option_map}
 use Rattle.command_words.specs.declared.table.CommandKind.{CommandKind}
 use Rattle.command_words.specs.declared.table.SourceKind.{SourceKind}
-use Rattle.command_words.specs.declared.table.SourceKind.TheVariants.{ByRule, ByScript, ByWorkers}
+use Rattle.command_words.specs.declared.table.SourceKind.TheVariants.{ByRule, ByScript, ByWorkers, ByDraws}
 use Rattle.command_words.specs.Options.{OptionName, Harts, Frames, Steps, Seed}
 use Rattle.command_words.specs.Table.{command_kind}
 
@@ -45,16 +45,17 @@ abbrev pub taken_on_script : Takes
 taken_on_script =
     record { names = 2; options = record { harts = true; frames = true; steps = true; seed = false } }
 
--- what a run by workers takes
-abbrev pub taken_by_workers : Takes
-taken_by_workers =
+-- what a run that chooses by a seed takes: by workers, or by draws
+abbrev pub taken_by_seed : Takes
+taken_by_seed =
     record { names = 1; options = record { harts = true; frames = true; steps = true; seed = true } }
 
 -- what a command takes by how its log comes about
 abbrev pub takes_by : SourceKind → Takes
 takes_by ByRule = taken_alone
 takes_by ByScript = taken_on_script
-takes_by ByWorkers = taken_by_workers
+takes_by ByWorkers = taken_by_seed
+takes_by ByDraws = taken_by_seed
 
 -- what the command of a word takes, if a command has the word
 abbrev pub takes_of : List ℕ → Option Takes

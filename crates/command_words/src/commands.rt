@@ -27,6 +27,11 @@ pub enum Source<'a> {
         /// The seed of what the harts choose.
         seed: u64,
     },
+    /// By draws.
+    Drawn {
+        /// The seed of what is drawn.
+        seed: u64,
+    },
 }
 
 /// What words ask for: to run a program, and to show something of the run.
@@ -45,8 +50,8 @@ pub struct Command<'a> {
 /// What the words ask for; None exactly where they aren't of the grammar. It errs only for want of memory.
 ///
 /// The first word is the command: `solo FILE`, with `--frames` and `--steps`; `play FILE SCRIPT` and the other
-/// commands on a script, with `--harts` too; or `run FILE`, with `--harts` and `--seed` too. Each limit is in its
-/// range.
+/// commands on a script, with `--harts` too; or `run FILE` and `draw FILE`, with `--harts` and `--seed` too. Each
+/// limit is in its range.
 #[tactic(auto, unfolding(crate::specs::Words::command_of))]
 pub(crate) fn command_of<'a>(
     alloc: Global,
@@ -118,7 +123,7 @@ fn harts_for(source: SourceKind, harts: u8) -> u8
 {
     match source {
         SourceKind::ByRule => 1,
-        SourceKind::ByScript | SourceKind::ByWorkers => harts,
+        SourceKind::ByScript | SourceKind::ByWorkers | SourceKind::ByDraws => harts,
     }
 }
 
@@ -154,5 +159,6 @@ fn files_for(source: SourceKind, names: FileNames<'_>, seed: u64) -> Option<(&st
         SourceKind::ByRule => one_name(Source::Rule, names),
         SourceKind::ByScript => two_names(names),
         SourceKind::ByWorkers => one_name(Source::Workers { seed }, names),
+        SourceKind::ByDraws => one_name(Source::Drawn { seed }, names),
     }
 }

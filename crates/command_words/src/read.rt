@@ -25,8 +25,8 @@ pub enum WordsError {
 /// may want it.
 ///
 /// The first word is the command: `solo FILE`, with `--frames` and `--steps`; `play FILE SCRIPT` and the other
-/// commands on the events of a script, with `--harts` too; or `run FILE`, with `--harts` and `--seed` too. Each limit
-/// is in its range.
+/// commands on the events of a script, with `--harts` too; or `run FILE` and `draw FILE`, with `--harts` and `--seed`
+/// too. Each limit is in its range.
 pub fn read_words<'a>(alloc: Global, words: &'a [String]) -> Result<Command<'a>, WordsError>
     ensures command { IfOk result (λ command. command_of (texts words.now) ≡ Some (said command)) }
     ensures limits { IfOk result (λ command. InRange command.limits) }

@@ -12,6 +12,8 @@ pub enum SourceKind {
     ByScript,
     /// By workers, one for each hart.
     ByWorkers,
+    /// By draws from a seed.
+    ByDraws,
 }
 
 impl SourceKind {
@@ -21,6 +23,7 @@ impl SourceKind {
             SourceKind::ByRule => "runs FILE on one hart by the fixed rule",
             SourceKind::ByScript => "runs FILE on the events of SCRIPT",
             SourceKind::ByWorkers => "runs FILE by workers, one for each hart",
+            SourceKind::ByDraws => "runs FILE on the events that the seed draws",
         }
     }
 }
@@ -63,7 +66,9 @@ pub struct CommandKind {
 }
 
 /// The words of the commands.
-pub const COMMANDS: [&str; 7] = ["solo", "play", "blocks", "inspect", "acts", "gather", "run"];
+pub const COMMANDS: [&str; 8] = [
+    "solo", "play", "blocks", "inspect", "acts", "gather", "run", "draw",
+];
 
 /// What the command of a word is; None where no command has the word.
 pub fn command_kind(word: &str) -> Option<CommandKind>
@@ -77,6 +82,7 @@ pub fn command_kind(word: &str) -> Option<CommandKind>
         "acts" => (SourceKind::ByScript, Shown::Acts),
         "gather" => (SourceKind::ByScript, Shown::Gathered),
         "run" => (SourceKind::ByWorkers, Shown::Output),
+        "draw" => (SourceKind::ByDraws, Shown::Output),
         _ => return None,
     };
     Some(CommandKind { source, shown })

@@ -72,8 +72,8 @@ const ON_A_SCRIPT: OptionSet = OptionSet {
     seed: false,
 };
 
-/// The options of a command that runs by workers.
-const BY_WORKERS: OptionSet = OptionSet {
+/// The options of a command that chooses by a seed: by workers, or by draws.
+const BY_SEED: OptionSet = OptionSet {
     harts: true,
     frames: true,
     steps: true,
@@ -101,7 +101,7 @@ impl SourceKind {
         let (names, options) = match self {
             SourceKind::ByRule => (1, ON_ONE_HART),
             SourceKind::ByScript => (2, ON_A_SCRIPT),
-            SourceKind::ByWorkers => (1, BY_WORKERS),
+            SourceKind::ByWorkers | SourceKind::ByDraws => (1, BY_SEED),
         };
         Takes { names, options }
     }

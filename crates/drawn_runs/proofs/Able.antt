@@ -11,6 +11,7 @@ use Rattle.std.proofs.lemmas.Nat.Bits.{bit_at_cat_low}
 use Rattle.mach_types.proofs.Laws.{has_hart-past, has_hart-within}
 use Rattle.mach_types.specs.Kernel.Pages.{PageRun}
 use Rattle.mach_types.specs.Kernel.Scheduling.{Scheduling, affinity_of, first_for, has_hart}
+use Rattle.mach_types.specs.Kernel.Threads.{is_ready}
 use Rattle.mach_types.specs.declared.events.Entry.{Entry}
 use Rattle.mach_types.specs.declared.events.Why.{Why}
 use Rattle.mach_types.specs.declared.events.Why.TheVariants.{Others}
@@ -30,11 +31,13 @@ use Rattle.block_model.specs.Run.{IsBlockRun}
 use Rattle.block_model.specs.Sequences.{is_inside_here}
 use Rattle.block_model.specs.Setting.{Seen, Setting}
 use Rattle.block_model.specs.Sights.{is_all_taken, sight_in}
+use Rattle.block_model.specs.Tables.{IsTables}
 use Rattle.block_model.specs.Plain.{Plain}
 use Rattle.block_model.specs.PlainOf.{plain_of}
-use Rattle.block_model.proofs.Laws.{IsAwaited, IsGood, IsGoodHere, good_at, same_state, some_hart}
-use Rattle.drawn_runs.specs.DrawnRuns.{scene_at}
+use Rattle.block_model.proofs.Laws.{IsAwaited, IsGood, IsGoodHere, good_at, ready_listed, same_state, some_hart}
+use Rattle.drawn_runs.specs.DrawnRuns.{by_number, scene_at}
 use Rattle.drawn_runs.proofs.Places.{good_place}
+use Rattle.drawn_runs.proofs.ReadyNumbers.{ready_is_listed}
 
 -- where no store waits on any hart of the machine, a thread that waits in no barrier may execute
 abbrev NoneWaits : Here → Type 0
@@ -143,14 +146,15 @@ pub record SomeAble (s : Setting) (before : History) (opened : ℕ) : Type 0 whe
   pub lt : hart < s.limits.harts
   pub able : is_able (scene_at s before) opened hart ≡ true
 
--- a place where no store waits, and where barriers and requests go together
+-- a place where no store waits, and where barriers and requests go together, and threads and the ready list
 record IsQuiet (s : Setting) (before : History) : Type 0 where
   pub none : (k : ℕ) → k < s.limits.harts → waiting k before ≡ []
+  pub tables : IsTables s.limits.harts (kernel s before).threads (kernel s before).scheduling
   pub awaited : IsAwaited s.limits.harts (λ k. requests k before) (λ k. awaits k before)
 
 -- whether a thread may begin to run on a hart
 abbrev begins_at : Setting → History → ℕ → ℕ → Bool
-begins_at s before opened h = ltb 0 (length (startable opened h (kernel s before).scheduling))
+begins_at s before opened h = ltb 0 (length (startable opened h (by_number (kernel s before))))
 
 -- there a hart can at which a request is pending
 asked_able : (s : Setting) (before : History) (opened h : ℕ) → h < s.limits.harts → IsQuiet s before
@@ -267,11 +271,13 @@ found_in p t (u ∷ us) found = go (p u) refl (found_in p t us) found
 ready_able : (s : Setting) (before : History) (opened h t : ℕ) → opened ≤ s.limits.harts → h < s.limits.harts → IsQuiet s before
     → first_for h (kernel s before).scheduling ≡ Some t → SomeAble s before opened
 ready_able s before opened h t few below quiet first =
-    let k = (kernel s before).scheduling in
-    let found = found_in (λ u. has_hart (affinity_of u k) h) t k.order first in
-    let at = open_hart (affinity_of t k) opened h s.limits.harts few below found.0 in
+    let k = kernel s before in
+    let found = found_in (λ u. has_hart (affinity_of u k.scheduling) h) t k.scheduling.order first in
+    let ready : is_ready t k.threads ≡ true = sym (ready_listed s.limits.harts t k.threads k.scheduling quiet.tables) ∙ found.1 in
+    let at = open_hart (affinity_of t k.scheduling) opened h s.limits.harts few below found.0 in
     hart_able s before opened at.0 (runs (here_in_history s before at.0)) at.1 quiet refl
-    (by_second (not (eqb (requests at.0 before) 0)) (begins_at s before opened at.0) (begins k opened at.0 t found.1 at.2))
+    (by_second (not (eqb (requests at.0 before) 0)) (begins_at s before opened at.0)
+    (begins (by_number k) opened at.0 t (ready_is_listed k.threads t quiet.tables.threads ready) at.2))
 
 -- a hart has something to do: a request is pending there, a thread runs there, or a ready one may
 pub record HasWork (s : Setting) (before : History) : Type 0 where
@@ -313,13 +319,17 @@ find_waiting stores (suc n) = go (stores n) refl (find_waiting stores n)
     go [] is (inr none) =
         inr (λ k below. elim (cases_eq k n) [ inl same ↦ ap stores same ∙ is | inr other ↦ none k (omega arith) ])
 
--- barriers that are waited in, and requests that are pending, go together at each place of a block run
-all_awaited : (s : Setting) (log : List Entry) → IsBlockRun s log
-    → IsAwaited s.limits.harts (λ k. requests k (history s log)) (λ k. awaits k (history s log))
-all_awaited s log run =
+-- what holds of the barriers that are waited in and of the tables at each place of a block run
+all_good : (s : Setting) (log : List Entry) → IsBlockRun s log → IsGood s (plain_of s (history s log))
+all_good s log run =
     let v : Seen = record { setting = s; seed = 0; log = log } in
-    let good : IsGood s (plain_of s (history s log)) = subst (λ (m : Plain). IsGood s m) (same_state v run) (good_at v run) in
-    good.awaited
+    subst (λ (m : Plain). IsGood s m) (same_state v run) (good_at v run)
+
+quiet_at : (s : Setting) (log : List Entry) → IsBlockRun s log → ((k : ℕ) → k < s.limits.harts → waiting k (history s log) ≡ [])
+    → IsQuiet s (history s log)
+quiet_at s log run none =
+    let good = all_good s log run in
+    record { none = none; tables = good.kernel.tables; awaited = good.awaited }
 
 -- so where a hart has something to do some hart can
 able_by : (s : Setting) (log : List Entry) (opened : ℕ) → IsBlockRun s log → opened ≤ s.limits.harts → HasWork s (history s log)
@@ -335,8 +345,7 @@ able_by s log opened run few work (inl found) =
           (good_place s log found.0 run found.1) found.2;
     }
 able_by s log opened run few work (inr none) =
-    let quiet : IsQuiet s (history s log) = record { none = none; awaited = all_awaited s log run } in
-    quiet_able s (history s log) opened work (runs (here_in_history s (history s log) work.hart)) few quiet refl
+    quiet_able s (history s log) opened work (runs (here_in_history s (history s log) work.hart)) few (quiet_at s log run none) refl
 
 pub some_able : (s : Setting) (log : List Entry) (opened : ℕ) → IsBlockRun s log → opened ≤ s.limits.harts
     → HasWork s (history s log) → SomeAble s (history s log) opened

@@ -19,7 +19,8 @@ use Rattle.block_model.specs.Events.{refusal_of}
 use Rattle.block_model.specs.History.{History, here_in_history, ran}
 use Rattle.block_model.specs.Run.{IsBlockRun}
 use Rattle.block_model.specs.Setting.{Setting}
-use Rattle.drawn_runs.specs.DrawnRuns.{Manner, drawing_at, drawn_at, entry_of, first_drawing, scene_at}
+use Rattle.drawn_runs.specs.declared.manner.Manner.{Manner}
+use Rattle.drawn_runs.specs.DrawnRuns.{drawing_at, drawn_at, entry_of, first_drawing, scene_at}
 use Rattle.drawn_runs.proofs.Places.{allowed_is_free, good_place, place_settled}
 
 -- the harts that are open at the start are harts of the machine

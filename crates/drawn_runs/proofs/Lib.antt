@@ -1,7 +1,10 @@
 mod Able
 mod Allowed
+mod Examples
 pub mod Laws
 mod Logs
+mod OneRun
 mod Opened
 mod Places
+mod ReadyNumbers
 mod Work

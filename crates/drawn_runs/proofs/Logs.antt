@@ -9,7 +9,8 @@ use Rattle.block_model.specs.History.{History}
 use Rattle.block_model.specs.Run.{IsBlockRun}
 use Rattle.block_model.specs.Setting.{Seen, Setting}
 use Rattle.block_model.proofs.Laws.{history-append, length-history, run_on}
-use Rattle.drawn_runs.specs.DrawnRuns.{IsDrawn, IsDrawnHistory, Manner, drawn_at, drawn_entry, entry_of}
+use Rattle.drawn_runs.specs.declared.manner.Manner.{Manner}
+use Rattle.drawn_runs.specs.DrawnRuns.{IsDrawn, IsDrawnHistory, drawn_at, drawn_entry, entry_of}
 use Rattle.drawn_runs.proofs.Allowed.{drawn_is_allowed}
 
 -- what a script makes needs no draw

@@ -16,7 +16,8 @@ use Rattle.drawings.proofs.Laws.{draw-comes}
 use Rattle.block_model.specs.Choosing.{has_ended}
 use Rattle.block_model.specs.History.{History}
 use Rattle.block_model.specs.Setting.{Setting}
-use Rattle.drawn_runs.specs.DrawnRuns.{Manner, drawing_at, drawn_at, drawn_entry, entry_of, first_drawing, scene_at}
+use Rattle.drawn_runs.specs.declared.manner.Manner.{Manner}
+use Rattle.drawn_runs.specs.DrawnRuns.{drawing_at, drawn_at, drawn_entry, entry_of, first_drawing, scene_at}
 use Rattle.drawn_runs.proofs.Able.{SomeAble}
 use Rattle.drawn_runs.proofs.Allowed.{drawing_is_for, opened_within}
 

@@ -26,7 +26,9 @@ use Rattle.block_model.specs.History.{here_in_history}
 use Rattle.block_model.specs.Run.{IsBlockRun}
 use Rattle.block_model.specs.Setting.{Seen, Setting}
 use Rattle.block_model.specs.Sights.{is_all_taken, is_deliverable_on, sight_in}
-use Rattle.block_model.proofs.Laws.{IsGoodHere, place_good, ready_listed, same_here}
+use Rattle.block_model.proofs.Laws.{IsGoodHere, place_good, same_here}
+use Rattle.drawn_runs.specs.DrawnRuns.{by_number}
+use Rattle.drawn_runs.proofs.ReadyNumbers.{listed_ready}
 
 -- each hart of a block run is good at each place
 pub good_place : (s : Setting) (log : List Entry) (h : ℕ) → IsBlockRun s log → h < s.limits.harts
@@ -82,14 +84,13 @@ listed opened h t s among =
     let kept = any-filter_same (λ u. eqb u t) may (may t) (λ u is. ap may (eqb-true u t is)) s.order in
     and_parts (may t) (list_any (λ u. eqb u t) s.order) (sym kept ∙ among)
 
-run_free : (here : Here) (opened t : ℕ) → IsGoodHere here → runs here ≡ None
-    → list_any (λ u. eqb u t) (startable opened here.hart here.kernel.scheduling) ≡ true → refusal_run here t ≡ None
-run_free here opened t good idle among =
+run_free : (here : Here) (opened t : ℕ) → runs here ≡ None
+    → list_any (λ u. eqb u t) (startable opened here.hart (by_number here.kernel)) ≡ true → refusal_run here t ≡ None
+run_free here opened t idle among =
     let k = here.kernel in
     let set = affinity_of t k.scheduling in
-    let found = listed opened here.hart t k.scheduling among in
-    let tables = good.kernel.tables in
-    let ready : is_ready t k.threads ≡ true = sym (ready_listed here.setting.limits.harts t k.threads k.scheduling tables) ∙ found.1 in
+    let found = listed opened here.hart t (by_number k) among in
+    let ready : is_ready t k.threads ≡ true = listed_ready k.threads t found.1 in
     let may : has_hart set here.hart ≡ true = (and_parts (has_hart set here.hart) (ltb here.hart opened || eqb (set % 2 ^ opened) 0) found.0).0 in
     ap (refusal_run_by here t) idle ∙ rw (ready, may) refl
 
@@ -121,7 +122,7 @@ interrupted_free here since c may free =
     free thread.0 thread.1 (none_is_not here.awaits may.apart) (none_waits (waiting_here here) may.empty)
 
 pub allowed_is_free : (here : Here) (opened since : ℕ) (c : Choice) → IsGoodHere here
-    → IsAllowed (sight_in here since 0) (startable opened here.hart here.kernel.scheduling) c → refusal_of c here ≡ None
+    → IsAllowed (sight_in here since 0) (startable opened here.hart (by_number here.kernel)) c → refusal_of c here ≡ None
 allowed_is_free here opened since asked.Exec good may = none_is (refusal_exec here) may
 allowed_is_free here opened since asked.Drain good may = drain_free (waiting_here here) may
 allowed_is_free here opened since asked.Take good may = take_free here may.0 (none_waits (waiting_here here) may.1)
@@ -130,7 +131,7 @@ allowed_is_free here opened since asked.Done good may =
     ap (refusal_done_by here) thread.1 ∙ return_free here.awaits may.over
 allowed_is_free here opened since asked.Preempt good may =
     interrupted_free here since asked.Preempt may (λ t busy apart none. leave_free here t busy apart none)
-allowed_is_free here opened since (asked.Run t) good may = run_free here opened t.0 good (none_is (runs here) may.idle) may.among
+allowed_is_free here opened since (asked.Run t) good may = run_free here opened t.0 (none_is (runs here) may.idle) may.among
 allowed_is_free here opened since asked.Signal good may =
     interrupted_free here since asked.Signal may.1 (λ t busy apart none. signal_free here t busy apart none may.0)
 

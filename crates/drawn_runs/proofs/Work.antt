@@ -1,4 +1,5 @@
--- A hart that makes an entry by the choice of `run` has something to do: so where a run goes on an event is drawn.
+-- A hart that makes an entry by the choice of `run` has something to do, and where a run hasn't ended some hart makes one: so an event is
+-- drawn there.
 use Rattle.std.proofs.Common.{◌≡◌, ℕ, ◌<◌, ◌≤◌, ◌||◌, Bool, true, false, not, cond, eqb, ltb, List, Option, Some, None, is_none, is_some, refl, sym, ap, ◌∙◌}
 use Rattle.std.specs.Prelude.{IsSome}
 use Rattle.std.specs.Option.{option_map}
@@ -17,8 +18,9 @@ use Rattle.block_model.specs.History.{History, here_in_history, kernel, requests
 use Rattle.block_model.specs.Run.{IsBlockRun}
 use Rattle.block_model.specs.Setting.{Setting}
 use Rattle.block_model.specs.Sights.{thread}
-use Rattle.block_model.proofs.Laws.{next_is_none}
-use Rattle.drawn_runs.specs.DrawnRuns.{Manner, drawing_at, drawn_entry}
+use Rattle.block_model.proofs.Laws.{some_hart_goes_on}
+use Rattle.drawn_runs.specs.declared.manner.Manner.{Manner}
+use Rattle.drawn_runs.specs.DrawnRuns.{drawing_at, drawn_entry}
 use Rattle.drawn_runs.proofs.Able.{HasWork, some_able}
 use Rattle.drawn_runs.proofs.Opened.{entry_comes, opened_of_machine}
 
@@ -59,7 +61,7 @@ pick_needs : (seen : Sight) (w : ℕ) → seen.idle ≡ true → is_some (pick s
     → is_some (option_map plainly (when_idle seen)) ≡ true
 pick_needs seen w idle some = sym (ap is_some (pick_idle seen w idle)) ∙ some
 
-pub work_of : (s : Setting) (seed h : ℕ) (before : History) → h < s.limits.harts → is_some (next_entry s seed h before) ≡ true
+work_of : (s : Setting) (seed h : ℕ) (before : History) → h < s.limits.harts → is_some (next_entry s seed h before) ≡ true
     → HasWork s before
 work_of s seed h before below some = record {
   hart = h;
@@ -69,17 +71,17 @@ work_of s seed h before below some = record {
       (pick_needs (sight_with s h before (luck s seed h before)) _ (ap is_none none) (picked s seed h before some));
 }
 
--- there the run hasn't ended
-goes_where_made : (s : Setting) (log : List Entry) (seed h : ℕ) (over : Bool) → has_ended s (history s log) ≡ over
-    → is_some (next_entry s seed h (history s log)) ≡ true → has_ended s (history s log) ≡ false
-goes_where_made s log seed h true is makes = absurd (false≢true (sym (ap is_some (next_is_none s seed log h is)) ∙ makes))
-goes_where_made s log seed h false is makes = is
-
--- so an event is drawn where a hart makes an entry
-pub drawn_where_chosen : (s : Setting) (m : Manner) (log : List Entry) (seed h : ℕ) → 0 < s.limits.harts → s.limits.harts ≤ 8
-    → IsBlockRun s log → h < s.limits.harts → IsSome (next_entry s seed h (history s log)) → IsSome (drawn_entry s m (history s log))
-drawn_where_chosen s m log seed h some few run below makes =
+-- so an event is drawn at each place where the run hasn't ended
+drawn_where_chosen : (s : Setting) (m : Manner) (log : List Entry) (h : ℕ) → 0 < s.limits.harts → s.limits.harts ≤ 8
+    → IsBlockRun s log → has_ended s (history s log) ≡ false → h < s.limits.harts
+    → is_some (next_entry s m.seed h (history s log)) ≡ true → IsSome (drawn_entry s m (history s log))
+drawn_where_chosen s m log h some few run goes below makes =
     let before = history s log in
-    let goes : has_ended s before ≡ false = goes_where_made s log seed h (has_ended s before) refl makes in
     entry_comes s m before some few goes
-    (some_able s log (drawing_at s m before).opened run (opened_of_machine s m before some) (work_of s seed h before below makes))
+    (some_able s log (drawing_at s m before).opened run (opened_of_machine s m before some) (work_of s m.seed h before below makes))
+
+pub drawn_where_open : (s : Setting) (m : Manner) (log : List Entry) → 0 < s.limits.harts → s.limits.harts ≤ 8
+    → IsBlockRun s log → has_ended s (history s log) ≡ false → IsSome (drawn_entry s m (history s log))
+drawn_where_open s m log some few run goes =
+    let at = some_hart_goes_on s m.seed log run.allowed some goes in
+    drawn_where_chosen s m log at.0 some few run goes at.1 at.2

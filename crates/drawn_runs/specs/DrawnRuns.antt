@@ -1,30 +1,25 @@
 -- Drawn runs (own): logs each of whose entries is the one that a policy draws at its place, from the seed and the log so far.
-use Rattle.std.specs.Prelude.{ℕ, ◌≡◌, Bool, false, List, [], ◌∷◌, length, Option, Some, None, if◌then◌else◌, nat_lt, slice_get}
+use Rattle.std.specs.Prelude.{ℕ, ◌≡◌, ◌+◌, Bool, false, List, [], ◌∷◌, length, Option, Some, None, if◌then◌else◌, nat_lt, slice_get}
 use Rattle.std.specs.Option.{option_and_then, option_map}
+use Rattle.mach_types.specs.Kernel.Scheduling.{Scheduling}
+use Rattle.mach_types.specs.Kernel.Threads.{Threads, is_ready}
 use Rattle.mach_types.specs.declared.events.Entry.{Entry}
 use Rattle.rv_inst.specs.declared.effects.Effect.{Effect}
 use Rattle.draw_policies.specs.Accesses.{access_of_effect, access_of_store}
 use Rattle.draw_policies.specs.declared.accesses.Access.{Access}
-use Rattle.draw_policies.specs.declared.policies.Policy.{Policy}
 use Rattle.drawings.specs.Drawings.{Drawn, draw, kept_after}
-use Rattle.drawings.specs.Scenes.{Scene}
+use Rattle.drawings.specs.Scenes.{Scene, passing}
 use Rattle.drawings.specs.Starts.{start}
 use Rattle.drawings.specs.declared.drawing.Drawing.{Drawing}
+use Rattle.drawn_runs.specs.declared.manner.Manner.{Manner}
 use Rattle.block_model.specs.Choosing.{has_ended}
 use Rattle.block_model.specs.Deciding.{entry_in, history}
 use Rattle.block_model.specs.Here.{Here, runs, waiting_here}
 use Rattle.block_model.specs.History.{History, here_in_history, kernel, ran}
+use Rattle.block_model.specs.Record.{Kernel}
 use Rattle.block_model.specs.Sequences.{is_inside_here}
 use Rattle.block_model.specs.Setting.{Setting}
 use Rattle.block_model.specs.Sights.{effect_here, sight_in}
-
--- how the events of a run are drawn: the seed; the policy; how many entries were there before, by a script; and how many are drawn
--- before it goes on fairly
-pub record Manner : Type 0 where
-  pub seed : ℕ
-  pub policy : Policy
-  pub scripted : ℕ
-  pub calm : ℕ
 
 -- whether the thread on the hart is inside a good sequence
 abbrev pub is_inside_on : Here → Option ℕ → Bool
@@ -36,6 +31,15 @@ abbrev pub access_in : Option ℕ → Option Effect → Option Access
 access_in None effect = option_and_then access_of_effect effect
 access_in (Some left) effect = None
 
+-- the numbers of the ready threads, rising
+abbrev pub ready_numbers : Threads → List ℕ
+ready_numbers ts = passing (λ t. is_ready t ts) (ts.given + 1)
+
+-- the ready threads and the affinities. A word names each of so many threads as likely as the next, so their order means nothing, and
+-- it is that of their numbers
+abbrev pub by_number : Kernel → Scheduling
+by_number k = record k.scheduling { order = ready_numbers k.threads }
+
 -- what a policy sees at a place. No rule of drawn runs reads a credit of `run`, so there it is 0
 abbrev pub scene_at : Setting → History → Scene
 scene_at s before = record {
@@ -44,7 +48,7 @@ scene_at s before = record {
   is_inside = λ h. is_inside_on (here_in_history s before h) (runs (here_in_history s before h));
   next_access = λ h. access_in (here_in_history s before h).awaits (effect_here (here_in_history s before h));
   oldest_store = λ h. option_map access_of_store (slice_get (waiting_here (here_in_history s before h)) 0);
-  scheduling = (kernel s before).scheduling;
+  scheduling = by_number (kernel s before);
 }
 
 -- what is kept at a place: the start behind the script's entries, and then what each draw leaves

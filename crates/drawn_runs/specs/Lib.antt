@@ -1,1 +1,3 @@
 pub mod DrawnRuns
+pub mod Manners
+pub mod WholeRuns

@@ -1,13 +1,15 @@
 //! Laws of drawn runs, each as the contract of a function that does nothing.
 
-ghost use Rattle.std.specs.Prelude.{◌≡◌, ◌<◌, ◌≤◌, ◌++◌, [], ◌∷◌, ℕ, List, Some, Ok, IsSome, length};
+ghost use Rattle.std.specs.Prelude.{◌≡◌, ◌<◌, ◌≤◌, ◌++◌, [], ◌∷◌, false, List, Some, Ok, IsSome, length};
 ghost use Rattle.mach_types.specs.declared.events.Entry.{Entry};
-ghost use Rattle.block_model.specs.Choosing.{next_entry};
+ghost use Rattle.block_model.specs.Choosing.{has_ended};
 ghost use Rattle.block_model.specs.Deciding.{decide, history};
 ghost use Rattle.block_model.specs.Run.{IsBlockRun};
 ghost use Rattle.block_model.specs.Setting.{Setting};
 ghost use Rattle.drawings.specs.Drawings.{Drawn};
-ghost use Rattle.drawn_runs.specs.DrawnRuns.{IsDrawn, Manner, drawn_at, drawn_entry, entry_of};
+ghost use Rattle.drawn_runs.specs.declared.manner.Manner.{Manner};
+ghost use Rattle.drawn_runs.specs.DrawnRuns.{IsDrawn, drawn_at, drawn_entry, entry_of};
+ghost use Rattle.drawn_runs.specs.WholeRuns.{IsDrawnRun};
 
 /// What is drawn at a place of a block run is allowed there.
 pub fn drawn_events_are_allowed()
@@ -16,11 +18,11 @@ pub fn drawn_events_are_allowed()
         → decide s (history s log) x.hart x.choice ≡ Ok (entry_of s (history s log) x) }
 {}
 
-/// Where a hart makes an entry by the choice of `run` at some seed, an event is drawn.
+/// At each place of a block run that hasn't ended, an event is drawn.
 pub fn an_event_is_drawn()
-    ensures { (s : Setting) (m : Manner) (log : List Entry) (seed h : ℕ) → 0 < s.limits.harts
-        → s.limits.harts ≤ 8 → IsBlockRun s log → h < s.limits.harts
-        → IsSome (next_entry s seed h (history s log)) → IsSome (drawn_entry s m (history s log)) }
+    ensures { (s : Setting) (m : Manner) (log : List Entry) → 0 < s.limits.harts
+        → s.limits.harts ≤ 8 → IsBlockRun s log → has_ended s (history s log) ≡ false
+        → IsSome (drawn_entry s m (history s log)) }
 {}
 
 /// A drawn log begins behind its script, and goes on by the entry that is drawn.
@@ -31,4 +33,11 @@ pub fn drawn_runs_go_on()
         → s.limits.harts ≤ 8 → IsBlockRun s log → IsDrawn s m log
         → drawn_entry s m (history s log) ≡ Some e
         → IsBlockRun s (log ++ e ∷ []) × IsDrawn s m (log ++ e ∷ []) }
+{}
+
+/// Whole drawn runs of one manner that begin with the same entries, no fewer than a script made, go on alike: without a script there
+/// is one such run.
+pub fn drawn_runs_are_one()
+    ensures { (s : Setting) (m : Manner) (first more other : List Entry) → m.scripted ≤ length first
+        → IsDrawnRun s m (first ++ more) → IsDrawnRun s m (first ++ other) → more ≡ other }
 {}

@@ -10,12 +10,14 @@ use Rattle.block_model.specs.History.{console}
 use Rattle.block_model.specs.Deciding.{history, end_of}
 use Rattle.block_model.specs.Plain.{PlainRun, plain_end, plain_run, plain_solo}
 use Rattle.block_model.specs.Replay.{Ask, script_of}
+use Rattle.drawn_runs.specs.Manners.{manner_of}
+use Rattle.drawn_runs.specs.WholeRuns.{IsDrawnRun}
 use Rattle.block_view.specs.Acts.{acts_of}
 use Rattle.log_gather.specs.Gathered.{gathered}
 use Rattle.place_text.specs.Place.{place_text}
 use Rattle.command_words.specs.declared.table.Shown.{Shown}
 use Rattle.command_words.specs.declared.table.Shown.TheVariants as shows
-use Rattle.command_words.specs.Commands.{Command, Source, Rule, Script, Workers}
+use Rattle.command_words.specs.Commands.{Command, Source, Rule, Script, Workers, Drawn}
 use Rattle.command_words.specs.Words.{command_of}
 use Rattle.outcomes.specs.Programs.{Files, IsProgram, IsScript, asks_of}
 use Rattle.outcomes.specs.Runs.{IsChosenRun, IsSoloRun, IsPlayedRun}
@@ -57,6 +59,7 @@ abbrev pub IsLogOf : Files → Source → Setting → List Entry → Type 0
 IsLogOf files Rule s log = IsSoloRun s log
 IsLogOf files (Script name) s log = IsScriptRun files name s log
 IsLogOf files (Workers seed) s log = IsChosenRun s seed log
+IsLogOf files (Drawn seed) s log = IsDrawnRun s (manner_of seed s.limits.steps) log
 
 -- the program of this name was taken, and a machine is at the end of a run of this image, whose log came about in
 -- this way
@@ -104,19 +107,19 @@ pub record IsPlainScriptRun (files : Files) (name : List ℕ) (s : Setting) (run
   pub readable : asks_of lines ≡ map Some asks
   pub made : plain_run s asks ≡ Ok run
 
--- this is the plain machine's run over the hart and the choice of each entry of a log, which are those of a whole
--- run by workers
-pub record IsPlainChosenRun (s : Setting) (seed : ℕ) (run : PlainRun) : Type 0 where
+-- this is the plain machine's run over the hart and the choice of each entry of a log that is of this kind
+pub record IsPlainRunOver (s : Setting) (IsOfKind : List Entry → Type 0) (run : PlainRun) : Type 0 where
   pub log : List Entry
-  pub chosen : IsChosenRun s seed log
+  pub kind : IsOfKind log
   pub made : plain_run s (script_of log) ≡ Ok run
 
--- the plain machine's run came about in this way; by the fixed rule it is its own run, for as many steps as the
--- limits allow
+-- the plain machine's run came about in this way: by the fixed rule it is its own run, for as many steps as the
+-- limits allow; by workers and by draws it goes over the log of such a run
 abbrev pub IsPlainRunOf : Files → Source → Setting → PlainRun → Type 0
 IsPlainRunOf files Rule s run = run ≡ plain_solo s s.limits.steps
 IsPlainRunOf files (Script name) s run = IsPlainScriptRun files name s run
-IsPlainRunOf files (Workers seed) s run = IsPlainChosenRun s seed run
+IsPlainRunOf files (Workers seed) s run = IsPlainRunOver s (IsChosenRun s seed) run
+IsPlainRunOf files (Drawn seed) s run = IsPlainRunOver s (IsDrawnRun s (manner_of seed s.limits.steps)) run
 
 -- what the plain machine prints for a command
 pub record IsPlainCommandOutput (files : Files) (command : Command) (written : List ℕ) : Type 0 where

@@ -1,14 +1,16 @@
 -- Told files have one output.
 use Rattle.std.proofs.Common.{◌≡◌, ℕ, List, [], ◌∷◌, refl, sym, ap, ◌∙◌, subst, ap₂, Option, Some, None, Ok}
-use Rattle.std.proofs.Common.{false, map}
+use Rattle.std.proofs.Common.{arith, false, map}
 use Rattle.std.specs.Prelude.{IsSome, IfSome}
 use Rattle.mach_types.specs.declared.limits.Limits.{Limits}
 use Rattle.elf_load.specs.declared.image.Image.{Image}
 use Rattle.elf_load.specs.Images.{IsImage}
 use Rattle.block_model.specs.Plain.{PlainRun, plain_run}
-use Rattle.block_model.specs.Replay.{Ask}
+use Rattle.block_model.specs.Replay.{Ask, script_of}
 use Rattle.block_model.specs.Setting.{Setting, setting_of}
 use Rattle.block_model.proofs.Laws.{one_setting}
+use Rattle.drawn_runs.specs.Manners.{manner_of}
+use Rattle.drawn_runs.proofs.Laws.{goes_on_alike}
 use Rattle.command_words.specs.Commands as words
 use Rattle.outcomes.specs.Needs.{Needs, Nothing, Program, Script, needs_by, needs_of}
 use Rattle.outcomes.specs.Outputs.{IsOutputOf, IsPlainOutputOf, IsPlainRunOf, plain_text, setting_for}
@@ -48,6 +50,7 @@ program_told : (files : Files) (program : List ℕ) (source : words.Source) (lim
 program_told files program words.Rule limits told = told
 program_told files program (words.Script name) limits told = told.0
 program_told files program (words.Workers seed) limits told = told
+program_told files program (words.Drawn seed) limits told = told
 
 -- without workers it is run in one way
 one_run : (files : Files) (program : List ℕ) (source : words.Source) (limits : Limits) (s : Setting)
@@ -61,6 +64,12 @@ one_run files program (words.Script name) limits s run other quiet told first se
     let is = second.made in
     cc
 one_run files program (words.Workers seed) limits s run other quiet told first second = absurd (cc quiet)
+one_run files program (words.Drawn seed) limits s run other quiet told first second =
+    let same : first.log ≡ second.log =
+    goes_on_alike s (manner_of seed s.limits.steps) [] first.log second.log (omega arith) first.kind second.kind in
+    let made : plain_run s (script_of second.log) ≡ Ok run = ap (λ l. plain_run s (script_of l)) (sym same) ∙ first.made in
+    let is = second.made in
+    cc
 
 one_plain : (files : Files) (command : Option words.Command) (a b : List ℕ) → words.is_run command ≡ false
     → AreTold files (needs_of command)
@@ -117,6 +126,7 @@ some_need : (program : List ℕ) (source : words.Source) (limits : Limits) → �
 some_need program words.Rule limits none = absurd cc
 some_need program (words.Script name) limits none = absurd cc
 some_need program (words.Workers seed) limits none = absurd cc
+some_need program (words.Drawn seed) limits none = absurd cc
 
 needs_some : (files : Files) (command : Option words.Command) (written : List ℕ) → IsOutputOf files command written
     → ¬ (needs_of command ≡ Nothing)

@@ -4,13 +4,17 @@ use Rattle.mach_types.specs.declared.events.Entry.{Entry}
 use Rattle.block_model.specs.Plain.{PlainRun, plain_solo}
 use Rattle.block_model.specs.PlainSays.{SaysOf}
 use Rattle.block_model.specs.Replay.{script_of}
+use Rattle.block_model.specs.Run.{IsBlockRun}
 use Rattle.block_model.specs.Setting.{Setting}
 use Rattle.block_model.proofs.Laws.{answers_itself, plain_makes, plain_solo_log, plain_solo_says, run_is_played}
+use Rattle.drawn_runs.specs.Manners.{manner_of}
+use Rattle.drawn_runs.specs.WholeRuns.{IsDrawnRun}
 use Rattle.command_words.specs.declared.table.Shown.{Shown}
-use Rattle.command_words.specs.Commands.{Command, Source, Rule, Script, Workers}
-use Rattle.outcomes.specs.Outputs.{IsLogOf, IsOutputOf, IsPlainOutputOf, IsPlainRunOf, plain_text}
+use Rattle.command_words.specs.Commands.{Command, Source, Rule, Script, Workers, Drawn}
+use Rattle.outcomes.specs.Outputs.{IsLogOf, IsOutputOf, IsPlainOutputOf, IsPlainRunOf, IsPlainRunOver, plain_text}
 use Rattle.outcomes.specs.Outputs.{setting_for, shown_text, text_of}
 use Rattle.outcomes.specs.Programs.{Files}
+use Rattle.outcomes.specs.Runs.{IsChosenRun}
 
 -- of a machine that says of a log what is read from it, the same is shown as of the log
 shows_alike : (shown : Shown) (s : Setting) (log : List Entry) (run : PlainRun) → run.log ≡ log
@@ -18,15 +22,28 @@ shows_alike : (shown : Shown) (s : Setting) (log : List Entry) (run : PlainRun) 
 shows_alike shown s log run same says =
     λ i. text_of shown s (sym says.same_console i) (sym same i) (sym says.same_end i)
 
--- the plain machine's run beside the log of a run
-record IsRunAlike (files : Files) (source : Source) (s : Setting) (log : List Entry) : Type 0 where
+-- a run of the plain machine, of this kind, beside the log of a run
+record IsRunAlike (IsOfKind : PlainRun → Type 0) (s : Setting) (log : List Entry) : Type 0 where
   run : PlainRun
   same : run.log ≡ log
-  made : IsPlainRunOf files source s run
+  made : IsOfKind run
   says : SaysOf s log run.machine
 
+-- it goes over the entries of the log
+over_log : (s : Setting) (IsOfKind : List Entry → Type 0) (log : List Entry) → IsBlockRun s log → IsOfKind log
+    → IsRunAlike (IsPlainRunOver s IsOfKind) s log
+over_log s IsOfKind log run kind =
+    let made = plain_makes s (script_of log) log
+    (run_is_played s (script_of log) log run (answers_itself log)) in
+    record {
+      run = record { log = log; machine = made.machine };
+      same = refl;
+      made = record { log = log; kind = kind; made = made.made };
+      says = made.says;
+    }
+
 run_alike : (files : Files) (source : Source) (s : Setting) (log : List Entry) → IsLogOf files source s log
-    → IsRunAlike files source s log
+    → IsRunAlike (IsPlainRunOf files source s) s log
 run_alike files Rule s log run = record {
   run = plain_solo s s.limits.steps;
   same = plain_solo_log s log run.block_run run.rule run.over;
@@ -48,15 +65,8 @@ run_alike files (Script name) s log played =
       };
       says = made.says;
     }
-run_alike files (Workers seed) s log run =
-    let made = plain_makes s (script_of log) log
-    (run_is_played s (script_of log) log run.block_run (answers_itself log)) in
-    record {
-      run = record { log = log; machine = made.machine };
-      same = refl;
-      made = record { log = log; chosen = run; made = made.made };
-      says = made.says;
-    }
+run_alike files (Workers seed) s log run = over_log s (IsChosenRun s seed) log run.block_run run
+run_alike files (Drawn seed) s log run = over_log s (IsDrawnRun s (manner_of seed s.limits.steps)) log run.block_run run
 
 pub plain_output_of : (files : Files) (command : Option Command) (written : List ℕ)
     → IsOutputOf files command written → IsPlainOutputOf files command written

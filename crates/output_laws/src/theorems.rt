@@ -34,8 +34,8 @@ pub fn gathered_log_replays()
 {}
 
 /// Where a shelf tells the files that a command needs, there is one output, unless its log comes about by workers:
-/// which it is depends on their bytes and the limits alone. Which one comes of `run` hangs also on the order in which
-/// the harts take turns. And where there is an output, the files are good.
+/// which it is depends on their bytes, the limits and, for `draw`, the seed alone. Which one comes of `run` hangs also
+/// on the order in which the harts take turns. And where there is an output, the files are good.
 pub fn told_files_have_one_output()
     ensures one { (files : Files) (command : Option Command) (written other : List ℕ)
         → is_run command ≡ false → AreTold files (needs_of command)

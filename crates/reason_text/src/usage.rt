@@ -8,7 +8,7 @@ use std::fmt::Write;
 const OPTIONS: &str = "  --harts N   how many harts there are: 1 to 8; 2 where it isn't given
   --frames N  how many frames of memory there are: 128 to 16384; 4096
   --steps N   how many lines the log may have: 1 to 1000000; 200000
-  --seed N    where the generators of the harts begin: 0 to 18446744073709551615; 1
+  --seed N    where the generators begin: 0 to 18446744073709551615; 1
 ";
 
 /// The version (own).
@@ -19,7 +19,9 @@ fn words_behind(source: SourceKind) -> &'static str {
     match source {
         SourceKind::ByRule => "FILE [--frames N] [--steps N]",
         SourceKind::ByScript => "FILE SCRIPT [--harts N] [--frames N] [--steps N]",
-        SourceKind::ByWorkers => "FILE [--harts N] [--frames N] [--steps N] [--seed N]",
+        SourceKind::ByWorkers | SourceKind::ByDraws => {
+            "FILE [--harts N] [--frames N] [--steps N] [--seed N]"
+        }
     }
 }
 

@@ -4,7 +4,9 @@ use Rattle.mach_types.specs.declared.limits.Limits.{Limits}
 use Rattle.elf_load.specs.declared.image.Image.{Image}
 use Rattle.block_model.specs.Run.{IsBlockRun}
 use Rattle.block_model.specs.Setting.{Setting, Seen, setting_of}
-use Rattle.command_words.specs.Commands.{Command, Source, Rule, Script, Workers}
+use Rattle.drawn_runs.specs.Manners.{manner_of}
+use Rattle.drawn_runs.specs.WholeRuns.{IsWholeDrawn}
+use Rattle.command_words.specs.Commands.{Command, Source, Rule, Script, Workers, Drawn}
 use Rattle.outcomes.specs.Outputs.{HasRun, IsCommandOutput, shown_text}
 use Rattle.outcomes.specs.Programs.{Files, IsProgram, IsScript}
 use Rattle.outcomes.specs.Runs.{IsPlayedRun, IsWholePlay, IsWholeRun, IsWholeSolo}
@@ -34,6 +36,13 @@ pub run_by_workers : (files : Files) (program : List ℕ) (limits : Limits) (see
     → IsProgram files program limits image → IsWholeRun (setting_of image limits) seed m
     → HasRun files program (Workers seed) limits image m
 run_by_workers files program limits seed image m taken whole =
+    record { taken = taken; setting = whole.setting; made = whole.run }
+
+pub run_by_draws : (files : Files) (program : List ℕ) (limits : Limits) (seed : ℕ) (image : Image) (m : Seen)
+    → IsProgram files program limits image
+    → IsWholeDrawn (setting_of image limits) (manner_of seed limits.steps) m
+    → HasRun files program (Drawn seed) limits image m
+run_by_draws files program limits seed image m taken whole =
     record { taken = taken; setting = whole.setting; made = whole.run }
 
 -- the machine at its end made a block run

@@ -161,6 +161,6 @@ fn needs_workers(command: &Command) -> bool
 {
     match command.source {
         Source::Workers { .. } => true,
-        Source::Rule | Source::Script(_) => false,
+        Source::Rule | Source::Script(_) | Source::Drawn { .. } => false,
     }
 }

@@ -4,7 +4,7 @@ ghost use Rattle.std.specs.Prelude.{◌≡◌, IfErr, IfOk, Some, false, true};
 ghost use Rattle.mach_types.specs.Limits.{InRange};
 ghost use Rattle.elf_load.specs.Images.{IsBootable};
 ghost use Rattle.outside.specs.Counts.{NoneFalls};
-ghost use Rattle.command_words.specs.Commands.{HasItsHarts, Rule, Script, Workers, is_by_workers};
+ghost use Rattle.command_words.specs.Commands.{Drawn, HasItsHarts, Rule, Script, Workers, is_by_workers};
 ghost use Rattle.command_words.specs.Kept.{said, source_said};
 ghost use Rattle.outcomes.specs.Needs.{needs_by, needs_of};
 ghost use Rattle.outcomes.specs.Outputs.{HasRun, IsCommandOutput};
@@ -13,6 +13,8 @@ ghost use Rattle.outcomes.specs.Reasons.{IsReasonFor};
 use crate::fetching::{read_file, taken};
 use command_runs::{play, run_solo, run_workers, shown_text};
 use command_words::{Command, Source};
+use drawn_machine::run_drawn;
+use drawn_runs::Manner;
 use elf_load::Image;
 use mach_types::Limits;
 use machine_core::Machine;
@@ -95,6 +97,7 @@ fn quiet_run<S: Shelf>(
         Source::Script(script) => {
             script_run(alloc, command.program, script, command.limits, shelf)
         }
+        Source::Drawn { seed } => drawn_run(alloc, command.program, command.limits, seed, shelf),
         Source::Workers { .. } => unreachable!(),
     }
 }
@@ -130,7 +133,7 @@ fn waiting_run<R: Threads + Wait + Sync, S: Shelf, G: Gate + Sync>(
                 gate,
             )
         }
-        Source::Rule | Source::Script(_) => unreachable!(),
+        Source::Rule | Source::Script(_) | Source::Drawn { .. } => unreachable!(),
     }
 }
 
@@ -178,6 +181,30 @@ fn script_run<S: Shelf>(
     let image = taken(alloc, program, &limits, shelf)?;
     let lines = read_file(alloc, script, FileRole::Script, shelf)?;
     let machine = play(alloc, &image, limits, &lines)?;
+    Ok(ProgramRun { image, machine })
+}
+
+/// Runs the program of this name on the events that the seed draws.
+fn drawn_run<S: Shelf>(
+    alloc: Global,
+    program: &str,
+    limits: Limits,
+    seed: u64,
+    shelf: &mut S,
+) -> Result<ProgramRun, Reason>
+    requires { InRange limits }
+    ensures run { IfOk result
+        (λ run. HasRun (S.file shelf.old) program.now (Drawn seed) limits run.image run.machine) }
+    ensures bootable { IfOk result (λ run. IsBootable limits.frames run.image) }
+    ensures cause { let needs = needs_by program.now (Drawn seed) limits in
+        IfErr result (IsReasonFor (S.file shelf.old) needs (S.faults shelf.old) (S.faults shelf.new)
+        (S.last_trouble shelf.new)) }
+    ensures files { S.file shelf.new ≡ S.file shelf.old }
+    ensures counts { NoneFalls (S.faults shelf.old) (S.faults shelf.new) }
+{
+    let image = taken(alloc, program, &limits, shelf)?;
+    let manner = Manner::of_seed(seed, limits.steps);
+    let machine = run_drawn(alloc, &image, limits, &manner)?;
     Ok(ProgramRun { image, machine })
 }
 

@@ -1,0 +1,2 @@
+mod DrawnSteps
+mod Starting

@@ -1,0 +1,158 @@
+-- The ready threads that may begin to run, found number by number: they are those among the ready ones, and not more than live.
+use Rattle.std.proofs.Common.{◌≡◌, ℕ, zero, suc, ◌+◌, ◌<◌, ◌≤◌, ◌&&◌, Bool, true, false, not, cond, eqb, ltb, List, [], ◌∷◌, ◌++◌, filter, find, length, length-append, Option, Some, None, inl, inr, is_some, refl, sym, ap, ◌∙◌, arith}
+use Rattle.std.specs.List.{All}
+use Rattle.std.specs.Option.{option_map, option_map_or}
+use Rattle.std.proofs.lemmas.Bool.{and_parts, cases_eq, false≢true, ne_eqb}
+use Rattle.std.proofs.lemmas.Bool.Decides.{nat_tests}
+use Rattle.std.proofs.lemmas.List.Elements.{All-head, All-tail, filter-append}
+use Rattle.mach_types.specs.Kernel.Scheduling.{Scheduling, affinity_of}
+use Rattle.mach_types.specs.Kernel.Threads.{IsThreads, Thread, Threads, is_ready, is_ready_state, is_thread, numbers}
+use Rattle.drawn_runs.specs.DrawnRuns.{ready_numbers}
+use Rattle.drawings.specs.Scenes.{may_begin, passing, startable}
+
+-- those of the numbers that pass one test which pass another
+last_of_both : (p q : ℕ → Bool) (n : ℕ) (b : Bool) → q n ≡ b
+    → filter p (cond b (n ∷ []) []) ≡ cond (b && p n) (n ∷ []) []
+last_of_both p q n true is = refl
+last_of_both p q n false is = refl
+
+pub filter-passing : (p q : ℕ → Bool) (n : ℕ) → filter p (passing q n) ≡ passing (λ t. q t && p t) n
+filter-passing p q zero = refl
+filter-passing p q (suc n) =
+    filter-append p (passing q n) (cond (q n) (n ∷ []) [])
+    ∙ ap (λ (xs : List ℕ). xs ++ filter p (cond (q n) (n ∷ []) [])) (filter-passing p q n)
+    ∙ ap (λ (xs : List ℕ). passing (λ t. q t && p t) n ++ xs) (last_of_both p q n (q n) refl)
+
+-- the threads that start are those that are ready and may
+abbrev pub starts : Threads → Scheduling → ℕ → ℕ → ℕ → Bool
+starts ts s opened h t = is_ready t ts && may_begin opened h (affinity_of t s)
+
+pub all_startable : (ts : Threads) (s : Scheduling) (opened h : ℕ)
+    → passing (starts ts s opened h) (ts.given + 1) ≡ startable opened h (record s { order = ready_numbers ts })
+all_startable ts s opened h =
+    sym (filter-passing (λ t. may_begin opened h (affinity_of t s)) (λ t. is_ready t ts) (ts.given + 1))
+
+-- no thread has the number 0
+none_zero : (given : ℕ) (live : List Thread) → All (λ t. (0 < t) × (t ≤ given)) (numbers live) → find (is_thread 0) live ≡ None
+none_zero given [] all = refl
+none_zero given (th ∷ ths) all =
+    let some : 0 < th.tid = (All-head (λ t. (0 < t) × (t ≤ given)) th.tid (numbers ths) all).0 in
+    let other : eqb th.tid 0 ≡ false = ne_eqb th.tid 0 (omega arith) in
+    rw other (none_zero given ths (All-tail (λ t. (0 < t) × (t ≤ given)) th.tid (numbers ths) all))
+
+zero_starts_not : (ts : Threads) (s : Scheduling) (opened h : ℕ) → IsThreads ts → starts ts s opened h 0 ≡ false
+zero_starts_not ts s opened h holds = rw (none_zero ts.given ts.live holds.given) refl
+
+pub none_so_far : (ts : Threads) (s : Scheduling) (opened h : ℕ) → IsThreads ts → [] ≡ passing (starts ts s opened h) (0 + 1)
+none_so_far ts s opened h holds = ap (λ (b : Bool). cond b (0 ∷ []) []) (sym (zero_starts_not ts s opened h holds))
+
+-- without one number that may be among them, there is at most one less
+abbrev without : (ℕ → Bool) → ℕ → ℕ → Bool
+without test x t = test t && not (eqb x t)
+
+abbrev one_below : ℕ → ℕ → ℕ
+one_below x n = cond (ltb x n) 1 0
+
+same_below : (x n m : ℕ) (b : Bool) → ltb x n ≡ b → ltb x m ≡ b → one_below x n ≡ one_below x m
+same_below x n m b one other = rw (one, other) refl
+
+below_is : (x n : ℕ) (b : Bool) → ltb x n ≡ b → one_below x n ≡ cond b 1 0
+below_is x n b is = rw is refl
+
+length-last : (n : ℕ) (b : Bool) → length (cond b (n ∷ []) []) ≤ 1
+length-last n true = omega arith
+length-last n false = omega arith
+
+last_same : (test : ℕ → Bool) (x n : ℕ) (b : Bool) → test n ≡ b → eqb x n ≡ false
+    → length (cond b (n ∷ []) []) ≡ length (cond (without test x n) (n ∷ []) [])
+last_same test x n true is other = rw (is, other) refl
+last_same test x n false is other = rw is refl
+
+one_less : (test : ℕ → Bool) (x n : ℕ) → length (passing test n) ≤ length (passing (without test x) n) + one_below x n
+one_less test x zero = omega arith
+one_less test x (suc n) =
+    let before = one_less test x n in
+    elim (cases_eq x n) [
+      | inl same ↦
+          let out : ltb x n ≡ false = grind (arith, nat_tests) in
+          let here : ltb x (suc n) ≡ true = grind (arith, nat_tests) in
+          omega (
+            arith,
+            before,
+            below_is x n false out,
+            below_is x (suc n) true here,
+            length-last n (test n),
+            length-append (passing test n) (cond (test n) (n ∷ []) []),
+            length-append (passing (without test x) n) (cond (without test x n) (n ∷ []) []),
+          )
+      | inr apart ↦
+          let alike : ltb x (suc n) ≡ ltb x n = grind (arith, nat_tests) in
+          omega (
+            arith,
+            before,
+            last_same test x n (test n) refl (ne_eqb x n apart),
+            same_below x (suc n) n (ltb x n) alike refl,
+            length-append (passing test n) (cond (test n) (n ∷ []) []),
+            length-append (passing (without test x) n) (cond (without test x n) (n ∷ []) []),
+          )
+    ]
+
+one_at_most : (x n : ℕ) (b : Bool) → ltb x n ≡ b → cond b 1 0 ≤ 1
+one_at_most x n true is = omega arith
+one_at_most x n false is = omega arith
+
+-- so numbers that are all those of threads aren't more than these
+abbrev AreOf : (ℕ → Bool) → List Thread → Type 0
+AreOf test live = (t : ℕ) → test t ≡ true → is_some (find (is_thread t) live) ≡ true
+
+none_last : (test : ℕ → Bool) (n : ℕ) (b : Bool) → AreOf test [] → test n ≡ b → length (cond b (n ∷ []) []) ≤ 0
+none_last test n true are is = absurd (false≢true (are n is))
+none_last test n false are is = omega arith
+
+none_pass : (test : ℕ → Bool) (n : ℕ) → AreOf test [] → length (passing test n) ≤ 0
+none_pass test zero are = omega arith
+none_pass test (suc n) are =
+    omega (arith, none_pass test n are, none_last test n (test n) are refl, length-append (passing test n) (cond (test n) (n ∷ []) []))
+
+found_later : (x : Thread) (xs : List Thread) (t : ℕ) (b : Bool) → eqb x.tid t ≡ b → not b ≡ true
+    → is_some (cond b (Some x) (find (is_thread t) xs)) ≡ true → is_some (find (is_thread t) xs) ≡ true
+found_later x xs t true is other found = absurd (false≢true other)
+found_later x xs t false is other found = found
+
+are_later : (test : ℕ → Bool) (x : Thread) (xs : List Thread) → AreOf test (x ∷ xs) → AreOf (without test x.tid) xs
+are_later test x xs are t passes =
+    let both = and_parts (test t) (not (eqb x.tid t)) passes in
+    found_later x xs t (eqb x.tid t) refl both.1 (are t both.0)
+
+few_pass : (test : ℕ → Bool) (live : List Thread) (n : ℕ) → AreOf test live → length (passing test n) ≤ length live
+few_pass test [] n are = none_pass test n are
+few_pass test (x ∷ xs) n are =
+    let later : length (passing (without test x.tid) n) ≤ length xs = few_pass (without test x.tid) xs n (are_later test x xs are) in
+    omega (arith, later, one_less test x.tid n, one_at_most x.tid n (ltb x.tid n) refl)
+
+-- a ready thread is live
+ready_live : (o : Option Thread) → option_map_or is_ready_state (option_map (λ th. th.state) o) false ≡ true → is_some o ≡ true
+ready_live None ready = ready
+ready_live (Some th) ready = refl
+
+starts_few : (ts : Threads) (s : Scheduling) (opened h n : ℕ) → length (passing (starts ts s opened h) n) ≤ length ts.live
+starts_few ts s opened h n =
+    few_pass (starts ts s opened h) ts.live n
+    (λ t both. ready_live (find (is_thread t) ts.live) (and_parts (is_ready t ts) (may_begin opened h (affinity_of t s)) both).0)
+
+-- where one more starts, fewer did so far
+pub has_room : (ts : Threads) (s : Scheduling) (opened h n most : ℕ) (items : List ℕ) → length ts.live ≤ most
+    → items ≡ passing (starts ts s opened h) n → starts ts s opened h n ≡ true → length items < most
+has_room ts s opened h n most items few so_far passes =
+    let all : length (passing (starts ts s opened h) n ++ cond (starts ts s opened h n) (n ∷ []) []) ≤ length ts.live =
+    starts_few ts s opened h (suc n) in
+    let next : length (cond (starts ts s opened h n) (n ∷ []) []) ≡ 1 =
+    ap (λ (b : Bool). length (cond b (n ∷ []) [])) passes in
+    omega (
+      arith,
+      few,
+      all,
+      next,
+      ap (λ (xs : List ℕ). length xs) so_far,
+      length-append (passing (starts ts s opened h) n) (cond (starts ts s opened h n) (n ∷ []) []),
+    )
