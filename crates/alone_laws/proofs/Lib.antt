@@ -1,5 +1,6 @@
 pub mod Arrivals
 pub mod Described
+pub mod Ends
 pub mod Entered
 pub mod Entering
 pub mod PathLaw

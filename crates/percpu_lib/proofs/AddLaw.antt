@@ -16,9 +16,9 @@ use Rattle.alone.specs.Temps.{IsAt, is_scratch}
 use Rattle.alone.proofs.Laws.{loaded_word, word_unchanged}
 use Rattle.alone.proofs.Means.{means_add, means_ld, means_sd}
 use Rattle.alone.proofs.Paths.{leaves, then_load, then_next, then_store}
-use Rattle.alone_laws.specs.Blocks.{Block, IsFairSince, among, pointer_bytes}
+use Rattle.alone_laws.specs.Blocks.{Block, IsFairSince, IsSole, among, pointer_bytes}
 use Rattle.alone_laws.specs.Spans.{IsStanding, alone_from, code_of, seen_at, sees}
-use Rattle.alone_laws.proofs.PathLaw.{path_law, path_of}
+use Rattle.alone_laws.proofs.PathLaw.{path_law, path_of, sole}
 use Rattle.alone_laws.proofs.Sequences.{each_among}
 use Rattle.alone_laws.proofs.Steps.{each_implies, word_same}
 use Rattle.block_model.specs.Acts.{Sequence, sequence_on}
@@ -227,3 +227,23 @@ module _ (s : Setting) (p : Slots) (at : ℕ) (area : Area) (cells h t : ℕ) (b
       let x = path_law s block h t begun is_scratch Inside Left keeps in_bytes points_in points_out place.runs
       before q run fair is from in
       (whole q.reached x.0 x.1 x.2, by_place q.reached x.0 x.1 x.2 (is_inside (add_range at) x.2.at) refl)
+
+  -- it is one run of its thread alone
+  pub add_sole : IsSole (code_of s.program.pages) seen (alone_from s h t begun 0) block
+  add_sole = sole s block h t begun is_scratch Inside Left keeps in_bytes points_in points_out
+
+  -- out of the range its thread is at the post-commit address, or at the retry label
+  pub out_at : (before : History) (q : Sequence) → IsRunHistory s before
+      → IsFairSince s block h t begun before → sequence_on s h before ≡ Some q → q.begun ≡ begun
+      → is_inside (add_range at) (file s t q.reached).pc ≡ false
+      → ((file s t q.reached).pc ≡ at + 44) ⊎ ((file s t q.reached).pc ≡ at)
+  out_at before q run fair is from out =
+      let x = path_law s block h t begun is_scratch Inside Left keeps in_bytes points_in points_out place.runs
+      before q run fair is from in
+      let same = same_pc q.reached x.0 x.1 x.2 in
+      by_left x.2.at x.2.temps x.2.stores same (x.2.left (ap (is_inside (add_range at)) (sym same) ∙ out))
+    where
+      by_left : (to : ℕ) (temps : ℕ → ℕ) (es : List Store) → (file s t q.reached).pc ≡ to → Left to temps es
+          → ((file s t q.reached).pc ≡ at + 44) ⊎ ((file s t q.reached).pc ≡ at)
+      by_left to temps es same (inl back) = inr (same ∙ back.0)
+      by_left to temps es same (inr both) = inl (same ∙ both.0)

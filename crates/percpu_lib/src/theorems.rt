@@ -6,18 +6,20 @@ ghost use Rattle.mach_types.specs.Registers.{register};
 ghost use Rattle.mach_types.specs.declared.events.Entry.{Entry};
 ghost use Rattle.mach_types.specs.declared.events.Kind.TheVariants as kind;
 ghost use Rattle.mach_types.specs.declared.sequences.Area.{Area};
-ghost use Rattle.block_model.specs.Acts.{Sequence, sequence_on};
-ghost use Rattle.block_model.specs.Deciding.{history};
+ghost use Rattle.block_model.specs.Acts.{Sequence, end_before, end_so_far, sequence_on};
+ghost use Rattle.block_model.specs.Deciding.{event, history};
 ghost use Rattle.block_model.specs.History.{file, running};
 ghost use Rattle.block_model.specs.Run.{IsBlockRun};
 ghost use Rattle.block_model.specs.Setting.{Setting};
 ghost use Rattle.alone.specs.Temps.{is_scratch};
+ghost use Rattle.alone_laws.specs.Blocks.{IsPlaceOf};
 ghost use Rattle.alone_laws.specs.Entering.{IsIn};
 ghost use Rattle.alone_laws.specs.Uses.{in_block};
 ghost use Rattle.rv_asm.specs.Assembly.{AreAssembled, Assembly};
 ghost use Rattle.rv_inst.specs.Table.{row_of};
 ghost use Rattle.rv_inst.specs.declared.instruction.Inst.{Inst};
-ghost use Rattle.percpu_lib.specs.Adds.{IsNoAdd, IsWholeAdd, add_block, add_lines, add_range, cell_seen, placed_add};
+ghost use Rattle.percpu_lib.specs.Adds.{IsLeftAt, IsNoAdd, IsWholeAdd, add_block, add_lines, add_of, add_range};
+ghost use Rattle.percpu_lib.specs.Adds.{cell_seen, placed_add};
 ghost use Rattle.percpu_lib.specs.BlockLines.{HasNoLabel, IsLabelled, block_lines};
 ghost use Rattle.percpu_lib.specs.Lines.{AreEmitted, HasRoom, IsContinued};
 ghost use Rattle.percpu_lib.specs.Uses.{HoldsAdd, cells_of};
@@ -37,6 +39,24 @@ pub fn adds_once_or_not_at_all()
         → sequence_on s h (history s log) ≡ Some q → IsIn s (add_range at) q.thread q.begun
         → (file s q.thread q.reached).pc ≢ at + 44
         → IsNoAdd s (cells_of s p q.thread q.begun) h q.thread q.begun q.reached }
+{}
+
+/// In a block run a restartable sequence of an add block ends 'left' where its thread is at the post-commit address
+/// after it; and one that ends 'left' leads there, or back to the retry label.
+pub fn adds_that_commit_are_left()
+    // where an event of its hart comes behind it
+    ensures followed { (s : Setting) (log : List Entry) (entry : Entry) (p : Slots) (at : ℕ) (area : Area) (h : ℕ)
+        (q : Sequence)
+        → IsBlockRun s (log ++ entry ∷ []) → HoldsAdd s (history s (log ++ entry ∷ [])) p at area q.thread
+        → entry.hart.0 ≡ h → sequence_on s h (history s log) ≡ Some q → IsIn s (add_range at) q.thread q.begun
+        → IsLeftAt at (file s q.thread q.reached).pc
+        (end_before s q (event s (history s log) entry) (history s log)) }
+    // where none does, and the block's bytes and descriptor still stand
+    ensures last { (s : Setting) (log : List Entry) (p : Slots) (at : ℕ) (area : Area) (h : ℕ) (q : Sequence)
+        → IsBlockRun s log → HoldsAdd s (history s log) p at area q.thread
+        → sequence_on s h (history s log) ≡ Some q → IsIn s (add_range at) q.thread q.begun
+        → IsPlaceOf s (add_of p at area (cells_of s p q.thread q.begun) h) h q.thread (history s log)
+        → IsLeftAt at (file s q.thread q.reached).pc (end_so_far s q (history s log)) }
 {}
 
 /// In a block run an instruction of an add block changes no register but those that a block may change, whether or not
