@@ -3,9 +3,11 @@ pub mod Described
 pub mod Ends
 pub mod Entered
 pub mod Entering
+pub mod OneStep
 pub mod PathLaw
 pub mod Processors
 pub mod Sequences
 pub mod Steps
 pub mod StoredWords
+pub mod Undisturbed
 pub mod WalkLaw

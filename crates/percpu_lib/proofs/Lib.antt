@@ -1,4 +1,5 @@
 pub mod AddCode
+pub mod AddCourse
 pub mod AddExample
 pub mod AddLaw
 pub mod AddRegisters

@@ -33,7 +33,7 @@ module _ (s : Setting) (p : Slots) (at : ℕ) (area : Area) (h t : ℕ) (begun :
   abbrev cells : ℕ
   cells = cells_of s p t begun
 
-  fair_since : (before : History) → AreAddUsed s p at area t before
+  pub fair_since : (before : History) → AreAddUsed s p at area t before
       → IsFairSince s (add_of p at area cells h) h t begun before
   fair_since [] used = tt
   fair_since (e ∷ before) used = (fair_since before used.0, λ open_here. used.1.fair h begun start open_here)

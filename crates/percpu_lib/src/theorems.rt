@@ -1,7 +1,7 @@
 //! Laws of blocks in runs, each as the contract of a function that does nothing.
 
 ghost use Rattle.std.specs.Prelude.{ℕ, List, [], ◌∷◌, ◌++◌, Some, length, slice_get, true, false};
-ghost use Rattle.std.specs.Prelude.{◌+◌, ◌≡◌, ◌≢◌};
+ghost use Rattle.std.specs.Prelude.{◌+◌, ◌≡◌, ◌≢◌, ◌≤◌};
 ghost use Rattle.mach_types.specs.Registers.{register};
 ghost use Rattle.mach_types.specs.declared.events.Entry.{Entry};
 ghost use Rattle.mach_types.specs.declared.events.Kind.TheVariants as kind;
@@ -14,7 +14,8 @@ ghost use Rattle.block_model.specs.Setting.{Setting};
 ghost use Rattle.alone.specs.Temps.{is_scratch};
 ghost use Rattle.alone_laws.specs.Blocks.{IsPlaceOf};
 ghost use Rattle.alone_laws.specs.Entering.{IsIn};
-ghost use Rattle.alone_laws.specs.Uses.{in_block};
+ghost use Rattle.alone_laws.specs.Undisturbed.{Brings, IsUndisturbed, executed_on};
+ghost use Rattle.alone_laws.specs.Uses.{CanAlwaysBegin, in_block};
 ghost use Rattle.rv_asm.specs.Assembly.{AreAssembled, Assembly};
 ghost use Rattle.rv_inst.specs.Table.{row_of};
 ghost use Rattle.rv_inst.specs.declared.instruction.Inst.{Inst};
@@ -22,7 +23,7 @@ ghost use Rattle.percpu_lib.specs.Adds.{IsLeftAt, IsNoAdd, IsWholeAdd, add_block
 ghost use Rattle.percpu_lib.specs.Adds.{cell_seen, placed_add};
 ghost use Rattle.percpu_lib.specs.BlockLines.{HasNoLabel, IsLabelled, block_lines};
 ghost use Rattle.percpu_lib.specs.Lines.{AreEmitted, HasRoom, IsContinued};
-ghost use Rattle.percpu_lib.specs.Uses.{HoldsAdd, cells_of};
+ghost use Rattle.percpu_lib.specs.Uses.{HoldsAdd, IsAdded, cells_of};
 ghost use Rattle.percpu_lib.specs.declared.lines.Line.{Line};
 ghost use Rattle.percpu_lib.specs.declared.slots.Slots.{Slots};
 
@@ -69,6 +70,18 @@ pub fn add_keeps_registers()
         → register (file s t (history s (log ++ entry ∷ []))).file r ≡ register (file s t (history s log)).file r }
 {}
 
+/// In a block run a thread that is at the retry label of an add block, and whose hart from there on executes
+/// instructions and lets stores enter memory and does nothing else, is at the post-commit address after one of its
+/// first 11 instructions, by a sequence that is whole.
+pub fn adds_are_done()
+    ensures { (s : Setting) (log stretch : List Entry) (p : Slots) (at : ℕ) (area : Area) (h t : ℕ)
+        → IsBlockRun s (log ++ stretch) → HoldsAdd s (history s (log ++ stretch)) p at area t
+        → CanAlwaysBegin s (placed_add p at area) t (history s (log ++ stretch))
+        → running s h (history s log) ≡ Some t → (file s t (history s log)).pc ≡ at
+        → IsUndisturbed h stretch → 11 ≤ executed_on h stretch
+        → Brings s h 11 (IsAdded s p at h t) log stretch }
+{}
+
 /// Once the lines of a block were appended where its labels were free, they are bound: the retry label, the start, the
 /// post-commit address, the abort address and the word after the block; and from the post-commit address one jump
 /// leads to that word.
@@ -95,4 +108,14 @@ pub fn add_blocks_are_used()
         × (sequence_on s h (history s log) ≡ Some q) × IsIn s (add_range at) q.thread q.begun
         × ((file s q.thread q.reached).pc ≡ at + 44)
         × (cell_seen s h (cells_of s p q.thread q.begun) q.reached ≡ Some 32) }
+{}
+
+/// What `adds_are_done` asks can be met: there is a block run in which a thread is at the retry label of an add block,
+/// to which an abort led it, and its hart from there on executes 11 instructions undisturbed.
+pub fn aborted_adds_begin_anew()
+    ensures { (s : Setting) × (log stretch : List Entry) × (p : Slots) × (at : ℕ) × (area : Area) × (h t : ℕ)
+        × IsBlockRun s (log ++ stretch) × HoldsAdd s (history s (log ++ stretch)) p at area t
+        × CanAlwaysBegin s (placed_add p at area) t (history s (log ++ stretch))
+        × (running s h (history s log) ≡ Some t) × ((file s t (history s log)).pc ≡ at)
+        × IsUndisturbed h stretch × (11 ≤ executed_on h stretch) }
 {}
