@@ -6,6 +6,7 @@ pub mod Entering
 pub mod OneStep
 pub mod PathLaw
 pub mod Processors
+pub mod Retrying
 pub mod Sequences
 pub mod Steps
 pub mod StoredWords

@@ -3,6 +3,7 @@ pub mod AddCourse
 pub mod AddExample
 pub mod AddLaw
 pub mod AddRegisters
+pub mod AddRetries
 pub mod AddWords
 pub mod BlockWords
 pub mod CellPath

@@ -30,5 +30,5 @@ pub use slots::Slots;
 pub use theorems::{
     aborted_adds_begin_anew, add_blocks_are_used, add_keeps_registers, adds_are_done,
     adds_once_or_not_at_all, adds_that_commit_are_left, finished_code_holds_add,
-    labels_of_blocks_are_bound,
+    labels_of_blocks_are_bound, retries_of_add_keep_its_value,
 };

@@ -14,6 +14,7 @@ ghost use Rattle.block_model.specs.Setting.{Setting};
 ghost use Rattle.alone.specs.Temps.{is_scratch};
 ghost use Rattle.alone_laws.specs.Blocks.{IsPlaceOf};
 ghost use Rattle.alone_laws.specs.Entering.{IsIn};
+ghost use Rattle.alone_laws.specs.Retries.{Retries};
 ghost use Rattle.alone_laws.specs.Undisturbed.{Brings, IsUndisturbed, executed_on};
 ghost use Rattle.alone_laws.specs.Uses.{CanAlwaysBegin, in_block};
 ghost use Rattle.rv_asm.specs.Assembly.{AreAssembled, Assembly};
@@ -80,6 +81,15 @@ pub fn adds_are_done()
         → running s h (history s log) ≡ Some t → (file s t (history s log)).pc ≡ at
         → IsUndisturbed h stretch → 11 ≤ executed_on h stretch
         → Brings s h 11 (IsAdded s p at h t) log stretch }
+{}
+
+/// In a block run each retry of an add block works on the value that came in: at each place of the walks of a thread
+/// in the block, one after another from its retry label on, the value is what it was there.
+pub fn retries_of_add_keep_its_value()
+    ensures { (s : Setting) (first log later : List Entry) (p : Slots) (at : ℕ) (area : Area) (t : ℕ)
+        → IsBlockRun s (log ++ later) → HoldsAdd s (history s (log ++ later)) p at area t
+        → Retries s (placed_add p at area) t first log
+        → register (file s t (history s log)).file p.value ≡ register (file s t (history s first)).file p.value }
 {}
 
 /// Once the lines of a block were appended where its labels were free, they are bound: the retry label, the start, the
