@@ -22,12 +22,14 @@ use Rattle.block_model.specs.Replay.{Ask, played}
 use Rattle.block_model.specs.Run.{IsBlockRun}
 use Rattle.block_model.specs.Setting.{Setting}
 use Rattle.block_model.proofs.Laws.{played_is_run}
+use Rattle.alone_laws.specs.Retries.{Retries, begins, goes_on, walks}
 use Rattle.alone_laws.specs.Spans.{code_of}
 use Rattle.alone_laws.specs.Undisturbed.{IsUndisturbed}
 use Rattle.alone_laws.specs.Uses.{CanAlwaysBegin}
 use Rattle.percpu_lib.specs.Adds.{add_block, add_range, cell_seen, placed_add}
 use Rattle.percpu_lib.specs.Uses.{HoldsAdd, cells_of}
 use Rattle.percpu_lib.specs.declared.slots.Slots.{Slots}
+use Rattle.percpu_lib.proofs.RetryTests.{registers_are, same_registers, walk_found, walks_at_work}
 use Rattle.percpu_lib.proofs.UseTests.{all_can_begin, all_used, always_begins_freely, are_fine}
 
 -- `lui x8, 0x20`, `addi x10, x8, 0`, `addi x11, x0, 32`, `lui x13, 0xF1401`, `addi x13, x13, 0x73`,
@@ -271,3 +273,72 @@ undisturbed = (
     ),
   ),
 )
+
+-- before that it was at the retry label a first time. From there it walked to the seventh word of the block; it was
+-- preempted there, and began to run again at the abort handler; and from there it walked back
+abbrev pub first_time : List Entry
+first_time = take 9 log
+
+abbrev to_seventh : List Entry
+to_seventh =
+    entry kind.Exec 0x100D0
+    ∷ entry kind.Exec 0x100D4
+    ∷ entry kind.Exec 0x100D8
+    ∷ entry kind.Exec 0x100DC
+    ∷ entry kind.Exec 0x100E0
+    ∷ entry kind.Exec 0x100E4
+    ∷ entry kind.Drain 0x100E8 ∷ []
+
+abbrev interrupted : List Entry
+interrupted = entry kind.Preempt 0x100E8 ∷ entry kind.Run 0x100E8 ∷ []
+
+abbrev back : List Entry
+back = entry kind.Exec 0x10104 ∷ []
+
+runs_first : running adding 0 (history adding first_time) ≡ Some 1
+unfolding decide history done meaning row_of rows lui_rows auipc_rows jal_rows jalr_rows branch_rows load_rows store_rows op_imm_rows op_imm_32_rows op_rows op_32_rows misc_mem_rows amo_rows system_rows are_readable number_at
+runs_first = refl
+
+at_first : (file adding 1 (history adding first_time)).pc ≡ at
+unfolding decide history done meaning row_of rows lui_rows auipc_rows jal_rows jalr_rows branch_rows load_rows store_rows op_imm_rows op_imm_32_rows op_rows op_32_rows misc_mem_rows amo_rows system_rows are_readable number_at
+at_first = refl
+
+walks_on : walks_at_work adding (placed_add slots at area) 0 1 first_time to_seventh ≡ true
+unfolding decide history done meaning row_of rows lui_rows auipc_rows jal_rows jalr_rows branch_rows load_rows store_rows op_imm_rows op_imm_32_rows op_rows op_32_rows misc_mem_rows amo_rows system_rows are_readable number_at
+walks_on = refl
+
+registers_stay : same_registers (file adding 1 (history adding (first_time ++ to_seventh ++ interrupted))).file
+    (file adding 1 (history adding (first_time ++ to_seventh))).file ≡ true
+unfolding decide history done meaning row_of rows lui_rows auipc_rows jal_rows jalr_rows branch_rows load_rows store_rows op_imm_rows op_imm_32_rows op_rows op_32_rows misc_mem_rows amo_rows system_rows are_readable number_at
+registers_stay = refl
+
+in_sequence : is_inside (add_range at) (file adding 1 (history adding (first_time ++ to_seventh))).pc ≡ true
+unfolding decide history done meaning row_of rows lui_rows auipc_rows jal_rows jalr_rows branch_rows load_rows store_rows op_imm_rows op_imm_32_rows op_rows op_32_rows misc_mem_rows amo_rows system_rows are_readable number_at
+in_sequence = refl
+
+at_handler : (file adding 1 (history adding (first_time ++ to_seventh ++ interrupted))).pc ≡ (add_range at).abort
+unfolding decide history done meaning row_of rows lui_rows auipc_rows jal_rows jalr_rows branch_rows load_rows store_rows op_imm_rows op_imm_32_rows op_rows op_32_rows misc_mem_rows amo_rows system_rows are_readable number_at
+at_handler = refl
+
+runs_again : running adding 0 (history adding (first_time ++ to_seventh ++ interrupted)) ≡ Some 1
+unfolding decide history done meaning row_of rows lui_rows auipc_rows jal_rows jalr_rows branch_rows load_rows store_rows op_imm_rows op_imm_32_rows op_rows op_32_rows misc_mem_rows amo_rows system_rows are_readable number_at
+runs_again = refl
+
+walks_back : walks_at_work adding (placed_add slots at area) 0 1 (first_time ++ to_seventh ++ interrupted) back
+    ≡ true
+unfolding decide history done meaning row_of rows lui_rows auipc_rows jal_rows jalr_rows branch_rows load_rows store_rows op_imm_rows op_imm_32_rows op_rows op_32_rows misc_mem_rows amo_rows system_rows are_readable number_at
+walks_back = refl
+
+pub retried : Retries adding (placed_add slots at area) 1 first_time earlier
+retried =
+    walks 0 (first_time ++ to_seventh ++ interrupted) back
+    (goes_on (first_time ++ to_seventh) interrupted
+    (walks 0 first_time to_seventh (begins at_first)
+    (walk_found adding (placed_add slots at area) 0 1 to_seventh first_time runs_first walks_on))
+    (record {
+      registers = registers_are (file adding 1 (history adding (first_time ++ to_seventh ++ interrupted))).file
+          (file adding 1 (history adding (first_time ++ to_seventh))).file registers_stay;
+      pc = inr (in_sequence, at_handler);
+    }))
+    (walk_found adding (placed_add slots at area) 0 1 back (first_time ++ to_seventh ++ interrupted) runs_again
+    walks_back)

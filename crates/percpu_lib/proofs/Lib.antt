@@ -9,7 +9,9 @@ pub mod BlockWords
 pub mod CellPath
 pub mod Emittable
 pub mod Emitting
+pub mod FileCode
 pub mod HeldWords
 pub mod Labels
+pub mod RetryTests
 pub mod UseTests
 pub mod UsesLaw

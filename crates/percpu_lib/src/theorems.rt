@@ -1,7 +1,7 @@
 //! Laws of blocks in runs, each as the contract of a function that does nothing.
 
 ghost use Rattle.std.specs.Prelude.{ℕ, List, [], ◌∷◌, ◌++◌, Some, length, slice_get, true, false};
-ghost use Rattle.std.specs.Prelude.{◌+◌, ◌≡◌, ◌≢◌, ◌≤◌};
+ghost use Rattle.std.specs.Prelude.{◌+◌, ◌*◌, ◌≡◌, ◌≢◌, ◌≤◌, Option};
 ghost use Rattle.mach_types.specs.Registers.{register};
 ghost use Rattle.mach_types.specs.declared.events.Entry.{Entry};
 ghost use Rattle.mach_types.specs.declared.events.Kind.TheVariants as kind;
@@ -17,14 +17,21 @@ ghost use Rattle.alone_laws.specs.Entering.{IsIn};
 ghost use Rattle.alone_laws.specs.Retries.{Retries};
 ghost use Rattle.alone_laws.specs.Undisturbed.{Brings, IsUndisturbed, executed_on};
 ghost use Rattle.alone_laws.specs.Uses.{CanAlwaysBegin, in_block};
+ghost use Rattle.alone_laws.specs.Spans.{code_of};
+ghost use Rattle.block_model.specs.Instruction.{fetched};
+ghost use Rattle.elf_load.specs.Images.{IsImage};
+ghost use Rattle.elf_load.specs.declared.image.Image.{Image};
 ghost use Rattle.rv_asm.specs.Assembly.{AreAssembled, Assembly};
+ghost use Rattle.rv_asm.specs.declared.item.Item.{Item};
 ghost use Rattle.rv_inst.specs.Table.{row_of};
 ghost use Rattle.rv_inst.specs.declared.instruction.Inst.{Inst};
 ghost use Rattle.percpu_lib.specs.Adds.{IsLeftAt, IsNoAdd, IsWholeAdd, add_block, add_lines, add_of, add_range};
 ghost use Rattle.percpu_lib.specs.Adds.{cell_seen, placed_add};
 ghost use Rattle.percpu_lib.specs.BlockLines.{HasNoLabel, IsLabelled, block_lines};
+ghost use Rattle.percpu_lib.specs.Files.{HoldsCode};
 ghost use Rattle.percpu_lib.specs.Lines.{AreEmitted, HasRoom, IsContinued};
 ghost use Rattle.percpu_lib.specs.Uses.{HoldsAdd, IsAdded, cells_of};
+ghost use Rattle.percpu_lib.specs.Words.{AreHeld};
 ghost use Rattle.percpu_lib.specs.declared.lines.Line.{Line};
 ghost use Rattle.percpu_lib.specs.declared.slots.Slots.{Slots};
 
@@ -110,6 +117,22 @@ pub fn finished_code_holds_add()
         → row_of w ≡ Some i }
 {}
 
+/// A machine that runs the image of a file fetches the words of finished code that stands in the file: word k of it at
+/// the address of the code's first byte and 4 k.
+pub fn finished_code_is_fetched()
+    ensures { (labels : List (Option ℕ)) (items : List Item) (bytes file : List ℕ) (image : Image) (at k w : ℕ)
+        → IsImage file image → HoldsCode file at bytes → (code : AreAssembled labels items bytes)
+        → slice_get code.words k ≡ Some w → fetched image.pages.items (at + 4 * k) ≡ Some w }
+{}
+
+/// So the program of a file holds an add block where finished code stands to which its lines were appended.
+pub fn files_hold_add()
+    ensures { (p : Slots) (base at : ℕ) (a b c : Assembly) (bytes file : List ℕ) (image : Image)
+        → HasRoom a.labels base → AreEmitted (add_lines p base) a b → IsContinued b c
+        → AreAssembled c.labels c.items bytes → IsImage file image → HoldsCode file at bytes
+        → AreHeld (code_of image.pages.items) (at + 4 * length a.items) (add_block p) }
+{}
+
 /// What `HoldsAdd` asks can be met: there is a block run in which a thread uses an add block so, and comes to the
 /// post-commit address by a sequence of the block. The cell of its processor is 32 then.
 pub fn add_blocks_are_used()
@@ -120,12 +143,14 @@ pub fn add_blocks_are_used()
         × (cell_seen s h (cells_of s p q.thread q.begun) q.reached ≡ Some 32) }
 {}
 
-/// What `adds_are_done` asks can be met: there is a block run in which a thread is at the retry label of an add block,
-/// to which an abort led it, and its hart from there on executes 11 instructions undisturbed.
+/// What `adds_are_done` and `retries_of_add_keep_its_value` ask can be met: there is a block run in which a thread is at
+/// the retry label of an add block, is interrupted in the sequence, and is at the retry label once more; and its hart
+/// from there on executes 11 instructions undisturbed.
 pub fn aborted_adds_begin_anew()
-    ensures { (s : Setting) × (log stretch : List Entry) × (p : Slots) × (at : ℕ) × (area : Area) × (h t : ℕ)
+    ensures { (s : Setting) × (first log stretch : List Entry) × (p : Slots) × (at : ℕ) × (area : Area) × (h t : ℕ)
         × IsBlockRun s (log ++ stretch) × HoldsAdd s (history s (log ++ stretch)) p at area t
         × CanAlwaysBegin s (placed_add p at area) t (history s (log ++ stretch))
+        × Retries s (placed_add p at area) t first log
         × (running s h (history s log) ≡ Some t) × ((file s t (history s log)).pc ≡ at)
         × IsUndisturbed h stretch × (11 ≤ executed_on h stretch) }
 {}

@@ -6,6 +6,7 @@ use Rattle.percpu_lib.proofs.theorems.aborted_adds_begin_anew.Goals as goal
 pub returns : goal.returns
 returns c = (
   example.adding,
+  example.first_time,
   example.earlier,
   example.rest,
   example.slots,
@@ -16,6 +17,7 @@ returns c = (
   example.is_run,
   example.holds,
   example.can_begin,
+  example.retried,
   example.runs_anew,
   example.begins_anew,
   example.undisturbed,
