@@ -22,6 +22,10 @@ module _ (f : Regs) (at to : ℕ) (on : sum_64 at 4 ≡ to) where
   means_addi rd rs1 imm a v first is = ap (λ n. next rd (sum_64 n (word imm)) at) first
       ∙ ap (λ n. next rd n at) is ∙ ap (effect.Next rd v) on
 
+  pub means_lui : (rd : ℕ) (imm : ℤ) (v : ℕ) → word imm ≡ v → meaning (inst.Lui rd imm) f at ≡ effect.Next rd v to
+  unfolding meaning
+  means_lui rd imm v is = ap (λ n. next rd n at) is ∙ ap (effect.Next rd v) on
+
   pub means_slli : (rd rs1 k a v : ℕ) → register f rs1 ≡ a → shift_left a k ≡ v
       → meaning (inst.Slli rd rs1 k) f at ≡ effect.Next rd v to
   unfolding meaning

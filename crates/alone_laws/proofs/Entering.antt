@@ -68,7 +68,7 @@ module _ (s : Setting) (range : Seq) (t h : ℕ) where
   abbrev HasOpen : History → Type 0
   HasOpen before = (q : Sequence) × (sequence_on s h before ≡ Some q)
 
-  inside_there : (before : History) → running s h before ≡ Some t → IsIn s range t before
+  pub inside_there : (before : History) → running s h before ≡ Some t → IsIn s range t before
       → named_at s h before ≡ names.Good range → is_inside_at s h before ≡ true
   inside_there before runs here named_it =
       let place = here_in_history s before h in

@@ -1,10 +1,14 @@
 pub mod Arrivals
 pub mod Described
+pub mod Ends
 pub mod Entered
 pub mod Entering
+pub mod OneStep
 pub mod PathLaw
 pub mod Processors
+pub mod Retrying
 pub mod Sequences
 pub mod Steps
 pub mod StoredWords
+pub mod Undisturbed
 pub mod WalkLaw

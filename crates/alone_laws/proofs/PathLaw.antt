@@ -39,7 +39,7 @@ module _ (s : Setting) (b : Block) (h t : ℕ) (begun : History) (may : ℕ → 
   abbrev On : ℕ → Type 0
   On n = IsOn (path_of s b h t begun may Inside Left) (alone_from s h t begun n)
 
-  sole : IsSole (code_of s.program.pages) (seen_at s h begun) (alone_from s h t begun 0) b
+  pub sole : IsSole (code_of s.program.pages) (seen_at s h begun) (alone_from s h t begun 0) b
   sole = record {
     goes = λ n begin here. ((on_it n begin).inside
         (sym (ap (is_inside b.range) (on_it n begin).stands.pc) ∙ here)).1;

@@ -85,7 +85,7 @@ each_among at n from (suc m) low high =
 
 -- where the thread stands, and its pointer is that of the block's descriptor, it is inside only where it is
 -- inside the block's range
-in_range : (s : Setting) (b : Block) (h t : ℕ) (begun before : History) (x : Stand) → IsPlaceOf s b h t before
+pub in_range : (s : Setting) (b : Block) (h t : ℕ) (begun before : History) (x : Stand) → IsPlaceOf s b h t before
     → ((a : ℕ) → pointer_bytes b a ≡ true → b.words a ≡ true)
     → word_at (seen_byte x.executed (seen_at s h begun)) (b.area.at + RSEQ_CS) 8 ≡ Some b.table
     → IsStanding s (pointer_bytes b) h t begun before x → is_inside_at s h before ≡ true
@@ -141,7 +141,7 @@ module _ (s : Setting) (b : Block) (h t : ℕ) (begun : History)
       (cases_lt k n)
 
   -- an event of another hart
-  apart_step : (e : Event) (before reached : History) (n : ℕ) → IsStep s e before → IsFair s b h t e before
+  pub apart_step : (e : Event) (before reached : History) (n : ℕ) → IsStep s e before → IsFair s b h t e before
       → eqb e.entry.hart.0 h ≡ false
       → IsSoFar s b h t begun reached before n → IsSoFar s b h t begun reached (e ∷ before) n
   apart_step e before reached n step fair apart was =
@@ -158,14 +158,14 @@ module _ (s : Setting) (b : Block) (h t : ℕ) (begun : History)
       }
 
   -- where the thread is inside before an event of its hart, it stands
-  stands : (before reached : History) (n : ℕ) → IsPlaceOf s b h t before → is_inside_at s h before ≡ true
+  pub stands : (before reached : History) (n : ℕ) → IsPlaceOf s b h t before → is_inside_at s h before ≡ true
       → IsSoFar s b h t begun reached before n
       → is_inside b.range (alone_from s h t begun n).file.pc ≡ true
   stands before reached n place inside was =
       in_range s b h t begun before (alone_from s h t begun n) place sole.covers (sole.points n was.below)
       was.now inside
 
-  so_far : (now : History) (n : ℕ) → StaysInside (code_of s.program.pages) (seen_at s h begun) (alone_from s h
+  pub so_far : (now : History) (n : ℕ) → StaysInside (code_of s.program.pages) (seen_at s h begun) (alone_from s h
       t begun 0) b.range n
       → IsStanding s b.words h t begun now (alone_from s h t begun n) → IsSoFar s b h t begun now now n
   so_far now n below at = record {
@@ -177,7 +177,7 @@ module _ (s : Setting) (b : Block) (h t : ℕ) (begun : History)
   }
 
   -- an instruction
-  exec_step : (e : Event) (before reached : History) (n : ℕ) → IsStep s e before → IsFair s b h t e before
+  pub exec_step : (e : Event) (before reached : History) (n : ℕ) → IsStep s e before → IsFair s b h t e before
       → e.entry.hart.0 ≡ h
       → e.entry.kind ≡ kind.Exec → is_inside_at s h before ≡ true → IsSoFar s b h t begun reached before n
       → IsSoFar s b h t begun (e ∷ before) (e ∷ before) (suc n)
@@ -219,7 +219,7 @@ module _ (s : Setting) (b : Block) (h t : ℕ) (begun : History)
 -- WHOLE SEQUENCES
 
 -- only an instruction begins one
-exec_kind : (k : Kind) → is_instruction k ≡ true → k ≡ kind.Exec
+pub exec_kind : (k : Kind) → is_instruction k ≡ true → k ≡ kind.Exec
 exec_kind kind.Exec is = refl
 exec_kind kind.Drain is = absurd (false≢true is)
 exec_kind kind.Take is = absurd (false≢true is)
@@ -237,7 +237,7 @@ module _ (s : Setting) (b : Block) (h t : ℕ) (begun : History) (runs : running
   Earlier before = (p : Sequence) → sequence_on s h before ≡ Some p → p.begun ≡ begun → GoesSoFar before p
 
   -- it began here
-  starts : (before : History) → before ≡ begun → IsSoFar s b h t begun before before 0
+  pub starts : (before : History) → before ≡ begun → IsSoFar s b h t begun before before 0
   starts before is =
       so_far s b h t begun sole before 0 (λ k lt. absurd (omega arith))
       (subst (λ x. IsStanding s b.words h t begun x (alone_from s h t begun 0)) (sym is)

@@ -292,6 +292,29 @@ standing_take s words h t begun e before x step own is quiet was =
     standing_idle s words h t begun e before x step own
     (subst (IsIdle here) (sym did) (take_idle here here.restart (runs here) none)) was
 
+-- an instruction that accesses some bytes alone makes neither a fault nor a call
+pub did_exec : (s : Setting) (words : ℕ → Bool) (h t : ℕ) (begun : History) (e : Event) (before : History)
+    (x : Stand) (does : Effect) → IsStep s e before
+    → e.entry.hart.0 ≡ h → choice_of e.entry ≡ asked.Exec → IsUsable s words before
+    → effect_at (code_of s.program.pages) x.file ≡ Some does → IsWithin words does
+    → IsStanding s words h t begun before x
+    → e.done ≡ by_outcome (here_in_history s before h) t (outcome_of (here_in_history s before h) t does)
+did_exec s words h t begun e before x does step own is usable next within was =
+    let here = here_in_history s before h in
+    let ready : next_effect here t ≡ Some does = ap (effect_at (code_of s.program.pages)) was.file ∙ next in
+    let readable : (a : ℕ) → words a ≡ true → is_some (memory here a) ≡ true =
+    λ a has. ap (λ b. is_some (cond b (Some (here.byte a)) None)) (usable.read a has) in
+    let fine : next_fault here t ≡ None =
+    ap (fault_by (memory here) (is_writable here) (here.file t).pc (fetched s.program.pages (here.file t).pc))
+    ready
+    ∙ no_fault words (memory here) (is_writable here) readable usable.write does within in
+    let o = outcome_of here t does in
+    step.did ∙ ap (λ k. done_of (choice_of e.entry) (here_in_history s before k)) own
+    ∙ ap (λ c. done_of c here) is
+    ∙ ap (λ r. done_exec_by here r) was.runs ∙ ap (λ f. by_effect here t f (next_effect here t)) fine
+    ∙ ap (λ d. by_effect here t None d) ready
+    ∙ ap (λ b. cond b (by_call here (called_here here t)) (by_outcome here t o)) (no_call words does within)
+
 -- after an instruction that accesses some bytes alone
 pub standing_exec : (s : Setting) (words : ℕ → Bool) (h t : ℕ) (begun : History) (e : Event)
     (before : History) (x : Stand) (does : Effect) → IsStep s e before
@@ -304,21 +327,8 @@ standing_exec s words h t begun e before x does step own is usable next within w
     let seen = seen_at s h begun in
     let same : (a : ℕ) → words a ≡ true → view here a ≡ seen_byte x.executed seen a =
     λ a has. view_is s h before a (usable.read a has) ∙ ap Some (was.sees a has) in
-    let ready : next_effect here t ≡ Some does = ap (effect_at (code_of s.program.pages)) was.file ∙ next in
-    let readable : (a : ℕ) → words a ≡ true → is_some (memory here a) ≡ true =
-    λ a has. ap (λ b. is_some (cond b (Some (here.byte a)) None)) (usable.read a has) in
-    let fine : next_fault here t ≡ None =
-    ap (fault_by (memory here) (is_writable here) (here.file t).pc (fetched s.program.pages (here.file t).pc))
-    ready
-    ∙ no_fault words (memory here) (is_writable here) readable usable.write does within in
     let o = outcome_of here t does in
-    let did : e.done ≡ by_outcome here t o =
-    step.did ∙ ap (λ k. done_of (choice_of e.entry) (here_in_history s before k)) own
-    ∙ ap (λ c. done_of c here) is
-    ∙ ap (λ r. done_exec_by here r) was.runs ∙ ap (λ f. by_effect here t f (next_effect here t)) fine
-    ∙ ap (λ d. by_effect here t None d) ready
-    ∙ ap (λ b. cond b (by_call here (called_here here t)) (by_outcome here t o)) (no_call words does within)
-    in
+    let did = did_exec s words h t begun e before x does step own is usable next within was in
     let out : IsSame o (outcome_at seen x does) =
     subst (λ (f : Saved). IsSame (outcome (view here) f.file f.pc here.reserved does)
     (outcome_at seen x does)) (sym was.file)

@@ -12,8 +12,9 @@ use Rattle.mach_types.specs.declared.address_space.TheConstants.{USER_END}
 use Rattle.mach_types.specs.declared.events.Kind.TheVariants as kind
 use Rattle.mach_types.specs.declared.sequences.Area.{Area}
 use Rattle.mach_types.specs.declared.sequences.Seq.{Seq}
-use Rattle.mach_types.specs.declared.sequences.TheConstants.{RSEQ_CS}
+use Rattle.mach_types.specs.declared.sequences.TheConstants.{AREA_SIZE, RSEQ_CS}
 use Rattle.mach_types.specs.declared.threads.Saved.{Saved}
+use Rattle.block_model.specs.Acts.{is_inside_at}
 use Rattle.block_model.specs.Events.Signal.{file_interrupted}
 use Rattle.block_model.specs.Here.{memory, view}
 use Rattle.block_model.specs.History.{Event, History, file, here_in_history, kernel, running}
@@ -130,3 +131,23 @@ pub record IsUsed (s : Setting) (b : Placed) (t : ℕ) (e : Event) (before : His
 abbrev pub AreUsed : Setting → Placed → ℕ → History → Type 0
 AreUsed s b t [] = in_block b s.program.entry ≡ true → s.program.entry ≡ b.at
 AreUsed s b t (e ∷ before) = AreUsed s b t before × IsUsed s b t e before
+
+-- BEFORE THE SEQUENCE
+
+-- an address in a block before its sequence
+abbrev pub is_before : Placed → ℕ → Bool
+is_before b pc = nat_lt (distance b.at pc) (distance b.at b.range.start)
+
+-- thread t, which runs on hart h before the block's sequence, can begin it: the area is the thread's and can
+-- be read and written, and the thread is inside no sequence
+pub record CanBegin (s : Setting) (b : Placed) (h t : ℕ) (before : History) : Type 0 where
+  pub registered : area_of t (kernel s before).areas ≡ Some b.area
+  pub usable : IsUsable s (among b.area.at AREA_SIZE) before
+  pub outside : is_inside_at s h before ≡ false
+
+-- before every event of a history
+abbrev pub CanAlwaysBegin : Setting → Placed → ℕ → History → Type 0
+CanAlwaysBegin s b t [] = Unit {0}
+CanAlwaysBegin s b t (e ∷ before) =
+    CanAlwaysBegin s b t before
+    × ((h : ℕ) → running s h before ≡ Some t → is_before b (file s t before).pc ≡ true → CanBegin s b h t before)

@@ -2,7 +2,7 @@
 -- add block. It is preempted inside, begins anew at the abort handler, and adds once. It uses the block as
 -- HoldsAdd asks.
 use Rattle.std.proofs.Common.{◌≡◌, ℕ, suc, zero, ◌+◌, ◌*◌, ◌^◌, ◌<◌, ◌≤◌, List, [], ◌∷◌, ◌++◌, replicate, take, refl, ap, ◌∙◌}
-use Rattle.std.proofs.Common.{subst, arith, true, Option, Some, None, Ok, slice_get, unwrap_or}
+use Rattle.std.proofs.Common.{subst, arith, true, Option, Some, None, Ok, slice_get, unwrap_or, ◌⊎◌, inl, inr}
 use Rattle.std.proofs.lemmas.Bool.{eqb-false, leb-true, ltb-true}
 use Rattle.mach_types.specs.Kernel.Areas.{are_readable, is_inside, number_at}
 use Rattle.mach_types.specs.declared.events.Choice.{Choice}
@@ -17,16 +17,20 @@ use Rattle.rv_inst.specs.Table.{op_imm_rows, op_imm_32_rows, op_rows, op_32_rows
 use Rattle.rv_inst.specs.declared.instruction.Inst.{Inst}
 use Rattle.block_model.specs.Acts.{Sequence, sequence_on}
 use Rattle.block_model.specs.Deciding.{decide, done, history}
-use Rattle.block_model.specs.History.{file}
+use Rattle.block_model.specs.History.{file, running}
 use Rattle.block_model.specs.Replay.{Ask, played}
 use Rattle.block_model.specs.Run.{IsBlockRun}
 use Rattle.block_model.specs.Setting.{Setting}
 use Rattle.block_model.proofs.Laws.{played_is_run}
+use Rattle.alone_laws.specs.Retries.{Retries, begins, goes_on, walks}
 use Rattle.alone_laws.specs.Spans.{code_of}
-use Rattle.percpu_lib.specs.Adds.{add_block, add_range, cell_seen}
+use Rattle.alone_laws.specs.Undisturbed.{IsUndisturbed}
+use Rattle.alone_laws.specs.Uses.{CanAlwaysBegin}
+use Rattle.percpu_lib.specs.Adds.{add_block, add_range, cell_seen, placed_add}
 use Rattle.percpu_lib.specs.Uses.{HoldsAdd, cells_of}
 use Rattle.percpu_lib.specs.declared.slots.Slots.{Slots}
-use Rattle.percpu_lib.proofs.UseTests.{all_used, are_fine}
+use Rattle.percpu_lib.proofs.RetryTests.{registers_are, same_registers, walk_found, walks_at_work}
+use Rattle.percpu_lib.proofs.UseTests.{all_can_begin, all_used, always_begins_freely, are_fine}
 
 -- `lui x8, 0x20`, `addi x10, x8, 0`, `addi x11, x0, 32`, `lui x13, 0xF1401`, `addi x13, x13, 0x73`,
 -- `addi x17, x0, 293`, `ecall`, `addi x9, x8, 64`; from 0x100D0 on the block, and at 0x10120 its descriptor
@@ -208,3 +212,133 @@ holds =
       few = leb-true 1 8 refl;
       uses = used.2;
     }
+
+-- it can always begin, and from the retry label on, once it was aborted, its hart is left undisturbed
+begins_fine : always_begins_freely adding slots at area 1 (history adding log) ≡ true
+unfolding decide history done meaning row_of rows lui_rows auipc_rows jal_rows jalr_rows branch_rows load_rows store_rows op_imm_rows op_imm_32_rows op_rows op_32_rows misc_mem_rows amo_rows system_rows are_readable number_at
+begins_fine = refl
+
+pub can_begin : CanAlwaysBegin adding (placed_add slots at area) 1 (history adding log)
+can_begin = all_can_begin adding slots at area 1 (history adding log) is_run.allowed begins_fine
+
+abbrev pub earlier : List Entry
+earlier = take 19 log
+
+abbrev pub rest : List Entry
+rest =
+    entry kind.Exec 0x100D0
+    ∷ entry kind.Exec 0x100D4
+    ∷ entry kind.Exec 0x100D8
+    ∷ entry kind.Exec 0x100DC
+    ∷ entry kind.Exec 0x100E0
+    ∷ entry kind.Exec 0x100E4
+    ∷ entry kind.Drain 0x100E8
+    ∷ entry kind.Exec 0x100E8
+    ∷ entry kind.Exec 0x100EC
+    ∷ entry kind.Exec 0x100F0
+    ∷ entry kind.Exec 0x100F4
+    ∷ entry kind.Exec 0x100F8 ∷ []
+
+pub runs_anew : running adding 0 (history adding earlier) ≡ Some 1
+unfolding decide history done meaning row_of rows lui_rows auipc_rows jal_rows jalr_rows branch_rows load_rows store_rows op_imm_rows op_imm_32_rows op_rows op_32_rows misc_mem_rows amo_rows system_rows are_readable number_at
+runs_anew = refl
+
+pub begins_anew : (file adding 1 (history adding earlier)).pc ≡ at
+unfolding decide history done meaning row_of rows lui_rows auipc_rows jal_rows jalr_rows branch_rows load_rows store_rows op_imm_rows op_imm_32_rows op_rows op_32_rows misc_mem_rows amo_rows system_rows are_readable number_at
+begins_anew = refl
+
+instruction : (h : ℕ) → h ≡ 0 → (kind.Exec ≡ kind.Exec) ⊎ (kind.Exec ≡ kind.Drain)
+instruction h own = inl refl
+
+pub undisturbed : IsUndisturbed 0 rest
+undisturbed = (
+  instruction 0,
+  (
+    instruction 0,
+    (
+      instruction 0,
+      (
+        instruction 0,
+        (
+          instruction 0,
+          (
+            instruction 0,
+            (
+              (λ own. inr refl),
+              (instruction 0, (instruction 0, (instruction 0, (instruction 0, (instruction 0, tt))))),
+            ),
+          ),
+        ),
+      ),
+    ),
+  ),
+)
+
+-- before that it was at the retry label a first time. From there it walked to the seventh word of the block; it was
+-- preempted there, and began to run again at the abort handler; and from there it walked back
+abbrev pub first_time : List Entry
+first_time = take 9 log
+
+abbrev to_seventh : List Entry
+to_seventh =
+    entry kind.Exec 0x100D0
+    ∷ entry kind.Exec 0x100D4
+    ∷ entry kind.Exec 0x100D8
+    ∷ entry kind.Exec 0x100DC
+    ∷ entry kind.Exec 0x100E0
+    ∷ entry kind.Exec 0x100E4
+    ∷ entry kind.Drain 0x100E8 ∷ []
+
+abbrev interrupted : List Entry
+interrupted = entry kind.Preempt 0x100E8 ∷ entry kind.Run 0x100E8 ∷ []
+
+abbrev back : List Entry
+back = entry kind.Exec 0x10104 ∷ []
+
+runs_first : running adding 0 (history adding first_time) ≡ Some 1
+unfolding decide history done meaning row_of rows lui_rows auipc_rows jal_rows jalr_rows branch_rows load_rows store_rows op_imm_rows op_imm_32_rows op_rows op_32_rows misc_mem_rows amo_rows system_rows are_readable number_at
+runs_first = refl
+
+at_first : (file adding 1 (history adding first_time)).pc ≡ at
+unfolding decide history done meaning row_of rows lui_rows auipc_rows jal_rows jalr_rows branch_rows load_rows store_rows op_imm_rows op_imm_32_rows op_rows op_32_rows misc_mem_rows amo_rows system_rows are_readable number_at
+at_first = refl
+
+walks_on : walks_at_work adding (placed_add slots at area) 0 1 first_time to_seventh ≡ true
+unfolding decide history done meaning row_of rows lui_rows auipc_rows jal_rows jalr_rows branch_rows load_rows store_rows op_imm_rows op_imm_32_rows op_rows op_32_rows misc_mem_rows amo_rows system_rows are_readable number_at
+walks_on = refl
+
+registers_stay : same_registers (file adding 1 (history adding (first_time ++ to_seventh ++ interrupted))).file
+    (file adding 1 (history adding (first_time ++ to_seventh))).file ≡ true
+unfolding decide history done meaning row_of rows lui_rows auipc_rows jal_rows jalr_rows branch_rows load_rows store_rows op_imm_rows op_imm_32_rows op_rows op_32_rows misc_mem_rows amo_rows system_rows are_readable number_at
+registers_stay = refl
+
+in_sequence : is_inside (add_range at) (file adding 1 (history adding (first_time ++ to_seventh))).pc ≡ true
+unfolding decide history done meaning row_of rows lui_rows auipc_rows jal_rows jalr_rows branch_rows load_rows store_rows op_imm_rows op_imm_32_rows op_rows op_32_rows misc_mem_rows amo_rows system_rows are_readable number_at
+in_sequence = refl
+
+at_handler : (file adding 1 (history adding (first_time ++ to_seventh ++ interrupted))).pc ≡ (add_range at).abort
+unfolding decide history done meaning row_of rows lui_rows auipc_rows jal_rows jalr_rows branch_rows load_rows store_rows op_imm_rows op_imm_32_rows op_rows op_32_rows misc_mem_rows amo_rows system_rows are_readable number_at
+at_handler = refl
+
+runs_again : running adding 0 (history adding (first_time ++ to_seventh ++ interrupted)) ≡ Some 1
+unfolding decide history done meaning row_of rows lui_rows auipc_rows jal_rows jalr_rows branch_rows load_rows store_rows op_imm_rows op_imm_32_rows op_rows op_32_rows misc_mem_rows amo_rows system_rows are_readable number_at
+runs_again = refl
+
+walks_back : walks_at_work adding (placed_add slots at area) 0 1 (first_time ++ to_seventh ++ interrupted) back
+    ≡ true
+unfolding decide history done meaning row_of rows lui_rows auipc_rows jal_rows jalr_rows branch_rows load_rows store_rows op_imm_rows op_imm_32_rows op_rows op_32_rows misc_mem_rows amo_rows system_rows are_readable number_at
+walks_back = refl
+
+pub retried : Retries adding (placed_add slots at area) 1 first_time earlier
+retried =
+    walks 0 (first_time ++ to_seventh ++ interrupted) back
+    (goes_on (first_time ++ to_seventh) interrupted
+    (walks 0 first_time to_seventh (begins at_first)
+    (walk_found adding (placed_add slots at area) 0 1 to_seventh first_time runs_first walks_on))
+    (record {
+      registers = registers_are (file adding 1 (history adding (first_time ++ to_seventh ++ interrupted))).file
+          (file adding 1 (history adding (first_time ++ to_seventh))).file registers_stay;
+      pc = inr (in_sequence, at_handler);
+    }))
+    (walk_found adding (placed_add slots at area) 0 1 back (first_time ++ to_seventh ++ interrupted) runs_again
+    walks_back)

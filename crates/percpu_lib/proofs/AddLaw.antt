@@ -1,8 +1,8 @@
 -- A sequence of an add block is one run of its thread alone, and so adds once or not at all.
-use Rattle.std.proofs.Common.{◌≡◌, ◌≢◌, ℕ, ◌+◌, ◌<◌, ◌≤◌, ◌%◌, ◌^◌, List, [], ◌∷◌, ◌++◌, refl, sym, ap, ◌∙◌}
-use Rattle.std.proofs.Common.{arith, Bool, true, false, ◌&&◌, ◌||◌, ltb, Option, Some, inl, inr, ◌⊎◌}
+use Rattle.std.proofs.Common.{◌≡◌, ◌≢◌, ℕ, ◌+◌, ◌*◌, ◌<◌, ◌≤◌, ◌%◌, ◌^◌, List, [], ◌∷◌, ◌++◌, refl, sym, ap, ◌∙◌}
+use Rattle.std.proofs.Common.{arith, Bool, true, false, ◌&&◌, ◌||◌, eqb, ltb, Option, Some, inl, inr, ◌⊎◌}
 use Rattle.std.proofs.Common.{append-nil, pos, negsuc}
-use Rattle.std.proofs.lemmas.Bool.{le-leb, lt-ltb}
+use Rattle.std.proofs.lemmas.Bool.{false≢true, le-leb, lt-ltb}
 use Rattle.mach_types.specs.Bytes.{each_byte, overlay, word_at}
 use Rattle.mach_types.specs.Kernel.Areas.{is_inside}
 use Rattle.mach_types.specs.Registers.{register}
@@ -15,10 +15,10 @@ use Rattle.alone.specs.Paths.{IsOn, KeepsOn, Path}
 use Rattle.alone.specs.Temps.{IsAt, is_scratch}
 use Rattle.alone.proofs.Laws.{loaded_word, word_unchanged}
 use Rattle.alone.proofs.Means.{means_add, means_ld, means_sd}
-use Rattle.alone.proofs.Paths.{leaves, then_load, then_next, then_store}
-use Rattle.alone_laws.specs.Blocks.{Block, IsFairSince, among, pointer_bytes}
+use Rattle.alone.proofs.Paths.{few_inside, leaves, then_load, then_next, then_store}
+use Rattle.alone_laws.specs.Blocks.{Block, IsFairSince, IsSole, StaysInside, among, pointer_bytes}
 use Rattle.alone_laws.specs.Spans.{IsStanding, alone_from, code_of, seen_at, sees}
-use Rattle.alone_laws.proofs.PathLaw.{path_law, path_of}
+use Rattle.alone_laws.proofs.PathLaw.{path_law, path_of, sole}
 use Rattle.alone_laws.proofs.Sequences.{each_among}
 use Rattle.alone_laws.proofs.Steps.{each_implies, word_same}
 use Rattle.block_model.specs.Acts.{Sequence, sequence_on}
@@ -58,7 +58,9 @@ module _ (s : Setting) (p : Slots) (at : ℕ) (area : Area) (cells h t : ℕ) (b
   Inside es = es ≡ []
 
   abbrev Left : ℕ → (ℕ → ℕ) → List Store → Type 0
-  Left to temps es = ((to ≡ at) × (es ≡ [])) ⊎ ((to ≡ at + 44) × (es ≡ cell_store cells h sum ∷ []))
+  Left to temps es =
+      ((to ≡ at) × (es ≡ []) × (eqb h (register (file s t begun).file 5) ≡ false))
+      ⊎ ((to ≡ at + 44) × (es ≡ cell_store cells h sum ∷ []))
 
   abbrev w : Path
   w = path_of s block h t begun is_scratch Inside Left
@@ -98,7 +100,7 @@ module _ (s : Setting) (p : Slots) (at : ℕ) (area : Area) (cells h t : ℕ) (b
     shifts = let few = place.begins.apart.few in omega arith;
     fits = let low = place.begins.apart.low_cells in omega arith;
     inside = refl;
-    left = λ temps. inl (refl, refl);
+    left = λ differs temps. inl (refl, refl, differs);
   }
 
   keeps : KeepsOn w (alone_from s h t begun 0)
@@ -116,7 +118,7 @@ module _ (s : Setting) (p : Slots) (at : ℕ) (area : Area) (cells h t : ℕ) (b
         };
         executed = refl;
       } in
-      to_cell w at area.at cells h 6 64 p.area p.cells start (register (file s t begun).file)
+      to_cell w at area.at cells h 6 64 p.area p.cells start (register (file s t begun).file) refl
       (alone_from s h t begun 0) at_0
       (λ y now.
       then_load w (at + 32) _ [] y now (inside 16 (at + 32) (omega arith) (omega arith)) refl
@@ -124,20 +126,21 @@ module _ (s : Setting) (p : Slots) (at : ℕ) (area : Area) (cells h t : ℕ) (b
       cell 8 6 old_word.0 (at + 36) true (λ f like. means_ld f (at + 32) 6 5 (pos 0) cell cell
       (like.temp 5 refl) (omega arith))
       in_cell (word_unchanged seen cell 8 ∙ old_word.1) refl refl (omega arith) (omega arith)
+      (omega arith) (omega arith)
       (λ z next.
       then_next w (at + 36) _ [] z next (inside 20 (at + 36) (omega arith) (omega arith)) refl
       (inst.Add 6 6 p.value) (held.holds 9 (inst.Add 6 6 p.value) refl)
       6 sum (at + 40)
       (λ f like. means_add f (at + 36) (at + 40) (omega arith) 6 6 p.value (old_word.0 % 2 ^ 64) value sum
       (like.temp 6 refl ∙ loaded_word old_word.0) (like.rest p.value slots.value) (omega arith))
-      refl refl (omega arith)
+      refl refl (omega arith) (omega arith) (omega arith)
       (λ u then.
       then_store w (at + 40) _ [] u then (inside 24 (at + 40) (omega arith) (omega arith)) refl
       (inst.Sd 5 6 (pos 0)) (held.holds 10 (inst.Sd 5 6 (pos 0)) refl)
       cell 8 sum (at + 44)
       (λ f like. means_sd f (at + 40) 5 6 (pos 0) cell cell sum sum (like.temp 5 refl) (omega arith)
       (like.temp 6 refl) (omega arith))
-      in_cell (omega arith)
+      in_cell (omega arith) (omega arith) (omega arith)
       (λ v last. leaves w (at + 44) _ _ v last (end_outside at low) (inr (refl, refl))))))
     where
       inside : (k pc : ℕ) → pc ≡ at + 16 + k → k < 28 → is_inside (add_range at) pc ≡ true
@@ -227,3 +230,47 @@ module _ (s : Setting) (p : Slots) (at : ℕ) (area : Area) (cells h t : ℕ) (b
       let x = path_law s block h t begun is_scratch Inside Left keeps in_bytes points_in points_out place.runs
       before q run fair is from in
       (whole q.reached x.0 x.1 x.2, by_place q.reached x.0 x.1 x.2 (is_inside (add_range at) x.2.at) refl)
+
+  -- it is one run of its thread alone
+  pub add_sole : IsSole (code_of s.program.pages) seen (alone_from s h t begun 0) block
+  add_sole = sole s block h t begun is_scratch Inside Left keeps in_bytes points_in points_out
+
+  -- out of the range its thread is at the post-commit address, or at the retry label
+  pub out_at : (before : History) (q : Sequence) → IsRunHistory s before
+      → IsFairSince s block h t begun before → sequence_on s h before ≡ Some q → q.begun ≡ begun
+      → is_inside (add_range at) (file s t q.reached).pc ≡ false
+      → ((file s t q.reached).pc ≡ at + 44) ⊎ ((file s t q.reached).pc ≡ at)
+  out_at before q run fair is from out =
+      let x = path_law s block h t begun is_scratch Inside Left keeps in_bytes points_in points_out place.runs
+      before q run fair is from in
+      let same = same_pc q.reached x.0 x.1 x.2 in
+      by_left x.2.at x.2.temps x.2.stores same (x.2.left (ap (is_inside (add_range at)) (sym same) ∙ out))
+    where
+      by_left : (to : ℕ) (temps : ℕ → ℕ) (es : List Store) → (file s t q.reached).pc ≡ to → Left to temps es
+          → ((file s t q.reached).pc ≡ at + 44) ⊎ ((file s t q.reached).pc ≡ at)
+      by_left to temps es same (inl back) = inr (same ∙ back.0)
+      by_left to temps es same (inr both) = inl (same ∙ both.0)
+
+  -- a thread that was on the chosen processor is inside after so many instructions, or at the post-commit address
+  pub gone_on : eqb h (register (file s t begun).file 5) ≡ true → (n : ℕ)
+      → StaysInside (code_of s.program.pages) seen (alone_from s h t begun 0) (add_range at) n
+      → ((is_inside (add_range at) (alone_from s h t begun n).file.pc ≡ true) × (4 * n < 28))
+      ⊎ ((alone_from s h t begun n).file.pc ≡ at + 44)
+  gone_on chosen n begin = by_place (is_inside (add_range at) on.at) refl
+    where
+      on : IsOn w (alone_from s h t begun n)
+      on = keeps n begin
+
+      by_left : (to : ℕ) (temps : ℕ → ℕ) (es : List Store) → (alone_from s h t begun n).file.pc ≡ to
+          → Left to temps es → (alone_from s h t begun n).file.pc ≡ at + 44
+      by_left to temps es same (inl back) = absurd (false≢true (sym back.2 ∙ chosen))
+      by_left to temps es same (inr both) = same ∙ both.0
+
+      by_place : (c : Bool) → is_inside (add_range at) on.at ≡ c
+          → ((is_inside (add_range at) (alone_from s h t begun n).file.pc ≡ true) × (4 * n < 28))
+          ⊎ ((alone_from s h t begun n).file.pc ≡ at + 44)
+      by_place true here =
+          let low = place.begins.apart.low in
+          let inside = ap (is_inside (add_range at)) on.stands.pc ∙ here in
+          inl (inside, few_inside w (alone_from s h t begun 0) keeps place.pc (omega arith) n begin inside)
+      by_place false out = inr (by_left on.at on.temps on.stores on.stands.pc (on.left out))

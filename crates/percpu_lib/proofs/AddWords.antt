@@ -1,13 +1,21 @@
 -- Code that was finished holds the instructions of an add block where its lines were appended.
 use Rattle.std.proofs.Common.{◌≡◌, ℕ, zero, suc, ◌+◌, List, [], ◌∷◌, ◌++◌, length, slice_get, refl, ap, ◌∙◌}
-use Rattle.std.proofs.Common.{arith, subst, Option, Some, None, length-append}
+use Rattle.std.proofs.Common.{arith, subst, Option, Some, None, ◌*◌, get_or, length-append}
+use Rattle.std.proofs.lemmas.Option.{slice_get-get_or, slice_get_within}
+use Rattle.elf_load.specs.Images.{IsImage}
+use Rattle.elf_load.specs.declared.image.Image.{Image}
 use Rattle.rv_asm.specs.Assembly.{AreAssembled, Assembly, index_of}
 use Rattle.rv_asm.specs.declared.item.Item.{Item}
 use Rattle.rv_asm.specs.declared.item.Item.TheVariants as item
 use Rattle.rv_inst.specs.Table.{row_of}
 use Rattle.rv_inst.specs.declared.instruction.Inst.{Inst}
+use Rattle.block_model.specs.Instruction.{instruction_of}
+use Rattle.alone_laws.specs.Spans.{code_of}
 use Rattle.percpu_lib.specs.Adds.{add_block, add_lines, add_steps}
 use Rattle.percpu_lib.specs.BlockLines.{end_lines, leave_lines, start_lines}
+use Rattle.percpu_lib.specs.Files.{HoldsCode}
+use Rattle.percpu_lib.specs.Words.{AreHeld}
+use Rattle.percpu_lib.proofs.FileCode.{word_fetched}
 use Rattle.percpu_lib.specs.Lines.{AreEmitted, HasRoom, IsContinued, IsEmitted, with_item, with_label}
 use Rattle.percpu_lib.specs.declared.lines.Line.{Line}
 use Rattle.percpu_lib.specs.declared.lines.Line.TheVariants as line
@@ -69,16 +77,42 @@ module _ (p : Slots) (base : ℕ) (a b c : Assembly) (room : HasRoom a.labels ba
   end_at = (labelled p base 6 [] (add_steps p) [] a b is room tt tt tt).behind
       ∙ ap Some (emitted_length (add_lines p base) a b is.are)
 
-  pub held : (bytes : List ℕ) (code : AreAssembled c.labels c.items bytes) (k : ℕ) (i : Inst) (w : ℕ)
-      → slice_get (add_block p) k ≡ Some (Some i) → slice_get code.words (length a.items + k) ≡ Some w
-      → row_of w ≡ Some i
-  held bytes code k i w at word =
-      let same = add_instructions p base (length a.items) c.labels (more.labels base (length a.items) retry_at)
-      (more.labels (base + 4) (length a.items + 14) end_at) in
-      let found : FindsItem c.labels b.items (length a.items + k) i =
-      items_held c.labels (add_lines p base) a b k i is.are
-      (ap (λ (xs : List (Option Inst)). slice_get xs k) same ∙ at) in
-      let entry_there : slice_get c.items (length a.items + k) ≡ Some found.entry =
-      ap (λ (ys : List Item). slice_get ys (length a.items + k)) more.items
-      ∙ still_there b.items more.later (length a.items + k) found.entry found.there in
-      found.is w (code.each (length a.items + k) found.entry w entry_there word)
+  module _ (bytes : List ℕ) (code : AreAssembled c.labels c.items bytes) (k : ℕ) (i : Inst)
+      (at : slice_get (add_block p) k ≡ Some (Some i)) where
+    found : FindsItem c.labels b.items (length a.items + k) i
+    found =
+        let same = add_instructions p base (length a.items) c.labels (more.labels base (length a.items) retry_at)
+        (more.labels (base + 4) (length a.items + 14) end_at) in
+        items_held c.labels (add_lines p base) a b k i is.are
+        (ap (λ (xs : List (Option Inst)). slice_get xs k) same ∙ at)
+
+    entry_there : slice_get c.items (length a.items + k) ≡ Some found.entry
+    entry_there =
+        ap (λ (ys : List Item). slice_get ys (length a.items + k)) more.items
+        ∙ still_there b.items more.later (length a.items + k) found.entry found.there
+
+    pub held : (w : ℕ) → slice_get code.words (length a.items + k) ≡ Some w → row_of w ≡ Some i
+    held w word = found.is w (code.each (length a.items + k) found.entry w entry_there word)
+
+    -- a word is there
+    pub some_word : (w : ℕ) × (slice_get code.words (length a.items + k) ≡ Some w)
+    some_word =
+        let within = slice_get_within c.items (length a.items + k) found.entry entry_there in
+        let many = code.count in (
+          get_or code.words (length a.items + k) 0,
+          slice_get-get_or code.words (length a.items + k) 0 (omega (arith, many)),
+        )
+
+  -- a machine that runs the image of a file in which the code stands fetches the words of the block
+  pub file_holds : (file : List ℕ) (image : Image) (from : ℕ) (bytes : List ℕ) → IsImage file image
+      → AreAssembled c.labels c.items bytes → HoldsCode file from bytes
+      → AreHeld (code_of image.pages.items) (from + 4 * length a.items) (add_block p)
+  file_holds file image from bytes its code holds = record {
+    holds = λ k i at.
+        let some = some_word bytes code k i at in
+        let place : from + 4 * length a.items + 4 * k ≡ from + 4 * (length a.items + k) = omega arith in
+        ap (code_of image.pages.items) place
+        ∙ ap instruction_of (word_fetched file image its from bytes holds c.labels c.items code
+        (length a.items + k) some.0 some.1)
+        ∙ held bytes code k i at some.0 some.1;
+  }

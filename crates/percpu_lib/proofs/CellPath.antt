@@ -1,6 +1,6 @@
 -- How the sequence of each block begins: it asks whether it still is on the chosen processor, and finds the
 -- address of that one's data.
-use Rattle.std.proofs.Common.{◌≡◌, ℕ, ◌+◌, ◌*◌, ◌-◌, ◌%◌, ◌^◌, ◌<◌, ◌≤◌, [], refl, sym, ap, ◌∙◌, arith, subst}
+use Rattle.std.proofs.Common.{◌≡◌, ℕ, ◌+◌, ◌*◌, ◌-◌, ◌%◌, ◌^◌, ◌<◌, ◌≤◌, [], refl, sym, ap, ◌∙◌, arith, subst, inl, inr}
 use Rattle.std.proofs.Common.{Bool, true, false, eqb, ltb, Some, pos, negsuc}
 use Rattle.std.proofs.lemmas.Bool.{eqb-true, le-ltb}
 use Rattle.mach_types.specs.Bytes.{each_byte, word_at}
@@ -41,7 +41,7 @@ pub record IsCellStart (w : Path) (at area cells cpu shift scale : ℕ) (area_re
   pub shifts : shift_left cpu shift ≡ scale * cpu
   pub fits : sum_64 (scale * cpu) cells ≡ cells + scale * cpu
   pub inside : w.Inside []
-  pub left : (temps : ℕ → ℕ) → w.Left at temps []
+  pub left : eqb cpu (register w.old 5) ≡ false → (temps : ℕ → ℕ) → w.Left at temps []
 
 module _ (w : Path) (at area cells cpu shift scale ra rc : ℕ)
     (c : IsCellStart w at area cells cpu shift scale ra rc) where
@@ -62,11 +62,12 @@ module _ (w : Path) (at area cells cpu shift scale ra rc : ℕ)
       ap (λ n. ltb n w.range.length) far ∙ le-ltb (2 ^ 64 - 16) w.range.length (omega arith)
 
   -- from the start on: back to the retry label, or on to the rest, with the address in x5
-  pub to_cell : (temps : ℕ → ℕ) (x : Stand) → IsAt w.may w.old (at + 16) temps [] x
+  pub to_cell : (temps : ℕ → ℕ) → temps 5 ≡ register w.old 5 → (x : Stand)
+      → IsAt w.may w.old (at + 16) temps [] x
       → ((y : Stand) → IsAt w.may w.old (at + 32)
       (put 5 (cells + scale * cpu) (put 5 (scale * cpu) (put 6 cpu temps))) [] y → KeepsOn w y)
       → KeepsOn w x
-  to_cell temps x was rest =
+  to_cell temps chosen x was rest =
       let low = c.low in
       let low_area = c.low_area in
       let long = c.long in
@@ -75,6 +76,7 @@ module _ (w : Path) (at area cells cpu shift scale ra rc : ℕ)
       (area + 4) 4 6 cpu (at + 20) true (λ f like. means_lw f (at + 16) 6 ra (pos 4) area (area + 4)
       (like.rest ra c.area_kept ∙ c.area_is) (omega arith))
       c.area_used (word_unchanged w.seen (area + 4) 4 ∙ c.on_cpu) c.six refl (omega arith) (omega arith)
+      (omega arith) (omega arith)
       (λ y now. compared y (subst (λ n. IsAt w.may w.old (at + 20) (put 6 n temps) [] y)
       (loaded_small cpu c.few) now) (eqb cpu (temps 5)) refl)
     where
@@ -88,7 +90,9 @@ module _ (w : Path) (at area cells cpu shift scale ra rc : ℕ)
           at
           (λ f like. means_bne_taken f (at + 20) 6 5 (negsuc 19) cpu (temps 5) at (like.temp 6 c.six)
           (like.temp 5 c.five) differs (omega arith) c.aligned)
-          (λ z now. leaves w at (put 6 cpu temps) [] z now retry_out (c.left (put 6 cpu temps)))
+          (inr retry_out)
+          (λ z now. leaves w at (put 6 cpu temps) [] z now retry_out
+          (c.left (ap (λ n. eqb cpu n) (sym chosen) ∙ differs) (put 6 cpu temps)))
       compared y was true same =
           let low = c.low in
           let long = c.long in
@@ -97,16 +101,17 @@ module _ (w : Path) (at area cells cpu shift scale ra rc : ℕ)
           (at + 24)
           (λ f like. means_bne_not f (at + 20) (at + 24) (omega arith) 6 5 (negsuc 19) cpu (temps 5)
           (like.temp 6 c.six) (like.temp 5 c.five) same)
+          (inl ((omega arith), (omega arith)))
           (λ z now.
           then_next w (at + 24) (put 6 cpu temps) [] z now (in_range 8 (at + 24) (omega arith) (omega arith))
           c.inside (inst.Slli 5 5 shift) c.slli 5 (scale * cpu) (at + 28)
           (λ f like. means_slli f (at + 24) (at + 28) (omega arith) 5 5 shift cpu (scale * cpu)
           (like.temp 5 c.five ∙ sym (eqb-true cpu (temps 5) same)) c.shifts)
-          c.five refl (omega arith)
+          c.five refl (omega arith) (omega arith) (omega arith)
           (λ u then.
           then_next w (at + 28) (put 5 (scale * cpu) (put 6 cpu temps)) [] u then
           (in_range 12 (at + 28) (omega arith) (omega arith)) c.inside (inst.Add 5 5 rc) c.add 5
           (cells + scale * cpu) (at + 32)
           (λ f like. means_add f (at + 28) (at + 32) (omega arith) 5 5 rc (scale * cpu) cells
           (cells + scale * cpu) (like.temp 5 c.five) (like.rest rc c.cells_kept ∙ c.cells_is) c.fits)
-          c.five refl (omega arith) rest))
+          c.five refl (omega arith) (omega arith) (omega arith) rest))

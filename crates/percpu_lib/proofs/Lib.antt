@@ -1,13 +1,17 @@
 pub mod AddCode
+pub mod AddCourse
 pub mod AddExample
 pub mod AddLaw
 pub mod AddRegisters
+pub mod AddRetries
 pub mod AddWords
 pub mod BlockWords
 pub mod CellPath
 pub mod Emittable
 pub mod Emitting
+pub mod FileCode
 pub mod HeldWords
 pub mod Labels
+pub mod RetryTests
 pub mod UseTests
 pub mod UsesLaw

@@ -28,7 +28,8 @@ use Rattle.block_model.proofs.Laws.{IsStep, not_ready, one_hart, step_of}
 use Rattle.alone_laws.specs.Areas.{LeavesProcessor, ProcessorKept}
 use Rattle.alone_laws.specs.Blocks.{IsFair, among}
 use Rattle.alone_laws.specs.Spans.{Leaves}
-use Rattle.alone_laws.specs.Uses.{AreUsed, Arrives, IsDescribed, IsUsed, in_block}
+use Rattle.alone_laws.specs.Uses.{AreUsed, Arrives, CanAlwaysBegin, CanBegin, IsDescribed, IsUsed, in_block}
+use Rattle.alone_laws.specs.Uses.{is_before}
 use Rattle.alone_laws.specs.Uses.{DeliversNone, at_first, executed, interrupted, stayed}
 use Rattle.alone_laws.proofs.StoredWords.{among_low}
 use Rattle.percpu_lib.specs.Adds.{AreApart, IsAddBegin, add_of, add_range, cell_at, placed_add}
@@ -312,6 +313,17 @@ module _ (s : Setting) (p : Slots) (at : ℕ) (area : Area) (t : ℕ) where
   abbrev pub are_fine : History → Bool
   are_fine [] = implies (in_words s.program.entry) (eqb s.program.entry at)
   are_fine (e ∷ before) = are_fine before && is_fine e before
+
+  -- before the sequence the thread runs on hart 0, the area is its own and can be used, and it is in no sequence
+  abbrev begins_freely : History → Bool
+  begins_freely before =
+      implies (is_before (placed_add p at area) (file s t before).pc)
+      (runs_there before
+      && (has_area before && (are_usable before area.at 32 && not (is_inside_at s 0 before))))
+
+  abbrev pub always_begins_freely : History → Bool
+  always_begins_freely [] = true
+  always_begins_freely (e ∷ before) = always_begins_freely before && begins_freely before
 
   -- WHAT THEY FIND
 
@@ -693,3 +705,28 @@ module _ (s : Setting) (p : Slots) (at : ℕ) (area : Area) (t : ℕ) where
         (earlier.1, processor_kept e before step parts.1),
         (earlier.2, used e before step parts.1),
       )
+
+  pub all_can_begin : (history : History) → IsRunHistory s history → always_begins_freely history ≡ true
+      → CanAlwaysBegin s (placed_add p at area) t history
+  all_can_begin [] run fine = tt
+  all_can_begin (e ∷ before) run fine =
+      let parts = and_parts (always_begins_freely before) (begins_freely before) fine in
+      (all_can_begin before run.0 parts.0, can_begin parts.1)
+    where
+      can_begin : begins_freely before ≡ true → (h : ℕ) → running s h before ≡ Some t
+          → is_before (placed_add p at area) (file s t before).pc ≡ true → CanBegin s (placed_add p at area) h t before
+      can_begin test h runs here =
+          let one = and_parts (runs_there before) _
+          (follows (is_before (placed_add p at area) (file s t before).pc) _ test here) in
+          let two = and_parts (has_area before) _ one.1 in
+          let three = and_parts (are_usable before area.at 32) (not (is_inside_at s 0 before)) two.1 in
+          subst (λ n. CanBegin s (placed_add p at area) n t before)
+          (one_hart s e before (step_of s e before run) 0 t (just_is (running s 0 before) t one.0) h runs)
+          (record {
+            registered = area_is (area_of t (kernel s before).areas) two.0;
+            usable = record {
+              read = reads_are before area.at 32 three.0;
+              write = writes_are before area.at 32 three.0;
+            };
+            outside = not_is (is_inside_at s 0 before) three.1;
+          })

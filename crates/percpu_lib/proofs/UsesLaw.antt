@@ -1,28 +1,31 @@
 -- A sequence of an add block that is used as it should be.
 use Rattle.std.proofs.Common.{◌≡◌, ◌≢◌, ℕ, ◌+◌, ◌^◌, ◌<◌, ◌≤◌, [], ◌∷◌, refl, sym, ap, ◌∙◌, subst, arith}
-use Rattle.std.proofs.Common.{true, Some, inl}
+use Rattle.std.proofs.Common.{true, false, ◌⊎◌, Some, inl, inr}
 use Rattle.mach_types.specs.Kernel.Areas.{is_inside}
 use Rattle.mach_types.specs.declared.sequences.Area.{Area}
-use Rattle.block_model.specs.Acts.{Sequence, sequence_on}
-use Rattle.block_model.specs.History.{History, file, running}
+use Rattle.block_model.specs.Acts.{Sequence, end_before, end_so_far, sequence_on}
+use Rattle.block_model.specs.History.{Event, History, file, running}
 use Rattle.block_model.specs.Run.{IsRunHistory}
 use Rattle.block_model.specs.Setting.{Setting}
 use Rattle.alone_laws.specs.Areas.{ProcessorKept}
-use Rattle.alone_laws.specs.Blocks.{IsFairSince}
-use Rattle.alone_laws.specs.Entering.{IsIn}
+use Rattle.alone_laws.specs.Blocks.{Block, IsFairSince, IsPlaceOf, IsSole}
+use Rattle.alone_laws.specs.Entering.{AreEntered, IsIn}
+use Rattle.alone_laws.specs.Spans.{alone_from, code_of, seen_at}
 use Rattle.alone_laws.specs.Uses.{AreUsed, IsWellPlaced}
 use Rattle.alone_laws.proofs.Arrivals.{IsCode}
+use Rattle.alone_laws.proofs.Ends.{before_left, last_left, left_before, left_last}
 use Rattle.alone_laws.proofs.Entered.{entered, points}
 use Rattle.alone_laws.proofs.Entering.{begins_at_start, goes_there}
 use Rattle.alone_laws.proofs.Processors.{tells}
 use Rattle.block_model.specs.Whole.{IsWholeHistory}
 use Rattle.block_model.proofs.Laws.{Begins, Elsewhere, IsOf, Own, SequenceStep, TakesIn, has_registers}
 use Rattle.block_model.proofs.Laws.{sequence_step}
-use Rattle.percpu_lib.specs.Adds.{IsAddPlace, IsNoAdd, IsWholeAdd, add_of, add_range, placed_add}
+use Rattle.percpu_lib.specs.Adds.{IsAddPlace, IsLeftAt, IsNoAdd, IsWholeAdd, add_of, add_range, placed_add}
 use Rattle.percpu_lib.proofs.AddCode.{KnowsTable, add_code, add_placed, within_range}
 use Rattle.percpu_lib.specs.Uses.{AreAddUsed, HoldsAdd, IsAtStart, cells_of}
 use Rattle.percpu_lib.specs.declared.slots.Slots.{Slots}
-use Rattle.percpu_lib.proofs.AddLaw.{adds_once}
+use Rattle.percpu_lib.proofs.AddLaw.{add_sole, adds_once, out_at}
+use Rattle.percpu_lib.proofs.BlockWords.{end_outside}
 
 module _ (s : Setting) (p : Slots) (at : ℕ) (area : Area) (h t : ℕ) (begun : History)
     (start : IsAtStart s at h t begun) (low : at < 2 ^ 37) (placed : IsWellPlaced (placed_add p at area))
@@ -30,7 +33,7 @@ module _ (s : Setting) (p : Slots) (at : ℕ) (area : Area) (h t : ℕ) (begun :
   abbrev cells : ℕ
   cells = cells_of s p t begun
 
-  fair_since : (before : History) → AreAddUsed s p at area t before
+  pub fair_since : (before : History) → AreAddUsed s p at area t before
       → IsFairSince s (add_of p at area cells h) h t begun before
   fair_since [] used = tt
   fair_since (e ∷ before) used = (fair_since before used.0, λ open_here. used.1.fair h begun start open_here)
@@ -80,30 +83,104 @@ first_runs : (s : Setting) (before : History) (h : ℕ) (q : Sequence) → IsWho
 first_runs s [] h q whole is = (whole.runs h q is).first
 first_runs s (e ∷ before) h q whole is = (whole.1.place.runs h q is).first
 
-pub adds : (s : Setting) (history : History) (p : Slots) (at : ℕ) (area : Area) (h : ℕ) (q : Sequence)
-    → IsRunHistory s history → IsWholeHistory s history
-    → HoldsAdd s history p at area q.thread → sequence_on s h history ≡ Some q
+-- a sequence of the block, in a run in which a thread uses it as it should
+module _ (s : Setting) (history : History) (p : Slots) (at : ℕ) (area : Area) (h : ℕ) (q : Sequence)
+    (run : IsRunHistory s history) (whole : IsWholeHistory s history)
+    (held : HoldsAdd s history p at area q.thread) (is : sequence_on s h history ≡ Some q)
+    (inside : IsIn s (add_range at) q.thread q.begun) where
+  abbrev t : ℕ
+  t = q.thread
+
+  abbrev cells_there : ℕ
+  cells_there = cells_of s p t q.begun
+
+  abbrev block : Block
+  block = add_of p at area cells_there h
+
+  placed : IsWellPlaced (placed_add p at area)
+  placed = add_placed s p at area held.stands held.slots held.low_table held.low held.aligned held.low_area
+      held.some_table
+
+  code : IsCode s (placed_add p at area) (KnowsTable p)
+  code = add_code s p at area held.stands held.slots held.low_table held.low held.aligned held.low_area
+
+  comes : AreEntered s (add_range at) t history
+  comes = entered s (placed_add p at area) t (KnowsTable p) placed code history run held.uses
+
+  start : IsAtStart s at h t q.begun
+  start =
+      let runs = first_runs s history h q whole is in
+      record {
+        runs = runs;
+        pc = begins_at_start s (add_range at) t h history q run comes is runs inside;
+      }
+
+  fair : IsFairSince s block h t q.begun history
+  fair = fair_since s p at area h t q.begun start held.low placed code history held.used
+
+  place : IsAddPlace s p at area cells_there h t q.begun
+  place =
+      place_of s p at area h t q.begun start held.low placed code held.few history q run held.used
+      held.processor held.uses is refl
+
+  pub adds : ((file s t q.reached).pc ≡ at + 44 → IsWholeAdd s p cells_there h t q.begun q.reached)
+      × ((file s t q.reached).pc ≢ at + 44 → IsNoAdd s cells_there h t q.begun q.reached)
+  adds = adds_once s p at area cells_there h t q.begun held.stands held.slots place history q run fair is refl
+
+  -- how it ends
+  module _ (stands : IsPlaceOf s block h t history) where
+    sole_here : IsSole (code_of s.program.pages) (seen_at s h q.begun) (alone_from s h t q.begun 0) block
+    sole_here = add_sole s p at area cells_there h t q.begun held.stands held.slots place
+
+    outside : (file s t q.reached).pc ≡ at + 44 → is_inside (add_range at) (file s t q.reached).pc ≡ false
+    outside pc = ap (is_inside (add_range at)) pc ∙ end_outside at held.low
+
+    gone_to : is_inside (add_range at) (file s t q.reached).pc ≡ false
+        → ((file s t q.reached).pc ≡ at + 44) ⊎ ((file s t q.reached).pc ≡ at)
+    gone_to out = out_at s p at area cells_there h t q.begun held.stands held.slots place history q run fair is
+        refl out
+
+    pub left_at_end : IsLeftAt at (file s t q.reached).pc (end_so_far s q history)
+    left_at_end = record {
+      committed = λ pc. left_last s block h t q.begun place.runs sole_here inside history q run comes fair stands
+          is refl refl (outside pc);
+      left = λ left. gone_to (last_left s block h t q.begun place.runs sole_here inside history q run comes fair
+          stands is refl refl left);
+    }
+
+    pub left_before_next : (e : Event) → IsLeftAt at (file s t q.reached).pc (end_before s q e history)
+    left_before_next e = record {
+      committed = λ pc. left_before s block h t q.begun place.runs sole_here inside history q run comes fair stands
+          is refl refl e (outside pc);
+      left = λ left. gone_to (before_left s block h t q.begun place.runs sole_here inside history q run comes
+          fair stands is refl refl e left);
+    }
+
+-- what is held at a place was held before its newest event
+pub held_before : (s : Setting) (e : Event) (before : History) (p : Slots) (at : ℕ) (area : Area) (t : ℕ)
+    → HoldsAdd s (e ∷ before) p at area t → HoldsAdd s before p at area t
+held_before s e before p at area t held = record {
+  stands = held.stands;
+  slots = held.slots;
+  some_table = held.some_table;
+  low_table = held.low_table;
+  aligned = held.aligned;
+  low = held.low;
+  low_area = held.low_area;
+  used = held.used.0;
+  processor = held.processor.0;
+  few = held.few;
+  uses = held.uses.0;
+}
+
+-- how a sequence ends whose hart goes on with an event
+pub ends_before : (s : Setting) (e : Event) (before : History) (p : Slots) (at : ℕ) (area : Area) (h : ℕ)
+    (q : Sequence) → IsRunHistory s before → IsWholeHistory s before
+    → HoldsAdd s (e ∷ before) p at area q.thread → sequence_on s h before ≡ Some q
     → IsIn s (add_range at) q.thread q.begun
-    → ((file s q.thread q.reached).pc ≡ at + 44
-    → IsWholeAdd s p (cells_of s p q.thread q.begun) h q.thread q.begun q.reached)
-    × ((file s q.thread q.reached).pc ≢ at + 44
-    → IsNoAdd s (cells_of s p q.thread q.begun) h q.thread q.begun q.reached)
-adds s history p at area h q run whole held is inside =
-    let t = q.thread in
-    let b = placed_add p at area in
-    let runs = first_runs s history h q whole is in
-    let placed = add_placed s p at area held.stands held.slots held.low_table held.low held.aligned
-    held.low_area held.some_table in
-    let code = add_code s p at area held.stands held.slots held.low_table held.low held.aligned held.low_area
-    in
-    let comes = entered s b t (KnowsTable p) placed code history run held.uses in
-    let start : IsAtStart s at h t q.begun = record {
-      runs = runs;
-      pc = begins_at_start s (add_range at) t h history q run comes is runs inside;
-    } in
-    let place =
-    place_of s p at area h t q.begun start held.low placed code held.few history q run held.used
-    held.processor held.uses is
-    refl in
-    adds_once s p at area (cells_of s p t q.begun) h t q.begun held.stands held.slots place history q run
-    (fair_since s p at area h t q.begun start held.low placed code history held.used) is refl
+    → IsLeftAt at (file s q.thread q.reached).pc (end_before s q e before)
+ends_before s e before p at area h q run whole held is inside =
+    let earlier = held_before s e before p at area q.thread held in
+    let begun = start s before p at area h q run whole earlier is inside in
+    left_before_next s before p at area h q run whole earlier is inside
+    (held.used.1.fair h q.begun begun (inr (q, is, refl))).place e

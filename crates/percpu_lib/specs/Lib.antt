@@ -1,6 +1,7 @@
 pub mod Adds
 pub mod Allocs
 pub mod BlockLines
+pub mod Files
 pub mod Frees
 pub mod Lines
 pub mod Pops

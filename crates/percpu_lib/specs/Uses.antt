@@ -3,13 +3,15 @@
 use Rattle.std.specs.Prelude.{ℕ, ◌≡◌, ◌≢◌, ◌+◌, ◌%◌, ◌^◌, ◌<◌, ◌≤◌, [], ◌∷◌, Some}
 use Rattle.mach_types.specs.Registers.{register}
 use Rattle.mach_types.specs.declared.sequences.Area.{Area}
+use Rattle.block_model.specs.Acts.{Sequence, sequence_on}
 use Rattle.block_model.specs.History.{Event, History, file, running}
 use Rattle.block_model.specs.Setting.{Setting}
 use Rattle.alone_laws.specs.Areas.{ProcessorKept}
 use Rattle.alone_laws.specs.Blocks.{IsFair, IsOpen}
+use Rattle.alone_laws.specs.Entering.{IsIn}
 use Rattle.alone_laws.specs.Spans.{code_of}
 use Rattle.alone_laws.specs.Uses.{AreUsed}
-use Rattle.percpu_lib.specs.Adds.{IsAddBegin, add_block, add_of, placed_add}
+use Rattle.percpu_lib.specs.Adds.{IsAddBegin, IsWholeAdd, add_block, add_of, add_range, placed_add}
 use Rattle.percpu_lib.specs.Words.{AreHeld, AreSlots}
 use Rattle.percpu_lib.specs.declared.slots.Slots.{Slots}
 
@@ -52,3 +54,13 @@ pub record HoldsAdd (s : Setting) (history : History) (p : Slots) (at : ℕ) (ar
     pub processor : ProcessorKept s t area history
     pub few : s.limits.harts ≤ 8
     pub uses : AreUsed s (placed_add p at area) t history
+
+-- thread t of hart h has come to the post-commit address just now, by a sequence of the block that is whole
+pub record IsAdded (s : Setting) (p : Slots) (at h t : ℕ) (now : History) : Type 0 where
+  pub sequence : Sequence
+  pub is : sequence_on s h now ≡ Some sequence
+  pub thread : sequence.thread ≡ t
+  pub begins : IsIn s (add_range at) t sequence.begun
+  pub reached : sequence.reached ≡ now
+  pub pc : (file s t now).pc ≡ at + 44
+  pub adds : IsWholeAdd s p (cells_of s p t sequence.begun) h t sequence.begun now

@@ -2,6 +2,7 @@
 
 ghost use Rattle.std.specs.Prelude.{◌≡◌, ◌↔◌, ◌+◌, ◌^◌, ◌<◌, ℕ, Ok, Err, OnOk, take};
 ghost use Rattle.percpu_lib.specs.Pops.{pop_lines};
+ghost use Rattle.percpu_lib.specs.BlockLines.{IsLabelled};
 ghost use Rattle.percpu_lib.specs.Lines.{AreEmitted, HasRoom};
 ghost use Rattle.percpu_lib.specs.Words.{AreSlots};
 
@@ -49,6 +50,7 @@ pub fn emit_pop(_alloc: Global, asm: &mut Asm, base: u32, slots: &Slots) -> Resu
     ensures room { (result ≡ Err EmitFault.Room) ↔ (HasRoom asm.old.labels base → ⊥) }
     ensures refused { result ≡ Err EmitFault.Room → asm.new ≡ asm.old }
     ensures ok { OnOk result (AreEmitted (pop_lines slots.now base) asm.old asm.new) }
+    ensures labelled { OnOk result (IsLabelled base asm.new) }
     ensures memory { result ≡ Err EmitFault.NoMemory
         → (n : ℕ) × AreEmitted (take n (pop_lines slots.now base)) asm.old asm.new }
 {

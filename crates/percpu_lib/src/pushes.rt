@@ -2,6 +2,7 @@
 
 ghost use Rattle.std.specs.Prelude.{◌≡◌, ◌↔◌, ◌+◌, ◌^◌, ◌<◌, ℕ, Ok, Err, OnOk, take};
 ghost use Rattle.percpu_lib.specs.Pushes.{push_lines};
+ghost use Rattle.percpu_lib.specs.BlockLines.{IsLabelled};
 ghost use Rattle.percpu_lib.specs.Lines.{AreEmitted, HasRoom};
 ghost use Rattle.percpu_lib.specs.Words.{AreSlots};
 
@@ -47,6 +48,7 @@ pub fn emit_push(_alloc: Global, asm: &mut Asm, base: u32, slots: &Slots) -> Res
     ensures room { (result ≡ Err EmitFault.Room) ↔ (HasRoom asm.old.labels base → ⊥) }
     ensures refused { result ≡ Err EmitFault.Room → asm.new ≡ asm.old }
     ensures ok { OnOk result (AreEmitted (push_lines slots.now base) asm.old asm.new) }
+    ensures labelled { OnOk result (IsLabelled base asm.new) }
     ensures memory { result ≡ Err EmitFault.NoMemory
         → (n : ℕ) × AreEmitted (take n (push_lines slots.now base)) asm.old asm.new }
 {

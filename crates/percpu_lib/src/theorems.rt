@@ -1,26 +1,37 @@
 //! Laws of blocks in runs, each as the contract of a function that does nothing.
 
 ghost use Rattle.std.specs.Prelude.{ℕ, List, [], ◌∷◌, ◌++◌, Some, length, slice_get, true, false};
-ghost use Rattle.std.specs.Prelude.{◌+◌, ◌≡◌, ◌≢◌};
+ghost use Rattle.std.specs.Prelude.{◌+◌, ◌*◌, ◌≡◌, ◌≢◌, ◌≤◌, Option};
 ghost use Rattle.mach_types.specs.Registers.{register};
 ghost use Rattle.mach_types.specs.declared.events.Entry.{Entry};
 ghost use Rattle.mach_types.specs.declared.events.Kind.TheVariants as kind;
 ghost use Rattle.mach_types.specs.declared.sequences.Area.{Area};
-ghost use Rattle.block_model.specs.Acts.{Sequence, sequence_on};
-ghost use Rattle.block_model.specs.Deciding.{history};
+ghost use Rattle.block_model.specs.Acts.{Sequence, end_before, end_so_far, sequence_on};
+ghost use Rattle.block_model.specs.Deciding.{event, history};
 ghost use Rattle.block_model.specs.History.{file, running};
 ghost use Rattle.block_model.specs.Run.{IsBlockRun};
 ghost use Rattle.block_model.specs.Setting.{Setting};
 ghost use Rattle.alone.specs.Temps.{is_scratch};
+ghost use Rattle.alone_laws.specs.Blocks.{IsPlaceOf};
 ghost use Rattle.alone_laws.specs.Entering.{IsIn};
-ghost use Rattle.alone_laws.specs.Uses.{in_block};
+ghost use Rattle.alone_laws.specs.Retries.{Retries};
+ghost use Rattle.alone_laws.specs.Undisturbed.{Brings, IsUndisturbed, executed_on};
+ghost use Rattle.alone_laws.specs.Uses.{CanAlwaysBegin, in_block};
+ghost use Rattle.alone_laws.specs.Spans.{code_of};
+ghost use Rattle.block_model.specs.Instruction.{fetched};
+ghost use Rattle.elf_load.specs.Images.{IsImage};
+ghost use Rattle.elf_load.specs.declared.image.Image.{Image};
 ghost use Rattle.rv_asm.specs.Assembly.{AreAssembled, Assembly};
+ghost use Rattle.rv_asm.specs.declared.item.Item.{Item};
 ghost use Rattle.rv_inst.specs.Table.{row_of};
 ghost use Rattle.rv_inst.specs.declared.instruction.Inst.{Inst};
-ghost use Rattle.percpu_lib.specs.Adds.{IsNoAdd, IsWholeAdd, add_block, add_lines, add_range, cell_seen, placed_add};
+ghost use Rattle.percpu_lib.specs.Adds.{IsLeftAt, IsNoAdd, IsWholeAdd, add_block, add_lines, add_of, add_range};
+ghost use Rattle.percpu_lib.specs.Adds.{cell_seen, placed_add};
 ghost use Rattle.percpu_lib.specs.BlockLines.{HasNoLabel, IsLabelled, block_lines};
+ghost use Rattle.percpu_lib.specs.Files.{HoldsCode};
 ghost use Rattle.percpu_lib.specs.Lines.{AreEmitted, HasRoom, IsContinued};
-ghost use Rattle.percpu_lib.specs.Uses.{HoldsAdd, cells_of};
+ghost use Rattle.percpu_lib.specs.Uses.{HoldsAdd, IsAdded, cells_of};
+ghost use Rattle.percpu_lib.specs.Words.{AreHeld};
 ghost use Rattle.percpu_lib.specs.declared.lines.Line.{Line};
 ghost use Rattle.percpu_lib.specs.declared.slots.Slots.{Slots};
 
@@ -39,6 +50,24 @@ pub fn adds_once_or_not_at_all()
         → IsNoAdd s (cells_of s p q.thread q.begun) h q.thread q.begun q.reached }
 {}
 
+/// In a block run a restartable sequence of an add block ends 'left' where its thread is at the post-commit address
+/// after it; and one that ends 'left' leads there, or back to the retry label.
+pub fn adds_that_commit_are_left()
+    // where an event of its hart comes behind it
+    ensures followed { (s : Setting) (log : List Entry) (entry : Entry) (p : Slots) (at : ℕ) (area : Area) (h : ℕ)
+        (q : Sequence)
+        → IsBlockRun s (log ++ entry ∷ []) → HoldsAdd s (history s (log ++ entry ∷ [])) p at area q.thread
+        → entry.hart.0 ≡ h → sequence_on s h (history s log) ≡ Some q → IsIn s (add_range at) q.thread q.begun
+        → IsLeftAt at (file s q.thread q.reached).pc
+        (end_before s q (event s (history s log) entry) (history s log)) }
+    // where none does, and the block's bytes and descriptor still stand
+    ensures last { (s : Setting) (log : List Entry) (p : Slots) (at : ℕ) (area : Area) (h : ℕ) (q : Sequence)
+        → IsBlockRun s log → HoldsAdd s (history s log) p at area q.thread
+        → sequence_on s h (history s log) ≡ Some q → IsIn s (add_range at) q.thread q.begun
+        → IsPlaceOf s (add_of p at area (cells_of s p q.thread q.begun) h) h q.thread (history s log)
+        → IsLeftAt at (file s q.thread q.reached).pc (end_so_far s q (history s log)) }
+{}
+
 /// In a block run an instruction of an add block changes no register but those that a block may change, whether or not
 /// a sequence is open.
 pub fn add_keeps_registers()
@@ -47,6 +76,27 @@ pub fn add_keeps_registers()
         → entry.kind ≡ kind.Exec → running s entry.hart.0 (history s log) ≡ Some t
         → in_block (placed_add p at area) (file s t (history s log)).pc ≡ true → is_scratch r ≡ false
         → register (file s t (history s (log ++ entry ∷ []))).file r ≡ register (file s t (history s log)).file r }
+{}
+
+/// In a block run a thread that is at the retry label of an add block, and whose hart from there on executes
+/// instructions and lets stores enter memory and does nothing else, is at the post-commit address after one of its
+/// first 11 instructions, by a sequence that is whole.
+pub fn adds_are_done()
+    ensures { (s : Setting) (log stretch : List Entry) (p : Slots) (at : ℕ) (area : Area) (h t : ℕ)
+        → IsBlockRun s (log ++ stretch) → HoldsAdd s (history s (log ++ stretch)) p at area t
+        → CanAlwaysBegin s (placed_add p at area) t (history s (log ++ stretch))
+        → running s h (history s log) ≡ Some t → (file s t (history s log)).pc ≡ at
+        → IsUndisturbed h stretch → 11 ≤ executed_on h stretch
+        → Brings s h 11 (IsAdded s p at h t) log stretch }
+{}
+
+/// In a block run each retry of an add block works on the value that came in: at each place of the walks of a thread
+/// in the block, one after another from its retry label on, the value is what it was there.
+pub fn retries_of_add_keep_its_value()
+    ensures { (s : Setting) (first log later : List Entry) (p : Slots) (at : ℕ) (area : Area) (t : ℕ)
+        → IsBlockRun s (log ++ later) → HoldsAdd s (history s (log ++ later)) p at area t
+        → Retries s (placed_add p at area) t first log
+        → register (file s t (history s log)).file p.value ≡ register (file s t (history s first)).file p.value }
 {}
 
 /// Once the lines of a block were appended where its labels were free, they are bound: the retry label, the start, the
@@ -67,6 +117,22 @@ pub fn finished_code_holds_add()
         → row_of w ≡ Some i }
 {}
 
+/// A machine that runs the image of a file fetches the words of finished code that stands in the file: word k of it at
+/// the address of the code's first byte and 4 k.
+pub fn finished_code_is_fetched()
+    ensures { (labels : List (Option ℕ)) (items : List Item) (bytes file : List ℕ) (image : Image) (at k w : ℕ)
+        → IsImage file image → HoldsCode file at bytes → (code : AreAssembled labels items bytes)
+        → slice_get code.words k ≡ Some w → fetched image.pages.items (at + 4 * k) ≡ Some w }
+{}
+
+/// So the program of a file holds an add block where finished code stands to which its lines were appended.
+pub fn files_hold_add()
+    ensures { (p : Slots) (base at : ℕ) (a b c : Assembly) (bytes file : List ℕ) (image : Image)
+        → HasRoom a.labels base → AreEmitted (add_lines p base) a b → IsContinued b c
+        → AreAssembled c.labels c.items bytes → IsImage file image → HoldsCode file at bytes
+        → AreHeld (code_of image.pages.items) (at + 4 * length a.items) (add_block p) }
+{}
+
 /// What `HoldsAdd` asks can be met: there is a block run in which a thread uses an add block so, and comes to the
 /// post-commit address by a sequence of the block. The cell of its processor is 32 then.
 pub fn add_blocks_are_used()
@@ -75,4 +141,16 @@ pub fn add_blocks_are_used()
         × (sequence_on s h (history s log) ≡ Some q) × IsIn s (add_range at) q.thread q.begun
         × ((file s q.thread q.reached).pc ≡ at + 44)
         × (cell_seen s h (cells_of s p q.thread q.begun) q.reached ≡ Some 32) }
+{}
+
+/// What `adds_are_done` and `retries_of_add_keep_its_value` ask can be met: there is a block run in which a thread is at
+/// the retry label of an add block, is interrupted in the sequence, and is at the retry label once more; and its hart
+/// from there on executes 11 instructions undisturbed.
+pub fn aborted_adds_begin_anew()
+    ensures { (s : Setting) × (first log stretch : List Entry) × (p : Slots) × (at : ℕ) × (area : Area) × (h t : ℕ)
+        × IsBlockRun s (log ++ stretch) × HoldsAdd s (history s (log ++ stretch)) p at area t
+        × CanAlwaysBegin s (placed_add p at area) t (history s (log ++ stretch))
+        × Retries s (placed_add p at area) t first log
+        × (running s h (history s log) ≡ Some t) × ((file s t (history s log)).pc ≡ at)
+        × IsUndisturbed h stretch × (11 ≤ executed_on h stretch) }
 {}

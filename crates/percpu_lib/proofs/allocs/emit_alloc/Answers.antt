@@ -1,6 +1,8 @@
-use Rattle.std.proofs.Common.{length, All, subst, sym, arith}
+use Rattle.std.proofs.Common.{length, All, [], subst, sym, arith}
 use Rattle.percpu_lib.proofs.Emittable.{alloc_emittable}
-use Rattle.percpu_lib.specs.Lines.{IsEmittable}
+use Rattle.percpu_lib.proofs.Labels.{labelled}
+use Rattle.percpu_lib.specs.Allocs.{alloc_steps}
+use Rattle.percpu_lib.specs.Lines.{AreEmitted, IsEmittable}
 use Rattle.percpu_lib.proofs.allocs.emit_alloc.Goals as goal
 
 pub lines_of_alloc-lines-requires-clause-fits : goal.lines_of_alloc-lines-requires-clause-fits
@@ -14,3 +16,11 @@ emit_lines-requires c =
     subst (λ xs. All (IsEmittable (length c.args.asm.now.labels)) xs) (sym c.lines_of_alloc-lines.ensures)
     (alloc_emittable c.args.slots.now c.args.base (length c.args.asm.now.labels) c.requires.slots c.requires.low
     c.if-not-has_room.ensures.within)
+
+pub returns-clause-labelled : goal.returns-clause-labelled
+returns-clause-labelled c =
+    labelled c.args.slots.now c.args.base 13 [] (alloc_steps c.args.slots.now c.args.base) [] c.args.asm.now
+    c.emit_lines.new.asm
+    (subst (λ xs. AreEmitted xs c.args.asm.now c.emit_lines.new.asm) c.lines_of_alloc-lines.ensures
+    c.in_ok-emit_lines.ensures.ok)
+    (c.has_room.ensures.exact.0 c.if-not-has_room.false) tt tt tt

@@ -1,0 +1,466 @@
+-- A thread at the retry label of an add block, whose hart is left undisturbed, is at the post-commit address after
+-- eleven instructions, by a sequence that is whole.
+use Rattle.std.proofs.Common.{◌≡◌, ◌≢◌, ℕ, zero, suc, ◌+◌, ◌*◌, ◌-◌, ◌%◌, ◌^◌, ◌<◌, ◌≤◌, ◌⊎◌, inl, inr, List, [], ◌++◌}
+use Rattle.std.proofs.Common.{◌∷◌, refl, sym, ap, ◌∙◌, arith, subst, Bool, true, false, not, cond, eqb, ltb}
+use Rattle.std.proofs.Common.{Option, Some, None, pos, negsuc}
+use Rattle.std.proofs.lemmas.Bool.{false≢true, lt-ltb}
+use Rattle.mach_types.proofs.Laws.{eqb_same}
+use Rattle.mach_types.specs.Bytes.{word_at}
+use Rattle.mach_types.specs.Events.{choice_with}
+use Rattle.mach_types.specs.Kernel.Areas.{area_of, is_inside}
+use Rattle.mach_types.specs.Kernel.Threads.{running_on}
+use Rattle.mach_types.specs.Registers.{register}
+use Rattle.mach_types.specs.declared.events.Entry.{Entry}
+use Rattle.mach_types.specs.declared.events.Kind.TheVariants as kind
+use Rattle.mach_types.specs.declared.sequences.Area.{Area}
+use Rattle.mach_types.specs.declared.sequences.Named.TheVariants as names
+use Rattle.mach_types.specs.declared.threads.Saved.{Saved}
+use Rattle.rv_inst.specs.declared.instruction.Inst.{Inst}
+use Rattle.rv_inst.specs.declared.instruction.Inst.TheVariants as inst
+use Rattle.rv_inst.specs.Memory.{low_bytes}
+use Rattle.rv_inst.specs.Words.{sum_64, word}
+use Rattle.alone.specs.Temps.{IsLike, is_scratch, put}
+use Rattle.alone.proofs.Laws.{loaded_small}
+use Rattle.alone.proofs.Means.{means_addi, means_lui, means_lw, means_sd}
+use Rattle.block_model.specs.Acts.{Sequence, begun_with, is_inside_at, is_instruction, is_taken_in}
+use Rattle.block_model.specs.Acts.{sequence_on, taken_up, with_event}
+use Rattle.block_model.specs.Deciding.{history, number_of, thread_in}
+use Rattle.block_model.specs.Events.{done_of}
+use Rattle.block_model.specs.Events.Drain.{done_drain_of}
+use Rattle.block_model.specs.Here.{waiting_here}
+use Rattle.block_model.specs.History.{Event, History, file, file_among, here_in_history, kernel, running}
+use Rattle.block_model.specs.Record.{Kernel}
+use Rattle.block_model.specs.Run.{IsBlockRun, IsRunHistory}
+use Rattle.block_model.specs.Setting.{Setting}
+use Rattle.block_model.proofs.Laws.{IsStep, file_apart, has_registers, runs_apart, step_of}
+use Rattle.alone_laws.specs.Blocks.{Block, IsFair, IsFairSince, IsSoFar, IsSole, among}
+use Rattle.alone_laws.specs.Entering.{IsIn}
+use Rattle.alone_laws.specs.Spans.{alone_from, code_of, seen_at}
+use Rattle.alone_laws.specs.Undisturbed.{Brings, IsUndisturbed, executed_on}
+use Rattle.alone_laws.specs.Uses.{CanAlwaysBegin, CanBegin, IsWellPlaced, Placed, is_before}
+use Rattle.alone_laws.proofs.Arrivals.{IsCode}
+use Rattle.alone_laws.proofs.Entered.{entered, points}
+use Rattle.alone_laws.proofs.Entering.{goes_there, inside_there}
+use Rattle.alone_laws.proofs.OneStep.{IsStepped, step_load, step_next, step_store}
+use Rattle.alone_laws.proofs.Processors.{tells, tells_first}
+use Rattle.alone_laws.proofs.Sequences.{apart_step, each_among, exec_step, so_far, starts}
+use Rattle.alone_laws.proofs.Steps.{IsIdle, drain_idle, standing_drain}
+use Rattle.alone_laws.proofs.Undisturbed.{brought}
+use Rattle.percpu_lib.specs.Adds.{IsAddPlace, IsWholeAdd, add_block, add_of, add_range, placed_add}
+use Rattle.percpu_lib.specs.Uses.{HoldsAdd, IsAdded, IsAtStart, cells_of}
+use Rattle.percpu_lib.specs.Words.{lower, upper}
+use Rattle.percpu_lib.specs.declared.slots.Slots.{Slots}
+use Rattle.percpu_lib.proofs.AddCode.{KnowsTable, add_code, add_placed, within_range}
+use Rattle.percpu_lib.proofs.AddLaw.{add_sole, adds_once, gone_on}
+use Rattle.percpu_lib.proofs.UsesLaw.{fair_since, held_before}
+
+-- SEQUENCES
+
+module _ (s : Setting) (h : ℕ) (e : Event) (before : History) (own : e.entry.hart.0 ≡ h) where
+  of_hart : eqb e.entry.hart.0 h ≡ true
+  of_hart = ap (λ n. eqb n h) own ∙ eqb_same h
+
+  -- where its thread is inside nothing before an event of its hart, none is open after it
+  none_open : is_inside_at s h before ≡ false → sequence_on s h (e ∷ before) ≡ None
+  none_open out =
+      ap (λ b. cond (not b) (sequence_on s h before)
+      (cond (is_inside_at s h before) (taken_up h e before (sequence_on s h before)) None)) of_hart
+      ∙ ap (λ b. cond b (taken_up h e before (sequence_on s h before)) None) out
+
+  -- where it is inside, and what its event does to the sequence that is open
+  taken : (o : Option Sequence) → is_inside_at s h before ≡ true → sequence_on s h before ≡ o
+      → sequence_on s h (e ∷ before) ≡ taken_up h e before o
+  taken o inside was =
+      ap (λ b. cond (not b) (sequence_on s h before)
+      (cond (is_inside_at s h before) (taken_up h e before (sequence_on s h before)) None)) of_hart
+      ∙ ap (λ b. cond b (taken_up h e before (sequence_on s h before)) None) inside
+      ∙ ap (taken_up h e before) was
+
+  -- a store that enters memory begins none
+  none_drained : e.entry.kind ≡ kind.Drain → sequence_on s h before ≡ None → sequence_on s h (e ∷ before) ≡ None
+  none_drained is none = by_case (is_inside_at s h before) refl
+    where
+      by_case : (c : Bool) → is_inside_at s h before ≡ c → sequence_on s h (e ∷ before) ≡ None
+      by_case true inside = taken None inside none
+          ∙ ap (λ k. cond (is_instruction k) (Some (begun_with h e before)) None) is
+      by_case false out = none_open out
+
+-- THE COURSE
+
+module _ (s : Setting) (p : Slots) (at : ℕ) (area : Area) (h t : ℕ) where
+  abbrev b : Placed
+  b = placed_add p at area
+
+  abbrev pages : ℕ → Option Inst
+  pages = code_of s.program.pages
+
+  -- what is asked
+  record IsAsked (history : History) : Type 0 where
+    held : HoldsAdd s history p at area t
+    begins : CanAlwaysBegin s b t history
+
+  fewer : (e : Event) (before : History) → IsAsked (e ∷ before) → IsAsked before
+  fewer e before asked = record {
+    held = held_before s e before p at area t asked.held;
+    begins = asked.begins.0;
+  }
+
+  -- before the sequence: the thread has executed so many words of the block
+  record IsComing (n : ℕ) (before : History) : Type 0 where
+    runs : running s h before ≡ Some t
+    pc : (file s t before).pc ≡ at + 4 * n
+    chosen : 1 ≤ n → register (file s t before).file 5 ≡ h
+    closed : 1 ≤ n → sequence_on s h before ≡ None
+
+  -- in the sequence: so many instructions of it
+  record IsGoing (n : ℕ) (before : History) : Type 0 where
+    sequence : Sequence
+    begun : IsAtStart s at h t sequence.begun
+    chosen : eqb h (register (file s t sequence.begun).file 5) ≡ true
+    thread : sequence.thread ≡ t
+    is : sequence_on s h before ≡ Some sequence
+    place : IsAddPlace s p at area (cells_of s p t sequence.begun) h t sequence.begun
+    so : IsSoFar s (add_of p at area (cells_of s p t sequence.begun) h) h t sequence.begun sequence.reached before n
+    inside : is_inside (add_range at) (alone_from s h t sequence.begun n).file.pc ≡ true
+
+  -- so many instructions may be left behind the next
+  data IsLeft (m : ℕ) (before : History) : Type 0 where
+    coming : (n : ℕ) → n + m ≡ 10 → n ≤ 4 → IsComing n before → IsLeft m before
+    going : (n : ℕ) → n + m ≡ 6 → IsGoing n before → IsLeft m before
+
+  -- AN EVENT
+  module _ (e : Event) (before : History) (run : IsRunHistory s (e ∷ before)) (asked : IsAsked (e ∷ before)) where
+    step : IsStep s e before
+    step = step_of s e before run
+
+    held : HoldsAdd s (e ∷ before) p at area t
+    held = asked.held
+
+    placed : IsWellPlaced b
+    placed = add_placed s p at area held.stands held.slots held.low_table held.low held.aligned held.low_area
+        held.some_table
+
+    code : IsCode s b (KnowsTable p)
+    code = add_code s p at area held.stands held.slots held.low_table held.low held.aligned held.low_area
+
+    fair_at : (begun : History) → IsAtStart s at h t begun → IsFairSince s
+        (add_of p at area (cells_of s p t begun) h) h t begun (e ∷ before)
+    fair_at begun start = fair_since s p at area h t begun start held.low placed code (e ∷ before) held.used
+
+    -- inside its range the thread is inside what its area names
+    named_in : running s h before ≡ Some t → IsIn s (add_range at) t before → is_inside_at s h before ≡ true
+    named_in runs inside =
+        inside_there s (add_range at) t h before runs inside
+        ((entered s b t (KnowsTable p) placed code (e ∷ before) run held.uses).1.names h runs inside)
+
+    -- an event of another hart
+    apart_coming : (n : ℕ) → eqb e.entry.hart.0 h ≡ false → IsComing n before → IsComing n (e ∷ before)
+    apart_coming n apart was =
+        let same = file_apart s h t e before step apart was.runs in
+        record {
+          runs = runs_apart s h e before step apart ∙ was.runs;
+          pc = ap (λ (f : Saved). f.pc) same ∙ was.pc;
+          chosen = λ some. ap (λ (f : Saved). register f.file 5) same ∙ was.chosen some;
+          closed = λ some. ap (λ b. cond (not b) (sequence_on s h before)
+              (cond (is_inside_at s h before) (taken_up h e before (sequence_on s h before)) None)) apart
+              ∙ was.closed some;
+        }
+
+    apart_going : (n : ℕ) → eqb e.entry.hart.0 h ≡ false → IsGoing n before → IsGoing n (e ∷ before)
+    apart_going n apart was =
+        let q = was.sequence in
+        let cells = cells_of s p t q.begun in
+        record {
+          sequence = q;
+          begun = was.begun;
+          chosen = was.chosen;
+          thread = was.thread;
+          is = ap (λ b. cond (not b) (sequence_on s h before)
+              (cond (is_inside_at s h before) (taken_up h e before (sequence_on s h before)) None)) apart ∙ was.is;
+          place = was.place;
+          so = apart_step s (add_of p at area cells h) h t q.begun
+              (add_sole s p at area cells h t q.begun held.stands held.slots was.place) e before q.reached n step
+              (held.used.1.fair h q.begun was.begun (inr (q, was.is, refl))) apart was.so;
+          inside = was.inside;
+        }
+
+    module _ (own : e.entry.hart.0 ≡ h) where
+      -- a store that enters memory
+      idle : e.entry.kind ≡ kind.Drain → IsIdle (here_in_history s before h) e.done
+      idle is =
+          let here = here_in_history s before e.entry.hart.0 in
+          let did : e.done ≡ done_drain_of here (waiting_here here) =
+          step.did ∙ ap (λ k. done_of (choice_with k e.entry) here) is in
+          subst (λ k. IsIdle (here_in_history s before k) e.done) own
+          (subst (IsIdle here) (sym did) (drain_idle here (waiting_here here) refl))
+
+      drained_coming : (n : ℕ) → e.entry.kind ≡ kind.Drain → IsComing n before → IsComing n (e ∷ before)
+      drained_coming n is was =
+          let done = idle is in
+          let same : file s t (e ∷ before) ≡ file s t before =
+          ap (λ (fs : List (ℕ × Saved)). file_among fs t (file s t before)) done.files in
+          record {
+            runs = ap (λ (k : Kernel). running_on h k.threads) done.kernel ∙ was.runs;
+            pc = ap (λ (f : Saved). f.pc) same ∙ was.pc;
+            chosen = λ some. ap (λ (f : Saved). register f.file 5) same ∙ was.chosen some;
+            closed = λ some. none_drained s h e before own is (was.closed some);
+          }
+
+      -- where a sequence goes on the thread is inside
+      in_range_now : (n : ℕ) (was : IsGoing n before) → is_inside_at s h before ≡ true
+      in_range_now n was =
+          named_in was.so.now.runs (ap (λ (f : Saved). is_inside (add_range at) f.pc) was.so.now.file ∙ was.inside)
+
+      drained_going : (n : ℕ) → e.entry.kind ≡ kind.Drain → IsGoing n before → IsGoing n (e ∷ before)
+      drained_going n is was =
+          let q = was.sequence in
+          let cells = cells_of s p t q.begun in
+          let block = add_of p at area cells h in
+          let sole = add_sole s p at area cells h t q.begun held.stands held.slots was.place in
+          record {
+            sequence = with_event e before q;
+            begun = was.begun;
+            chosen = was.chosen;
+            thread = was.thread;
+            is = taken s h e before own (Some q) (in_range_now n was) was.is
+                ∙ ap (λ k. cond (is_taken_in k e.done.interrupted) (Some (with_event e before q)) None) is;
+            place = was.place;
+            so = so_far s block h t q.begun sole (e ∷ before) n was.so.below
+                (standing_drain s block.words h t q.begun e before (alone_from s h t q.begun n) step own
+                (ap (λ k. choice_with k e.entry) is) (was.so.inside was.inside));
+            inside = was.inside;
+          }
+
+      -- AN INSTRUCTION
+      module _ (executes : e.entry.kind ≡ kind.Exec) where
+        -- the next stage, or the end
+        abbrev Next : ℕ → Type 0
+        Next m = IsAdded s p at h t (e ∷ before) ⊎ ((k : ℕ) × (k < m) × IsLeft k (e ∷ before))
+
+        advanced : (n m : ℕ) (q : Sequence) → n + m ≡ 6 → IsAtStart s at h t q.begun
+            → eqb h (register (file s t q.begun).file 5) ≡ true → q.thread ≡ t
+            → sequence_on s h (e ∷ before) ≡ Some q → q.reached ≡ e ∷ before
+            → IsAddPlace s p at area (cells_of s p t q.begun) h t q.begun
+            → IsSoFar s (add_of p at area (cells_of s p t q.begun) h) h t q.begun q.reached (e ∷ before) (suc n)
+            → Next m
+        advanced n m q sum start chosen thread is reached place so =
+            by_place (gone_on s p at area (cells_of s p t q.begun) h t q.begun held.stands held.slots place chosen (suc n) so.below)
+          where
+            by_place : ((is_inside (add_range at) (alone_from s h t q.begun (suc n)).file.pc ≡ true)
+                × (4 * suc n < 28)) ⊎ ((alone_from s h t q.begun (suc n)).file.pc ≡ at + 44) → Next m
+            by_place (inl inside) =
+                let few = inside.1 in
+                inr (
+                  6 - suc n,
+                  omega arith,
+                  going (suc n) (omega arith) (record {
+                    sequence = q;
+                    begun = start;
+                    chosen = chosen;
+                    thread = thread;
+                    is = is;
+                    place = place;
+                    so = so;
+                    inside = inside.0;
+                  }),
+                )
+            by_place (inr done) =
+                let pc : (file s t q.reached).pc ≡ at + 44 = ap (λ (f : Saved). f.pc) so.reached.file ∙ done in
+                inl (record {
+                  sequence = q;
+                  is = is;
+                  thread = thread;
+                  begins = ap (is_inside (add_range at)) start.pc
+                      ∙ within_range at 16 held.low (omega arith) (omega arith);
+                  reached = reached;
+                  pc = ap (λ (x : History). (file s t x).pc) (sym reached) ∙ pc;
+                  adds = subst (λ (x : History). IsWholeAdd s p (cells_of s p t q.begun) h t q.begun x) reached
+                      ((adds_once s p at area (cells_of s p t q.begun) h t q.begun held.stands held.slots place (e ∷ before) q run
+                      (fair_at q.begun start) is refl).0 pc);
+                })
+
+        -- one more in the sequence
+        executed_going : (n m : ℕ) → n + m ≡ 6 → IsGoing n before → Next m
+        executed_going n m sum was =
+            let q = was.sequence in
+            let cells = cells_of s p t q.begun in
+            let block = add_of p at area cells h in
+            let sole = add_sole s p at area cells h t q.begun held.stands held.slots was.place in
+            let inside = in_range_now n was in
+            advanced n m (with_event e before q) sum was.begun was.chosen was.thread
+            (taken s h e before own (Some q) inside was.is
+            ∙ ap (λ k. cond (is_taken_in k e.done.interrupted) (Some (with_event e before q)) None) executes)
+            refl was.place
+            (exec_step s block h t q.begun sole e before q.reached n step
+            (held.used.1.fair h q.begun was.begun (inr (q, was.is, refl))) own executes inside was.so)
+
+        -- the first one
+        its_thread : running s h before ≡ Some t → e.entry.tid.0 ≡ t
+        its_thread runs =
+            let here = here_in_history s before e.entry.hart.0 in
+            ap (λ (x : Entry). x.tid.0) step.is
+            ∙ ap (λ k. number_of (thread_in (choice_with k e.entry) here)) executes
+            ∙ ap (λ k. number_of (running s k before)) own ∙ ap number_of runs
+
+        executed_first : (m : ℕ) → m ≡ 6 → IsComing 4 before → Next m
+        executed_first m sum was =
+            let cells = cells_of s p t before in
+            let block = add_of p at area cells h in
+            let start : IsAtStart s at h t before =
+            record { runs = was.runs; pc = was.pc ∙ omega arith } in
+            let in_it : IsIn s (add_range at) t before =
+            ap (is_inside (add_range at)) start.pc ∙ within_range at 16 held.low (omega arith) (omega arith) in
+            let inside = named_in was.runs in_it in
+            let fair = held.used.1.fair h before start (inl refl) in
+            let went = goes_there s (add_range at) t h e before run in
+            let place : IsAddPlace s p at area cells h t before = record {
+              runs = was.runs;
+              pc = start.pc;
+              begins = held.used.1.begins h start;
+              many = has_registers s before run.0 t;
+              points = points s b t (KnowsTable p) placed code before h run.0 held.uses.0 went was.runs in_it;
+              on_cpu = tells s t area held.few before h run.0 held.processor.0 was.runs fair.place.registered;
+            } in
+            let sole = add_sole s p at area cells h t before held.stands held.slots place in
+            advanced 0 m (begun_with h e before) (omega (arith, sum)) start
+            (ap (λ n. eqb h n) (was.chosen (omega arith)) ∙ eqb_same h) (its_thread was.runs)
+            (taken s h e before own None inside (was.closed (omega arith))
+            ∙ ap (λ k. cond (is_instruction k) (Some (begun_with h e before)) None) executes)
+            refl place
+            (exec_step s block h t before sole e before before 0 step fair own executes inside
+            (starts s block h t before was.runs sole before refl))
+
+        -- BEFORE THE SEQUENCE
+        module _ (n : ℕ) (few : n ≤ 3) (was : IsComing n before) where
+          can : CanBegin s b h t before
+          can = asked.begins.1 h was.runs before_start
+            where
+              before_start : is_before b (file s t before).pc ≡ true
+              before_start =
+                  let low = held.low in
+                  ap (λ x. ltb ((x + (2 ^ 64 - at)) % 2 ^ 64) ((at + 16 + (2 ^ 64 - at)) % 2 ^ 64)) was.pc
+                  ∙ lt-ltb ((at + 4 * n + (2 ^ 64 - at)) % 2 ^ 64) ((at + 16 + (2 ^ 64 - at)) % 2 ^ 64) (omega arith)
+
+          area_is : register (file s t before).file p.area ≡ area.at
+          area_is =
+              let low = held.low in
+              held.uses.1.registers h was.runs
+              (ap (λ x. ltb ((x + (2 ^ 64 - at)) % 2 ^ 64) 56) was.pc
+              ∙ lt-ltb ((at + 4 * n + (2 ^ 64 - at)) % 2 ^ 64) 56 (omega arith))
+
+          came : (m : ℕ) → n + m ≡ 10 → running s h (e ∷ before) ≡ Some t
+              → (file s t (e ∷ before)).pc ≡ at + 4 * suc n → register (file s t (e ∷ before)).file 5 ≡ h → Next m
+          came m sum runs pc five = inr (
+            9 - n,
+            omega arith,
+            coming (suc n) (omega arith) (omega arith) (record {
+              runs = runs;
+              pc = pc;
+              chosen = λ some. five;
+              closed = λ some. none_open s h e before own can.outside;
+            }),
+          )
+
+        abbrev bytes : ℕ → Bool
+        bytes = among area.at 32
+
+        read_chosen : (m : ℕ) → 0 + m ≡ 10 → IsComing 0 before → Next m
+        read_chosen m sum was =
+            let low = held.low in
+            let low_area = held.low_area in
+            let may = can 0 (omega arith) was in
+            let i : Inst = inst.Lw 5 p.area (pos 0) in
+            let one = step.good.lt in
+            let few = held.few in
+            let low_cpu : h < 8 = omega (arith, own) in
+            let next = step_load s h t e before run own executes was.runs bytes may.usable is_scratch (at + 4 * 0)
+            was.pc i (held.stands.holds 0 i refl) area.at 4 5 h (at + 4 * 1) true
+            (λ f like. means_lw f (at + 4 * 0) 5 p.area (pos 0) area.at area.at
+            (like.rest p.area held.slots.area ∙ area_is 0 (omega arith) was) (omega arith))
+            (each_among area.at 32 area.at 4 (omega arith) (omega arith))
+            (tells_first s t area held.few before h run.0 held.processor.0 was.runs may.registered) refl refl
+            (omega arith) (omega arith) in
+            came 0 (omega arith) was m sum next.runs_on next.goes_to (next.like.temp 5 refl ∙ loaded_small h low_cpu)
+
+        upper_set : (m : ℕ) → 1 + m ≡ 10 → IsComing 1 before → Next m
+        upper_set m sum was =
+            let low = held.low in
+            let may = can 1 (omega arith) was in
+            let i : Inst = inst.Lui 6 (upper p.table) in
+            let next = step_next s h t e before run own executes was.runs bytes may.usable is_scratch (at + 4 * 1)
+            was.pc i (held.stands.holds 1 i refl) 6 (word (upper p.table)) (at + 4 * 2)
+            (λ f like. means_lui f (at + 4 * 1) (at + 4 * 2) (omega arith) 6 (upper p.table) (word (upper p.table))
+            refl) refl refl (omega arith) in
+            came 1 (omega arith) was m sum next.runs_on next.goes_to
+            (next.like.temp 5 refl ∙ was.chosen (omega arith))
+
+        lower_set : (m : ℕ) → 2 + m ≡ 10 → IsComing 2 before → Next m
+        lower_set m sum was =
+            let low = held.low in
+            let may = can 2 (omega arith) was in
+            let i : Inst = inst.Addi 6 6 (lower p.table) in
+            let six = register (file s t before).file 6 in
+            let next = step_next s h t e before run own executes was.runs bytes may.usable is_scratch (at + 4 * 2)
+            was.pc i (held.stands.holds 2 i refl) 6 (sum_64 six (word (lower p.table))) (at + 4 * 3)
+            (λ f like. means_addi f (at + 4 * 2) (at + 4 * 3) (omega arith) 6 6 (lower p.table) six
+            (sum_64 six (word (lower p.table))) (like.temp 6 refl) refl) refl refl (omega arith) in
+            came 2 (omega arith) was m sum next.runs_on next.goes_to
+            (next.like.temp 5 refl ∙ was.chosen (omega arith))
+
+        pointer_stored : (m : ℕ) → 3 + m ≡ 10 → IsComing 3 before → Next m
+        pointer_stored m sum was =
+            let low = held.low in
+            let low_area = held.low_area in
+            let may = can 3 (omega arith) was in
+            let i : Inst = inst.Sd p.area 6 (pos 8) in
+            let six = register (file s t before).file 6 in
+            let next = step_store s h t e before run own executes was.runs bytes may.usable is_scratch (at + 4 * 3)
+            was.pc i (held.stands.holds 3 i refl) (area.at + 8) 8 (low_bytes 8 six) (at + 4 * 4)
+            (λ f like. means_sd f (at + 4 * 3) p.area 6 (pos 8) area.at (area.at + 8) six (low_bytes 8 six)
+            (like.rest p.area held.slots.area ∙ area_is 3 (omega arith) was) (omega arith) (like.temp 6 refl) refl)
+            (each_among area.at 32 (area.at + 8) 8 (omega arith) (omega arith)) (omega arith) in
+            came 3 (omega arith) was m sum next.runs_on next.goes_to
+            (next.like.temp 5 refl ∙ was.chosen (omega arith))
+
+        executed_coming : (n m : ℕ) → n + m ≡ 10 → n ≤ 4 → IsComing n before → Next m
+        executed_coming zero m sum few was = read_chosen m sum was
+        executed_coming (suc zero) m sum few was = upper_set m sum was
+        executed_coming (suc (suc zero)) m sum few was = lower_set m sum was
+        executed_coming (suc (suc (suc zero))) m sum few was = pointer_stored m sum was
+        executed_coming (suc (suc (suc (suc zero)))) m sum few was = executed_first m (omega arith) was
+        executed_coming (suc (suc (suc (suc (suc n))))) m sum few was = absurd (omega arith)
+
+  -- each event
+  apart : (m : ℕ) (e : Event) (before : History) → IsRunHistory s (e ∷ before) → IsAsked (e ∷ before)
+      → eqb e.entry.hart.0 h ≡ false → IsLeft m before → IsLeft m (e ∷ before)
+  apart m e before run asked other (coming n sum few was) =
+      coming n sum few (apart_coming e before run asked n other was)
+  apart m e before run asked other (going n sum was) = going n sum (apart_going e before run asked n other was)
+
+  drained : (m : ℕ) (e : Event) (before : History) → IsRunHistory s (e ∷ before) → IsAsked (e ∷ before)
+      → e.entry.hart.0 ≡ h → e.entry.kind ≡ kind.Drain → IsLeft m before → IsLeft m (e ∷ before)
+  drained m e before run asked own is (coming n sum few was) =
+      coming n sum few (drained_coming e before run asked own n is was)
+  drained m e before run asked own is (going n sum was) =
+      going n sum (drained_going e before run asked own n is was)
+
+  executed : (m : ℕ) (e : Event) (before : History) → IsRunHistory s (e ∷ before) → IsAsked (e ∷ before)
+      → e.entry.hart.0 ≡ h → e.entry.kind ≡ kind.Exec → IsLeft m before
+      → IsAdded s p at h t (e ∷ before) ⊎ ((k : ℕ) × (k < m) × IsLeft k (e ∷ before))
+  executed m e before run asked own is (coming n sum few was) =
+      executed_coming e before run asked own is n m sum few was
+  executed m e before run asked own is (going n sum was) = executed_going e before run asked own is n m sum was
+
+  pub comes_to_add : (log rest : List Entry) → IsBlockRun s (log ++ rest)
+      → HoldsAdd s (history s (log ++ rest)) p at area t → CanAlwaysBegin s b t (history s (log ++ rest))
+      → running s h (history s log) ≡ Some t → (file s t (history s log)).pc ≡ at → IsUndisturbed h rest
+      → 11 ≤ executed_on h rest → Brings s h 11 (IsAdded s p at h t) log rest
+  comes_to_add log rest run held begins runs pc calm many =
+      brought s h IsAsked fewer IsLeft (IsAdded s p at h t) apart drained executed rest log 10 run
+      (record { held = held; begins = begins }) calm
+      (coming 0 (omega arith) (omega arith) (record {
+        runs = runs;
+        pc = pc ∙ omega arith;
+        chosen = λ some. absurd (omega arith);
+        closed = λ some. absurd (omega arith);
+      })) many
