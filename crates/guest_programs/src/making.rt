@@ -1,0 +1,42 @@
+//! Makes a guest.
+
+ghost use Rattle.std.specs.Prelude.{◌≡◌, ◌<◌, All, false, Err, IfOk, IfErr};
+ghost use Rattle.guest_names.specs.Guests.{is_size};
+ghost use Rattle.guest_programs.specs.Guests.{IsFaultOf, IsGuestFile};
+
+use crate::data::data_of;
+use crate::emitting::assembler;
+use crate::fault::GuestFault;
+use crate::parts::parts_of;
+use elf_make::write_elf;
+use guest_names::Name;
+use std::alloc::Global;
+
+/// What was written are bytes.
+fn shows_bytes(bytes: &[u8])
+    ensures { All (λ b. b < 256) bytes.now }
+{}
+
+/// Makes a guest for a size: the bytes of an ELF file.
+pub fn make(alloc: Global, name: Name, n: u64) -> Result<Vec<u8>, GuestFault>
+    ensures guest { IfOk result (λ file. IsGuestFile name n file.items) }
+    ensures size { is_size name n ≡ false → result ≡ Err (GuestFault.BadSize n) }
+    ensures fault { IfErr result (λ fault. IsFaultOf name n fault) }
+{
+    if !name.takes(n) {
+        return Err(GuestFault::BadSize(n));
+    }
+    let Ok(asm) = assembler(alloc, name) else {
+        return Err(GuestFault::NoMemory);
+    };
+    let data = data_of(alloc, &asm, n)?;
+    let Ok(code) = asm.finish(alloc) else {
+        return Err(GuestFault::NoMemory);
+    };
+    let parts = parts_of(alloc, code, data)?;
+    let Ok(file) = write_elf(alloc, &parts) else {
+        return Err(GuestFault::NoMemory);
+    };
+    shows_bytes(&file);
+    Ok(file)
+}
