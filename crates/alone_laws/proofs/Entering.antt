@@ -25,6 +25,7 @@ use Rattle.block_model.specs.Setting.{Setting}
 use Rattle.block_model.proofs.Laws.{Begins, Elsewhere, IsOf, IsStep, Own, SequenceStep, TakesIn, allowed_at}
 use Rattle.block_model.proofs.Laws.{file_apart, runs_apart, sequence_step, step_of}
 use Rattle.alone_laws.specs.Entering.{AreEntered, IsIn}
+use Rattle.alone_laws.proofs.OpenSequences.{still_open}
 use Rattle.alone_laws.proofs.Sequences.{is_none_true}
 use Rattle.alone_laws.proofs.Steps.{drain_idle, take_idle}
 
@@ -115,9 +116,7 @@ module _ (s : Setting) (range : Seq) (t h : ℕ) where
           let q = earlier there (sym (ap (λ (f : Saved). is_inside range f.pc) same) ∙ here)
           (λ is. past (ap (λ (f : Saved). f.pc) same ∙ is)) in (
             q.0,
-            ap (λ b. cond (not b) (sequence_on s h before)
-                (cond (is_inside_at s h before) (taken_up h e before (sequence_on s h before)) None)) apart
-                ∙ q.1,
+            still_open s h e before apart ∙ q.1,
           )
       by_hart earlier true own =
           let is = eqb-true e.entry.hart.0 h own in

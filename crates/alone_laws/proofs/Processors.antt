@@ -15,7 +15,6 @@ use Rattle.mach_types.specs.declared.sequences.Outcome.TheVariants as comes_to
 use Rattle.mach_types.specs.declared.user_memory.Store.{Store}
 use Rattle.mach_types.specs.declared.user_memory.Write.{Write}
 use Rattle.block_model.specs.Events.{done_of, refusal_of}
-use Rattle.mach_types.specs.declared.limits.End.TheVariants.{Killed}
 use Rattle.block_model.specs.Record.{Kernel}
 use Rattle.block_model.specs.Events.Drain.{done_drain_of}
 use Rattle.block_model.specs.Events.Run.{done_killed, done_run, done_running, lives_on, refusal_run}
@@ -25,13 +24,13 @@ use Rattle.block_model.specs.Ids.{id_of, next_id}
 use Rattle.block_model.specs.Run.{IsRunHistory}
 use Rattle.block_model.specs.Sequences.{area_here, can_write_words, interruption_here, words_to}
 use Rattle.block_model.specs.Setting.{Setting}
-use Rattle.block_model.specs.Tables.{on}
 use Rattle.block_model.proofs.Laws.{IsAreaAfter, IsStep, area_stays, drains_none, new_area, no_area}
 use Rattle.block_model.proofs.Laws.{not_ready, one_hart, own_area, ran_before, ran_runs, run_ready}
 use Rattle.block_model.proofs.Laws.{runs_apart, stays_area, step_of}
 use Rattle.alone_laws.specs.Areas.{LeavesProcessor, ProcessorKept}
 use Rattle.alone_laws.specs.Blocks.{among}
 use Rattle.alone_laws.specs.Spans.{Leaves, seen_at, sees}
+use Rattle.alone_laws.proofs.EventKinds.{kind_is_not}
 use Rattle.alone_laws.proofs.Sequences.{each_among}
 use Rattle.alone_laws.proofs.StoredWords.{beside_word, stored_word}
 use Rattle.alone_laws.proofs.Steps.{IsIdle, drain_idle, overlay_append, sees_idle, sees_apart, word_same}
@@ -59,32 +58,6 @@ lives_words here u comes_to.Nothing is = is
 lives_words here u comes_to.Cleared is = is
 lives_words here u (comes_to.Aborted at) is = is
 lives_words here u (comes_to.Killed why) is = absurd (false≢true is)
-
--- KINDS
-
-abbrev is_run : Kind → Bool
-is_run kind.Exec = false
-is_run kind.Drain = false
-is_run kind.Take = false
-is_run kind.Done = false
-is_run kind.Preempt = false
-is_run kind.Run = true
-is_run kind.Signal = false
-
-abbrev is_drain : Kind → Bool
-is_drain kind.Exec = false
-is_drain kind.Drain = true
-is_drain kind.Take = false
-is_drain kind.Done = false
-is_drain kind.Preempt = false
-is_drain kind.Run = false
-is_drain kind.Signal = false
-
-not_run : (j k : Kind) → j ≡ k → is_run k ≡ false → j ≢ kind.Run
-not_run j k is other same = false≢true (sym other ∙ ap is_run (sym is ∙ same))
-
-not_drain : (j k : Kind) → j ≡ k → is_drain k ≡ false → j ≢ kind.Drain
-not_drain j k is other same = false≢true (sym other ∙ ap is_drain (sym is ∙ same))
 
 -- one of the area's two words with the processor: cpu_id_start or cpu_id
 module _ (s : Setting) (t : ℕ) (area : Area) (off : ℕ) (word : (off ≡ 0) ⊎ (off ≡ 4)) (few : s.limits.harts ≤ 8)
@@ -317,12 +290,12 @@ module _ (s : Setting) (t : ℕ) (area : Area) (off : ℕ) (word : (off ≡ 0) �
         → (k : Kind) → e.entry.kind ≡ k → Tells e.entry.hart.0 (e ∷ before)
     told_kind e before run kept now has was kind.Run is = told_run e before run is now has
     told_kind e before run kept now has was kind.Drain is =
-        let other = not_run e.entry.kind kind.Drain is refl in
+        let other = kind_is_not e.entry.kind kind.Drain kind.Run is refl in
         told_drain e before run is has (was (ran_before s e before run other t now))
     told_kind e before run kept now has was k is =
-        let other = not_run e.entry.kind k is refl in
+        let other = kind_is_not e.entry.kind k kind.Run is refl in
         let at = ran_before s e before run other t now in
-        told_by e before run kept other (not_drain e.entry.kind k is refl) at has (was at)
+        told_by e before run kept other (kind_is_not e.entry.kind k kind.Drain is refl) at has (was at)
 
     -- in a run the area of a thread that runs tells its processor
     told : (before : History) (h : ℕ) → IsRunHistory s before → ProcessorKept s t area before

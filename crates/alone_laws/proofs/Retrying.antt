@@ -1,12 +1,11 @@
 -- What the words of a block keep of a thread's registers, its retries keep.
-use Rattle.std.proofs.Common.{◌≡◌, ◌≢◌, ℕ, ◌+◌, ◌*◌, ◌<◌, List, [], ◌∷◌, ◌++◌, refl, sym, ap, ◌∙◌, subst, Bool}
+use Rattle.std.proofs.Common.{◌≡◌, ◌≢◌, ℕ, List, [], ◌∷◌, ◌++◌, refl, sym, ap, ◌∙◌, subst, Bool}
 use Rattle.std.proofs.Common.{true, false, cond, eqb, ◌⊎◌, inl, inr, Option, Some, None, append_assoc, append-nil}
 use Rattle.std.proofs.lemmas.Bool.{eqb-true}
 use Rattle.mach_types.proofs.Laws.{eqb_same}
 use Rattle.mach_types.specs.Events.{choice_of}
 use Rattle.mach_types.specs.Kernel.Areas.{is_inside}
 use Rattle.mach_types.specs.Kernel.Threads.{running_on}
-use Rattle.mach_types.specs.declared.events.Choice.TheVariants as asked
 use Rattle.mach_types.specs.declared.events.Entry.{Entry}
 use Rattle.mach_types.specs.declared.registers.Regs.{Regs}
 use Rattle.mach_types.specs.declared.threads.Saved.{Saved}
@@ -16,10 +15,8 @@ use Rattle.rv_inst.specs.declared.effects.Effect.{Effect}
 use Rattle.alone.specs.Alone.{effect_at}
 use Rattle.block_model.specs.Deciding.{event, history}
 use Rattle.block_model.specs.Events.{done_of}
-use Rattle.block_model.specs.Events.Drain.{done_drain_of}
 use Rattle.block_model.specs.Events.Exec.{by_call, by_effect, by_outcome, called_here, done_exec_by}
 use Rattle.block_model.specs.Events.Exec.{next_effect, outcome_of}
-use Rattle.block_model.specs.Events.Take.{done_take}
 use Rattle.block_model.specs.Here.{Done, Here, runs, view, waiting_here}
 use Rattle.block_model.specs.History.{Event, History, file, file_among, here_in_history, running}
 use Rattle.block_model.specs.Record.{Kernel}
@@ -28,7 +25,7 @@ use Rattle.block_model.specs.Setting.{Setting}
 use Rattle.block_model.specs.Walks.{AreOfWalk, IsOfWalk}
 use Rattle.block_model.proofs.Laws.{HasRegisters, IsStep, file_apart, has_registers, history-append, run_before}
 use Rattle.block_model.proofs.Laws.{runs_apart, step_of}
-use Rattle.alone_laws.specs.Retries.{IsAtWork, IsBetween, IsWalkAtWork, Retries, begins, goes_on, post_commit}
+use Rattle.alone_laws.specs.Retries.{IsAtWork, Retries, begins, goes_on, post_commit}
 use Rattle.alone_laws.specs.Retries.{walks}
 use Rattle.alone_laws.specs.Spans.{code_of}
 use Rattle.alone_laws.specs.Uses.{Placed, in_block}

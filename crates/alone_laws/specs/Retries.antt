@@ -1,6 +1,6 @@
 -- Retries: a thread that executes words of a block, is interrupted there, and goes on, until it comes to the
 -- post-commit address or leaves the block (own; rseq(2)).
-use Rattle.std.specs.Prelude.{ℕ, ◌≡◌, ◌≢◌, ◌+◌, ◌⊎◌, true, List, [], ◌++◌}
+use Rattle.std.specs.Prelude.{ℕ, ◌≡◌, ◌≢◌, ◌+◌, ◌⊎◌, true, List, ◌++◌}
 use Rattle.mach_types.specs.Kernel.Areas.{is_inside}
 use Rattle.mach_types.specs.declared.events.Entry.{Entry}
 use Rattle.block_model.specs.Deciding.{history}

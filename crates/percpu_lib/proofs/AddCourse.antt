@@ -1,91 +1,58 @@
 -- A thread at the retry label of an add block, whose hart is left undisturbed, is at the post-commit address after
 -- eleven instructions, by a sequence that is whole.
-use Rattle.std.proofs.Common.{◌≡◌, ◌≢◌, ℕ, zero, suc, ◌+◌, ◌*◌, ◌-◌, ◌%◌, ◌^◌, ◌<◌, ◌≤◌, ◌⊎◌, inl, inr, List, [], ◌++◌}
-use Rattle.std.proofs.Common.{◌∷◌, refl, sym, ap, ◌∙◌, arith, subst, Bool, true, false, not, cond, eqb, ltb}
-use Rattle.std.proofs.Common.{Option, Some, None, pos, negsuc}
-use Rattle.std.proofs.lemmas.Bool.{false≢true, lt-ltb}
+use Rattle.std.proofs.Common.{◌≡◌, ℕ, zero, suc, ◌+◌, ◌*◌, ◌-◌, ◌%◌, ◌^◌, ◌<◌, ◌≤◌, ◌⊎◌, inl, inr, List, ◌++◌}
+use Rattle.std.proofs.Common.{◌∷◌, refl, sym, ap, ◌∙◌, arith, subst, Bool, true, false, eqb, ltb}
+use Rattle.std.proofs.Common.{Option, Some, None, pos}
+use Rattle.std.proofs.lemmas.Bool.{lt-ltb}
 use Rattle.mach_types.proofs.Laws.{eqb_same}
-use Rattle.mach_types.specs.Bytes.{word_at}
 use Rattle.mach_types.specs.Events.{choice_with}
-use Rattle.mach_types.specs.Kernel.Areas.{area_of, is_inside}
+use Rattle.mach_types.specs.Kernel.Areas.{is_inside}
 use Rattle.mach_types.specs.Kernel.Threads.{running_on}
 use Rattle.mach_types.specs.Registers.{register}
 use Rattle.mach_types.specs.declared.events.Entry.{Entry}
 use Rattle.mach_types.specs.declared.events.Kind.TheVariants as kind
 use Rattle.mach_types.specs.declared.sequences.Area.{Area}
-use Rattle.mach_types.specs.declared.sequences.Named.TheVariants as names
 use Rattle.mach_types.specs.declared.threads.Saved.{Saved}
 use Rattle.rv_inst.specs.declared.instruction.Inst.{Inst}
 use Rattle.rv_inst.specs.declared.instruction.Inst.TheVariants as inst
 use Rattle.rv_inst.specs.Memory.{low_bytes}
 use Rattle.rv_inst.specs.Words.{sum_64, word}
-use Rattle.alone.specs.Temps.{IsLike, is_scratch, put}
+use Rattle.alone.specs.Temps.{is_scratch}
 use Rattle.alone.proofs.Laws.{loaded_small}
 use Rattle.alone.proofs.Means.{means_addi, means_lui, means_lw, means_sd}
-use Rattle.block_model.specs.Acts.{Sequence, begun_with, is_inside_at, is_instruction, is_taken_in}
-use Rattle.block_model.specs.Acts.{sequence_on, taken_up, with_event}
-use Rattle.block_model.specs.Deciding.{history, number_of, thread_in}
+use Rattle.block_model.specs.Acts.{Sequence, begun_with, is_inside_at}
+use Rattle.block_model.specs.Acts.{sequence_on, with_event}
+use Rattle.block_model.specs.Deciding.{history}
 use Rattle.block_model.specs.Events.{done_of}
 use Rattle.block_model.specs.Events.Drain.{done_drain_of}
 use Rattle.block_model.specs.Here.{waiting_here}
-use Rattle.block_model.specs.History.{Event, History, file, file_among, here_in_history, kernel, running}
+use Rattle.block_model.specs.History.{Event, History, file, file_among, here_in_history, running}
 use Rattle.block_model.specs.Record.{Kernel}
 use Rattle.block_model.specs.Run.{IsBlockRun, IsRunHistory}
 use Rattle.block_model.specs.Setting.{Setting}
 use Rattle.block_model.proofs.Laws.{IsStep, file_apart, has_registers, runs_apart, step_of}
-use Rattle.alone_laws.specs.Blocks.{Block, IsFair, IsFairSince, IsSoFar, IsSole, among}
+use Rattle.alone_laws.specs.Blocks.{IsFairSince, IsSoFar, among}
 use Rattle.alone_laws.specs.Entering.{IsIn}
-use Rattle.alone_laws.specs.Spans.{alone_from, code_of, seen_at}
+use Rattle.alone_laws.specs.Spans.{alone_from, code_of}
 use Rattle.alone_laws.specs.Undisturbed.{Brings, IsUndisturbed, executed_on}
 use Rattle.alone_laws.specs.Uses.{CanAlwaysBegin, CanBegin, IsWellPlaced, Placed, is_before}
 use Rattle.alone_laws.proofs.Arrivals.{IsCode}
 use Rattle.alone_laws.proofs.Entered.{entered, points}
 use Rattle.alone_laws.proofs.Entering.{goes_there, inside_there}
-use Rattle.alone_laws.proofs.OneStep.{IsStepped, step_load, step_next, step_store}
+use Rattle.alone_laws.proofs.OneStep.{step_load, step_next, step_store}
+use Rattle.alone_laws.proofs.OpenSequences.{its_thread, none_drained, none_open, one_begun, one_drained}
+use Rattle.alone_laws.proofs.OpenSequences.{one_executed, still_open}
 use Rattle.alone_laws.proofs.Processors.{tells, tells_first}
 use Rattle.alone_laws.proofs.Sequences.{apart_step, each_among, exec_step, so_far, starts}
 use Rattle.alone_laws.proofs.Steps.{IsIdle, drain_idle, standing_drain}
 use Rattle.alone_laws.proofs.Undisturbed.{brought}
-use Rattle.percpu_lib.specs.Adds.{IsAddPlace, IsWholeAdd, add_block, add_of, add_range, placed_add}
+use Rattle.percpu_lib.specs.Adds.{IsAddPlace, IsWholeAdd, add_of, add_range, placed_add}
 use Rattle.percpu_lib.specs.Uses.{HoldsAdd, IsAdded, IsAtStart, cells_of}
 use Rattle.percpu_lib.specs.Words.{lower, upper}
 use Rattle.percpu_lib.specs.declared.slots.Slots.{Slots}
 use Rattle.percpu_lib.proofs.AddCode.{KnowsTable, add_code, add_placed, within_range}
 use Rattle.percpu_lib.proofs.AddLaw.{add_sole, adds_once, gone_on}
 use Rattle.percpu_lib.proofs.UsesLaw.{fair_since, held_before}
-
--- SEQUENCES
-
-module _ (s : Setting) (h : ℕ) (e : Event) (before : History) (own : e.entry.hart.0 ≡ h) where
-  of_hart : eqb e.entry.hart.0 h ≡ true
-  of_hart = ap (λ n. eqb n h) own ∙ eqb_same h
-
-  -- where its thread is inside nothing before an event of its hart, none is open after it
-  none_open : is_inside_at s h before ≡ false → sequence_on s h (e ∷ before) ≡ None
-  none_open out =
-      ap (λ b. cond (not b) (sequence_on s h before)
-      (cond (is_inside_at s h before) (taken_up h e before (sequence_on s h before)) None)) of_hart
-      ∙ ap (λ b. cond b (taken_up h e before (sequence_on s h before)) None) out
-
-  -- where it is inside, and what its event does to the sequence that is open
-  taken : (o : Option Sequence) → is_inside_at s h before ≡ true → sequence_on s h before ≡ o
-      → sequence_on s h (e ∷ before) ≡ taken_up h e before o
-  taken o inside was =
-      ap (λ b. cond (not b) (sequence_on s h before)
-      (cond (is_inside_at s h before) (taken_up h e before (sequence_on s h before)) None)) of_hart
-      ∙ ap (λ b. cond b (taken_up h e before (sequence_on s h before)) None) inside
-      ∙ ap (taken_up h e before) was
-
-  -- a store that enters memory begins none
-  none_drained : e.entry.kind ≡ kind.Drain → sequence_on s h before ≡ None → sequence_on s h (e ∷ before) ≡ None
-  none_drained is none = by_case (is_inside_at s h before) refl
-    where
-      by_case : (c : Bool) → is_inside_at s h before ≡ c → sequence_on s h (e ∷ before) ≡ None
-      by_case true inside = taken None inside none
-          ∙ ap (λ k. cond (is_instruction k) (Some (begun_with h e before)) None) is
-      by_case false out = none_open out
-
--- THE COURSE
 
 module _ (s : Setting) (p : Slots) (at : ℕ) (area : Area) (h t : ℕ) where
   abbrev b : Placed
@@ -161,9 +128,7 @@ module _ (s : Setting) (p : Slots) (at : ℕ) (area : Area) (h t : ℕ) where
           runs = runs_apart s h e before step apart ∙ was.runs;
           pc = ap (λ (f : Saved). f.pc) same ∙ was.pc;
           chosen = λ some. ap (λ (f : Saved). register f.file 5) same ∙ was.chosen some;
-          closed = λ some. ap (λ b. cond (not b) (sequence_on s h before)
-              (cond (is_inside_at s h before) (taken_up h e before (sequence_on s h before)) None)) apart
-              ∙ was.closed some;
+          closed = λ some. still_open s h e before apart ∙ was.closed some;
         }
 
     apart_going : (n : ℕ) → eqb e.entry.hart.0 h ≡ false → IsGoing n before → IsGoing n (e ∷ before)
@@ -175,8 +140,7 @@ module _ (s : Setting) (p : Slots) (at : ℕ) (area : Area) (h t : ℕ) where
           begun = was.begun;
           chosen = was.chosen;
           thread = was.thread;
-          is = ap (λ b. cond (not b) (sequence_on s h before)
-              (cond (is_inside_at s h before) (taken_up h e before (sequence_on s h before)) None)) apart ∙ was.is;
+          is = still_open s h e before apart ∙ was.is;
           place = was.place;
           so = apart_step s (add_of p at area cells h) h t q.begun
               (add_sole s p at area cells h t q.begun held.stands held.slots was.place) e before q.reached n step
@@ -222,8 +186,7 @@ module _ (s : Setting) (p : Slots) (at : ℕ) (area : Area) (h t : ℕ) where
             begun = was.begun;
             chosen = was.chosen;
             thread = was.thread;
-            is = taken s h e before own (Some q) (in_range_now n was) was.is
-                ∙ ap (λ k. cond (is_taken_in k e.done.interrupted) (Some (with_event e before q)) None) is;
+            is = one_drained s h e before own (in_range_now n was) q is was.is;
             place = was.place;
             so = so_far s block h t q.begun sole (e ∷ before) n was.so.below
                 (standing_drain s block.words h t q.begun e before (alone_from s h t q.begun n) step own
@@ -288,20 +251,12 @@ module _ (s : Setting) (p : Slots) (at : ℕ) (area : Area) (h t : ℕ) where
             let sole = add_sole s p at area cells h t q.begun held.stands held.slots was.place in
             let inside = in_range_now n was in
             advanced n m (with_event e before q) sum was.begun was.chosen was.thread
-            (taken s h e before own (Some q) inside was.is
-            ∙ ap (λ k. cond (is_taken_in k e.done.interrupted) (Some (with_event e before q)) None) executes)
+            (one_executed s h e before own inside q executes was.is)
             refl was.place
             (exec_step s block h t q.begun sole e before q.reached n step
             (held.used.1.fair h q.begun was.begun (inr (q, was.is, refl))) own executes inside was.so)
 
         -- the first one
-        its_thread : running s h before ≡ Some t → e.entry.tid.0 ≡ t
-        its_thread runs =
-            let here = here_in_history s before e.entry.hart.0 in
-            ap (λ (x : Entry). x.tid.0) step.is
-            ∙ ap (λ k. number_of (thread_in (choice_with k e.entry) here)) executes
-            ∙ ap (λ k. number_of (running s k before)) own ∙ ap number_of runs
-
         executed_first : (m : ℕ) → m ≡ 6 → IsComing 4 before → Next m
         executed_first m sum was =
             let cells = cells_of s p t before in
@@ -323,9 +278,8 @@ module _ (s : Setting) (p : Slots) (at : ℕ) (area : Area) (h t : ℕ) where
             } in
             let sole = add_sole s p at area cells h t before held.stands held.slots place in
             advanced 0 m (begun_with h e before) (omega (arith, sum)) start
-            (ap (λ n. eqb h n) (was.chosen (omega arith)) ∙ eqb_same h) (its_thread was.runs)
-            (taken s h e before own None inside (was.closed (omega arith))
-            ∙ ap (λ k. cond (is_instruction k) (Some (begun_with h e before)) None) executes)
+            (ap (λ n. eqb h n) (was.chosen (omega arith)) ∙ eqb_same h) (its_thread s h e before own t step executes was.runs)
+            (one_begun s h e before own inside executes (was.closed (omega arith)))
             refl place
             (exec_step s block h t before sole e before before 0 step fair own executes inside
             (starts s block h t before was.runs sole before refl))

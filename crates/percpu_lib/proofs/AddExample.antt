@@ -1,7 +1,7 @@
 -- A worked log, by computation: a thread registers its area and is to add 32 to the cell of its processor by an
 -- add block. It is preempted inside, begins anew at the abort handler, and adds once. It uses the block as
 -- HoldsAdd asks.
-use Rattle.std.proofs.Common.{◌≡◌, ℕ, suc, zero, ◌+◌, ◌*◌, ◌^◌, ◌<◌, ◌≤◌, List, [], ◌∷◌, ◌++◌, replicate, take, refl, ap, ◌∙◌}
+use Rattle.std.proofs.Common.{◌≡◌, ℕ, suc, zero, ◌+◌, ◌*◌, ◌^◌, ◌<◌, ◌≤◌, List, [], ◌∷◌, ◌++◌, replicate, take, drop, refl, ap, ◌∙◌}
 use Rattle.std.proofs.Common.{subst, arith, true, Option, Some, None, Ok, slice_get, unwrap_or, ◌⊎◌, inl, inr}
 use Rattle.std.proofs.lemmas.Bool.{eqb-false, leb-true, ltb-true}
 use Rattle.mach_types.specs.Kernel.Areas.{are_readable, is_inside, number_at}
@@ -225,19 +225,7 @@ abbrev pub earlier : List Entry
 earlier = take 19 log
 
 abbrev pub rest : List Entry
-rest =
-    entry kind.Exec 0x100D0
-    ∷ entry kind.Exec 0x100D4
-    ∷ entry kind.Exec 0x100D8
-    ∷ entry kind.Exec 0x100DC
-    ∷ entry kind.Exec 0x100E0
-    ∷ entry kind.Exec 0x100E4
-    ∷ entry kind.Drain 0x100E8
-    ∷ entry kind.Exec 0x100E8
-    ∷ entry kind.Exec 0x100EC
-    ∷ entry kind.Exec 0x100F0
-    ∷ entry kind.Exec 0x100F4
-    ∷ entry kind.Exec 0x100F8 ∷ []
+rest = drop 19 log
 
 pub runs_anew : running adding 0 (history adding earlier) ≡ Some 1
 unfolding decide history done meaning row_of rows lui_rows auipc_rows jal_rows jalr_rows branch_rows load_rows store_rows op_imm_rows op_imm_32_rows op_rows op_32_rows misc_mem_rows amo_rows system_rows are_readable number_at
@@ -280,20 +268,13 @@ abbrev pub first_time : List Entry
 first_time = take 9 log
 
 abbrev to_seventh : List Entry
-to_seventh =
-    entry kind.Exec 0x100D0
-    ∷ entry kind.Exec 0x100D4
-    ∷ entry kind.Exec 0x100D8
-    ∷ entry kind.Exec 0x100DC
-    ∷ entry kind.Exec 0x100E0
-    ∷ entry kind.Exec 0x100E4
-    ∷ entry kind.Drain 0x100E8 ∷ []
+to_seventh = take 7 (drop 9 log)
 
 abbrev interrupted : List Entry
-interrupted = entry kind.Preempt 0x100E8 ∷ entry kind.Run 0x100E8 ∷ []
+interrupted = take 2 (drop 16 log)
 
 abbrev back : List Entry
-back = entry kind.Exec 0x10104 ∷ []
+back = take 1 (drop 18 log)
 
 runs_first : running adding 0 (history adding first_time) ≡ Some 1
 unfolding decide history done meaning row_of rows lui_rows auipc_rows jal_rows jalr_rows branch_rows load_rows store_rows op_imm_rows op_imm_32_rows op_rows op_32_rows misc_mem_rows amo_rows system_rows are_readable number_at

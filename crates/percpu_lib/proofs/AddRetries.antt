@@ -1,22 +1,17 @@
 -- No word of an add block changes the value, so each of its retries works on the value that came in.
-use Rattle.std.proofs.Common.{◌≡◌, ◌≢◌, ℕ, ◌+◌, ◌*◌, ◌%◌, ◌^◌, ◌<◌, ◌≤◌, List, ◌++◌, refl, sym, ap, ◌∙◌, arith, true, Option}
-use Rattle.std.proofs.Common.{None}
+use Rattle.std.proofs.Common.{◌≡◌, ℕ, List, ◌++◌, refl, ◌∙◌, arith}
 use Rattle.mach_types.specs.Registers.{register}
 use Rattle.mach_types.specs.declared.events.Entry.{Entry}
 use Rattle.mach_types.specs.declared.registers.Regs.{Regs}
 use Rattle.mach_types.specs.declared.sequences.Area.{Area}
 use Rattle.mach_types.specs.declared.threads.Saved.{Saved}
-use Rattle.rv_inst.specs.Execution.{Outcome, outcome}
-use Rattle.rv_inst.specs.declared.effects.Effect.{Effect}
-use Rattle.alone.specs.Alone.{effect_at}
+use Rattle.rv_inst.specs.Execution.{outcome}
 use Rattle.block_model.specs.Deciding.{history}
 use Rattle.block_model.specs.History.{History, file}
 use Rattle.block_model.specs.Run.{IsBlockRun}
 use Rattle.block_model.specs.Setting.{Setting}
-use Rattle.block_model.proofs.Laws.{HasRegisters}
 use Rattle.alone_laws.specs.Retries.{Retries}
-use Rattle.alone_laws.specs.Spans.{code_of}
-use Rattle.alone_laws.specs.Uses.{Placed, in_block}
+use Rattle.alone_laws.specs.Uses.{Placed}
 use Rattle.alone_laws.proofs.Arrivals.{IsCode, KnowsAt}
 use Rattle.alone_laws.proofs.Retrying.{IsKept, first_place, known_throughout}
 use Rattle.percpu_lib.specs.Adds.{placed_add}

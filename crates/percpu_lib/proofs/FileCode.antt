@@ -1,7 +1,7 @@
 -- A machine that runs the image of a file fetches the words of the code that stands in the file.
-use Rattle.std.proofs.Common.{◌≡◌, ◌≢◌, ℕ, zero, suc, ◌+◌, ◌*◌, ◌-◌, ◌/◌, ◌%◌, ◌^◌, ◌<◌, ◌≤◌, ◌⊎◌, inl, inr, List, []}
+use Rattle.std.proofs.Common.{◌≡◌, ◌≢◌, ℕ, zero, suc, ◌+◌, ◌*◌, ◌/◌, ◌%◌, ◌^◌, ◌<◌, ◌≤◌, ◌⊎◌, inl, inr, List, []}
 use Rattle.std.proofs.Common.{◌∷◌, ◌++◌, length, map, find, refl, sym, ap, ◌∙◌, subst, arith, Bool, true, false, cond}
-use Rattle.std.proofs.Common.{◌&&◌, ◌||◌, eqb, leb, ltb, All, Option, Some, None, get_or, slice_get, slice_index, unwrap_or}
+use Rattle.std.proofs.Common.{◌&&◌, ◌||◌, eqb, leb, ltb, All, Option, Some, None, slice_get, slice_index, unwrap_or}
 use Rattle.std.specs.Option.{option_map}
 use Rattle.std.specs.List.{Contains, flat_map, list_any}
 use Rattle.std.specs.Int.{to_le_bytes, w32}
@@ -11,7 +11,7 @@ use Rattle.std.proofs.lemmas.List.Elements.{All-head, All-tail}
 use Rattle.std.proofs.lemmas.List.Concat.{flat_map-cons}
 use Rattle.std.proofs.lemmas.Option.{slice_get_within}
 use Rattle.mach_types.proofs.Laws.{eqb_same}
-use Rattle.mach_types.specs.Bytes.{byte_of, word_at}
+use Rattle.mach_types.specs.Bytes.{byte_of}
 use Rattle.mach_types.specs.Kernel.Pages.{can_execute, is_in, permission_of}
 use Rattle.elf_load.specs.Fields.{has_page, program_headers}
 use Rattle.elf_load.specs.Images.{IsImage, IsPage, memory_byte, numbers, page_permission, permission}

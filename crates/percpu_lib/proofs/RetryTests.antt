@@ -2,7 +2,7 @@
 use Rattle.std.proofs.Common.{◌≡◌, ℕ, List, [], ◌∷◌, ◌++◌, refl, sym, ap, ◌∙◌, subst, Bool, true, false, not, ◌&&◌}
 use Rattle.std.proofs.Common.{eqb, Option, Some, None, is_none, inl, inr, append_assoc, append-nil}
 use Rattle.std.specs.Option.{option_map_or}
-use Rattle.std.proofs.lemmas.Bool.{and_parts, eqb-false, eqb-true, false≢true}
+use Rattle.std.proofs.lemmas.Bool.{and_parts, eqb-false, eqb-true, false≢true, not-true}
 use Rattle.mach_types.specs.Events.{choice_with}
 use Rattle.mach_types.specs.declared.events.Entry.{Entry}
 use Rattle.mach_types.specs.declared.events.Kind.{Kind}
@@ -10,7 +10,6 @@ use Rattle.mach_types.specs.declared.events.Kind.TheVariants as kind
 use Rattle.mach_types.specs.declared.registers.Regs.{Regs}
 use Rattle.rv_inst.specs.Class.{is_call}
 use Rattle.rv_inst.specs.declared.effects.Effect.{Effect}
-use Rattle.rv_inst.specs.declared.effects.Effect.TheVariants.{Call}
 use Rattle.block_model.specs.Deciding.{history}
 use Rattle.block_model.specs.Events.Exec.{next_effect, next_fault}
 use Rattle.block_model.specs.History.{History, file, here_in_history, running}
@@ -33,10 +32,6 @@ is_step kind.Signal passes = false
 none_is : (o : Option ℕ) → is_none o ≡ true → o ≡ None
 none_is None is = refl
 none_is (Some n) is = absurd (false≢true is)
-
-not_is : (b : Bool) → not b ≡ true → b ≡ false
-not_is true is = absurd (false≢true is)
-not_is false is = refl
 
 -- registers that are the same, one after another
 abbrev same_numbers : List ℕ → List ℕ → Bool
@@ -83,7 +78,7 @@ module _ (s : Setting) (b : Placed) (h t : ℕ) where
       record {
         in_it = parts.0;
         uncommitted = eqb-false (file s t before).pc (post_commit b)
-            (not_is (eqb (file s t before).pc (post_commit b)) parts.1);
+            (not-true (eqb (file s t before).pc (post_commit b)) parts.1);
       }
 
   of_walk : (before : History) (e : Entry) (k : Kind) → e.kind ≡ k → is_step k (is_plain before) ≡ true

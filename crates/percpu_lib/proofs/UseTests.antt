@@ -7,19 +7,19 @@ use Rattle.std.specs.Option.{option_map_or}
 use Rattle.std.proofs.lemmas.Bool.Decides.{nat_tests}
 use Rattle.mach_types.proofs.Laws.{eqb_same}
 use Rattle.std.proofs.lemmas.Bool.{and_from, and_parts, cases_eq, eqb-true, false≢true, leb-true}
+use Rattle.std.proofs.lemmas.Bool.{not-true}
 use Rattle.mach_types.specs.Bytes.{byte_over, each_byte, overlay}
 use Rattle.mach_types.specs.Kernel.Areas.{area_of, can_read_area, can_read_descriptor, descriptor_at}
 use Rattle.mach_types.specs.Kernel.Areas.{has_flags, is_inside, is_signed, sequence_of}
 use Rattle.mach_types.specs.Kernel.Pages.{can_read, can_write, permission_at}
 use Rattle.mach_types.specs.Kernel.Threads.{is_live, is_ready}
 use Rattle.mach_types.specs.Registers.{register}
-use Rattle.mach_types.specs.declared.events.Kind.{Kind}
 use Rattle.mach_types.specs.declared.events.Kind.TheVariants as kind
 use Rattle.mach_types.specs.declared.sequences.Area.{Area}
 use Rattle.mach_types.specs.declared.sequences.Seq.{Seq}
 use Rattle.mach_types.specs.declared.user_memory.Store.{Store}
 use Rattle.mach_types.specs.declared.user_memory.Write.{Write}
-use Rattle.block_model.specs.Acts.{Sequence, is_inside_at, is_instruction, sequence_on, taken_up}
+use Rattle.block_model.specs.Acts.{Sequence, is_inside_at, is_instruction, sequence_on}
 use Rattle.block_model.specs.Here.{memory, view}
 use Rattle.block_model.specs.History.{Event, History, file, here_in_history, kernel, running}
 use Rattle.block_model.specs.Run.{IsRunHistory}
@@ -31,6 +31,9 @@ use Rattle.alone_laws.specs.Spans.{Leaves}
 use Rattle.alone_laws.specs.Uses.{AreUsed, Arrives, CanAlwaysBegin, CanBegin, IsDescribed, IsUsed, in_block}
 use Rattle.alone_laws.specs.Uses.{is_before}
 use Rattle.alone_laws.specs.Uses.{DeliversNone, at_first, executed, interrupted, stayed}
+use Rattle.alone_laws.proofs.EventKinds.{is_kind, kind_is}
+use Rattle.alone_laws.proofs.OpenSequences.{still_open}
+use Rattle.alone_laws.proofs.Sequences.{exec_kind}
 use Rattle.alone_laws.proofs.StoredWords.{among_low}
 use Rattle.percpu_lib.specs.Adds.{AreApart, IsAddBegin, add_of, add_range, cell_at, placed_add}
 use Rattle.percpu_lib.specs.Uses.{AreAddUsed, IsAddUsed, IsAtStart, cells_of}
@@ -49,10 +52,6 @@ either : (a b : Bool) → a || b ≡ true → (a ≡ true) ⊎ (b ≡ true)
 either true b is = inl refl
 either false b is = inr is
 
-not_is : (b : Bool) → not b ≡ true → b ≡ false
-not_is true is = absurd (false≢true is)
-not_is false is = refl
-
 abbrev is_just : Option ℕ → ℕ → Bool
 is_just o n = option_map_or (λ m. eqb m n) o false
 
@@ -67,60 +66,6 @@ is_empty (w ∷ ws) = false
 leaves_all : (words : ℕ → Bool) (ws : List Write) → is_empty ws ≡ true → Leaves words ws
 leaves_all words [] is a b has = refl
 leaves_all words (w ∷ ws) is a b has = absurd (false≢true is)
-
-abbrev is_drain : Kind → Bool
-is_drain kind.Exec = false
-is_drain kind.Drain = true
-is_drain kind.Take = false
-is_drain kind.Done = false
-is_drain kind.Preempt = false
-is_drain kind.Run = false
-is_drain kind.Signal = false
-
-drain_is : (k : Kind) → is_drain k ≡ true → k ≡ kind.Drain
-drain_is kind.Exec is = absurd (false≢true is)
-drain_is kind.Drain is = refl
-drain_is kind.Take is = absurd (false≢true is)
-drain_is kind.Done is = absurd (false≢true is)
-drain_is kind.Preempt is = absurd (false≢true is)
-drain_is kind.Run is = absurd (false≢true is)
-drain_is kind.Signal is = absurd (false≢true is)
-
-abbrev is_signal : Kind → Bool
-is_signal kind.Exec = false
-is_signal kind.Drain = false
-is_signal kind.Take = false
-is_signal kind.Done = false
-is_signal kind.Preempt = false
-is_signal kind.Run = false
-is_signal kind.Signal = true
-
-abbrev is_run : Kind → Bool
-is_run kind.Exec = false
-is_run kind.Drain = false
-is_run kind.Take = false
-is_run kind.Done = false
-is_run kind.Preempt = false
-is_run kind.Run = true
-is_run kind.Signal = false
-
-run_is : (k : Kind) → is_run k ≡ true → k ≡ kind.Run
-run_is kind.Exec is = absurd (false≢true is)
-run_is kind.Drain is = absurd (false≢true is)
-run_is kind.Take is = absurd (false≢true is)
-run_is kind.Done is = absurd (false≢true is)
-run_is kind.Preempt is = absurd (false≢true is)
-run_is kind.Run is = refl
-run_is kind.Signal is = absurd (false≢true is)
-
-instruction_is : (k : Kind) → is_instruction k ≡ true → k ≡ kind.Exec
-instruction_is kind.Exec is = refl
-instruction_is kind.Drain is = absurd (false≢true is)
-instruction_is kind.Take is = absurd (false≢true is)
-instruction_is kind.Done is = absurd (false≢true is)
-instruction_is kind.Preempt is = absurd (false≢true is)
-instruction_is kind.Run is = absurd (false≢true is)
-instruction_is kind.Signal is = absurd (false≢true is)
 
 -- BYTES
 
@@ -242,7 +187,7 @@ module _ (s : Setting) (p : Slots) (at : ℕ) (area : Area) (t : ℕ) where
 
   abbrev by_staying : Event → History → Bool
   by_staying e before =
-      not (is_signal e.entry.kind)
+      not (is_kind e.entry.kind kind.Signal)
       && (is_live t (kernel s before).threads && (eqb (file s t (e ∷ before)).pc (file s t before).pc
       || in_sequence (file s t before).pc))
 
@@ -262,7 +207,7 @@ module _ (s : Setting) (p : Slots) (at : ℕ) (area : Area) (t : ℕ) where
 
   abbrev begins_to_run : Event → History → Bool
   begins_to_run e before =
-      is_ready t (kernel s before).threads && (is_run e.entry.kind && eqb e.entry.tid.0 t)
+      is_ready t (kernel s before).threads && (is_kind e.entry.kind kind.Run && eqb e.entry.tid.0 t)
 
   abbrev on_hart_0 : History → Bool
   on_hart_0 before = runs_there before && is_described (view (here_in_history s before 0))
@@ -286,7 +231,7 @@ module _ (s : Setting) (p : Slots) (at : ℕ) (area : Area) (t : ℕ) where
   abbrev leaves_words : Event → History → Bool
   leaves_words e before =
       are_beside area.at 8 e.done.executed
-      && ((runs_there before && (is_drain e.entry.kind || is_empty e.done.entered)) || begins_to_run e before)
+      && ((runs_there before && (is_kind e.entry.kind kind.Drain || is_empty e.done.entered)) || begins_to_run e before)
 
   abbrev is_told : Event → History → Bool
   is_told e before = implies (has_area before) (leaves_words e before)
@@ -371,7 +316,7 @@ module _ (s : Setting) (p : Slots) (at : ℕ) (area : Area) (t : ℕ) where
         version = eqb-true d.version 0 three.0;
         sequence = range_is (sequence_of d) four.0;
         signed = five.0;
-        no_flags = not_is (has_flags byte area d) five.1;
+        no_flags = not-true (has_flags byte area d) five.1;
       }
 
   module _ (e : Event) (before : History) (step : IsStep s e before) (fine : is_fine e before ≡ true) where
@@ -417,8 +362,8 @@ module _ (s : Setting) (p : Slots) (at : ℕ) (area : Area) (t : ℕ) where
         by_way (either (eqb (file s t (e ∷ before)).pc at) (by_word e before || by_staying e before)
         (follows (in_words (file s t (e ∷ before)).pc) (comes e before) entered_is here))
       where
-        no_signal : not (is_signal e.entry.kind) ≡ true → DeliversNone s t e before
-        no_signal other signal = absurd (false≢true (sym (ap (λ k. not (is_signal k)) signal) ∙ other))
+        no_signal : not (is_kind e.entry.kind kind.Signal) ≡ true → DeliversNone s t e before
+        no_signal other signal = absurd (false≢true (sym (ap (λ k. not (is_kind k kind.Signal)) signal) ∙ other))
 
         by_place : is_live t (kernel s before).threads ≡ true → DeliversNone s t e before
             → (eqb (file s t (e ∷ before)).pc (file s t before).pc ≡ true)
@@ -432,9 +377,9 @@ module _ (s : Setting) (p : Slots) (at : ℕ) (area : Area) (t : ℕ) where
         by_event (inl word) =
             let one = and_parts (runs_there before) _ word in
             let two = and_parts (is_instruction e.entry.kind) (in_words (file s t before).pc) one.1 in
-            executed (on_own one.0) (instruction_is e.entry.kind two.0) two.1
+            executed (on_own one.0) (exec_kind e.entry.kind two.0) two.1
         by_event (inr stays) =
-            let one = and_parts (not (is_signal e.entry.kind)) _ stays in
+            let one = and_parts (not (is_kind e.entry.kind kind.Signal)) _ stays in
             let two = and_parts (is_live t (kernel s before).threads)
             (eqb (file s t (e ∷ before)).pc (file s t before).pc || in_sequence (file s t before).pc) one.1 in
             by_place two.0 (no_signal one.0)
@@ -454,9 +399,9 @@ module _ (s : Setting) (p : Slots) (at : ℕ) (area : Area) (t : ℕ) where
 
     not_named : begins_to_run e before ≡ true → (e.entry.kind ≡ kind.Run → e.entry.tid.0 ≢ t) → ⊥
     not_named begins other =
-        let parts = and_parts (is_run e.entry.kind) (eqb e.entry.tid.0 t)
+        let parts = and_parts (is_kind e.entry.kind kind.Run) (eqb e.entry.tid.0 t)
         (and_parts (is_ready t (kernel s before).threads) _ begins).1 in
-        other (run_is e.entry.kind parts.0) (eqb-true e.entry.tid.0 t parts.1)
+        other (kind_is e.entry.kind kind.Run parts.0) (eqb-true e.entry.tid.0 t parts.1)
 
     abbrev Stands : Type 0
     Stands = (on_hart_0 before ≡ true) ⊎ (off_harts e before ≡ true)
@@ -529,7 +474,7 @@ module _ (s : Setting) (p : Slots) (at : ℕ) (area : Area) (t : ℕ) where
         ∙ and_from (eqb area.at area.at) (eqb area.sig area.sig) (eqb_same area.at) (eqb_same area.sig)
 
     abbrev Tells : Type 0
-    Tells = (runs_there before && (is_drain e.entry.kind || is_empty e.done.entered) ≡ true)
+    Tells = (runs_there before && (is_kind e.entry.kind kind.Drain || is_empty e.done.entered) ≡ true)
         ⊎ (begins_to_run e before ≡ true)
 
     tells : has_area before ≡ true → (are_beside area.at 8 e.done.executed ≡ true) × Tells
@@ -537,7 +482,7 @@ module _ (s : Setting) (p : Slots) (at : ℕ) (area : Area) (t : ℕ) where
         let one = and_parts (are_beside area.at 8 e.done.executed) _
         (follows (has_area before) (leaves_words e before) told_is had) in (
           one.0,
-          either (runs_there before && (is_drain e.entry.kind || is_empty e.done.entered))
+          either (runs_there before && (is_kind e.entry.kind kind.Drain || is_empty e.done.entered))
               (begins_to_run e before) one.1,
         )
 
@@ -546,14 +491,14 @@ module _ (s : Setting) (p : Slots) (at : ℕ) (area : Area) (t : ℕ) where
     no_stranger (inl on) elsewhere begins = elsewhere (on_own (and_parts (runs_there before) _ on).0)
     no_stranger (inr off) elsewhere begins = not_named off begins
 
-    enters_none : e.entry.kind ≢ kind.Drain → is_drain e.entry.kind || is_empty e.done.entered ≡ true
+    enters_none : e.entry.kind ≢ kind.Drain → is_kind e.entry.kind kind.Drain || is_empty e.done.entered ≡ true
         → Leaves (among area.at 8) e.done.entered
     enters_none other is =
-        by_kind (either (is_drain e.entry.kind) (is_empty e.done.entered) is)
+        by_kind (either (is_kind e.entry.kind kind.Drain) (is_empty e.done.entered) is)
       where
-        by_kind : (is_drain e.entry.kind ≡ true) ⊎ (is_empty e.done.entered ≡ true)
+        by_kind : (is_kind e.entry.kind kind.Drain ≡ true) ⊎ (is_empty e.done.entered ≡ true)
             → Leaves (among area.at 8) e.done.entered
-        by_kind (inl drains) = absurd (other (drain_is e.entry.kind drains))
+        by_kind (inl drains) = absurd (other (kind_is e.entry.kind kind.Drain drains))
         by_kind (inr none) = leaves_all (among area.at 8) e.done.entered none
 
     words_left : Tells → running s e.entry.hart.0 before ≡ Some t → e.entry.kind ≢ kind.Drain
@@ -684,8 +629,7 @@ module _ (s : Setting) (p : Slots) (at : ℕ) (area : Area) (t : ℕ) where
           ∙ eqb-true e.entry.hart.0 h own
       by_hart earlier false apart =
           earlier
-          (sym (ap (λ b. cond (not b) (sequence_on s h before)
-          (cond (is_inside_at s h before) (taken_up h e before (sequence_on s h before)) None)) apart) ∙ is)
+          (sym (still_open s h e before apart) ∙ is)
 
   pub all_used : at % 4 ≡ 0 → at < 2 ^ 37 → area.at + 32 ≤ 2 ^ 38 → (history : History)
       → IsRunHistory s history → are_fine history ≡ true
@@ -728,5 +672,5 @@ module _ (s : Setting) (p : Slots) (at : ℕ) (area : Area) (t : ℕ) where
               read = reads_are before area.at 32 three.0;
               write = writes_are before area.at 32 three.0;
             };
-            outside = not_is (is_inside_at s 0 before) three.1;
+            outside = not-true (is_inside_at s 0 before) three.1;
           })

@@ -1,4 +1,4 @@
-use Rattle.std.proofs.Common.{length, All, [], subst, sym, arith}
+use Rattle.std.proofs.Common.{length, All, subst, sym, arith}
 use Rattle.percpu_lib.proofs.Emittable.{free_emittable}
 use Rattle.percpu_lib.proofs.Labels.{labelled}
 use Rattle.percpu_lib.specs.Frees.{free_aborted, free_first, free_steps}
