@@ -1,5 +1,5 @@
 -- The output of a command is what the plain machine prints.
-use Rattle.std.proofs.Common.{◌≡◌, ℕ, List, refl, sym, ap, ◌∙◌, Option, Some, None}
+use Rattle.std.proofs.Common.{◌≡◌, ℕ, List, refl, sym, ◌∙◌, Option, Some, None}
 use Rattle.mach_types.specs.declared.events.Entry.{Entry}
 use Rattle.block_model.specs.Plain.{PlainRun, plain_solo}
 use Rattle.block_model.specs.PlainSays.{SaysOf}
