@@ -85,3 +85,20 @@ static inline int rseq_cpu_start(struct rseq *area) {
     "   .long   " RSEQ_TEXT(RSEQ_SIG) "\n" #label ":\n"    \
     "   j       %l[" #abort_label "]\n"                    \
     "222:\n"
+
+/* Goes to a label of C where a word of 64 bits isn't the one that is expected, and where it is the one that isn't. */
+#define RSEQ_ASM_OP_CMPEQ(word, expected, label) \
+    "   ld      t1, %[" #word "]\n"              \
+    "   bne     t1, %[" #expected "], %l[" #label "]\n"
+#define RSEQ_ASM_OP_CMPNE(word, expected, label) \
+    "   ld      t1, %[" #word "]\n"              \
+    "   beq     t1, %[" #expected "], %l[" #label "]\n"
+
+/* Stores what was loaded, and loads the word that lies so many bytes behind where that points. */
+#define RSEQ_ASM_OP_R_STORE(word) "   sd      t1, %[" #word "]\n"
+#define RSEQ_ASM_OP_R_LOAD_OFF(offset)    \
+    "   add     t1, t1, %[" #offset "]\n" \
+    "   ld      t1, 0(t1)\n"
+
+/* Stores a word of 64 bits: the commit, behind which the sequence ends. */
+#define RSEQ_ASM_OP_FINAL_STORE(value, word, post_commit_label) "   sd      %[" #value "], %[" #word "]\n" #post_commit_label ":\n"
