@@ -1,5 +1,6 @@
 //! Tests of `rv_decode`, words from outside: what GNU as 2.40 gives for the source beside each of them.
 
+use rv_asm::encode;
 use rv_decode::decode;
 use rv_inst::Inst;
 use std::process::Abort;
@@ -264,10 +265,15 @@ const NO_ROW: [u32; 55] = [
     0x00010001, // .4byte 0x00010001
 ];
 
-/// Each word must decode to its instruction.
+/// Each word must decode to its instruction. Two instructions that have the same word are the same.
 fn expect_each(rt: &impl Abort, rows: &[(u32, Inst)]) {
     for (word, inst) in rows {
-        assert_eq!(rt; decode(*word), Some(*inst), "at {word:x}");
+        let wanted = encode(inst);
+        assert!(rt; wanted.is_some(), "at {word:x}");
+        match decode(*word) {
+            Some(decoded) => assert_eq!(rt; encode(&decoded), wanted, "at {word:x}"),
+            None => assert!(rt; false, "at {word:x}"),
+        }
     }
 }
 

@@ -8,7 +8,7 @@ use rv_inst::Inst;
 use std::alloc::AllocError;
 
 /// A line of code.
-#[derive(Clone, Copy, Debug, PartialEq, Eq, Drop)]
+#[derive(Clone, Copy, Drop)]
 pub enum Line {
     /// The label stands here.
     Label(u32),

@@ -3,7 +3,7 @@
 use rv_inst::Inst;
 
 /// A word of the code.
-#[derive(Clone, Copy, Debug, PartialEq, Eq, Drop)]
+#[derive(Clone, Copy, Drop)]
 pub enum Item {
     /// A word as it is.
     Word(u32),

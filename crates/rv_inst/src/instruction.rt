@@ -10,7 +10,7 @@ ghost use Rattle.rv_inst.specs.Local.{is_register_only};
 /// it stands for: of LUI and AUIPC with its twelve low zeros, of jumps and branches as the distance from the
 /// pc in bytes. `shamt` is a distance of a shift in bits. The bits aq and rl of the A instructions are not
 /// kept, since each such instruction is ordered on both sides here.
-#[derive(Clone, Copy, Debug, PartialEq, Eq, Drop)]
+#[derive(Clone, Copy, Drop)]
 pub enum Inst {
     // RV64I: upper immediates, jumps and branches.
     /// Loads the upper immediate.
