@@ -8,7 +8,7 @@ use Rattle.std.proofs.lemmas.Bool.Decides.{nat_tests}
 use Rattle.std.proofs.lemmas.List.Folds.{list_any-append}
 use Rattle.rv_inst.specs.Accesses.{Bytes, bytes}
 use Rattle.block_model.specs.Footprints.{has_byte, have_byte, overlap, overlap_any}
-use Rattle.log_gather.specs.ByteSets.{HasEach, IsBounded, IsWith, any_byte, any_in, covers, has_each, holds, in_extent, meets}
+use Rattle.log_gather.specs.ByteSets.{IsBounded, IsWith, any_byte, any_in, covers, has_each, holds, in_extent, meets}
 use Rattle.log_gather.specs.declared.byte_sets.ByteSet.{ByteSet}
 use Rattle.log_gather.specs.declared.byte_sets.Extent.{Extent}
 use Rattle.log_gather.specs.declared.byte_sets.TheConstants.{MOST_EXTENTS}

@@ -5,12 +5,15 @@ use Rattle.std.specs.List.{fold}
 use Rattle.mach_types.specs.declared.events.Entry.{Entry}
 use Rattle.block_model.specs.Setting.{Setting}
 use Rattle.block_view.specs.Acts.{acts_of}
+use Rattle.log_gather.specs.declared.marks.Details.{Details}
+use Rattle.log_gather.specs.declared.marks.Mark.{Mark}
 use Rattle.log_gather.specs.declared.passing.Passage.{Passage}
 use Rattle.log_gather.specs.declared.steps.Step.{Step}
 use Rattle.log_gather.specs.Facts.{first_place}
 use Rattle.log_gather.specs.Gathered.{IsGathered, names_in}
 use Rattle.log_gather.specs.Located.{at_end, entry_in, event_in, gather_located}
 use Rattle.log_gather.specs.LogEvents.{Name}
+use Rattle.log_gather.specs.Marks.{steps_of}
 use Rattle.log_gather.specs.Passing.{IsPassage}
 use Rattle.log_gather.specs.Spans.{begins_act, names_from}
 use Rattle.log_gather.specs.Steps.{AllAwait, facts_seen, located_of, names_awaited}
@@ -34,12 +37,14 @@ entries_seen (x ∷ xs) = ap (λ l. x.entry ∷ l) (entries_seen xs)
 
 -- so what becomes of them, sequence by sequence, is the gathered log
 pub is_gathered : (s : Setting) (log : List Entry) (x : Passage) (ys : List Step) (entries : List Entry) → IsPassage s log x
-    → map located_of ys ≡ fold (gather_located (λ k. get_or x.inside_at_end k false)) (map located_of x.steps.items) (names_awaited (λ k. 0) x.steps.items)
+    → map located_of ys
+    ≡ fold (gather_located (λ k. get_or x.inside_at_end k false)) (map located_of (steps_of x.details x.marks.items)) (names_awaited (λ k. 0) (steps_of x.details x.marks.items))
     → entries ≡ map (λ y. y.entry) ys → IsGathered s log entries
 is_gathered s log x ys entries seen made is =
-    let steps = map located_of x.steps.items in
-    let names : names_awaited (λ k. 0) x.steps.items ≡ names_in (λ k. 0) (acts_of s log) =
-    awaited (λ k. 0) x.steps.items seen.awaits
+    let given = steps_of x.details x.marks.items in
+    let steps = map located_of given in
+    let names : names_awaited (λ k. 0) given ≡ names_in (λ k. 0) (acts_of s log) =
+    awaited (λ k. 0) given seen.awaits
     ∙ ap (λ l. names_from (λ k. 0) (map event_in l)) seen.steps
     ∙ ap (names_from (λ k. 0)) (events_located s (first_place s) log)
     ∙ names_by_acts s log seen.block_run in
@@ -48,8 +53,12 @@ is_gathered s log x ys entries seen made is =
       entries_are = is
           ∙ entries_seen ys
           ∙ ap (map entry_in) made
-          ∙ ap (λ f. map entry_in (fold (gather_located f) steps (names_awaited (λ k. 0) x.steps.items))) (fun_ext seen.inside)
+          ∙ ap (λ f. map entry_in (fold (gather_located f) steps (names_awaited (λ k. 0) given))) (fun_ext seen.inside)
           ∙ ap (λ l. map entry_in (fold (gather_located (at_end s log)) steps l)) names
           ∙ ap (λ l. map entry_in (fold (gather_located (at_end s log)) l (names_in (λ k. 0) (acts_of s log)))) seen.steps
           ∙ sym (sym (gathered_is_by_acts s log seen.block_run) ∙ gathered_by_located s log seen.block_run);
     }
+
+pub entries_marked : (d : Details) (ms : List Mark) → map (λ x. x.entry) ms ≡ map (λ y. y.entry) (steps_of d ms)
+entries_marked d [] = refl
+entries_marked d (m ∷ ms) = ap (λ l. m.entry ∷ l) (entries_marked d ms)

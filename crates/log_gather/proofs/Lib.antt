@@ -17,12 +17,17 @@ mod GatheredSpans
 pub mod Laws
 mod LeftSequences
 mod LocatedEvents
+mod MarkedEvents
+mod MarkedTurns
 mod NamedSequences
 mod NumberedActs
 mod OwnEvents
+mod PartedMarks
 mod Passages
 mod ReachedEvents
+mod RenewedMarks
 mod Reservations
+mod SameDetails
 mod StandingTogether
 mod TouchedBytes
 mod TurnTaken

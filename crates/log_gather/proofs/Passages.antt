@@ -22,6 +22,7 @@ use Rattle.log_gather.specs.declared.passing.Passage.{Passage}
 use Rattle.log_gather.specs.declared.steps.Step.{Step}
 use Rattle.log_gather.specs.Facts.{Facts, Place, facts_at, facts_in, first_place, inside_on, next_place, place_after}
 use Rattle.log_gather.specs.Located.{at_end, located}
+use Rattle.log_gather.specs.Marks.{are_known, steps_of}
 use Rattle.log_gather.specs.Passing.{IsPassage, IsSeen, here_on, inside_there}
 use Rattle.log_gather.specs.Steps.{AllAwait, AreOfEight, IsOfEight, facts_seen, located_of, reserved_in}
 use Rattle.log_gather.proofs.GatheredSequences.{at_first}
@@ -213,11 +214,13 @@ module _ (s : Setting) (log : List Entry) (m : Seen) (steps : List Step) (within
       sym (ap (λ n. let here = here_in_plain s n k in inside_on here (runs here)) (machine_after s log)
       ∙ ap (inside_on (here_in_plain s (plain_after s log) k)) (idle_past s log k run (omega arith)))
 
-  pub is_passage : (x : Passage) → x.steps.items ≡ steps → ((k : ℕ) → get_or x.inside_at_end k false ≡ inside_there m k) → IsPassage s log x
-  is_passage x steps_are inside = record {
+  pub is_passage : (x : Passage) → steps_of x.details x.marks.items ≡ steps → are_known x.details x.marks.items ≡ true
+      → ((k : ℕ) → get_or x.inside_at_end k false ≡ inside_there m k) → IsPassage s log x
+  is_passage x steps_are known inside = record {
     block_run = run_of_setting s log m was.so_far;
     steps = ap (map located_of) steps_are ∙ was.steps_are;
     harts = subst AreOfEight (sym steps_are) was.harts;
     awaits = subst AllAwait (sym steps_are) was.awaits;
+    known = known;
     inside = λ k. inside k ∙ inside_past k (ltb k m.setting.limits.harts) refl;
   }

@@ -10,13 +10,18 @@ use Rattle.mach_types.specs.declared.sequences.TheConstants.{DESCRIPTOR_SIZE, FL
 use Rattle.rv_inst.specs.Accesses.{Bytes, bytes}
 use Rattle.block_model.specs.Footprints.{has_byte, have_byte, overlap_any}
 use Rattle.rseq_area.specs.declared.lookups.Lookups.{Lookups}
+use Rattle.log_gather.specs.declared.accesses.Access.{Access}
+use Rattle.log_gather.specs.Accesses.{bytes_in}
 use Rattle.log_gather.specs.ByteSets.{AreWith, HasLookedAt, HasTouched, IsBounded, IsReady, IsTouched, IsWith, any_in, clashes_in, holds}
 use Rattle.log_gather.specs.Facts.{is_of}
 use Rattle.log_gather.specs.LogEvents.{LogEvent, clash, is_own, is_undisturbed, own_of, reads_of, writes_of}
 use Rattle.log_gather.specs.Lookups.{bytes_if, bytes_looked_at}
+use Rattle.log_gather.specs.Marks.{step_of, steps_of}
 use Rattle.log_gather.specs.Turns.{event_of, own_steps}
 use Rattle.log_gather.specs.declared.byte_sets.ByteSet.{ByteSet}
 use Rattle.log_gather.specs.declared.clashes.Touched.{Touched}
+use Rattle.log_gather.specs.declared.marks.Details.{Details}
+use Rattle.log_gather.specs.declared.marks.Mark.{Mark}
 use Rattle.log_gather.specs.declared.steps.Step.{Step}
 use Rattle.log_gather.proofs.ClashingBytes.{any_in_is, clashes_with_one, undisturbed_is}
 
@@ -80,7 +85,7 @@ looked_first looked reads held a =
     ∙ ap (λ b. b || have_byte held a) (sym (have_both reads looked a)) ∙ sym (have_both (reads ++ looked) held a)
 
 -- an event: the bytes at which its thread's area is looked at, those that its access reads, those that its hart holds, those it writes
-pub touched_by_event : (s t u : Touched) (y : LogEvent) (looked : Option Lookups) (between : ByteSet) (reads held : List Bytes)
+touched_by_event : (s t u : Touched) (y : LogEvent) (looked : Option Lookups) (between : ByteSet) (reads held : List Bytes)
     → HasLookedAt s looked t → AreWith t.reads reads between → AreWith between held u.reads → AreWith t.writes (writes_of y) u.writes → u.last ≡ t.last
     → reads_of y ≡ (reads ++ option_map_or bytes_looked_at looked []) ++ held → HasTouched s y u
 touched_by_event s t u y looked between reads held one two three four last is =
@@ -95,6 +100,20 @@ touched_by_event s t u y looked between reads held one two three four last is =
       last = λ a there. grown held three a (grown reads two a (one.last a (ap (λ o. have_byte (option_map_or bytes_looked_at o []) a) (sym last) ∙ there)));
     }
 
+-- of which the parts were read by their numbers
+pub touched_by_mark : (s t u : Touched) (y : LogEvent) (a b : Access) (looked its_looked : Option Lookups) (between : ByteSet) (held its_held : List Bytes)
+    → HasLookedAt s looked t → AreWith t.reads (bytes_in a.reads) between → AreWith between held u.reads → AreWith t.writes (bytes_in a.writes) u.writes → u.last ≡ t.last
+    → a ≡ b → looked ≡ its_looked → held ≡ its_held
+    → reads_of y ≡ (bytes_in b.reads ++ option_map_or bytes_looked_at its_looked []) ++ its_held → writes_of y ≡ bytes_in b.writes → HasTouched s y u
+touched_by_mark s t u y a b looked its_looked between held its_held one two three four last access looks holds reads writes =
+    touched_by_event s t u y looked between (bytes_in a.reads) held one two three
+    (let P : List Bytes → Type 0 = λ l. AreWith t.writes l u.writes in subst P (ap (λ (z : Access). bytes_in z.writes) access ∙ sym writes) four)
+    last
+    (reads
+    ∙ ap (λ (z : Access). (bytes_in z.reads ++ option_map_or bytes_looked_at its_looked []) ++ its_held) (sym access)
+    ∙ ap (λ o. (bytes_in a.reads ++ option_map_or bytes_looked_at o []) ++ its_held) (sym looks)
+    ∙ ap (λ l. (bytes_in a.reads ++ option_map_or bytes_looked_at looked []) ++ l) (sym holds))
+
 pub ready_of : (xs : List LogEvent) (t : Touched) → IsTouched xs t → IsReady t
 ready_of xs t touched = record { reads = touched.reads.bounded; writes = touched.writes.bounded; last = touched.last }
 
@@ -105,7 +124,7 @@ flat_more f (x ∷ xs) y a =
     ∙ sym (or_all (have_byte (f x) a) (have_byte (flat_map f xs) a) (have_byte (f y) a))
     ∙ ap (λ b. b || have_byte (f y) a) (sym (have_both (f x) (flat_map f xs) a))
 
-pub touched_more : (xs : List LogEvent) (s : Touched) (y : LogEvent) (t : Touched) → IsTouched xs s → HasTouched s y t → IsTouched (xs ++ y ∷ []) t
+touched_more : (xs : List LogEvent) (s : Touched) (y : LogEvent) (t : Touched) → IsTouched xs s → HasTouched s y t → IsTouched (xs ++ y ∷ []) t
 touched_more xs s y t so_far one = record {
   reads = record {
     members = λ a. one.reads.members a ∙ ap (λ b. b || have_byte (reads_of y) a) (so_far.reads.members a) ∙ sym (flat_more reads_of xs y a);
@@ -127,20 +146,37 @@ filter_append p (x ∷ xs) ys = go (p x) (filter_append p xs ys)
     go true rest = ap (λ l. x ∷ l) rest
     go false rest = rest
 
-owns_more : (h : ℕ) (span : List Step) (i : ℕ) (d : Step) → i < length span
-    → own_steps h (take (i + 1) span) ≡ own_steps h (take i span) ++ cond (is_of h (get_or span i d).entry) (get_or span i d ∷ []) []
-owns_more h span i d within = ap (own_steps h) (take_more span i d within) ∙ filter_append (λ x. is_of h x.entry) (take i span) (get_or span i d ∷ [])
+owns_more : (d : Details) (h : ℕ) (span : List Mark) (i : ℕ) (m : Mark) → i < length span
+    → own_steps h (steps_of d (take (i + 1) span))
+    ≡ own_steps h (steps_of d (take i span)) ++ cond (is_of h (get_or span i m).entry) (step_of d (get_or span i m) ∷ []) []
+owns_more d h span i m within =
+    ap (λ l. own_steps h (steps_of d l)) (take_more span i m within)
+    ∙ ap (own_steps h) (map-append (step_of d) (take i span) (get_or span i m ∷ []))
+    ∙ filter_append (λ x. is_of h x.entry) (steps_of d (take i span)) (step_of d (get_or span i m) ∷ [])
 
-pub owns_with : (h : ℕ) (span : List Step) (i : ℕ) (d : Step) → i < length span → is_of h (get_or span i d).entry ≡ true
-    → map event_of (own_steps h (take (i + 1) span)) ≡ map event_of (own_steps h (take i span)) ++ event_of (get_or span i d) ∷ []
-owns_with h span i d within own =
-    ap (map event_of) (owns_more h span i d within ∙ ap (λ b. own_steps h (take i span) ++ cond b (get_or span i d ∷ []) []) own)
-    ∙ map-append event_of (own_steps h (take i span)) (get_or span i d ∷ [])
+owns_with : (d : Details) (h : ℕ) (span : List Mark) (i : ℕ) (m : Mark) → i < length span → is_of h (get_or span i m).entry ≡ true
+    → map event_of (own_steps h (steps_of d (take (i + 1) span))) ≡ map event_of (own_steps h (steps_of d (take i span))) ++ event_of (step_of d (get_or span i m)) ∷ []
+owns_with d h span i m within own =
+    ap (map event_of) (owns_more d h span i m within ∙ ap (λ b. own_steps h (steps_of d (take i span)) ++ cond b (step_of d (get_or span i m) ∷ []) []) own)
+    ∙ map-append event_of (own_steps h (steps_of d (take i span))) (step_of d (get_or span i m) ∷ [])
 
-pub owns_without : (h : ℕ) (span : List Step) (i : ℕ) (d : Step) → i < length span → is_of h (get_or span i d).entry ≡ false
-    → map event_of (own_steps h (take (i + 1) span)) ≡ map event_of (own_steps h (take i span))
-owns_without h span i d within other =
-    ap (map event_of) (owns_more h span i d within ∙ ap (λ b. own_steps h (take i span) ++ cond b (get_or span i d ∷ []) []) other ∙ append-nil (own_steps h (take i span)))
+owns_without : (d : Details) (h : ℕ) (span : List Mark) (i : ℕ) (m : Mark) → i < length span → is_of h (get_or span i m).entry ≡ false
+    → map event_of (own_steps h (steps_of d (take (i + 1) span))) ≡ map event_of (own_steps h (steps_of d (take i span)))
+owns_without d h span i m within other =
+    ap (map event_of)
+    (owns_more d h span i m within ∙ ap (λ b. own_steps h (steps_of d (take i span)) ++ cond b (step_of d (get_or span i m) ∷ []) []) other
+    ∙ append-nil (own_steps h (steps_of d (take i span))))
+
+-- what they touch, with an event more
+pub touched_own : (d : Details) (h : ℕ) (span : List Mark) (i : ℕ) (m : Mark) (s t : Touched) → IsTouched (map event_of (own_steps h (steps_of d (take i span)))) s
+    → i < length span → is_of h (get_or span i m).entry ≡ true → HasTouched s (event_of (step_of d (get_or span i m))) t
+    → IsTouched (map event_of (own_steps h (steps_of d (take (i + 1) span)))) t
+touched_own d h span i m s t so_far within own one =
+    subst (λ l. IsTouched l t) (sym (owns_with d h span i m within own)) (touched_more (map event_of (own_steps h (steps_of d (take i span)))) s (event_of (step_of d (get_or span i m))) t so_far one)
+
+pub touched_other : (d : Details) (h : ℕ) (span : List Mark) (i : ℕ) (m : Mark) (s : Touched) → IsTouched (map event_of (own_steps h (steps_of d (take i span)))) s
+    → i < length span → is_of h (get_or span i m).entry ≡ false → IsTouched (map event_of (own_steps h (steps_of d (take (i + 1) span)))) s
+touched_other d h span i m s so_far within other = subst (λ l. IsTouched l s) (sym (owns_without d h span i m within other)) so_far
 
 own_events : (h : ℕ) (span : List Step) → map event_of (own_steps h span) ≡ own_of h (map event_of span)
 own_events h [] = refl

@@ -1,7 +1,7 @@
 -- One turn after the other: what is left to do gives what all was to give.
 use Rattle.std.proofs.Common.{◌≡◌, ℕ, ◌+◌, ◌-◌, ◌<◌, ◌≤◌, List, [], ◌∷◌, ◌++◌, length, get_or, map, take, drop, refl, sym, ap, subst, ◌∙◌, arith, append-nil, length-append, Bool, true, false, not, eqb, ltb, ◌&&◌, ◌||◌, Option, Some, None}
 use Rattle.std.specs.List.{fold, list_all}
-use Rattle.std.proofs.lemmas.Bool.{and_from, and_parts, eq-eqb, eqb-true, lt-ltb, ltb-true}
+use Rattle.std.proofs.lemmas.Bool.{and_from, and_parts, eq-eqb, eqb-true, lt-ltb}
 use Rattle.std.proofs.lemmas.List.{drop-take, drop_all, get_or-drop, length-drop, length-take-le, take-append-drop, take-take, take_at, take_rest}
 use Rattle.std.proofs.lemmas.List.Folds.{list_all-append}
 use borrow.Rule.Slice.PartMut.{put_mid}
@@ -9,7 +9,7 @@ use Rattle.log_gather.specs.declared.steps.Step.{Step}
 use Rattle.log_gather.specs.Located.{gather_located}
 use Rattle.log_gather.specs.Spans.{after_from, begins_own, span_from}
 use Rattle.log_gather.specs.Steps.{AllAwait, AreOfEight, facts_seen, located_of, names_awaited}
-use Rattle.log_gather.specs.Turns.{IsNext, IsNextTurn, IsPrivateLength, IsPrivateSpan, after_turn, after_turns, awaits_rightly, is_of_eight, is_private_from, moved_steps, moved_steps_if, none_await, other_steps, own_steps, renewed, reserved_after, taken, taken_first}
+use Rattle.log_gather.specs.Turns.{IsNextTurn, IsPrivateLength, IsPrivateSpan, after_turn, after_turns, awaits_rightly, is_of_eight, is_private_from, moved_steps, moved_steps_if, none_await, other_steps, own_steps, renewed, reserved_after, taken, taken_first}
 use Rattle.log_gather.proofs.ActPlaces.{act_and_after}
 use Rattle.log_gather.proofs.AwaitedNames.{names_past}
 use Rattle.log_gather.proofs.TurnTaken.{all_append, all_parted, length_after, turn_located, turn_names}
@@ -87,12 +87,6 @@ eight_first (x ∷ xs) all = all
 
 pub eight_span : (old new : List Step) (n : ℕ) → new ≡ taken_first old → list_all is_of_eight old ≡ true → list_all is_of_eight (take n new) ≡ true
 eight_span old new n is all = all_taken is_of_eight new n (ap (list_all is_of_eight) is ∙ eight_first old all)
-
-pub eight_hart : (old new : List Step) (d : Step) → 0 < length old → new ≡ taken_first old → list_all is_of_eight old ≡ true → (get_or new 0 d).entry.hart.0 < 8
-eight_hart [] new d some is all = absurd (omega (arith, some))
-eight_hart (x ∷ xs) new d some is all =
-    let P : List Step → Type 0 = λ l. (get_or l 0 d).entry.hart.0 < 8 in
-    subst P (sym is) (ltb-true x.entry.hart.0 8 (and_parts (ltb x.entry.hart.0 8) (eqb (length x.reserved) 8) (and_parts (is_of_eight x) (list_all is_of_eight xs) all).0).0)
 
 -- WHAT STAYS
 
@@ -221,34 +215,14 @@ all_had_turns at_end steps from past rest =
 
 -- AS CODE DOES THEM
 
-to_end : (f : ℕ) (xs : List Step) → take (length xs - f) (drop f xs) ≡ drop f xs
+pub to_end : {A : Type 0} (f : ℕ) (xs : List A) → take (length xs - f) (drop f xs) ≡ drop f xs
 to_end f xs = take_rest xs f
 
-put_to_end : (f : ℕ) (xs ys : List Step) → put_mid f (length xs - f) xs ys ≡ take f xs ++ ys
+pub put_to_end : {A : Type 0} (f : ℕ) (xs ys : List A) → put_mid f (length xs - f) xs ys ≡ take f xs ++ ys
 put_to_end f xs ys = ap (λ l. take f xs ++ (ys ++ l)) (drop_all (length xs - f) (drop f xs) (omega (arith, length-drop f xs))) ∙ ap (λ l. take f xs ++ l) (append-nil ys)
 
-pub next_within : (steps : List Step) (from k : ℕ) → from ≤ length steps → IsNextTurn (take (length steps - from) (drop from steps)) k → from + k < length steps
-next_within steps from k within next = omega (arith, within, next.within, ap length (to_end from steps), length-drop from steps)
-
-pub turn_made : (at_end : ℕ → Bool) (steps : List Step) (from k : ℕ) (made : List Step) → from ≤ length steps → none_await (take from steps) ≡ true
-    → list_all is_of_eight steps ≡ true → list_all awaits_rightly steps ≡ true → IsNextTurn (take (length steps - from) (drop from steps)) k
-    → made ≡ after_turn at_end (take (length steps - (from + k)) (drop (from + k) steps))
-    → IsTurn at_end steps (from + k) (put_mid (from + k) (length steps - (from + k)) steps made)
-turn_made at_end steps from k made within past eight right next is =
-    let P : List Step → Type 0 = λ l. IsTurn at_end steps (from + k) l in
-    let Q : List Step → Type 0 = λ l. IsNextTurn l k in
-    let same : take (from + k) steps ++ after_turn at_end (drop (from + k) steps) ≡ put_mid (from + k) (length steps - (from + k)) steps made =
-    ap (λ l. take (from + k) steps ++ after_turn at_end l) (sym (to_end (from + k) steps)) ∙ ap (λ l. take (from + k) steps ++ l) (sym is) ∙ sym (put_to_end (from + k) steps made) in
-    subst P same (turn_here at_end steps from k (from + k) refl within past eight right (subst Q (to_end from steps) next))
-
-pub eight_rest : (steps : List Step) (f : ℕ) → list_all is_of_eight steps ≡ true → list_all is_of_eight (take (length steps - f) (drop f steps)) ≡ true
-eight_rest steps f all = ap (list_all is_of_eight) (to_end f steps) ∙ all_dropped is_of_eight steps f all
-
-pub none_left : (steps : List Step) (from : ℕ) (o : Option ℕ) → IsNext (take (length steps - from) (drop from steps)) o → o ≡ None → none_await (drop from steps) ≡ true
-none_left steps from o next none =
-    let P : Option ℕ → Type 0 = λ o. IsNext (take (length steps - from) (drop from steps)) o in
-    let there : none_await (take (length steps - from) (drop from steps)) ≡ true = subst P none next in
-    ap none_await (sym (to_end from steps)) ∙ there
+pub eight_drop : (steps : List Step) (f : ℕ) → list_all is_of_eight steps ≡ true → list_all is_of_eight (drop f steps) ≡ true
+eight_drop steps f all = all_dropped is_of_eight steps f all
 
 pub eight_of : (steps : List Step) → AreOfEight steps → list_all is_of_eight steps ≡ true
 eight_of [] all = refl

@@ -5,6 +5,7 @@ pub mod Gathered
 pub mod Located
 pub mod LogEvents
 pub mod Lookups
+pub mod Marks
 pub mod Passing
 pub mod Spans
 pub mod Steps

@@ -1,5 +1,5 @@
 -- What is read of a machine before an event of a log, and what is seen of the event (own).
-use Rattle.std.specs.Prelude.{ℕ, ◌≡◌, ◌<◌, Bool, false, length, map, nat_lt, slice_index_or, [], if◌then◌else◌, List, Option, None, is_none}
+use Rattle.std.specs.Prelude.{ℕ, ◌≡◌, ◌<◌, Bool, true, false, length, map, nat_lt, slice_index_or, [], if◌then◌else◌, List, Option, None, is_none}
 use Rattle.mach_types.specs.Events.{choice_of}
 use Rattle.mach_types.specs.declared.events.Entry.{Entry}
 use Rattle.process.specs.Sequences.{named_on}
@@ -18,6 +18,7 @@ use Rattle.log_gather.specs.declared.steps.Step.{Step}
 use Rattle.log_gather.specs.Accesses.{bytes_in}
 use Rattle.log_gather.specs.Facts.{facts_in, first_place, inside_on, touched_by}
 use Rattle.log_gather.specs.Located.{at_end, located}
+use Rattle.log_gather.specs.Marks.{are_known, steps_of}
 use Rattle.log_gather.specs.Steps.{AllAwait, AreOfEight, facts_seen, footprint_seen, located_of, reserved_in}
 
 -- what a rule may read where a machine has come to and hart h is asked
@@ -55,7 +56,8 @@ pub record IsSeen (m m' : Seen) (e : Entry) (was : Bool) (x : Step) : Type 0 whe
 -- what was seen of a log, which is a block run
 pub record IsPassage (s : Setting) (log : List Entry) (x : Passage) : Type 0 where
   pub block_run : IsBlockRun s log
-  pub steps : map located_of x.steps.items ≡ located s (first_place s) log
-  pub harts : AreOfEight x.steps.items
-  pub awaits : AllAwait x.steps.items
+  pub steps : map located_of (steps_of x.details x.marks.items) ≡ located s (first_place s) log
+  pub harts : AreOfEight (steps_of x.details x.marks.items)
+  pub awaits : AllAwait (steps_of x.details x.marks.items)
+  pub known : are_known x.details x.marks.items ≡ true
   pub inside : (k : ℕ) → slice_index_or x.inside_at_end k false ≡ at_end s log k

@@ -5,10 +5,11 @@ ghost use Rattle.std.specs.List.{list_all, list_any};
 ghost use Rattle.log_gather.specs.ByteSets.{HasLookedAt, HasTouched, IsBounded, IsReady, IsTouched};
 ghost use Rattle.log_gather.specs.ByteSets.{any_in, clashes_in, holds};
 ghost use Rattle.log_gather.specs.LogEvents as events;
+ghost use Rattle.log_gather.specs.Marks.{step_of, steps_of};
 ghost use Rattle.log_gather.specs.Turns.{event_of, own_steps};
 
 use crate::byte_sets::ByteSet;
-use crate::steps::Step;
+use crate::marks::{Details, Mark};
 use mach_types::Hart;
 use rseq_area::Lookups;
 use std::alloc::{AllocError, Global};
@@ -51,48 +52,55 @@ impl Touched {
     }
 
     /// Adds what an event touches.
-    fn add(&mut self, step: &Step) -> Result<(), AllocError>
+    fn add(&mut self, details: &Details, mark: &Mark) -> Result<(), AllocError>
         requires { IsReady self.old }
-        ensures { IfOk result (λ _. HasTouched self.old (event_of step.now) self.new) }
+        ensures { IfOk result (λ _. HasTouched self.old (event_of (step_of details.now mark.now)) self.new) }
     {
-        self.add_looked_at(step.looked_at)?;
-        self.reads.add_range(step.access.reads)?;
-        self.reads.add_range(step.held())?;
-        self.writes.add_range(step.access.writes)?;
+        let access = details.access(mark.access);
+        self.add_looked_at(details.looked_at(mark.looked_at))?;
+        self.reads.add_range(access.reads)?;
+        self.reads.add_range(details.held(mark))?;
+        self.writes.add_range(access.writes)?;
         Ok(())
     }
 
     /// What the events of a hart touch in a span.
-    fn of(alloc: Global, span: &[Step], hart: Hart) -> Result<Touched, AllocError>
-        ensures { IfOk result (λ t. IsTouched (map event_of (own_steps hart.0 span.now)) t) }
+    fn of(
+        alloc: Global,
+        details: &Details,
+        span: &[Mark],
+        hart: Hart,
+    ) -> Result<Touched, AllocError>
+        ensures { IfOk result (λ t. IsTouched (map event_of (own_steps hart.0 (steps_of details.now span.now))) t) }
     {
         let mut touched = Touched::new(alloc);
-        for step in span {
-            if step.is_of(hart) {
-                touched.add(step)?;
+        for mark in span {
+            if mark.is_of(hart) {
+                touched.add(details, mark)?;
             }
         }
         Ok(touched)
     }
 
     /// Whether an event touches what is written, or writes what is read.
-    fn clashes(&self, step: &Step) -> bool
+    fn clashes(&self, details: &Details, mark: &Mark) -> bool
         requires { IsReady self.now }
-        ensures { result ≡ clashes_in self.now (event_of step.now) }
+        ensures { result ≡ clashes_in self.now (event_of (step_of details.now mark.now)) }
     {
-        self.reads.has_range(step.access.writes)
-            || self.writes.has_range(step.access.writes)
-            || reads_any(&self.writes, step)
+        let access = details.access(mark.access);
+        self.reads.has_range(access.writes)
+            || self.writes.has_range(access.writes)
+            || reads_any(&self.writes, details, mark)
     }
 
     /// Whether an event of another hart in a span does.
-    fn clashes_in_span(&self, span: &[Step], hart: Hart) -> bool
+    fn clashes_in_span(&self, details: &Details, span: &[Mark], hart: Hart) -> bool
         requires { IsReady self.now }
-        ensures { result
-            ≡ list_any (λ y. not (events.is_own hart.0 y) && clashes_in self.now y) (map event_of span.now) }
+        ensures { result ≡ list_any (λ y. not (events.is_own hart.0 y) && clashes_in self.now y)
+            (map event_of (steps_of details.now span.now)) }
     {
-        for step in span {
-            if !step.is_of(hart) && self.clashes(step) {
+        for mark in span {
+            if !mark.is_of(hart) && self.clashes(details, mark) {
                 return true;
             }
         }
@@ -101,31 +109,36 @@ impl Touched {
 }
 
 /// Whether an event reads one of these bytes.
-fn reads_any(bytes: &ByteSet, step: &Step) -> bool
+fn reads_any(bytes: &ByteSet, details: &Details, mark: &Mark) -> bool
     requires { IsBounded bytes.now }
-    ensures { result ≡ any_in (holds bytes.now) (events.reads_of (event_of step.now)) }
+    ensures { result ≡ any_in (holds bytes.now) (events.reads_of (event_of (step_of details.now mark.now))) }
 {
-    bytes.has_range(step.access.reads)
-        || step
-            .looked_at
+    bytes.has_range(details.access(mark.access).reads)
+        || details
+            .looked_at(mark.looked_at)
             .is_some_and(|looked_at| bytes.has_looked_at(&looked_at))
-        || bytes.has_range(step.held())
+        || bytes.has_range(details.held(mark))
 }
 
 /// Whether all events of a span are plain.
-fn are_plain(span: &[Step]) -> bool
+fn are_plain(span: &[Mark]) -> bool
     ensures { result ≡ list_all (λ x. x.plain) span.now }
 {
-    span.iter().all(|step| step.plain)
+    span.iter().all(|mark| mark.plain)
 }
 
 /// Whether all events of a span are plain, and none of another hart clashes with one of this hart.
-pub(crate) fn is_undisturbed(alloc: Global, span: &[Step], hart: Hart) -> Result<bool, AllocError>
-    ensures { IfOk result (λ b. b ≡ events.is_undisturbed hart.0 (map event_of span.now)) }
+pub(crate) fn is_undisturbed(
+    alloc: Global,
+    details: &Details,
+    span: &[Mark],
+    hart: Hart,
+) -> Result<bool, AllocError>
+    ensures { IfOk result (λ b. b ≡ events.is_undisturbed hart.0 (map event_of (steps_of details.now span.now))) }
 {
     if !are_plain(span) {
         return Ok(false);
     }
-    let touched = Touched::of(alloc, span, hart)?;
-    Ok(!touched.clashes_in_span(span, hart))
+    let touched = Touched::of(alloc, details, span, hart)?;
+    Ok(!touched.clashes_in_span(details, span, hart))
 }

@@ -7,8 +7,8 @@ ghost use Rattle.block_model.specs.Setting.{setting_of};
 ghost use Rattle.block_view.specs.Viewing.{IsViewCause};
 ghost use Rattle.log_gather.specs.Gathered.{IsGathered};
 
+use crate::marks::Mark;
 use crate::passing::pass;
-use crate::steps::Step;
 use crate::turns::gather_all;
 use block_view::ViewFault;
 use elf_load::Image;
@@ -16,10 +16,10 @@ use mach_types::{Entry, Limits};
 use std::alloc::{AllocError, Global};
 
 /// The entries of events, in their order.
-fn entries_of(alloc: Global, steps: &[Step]) -> Result<Vec<Entry>, AllocError>
-    ensures { IfOk result (λ entries. entries.items ≡ map (λ x. x.entry) steps.now) }
+fn entries_of(alloc: Global, marks: &[Mark]) -> Result<Vec<Entry>, AllocError>
+    ensures { IfOk result (λ entries. entries.items ≡ map (λ x. x.entry) marks.now) }
 {
-    steps.iter().map(|step| step.entry).collect(alloc)
+    marks.iter().map(|mark| mark.entry).collect(alloc)
 }
 
 /// The gathered log of a log of an image under limits. Its restartable sequences (rseq(2)) have their turn in
@@ -43,6 +43,11 @@ pub fn gather(
     ensures cause { IfErr result (IsViewCause (setting_of image.now limits.now) log.now) }
 {
     let mut passage = pass(alloc, image, limits, log)?;
-    gather_all(alloc, &mut passage.steps, &passage.inside_at_end)?;
-    Ok(entries_of(alloc, &passage.steps)?)
+    gather_all(
+        alloc,
+        &mut passage.details,
+        &mut passage.marks,
+        &passage.inside_at_end,
+    )?;
+    Ok(entries_of(alloc, &passage.marks)?)
 }

@@ -6,6 +6,7 @@ mod accesses;
 mod byte_sets;
 mod clashes;
 mod gathering;
+mod marks;
 mod moving;
 mod passing;
 mod spans;

@@ -1,55 +1,82 @@
 //! A span of a log with the events of others before those of a hart.
 
-ghost use Rattle.std.specs.Prelude.{ℕ, ◌≡◌, ◌++◌, true, IfOk};
+ghost use Rattle.std.specs.Prelude.{◌≡◌, ◌<◌, ◌++◌, true, IfOk, length};
 ghost use Rattle.std.specs.List.{list_all};
-ghost use Rattle.log_gather.specs.Turns.{is_of_eight, moved_steps, other_steps, own_steps, renewed};
+ghost use Rattle.log_gather.specs.Marks.{AreOf, AreTaken, are_known, other_marks, own_marks, reserved_by, steps_of};
+ghost use Rattle.log_gather.specs.Turns.{is_of_eight, moved_steps, renewed};
 
-use crate::steps::{Reservations, Step};
+use crate::marks::{Details, Mark};
 use mach_types::Hart;
 use std::alloc::{AllocError, Global};
 
-/// Finds anew what is reserved before each of plain events, where this is reserved before the first.
-fn renew(steps: &mut [Step], reserved: Reservations)
-    requires { list_all is_of_eight steps.old ≡ true }
-    ensures { steps.new ≡ renewed reserved steps.old }
+/// Finds anew what is reserved before each of plain events, where what has this number is reserved before the first.
+fn renew(details: &mut Details, span: &mut [Mark], first: usize) -> Result<(), AllocError>
+    requires eight { list_all is_of_eight (steps_of details.old span.old) ≡ true }
+    requires known { are_known details.old span.old ≡ true }
+    requires first { first < length details.old.reserved.items }
+    ensures { IfOk result (λ _. AreOf details.old
+        (renewed (reserved_by details.old first) (steps_of details.old span.old)) details.new span.new) }
 {
-    let mut reserved = reserved;
-    for step in steps.iter_mut() {
-        step.reserved = reserved;
-        step.pass(&mut reserved);
+    let mut number = first;
+    for mark in span.iter_mut() {
+        number = details.renew(mark, number)?;
     }
+    Ok(())
 }
 
-/// The events of others in a span, and then those of a hart.
-fn others_first(alloc: Global, span: &[Step], hart: Hart) -> Result<Vec<Step>, AllocError>
-    ensures { IfOk result (λ v. v.items ≡ other_steps hart.0 span.now ++ own_steps hart.0 span.now) }
+/// Takes the marks of a hart out of a span, in their order, and puts those of others at its front, in theirs.
+fn take_own(alloc: Global, span: &mut [Mark], hart: Hart) -> Result<Vec<Mark>, AllocError>
+    ensures { IfOk result (λ own. AreTaken hart.0 span.old span.new own.items) }
 {
-    let mut made: Vec<Step> = span
-        .iter()
-        .copied()
-        .filter(|step| !step.is_of(hart))
-        .collect(alloc)?;
-    let own: Vec<Step> = span
-        .iter()
-        .copied()
-        .filter(|step| step.is_of(hart))
-        .collect(alloc)?;
-    made.extend_from_slice(&own)?;
-    Ok(made)
+    let mut own = Vec::new(alloc);
+    let mut others: usize = 0;
+    for i in 0..span.len() {
+        let mark = span[i];
+        if mark.is_of(hart) {
+            own.push(mark)?;
+            continue;
+        }
+        span[others] = mark;
+        others += 1;
+    }
+    Ok(own)
+}
+
+/// Puts marks where as many others are.
+fn put(marks: &mut [Mark], these: &[Mark])
+    requires { length marks.old ≡ length these.now }
+    ensures { marks.new ≡ these.now }
+{
+    marks.copy_from_slice(these);
+}
+
+/// Puts the marks of others in a span before those of a hart, each in their order.
+fn put_others_first(alloc: Global, span: &mut [Mark], hart: Hart) -> Result<(), AllocError>
+    ensures { IfOk result (λ _. span.new ≡ other_marks hart.0 span.old ++ own_marks hart.0 span.old) }
+{
+    let own = take_own(alloc, span, hart)?;
+    let others = span.len() - own.len();
+    put(&mut span[others..], &own);
+    Ok(())
 }
 
 /// Puts the events of others in a span before those of a hart, each in their order. What is reserved before each is found anew, from what
 /// was reserved before the first.
-pub(crate) fn move_others(alloc: Global, span: &mut [Step], hart: Hart) -> Result<(), AllocError>
-    requires { list_all is_of_eight span.old ≡ true }
-    ensures { IfOk result (λ _. span.new ≡ moved_steps hart.0 span.old) }
+pub(crate) fn move_others(
+    alloc: Global,
+    details: &mut Details,
+    span: &mut [Mark],
+    hart: Hart,
+) -> Result<(), AllocError>
+    requires eight { list_all is_of_eight (steps_of details.old span.old) ≡ true }
+    requires known { are_known details.old span.old ≡ true }
+    ensures { IfOk result (λ _. AreOf details.old (moved_steps hart.0 (steps_of details.old span.old)) details.new span.new) }
 {
     let Some(first) = span.first() else {
         return Ok(());
     };
     let reserved = first.reserved;
-    let made = others_first(alloc, span, hart)?;
-    span.copy_from_slice(&made);
-    renew(span, reserved);
+    put_others_first(alloc, span, hart)?;
+    renew(details, span, reserved)?;
     Ok(())
 }

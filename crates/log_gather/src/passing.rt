@@ -1,7 +1,7 @@
 //! A log is gone through on a machine that makes its entries again, and each event is seen.
 
-ghost use Rattle.std.specs.Prelude.{ℕ, ◌≡◌, ◌<◌, ◌&&◌, not, false, [], ◌∷◌, ◌++◌, None, if◌then◌else◌};
-ghost use Rattle.std.specs.Prelude.{slice_index_or, length, IfOk, IfErr, IfSome, IfNone, OnOk, is_some};
+ghost use Rattle.std.specs.Prelude.{ℕ, ◌≡◌, ◌<◌, ◌&&◌, not, false, None, if◌then◌else◌};
+ghost use Rattle.std.specs.Prelude.{slice_index_or, length, IfOk, IfErr, IfSome, IfNone, is_some};
 ghost use Rattle.mach_types.specs.Events.{choice_of};
 ghost use Rattle.mach_types.specs.Kernel.Areas.{is_inside_named};
 ghost use Rattle.mach_types.specs.Limits.{InRange};
@@ -22,6 +22,7 @@ ghost use Rattle.log_gather.specs.Passing.{here_on, inside_there, reserved_on};
 ghost use Rattle.log_gather.specs.Steps.{facts_seen, reserved_in};
 
 use crate::accesses::{Access, NO_ACCESS, access_of, access_of_drain};
+use crate::marks::{Details, Mark};
 use crate::steps::{Reservations, Step};
 use block_view::{Passed, ViewFault, inside, make_again};
 use elf_load::Image;
@@ -29,13 +30,15 @@ use mach_types::{Entry, Hart, Kind, Limits, Named};
 use machine_core::Machine;
 use rseq_area::Lookups;
 use rv_inst::Effect;
-use std::alloc::{AllocError, Global};
+use std::alloc::Global;
 
 /// What was seen of a log.
 #[derive(Debug, Drop)]
 pub(crate) struct Passage {
     /// Its events.
-    pub(crate) steps: Vec<Step>,
+    pub(crate) marks: Vec<Mark>,
+    /// What they number.
+    pub(crate) details: Details,
     /// Whether the thread on each hart is inside a restartable sequence at its end.
     pub(crate) inside_at_end: [bool; 8],
 }
@@ -240,14 +243,6 @@ fn is_set(harts: &[bool; 8], hart: Hart) -> bool
     }
 }
 
-/// Adds an event.
-fn add(steps: &mut Vec<Step>, step: Step) -> Result<(), AllocError>
-    ensures { OnOk result (steps.new.items ≡ steps.old.items ++ step ∷ []) }
-{
-    steps.push(step)?;
-    Ok(())
-}
-
 /// The seed of a run that draws no choice.
 const NO_SEED: u64 = 0;
 
@@ -267,7 +262,8 @@ pub(crate) fn pass(
     ensures cause { IfErr result (IsViewCause (setting_of image.now limits.now) log.now) }
 {
     let mut machine = Machine::boot(alloc, image, *limits, NO_SEED)?;
-    let mut steps = Vec::new(alloc);
+    let mut marks = Vec::new(alloc);
+    let mut details = Details::new(alloc);
     let mut within = [false; 8];
     for entry in log {
         let number = machine.log().len() as u32 + 1;
@@ -276,11 +272,12 @@ pub(crate) fn pass(
             return Err(ViewFault::NotARun(number));
         };
         within[entry.hart.0 as usize] = step.within;
-        add(&mut steps, step)?;
+        details.add(&mut marks, &step)?;
     }
     let inside_at_end = inside_of_harts(&machine);
     Ok(Passage {
-        steps,
+        marks,
+        details,
         inside_at_end,
     })
 }

@@ -1,9 +1,11 @@
 //! How far a sequence goes on in a log.
 
 ghost use Rattle.std.specs.Prelude.{ℕ, ◌<◌, length};
+ghost use Rattle.log_gather.specs.declared.marks.Details.{Details};
+ghost use Rattle.log_gather.specs.Marks.{steps_of};
 ghost use Rattle.log_gather.specs.Turns.{IsReach};
 
-use crate::steps::Step;
+use crate::marks::Mark;
 use mach_types::Hart;
 
 /// How far an act goes on from its first event.
@@ -18,9 +20,9 @@ pub(crate) struct Reach {
 }
 
 /// How far an act of a hart goes on in a log, from its first event: up to the hart's last event before it begins another act.
-pub(crate) fn reach_from(from: &[Step], hart: Hart, inside_at_end: bool) -> Reach
+pub(crate) fn reach_from(from: &[Mark], hart: Hart, inside_at_end: bool) -> Reach
     requires { 0 < length from.now }
-    ensures { IsReach hart.0 inside_at_end from.now result }
+    ensures { (d : Details) → IsReach hart.0 inside_at_end (steps_of d from.now) result }
 {
     let first = &from[0];
     let mut length = 1;

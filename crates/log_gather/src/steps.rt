@@ -1,17 +1,12 @@
 //! The events of a log as they were seen: what decides which sequences can be gathered, and where.
 
-ghost use Rattle.std.specs.Prelude.{ℕ, ◌≡◌, ◌<◌, None, slice_index_or};
-ghost use Rattle.block_model.specs.Acts as act;
+ghost use Rattle.std.specs.Prelude.{◌≡◌, ◌<◌};
 ghost use Rattle.log_gather.specs.Accesses.{bytes_in};
-ghost use Rattle.log_gather.specs.Facts as facts;
 ghost use Rattle.log_gather.specs.Located.{lost_to_bytes};
-ghost use Rattle.log_gather.specs.LogEvents.{held_by};
-ghost use Rattle.log_gather.specs.Spans as spans;
-ghost use Rattle.log_gather.specs.Steps.{facts_seen};
 ghost use Rattle.log_gather.specs.Turns.{reserved_after};
 
-use crate::accesses::{Access, Range};
-use mach_types::{Entry, Hart, Kind};
+use crate::accesses::Access;
+use mach_types::Entry;
 use rseq_area::Lookups;
 
 /// What each hart has reserved: the address of 8 aligned bytes, or nothing.
@@ -43,42 +38,6 @@ pub(crate) struct Step {
 }
 
 impl Step {
-    /// Whether it is an event of a hart.
-    pub(crate) fn is_of(&self, hart: Hart) -> bool
-        ensures { result ≡ facts.is_of hart.0 self.now.entry }
-    {
-        self.entry.hart == hart
-    }
-
-    /// Whether it is an instruction.
-    pub(crate) fn is_instruction(&self) -> bool
-        ensures { result ≡ act.is_instruction self.now.entry.kind }
-    {
-        matches!(self.entry.kind, Kind::Exec)
-    }
-
-    /// Whether it begins an act of its hart: all do but the events of a sequence after its first.
-    pub(crate) fn begins_act(&self) -> bool
-        ensures { result ≡ spans.begins_act (facts_seen self.now) }
-    {
-        !self.within || self.begins
-    }
-
-    /// The aligned 8 bytes that its hart has reserved, where it is of a sequence: it reads them.
-    pub(crate) fn held(&self) -> Option<Range>
-        ensures { bytes_in result
-            ≡ held_by self.now.within (slice_index_or self.now.reserved self.now.entry.hart.0 None) }
-    {
-        if !self.within {
-            return None;
-        }
-        let reserved = self.reserved.get(usize::from(self.entry.hart.0))?;
-        match *reserved {
-            Some(at) => Some(Range { at, count: 8 }),
-            None => None,
-        }
-    }
-
     /// What another hart has reserved after it, where it had this.
     fn keeps(&self, reserved: Option<u64>) -> Option<u64>
         ensures { result ≡ lost_to_bytes (bytes_in self.now.access.entered) reserved }

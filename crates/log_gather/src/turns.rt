@@ -2,14 +2,15 @@
 
 ghost use Rattle.std.specs.Prelude.{ℕ, ◌≡◌, ◌<◌, true, IfOk, length, map};
 ghost use Rattle.std.specs.List.{list_all};
+ghost use Rattle.log_gather.specs.declared.marks.Details.{Details};
+ghost use Rattle.log_gather.specs.Marks.{AreOf, are_known, first_taken, steps_of};
 ghost use Rattle.log_gather.specs.Steps.{AllAwait, AreOfEight, located_of};
-ghost use Rattle.log_gather.specs.Turns.{IsNext, IsPrivateLength, after_turn, after_turns};
-ghost use Rattle.log_gather.specs.Turns.{inside_in, is_of_eight, taken_first};
+ghost use Rattle.log_gather.specs.Turns.{IsNext, IsPrivateLength, after_turn, after_turns, inside_in, is_of_eight};
 
 use crate::clashes::is_undisturbed;
+use crate::marks::{Details, Mark};
 use crate::moving::move_others;
 use crate::spans::reach_from;
-use crate::steps::Step;
 use mach_types::Hart;
 use std::alloc::{AllocError, Global};
 
@@ -17,18 +18,19 @@ use std::alloc::{AllocError, Global};
 /// instruction, all events in its span are plain, and none of another hart clashes with one of its own.
 fn private_length(
     alloc: Global,
-    from: &[Step],
+    details: &Details,
+    from: &[Mark],
     hart: Hart,
     inside_at_end: bool,
 ) -> Result<Option<usize>, AllocError>
     requires { 0 < length from.now }
-    ensures { IfOk result (λ o. IsPrivateLength hart.0 inside_at_end from.now o) }
+    ensures { IfOk result (λ o. IsPrivateLength hart.0 inside_at_end (steps_of details.now from.now) o) }
 {
     let reach = reach_from(from, hart, inside_at_end);
     if !from[0].begins || !reach.moved_out || reach.inside_next {
         return Ok(None);
     }
-    let undisturbed = is_undisturbed(alloc, &from[..reach.length], hart)?;
+    let undisturbed = is_undisturbed(alloc, details, &from[..reach.length], hart)?;
     Ok(if undisturbed {
         Some(reach.length)
     } else {
@@ -37,36 +39,43 @@ fn private_length(
 }
 
 /// The first of these events awaits its turn no longer.
-fn take_first(from: &mut [Step])
+fn take_first(from: &mut [Mark])
     requires { 0 < length from.old }
-    ensures { from.new ≡ taken_first from.old }
+    ensures { from.new ≡ first_taken from.old }
 {
     from[0].awaits = false;
 }
 
 /// The sequence that begins with the first of these events has its turn: if it is private, the events of others in its span come before
 /// its own.
-fn take_turn(alloc: Global, from: &mut [Step], inside_at_end: &[bool; 8]) -> Result<(), AllocError>
+fn take_turn(
+    alloc: Global,
+    details: &mut Details,
+    from: &mut [Mark],
+    inside_at_end: &[bool; 8],
+) -> Result<(), AllocError>
     requires some { 0 < length from.old }
-    requires eight { list_all is_of_eight from.old ≡ true }
-    ensures { IfOk result (λ _. from.new ≡ after_turn (inside_in inside_at_end.now) from.old) }
+    requires eight { list_all is_of_eight (steps_of details.old from.old) ≡ true }
+    requires known { are_known details.old from.old ≡ true }
+    ensures { IfOk result (λ _. AreOf details.old
+        (after_turn (inside_in inside_at_end.now) (steps_of details.old from.old)) details.new from.new) }
 {
     take_first(from);
     let hart = from[0].entry.hart;
     let inside = inside_at_end[usize::from(hart.0)];
-    match private_length(alloc, from, hart, inside)? {
-        Some(length) => move_others(alloc, &mut from[..length], hart)?,
+    match private_length(alloc, details, from, hart, inside)? {
+        Some(length) => move_others(alloc, details, &mut from[..length], hart)?,
         None => (),
     }
     Ok(())
 }
 
 /// The first event that awaits its turn.
-fn next_turn(steps: &[Step]) -> Option<usize>
-    ensures { IsNext steps.now result }
+fn next_turn(marks: &[Mark]) -> Option<usize>
+    ensures { (d : Details) → IsNext (steps_of d marks.now) result }
 {
-    for (i, step) in steps.iter().enumerate() {
-        if step.awaits {
+    for (i, mark) in marks.iter().enumerate() {
+        if mark.awaits {
             return Some(i);
         }
     }
@@ -77,17 +86,20 @@ fn next_turn(steps: &[Step]) -> Option<usize>
 /// turn all that wait stand where the sequence began, or later.
 pub(crate) fn gather_all(
     alloc: Global,
-    steps: &mut [Step],
+    details: &mut Details,
+    marks: &mut [Mark],
     inside_at_end: &[bool; 8],
 ) -> Result<(), AllocError>
-    requires eight { AreOfEight steps.old }
-    requires awaits { AllAwait steps.old }
-    ensures { IfOk result (λ _. map located_of steps.new ≡ after_turns (inside_in inside_at_end.now) steps.old) }
+    requires eight { AreOfEight (steps_of details.old marks.old) }
+    requires awaits { AllAwait (steps_of details.old marks.old) }
+    requires known { are_known details.old marks.old ≡ true }
+    ensures { IfOk result (λ _. map located_of (steps_of details.new marks.new)
+        ≡ after_turns (inside_in inside_at_end.now) (steps_of details.old marks.old)) }
 {
     let mut from = 0;
-    while let Some(next) = next_turn(&steps[from..]) {
+    while let Some(next) = next_turn(&marks[from..]) {
         from += next;
-        take_turn(alloc, &mut steps[from..], inside_at_end)?;
+        take_turn(alloc, details, &mut marks[from..], inside_at_end)?;
     }
     Ok(())
 }

@@ -1,6 +1,6 @@
-use Rattle.std.proofs.Common.{◌≡◌, take, true}
-use Rattle.log_gather.specs.Turns.{none_await}
+use Rattle.std.proofs.Common.{◌≡◌, take, true, not}
+use Rattle.std.specs.List.{list_all}
 use Rattle.log_gather.proofs.turns.next_turn.Given as goal
 
 abbrev pub invariant-loop-i : goal.invariant-loop-i
-invariant-loop-i l = none_await (take (l.i) l.steps) ≡ true
+invariant-loop-i l = list_all (λ x. not x.awaits) (take (l.i) l.marks) ≡ true
