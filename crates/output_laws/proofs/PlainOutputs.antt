@@ -7,7 +7,7 @@ use Rattle.block_model.specs.Replay.{script_of}
 use Rattle.block_model.specs.Setting.{Setting}
 use Rattle.block_model.proofs.Laws.{answers_itself, plain_makes, plain_solo_log, plain_solo_says, run_is_played}
 use Rattle.command_words.specs.declared.table.Shown.{Shown}
-use Rattle.command_words.specs.Commands.{Command, Source, Rule, Script, Workers}
+use Rattle.command_words.specs.Commands.{Command, Runs, Makes, Source, Rule, Script, Workers}
 use Rattle.outcomes.specs.Outputs.{IsLogOf, IsOutputOf, IsPlainOutputOf, IsPlainRunOf, plain_text}
 use Rattle.outcomes.specs.Outputs.{setting_for, shown_text, text_of}
 use Rattle.outcomes.specs.Programs.{Files}
@@ -61,13 +61,14 @@ run_alike files (Workers seed) s log run =
 pub plain_output_of : (files : Files) (command : Option Command) (written : List ℕ)
     → IsOutputOf files command written → IsPlainOutputOf files command written
 plain_output_of files None written output = absurd output
-plain_output_of files (Some command) written output =
-    let s = setting_for command output.image in
-    let alike = run_alike files command.source s output.log output.made in
+plain_output_of files (Some (Makes guest)) written output = output
+plain_output_of files (Some (Runs run)) written output =
+    let s = setting_for run output.image in
+    let alike = run_alike files run.source s output.log output.made in
     record {
       image = output.image;
       taken = output.taken;
       run = alike.run;
       made = alike.made;
-      text = output.text ∙ shows_alike command.shown s output.log alike.run alike.same alike.says;
+      text = output.text ∙ shows_alike run.shown s output.log alike.run alike.same alike.says;
     }
