@@ -5,33 +5,32 @@ ghost use Rattle.std.specs.List.{flat_map};
 ghost use Rattle.mach_types.specs.Limits.{InRange};
 ghost use Rattle.elf_load.specs.Images.{IsBootable};
 ghost use Rattle.block_model.specs.Run.{IsBlockRun};
+ghost use Rattle.block_model.specs.Setting.{setting_of};
 ghost use Rattle.block_view.specs.Acts.{acts_of};
-ghost use Rattle.command_words.specs.Kept.{said};
-ghost use Rattle.outcomes.specs.Outputs.{setting_for};
 ghost use Rattle.outcomes.specs.Summary.{act_line};
 
 use block_view::{Act, Acts, Form, SeqEnd, ViewFault, acts, form_word};
-use command_words::Command;
 use elf_load::Image;
+use mach_types::Limits;
 use machine_core::Machine;
 use place_text::fields::{push_decimal, push_number, push_value, push_word};
 use std::alloc::{AllocError, Global};
 
-/// The acts of the run of a command's program, at whose end a machine is. It errs only for want of memory.
+/// The acts of a run of this image, at whose end a machine is. It errs only for want of memory.
 pub(crate) fn acts_of_run(
     alloc: Global,
-    command: &Command,
     image: &Image,
+    limits: &Limits,
     machine: &Machine,
 ) -> Result<Acts, AllocError>
-    requires image { IsBootable command.now.limits.frames image.now }
-    requires limits { InRange command.now.limits }
-    requires setting { machine.now.setting ≡ setting_for (said command.now) image.now }
+    requires image { IsBootable limits.now.frames image.now }
+    requires limits { InRange limits.now }
+    requires setting { machine.now.setting ≡ setting_of image.now limits.now }
     requires run { IsBlockRun machine.now.setting machine.now.log }
     ensures acts { IfOk result (λ acts. acts.list.items ≡ acts_of machine.now.setting machine.now.log) }
     ensures few { IfOk result (λ acts. length acts.list.items < 2 ^ 32) }
 {
-    match acts(alloc, image, &command.limits, machine.log()) {
+    match acts(alloc, image, limits, machine.log()) {
         Ok(acts) => Ok(acts),
         Err(ViewFault::NoMemory) => Err(AllocError),
         Err(ViewFault::NotARun(_)) => unreachable!(),

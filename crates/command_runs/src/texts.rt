@@ -4,43 +4,43 @@ ghost use Rattle.std.specs.Prelude.{◌≡◌, IfOk};
 ghost use Rattle.mach_types.specs.Limits.{InRange};
 ghost use Rattle.elf_load.specs.Images.{IsBootable};
 ghost use Rattle.block_model.specs.Run.{IsBlockRun};
-ghost use Rattle.command_words.specs.Kept.{said};
+ghost use Rattle.command_words.specs.Kept.{run_said};
 ghost use Rattle.outcomes.specs.Outputs.{setting_for, shown_text};
 
 use crate::acts::{acts_of_run, acts_text};
 use crate::gather::gathered_log;
 use crate::output::output_text;
 use crate::summary::summary_text;
-use command_words::{Command, Shown};
+use command_words::{Run, Shown};
 use elf_load::Image;
 use machine_core::Machine;
 use place_text::place_text;
 use std::alloc::{AllocError, Global};
 
-/// What a command shows of a run of its program, at whose end a machine is.
+/// What is shown of a run that is asked for, at whose end a machine is.
 pub fn shown_text(
     alloc: Global,
-    command: &Command,
+    run: &Run,
     image: &Image,
     machine: &Machine,
 ) -> Result<Vec<u8>, AllocError>
-    requires image { IsBootable command.now.limits.frames image.now }
-    requires limits { InRange command.now.limits }
-    requires setting { machine.now.setting ≡ setting_for (said command.now) image.now }
+    requires image { IsBootable run.now.limits.frames image.now }
+    requires limits { InRange run.now.limits }
+    requires setting { machine.now.setting ≡ setting_for (run_said run.now) image.now }
     requires run { IsBlockRun machine.now.setting machine.now.log }
     ensures { IfOk result
-        (λ text. text.items ≡ shown_text command.now.shown machine.now.setting machine.now.log) }
+        (λ text. text.items ≡ shown_text run.now.shown machine.now.setting machine.now.log) }
 {
-    match command.shown {
+    match run.shown {
         Shown::Output => output_text(alloc, machine, machine.log()),
         Shown::Summary => {
-            let acts = acts_of_run(alloc, command, image, machine)?;
+            let acts = acts_of_run(alloc, image, &run.limits, machine)?;
             summary_text(alloc, &acts, machine)
         }
         Shown::Place => place_text(alloc, machine),
-        Shown::Acts => acts_text(alloc, &acts_of_run(alloc, command, image, machine)?),
+        Shown::Acts => acts_text(alloc, &acts_of_run(alloc, image, &run.limits, machine)?),
         Shown::Gathered => {
-            let log = gathered_log(alloc, command, image, machine)?;
+            let log = gathered_log(alloc, image, &run.limits, machine)?;
             output_text(alloc, machine, &log)
         }
     }

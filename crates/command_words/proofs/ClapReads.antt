@@ -12,7 +12,7 @@ use Rattle.clap.specs.Faults.{fault_of}
 use Rattle.command_words.specs.Grammar.{Arguments, Item, Name, Given, asked_by, begins_with_dash, is_option}
 use Rattle.command_words.specs.Line.{AsksAlike, arguments_found, line, names_found}
 use Rattle.command_words.specs.Options.{OptionName, Harts, Frames, Steps, Seed}
-use Rattle.command_words.specs.Takes.{has, takes_by}
+use Rattle.command_words.specs.Takes.{has, takes_kind}
 use Rattle.command_words.specs.Words.{Reading, Options, Value, Names, texts, word_read}
 use Rattle.command_words.proofs.Parts.{no_arguments, with_item}
 use Rattle.command_words.proofs.Gathering.{arguments_gathered, with_words}
@@ -33,7 +33,7 @@ dash = 45 ∷ []
 none_asked : (word : Text) (o : OptionName) (given : Arguments) → value_of o given ≡ Some dash
     → asked_by word given ≡ None
 none_asked word o given is =
-    unsuited word given o (λ source. ap (suits (takes_by source) o) is ∙ and_false (has (takes_by source).options o))
+    unsuited word given o (λ kind. ap (suits (takes_kind kind) o) is ∙ and_false (has (takes_kind kind).options o))
 
 -- ---- such a value stays
 

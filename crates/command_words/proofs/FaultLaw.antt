@@ -1,19 +1,22 @@
 -- Nothing is wrong with words exactly where they name a command.
-use Rattle.std.proofs.Common.{◌≡◌, ◌∙◌, ◌↔◌, ◌⊎◌, inl, inr, ℕ, ◌+◌, ◌-◌, ◌<◌, Bool, cond, true, false, List, [], ◌∷◌}
+use Rattle.std.proofs.Common.{◌≡◌, ◌∙◌, ◌↔◌, ◌⊎◌, inl, inr, ℕ, ◌+◌, ◌-◌, ◌<◌, ◌≤◌, Bool, cond, true, false, List, [], ◌∷◌}
 use Rattle.std.proofs.Common.{length, Option, Some, None, refl, sym, ap, ap₂, arith, codes, lt-ltb}
-use Rattle.std.specs.Prelude.{◌==◌, not, nat_lt}
+use Rattle.std.specs.Prelude.{nat_lt}
 use Rattle.std.specs.List.{before_first}
-use Rattle.std.specs.Option.{IsSome, is_none, is_some}
+use Rattle.std.specs.Option.{IsSome, is_none, is_some, option_map}
 use Rattle.std.specs.Str.{bytes_eq}
-use Rattle.std.proofs.lemmas.Bool.{ltb-false, ltb-true}
+use Rattle.std.proofs.lemmas.Bool.{and_parts}
 use Rattle.step_log.specs.Script.{◌>>=◌}
 use Rattle.command_words.specs.declared.faults.WordsFault.{WordsFault}
-use Rattle.command_words.specs.declared.faults.WordsFault.TheVariants.{NoProgram, NoScript, NotTaken, NoValue}
-use Rattle.command_words.specs.declared.faults.WordsFault.TheVariants.{OneNameTooMany, Twice, UnknownOption}
+use Rattle.command_words.specs.declared.faults.WordsFault.TheVariants.{NoNumber, NotTaken, NoValue}
+use Rattle.command_words.specs.declared.faults.WordsFault.TheVariants.{OneNameTooMany, Twice, UnknownGuest, UnknownOption}
+use Rattle.command_words.specs.declared.takes.NameKind.{NameKind}
+use Rattle.command_words.specs.declared.takes.NameKind.TheVariants.{Program, Script, Guest, Size}
 use Rattle.command_words.specs.Commands.{Command}
 use Rattle.command_words.specs.Grammar.{Arguments, Item, Name, Given, asked_by, begins_with_dash, is_option}
 use Rattle.command_words.specs.Options.{OptionName, Harts, Frames, Steps, Seed, chosen, option_named, range_of}
 use Rattle.command_words.specs.Takes.{Takes, has, takes_of}
+use Rattle.command_words.specs.WordFaults.{fault_at, kind_at, kind_fault, missing}
 use Rattle.command_words.specs.WordFaults.{SoFar, fault_among, fault_behind, joined_fault, name_fault, name_missing, out_of}
 use Rattle.command_words.specs.WordFaults.{option_word_fault, value_fault}
 use Rattle.command_words.specs.WordFaults.{with_word, word_fault, words_fault}
@@ -24,7 +27,8 @@ use Rattle.command_words.proofs.Gathering.{arguments_gathered, none_after}
 use Rattle.command_words.proofs.ClapTurns.{value_of}
 use Rattle.command_words.proofs.ClapWalk.{with_option}
 use Rattle.command_words.proofs.ClapGoes.{option_item, option_twice}
-use Rattle.command_words.proofs.Suits.{Sound, asked_fits, few_taken, none_asked, sound_fits, suits}
+use Rattle.command_words.proofs.Suits.{Sound, asked_fits, begin_more, few_taken, kind_within, name_suits}
+use Rattle.command_words.proofs.Suits.{names_begin, none_asked, sound_fits, suits, suits_at}
 use Rattle.command_words.proofs.FaultTurns.{asks, given_options, has_given, own_value, stood, name_more, names_same, never_asks, options_after}
 use Rattle.command_words.proofs.FaultTurns.{refused_asks, sound_name, sound_value, standing, taken_asks}
 use Rattle.command_words.proofs.FaultTurns.{unread_asks, with_name}
@@ -72,15 +76,50 @@ stops : (word : List ℕ) (takes : Takes) (next : ℕ) (reading : Reading) (give
 stops word takes next reading given text rest fault is none =
     wrong (standing takes next reading given) text rest fault is ∙ sym none
 
+-- a name is wrong where it isn't of its kind
+abbrev IsFault : Option WordsFault → Type 0
+IsFault o = (fault : WordsFault) × (o ≡ Some fault)
+
+kind_wrong : (kind : NameKind) (word : ℕ) (text : List ℕ) → name_suits kind text ≡ false
+    → IsFault (kind_fault kind word text)
+kind_wrong Program word text is = absurd (cc is)
+kind_wrong Script word text is = absurd (cc is)
+kind_wrong Guest word text is = (UnknownGuest word, rw is refl)
+kind_wrong Size word text is = (NoNumber word, rw is refl)
+
+place_wrong : (o : Option NameKind) (word : ℕ) (text : List ℕ) → suits_at o text ≡ false → IsFault (fault_at o word text)
+place_wrong None word text is = (OneNameTooMany word, refl)
+place_wrong (Some kind) word text is = kind_wrong kind word text is
+
+kind_right : (kind : NameKind) (word : ℕ) (text : List ℕ) → name_suits kind text ≡ true
+    → kind_fault kind word text ≡ None
+kind_right Program word text is = refl
+kind_right Script word text is = refl
+kind_right Guest word text is = rw is refl
+kind_right Size word text is = rw is refl
+
+place_right : (o : Option NameKind) (word : ℕ) (text : List ℕ) → suits_at o text ≡ true → fault_at o word text ≡ None
+place_right None word text is = absurd (cc is)
+place_right (Some kind) word text is = kind_right kind word text is
+
+-- one that is of its kind is one of two at most
+place_within : (takes : Takes) (place : ℕ) (text : List ℕ) → length takes.names ≤ 2
+    → suits_at (kind_at takes.names place) text ≡ true → place < 2
+place_within takes place text few is = by_kind (kind_at takes.names place) refl is
+  where
+    by_kind : (o : Option NameKind) → kind_at takes.names place ≡ o → suits_at o text ≡ true → place < 2
+    by_kind None at is = absurd (cc is)
+    by_kind (Some kind) at is = let within = kind_within takes.names place kind at in omega arith
+
 -- a name
 named_on : (word : List ℕ) (takes : Takes) (next : ℕ) (reading after : Reading) (given : Arguments) (text : List ℕ)
     (rest : List (List ℕ)) → takes_of word ≡ Some takes → Sound takes given
     → ((more : Arguments) → Awaits takes more after) → Later word takes rest
     → word_read reading text ≡ Some (Some (Name text), after)
-    → word_fault (standing takes next reading given) text ≡ name_fault (standing takes next reading given)
+    → word_fault (standing takes next reading given) text ≡ name_fault (standing takes next reading given) text
     → Agrees word takes (text ∷ rest) next reading given
 named_on word takes next reading after given text rest is sound awaits later read fault =
-    by_room (nat_lt (length given.names) takes.names) refl
+    by_kind (suits_at (kind_at takes.names (length given.names)) text) refl
   where
     here : SoFar
     here = standing takes next reading given
@@ -89,32 +128,34 @@ named_on word takes next reading after given text rest is sound awaits later rea
     goes =
         rw read (ap (λ n. Some (stood takes (next + 1) after n (given_options given))) (sym (name_more text given)))
 
-    never : (b : Bool) → nat_lt (length given.names) 2 ≡ b → nat_lt (length given.names) takes.names ≡ false
+    never : (b : Bool) → nat_lt (length given.names) 2 ≡ b
+        → suits_at (kind_at takes.names (length given.names)) text ≡ false
         → asks word given reading (text ∷ rest) ≡ false
-    never false two full =
+    never false two off =
         refused_asks word given reading after (Some (Name text)) text rest read (rw two refl)
-    never true two full =
-        let most = ltb-false (length given.names) takes.names full in
+    never true two off =
         let bad : Sound takes (with_name text given) → ⊥ = λ sound.
-        let few = sound.few in
-        let more = name_more text given in
-        omega arith in
+        let suits = (and_parts (names_begin takes.names given.names)
+        (suits_at (kind_at takes.names (length given.names)) text)
+        (sym (begin_more takes.names given.names text) ∙ sound.begin)).1 in
+        cc (sym suits ∙ off) in
         taken_asks word given (with_name text given) reading after (Some (Name text)) text rest read (rw two refl)
         ∙ never_asks word takes rest (with_name text given) after is bad
 
-    by_room : (b : Bool) → nat_lt (length given.names) takes.names ≡ b → Agrees word takes (text ∷ rest) next reading given
-    by_room true room =
-        let within : length given.names < takes.names = ltb-true _ _ room in
-        let few = few_taken word takes is in
-        let two : nat_lt (length given.names) 2 ≡ true = lt-ltb (length given.names) 2 (omega arith) in
+    by_kind : (b : Bool) → suits_at (kind_at takes.names (length given.names)) text ≡ b
+        → Agrees word takes (text ∷ rest) next reading given
+    by_kind true suits =
+        let within = place_within takes (length given.names) text (few_taken word takes is) suits in
+        let two : nat_lt (length given.names) 2 ≡ true = lt-ltb (length given.names) 2 within in
         let taken : with_item given (Some (Name text)) ≡ Some (with_name text given) = rw two refl in
         goes_on word takes next reading after given (with_name text given) (Some (Name text)) text rest read taken
-        (fault ∙ rw room refl) goes
-        (later (next + 1) after (with_name text given) (sound_name takes text given sound within)
+        (fault ∙ place_right (kind_at takes.names (length given.names)) next text suits) goes
+        (later (next + 1) after (with_name text given) (sound_name takes text given sound suits)
         (awaits (with_name text given)))
-    by_room false full =
-        stops word takes next reading given text rest (OneNameTooMany next) (fault ∙ rw full refl)
-        (never (nat_lt (length given.names) 2) refl full)
+    by_kind false off =
+        let wrong = place_wrong (kind_at takes.names (length given.names)) next text off in
+        stops word takes next reading given text rest wrong.0 (fault ∙ wrong.1)
+        (never (nat_lt (length given.names) 2) refl off)
 
 -- a value of an option that is the command's, and isn't given yet
 valued_on : (word : List ℕ) (takes : Takes) (next : ℕ) (reading : Reading) (given : Arguments) (option : OptionName)
@@ -274,21 +315,16 @@ any_on word takes next given text rest is sound later = by_kind (bytes_eq text (
         (rw (ends, at) refl)
 
 -- where no words follow
-no_name_missing : (so_far : SoFar) → is_none (name_missing so_far) ≡ not (nat_lt so_far.names so_far.takes.names)
-no_name_missing so_far = by_room (nat_lt so_far.names so_far.takes.names) (so_far.names == 0)
-  where
-    by_room : (more none : Bool)
-        → is_none {T = WordsFault} (cond (not more) None (cond none (Some NoProgram) (Some NoScript))) ≡ not more
-    by_room true true = refl
-    by_room true false = refl
-    by_room false none = refl
+no_name_missing : (o : Option NameKind) → is_none (option_map missing o) ≡ is_none o
+no_name_missing None = refl
+no_name_missing (Some kind) = refl
 
 -- a name is missing exactly where sound arguments are no command yet
 ended : (word : List ℕ) (takes : Takes) (given : Arguments) (next : ℕ) (reading : Reading) → takes_of word ≡ Some takes
     → Sound takes given
     → is_none (name_missing (standing takes next reading given)) ≡ is_some (asked_by word given)
 ended word takes given next reading is sound =
-    no_name_missing (standing takes next reading given) ∙ sym (sound_fits takes given sound)
+    no_name_missing (kind_at takes.names (length given.names)) ∙ sym (sound_fits takes given sound)
     ∙ sym (asked_fits word takes given is)
 
 -- behind sound arguments nothing is wrong with the words exactly where they give a command
@@ -308,7 +344,7 @@ agree word takes (text ∷ rest) next Options given is sound awaits =
 
 -- no argument is given yet, which is sound
 nothing_sound : (takes : Takes) → Sound takes no_arguments
-nothing_sound takes = record { few = omega arith; suit = by_option }
+nothing_sound takes = record { begin = refl; suit = by_option }
   where
     by_option : (option : OptionName) → suits takes option (value_of option no_arguments) ≡ true
     by_option Harts = refl

@@ -2,13 +2,14 @@
 use Rattle.std.proofs.Common.{◌≡◌, ◌∙◌, ◌⊎◌, inl, inr, ℕ, ◌+◌, ◌<◌, ◌≤◌, Bool, cond, true, false, List, [], ◌∷◌}
 use Rattle.std.proofs.Common.{◌++◌, length, Option, Some, None, refl, sym, ap, subst, arith, length-append}
 use Rattle.std.specs.Prelude.{nat_lt}
+use Rattle.std.proofs.lemmas.Bool.{and_parts}
 use Rattle.std.specs.Option.{is_some}
 use Rattle.step_log.specs.Script.{◌>>=◌}
 use Rattle.command_words.specs.Grammar.{Arguments, Item, Name, Given, asked_by}
 use Rattle.command_words.specs.Options.{OptionName, Harts, Frames, Steps, Seed}
 use Rattle.command_words.specs.Takes.{OptionSet, Takes, has, takes_of}
 use Rattle.command_words.specs.Takes.{with_option as with_one}
-use Rattle.command_words.specs.WordFaults.{SoFar}
+use Rattle.command_words.specs.WordFaults.{SoFar, kind_at}
 use Rattle.command_words.specs.Words.{Reading, Options, Value, Names, word_read}
 use Rattle.command_words.proofs.Parts.{with_item}
 use Rattle.command_words.proofs.Gathering.{with_words, word_refused, word_taken, word_unread}
@@ -16,7 +17,8 @@ use Rattle.command_words.proofs.ClapTurns.{value_of}
 use Rattle.command_words.proofs.ClapWalk.{with_option}
 use Rattle.command_words.proofs.ClapGoes.{option_item, option_twice}
 use Rattle.command_words.proofs.ClapReads.{item_stays, same_value, stays_apart}
-use Rattle.command_words.proofs.Suits.{Sound, asked_fits, fits, fitting_sound, suits}
+use Rattle.command_words.proofs.Suits.{Sound, asked_fits, begin_more, fits, fitting_sound, names_begin, suits}
+use Rattle.command_words.proofs.Suits.{suits_at}
 
 -- which options the arguments give
 abbrev pub given_options : Arguments → OptionSet
@@ -78,8 +80,7 @@ name_more text given = length-append given.names (text ∷ [])
 pub sound_value : (takes : Takes) (option : OptionName) (text : List ℕ) (given : Arguments) → Sound takes given
     → suits takes option (Some text) ≡ true → Sound takes (with_option option text given)
 sound_value takes option text given sound fine = record {
-  few = let same = ap (length {A = List ℕ}) (names_same option text given) in
-      let few = sound.few in omega arith;
+  begin = ap (names_begin takes.names) (names_same option text given) ∙ sound.begin;
   suit = λ other. by_same other (stays_apart other option text given);
 }
   where
@@ -92,40 +93,41 @@ sound_value takes option text given sound fine = record {
         (ap (suits takes option) (own_value option text given) ∙ fine)
 
 pub sound_name : (takes : Takes) (text : List ℕ) (given : Arguments) → Sound takes given
-    → length given.names < takes.names → Sound takes (with_name text given)
-sound_name takes text given sound room = record {
-  few = let more = name_more text given in omega arith;
+    → suits_at (kind_at takes.names (length given.names)) text ≡ true → Sound takes (with_name text given)
+sound_name takes text given sound fine = record {
+  begin = begin_more takes.names given.names text ∙ rw (sound.begin, fine) refl;
   suit = λ option. ap (suits takes option) (same_value option (given.names ++ text ∷ []) given) ∙ sound.suit option;
 }
 
--- with an item more there aren't fewer names
-names_rise : (item : Option Item) (given next : Arguments) → with_item given item ≡ Some next
-    → length given.names ≤ length next.names
-names_rise None given next is = let same : given ≡ next = cc is in omega (arith, ap (λ (g : Arguments). length g.names) same)
-names_rise (Some (Name text)) given next is = by_room (nat_lt (length given.names) 2) is
+-- where names with an item more are of their kinds, those before it are
+names_before : (takes : Takes) (item : Option Item) (given next : Arguments) → with_item given item ≡ Some next
+    → names_begin takes.names next.names ≡ true → names_begin takes.names given.names ≡ true
+names_before takes None given next is fine =
+    let same : given ≡ next = cc is in ap (λ (g : Arguments). names_begin takes.names g.names) same ∙ fine
+names_before takes (Some (Name text)) given next is fine = by_room (nat_lt (length given.names) 2) is
   where
-    by_room : (b : Bool) → cond b (Some (with_name text given)) None ≡ Some next → length given.names ≤ length next.names
+    by_room : (b : Bool) → cond b (Some (with_name text given)) None ≡ Some next
+        → names_begin takes.names given.names ≡ true
     by_room true is =
         let same : with_name text given ≡ next = cc is in
-        omega (arith, name_more text given, ap (λ (g : Arguments). length g.names) same)
+        (and_parts (names_begin takes.names given.names) (suits_at (kind_at takes.names (length given.names)) text)
+        (sym (begin_more takes.names given.names text)
+        ∙ ap (λ (g : Arguments). names_begin takes.names g.names) same ∙ fine)).0
     by_room false is = absurd (cc is)
-names_rise (Some (Given option text)) given next is = by_value (value_of option given) refl
+names_before takes (Some (Given option text)) given next is fine = by_value (value_of option given) refl
   where
-    by_value : (o : Option (List ℕ)) → value_of option given ≡ o → length given.names ≤ length next.names
+    by_value : (o : Option (List ℕ)) → value_of option given ≡ o → names_begin takes.names given.names ≡ true
     by_value (Some x) there = absurd (cc (sym (option_twice option text x given there) ∙ is))
     by_value None lacks =
         let same : with_option option text given ≡ next = cc (sym (option_item option text given lacks) ∙ is) in
-        omega (
-          arith,
-          ap (length {A = List ℕ}) (names_same option text given),
-          ap (λ (g : Arguments). length g.names) same,
-        )
+        ap (names_begin takes.names) (sym (names_same option text given))
+        ∙ ap (λ (g : Arguments). names_begin takes.names g.names) same ∙ fine
 
 -- what becomes sound was sound
 pub sound_before : (takes : Takes) (item : Option Item) (given next : Arguments) → with_item given item ≡ Some next
     → Sound takes next → Sound takes given
 sound_before takes item given next is sound = record {
-  few = let rise = names_rise item given next is in let few = sound.few in omega arith;
+  begin = names_before takes item given next is sound.begin;
   suit = λ option. by_value option (value_of option given) refl;
 }
   where

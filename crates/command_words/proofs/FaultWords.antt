@@ -1,17 +1,21 @@
 -- A word that is wrong is one of the words.
 use Rattle.std.proofs.Common.{◌≡◌, ℕ, ◌+◌, ◌-◌, ◌≤◌, Bool, cond, true, false, List, [], ◌∷◌, length}
 use Rattle.std.proofs.Common.{Option, Some, None, refl, arith, codes}
-use Rattle.std.specs.Prelude.{◌==◌, nat_lt, not}
+use Rattle.std.specs.Prelude.{not}
 use Rattle.std.specs.List.{before_first}
 use Rattle.std.specs.Option.{IfSome, is_some, option_map, option_or}
 use Rattle.std.specs.Str.{bytes_eq}
+use Rattle.guest_names.specs.Guests.{name_of}
 use Rattle.step_log.specs.Script.{◌>>=◌}
 use Rattle.command_words.specs.declared.faults.WordsFault.{WordsFault}
-use Rattle.command_words.specs.declared.faults.WordsFault.TheVariants.{NoProgram, NoScript, NotTaken, NoValue}
-use Rattle.command_words.specs.declared.faults.WordsFault.TheVariants.{OneNameTooMany, Twice}
+use Rattle.command_words.specs.declared.faults.WordsFault.TheVariants.{NoNumber, NotTaken, NoValue, Twice}
+use Rattle.command_words.specs.declared.faults.WordsFault.TheVariants.{UnknownGuest}
+use Rattle.command_words.specs.declared.takes.NameKind.{NameKind}
+use Rattle.command_words.specs.declared.takes.NameKind.TheVariants.{Program, Script, Guest, Size}
 use Rattle.command_words.specs.Grammar.{Item, Name, Given, begins_with_dash, is_option}
-use Rattle.command_words.specs.Options.{OptionName, chosen, option_named, range_of}
+use Rattle.command_words.specs.Options.{OptionName, chosen, number_of, option_named, range_of}
 use Rattle.command_words.specs.Takes.{Takes, has, takes_of}
+use Rattle.command_words.specs.WordFaults.{fault_at, kind_at, kind_fault, missing}
 use Rattle.command_words.specs.WordFaults.{IsAmong, SoFar, command_read, end_fault, fault_among, fault_behind, fault_read, joined_fault}
 use Rattle.command_words.specs.WordFaults.{name_fault, name_missing, one_further, option_fault, option_word_fault, out_of}
 use Rattle.command_words.specs.WordFaults.{value_fault, value_missing, with_item, with_read, word_of, words_fault}
@@ -30,12 +34,26 @@ near_value so_far option text = by_number (is_some (chosen (range_of option) (So
     by_number true = tt
     by_number false = (omega arith, omega arith)
 
-near_name : (so_far : SoFar) → IsNear so_far.next so_far.next (name_fault so_far)
-near_name so_far = by_room (nat_lt so_far.names so_far.takes.names)
+near_kind : (kind : NameKind) (word : ℕ) (text : List ℕ) → IsNear word word (kind_fault kind word text)
+near_kind Program word text = tt
+near_kind Script word text = tt
+near_kind Guest word text = by_name (is_some (name_of text))
   where
-    by_room : (b : Bool) → IsNear so_far.next so_far.next (cond b None (Some (OneNameTooMany so_far.next)))
-    by_room true = tt
-    by_room false = (omega arith, omega arith)
+    by_name : (b : Bool) → IsNear word word (cond b None (Some (UnknownGuest word)))
+    by_name true = tt
+    by_name false = (omega arith, omega arith)
+near_kind Size word text = by_number (is_some (number_of text))
+  where
+    by_number : (b : Bool) → IsNear word word (cond b None (Some (NoNumber word)))
+    by_number true = tt
+    by_number false = (omega arith, omega arith)
+
+near_name : (so_far : SoFar) (text : List ℕ) → IsNear so_far.next so_far.next (name_fault so_far text)
+near_name so_far text = by_kind (kind_at so_far.takes.names so_far.names)
+  where
+    by_kind : (o : Option NameKind) → IsNear so_far.next so_far.next (fault_at o so_far.next text)
+    by_kind None = (omega arith, omega arith)
+    by_kind (Some kind) = near_kind kind so_far.next text
 
 -- the first of two faults
 near_either : (next most : ℕ) (a b : Option WordsFault) → IsNear next most a → IsNear next most b
@@ -64,7 +82,7 @@ near_joined so_far (Some option) (Some text) = near_value so_far option text
 -- the next word, or the option's before it that lacks its value
 near_word : (so_far : SoFar) (reading : Reading) (word : List ℕ)
     → IsNear so_far.next so_far.next (fault_read so_far reading word)
-near_word so_far Names word = near_name so_far
+near_word so_far Names word = near_name so_far word
 near_word so_far (Value option) word = by_dash (begins_with_dash word)
   where
     by_dash : (b : Bool)
@@ -75,27 +93,28 @@ near_word so_far Options word = by_kind (bytes_eq word (codes "--")) (is_option 
   where
     by_kind : (ends dashed : Bool)
         → IsNear so_far.next so_far.next
-        (cond ends None (cond dashed (option_word_fault so_far word) (name_fault so_far)))
+        (cond ends None (cond dashed (option_word_fault so_far word) (name_fault so_far word)))
     by_kind true dashed = tt
     by_kind false true =
         let option = option_named (before_first is_equals word) in
         near_either so_far.next so_far.next (option_fault so_far option)
         (joined_fault so_far option (behind_equals word)) (near_option so_far option)
         (near_joined so_far option (behind_equals word))
-    by_kind false false = near_name so_far
+    by_kind false false = near_name so_far word
 
 -- where no words follow, the last one
 near_end : (so_far : SoFar) → 1 ≤ so_far.next → IsNear so_far.next (so_far.next - 1) (end_fault so_far)
 near_end so_far some = by_reading so_far.reading
   where
     names : IsNear so_far.next (so_far.next - 1) (name_missing so_far)
-    names = by_room (nat_lt so_far.names so_far.takes.names) (so_far.names == 0)
+    names = by_kind (kind_at so_far.takes.names so_far.names)
       where
-        by_room : (more none : Bool)
-            → IsNear so_far.next (so_far.next - 1) (cond (not more) None (cond none (Some NoProgram) (Some NoScript)))
-        by_room false none = tt
-        by_room true true = tt
-        by_room true false = tt
+        by_kind : (o : Option NameKind) → IsNear so_far.next (so_far.next - 1) (option_map missing o)
+        by_kind None = tt
+        by_kind (Some Program) = tt
+        by_kind (Some Script) = tt
+        by_kind (Some Guest) = tt
+        by_kind (Some Size) = tt
 
     by_reading : (reading : Reading)
         → IsNear so_far.next (so_far.next - 1) (option_or (value_missing so_far reading) (name_missing so_far))

@@ -1,20 +1,28 @@
 -- What a command asks for is told by what it takes: a command's word with arguments is a command exactly where it
--- has so many names, and where each option that is given is one of its own, with a number in its range.
-use Rattle.std.proofs.Common.{◌≡◌, ◌∙◌, ℕ, ◌<◌, ◌≤◌, Bool, cond, true, false, List, [], ◌∷◌, length, Option, Some}
-use Rattle.std.proofs.Common.{None, refl, sym, ap, arith, option_map}
-use Rattle.std.specs.Prelude.{◌&&◌, not, nat_eq, nat_lt}
-use Rattle.std.specs.Option.{is_some}
+-- has such names, and where each option that is given is one of its own, with a number in its range.
+use Rattle.std.proofs.Common.{◌≡◌, ◌∙◌, ℕ, ◌<◌, ◌≤◌, Bool, cond, true, false, List, [], ◌∷◌, ◌++◌, length, Option, Some}
+use Rattle.std.proofs.Common.{None, refl, sym, ap, arith, option_map, zero, suc}
+use Rattle.mach_types.specs.declared.limits.Limits.{Limits}
+use Rattle.std.specs.Prelude.{◌&&◌, not}
+use Rattle.std.specs.Option.{is_none, is_some}
 use Rattle.std.proofs.lemmas.Bool.{and_parts}
-use Rattle.std.proofs.lemmas.Bool.Decides.{nat_tests}
+use Rattle.guest_names.specs.declared.names.Name.{Name as GuestName}
+use Rattle.guest_names.specs.Guests.{name_of}
+use Rattle.command_words.specs.declared.commands.Guest.{Guest as AskedGuest}
 use Rattle.step_log.specs.Script.{◌>>=◌}
 use Rattle.command_words.specs.declared.table.CommandKind.{CommandKind}
+use Rattle.command_words.specs.declared.table.CommandKind.TheVariants.{Runs, Makes}
 use Rattle.command_words.specs.declared.table.SourceKind.{SourceKind}
 use Rattle.command_words.specs.declared.table.SourceKind.TheVariants.{ByRule, ByScript, ByWorkers, ByDraws}
-use Rattle.command_words.specs.Commands.{Source, Rule, Workers, Drawn}
-use Rattle.command_words.specs.Grammar.{Arguments, asked_by, asked_for, command_for, files_for, number_for, one_name, two_names}
-use Rattle.command_words.specs.Options.{OptionName, Harts, Frames, Steps, Seed, chosen, range_of}
+use Rattle.command_words.specs.declared.takes.NameKind.{NameKind}
+use Rattle.command_words.specs.declared.takes.NameKind.TheVariants.{Program, Script, Guest, Size}
+use Rattle.command_words.specs.Commands.{Command, Source, Rule, Workers, Drawn}
+use Rattle.command_words.specs.Grammar.{Arguments, asked_by, asked_for, command_for, files_for, guest_for, guest_named}
+use Rattle.command_words.specs.Grammar.{number_for, one_name, two_names}
+use Rattle.command_words.specs.Options.{OptionName, Harts, Frames, Steps, Seed, chosen, number_of, range_of}
 use Rattle.command_words.specs.Table.{command_kind}
-use Rattle.command_words.specs.Takes.{Takes, has, takes_by, takes_of}
+use Rattle.command_words.specs.Takes.{Takes, has, takes_by, takes_kind, takes_of}
+use Rattle.command_words.specs.WordFaults.{kind_at}
 use Rattle.command_words.proofs.ClapTurns.{and_false, value_of}
 
 -- the value of an option, if it is given, suits a command
@@ -27,15 +35,96 @@ all_suit takes given =
     suits takes Harts given.harts && suits takes Frames given.frames && suits takes Steps given.steps
     && suits takes Seed given.seed
 
+-- with a truth
+and_true : (b : Bool) → (b && true) ≡ b
+and_true true = refl
+and_true false = refl
+
+-- a name is of its kind
+abbrev pub name_suits : NameKind → List ℕ → Bool
+name_suits Program text = true
+name_suits Script text = true
+name_suits Guest text = is_some (name_of text)
+name_suits Size text = is_some (number_of text)
+
+-- the name at a place, where there is one, is of its kind
+abbrev pub suits_at : Option NameKind → List ℕ → Bool
+suits_at None text = false
+suits_at (Some kind) text = name_suits kind text
+
+-- names are of these kinds, and as many; or not more
+abbrev pub names_fit : List NameKind → List (List ℕ) → Bool
+names_fit [] [] = true
+names_fit [] (name ∷ names) = false
+names_fit (kind ∷ kinds) [] = false
+names_fit (kind ∷ kinds) (name ∷ names) = name_suits kind name && names_fit kinds names
+
+abbrev pub names_begin : List NameKind → List (List ℕ) → Bool
+names_begin kinds [] = true
+names_begin [] (name ∷ names) = false
+names_begin (kind ∷ kinds) (name ∷ names) = name_suits kind name && names_begin kinds names
+
+-- names that fit are as many, and those that may are not more
+fit_length : (kinds : List NameKind) (names : List (List ℕ)) → names_fit kinds names ≡ true
+    → length names ≡ length kinds
+fit_length [] [] is = refl
+fit_length [] (name ∷ names) is = absurd (cc is)
+fit_length (kind ∷ kinds) [] is = absurd (cc is)
+fit_length (kind ∷ kinds) (name ∷ names) is =
+    let rest = fit_length kinds names (and_parts (name_suits kind name) (names_fit kinds names) is).1 in omega arith
+
+-- names that fit may stand there
+fit_begins : (kinds : List NameKind) (names : List (List ℕ)) → names_fit kinds names ≡ true
+    → names_begin kinds names ≡ true
+fit_begins [] [] is = refl
+fit_begins [] (name ∷ names) is = absurd (cc is)
+fit_begins (kind ∷ kinds) [] is = absurd (cc is)
+fit_begins (kind ∷ kinds) (name ∷ names) is =
+    let parts = and_parts (name_suits kind name) (names_fit kinds names) is in
+    let rest = fit_begins kinds names parts.1 in
+    rw (parts.0, rest) refl
+
+-- those that may stand there fit where no name is missing
+begin_fit : (kinds : List NameKind) (names : List (List ℕ)) → names_begin kinds names ≡ true
+    → names_fit kinds names ≡ is_none (kind_at kinds (length names))
+begin_fit [] [] is = refl
+begin_fit [] (name ∷ names) is = absurd (cc is)
+begin_fit (kind ∷ kinds) [] is = refl
+begin_fit (kind ∷ kinds) (name ∷ names) is =
+    let parts = and_parts (name_suits kind name) (names_begin kinds names) is in
+    let rest = begin_fit kinds names parts.1 in
+    rw parts.0 rest
+
+-- a name more
+and_assoc : (a b c : Bool) → (a && (b && c)) ≡ ((a && b) && c)
+and_assoc true b c = refl
+and_assoc false b c = refl
+
+pub begin_more : (kinds : List NameKind) (names : List (List ℕ)) (name : List ℕ)
+    → names_begin kinds (names ++ name ∷ []) ≡ (names_begin kinds names && suits_at (kind_at kinds (length names)) name)
+begin_more [] [] name = refl
+begin_more [] (first ∷ names) name = refl
+begin_more (kind ∷ kinds) [] name = and_true (name_suits kind name)
+begin_more (kind ∷ kinds) (first ∷ names) name =
+    ap (λ b. name_suits kind first && b) (begin_more kinds names name)
+    ∙ and_assoc (name_suits kind first) (names_begin kinds names) (suits_at (kind_at kinds (length names)) name)
+
+-- a place that has a name is before the end
+pub kind_within : (kinds : List NameKind) (place : ℕ) (kind : NameKind) → kind_at kinds place ≡ Some kind
+    → place < length kinds
+kind_within [] place kind is = absurd (cc is)
+kind_within (first ∷ kinds) zero kind is = omega arith
+kind_within (first ∷ kinds) (suc place) kind is = let rest = kind_within kinds place kind is in omega arith
+
 -- the arguments are a command's that takes this
 abbrev pub fits : Takes → Arguments → Bool
-fits takes given = nat_eq (length given.names) takes.names && all_suit takes given
+fits takes given = names_fit takes.names given.names && all_suit takes given
 
 -- it is told by the number that the option comes to
-suits_is : (source : SourceKind) (option : OptionName) (value : Option (List ℕ))
-    → is_some (number_for source option value) ≡ suits (takes_by source) option value
-suits_is source option None = refl
-suits_is source option (Some text) = by_has (has (takes_by source).options option)
+suits_is : (kind : CommandKind) (option : OptionName) (value : Option (List ℕ))
+    → is_some (number_for kind option value) ≡ suits (takes_kind kind) option value
+suits_is kind option None = refl
+suits_is kind option (Some text) = by_has (has (takes_kind kind).options option)
   where
     by_has : (b : Bool) → is_some (cond (not b) None (chosen (range_of option) (Some text)))
         ≡ (b && is_some (chosen (range_of option) (Some text)))
@@ -43,121 +132,148 @@ suits_is source option (Some text) = by_has (has (takes_by source).options optio
     by_has false = refl
 
 -- a command is made of numbers and names exactly where each is there
-and_true : (b : Bool) → (b && true) ≡ b
-and_true true = refl
-and_true false = refl
-
-made_of : {A B : Type 0} (h f s d : Option ℕ) (files : ℕ → Option A) (make : ℕ → ℕ → ℕ → A → B) (b : Bool)
-    → ((seed : ℕ) → is_some (files seed) ≡ b)
-    → is_some (h >>= (λ harts. f >>= (λ frames. s >>= (λ steps. d >>= (λ seed. files seed >>= (λ x.
-    Some (make harts frames steps x)))))))
+made_of : {A : Type 0} (h f s d : Option ℕ) (make : ℕ → ℕ → ℕ → ℕ → Option A) (b : Bool)
+    → ((harts frames steps seed : ℕ) → is_some (make harts frames steps seed) ≡ b)
+    → is_some (h >>= (λ harts. f >>= (λ frames. s >>= (λ steps. d >>= (λ seed. make harts frames steps seed)))))
     ≡ (b && (is_some h && is_some f && is_some s && is_some d))
-made_of None f s d files make b named = sym (and_false b)
-made_of (Some x) None s d files make b named = sym (and_false b)
-made_of (Some x) (Some y) None d files make b named = sym (and_false b)
-made_of (Some x) (Some y) (Some z) None files make b named = sym (and_false b)
-made_of {A} (Some x) (Some y) (Some z) (Some w) files make b named =
-    by_files (files w) ∙ named w ∙ sym (and_true b)
-  where
-    by_files : (o : Option A) → is_some (o >>= (λ a. Some (make x y z a))) ≡ is_some o
-    by_files None = refl
-    by_files (Some a) = refl
+made_of None f s d make b named = sym (and_false b)
+made_of (Some x) None s d make b named = sym (and_false b)
+made_of (Some x) (Some y) None d make b named = sym (and_false b)
+made_of (Some x) (Some y) (Some z) None make b named = sym (and_false b)
+made_of (Some x) (Some y) (Some z) (Some w) make b named = named x y z w ∙ sym (and_true b)
 
 -- names give files exactly where there are so many
-one_is : (source : Source) (names : List (List ℕ)) → is_some (one_name source names) ≡ nat_eq (length names) 1
+one_is : (source : Source) (names : List (List ℕ)) → is_some (one_name source names) ≡ names_fit (Program ∷ []) names
 one_is source [] = refl
 one_is source (a ∷ []) = refl
-one_is source (a ∷ b ∷ more) = let other : nat_eq (length (a ∷ b ∷ more)) 1 ≡ false = grind (arith, nat_tests) in sym other
+one_is source (a ∷ b ∷ more) = refl
 
-two_are : (names : List (List ℕ)) → is_some (two_names names) ≡ nat_eq (length names) 2
+two_are : (names : List (List ℕ)) → is_some (two_names names) ≡ names_fit (Program ∷ Script ∷ []) names
 two_are [] = refl
 two_are (a ∷ []) = refl
 two_are (a ∷ b ∷ []) = refl
-two_are (a ∷ b ∷ c ∷ more) =
-    let other : nat_eq (length (a ∷ b ∷ c ∷ more)) 2 ≡ false = grind (arith, nat_tests) in sym other
+two_are (a ∷ b ∷ c ∷ more) = refl
 
 files_are : (source : SourceKind) (names : List (List ℕ)) (seed : ℕ)
-    → is_some (files_for source names seed) ≡ nat_eq (length names) (takes_by source).names
+    → is_some (files_for source names seed) ≡ names_fit (takes_by source).names names
 files_are ByRule names seed = one_is Rule names
 files_are ByScript names seed = two_are names
 files_are ByWorkers names seed = one_is (Workers seed) names
 files_are ByDraws names seed = one_is (Drawn seed) names
 
+-- and a guest exactly where the first is one's and the second is a number
+abbrev guest_of : GuestName → ℕ → AskedGuest
+guest_of name size = record { name = name; size = size }
+
+guest_is : (word text : List ℕ)
+    → is_some (guest_named word text) ≡ (is_some (name_of word) && (is_some (number_of text) && true))
+guest_is word text = by_parts (name_of word) (number_of text)
+  where
+    by_parts : (a : Option GuestName) (b : Option ℕ)
+        → is_some (a >>= (λ name. b >>= (λ size. Some (guest_of name size)))) ≡ (is_some a && (is_some b && true))
+    by_parts None b = refl
+    by_parts (Some x) None = refl
+    by_parts (Some x) (Some y) = refl
+
+guests_are : (names : List (List ℕ)) → is_some (guest_for names) ≡ names_fit (Guest ∷ Size ∷ []) names
+guests_are [] = refl
+guests_are (a ∷ []) = sym (and_false (is_some (name_of a)))
+guests_are (a ∷ b ∷ []) = guest_is a b
+guests_are (a ∷ b ∷ c ∷ more) =
+    sym (ap (λ x. is_some (name_of a) && x) (and_false (is_some (number_of b))) ∙ and_false (is_some (name_of a)))
+
+mapped : {A B : Type 0} (f : A → B) (o : Option A) → is_some (option_map f o) ≡ is_some o
+mapped f None = refl
+mapped f (Some x) = refl
+
+names_are : (kind : CommandKind) (limits : Limits) (seed : ℕ) (names : List (List ℕ))
+    → is_some (command_for kind limits seed names) ≡ names_fit (takes_kind kind).names names
+names_are (Runs source shown) limits seed names =
+    mapped _ (files_for source names seed) ∙ files_are source names seed
+names_are Makes limits seed names = mapped _ (guest_for names) ∙ guests_are names
+
 -- so a command of a kind is asked for exactly where the arguments are its own
-kind_fits : (kind : CommandKind) (given : Arguments) → is_some (asked_for kind given) ≡ fits (takes_by kind.source) given
+kind_fits : (kind : CommandKind) (given : Arguments) → is_some (asked_for kind given) ≡ fits (takes_kind kind) given
 kind_fits kind given =
-    let source = kind.source in
-    let count = nat_eq (length given.names) (takes_by source).names in
-    made_of (number_for source Harts given.harts) (number_for source Frames given.frames)
-    (number_for source Steps given.steps) (number_for source Seed given.seed)
-    (files_for source given.names) (command_for kind) count (files_are source given.names)
-    ∙ (λ i. count && (suits_is source Harts given.harts i && suits_is source Frames given.frames i
-    && suits_is source Steps given.steps i && suits_is source Seed given.seed i))
+    let named = names_fit (takes_kind kind).names given.names in
+    made_of (number_for kind Harts given.harts) (number_for kind Frames given.frames)
+    (number_for kind Steps given.steps) (number_for kind Seed given.seed)
+    (λ harts frames steps seed.
+    command_for kind (record { harts = harts; frames = frames; steps = steps }) seed given.names)
+    named (λ harts frames steps seed.
+    names_are kind (record { harts = harts; frames = frames; steps = steps }) seed given.names)
+    ∙ (λ i. named && (suits_is kind Harts given.harts i && suits_is kind Frames given.frames i
+    && suits_is kind Steps given.steps i && suits_is kind Seed given.seed i))
 
 -- what the command of a word asks for
 pub asked_fits : (word : List ℕ) (takes : Takes) (given : Arguments) → takes_of word ≡ Some takes
     → is_some (asked_by word given) ≡ fits takes given
 asked_fits word takes given is = by_kind (command_kind word) is
   where
-    by_kind : (o : Option CommandKind) → option_map (λ (kind : CommandKind). takes_by kind.source) o ≡ Some takes
+    by_kind : (o : Option CommandKind) → option_map takes_kind o ≡ Some takes
         → is_some (o >>= (λ (kind : CommandKind). asked_for kind given)) ≡ fits takes given
     by_kind None is = absurd (cc is)
     by_kind (Some kind) is =
-        let same : takes_by kind.source ≡ takes = cc is in
+        let same : takes_kind kind ≡ takes = cc is in
         kind_fits kind given ∙ ap (λ (t : Takes). fits t given) same
 
 -- a word of no command asks for nothing
 pub none_asked : (word : List ℕ) (given : Arguments) → takes_of word ≡ None → asked_by word given ≡ None
 none_asked word given is = by_kind (command_kind word) is
   where
-    by_kind : (o : Option CommandKind) → option_map (λ (kind : CommandKind). takes_by kind.source) o ≡ None
+    by_kind : (o : Option CommandKind) → option_map takes_kind o ≡ None
         → (o >>= (λ (kind : CommandKind). asked_for kind given)) ≡ None
     by_kind None is = refl
     by_kind (Some kind) is = absurd (cc is)
 
 -- a command has two names at most
-two_names_most : (source : SourceKind) → (takes_by source).names ≤ 2
-two_names_most ByRule = omega arith
-two_names_most ByScript = omega arith
-two_names_most ByWorkers = omega arith
-two_names_most ByDraws = omega arith
+two_names_by : (source : SourceKind) → length (takes_by source).names ≤ 2
+two_names_by ByRule = omega arith
+two_names_by ByScript = omega arith
+two_names_by ByWorkers = omega arith
+two_names_by ByDraws = omega arith
 
-pub few_taken : (word : List ℕ) (takes : Takes) → takes_of word ≡ Some takes → takes.names ≤ 2
+two_names_most : (kind : CommandKind) → length (takes_kind kind).names ≤ 2
+two_names_most (Runs source shown) = two_names_by source
+two_names_most Makes = omega arith
+
+pub few_taken : (word : List ℕ) (takes : Takes) → takes_of word ≡ Some takes → length takes.names ≤ 2
 few_taken word takes is = by_kind (command_kind word) is
   where
-    by_kind : (o : Option CommandKind) → option_map (λ (kind : CommandKind). takes_by kind.source) o ≡ Some takes
-        → takes.names ≤ 2
+    by_kind : (o : Option CommandKind) → option_map takes_kind o ≡ Some takes → length takes.names ≤ 2
     by_kind None is = absurd (cc is)
     by_kind (Some kind) is =
-        let same : takes_by kind.source ≡ takes = cc is in
-        omega (arith, two_names_most kind.source, ap (λ (t : Takes). t.names) same)
+        let same : takes_kind kind ≡ takes = cc is in
+        omega (arith, two_names_most kind, ap (λ (t : Takes). length t.names) same)
 
 -- arguments that aren't a command's ask for nothing
 nothing_there : {A : Type 0} (o : Option A) → is_some o ≡ false → o ≡ None
 nothing_there None is = refl
 nothing_there (Some x) is = absurd (cc is)
 
-nothing_asked : (word : List ℕ) (given : Arguments) → ((source : SourceKind) → fits (takes_by source) given ≡ false)
+nothing_asked : (word : List ℕ) (given : Arguments) → ((kind : CommandKind) → fits (takes_kind kind) given ≡ false)
     → asked_by word given ≡ None
 nothing_asked word given never = by_kind (command_kind word)
   where
     by_kind : (o : Option CommandKind) → (o >>= (λ (kind : CommandKind). asked_for kind given)) ≡ None
     by_kind None = refl
-    by_kind (Some kind) = nothing_there (asked_for kind given) (kind_fits kind given ∙ never kind.source)
+    by_kind (Some kind) = nothing_there (asked_for kind given) (kind_fits kind given ∙ never kind)
 
 -- nor do more names than two
 pub many_names : (word : List ℕ) (given : Arguments) → 2 < length given.names → asked_by word given ≡ None
-many_names word given many = nothing_asked word given (λ source. by_count source)
+many_names word given many = nothing_asked word given (λ kind. by_test kind (names_fit (takes_kind kind).names given.names) refl)
   where
-    by_count : (source : SourceKind) → fits (takes_by source) given ≡ false
-    by_count source =
-        let most = two_names_most source in
-        let other : nat_eq (length given.names) (takes_by source).names ≡ false = grind (arith, nat_tests) in
-        rw other refl
+    by_test : (kind : CommandKind) (b : Bool) → names_fit (takes_kind kind).names given.names ≡ b
+        → (b && all_suit (takes_kind kind) given) ≡ false
+    by_test kind false is = refl
+    by_test kind true is =
+        let most = two_names_most kind in
+        let same = fit_length (takes_kind kind).names given.names is in
+        absurd (omega arith)
 
--- the arguments so far may become a command's: not too many names, and options that suit it
+-- the arguments so far may become a command's: names of their kinds, not too many, and options that suit it
 pub record Sound (takes : Takes) (given : Arguments) : Type 0 where
-  pub few : length given.names ≤ takes.names
+  pub begin : names_begin takes.names given.names ≡ true
   pub suit : (option : OptionName) → suits takes option (value_of option given) ≡ true
 
 -- where all options suit, each does
@@ -179,15 +295,15 @@ parts_suit takes given all =
 
 -- where one doesn't suit, nothing is asked for
 pub unsuited : (word : List ℕ) (given : Arguments) (option : OptionName)
-    → ((source : SourceKind) → suits (takes_by source) option (value_of option given) ≡ false)
+    → ((kind : CommandKind) → suits (takes_kind kind) option (value_of option given) ≡ false)
     → asked_by word given ≡ None
-unsuited word given option bad = nothing_asked word given (λ source. by_test source (fits (takes_by source) given) refl)
+unsuited word given option bad = nothing_asked word given (λ kind. by_test kind (fits (takes_kind kind) given) refl)
   where
-    by_test : (source : SourceKind) (b : Bool) → fits (takes_by source) given ≡ b → b ≡ false
-    by_test source false is = refl
-    by_test source true is =
-        let all = (and_parts (nat_eq (length given.names) (takes_by source).names) (all_suit (takes_by source) given) is).1 in
-        absurd (cc (sym (parts_suit (takes_by source) given all option) ∙ bad source))
+    by_test : (kind : CommandKind) (b : Bool) → fits (takes_kind kind) given ≡ b → b ≡ false
+    by_test kind false is = refl
+    by_test kind true is =
+        let all = (and_parts (names_fit (takes_kind kind).names given.names) (all_suit (takes_kind kind) given) is).1 in
+        absurd (cc (sym (parts_suit (takes_kind kind) given all option) ∙ bad kind))
 
 -- where each suits, all do
 all_of : (takes : Takes) (given : Arguments)
@@ -202,21 +318,13 @@ all_of takes given suit =
 -- the arguments of a command are sound
 pub fitting_sound : (takes : Takes) (given : Arguments) → fits takes given ≡ true → Sound takes given
 fitting_sound takes given is =
-    let both = and_parts (nat_eq (length given.names) takes.names) (all_suit takes given) is in
-    record { few = few both.0; suit = parts_suit takes given both.1 }
-  where
-    few : nat_eq (length given.names) takes.names ≡ true → length given.names ≤ takes.names
-    few same = grind (arith, nat_tests)
+    let both = and_parts (names_fit takes.names given.names) (all_suit takes given) is in
+    record { begin = fit_begins takes.names given.names both.0; suit = parts_suit takes given both.1 }
 
 -- sound arguments are a command's where no name is missing
 pub sound_fits : (takes : Takes) (given : Arguments) → Sound takes given
-    → fits takes given ≡ not (nat_lt (length given.names) takes.names)
+    → fits takes given ≡ is_none (kind_at takes.names (length given.names))
 sound_fits takes given sound =
     let all = all_of takes given sound.suit in
-    let few = sound.few in
-    rw all (by_test (nat_eq (length given.names) takes.names) refl few)
-  where
-    by_test : (b : Bool) → nat_eq (length given.names) takes.names ≡ b → length given.names ≤ takes.names
-        → (b && true) ≡ not (nat_lt (length given.names) takes.names)
-    by_test true is few = grind (arith, nat_tests)
-    by_test false is few = grind (arith, nat_tests)
+    ap (λ b. names_fit takes.names given.names && b) all ∙ and_true (names_fit takes.names given.names)
+    ∙ begin_fit takes.names given.names sound.begin

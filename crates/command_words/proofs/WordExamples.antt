@@ -3,7 +3,8 @@ use Rattle.std.proofs.Common.{◌≡◌, ℕ, ◌-◌, ◌^◌, List, [], ◌∷
 use Rattle.mach_types.specs.declared.limits.Limits.{Limits}
 use Rattle.command_words.specs.declared.table.Shown.{Shown}
 use Rattle.command_words.specs.declared.table.Shown.TheVariants.{Output, Summary, Place, Gathered}
-use Rattle.command_words.specs.Commands.{Command, Source, Rule, Script, Workers, Drawn}
+use Rattle.guest_names.specs.declared.names.Name.TheVariants.{Counter, Migrate}
+use Rattle.command_words.specs.Commands.{Command, Runs, Makes, Source, Rule, Script, Workers, Drawn}
 use Rattle.command_words.specs.Options.{number_of}
 use Rattle.command_words.specs.Words.{arguments_of, command_of}
 
@@ -12,7 +13,8 @@ limits harts frames steps = record { harts = harts; frames = frames; steps = ste
 
 -- the commands
 abbrev asked : List ℕ → Source → Shown → Limits → Command
-asked program source shown limits = record { program = program; source = source; shown = shown; limits = limits }
+asked program source shown limits =
+    Runs (record { program = program; source = source; shown = shown; limits = limits })
 
 abbrev solo : List ℕ → Limits → Command
 solo program limits = asked program Rule Output limits
@@ -374,3 +376,44 @@ inspect_seed = refl
 gather_seed : command_of (codes "gather" ∷ codes "F" ∷ codes "S" ∷ codes "--seed=1" ∷ []) ≡ None
 unfolding command_of arguments_of
 gather_seed = refl
+
+-- `make NAME N` makes a guest, whatever the number; whether the guest takes it isn't a matter of the words
+make_counter : command_of (codes "make" ∷ codes "counter" ∷ codes "1000" ∷ [])
+    ≡ Some (Makes (record { name = Counter; size = 1000 }))
+unfolding command_of arguments_of
+make_counter = refl
+
+make_nothing : command_of (codes "make" ∷ codes "counter" ∷ codes "0" ∷ [])
+    ≡ Some (Makes (record { name = Counter; size = 0 }))
+unfolding command_of arguments_of
+make_nothing = refl
+
+make_behind_dashes : command_of (codes "make" ∷ codes "--" ∷ codes "migrate" ∷ codes "18446744073709551615" ∷ [])
+    ≡ Some (Makes (record { name = Migrate; size = 18446744073709551615 }))
+unfolding command_of arguments_of
+make_behind_dashes = refl
+
+-- a name that is no guest's, a size that is no number, too few and too many names, and an option
+make_another : command_of (codes "make" ∷ codes "Counter" ∷ codes "1" ∷ []) ≡ None
+unfolding command_of arguments_of
+make_another = refl
+
+make_no_number : command_of (codes "make" ∷ codes "counter" ∷ codes "1k" ∷ []) ≡ None
+unfolding command_of arguments_of
+make_no_number = refl
+
+make_too_large : command_of (codes "make" ∷ codes "counter" ∷ codes "18446744073709551616" ∷ []) ≡ None
+unfolding command_of arguments_of
+make_too_large = refl
+
+make_no_size : command_of (codes "make" ∷ codes "counter" ∷ []) ≡ None
+unfolding command_of arguments_of
+make_no_size = refl
+
+make_three_names : command_of (codes "make" ∷ codes "counter" ∷ codes "1" ∷ codes "2" ∷ []) ≡ None
+unfolding command_of arguments_of
+make_three_names = refl
+
+make_steps : command_of (codes "make" ∷ codes "counter" ∷ codes "1" ∷ codes "--steps=5" ∷ []) ≡ None
+unfolding command_of arguments_of
+make_steps = refl

@@ -1,6 +1,9 @@
--- What can be asked for: to run a program, and to show something of the run (own). The names are those of files.
+-- What can be asked for (own): to run a program, and to show something of the run; or to make the file of a guest. The
+-- names are those of files.
 use Rattle.std.specs.Prelude.{ℕ, ◌≡◌, Bool, true, false, List, Option, Some, None}
 use Rattle.mach_types.specs.declared.limits.Limits.{Limits}
+use Rattle.mach_types.specs.Limits.{InRange}
+use Rattle.command_words.specs.declared.commands.Guest.{Guest}
 use Rattle.command_words.specs.declared.table.Shown.{Shown}
 
 -- how the log of the run comes about: on one hart by the fixed rule; by the events of a script; by workers, one for
@@ -11,11 +14,16 @@ pub data Source : Type 0 where
   Workers : (seed : ℕ) → Source
   Drawn : (seed : ℕ) → Source
 
-pub record Command : Type 0 where
+pub record Run : Type 0 where
   pub program : List ℕ
   pub source : Source
   pub shown : Shown
   pub limits : Limits
+
+-- a command runs this, or makes the file of this guest
+pub data Command : Type 0 where
+  Runs : (run : Run) → Command
+  Makes : (guest : Guest) → Command
 
 -- whether the log comes about by workers
 abbrev pub is_by_workers : Source → Bool
@@ -24,10 +32,20 @@ is_by_workers (Script name) = false
 is_by_workers (Workers seed) = true
 is_by_workers (Drawn seed) = false
 
+-- whether a command needs workers
+abbrev pub needs_workers : Command → Bool
+needs_workers (Runs run) = is_by_workers run.source
+needs_workers (Makes guest) = false
+
 -- whether the words ask for a run by workers
 abbrev pub is_run : Option Command → Bool
 is_run None = false
-is_run (Some command) = is_by_workers command.source
+is_run (Some command) = needs_workers command
+
+-- the limits of a run are in their ranges
+abbrev pub HasLimits : Command → Type 0
+HasLimits (Runs run) = InRange run.limits
+HasLimits (Makes guest) = Unit {0}
 
 -- the fixed rule runs on one hart
 abbrev pub HasHartsOf : Source → Limits → Type 0
@@ -37,4 +55,5 @@ HasHartsOf (Workers seed) limits = Unit {0}
 HasHartsOf (Drawn seed) limits = Unit {0}
 
 abbrev pub HasItsHarts : Command → Type 0
-HasItsHarts command = HasHartsOf command.source command.limits
+HasItsHarts (Runs run) = HasHartsOf run.source run.limits
+HasItsHarts (Makes guest) = Unit {0}

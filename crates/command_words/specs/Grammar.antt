@@ -8,16 +8,21 @@
 use Rattle.std.specs.Prelude.{ℕ, ◌≡◌, Bool, ◌&&◌, not, false, List, [], ◌∷◌, ◌++◌, ◌⊎◌, length, map, Option, Some}
 use Rattle.std.specs.Prelude.{None, if◌then◌else◌, nat_lt, nat_eq, codes}
 use Rattle.std.specs.List.{starts_with}
-use Rattle.std.specs.Option.{is_some}
+use Rattle.std.specs.Option.{is_some, option_map}
+use Rattle.mach_types.specs.declared.limits.Limits.{Limits}
+use Rattle.guest_names.specs.Guests.{name_of}
 use Rattle.step_log.specs.Script.{◌>>=◌}
+use Rattle.command_words.specs.declared.commands.Guest.{Guest}
 use Rattle.command_words.specs.declared.table.CommandKind.{CommandKind}
+use Rattle.command_words.specs.declared.table.CommandKind.TheVariants as kind
+use Rattle.command_words.specs.declared.table.Shown.{Shown}
 use Rattle.command_words.specs.declared.table.SourceKind.{SourceKind}
 use Rattle.command_words.specs.declared.table.SourceKind.TheVariants.{ByRule, ByScript, ByWorkers, ByDraws}
-use Rattle.command_words.specs.Commands.{Command, Source, Rule, Script, Workers, Drawn}
+use Rattle.command_words.specs.Commands.{Command, Run, Runs, Makes, Source, Rule, Script, Workers, Drawn}
 use Rattle.command_words.specs.Options.{OptionName, Harts, Frames, Steps, Seed, option_word, same_option}
-use Rattle.command_words.specs.Options.{chosen, range_of}
+use Rattle.command_words.specs.Options.{chosen, number_of, range_of}
 use Rattle.command_words.specs.Table.{command_kind}
-use Rattle.command_words.specs.Takes.{has, takes_by}
+use Rattle.command_words.specs.Takes.{has, takes_kind}
 
 -- what a command is given behind its word: a name, or an option with the text of its value
 pub data Item : Type 0 where
@@ -96,11 +101,11 @@ arguments_in items = do
   seed ← at_most_one (values_in Seed items)
   Some (record { names = names_in items; harts = harts; frames = frames; steps = steps; seed = seed })
 
--- the number that an option comes to by how the log comes about: none where it is given and such a command hasn't
--- the option, and where it isn't one that the option takes
-abbrev pub number_for : SourceKind → OptionName → Option (List ℕ) → Option ℕ
-number_for source option text =
-    if is_some text && not (has (takes_by source).options option) then None else chosen (range_of option) text
+-- the number that an option of such a command comes to: none where it is given and the command hasn't the option,
+-- and where it isn't one that the option takes
+abbrev pub number_for : CommandKind → OptionName → Option (List ℕ) → Option ℕ
+number_for kind option text =
+    if is_some text && not (has (takes_kind kind).options option) then None else chosen (range_of option) text
 
 -- how many harts there are: one by the fixed rule
 abbrev pub harts_for : SourceKind → ℕ → ℕ
@@ -126,24 +131,42 @@ files_for ByScript names seed = two_names names
 files_for ByWorkers names seed = one_name (Workers seed) names
 files_for ByDraws names seed = one_name (Drawn seed) names
 
--- the command of these numbers and names
-abbrev pub command_for : CommandKind → ℕ → ℕ → ℕ → List ℕ × Source → Command
-command_for kind harts frames steps files = record {
+-- the run of these files under these limits
+abbrev pub run_for : SourceKind → Shown → Limits → List ℕ × Source → Run
+run_for source shown limits files = record {
   program = files.0;
   source = files.1;
-  shown = kind.shown;
-  limits = record { harts = harts_for kind.source harts; frames = frames; steps = steps };
+  shown = shown;
+  limits = record limits { harts = harts_for source limits.harts };
 }
+
+-- the guest of this name and this size, where the name is a guest's and the size is a number; whether the guest takes it
+-- isn't asked here
+abbrev pub guest_named : List ℕ → List ℕ → Option Guest
+guest_named word text = do
+  name ← name_of word
+  size ← number_of text
+  Some (record { name = name; size = size })
+
+-- the guest that two names give, where there are two
+abbrev pub guest_for : List (List ℕ) → Option Guest
+guest_for (word ∷ text ∷ []) = guest_named word text
+guest_for _ = None
+
+-- the command of this kind and these limits, this seed and these names
+abbrev pub command_for : CommandKind → Limits → ℕ → List (List ℕ) → Option Command
+command_for (kind.Runs source shown) limits seed names =
+    option_map (λ files. Runs (run_for source shown limits files)) (files_for source names seed)
+command_for kind.Makes limits seed names = option_map Makes (guest_for names)
 
 -- what such a command asks for with these arguments
 abbrev pub asked_for : CommandKind → Arguments → Option Command
 asked_for kind given = do
-  harts ← number_for kind.source Harts given.harts
-  frames ← number_for kind.source Frames given.frames
-  steps ← number_for kind.source Steps given.steps
-  seed ← number_for kind.source Seed given.seed
-  files ← files_for kind.source given.names seed
-  Some (command_for kind harts frames steps files)
+  harts ← number_for kind Harts given.harts
+  frames ← number_for kind Frames given.frames
+  steps ← number_for kind Steps given.steps
+  seed ← number_for kind Seed given.seed
+  command_for kind (record { harts = harts; frames = frames; steps = steps }) seed given.names
 
 -- what a command's word asks for with them
 abbrev pub asked_by : List ℕ → Arguments → Option Command

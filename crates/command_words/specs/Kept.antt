@@ -1,10 +1,12 @@
 -- What the code keeps of the words, in the grammar's terms.
 use Rattle.std.specs.Prelude.{ℕ, List, [], ◌∷◌}
-use Rattle.std.specs.Option.{option_copied}
+use Rattle.std.specs.Option.{option_copied, option_to_list}
 use Rattle.command_words.specs.declared.arguments.Arguments.{Arguments}
 use Rattle.command_words.specs.declared.arguments.FileNames.{FileNames}
 use Rattle.command_words.specs.declared.arguments.FileNames.TheVariants.{Zero, One, Two}
 use Rattle.command_words.specs.declared.commands.Command.{Command}
+use Rattle.command_words.specs.declared.commands.Command.TheVariants as command
+use Rattle.command_words.specs.declared.commands.Run.{Run}
 use Rattle.command_words.specs.declared.commands.Source.{Source}
 use Rattle.command_words.specs.declared.commands.Source.TheVariants as code
 use Rattle.command_words.specs.declared.options.Numbers.{Numbers}
@@ -15,7 +17,8 @@ use Rattle.command_words.specs.declared.reader.Reading.{Reading}
 use Rattle.command_words.specs.declared.reader.Reading.TheVariants as reading
 use Rattle.command_words.specs.declared.takes.OptionSet.{OptionSet}
 use Rattle.command_words.specs.declared.takes.Takes.{Takes}
-use Rattle.command_words.specs.Commands.{Command as Asked, Source as FromSource, Rule, Script, Workers, Drawn}
+use Rattle.command_words.specs.Commands.{Command as Asked, Run as AskedRun, Runs, Makes}
+use Rattle.command_words.specs.Commands.{Source as FromSource, Rule, Script, Workers, Drawn}
 use Rattle.command_words.specs.Grammar.{Arguments as Stated}
 use Rattle.command_words.specs.Options.{OptionName as Named, Harts, Frames, Steps, Seed, Range}
 use Rattle.command_words.specs.Takes.{OptionSet as SomeOptions, Takes as Taken}
@@ -56,14 +59,19 @@ source_said (code.Script name) = Script name.now
 source_said (code.Workers seed) = Workers seed
 source_said (code.Drawn seed) = Drawn seed
 
+-- the run, with the texts of its names
+abbrev pub run_said : Run → AskedRun
+run_said run = record {
+  program = run.program.now;
+  source = source_said run.source;
+  shown = run.shown;
+  limits = run.limits;
+}
+
 -- the command, with the texts of its names
 abbrev pub said : Command → Asked
-said command = record {
-  program = command.program.now;
-  source = source_said command.source;
-  shown = command.shown;
-  limits = command.limits;
-}
+said (command.Runs run) = Runs (run_said run)
+said (command.Makes guest) = Makes guest
 
 -- some of the options
 abbrev pub options_kept : OptionSet → SomeOptions
@@ -72,7 +80,8 @@ options_kept options =
 
 -- what a command takes
 abbrev pub takes_kept : Takes → Taken
-takes_kept takes = record { names = takes.names; options = options_kept takes.options }
+takes_kept takes =
+    record { names = takes.first ∷ option_to_list takes.second; options = options_kept takes.options }
 
 -- how the next word is read
 abbrev pub reading_kept : Reading → Read

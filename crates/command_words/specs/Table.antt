@@ -1,15 +1,17 @@
--- The commands (own): of each its word, how the log of its run comes about, and what is shown of it.
+-- The commands (own): of each its word, and whether it makes a guest, or how the log of its run comes about and what is
+-- shown of it.
 use Rattle.std.specs.Prelude.{ℕ, List, Option, Some, None, if◌then◌else◌, codes}
 use Rattle.std.specs.Str.{bytes_eq}
 use Rattle.command_words.specs.declared.table.CommandKind.{CommandKind}
+use Rattle.command_words.specs.declared.table.CommandKind.TheVariants.{Runs, Makes}
 use Rattle.command_words.specs.declared.table.Shown.{Shown}
 use Rattle.command_words.specs.declared.table.Shown.TheVariants as shows
 use Rattle.command_words.specs.declared.table.SourceKind.{SourceKind}
 use Rattle.command_words.specs.declared.table.SourceKind.TheVariants.{ByRule, ByScript, ByWorkers, ByDraws}
 
--- a row: how the log comes about, and what is shown
+-- the row of a run: how the log comes about, and what is shown
 abbrev pub row : SourceKind → Shown → Option CommandKind
-row source shown = Some (record { source = source; shown = shown })
+row source shown = Some (Runs source shown)
 
 -- what the command of a word is, if a command has the word
 abbrev pub command_kind : List ℕ → Option CommandKind
@@ -22,4 +24,5 @@ command_kind word =
     else if bytes_eq word (codes "gather") then row ByScript shows.Gathered
     else if bytes_eq word (codes "run") then row ByWorkers shows.Output
     else if bytes_eq word (codes "draw") then row ByDraws shows.Output
+    else if bytes_eq word (codes "make") then Some Makes
     else None

@@ -1,8 +1,11 @@
--- What each command takes behind its word (own): how many names, and which options.
-use Rattle.std.specs.Prelude.{ℕ, Bool, true, false, List, Option, option_map}
+-- What each command takes behind its word (own): which names, and which options.
+use Rattle.std.specs.Prelude.{ℕ, Bool, true, false, List, [], ◌∷◌, Option, option_map}
 use Rattle.command_words.specs.declared.table.CommandKind.{CommandKind}
+use Rattle.command_words.specs.declared.table.CommandKind.TheVariants.{Runs, Makes}
 use Rattle.command_words.specs.declared.table.SourceKind.{SourceKind}
 use Rattle.command_words.specs.declared.table.SourceKind.TheVariants.{ByRule, ByScript, ByWorkers, ByDraws}
+use Rattle.command_words.specs.declared.takes.NameKind.{NameKind}
+use Rattle.command_words.specs.declared.takes.NameKind.TheVariants.{Program, Script, Guest, Size}
 use Rattle.command_words.specs.Options.{OptionName, Harts, Frames, Steps, Seed}
 use Rattle.command_words.specs.Table.{command_kind}
 
@@ -31,32 +34,45 @@ with_option options Frames = record options { frames = true }
 with_option options Steps = record options { steps = true }
 with_option options Seed = record options { seed = true }
 
--- what a command takes: so many names, and these options
+-- what a command takes: these names in this order, and these options in any
 pub record Takes : Type 0 where
-  pub names : ℕ
+  pub names : List NameKind
   pub options : OptionSet
 
 -- what a run on one hart takes: it chooses nothing
 abbrev pub taken_alone : Takes
-taken_alone = record { names = 1; options = record { harts = false; frames = true; steps = true; seed = false } }
+taken_alone =
+    record { names = Program ∷ []; options = record { harts = false; frames = true; steps = true; seed = false } }
 
 -- what a run on the events of a script takes: it chooses nothing
 abbrev pub taken_on_script : Takes
 taken_on_script =
-    record { names = 2; options = record { harts = true; frames = true; steps = true; seed = false } }
+    record {
+      names = Program ∷ Script ∷ [];
+      options = record { harts = true; frames = true; steps = true; seed = false };
+    }
 
 -- what a run that chooses by a seed takes: by workers, or by draws
 abbrev pub taken_by_seed : Takes
 taken_by_seed =
-    record { names = 1; options = record { harts = true; frames = true; steps = true; seed = true } }
+    record { names = Program ∷ []; options = record { harts = true; frames = true; steps = true; seed = true } }
 
--- what a command takes by how its log comes about
+-- what the making of a guest takes
+abbrev pub taken_by_make : Takes
+taken_by_make = record { names = Guest ∷ Size ∷ []; options = no_options }
+
+-- what a run takes by how its log comes about
 abbrev pub takes_by : SourceKind → Takes
 takes_by ByRule = taken_alone
 takes_by ByScript = taken_on_script
 takes_by ByWorkers = taken_by_seed
 takes_by ByDraws = taken_by_seed
 
+-- what a command takes
+abbrev pub takes_kind : CommandKind → Takes
+takes_kind (Runs source shown) = takes_by source
+takes_kind Makes = taken_by_make
+
 -- what the command of a word takes, if a command has the word
 abbrev pub takes_of : List ℕ → Option Takes
-takes_of word = option_map (λ (kind : CommandKind). takes_by kind.source) (command_kind word)
+takes_of word = option_map takes_kind (command_kind word)

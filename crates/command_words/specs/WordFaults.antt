@@ -1,18 +1,22 @@
 -- What is wrong with the words of a command line (own). The words are read from the left, as `items` reads them,
 -- and the first that is wrong, given those before it, gives the fault. Where none is wrong, a name may be
 -- missing. Words are counted from 1.
-use Rattle.std.specs.Prelude.{ℕ, ◌+◌, ◌-◌, ◌==◌, ◌≤◌, List, [], ◌∷◌, Option, Some, None, if◌then◌else◌}
-use Rattle.std.specs.Prelude.{not, nat_lt, codes}
+use Rattle.std.specs.Prelude.{ℕ, ◌+◌, ◌-◌, ◌≤◌, List, [], ◌∷◌, Option, Some, None, if◌then◌else◌}
+use Rattle.std.specs.Prelude.{not, codes, zero, suc}
 use Rattle.std.specs.List.{before_first}
 use Rattle.std.specs.Option.{IfSome, is_some, option_map, option_or}
 use Rattle.std.specs.Str.{bytes_eq}
+use Rattle.guest_names.specs.Guests.{name_of}
 use Rattle.step_log.specs.Script.{◌>>=◌}
 use Rattle.command_words.specs.declared.faults.WordsFault.{WordsFault}
 use Rattle.command_words.specs.declared.faults.WordsFault.TheVariants.{NoCommand, UnknownCommand, UnknownOption}
 use Rattle.command_words.specs.declared.faults.WordsFault.TheVariants.{NotTaken, Twice, NoValue, OutOfRange}
 use Rattle.command_words.specs.declared.faults.WordsFault.TheVariants.{OneNameTooMany, NoProgram, NoScript}
+use Rattle.command_words.specs.declared.faults.WordsFault.TheVariants.{UnknownGuest, NoNumber, NoGuest, NoSize}
+use Rattle.command_words.specs.declared.takes.NameKind.{NameKind}
+use Rattle.command_words.specs.declared.takes.NameKind.TheVariants.{Program, Script, Guest, Size}
 use Rattle.command_words.specs.Grammar.{Item, Name, Given, begins_with_dash, is_option}
-use Rattle.command_words.specs.Options.{OptionName, Range, chosen, option_named, range_of}
+use Rattle.command_words.specs.Options.{OptionName, Range, chosen, number_of, option_named, range_of}
 use Rattle.command_words.specs.Takes.{OptionSet, Takes, has, no_options, takes_of, with_option}
 use Rattle.command_words.specs.Words.{Reading, Options, Value, Names, behind_equals, is_equals, word_read}
 
@@ -52,10 +56,26 @@ abbrev pub joined_fault : SoFar → Option OptionName → Option (List ℕ) → 
 joined_fault so_far (Some option) (Some text) = value_fault so_far option text
 joined_fault so_far _ _ = None
 
+-- what the name at a place is, counted from 0, where there is one
+abbrev pub kind_at : List NameKind → ℕ → Option NameKind
+kind_at [] place = None
+kind_at (kind ∷ more) zero = Some kind
+kind_at (kind ∷ more) (suc place) = kind_at more place
+
+-- what is wrong with a name in this word: a guest's is one of theirs, and its size is a number
+abbrev pub kind_fault : NameKind → ℕ → List ℕ → Option WordsFault
+kind_fault Program word text = None
+kind_fault Script word text = None
+kind_fault Guest word text = if is_some (name_of text) then None else Some (UnknownGuest word)
+kind_fault Size word text = if is_some (number_of text) then None else Some (NoNumber word)
+
 -- a name is one of those that the command has
-abbrev pub name_fault : SoFar → Option WordsFault
-name_fault so_far =
-    if nat_lt so_far.names so_far.takes.names then None else Some (OneNameTooMany so_far.next)
+abbrev pub fault_at : Option NameKind → ℕ → List ℕ → Option WordsFault
+fault_at None word text = Some (OneNameTooMany word)
+fault_at (Some kind) word text = kind_fault kind word text
+
+abbrev pub name_fault : SoFar → List ℕ → Option WordsFault
+name_fault so_far text = fault_at (kind_at so_far.takes.names so_far.names) so_far.next text
 
 -- what is wrong with an option's word: first its name, then its value
 abbrev pub option_word_fault : SoFar → List ℕ → Option WordsFault
@@ -68,10 +88,10 @@ abbrev pub fault_read : SoFar → Reading → List ℕ → Option WordsFault
 fault_read so_far Options word =
     if bytes_eq word (codes "--") then None
     else if is_option word then option_word_fault so_far word
-    else name_fault so_far
+    else name_fault so_far word
 fault_read so_far (Value option) word =
     if begins_with_dash word then Some (NoValue (so_far.next - 1)) else value_fault so_far option word
-fault_read so_far Names word = name_fault so_far
+fault_read so_far Names word = name_fault so_far word
 
 abbrev pub word_fault : SoFar → List ℕ → Option WordsFault
 word_fault so_far word = fault_read so_far so_far.reading word
@@ -99,12 +119,16 @@ value_missing so_far Options = None
 value_missing so_far (Value option) = Some (NoValue (so_far.next - 1))
 value_missing so_far Names = None
 
+-- the fault where such a name is missing
+abbrev pub missing : NameKind → WordsFault
+missing Program = NoProgram
+missing Script = NoScript
+missing Guest = NoGuest
+missing Size = NoSize
+
 -- and all names are given
 abbrev pub name_missing : SoFar → Option WordsFault
-name_missing so_far =
-    if not (nat_lt so_far.names so_far.takes.names) then None
-    else if so_far.names == 0 then Some NoProgram
-    else Some NoScript
+name_missing so_far = option_map missing (kind_at so_far.takes.names so_far.names)
 
 abbrev pub end_fault : SoFar → Option WordsFault
 end_fault so_far = option_or (value_missing so_far so_far.reading) (name_missing so_far)
@@ -137,8 +161,12 @@ word_of (Twice word) = Some word
 word_of (NoValue word) = Some word
 word_of (OutOfRange word least most) = Some word
 word_of (OneNameTooMany word) = Some word
+word_of (UnknownGuest word) = Some word
+word_of (NoNumber word) = Some word
 word_of NoProgram = None
 word_of NoScript = None
+word_of NoGuest = None
+word_of NoSize = None
 
 -- it is one of so many words
 abbrev pub IsAmong : ℕ → WordsFault → Type 0

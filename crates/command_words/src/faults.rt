@@ -35,18 +35,26 @@ pub enum WordsFault {
     },
     /// This word is a name too many.
     OneNameTooMany(usize),
+    /// This word is to name a guest, and names none.
+    UnknownGuest(usize),
+    /// This word is to be the size of a guest, and isn't a number: 1 to 20 decimal digits, below 2^64.
+    NoNumber(usize),
     /// No word is wrong, and the name of the program's file is missing.
     NoProgram,
     /// No word is wrong, and the name of the script's file is missing.
     NoScript,
+    /// No word is wrong, and the name of the guest is missing.
+    NoGuest,
+    /// No word is wrong, and the size of the guest is missing.
+    NoSize,
 }
 
 /// What is wrong with the words; None exactly where they name a command. It takes no memory.
 ///
 /// The words are read from the left, and the first that is wrong, given those before it, gives the fault: an
 /// option's word where no command has the option, where this command hasn't, where it was given before, or where
-/// it lacks its value; a word where the value in it is out of the option's range; and a name too many. Where
-/// none is wrong, a name may be missing.
+/// it lacks its value; a word where the value in it is out of the option's range; a name too many; and a word that is
+/// to name a guest or its size and doesn't. Where none is wrong, a name may be missing.
 pub fn words_fault(words: &[String]) -> Option<WordsFault>
     ensures fault { result ≡ words_fault (texts words.now) }
     ensures among { IfSome result (IsAmong (length words.now)) }

@@ -71,7 +71,7 @@ fn is_decimal(text: &str) -> bool
 
 /// The number that a text writes: 1 to 20 decimal digits and nothing else. None also where it is 2^64 or
 /// more.
-fn number_of(text: &str) -> Option<u64>
+pub(crate) fn number_of(text: &str) -> Option<u64>
     ensures { result ≡ number_of text.now }
 {
     if !text.is_empty() && text.len() <= 20 && is_decimal(text) {

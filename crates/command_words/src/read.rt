@@ -1,8 +1,7 @@
 //! Reading the words of a command line.
 
 ghost use Rattle.std.specs.Prelude.{◌≡◌, IfErr, IfOk, Some};
-ghost use Rattle.mach_types.specs.Limits.{InRange};
-ghost use Rattle.command_words.specs.Commands.{HasItsHarts};
+ghost use Rattle.command_words.specs.Commands.{HasItsHarts, HasLimits};
 ghost use Rattle.command_words.specs.Kept.{said};
 ghost use Rattle.command_words.specs.WordErrors.{IsErrorOf};
 ghost use Rattle.command_words.specs.Words.{command_of, texts};
@@ -25,11 +24,11 @@ pub enum WordsError {
 /// may want it.
 ///
 /// The first word is the command: `solo FILE`, with `--frames` and `--steps`; `play FILE SCRIPT` and the other
-/// commands on the events of a script, with `--harts` too; or `run FILE` and `draw FILE`, with `--harts` and `--seed`
-/// too. Each limit is in its range.
+/// commands on the events of a script, with `--harts` too; `run FILE` and `draw FILE`, with `--harts` and `--seed`
+/// too; or `make NAME N`, with no option. Each limit is in its range.
 pub fn read_words<'a>(alloc: Global, words: &'a [String]) -> Result<Command<'a>, WordsError>
     ensures command { IfOk result (λ command. command_of (texts words.now) ≡ Some (said command)) }
-    ensures limits { IfOk result (λ command. InRange command.limits) }
+    ensures limits { IfOk result (λ command. HasLimits (said command)) }
     ensures harts { IfOk result (λ command. HasItsHarts (said command)) }
     ensures error { IfErr result (IsErrorOf (texts words.now)) }
 {

@@ -6,13 +6,15 @@ ghost use Rattle.std.specs.Result.{result_err};
 ghost use Rattle.command_words.specs.Grammar.{Given, begins_with_dash, is_option};
 ghost use Rattle.command_words.specs.Kept.{named, reading_kept, so_far, takes_kept};
 ghost use Rattle.command_words.specs.Options.{option_named};
-ghost use Rattle.command_words.specs.WordFaults.{command_read, end_fault, fault_read, name_fault, option_fault};
+ghost use Rattle.command_words.specs.WordFaults.{command_read, end_fault, fault_read, kind_fault, missing, name_fault};
+ghost use Rattle.command_words.specs.WordFaults.{option_fault};
 ghost use Rattle.command_words.specs.WordFaults.{option_word_fault, value_fault, with_read, with_word, word_fault};
 ghost use Rattle.command_words.specs.Words.{Options, Value, behind_equals, is_equals, option_read, word_read};
 
 use crate::faults::WordsFault;
-use crate::options::{OptionName, chosen};
-use crate::takes::{OptionSet, Takes};
+use crate::options::{OptionName, chosen, number_of};
+use crate::takes::{NameKind, OptionSet, Takes};
+use guest_names::Name;
 
 /// How the next word is read.
 #[derive(Clone, Copy, Debug, Drop)]
@@ -60,6 +62,33 @@ fn parted(word: &str) -> (&str, Option<&str>)
     }
 }
 
+impl NameKind {
+    /// Whether a text is such a name, in this word.
+    fn suits(self, text: &str, word: usize) -> Result<(), WordsFault>
+        ensures { result_err result ≡ kind_fault self word text.now }
+    {
+        match self {
+            NameKind::Guest if Name::of_word(text).is_none() => {
+                Err(WordsFault::UnknownGuest(word))
+            }
+            NameKind::Size if number_of(text).is_none() => Err(WordsFault::NoNumber(word)),
+            _ => Ok(()),
+        }
+    }
+
+    /// The fault where such a name is missing.
+    fn missing(self) -> WordsFault
+        ensures { result ≡ missing self }
+    {
+        match self {
+            NameKind::Program => WordsFault::NoProgram,
+            NameKind::Script => WordsFault::NoScript,
+            NameKind::Guest => WordsFault::NoGuest,
+            NameKind::Size => WordsFault::NoSize,
+        }
+    }
+}
+
 impl Reader {
     /// The command's word is read, and the command takes this.
     pub(crate) fn new(takes: Takes) -> Reader
@@ -86,7 +115,7 @@ impl Reader {
         match self.reading {
             Reading::Options => self.read_any(word)?,
             Reading::Value(option) => self.read_next_value(option, word)?,
-            Reading::Names => self.read_name()?,
+            Reading::Names => self.read_name(word)?,
         }
         self.next += 1;
         Ok(())
@@ -106,7 +135,7 @@ impl Reader {
         } else if is_option(word) {
             self.read_option(word)
         } else {
-            self.read_name()
+            self.read_name(word)
         }
     }
 
@@ -182,18 +211,19 @@ impl Reader {
     }
 
     /// Takes the next word for a name.
-    fn read_name(&mut self) -> Result<(), WordsFault>
-        ensures fault { result_err result ≡ name_fault (so_far self.old) }
+    fn read_name(&mut self, word: &str) -> Result<(), WordsFault>
+        ensures fault { result_err result ≡ name_fault (so_far self.old) word.now }
         ensures read { OnOk result
             (so_far self.new ≡ record (so_far self.old) { names = self.old.names + 1 }) }
         ensures next { self.new.next ≡ self.old.next }
     {
-        if self.names < self.takes.names {
-            self.names += 1;
-            Ok(())
-        } else {
-            Err(WordsFault::OneNameTooMany(self.next))
-        }
+        let kind = self
+            .takes
+            .name_at(self.names)
+            .ok_or(WordsFault::OneNameTooMany(self.next))?;
+        kind.suits(word, self.next)?;
+        self.names += 1;
+        Ok(())
     }
 
     /// No word follows.
@@ -202,13 +232,11 @@ impl Reader {
         ensures { result_err result ≡ end_fault (so_far self.now) }
     {
         if let Reading::Value(_) = self.reading {
-            Err(WordsFault::NoValue(self.next - 1))
-        } else if self.names >= self.takes.names {
-            Ok(())
-        } else if self.names == 0 {
-            Err(WordsFault::NoProgram)
-        } else {
-            Err(WordsFault::NoScript)
+            return Err(WordsFault::NoValue(self.next - 1));
+        }
+        match self.takes.name_at(self.names) {
+            Some(kind) => Err(kind.missing()),
+            None => Ok(()),
         }
     }
 }

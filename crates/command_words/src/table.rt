@@ -1,4 +1,5 @@
-//! The commands: of each its word, how the log of its run comes about, and what is shown of it.
+//! The commands: of each its word, and whether it makes a guest, or how the log of its run comes about and what is shown of
+//! it.
 
 ghost use Rattle.std.specs.Prelude.{◌≡◌};
 ghost use Rattle.command_words.specs.Table.{command_kind};
@@ -58,16 +59,21 @@ impl Shown {
 
 /// What a command is.
 #[derive(Clone, Copy, Debug, PartialEq, Eq, Drop)]
-pub struct CommandKind {
-    /// How the log of its run comes about.
-    pub source: SourceKind,
-    /// What is shown of the run.
-    pub shown: Shown,
+pub enum CommandKind {
+    /// It runs a program.
+    Runs {
+        /// How the log of the run comes about.
+        source: SourceKind,
+        /// What is shown of the run.
+        shown: Shown,
+    },
+    /// It makes the file of a guest.
+    Makes,
 }
 
 /// The words of the commands.
 pub const COMMANDS: [&str; 8] = [
-    "solo", "play", "blocks", "inspect", "acts", "gather", "run", "draw",
+    "solo", "play", "blocks", "inspect", "acts", "gather", "run", "draw", "make",
 ];
 
 /// What the command of a word is; None where no command has the word.
@@ -83,7 +89,8 @@ pub fn command_kind(word: &str) -> Option<CommandKind>
         "gather" => (SourceKind::ByScript, Shown::Gathered),
         "run" => (SourceKind::ByWorkers, Shown::Output),
         "draw" => (SourceKind::ByDraws, Shown::Output),
+        "make" => return Some(CommandKind::Makes),
         _ => return None,
     };
-    Some(CommandKind { source, shown })
+    Some(CommandKind::Runs { source, shown })
 }

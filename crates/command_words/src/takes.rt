@@ -1,11 +1,12 @@
-//! What each command takes behind its word: how many names, and which options.
+//! What each command takes behind its word: which names, and which options.
 
 ghost use Rattle.std.specs.Prelude.{◌≡◌, option_map};
 ghost use Rattle.command_words.specs.Kept.{named, options_kept, takes_kept};
-ghost use Rattle.command_words.specs.Takes.{has, no_options, takes_of, with_option};
+ghost use Rattle.command_words.specs.Takes.{has, no_options, takes_by, takes_kind, takes_of, with_option};
+ghost use Rattle.command_words.specs.WordFaults.{kind_at};
 
 use crate::options::OptionName;
-use crate::table::{SourceKind, command_kind};
+use crate::table::{CommandKind, SourceKind, command_kind};
 
 /// Some of the options.
 #[derive(Clone, Copy, Debug, Drop)]
@@ -56,6 +57,14 @@ impl OptionSet {
     }
 }
 
+/// No option.
+const NO_OPTIONS: OptionSet = OptionSet {
+    harts: false,
+    frames: false,
+    steps: false,
+    seed: false,
+};
+
 /// The options of a command that runs on one hart: it chooses nothing.
 const ON_ONE_HART: OptionSet = OptionSet {
     harts: false,
@@ -80,30 +89,74 @@ const BY_SEED: OptionSet = OptionSet {
     seed: true,
 };
 
+/// What a name is.
+#[derive(Clone, Copy, Debug, Drop)]
+pub(crate) enum NameKind {
+    /// That of a program's file.
+    Program,
+    /// That of a script's file.
+    Script,
+    /// That of a guest.
+    Guest,
+    /// The size of a guest.
+    Size,
+}
+
 /// What a command takes behind its word.
 #[derive(Clone, Copy, Debug, Drop)]
 pub(crate) struct Takes {
-    /// How many names it has.
-    pub(crate) names: usize,
+    /// What its first name is.
+    first: NameKind,
+    /// What its second name is, if it has two.
+    second: Option<NameKind>,
     /// The options that it has.
     pub(crate) options: OptionSet,
 }
 
-impl SourceKind {
-    ghost use Rattle.std.specs.Prelude.{◌≡◌};
-    ghost use Rattle.command_words.specs.Kept.{takes_kept};
-    ghost use Rattle.command_words.specs.Takes.{takes_by};
+impl Takes {
+    /// What the name at this place is, counted from 0; None where the command has fewer names.
+    pub(crate) fn name_at(self, place: usize) -> Option<NameKind>
+        ensures { result ≡ kind_at (takes_kept self).names place }
+    {
+        match place {
+            0 => Some(self.first),
+            1 => self.second,
+            _ => None,
+        }
+    }
+}
 
+impl SourceKind {
     /// What a command takes whose log comes about in this way.
-    pub(crate) fn takes(self) -> Takes
+    fn takes(self) -> Takes
         ensures { takes_kept result ≡ takes_by self }
     {
-        let (names, options) = match self {
-            SourceKind::ByRule => (1, ON_ONE_HART),
-            SourceKind::ByScript => (2, ON_A_SCRIPT),
-            SourceKind::ByWorkers | SourceKind::ByDraws => (1, BY_SEED),
+        let (second, options) = match self {
+            SourceKind::ByRule => (None, ON_ONE_HART),
+            SourceKind::ByScript => (Some(NameKind::Script), ON_A_SCRIPT),
+            SourceKind::ByWorkers | SourceKind::ByDraws => (None, BY_SEED),
         };
-        Takes { names, options }
+        Takes {
+            first: NameKind::Program,
+            second,
+            options,
+        }
+    }
+}
+
+impl CommandKind {
+    /// What a command of this kind takes.
+    pub(crate) fn takes(self) -> Takes
+        ensures { takes_kept result ≡ takes_kind self }
+    {
+        match self {
+            CommandKind::Runs { source, .. } => source.takes(),
+            CommandKind::Makes => Takes {
+                first: NameKind::Guest,
+                second: Some(NameKind::Size),
+                options: NO_OPTIONS,
+            },
+        }
     }
 }
 
@@ -112,5 +165,5 @@ pub(crate) fn takes_of(command: &str) -> Option<Takes>
     ensures { option_map takes_kept result ≡ takes_of command.now }
 {
     let kind = command_kind(command)?;
-    Some(kind.source.takes())
+    Some(kind.takes())
 }

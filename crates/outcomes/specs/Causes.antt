@@ -1,8 +1,9 @@
 -- Why a call gives no output.
-use Rattle.std.specs.Prelude.{ℕ, ◌≡◌, ◌⊎◌, IsSome, List, Option, None}
+use Rattle.std.specs.Prelude.{ℕ, ◌≡◌, ◌⊎◌, IsSome, List, Option, None, false}
 use Rattle.mach_types.specs.declared.limits.Limits.{Limits}
 use Rattle.elf_load.specs.declared.fault.ElfFault.{ElfFault}
 use Rattle.elf_load.specs.declared.image.Image.{Image}
+use Rattle.guest_names.specs.Guests.{is_size}
 use Rattle.outside.specs.Counts.{Rose}
 use Rattle.block_model.specs.Setting.{setting_of}
 use Rattle.outcomes.specs.declared.faults.Fault.{Fault}
@@ -19,6 +20,7 @@ abbrev pub IsRefusalOf : Files → need.Needs → ElfFault → Type 0
 IsRefusalOf files need.Nothing fault = ⊥
 IsRefusalOf files (need.Program program limits) fault = IsRefused files program limits fault
 IsRefusalOf files (need.Script program script limits) fault = IsRefused files program limits fault
+IsRefusalOf files (need.Guest guest) fault = ⊥
 
 -- a script is refused at the line of this number, after its program was taken
 pub record IsScriptRefused
@@ -35,6 +37,7 @@ IsScriptRefusalOf files need.Nothing number = ⊥
 IsScriptRefusalOf files (need.Program program limits) number = ⊥
 IsScriptRefusalOf files (need.Script program script limits) number =
     IsScriptRefused files program script limits number
+IsScriptRefusalOf files (need.Guest guest) number = ⊥
 
 -- a script has too many bytes, after its program was taken
 pub record IsBigScript (files : Files) (program script : List ℕ) (limits : Limits) : Type 0 where
@@ -48,6 +51,7 @@ HasBigFile files need.Nothing = ⊥
 HasBigFile files (need.Program program limits) = IsTooBig files program most_program_bytes
 HasBigFile files (need.Script program script limits) =
     IsTooBig files program most_program_bytes ⊎ IsBigScript files program script limits
+HasBigFile files (need.Guest guest) = ⊥
 
 -- a script couldn't be read, after its program was taken: the count of faults of its name rose
 pub record IsUnreadScript
@@ -63,10 +67,14 @@ ReadFailed files need.Nothing old new = ⊥
 ReadFailed files (need.Program program limits) old new = Rose (old program) (new program)
 ReadFailed files (need.Script program script limits) old new =
     Rose (old program) (new program) ⊎ IsUnreadScript files program script limits old new
+ReadFailed files (need.Guest guest) old new = ⊥
 
--- the number is outside the range of the guest that a command makes; no command makes one yet
-abbrev pub IsOutsideGuest : Option Command → ℕ → Type 0
-IsOutsideGuest command number = ⊥
+-- the guest that is needed doesn't take its size, which is this number
+abbrev pub IsOutsideGuest : need.Needs → ℕ → Type 0
+IsOutsideGuest need.Nothing number = ⊥
+IsOutsideGuest (need.Program program limits) number = ⊥
+IsOutsideGuest (need.Script program script limits) number = ⊥
+IsOutsideGuest (need.Guest guest) number = (is_size guest.name guest.size ≡ false) × (number ≡ guest.size)
 
 -- why a fault comes where a command is asked for, or none; for a command want of memory is free, and for none it is
 -- no cause: what is wrong with words is found without memory
@@ -77,7 +85,7 @@ IsCauseOf files command old new Memory = IsSome command
 IsCauseOf files command old new Big = HasBigFile files (need.needs_of command)
 IsCauseOf files command old new (Elf fault) = IsRefusalOf files (need.needs_of command) fault
 IsCauseOf files command old new (Script number) = IsScriptRefusalOf files (need.needs_of command) number
-IsCauseOf files command old new (Guest number) = IsOutsideGuest command number
+IsCauseOf files command old new (Guest number) = IsOutsideGuest (need.needs_of command) number
 
 -- the same, by the words
 abbrev pub IsCause : Files → List (List ℕ) → (List ℕ → ℕ) → (List ℕ → ℕ) → Fault → Type 0

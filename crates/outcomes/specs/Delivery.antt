@@ -1,13 +1,15 @@
 -- Writing a text and giving its status.
-use Rattle.std.specs.Prelude.{ℕ, ◌≡◌, ◌⊎◌, List, Option, Some, None, Result, Ok, Err}
+use Rattle.std.specs.Prelude.{ℕ, ◌≡◌, ◌⊎◌, List, Option, Some, None, Result, Ok, Err, false}
 use Rattle.std.specs.declared.alloc.Global.{Global}
 use Rattle.std.specs.declared.io.ErrorKind.{ErrorKind}
 use Rattle.std.specs.declared.vec.Vec.{Vec}
 use Rattle.mach_types.specs.declared.limits.Limits.{Limits}
 use Rattle.elf_load.specs.Faults.{first_fault}
 use Rattle.block_model.specs.Setting.{Setting}
+use Rattle.guest_names.specs.Guests.{is_size}
 use Rattle.outside.specs.Counts.{Rose}
 use Rattle.outside.specs.Told.{Gained, GainedPrefix}
+use Rattle.command_words.specs.declared.commands.Guest.{Guest as AskedGuest}
 use Rattle.outcomes.specs.declared.reasons.Explained.{Explained}
 use Rattle.outcomes.specs.declared.reasons.FileRole.{FileRole}
 use Rattle.outcomes.specs.declared.reasons.Reason.{Reason}
@@ -91,3 +93,14 @@ IsPlayReason s text (Elf fault about) = ⊥
 IsPlayReason s text (Script number fault) = IsBadLine s text number fault
 IsPlayReason s text (Guest number) = ⊥
 IsPlayReason s text (Unwritten trouble) = ⊥
+
+-- why the file of a guest isn't made: memory is short, or the guest doesn't take its size
+abbrev pub IsGuestReason : AskedGuest → Reason → Type 0
+IsGuestReason guest (Words fault) = ⊥
+IsGuestReason guest (Unread file trouble) = ⊥
+IsGuestReason guest NoMemory = Unit {0}
+IsGuestReason guest (TooBig file) = ⊥
+IsGuestReason guest (Elf fault about) = ⊥
+IsGuestReason guest (Script number fault) = ⊥
+IsGuestReason guest (Guest number) = (is_size guest.name guest.size ≡ false) × (number ≡ guest.size)
+IsGuestReason guest (Unwritten trouble) = ⊥

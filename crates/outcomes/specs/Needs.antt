@@ -1,16 +1,18 @@
--- What a command needs: a program, and perhaps a script for it. The causes of faults speak of needs, not of
+-- What a command needs: a program, and perhaps a script for it; or a guest. The causes of faults speak of needs, not of
 -- commands.
 use Rattle.std.specs.Prelude.{ℕ, List, Option, Some, None}
 use Rattle.mach_types.specs.declared.limits.Limits.{Limits}
+use Rattle.command_words.specs.declared.commands.Guest.{Guest as AskedGuest}
 use Rattle.command_words.specs.Commands as words
 use Rattle.command_words.specs.Words.{command_of}
 
--- nothing; the program in the file of this name, taken under these limits; or such a program, and the script
--- in the file of the second name, which is read once the program was taken
+-- nothing; the program in the file of this name, taken under these limits; such a program, and the script in the file
+-- of the second name, which is read once the program was taken; or the file of a guest, which is made
 pub data Needs : Type 0 where
   Nothing : Needs
   Program : (program : List ℕ) (limits : Limits) → Needs
   Script : (program : List ℕ) (script : List ℕ) (limits : Limits) → Needs
+  Guest : (guest : AskedGuest) → Needs
 
 -- what the program of this name needs by how the log of its run comes about
 abbrev pub needs_by : List ℕ → words.Source → Limits → Needs
@@ -22,7 +24,8 @@ needs_by program (words.Drawn seed) limits = Program program limits
 -- what a command needs
 abbrev pub needs_of : Option words.Command → Needs
 needs_of None = Nothing
-needs_of (Some command) = needs_by command.program command.source command.limits
+needs_of (Some (words.Runs run)) = needs_by run.program run.source run.limits
+needs_of (Some (words.Makes guest)) = Guest guest
 
 -- what the command of the words needs
 abbrev pub needs_in : List (List ℕ) → Needs

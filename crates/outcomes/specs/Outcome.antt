@@ -74,7 +74,7 @@ pub record IsScriptLine (files : Files) (words : List (List ℕ)) (written : Lis
 -- the line of a number that is outside the range of the guest of the words
 pub record IsGuestLine (words : List (List ℕ)) (written : List ℕ) : Type 0 where
   pub number : ℕ
-  pub outside : IsOutsideGuest (command_of words) number
+  pub outside : IsOutsideGuest (needs_in words) number
   pub line : written ≡ fault_line (Guest number)
 
 -- the line of a fault that has its cause
@@ -134,7 +134,9 @@ pub record IsOutcome (call : Call) (status : ℕ) : Type 0 where
       → NoneFailed call → (status ≡ 8) ⊎ (status ≡ 7)
   -- 9: the number is outside the range of the guest
   pub guest : status ≡ 9 → Wrote call (IsGuestLine call.words)
-  -- where the files are told and good, and no device fails, there is an output
+  pub guest_always : (number : ℕ) → IsOutsideGuest (needs_in call.words) number
+      → NoneFailed call → (status ≡ 9) ⊎ (status ≡ 7)
+  -- where the files are told and good, or the guest takes its size, and no device fails, there is an output
   pub complete : TellsGoodFiles call.files (needs_in call.words)
       → NoneFailed call → (status ≡ 0) ⊎ (status ≡ 7)
   -- no file changes, and no count of faults falls
@@ -172,5 +174,6 @@ pub record IsSureOutcome
   pub big_always : TellsBigFile (all_told files) (needs_in words) → (status ≡ 8) ⊎ (status ≡ 7)
   -- 9: the number is outside the range of the guest
   pub guest : status ≡ 9 → GainedOf held held_after (IsGuestLine words)
-  -- where the files are good, there is an output
+  pub guest_always : (number : ℕ) → IsOutsideGuest (needs_in words) number → (status ≡ 9) ⊎ (status ≡ 7)
+  -- where the files are good, or the guest takes its size, there is an output
   pub complete : TellsGoodFiles (all_told files) (needs_in words) → (status ≡ 0) ⊎ (status ≡ 7)

@@ -1,10 +1,12 @@
--- The output of a command: what it shows of a whole run of its program.
-use Rattle.std.specs.Prelude.{ℕ, ◌≡◌, List, Option, Some, None, Ok, map}
+-- The output of a command: what it shows of a whole run of its program, or the file of its guest.
+use Rattle.std.specs.Prelude.{ℕ, ◌≡◌, List, Option, Some, None, Ok, map, true}
 use Rattle.std.specs.List.{flat_map}
 use Rattle.mach_types.specs.declared.events.Entry.{Entry}
 use Rattle.mach_types.specs.declared.limits.End.{End}
 use Rattle.mach_types.specs.declared.limits.Limits.{Limits}
 use Rattle.elf_load.specs.declared.image.Image.{Image}
+use Rattle.guest_names.specs.Guests.{is_size}
+use Rattle.guest_programs.specs.Guests.{IsGuestFile}
 use Rattle.block_model.specs.Setting.{Seen, Setting, setting_of}
 use Rattle.block_model.specs.History.{console}
 use Rattle.block_model.specs.Deciding.{history, end_of}
@@ -17,7 +19,8 @@ use Rattle.log_gather.specs.Gathered.{gathered}
 use Rattle.place_text.specs.Place.{place_text}
 use Rattle.command_words.specs.declared.table.Shown.{Shown}
 use Rattle.command_words.specs.declared.table.Shown.TheVariants as shows
-use Rattle.command_words.specs.Commands.{Command, Source, Rule, Script, Workers, Drawn}
+use Rattle.command_words.specs.declared.commands.Guest.{Guest}
+use Rattle.command_words.specs.Commands.{Command, Run, Runs, Makes, Source, Rule, Script, Workers, Drawn}
 use Rattle.command_words.specs.Words.{command_of}
 use Rattle.outcomes.specs.Programs.{Files, IsProgram, IsScript, asks_of}
 use Rattle.outcomes.specs.Runs.{IsChosenRun, IsSoloRun, IsPlayedRun}
@@ -44,9 +47,9 @@ text_of shows.Gathered s bytes log end = output_text bytes (gathered s log) end
 abbrev pub shown_text : Shown → Setting → List Entry → List ℕ
 shown_text shown s log = text_of shown s (console s (history s log)) log (end_of s (history s log))
 
--- what the run of a command starts from, where this is the image of its program
-abbrev pub setting_for : Command → Image → Setting
-setting_for command image = setting_of image command.limits
+-- what a run starts from, where this is the image of its program
+abbrev pub setting_for : Run → Image → Setting
+setting_for run image = setting_of image run.limits
 
 -- the script of this name was read, and a whole run by its lines made this log
 pub record IsScriptRun (files : Files) (name : List ℕ) (s : Setting) (log : List Entry) : Type 0 where
@@ -69,31 +72,37 @@ pub record HasRun
   pub setting : m.setting ≡ setting_of image limits
   pub made : IsLogOf files source (setting_of image limits) m.log
 
--- the text that a command writes: what it shows of the log of a whole run of its program, which came about as the
--- command says
-pub record IsCommandOutput (files : Files) (command : Command) (written : List ℕ) : Type 0 where
+-- the text of a run that is asked for: what is shown of the log of a whole run of its program, which came about as it
+-- says
+pub record IsRunOutput (files : Files) (run : Run) (written : List ℕ) : Type 0 where
   pub image : Image
-  pub taken : IsProgram files command.program command.limits image
+  pub taken : IsProgram files run.program run.limits image
   pub log : List Entry
-  pub made : IsLogOf files command.source (setting_for command image) log
-  pub text : written ≡ shown_text command.shown (setting_for command image) log
+  pub made : IsLogOf files run.source (setting_for run image) log
+  pub text : written ≡ shown_text run.shown (setting_for run image) log
+
+-- the bytes are a file of the guest, which takes its size
+pub record IsGuestOutput (guest : Guest) (written : List ℕ) : Type 0 where
+  pub taken : is_size guest.name guest.size ≡ true
+  pub file : IsGuestFile guest.name guest.size written
 
 -- the output of a command
 abbrev pub IsOutputOf : Files → Option Command → List ℕ → Type 0
 IsOutputOf files None written = ⊥
-IsOutputOf files (Some command) written = IsCommandOutput files command written
+IsOutputOf files (Some (Runs run)) written = IsRunOutput files run written
+IsOutputOf files (Some (Makes guest)) written = IsGuestOutput guest written
 
 -- the output of the words
 abbrev pub IsOutput : Files → List (List ℕ) → List ℕ → Type 0
 IsOutput files words written = IsOutputOf files (command_of words) written
 
--- the command `play` on a program and a script, and its output
-abbrev pub playing : List ℕ → List ℕ → Limits → Command
+-- the run that `play` asks for on a program and a script, and its output
+abbrev pub playing : List ℕ → List ℕ → Limits → Run
 playing program script limits =
     record { program = program; source = Script script; shown = shows.Output; limits = limits }
 
 abbrev pub IsPlayOutput : Files → List ℕ → List ℕ → Limits → List ℕ → Type 0
-IsPlayOutput files program script limits written = IsCommandOutput files (playing program script limits) written
+IsPlayOutput files program script limits written = IsRunOutput files (playing program script limits) written
 
 -- what is shown of the plain machine's run, with what it holds on its console, the entries that it made, and its end
 abbrev pub plain_text : Shown → Setting → PlainRun → List ℕ
@@ -121,18 +130,19 @@ IsPlainRunOf files (Script name) s run = IsPlainScriptRun files name s run
 IsPlainRunOf files (Workers seed) s run = IsPlainRunOver s (IsChosenRun s seed) run
 IsPlainRunOf files (Drawn seed) s run = IsPlainRunOver s (IsDrawnRun s (manner_of seed s.limits.steps)) run
 
--- what the plain machine prints for a command
-pub record IsPlainCommandOutput (files : Files) (command : Command) (written : List ℕ) : Type 0 where
+-- what the plain machine prints of a run that is asked for
+pub record IsPlainRunOutput (files : Files) (asked : Run) (written : List ℕ) : Type 0 where
   pub image : Image
-  pub taken : IsProgram files command.program command.limits image
+  pub taken : IsProgram files asked.program asked.limits image
   pub run : PlainRun
-  pub made : IsPlainRunOf files command.source (setting_for command image) run
-  pub text : written ≡ plain_text command.shown (setting_for command image) run
+  pub made : IsPlainRunOf files asked.source (setting_for asked image) run
+  pub text : written ≡ plain_text asked.shown (setting_for asked image) run
 
--- the plain machine's output of a command
+-- the plain machine's output of a command; for the file of a guest no machine runs
 abbrev pub IsPlainOutputOf : Files → Option Command → List ℕ → Type 0
 IsPlainOutputOf files None written = ⊥
-IsPlainOutputOf files (Some command) written = IsPlainCommandOutput files command written
+IsPlainOutputOf files (Some (Runs run)) written = IsPlainRunOutput files run written
+IsPlainOutputOf files (Some (Makes guest)) written = IsGuestOutput guest written
 
 -- the plain machine's output of the words
 abbrev pub IsPlainOutput : Files → List (List ℕ) → List ℕ → Type 0

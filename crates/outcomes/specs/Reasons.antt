@@ -23,7 +23,7 @@ use Rattle.outcomes.specs.declared.reasons.LineFault.{LineFault}
 use Rattle.outcomes.specs.declared.reasons.LineFault.TheVariants as line
 use Rattle.outcomes.specs.declared.reasons.Reason.{Reason}
 use Rattle.outcomes.specs.declared.reasons.Reason.TheVariants.{Words, Unread, NoMemory, TooBig, Elf, Script, Guest, Unwritten}
-use Rattle.outcomes.specs.Causes.{IsBigScript, IsScriptRefused, IsUnreadScript}
+use Rattle.outcomes.specs.Causes.{IsBigScript, IsOutsideGuest, IsScriptRefused, IsUnreadScript}
 use Rattle.outcomes.specs.ElfPlaces.{place_of}
 use Rattle.outcomes.specs.Needs as need
 use Rattle.outcomes.specs.Outcome.{Call, CouldNotWrite, IsOutcome, WrotePrefix, WroteText}
@@ -85,6 +85,7 @@ IsUnread files (need.Program program limits) old new role.Script = ⊥
 IsUnread files (need.Script program script limits) old new role.Program = Rose (old program) (new program)
 IsUnread files (need.Script program script limits) old new role.Script =
     IsUnreadScript files program script limits old new
+IsUnread files (need.Guest guest) old new file = ⊥
 
 -- the file of this role has too many bytes: the program, or the script after the program was taken
 abbrev pub IsBig : Files → need.Needs → FileRole → Type 0
@@ -93,6 +94,7 @@ IsBig files (need.Program program limits) role.Program = IsTooBig files program 
 IsBig files (need.Program program limits) role.Script = ⊥
 IsBig files (need.Script program script limits) role.Program = IsTooBig files program most_program_bytes
 IsBig files (need.Script program script limits) role.Script = IsBigScript files program script limits
+IsBig files (need.Guest guest) file = ⊥
 
 -- the program of this name was read, and is refused for this fault, which is about this
 pub record IsRefusedAbout
@@ -106,6 +108,7 @@ IsRefusalAbout files need.Nothing fault about = ⊥
 IsRefusalAbout files (need.Program program limits) fault about = IsRefusedAbout files program limits fault about
 IsRefusalAbout files (need.Script program script limits) fault about =
     IsRefusedAbout files program limits fault about
+IsRefusalAbout files (need.Guest guest) fault about = ⊥
 
 -- a script is refused at the line of this number, after its program was taken, and this is what is wrong with
 -- the line
@@ -120,6 +123,7 @@ IsScriptRefusalFor files need.Nothing number fault = ⊥
 IsScriptRefusalFor files (need.Program program limits) number fault = ⊥
 IsScriptRefusalFor files (need.Script program script limits) number fault =
     IsScriptRefusedFor files program script limits number fault
+IsScriptRefusalFor files (need.Guest guest) number fault = ⊥
 
 -- a file of this role couldn't be read, and this is what the shelf says of its last fault
 pub record IsUnreadFor
@@ -128,7 +132,7 @@ pub record IsUnreadFor
   pub unread : IsUnread files needs old new file
   pub trouble_told : trouble ≡ said
 
--- why a reason comes of the files that are needed, where the shelf says this of its last fault; want of memory is
+-- why a reason comes of the files that are needed, or of the guest, where the shelf says this of its last fault; want of memory is
 -- free
 abbrev pub IsReasonFor : Files → need.Needs → (List ℕ → ℕ) → (List ℕ → ℕ) → Option ErrorKind → Reason → Type 0
 IsReasonFor files needs old new said (Words fault) = ⊥
@@ -137,7 +141,7 @@ IsReasonFor files needs old new said NoMemory = Unit {0}
 IsReasonFor files needs old new said (TooBig file) = IsBig files needs file
 IsReasonFor files needs old new said (Elf fault about) = IsRefusalAbout files needs fault about
 IsReasonFor files needs old new said (Script number fault) = IsScriptRefusalFor files needs number fault
-IsReasonFor files needs old new said (Guest number) = ⊥
+IsReasonFor files needs old new said (Guest number) = IsOutsideGuest needs number
 IsReasonFor files needs old new said (Unwritten trouble) = ⊥
 
 -- the words are no command, and this is what is wrong with them

@@ -1,13 +1,14 @@
 -- What a shelf that tells its files tells of those that are needed: which answer is due where no device fails
--- and memory suffices.
-use Rattle.std.specs.Prelude.{ℕ, ◌≡◌, ◌<◌, ◌≤◌, ◌⊎◌, List, Some, IsSome, length}
+-- and memory suffices. A guest is in no file.
+use Rattle.std.specs.Prelude.{ℕ, ◌≡◌, ◌<◌, ◌≤◌, ◌⊎◌, List, Some, IsSome, length, true}
 use Rattle.mach_types.specs.declared.events.Entry.{Entry}
 use Rattle.mach_types.specs.declared.limits.Limits.{Limits}
 use Rattle.elf_load.specs.declared.fault.ElfFault.{ElfFault}
 use Rattle.elf_load.specs.declared.image.Image.{Image}
 use Rattle.elf_load.specs.Images.{IsImage}
+use Rattle.guest_names.specs.Guests.{is_size}
 use Rattle.block_model.specs.Setting.{setting_of}
-use Rattle.outcomes.specs.Needs.{Needs, Nothing, Program, Script}
+use Rattle.outcomes.specs.Needs.{Needs, Nothing, Program, Script, Guest}
 use Rattle.outcomes.specs.Programs.{Files, IsFaulty, IsGood, most_program_bytes, most_script_bytes}
 use Rattle.outcomes.specs.Runs.{IsFirstBadLine, IsPlayedRun}
 
@@ -53,29 +54,33 @@ pub record TellsBadLine (files : Files) (program script : List ℕ) (limits : Li
   pub number : ℕ
   pub first : IsFirstBadLine (setting_of both.image limits) both.lines number
 
--- the files that are needed are told
+-- the files that are needed are told, and nothing else is needed
 abbrev pub AreTold : Files → Needs → Type 0
 AreTold files Nothing = Unit {0}
 AreTold files (Program program limits) = IsSome (files program)
 AreTold files (Script program script limits) = IsSome (files program) × IsSome (files script)
+AreTold files (Guest guest) = ⊥
 
--- the files that are needed are told and give a whole output
+-- the files that are needed are told and give a whole output, or the guest that is needed takes its size
 abbrev pub TellsGoodFiles : Files → Needs → Type 0
 TellsGoodFiles files Nothing = ⊥
 TellsGoodFiles files (Program program limits) = TellsGood files program limits
 TellsGoodFiles files (Script program script limits) = TellsAllowed files program script limits
+TellsGoodFiles files (Guest guest) = is_size guest.name guest.size ≡ true
 
 -- the program that is needed is told and is refused
 abbrev pub TellsFaultyProgram : Files → Needs → Type 0
 TellsFaultyProgram files Nothing = ⊥
 TellsFaultyProgram files (Program program limits) = TellsFaulty files program limits
 TellsFaultyProgram files (Script program script limits) = TellsFaulty files program limits
+TellsFaultyProgram files (Guest guest) = ⊥
 
 -- the script that is needed is told and is refused
 abbrev pub TellsBadScript : Files → Needs → Type 0
 TellsBadScript files Nothing = ⊥
 TellsBadScript files (Program program limits) = ⊥
 TellsBadScript files (Script program script limits) = TellsBadLine files program script limits
+TellsBadScript files (Guest guest) = ⊥
 
 -- a file that is needed is told and is too big: the program, or the script beside a good program
 abbrev pub TellsBigFile : Files → Needs → Type 0
@@ -84,3 +89,4 @@ TellsBigFile files (Program program limits) = TellsBig files program most_progra
 TellsBigFile files (Script program script limits) =
     TellsBig files program most_program_bytes
     ⊎ (TellsGood files program limits × TellsBig files script most_script_bytes)
+TellsBigFile files (Guest guest) = ⊥

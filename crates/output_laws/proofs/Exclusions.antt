@@ -1,6 +1,7 @@
 -- What a shelf tells of the files of a command leaves one answer, beside want of memory and failed reads.
 use Rattle.std.proofs.Common.{◌≡◌, ◌≢◌, ℕ, ◌<◌, ◌≤◌, ◌⊎◌, inl, inr, List, length, refl, sym, ap, ◌∙◌, subst}
-use Rattle.std.proofs.Common.{arith, Option, Some, None, Ok, Err}
+use Rattle.std.proofs.Common.{arith, Option, Some, None, Ok, Err, true}
+use Rattle.guest_names.specs.Guests.{is_size}
 use Rattle.std.specs.Prelude.{IfSome}
 use Rattle.mach_types.specs.declared.events.Entry.{Entry}
 use Rattle.mach_types.specs.declared.limits.Limits.{Limits}
@@ -14,8 +15,8 @@ use Rattle.outcomes.specs.declared.faults.Fault.{Fault}
 use Rattle.outcomes.specs.declared.faults.Fault.TheVariants as fault
 use Rattle.outcomes.specs.declared.faults.Fault.TheVariants.{Usage, Read, Memory, Big, Elf}
 use Rattle.outcomes.specs.Causes.{HasBigFile, IsBigScript, IsCauseOf, IsRefusalOf, IsScriptRefusalOf}
-use Rattle.outcomes.specs.Causes.{IsScriptRefused, ReadFailed}
-use Rattle.outcomes.specs.Needs.{Needs, Nothing, Program, Script, needs_by, needs_of}
+use Rattle.outcomes.specs.Causes.{IsOutsideGuest, IsScriptRefused, ReadFailed}
+use Rattle.outcomes.specs.Needs.{Needs, Nothing, Program, Script, Guest, needs_by, needs_of}
 use Rattle.outcomes.specs.Outputs.{IsLogOf, IsOutputOf}
 use Rattle.outcomes.specs.Programs.{Files, IsFaulty, IsGood, IsProgram, IsReadAs, IsRefused, IsScript}
 use Rattle.outcomes.specs.Programs.{IsTooBig, asks_of, most_program_bytes, most_script_bytes}
@@ -91,13 +92,14 @@ same_start files program script limits image both taken =
     one_setting both.bytes image both.image limits (subst (λ b. IsImage b image) same taken.loaded)
     both.loaded
 
--- what an output used of the files that are needed
+-- what an output used of the files that are needed, and of the guest
 abbrev pub AreUsed : Files → Needs → Type 0
 AreUsed files Nothing = Unit {0}
 AreUsed files (Program program limits) = (image : Image) × IsProgram files program limits image
 AreUsed files (Script program script limits) =
     (image : Image) × (lines : List ℕ) × (log : List Entry) × IsProgram files program limits image
     × IsScript files script lines × IsPlayedRun (setting_of image limits) lines log
+AreUsed files (Guest guest) = is_size guest.name guest.size ≡ true
 
 used_by_run : (files : Files) (program : List ℕ) (limits : Limits) (source : words.Source) (image : Image)
     (log : List Entry) → IsProgram files program limits image
@@ -111,8 +113,9 @@ used_by_run files program limits (words.Drawn seed) image log taken made = (imag
 pub used_by_output : (files : Files) (command : Option words.Command) (written : List ℕ)
     → IsOutputOf files command written → AreUsed files (needs_of command)
 used_by_output files None written output = tt
-used_by_output files (Some command) written output =
-    used_by_run files command.program command.limits command.source output.image output.log output.taken output.made
+used_by_output files (Some (words.Runs run)) written output =
+    used_by_run files run.program run.limits run.source output.image output.log output.taken output.made
+used_by_output files (Some (words.Makes guest)) written output = output.taken
 
 -- the program is good
 program_fits : (files : Files) (name bytes : List ℕ) (limits : Limits) → files name ≡ Some bytes
@@ -148,6 +151,7 @@ no_big_when_good : (files : Files) (needs : Needs) → TellsGoodFiles files need
 no_big_when_good files Nothing told big = absurd told
 no_big_when_good files (Program program limits) told big =
     program_fits files program told.bytes limits told.told told.good big
+no_big_when_good files (Guest guest) told big = big
 no_big_when_good files (Script program script limits) told big =
     no_big_file files program script limits told.both big
 
@@ -156,6 +160,7 @@ no_refusal_when_good : (files : Files) (needs : Needs) (fault : ElfFault) → Te
 no_refusal_when_good files Nothing fault told refused = absurd told
 no_refusal_when_good files (Program program limits) fault told refused =
     good_not_refused files program told.bytes limits fault told.told told.good refused
+no_refusal_when_good files (Guest guest) fault told refused = refused
 no_refusal_when_good files (Script program script limits) fault told refused =
     good_not_refused files program told.both.bytes limits fault told.both.told told.both.good refused
 
@@ -163,9 +168,17 @@ no_bad_line_when_good : (files : Files) (needs : Needs) (n : ℕ) → TellsGoodF
     → ¬ (IsScriptRefusalOf files needs n)
 no_bad_line_when_good files Nothing n told refused = absurd told
 no_bad_line_when_good files (Program program limits) n told refused = refused
+no_bad_line_when_good files (Guest guest) n told refused = refused
 no_bad_line_when_good files (Script program script limits) n told refused =
     allowed_not_bad (setting_of told.both.image limits) told.both.lines told.log n told.run
     (same_first files program script limits n told.both refused)
+
+no_guest_when_good : (files : Files) (needs : Needs) (n : ℕ) → TellsGoodFiles files needs
+    → ¬ (IsOutsideGuest needs n)
+no_guest_when_good files Nothing n told outside = outside
+no_guest_when_good files (Program program limits) n told outside = outside
+no_guest_when_good files (Script program script limits) n told outside = outside
+no_guest_when_good files (Guest guest) n told outside = absurd (cc (sym told ∙ outside.0))
 
 -- a fault comes for a command's needs, for want of memory, or where there is no command
 no_usage : (files : Files) (command : Option words.Command) (Tells : Files → Needs → Type 0)
@@ -184,7 +197,8 @@ fault_when_good files command old new Big told unread cause =
     absurd (no_big_when_good files (needs_of command) told cause)
 fault_when_good files command old new (Elf fault) told unread cause =
     absurd (no_refusal_when_good files (needs_of command) fault told cause)
-fault_when_good files command old new (fault.Guest number) told unread cause = absurd cause
+fault_when_good files command old new (fault.Guest number) told unread cause =
+    absurd (no_guest_when_good files (needs_of command) number told cause)
 fault_when_good files command old new (fault.Script number) told unread cause =
     absurd (no_bad_line_when_good files (needs_of command) number told cause)
 
@@ -209,6 +223,7 @@ no_big_when_faulty : (files : Files) (needs : Needs) → TellsFaultyProgram file
     → ¬ (HasBigFile files needs)
 no_big_when_faulty files Nothing told big = absurd told
 no_big_when_faulty files (Program program limits) told big = faulty_fits files program limits told big
+no_big_when_faulty files (Guest guest) told big = absurd told
 no_big_when_faulty files (Script program script limits) told big =
     faulty_big files program script limits told big
 
@@ -216,6 +231,7 @@ no_bad_line_when_faulty : (files : Files) (needs : Needs) (n : ℕ) → TellsFau
     → ¬ (IsScriptRefusalOf files needs n)
 no_bad_line_when_faulty files Nothing n told refused = absurd told
 no_bad_line_when_faulty files (Program program limits) n told refused = refused
+no_bad_line_when_faulty files (Guest guest) n told refused = absurd told
 no_bad_line_when_faulty files (Script program script limits) n told refused =
     faulty_program files program limits refused.image told refused.taken
 
@@ -224,8 +240,16 @@ pub unused_when_faulty : (files : Files) (needs : Needs) → TellsFaultyProgram 
 unused_when_faulty files Nothing told used = absurd told
 unused_when_faulty files (Program program limits) told used =
     faulty_program files program limits used.0 told used.1
+unused_when_faulty files (Guest guest) told used = absurd told
 unused_when_faulty files (Script program script limits) told used =
     faulty_program files program limits used.0 told used.3
+
+no_guest_when_faulty : (files : Files) (needs : Needs) (n : ℕ) → TellsFaultyProgram files needs
+    → ¬ (IsOutsideGuest needs n)
+no_guest_when_faulty files Nothing n told outside = outside
+no_guest_when_faulty files (Program program limits) n told outside = outside
+no_guest_when_faulty files (Script program script limits) n told outside = outside
+no_guest_when_faulty files (Guest guest) n told outside = told
 
 -- where a faulty program is told, it is refused
 pub fault_when_faulty : (files : Files) (command : Option words.Command) (old new : List ℕ → ℕ) (fault : Fault)
@@ -238,7 +262,8 @@ fault_when_faulty files command old new Memory told unread cause = inr refl
 fault_when_faulty files command old new Big told unread cause =
     absurd (no_big_when_faulty files (needs_of command) told cause)
 fault_when_faulty files command old new (Elf fault) told unread cause = inl refl
-fault_when_faulty files command old new (fault.Guest number) told unread cause = absurd cause
+fault_when_faulty files command old new (fault.Guest number) told unread cause =
+    absurd (no_guest_when_faulty files (needs_of command) number told cause)
 fault_when_faulty files command old new (fault.Script number) told unread cause =
     absurd (no_bad_line_when_faulty files (needs_of command) number told cause)
 
@@ -247,6 +272,7 @@ no_big_when_bad_line : (files : Files) (needs : Needs) → TellsBadScript files 
     → ¬ (HasBigFile files needs)
 no_big_when_bad_line files Nothing told big = absurd told
 no_big_when_bad_line files (Program program limits) told big = absurd told
+no_big_when_bad_line files (Guest guest) told big = absurd told
 no_big_when_bad_line files (Script program script limits) told big =
     no_big_file files program script limits told.both big
 
@@ -254,6 +280,7 @@ no_refusal_when_bad_line : (files : Files) (needs : Needs) (fault : ElfFault) �
     → ¬ (IsRefusalOf files needs fault)
 no_refusal_when_bad_line files Nothing fault told refused = absurd told
 no_refusal_when_bad_line files (Program program limits) fault told refused = absurd told
+no_refusal_when_bad_line files (Guest guest) fault told refused = absurd told
 no_refusal_when_bad_line files (Script program script limits) fault told refused =
     good_not_refused files program told.both.bytes limits fault told.both.told told.both.good refused
 
@@ -261,12 +288,20 @@ pub unused_when_bad_line : (files : Files) (needs : Needs) → TellsBadScript fi
     → ¬ (AreUsed files needs)
 unused_when_bad_line files Nothing told used = absurd told
 unused_when_bad_line files (Program program limits) told used = absurd told
+unused_when_bad_line files (Guest guest) told used = absurd told
 unused_when_bad_line files (Script program script limits) told used =
     let lines = read_as_told files script used.1 told.both.lines used.4.read told.both.script_told in
     let run = subst (λ (s : Setting). IsPlayedRun s used.1 used.2)
     (same_start files program script limits used.0 told.both used.3) used.5 in
     allowed_not_bad (setting_of told.both.image limits) told.both.lines used.2 told.number
     (subst (λ text. IsPlayedRun (setting_of told.both.image limits) text used.2) lines run) told.first
+
+no_guest_when_bad_line : (files : Files) (needs : Needs) (n : ℕ) → TellsBadScript files needs
+    → ¬ (IsOutsideGuest needs n)
+no_guest_when_bad_line files Nothing n told outside = outside
+no_guest_when_bad_line files (Program program limits) n told outside = outside
+no_guest_when_bad_line files (Script program script limits) n told outside = outside
+no_guest_when_bad_line files (Guest guest) n told outside = told
 
 -- where a bad line is told, the script is refused
 pub fault_when_bad_line : (files : Files) (command : Option words.Command) (old new : List ℕ → ℕ) (fault : Fault)
@@ -280,7 +315,8 @@ fault_when_bad_line files command old new Big told unread cause =
     absurd (no_big_when_bad_line files (needs_of command) told cause)
 fault_when_bad_line files command old new (Elf fault) told unread cause =
     absurd (no_refusal_when_bad_line files (needs_of command) fault told cause)
-fault_when_bad_line files command old new (fault.Guest number) told unread cause = absurd cause
+fault_when_bad_line files command old new (fault.Guest number) told unread cause =
+    absurd (no_guest_when_bad_line files (needs_of command) number told cause)
 fault_when_bad_line files command old new (fault.Script number) told unread cause = inl refl
 
 -- what can't be where a file that is too big is told
@@ -313,6 +349,7 @@ no_refusal_when_big : (files : Files) (needs : Needs) (fault : ElfFault) → Tel
 no_refusal_when_big files Nothing fault told refused = absurd told
 no_refusal_when_big files (Program program limits) fault told refused =
     big_refused files program limits fault told refused
+no_refusal_when_big files (Guest guest) fault told refused = absurd told
 no_refusal_when_big files (Script program script limits) fault (inl told) refused =
     big_refused files program limits fault told refused
 no_refusal_when_big files (Script program script limits) fault (inr told) refused =
@@ -322,6 +359,7 @@ no_bad_line_when_big : (files : Files) (needs : Needs) (n : ℕ) → TellsBigFil
     → ¬ (IsScriptRefusalOf files needs n)
 no_bad_line_when_big files Nothing n told refused = absurd told
 no_bad_line_when_big files (Program program limits) n told refused = refused
+no_bad_line_when_big files (Guest guest) n told refused = absurd told
 no_bad_line_when_big files (Script program script limits) n told refused =
     no_run_when_big files program script refused.lines limits refused.image told refused.taken
     refused.read.read refused.read.fits
@@ -329,8 +367,16 @@ no_bad_line_when_big files (Script program script limits) n told refused =
 pub unused_when_big : (files : Files) (needs : Needs) → TellsBigFile files needs → ¬ (AreUsed files needs)
 unused_when_big files Nothing told used = absurd told
 unused_when_big files (Program program limits) told used = big_program files program limits used.0 told used.1
+unused_when_big files (Guest guest) told used = absurd told
 unused_when_big files (Script program script limits) told used =
     no_run_when_big files program script used.1 limits used.0 told used.3 used.4.read used.4.fits
+
+no_guest_when_big : (files : Files) (needs : Needs) (n : ℕ) → TellsBigFile files needs
+    → ¬ (IsOutsideGuest needs n)
+no_guest_when_big files Nothing n told outside = outside
+no_guest_when_big files (Program program limits) n told outside = outside
+no_guest_when_big files (Script program script limits) n told outside = outside
+no_guest_when_big files (Guest guest) n told outside = told
 
 -- where a file that is too big is told, that is said
 pub fault_when_big : (files : Files) (command : Option words.Command) (old new : List ℕ → ℕ) (fault : Fault)
@@ -343,6 +389,49 @@ fault_when_big files command old new Memory told unread cause = inr refl
 fault_when_big files command old new Big told unread cause = inl refl
 fault_when_big files command old new (Elf fault) told unread cause =
     absurd (no_refusal_when_big files (needs_of command) fault told cause)
-fault_when_big files command old new (fault.Guest number) told unread cause = absurd cause
+fault_when_big files command old new (fault.Guest number) told unread cause =
+    absurd (no_guest_when_big files (needs_of command) number told cause)
 fault_when_big files command old new (fault.Script number) told unread cause =
     absurd (no_bad_line_when_big files (needs_of command) number told cause)
+
+-- a guest that doesn't take its size leaves nothing else: no output, and no other fault but want of memory
+pub unused_when_outside : (files : Files) (needs : Needs) (n : ℕ) → IsOutsideGuest needs n → ¬ (AreUsed files needs)
+unused_when_outside files Nothing n outside used = outside
+unused_when_outside files (Program program limits) n outside used = outside
+unused_when_outside files (Script program script limits) n outside used = outside
+unused_when_outside files (Guest guest) n outside used = absurd (cc (sym used ∙ outside.0))
+
+no_big_when_outside : (files : Files) (needs : Needs) (n : ℕ) → IsOutsideGuest needs n → ¬ (HasBigFile files needs)
+no_big_when_outside files Nothing n outside big = outside
+no_big_when_outside files (Program program limits) n outside big = outside
+no_big_when_outside files (Script program script limits) n outside big = outside
+no_big_when_outside files (Guest guest) n outside big = big
+
+no_refusal_when_outside : (files : Files) (needs : Needs) (n : ℕ) (fault : ElfFault) → IsOutsideGuest needs n
+    → ¬ (IsRefusalOf files needs fault)
+no_refusal_when_outside files Nothing n fault outside refused = outside
+no_refusal_when_outside files (Program program limits) n fault outside refused = outside
+no_refusal_when_outside files (Script program script limits) n fault outside refused = outside
+no_refusal_when_outside files (Guest guest) n fault outside refused = refused
+
+no_bad_line_when_outside : (files : Files) (needs : Needs) (n line : ℕ) → IsOutsideGuest needs n
+    → ¬ (IsScriptRefusalOf files needs line)
+no_bad_line_when_outside files Nothing n line outside refused = outside
+no_bad_line_when_outside files (Program program limits) n line outside refused = outside
+no_bad_line_when_outside files (Script program script limits) n line outside refused = outside
+no_bad_line_when_outside files (Guest guest) n line outside refused = refused
+
+pub fault_when_outside : (files : Files) (command : Option words.Command) (old new : List ℕ → ℕ) (fault : Fault) (n : ℕ)
+    → IsOutsideGuest (needs_of command) n → ¬ (ReadFailed files (needs_of command) old new)
+    → IsCauseOf files command old new fault → (fault_status fault ≡ 9) ⊎ (fault_status fault ≡ 7)
+fault_when_outside files command old new Usage n outside unread cause =
+    absurd (no_usage files command (λ f needs. IsOutsideGuest needs n) (λ never. never) outside cause)
+fault_when_outside files command old new Read n outside unread cause = absurd (unread cause)
+fault_when_outside files command old new Memory n outside unread cause = inr refl
+fault_when_outside files command old new Big n outside unread cause =
+    absurd (no_big_when_outside files (needs_of command) n outside cause)
+fault_when_outside files command old new (Elf fault) n outside unread cause =
+    absurd (no_refusal_when_outside files (needs_of command) n fault outside cause)
+fault_when_outside files command old new (fault.Guest number) n outside unread cause = inl refl
+fault_when_outside files command old new (fault.Script number) n outside unread cause =
+    absurd (no_bad_line_when_outside files (needs_of command) n number outside cause)

@@ -10,8 +10,8 @@ use Rattle.log_gather.specs.Gathered.{gathered}
 use Rattle.log_gather.proofs.Laws.{gathered_run, same_console, same_end}
 use Rattle.command_words.specs.declared.table.Shown.{Shown}
 use Rattle.command_words.specs.declared.table.Shown.TheVariants.{Gathered}
-use Rattle.command_words.specs.Commands.{Command}
-use Rattle.outcomes.specs.Outputs.{IsCommandOutput, IsPlayOutput, log_output, setting_for, shown_text}
+use Rattle.command_words.specs.Commands.{Run}
+use Rattle.outcomes.specs.Outputs.{IsPlayOutput, IsRunOutput, log_output, setting_for, shown_text}
 use Rattle.outcomes.specs.Programs.{Files, IsReadAs}
 use Rattle.outcomes.specs.Text.{output_text}
 use Rattle.output_laws.proofs.Repeats.{block_run_of, output_again}
@@ -23,15 +23,15 @@ gathered_output s log alike = ap₂ (λ (bytes : List ℕ) (end : End). output_t
     (sym (same_console s log (gathered s log) alike)) (sym (same_end s log (gathered s log) alike))
 
 -- so played it gives the text with which it is shown
-pub gathered_again : (files later : Files) (command : Command) (script written : List ℕ)
-    → InRange command.limits → command.shown ≡ Gathered → later command.program ≡ files command.program
-    → (output : IsCommandOutput files command written)
-    → IsReadAs later script (log_text (gathered (setting_for command output.image) output.log))
-    → IsPlayOutput later command.program script command.limits written
-gathered_again files later command script written range shows same output read =
-    let s = setting_for command output.image in
+pub gathered_again : (files later : Files) (run : Run) (script written : List ℕ)
+    → InRange run.limits → run.shown ≡ Gathered → later run.program ≡ files run.program
+    → (output : IsRunOutput files run written)
+    → IsReadAs later script (log_text (gathered (setting_for run output.image) output.log))
+    → IsPlayOutput later run.program script run.limits written
+gathered_again files later run script written range shows same output read =
+    let s = setting_for run output.image in
     let log = gathered s output.log in
-    let alike = gathered_run s output.log (block_run_of files command.source s output.log output.made) in
-    output_again files later command.program script command.limits written output.image log range same output.taken
+    let alike = gathered_run s output.log (block_run_of files run.source s output.log output.made) in
+    output_again files later run.program script run.limits written output.image log range same output.taken
     alike.block_run
     (output.text ∙ ap (λ (x : Shown). shown_text x s output.log) shows ∙ gathered_output s output.log alike) read

@@ -12,7 +12,7 @@ use Rattle.block_model.proofs.Laws.{one_setting}
 use Rattle.drawn_runs.specs.Manners.{manner_of}
 use Rattle.drawn_runs.proofs.Laws.{goes_on_alike}
 use Rattle.command_words.specs.Commands as words
-use Rattle.outcomes.specs.Needs.{Needs, Nothing, Program, Script, needs_by, needs_of}
+use Rattle.outcomes.specs.Needs.{Needs, Nothing, Program, Script, Guest, needs_by, needs_of}
 use Rattle.outcomes.specs.Outputs.{IsOutputOf, IsPlainOutputOf, IsPlainRunOf, plain_text, setting_for}
 use Rattle.outcomes.specs.Programs.{Files, IsProgram, asks_of}
 use Rattle.outcomes.specs.Told.{AreTold, TellsGoodFiles}
@@ -75,13 +75,14 @@ one_plain : (files : Files) (command : Option words.Command) (a b : List ℕ) �
     → AreTold files (needs_of command)
     → IsPlainOutputOf files command a → IsPlainOutputOf files command b → a ≡ b
 one_plain files None a b quiet told first second = absurd first
-one_plain files (Some command) a b quiet told first second =
-    let start = one_start files command.program command.limits first.image second.image
-    (program_told files command.program command.source command.limits told) first.taken second.taken in
-    let run = one_run files command.program command.source command.limits (setting_for command second.image) first.run
+one_plain files (Some (words.Makes guest)) a b quiet told first second = absurd told
+one_plain files (Some (words.Runs asked)) a b quiet told first second =
+    let start = one_start files asked.program asked.limits first.image second.image
+    (program_told files asked.program asked.source asked.limits told) first.taken second.taken in
+    let run = one_run files asked.program asked.source asked.limits (setting_for asked second.image) first.run
     second.run quiet told
-    (subst (λ (s : Setting). IsPlainRunOf files command.source s first.run) start first.made) second.made in
-    first.text ∙ ap₂ (plain_text command.shown) start run ∙ sym second.text
+    (subst (λ (s : Setting). IsPlainRunOf files asked.source s first.run) start first.made) second.made in
+    first.text ∙ ap₂ (plain_text asked.shown) start run ∙ sym second.text
 
 pub one_output : (files : Files) (command : Option words.Command) (a b : List ℕ) → words.is_run command ≡ false
     → AreTold files (needs_of command)
@@ -106,6 +107,7 @@ used_are_good files (Program program limits) some told used =
       good =
           used.1.good;
     }
+used_are_good files (Guest guest) some told used = absurd told
 used_are_good files (Script program script limits) some told used = record {
   both = record {
     bytes = used.3.bytes;
@@ -121,7 +123,7 @@ used_are_good files (Script program script limits) some told used = record {
   run = used.5;
 }
 
--- each command needs a file
+-- each command needs something
 some_need : (program : List ℕ) (source : words.Source) (limits : Limits) → ¬ (needs_by program source limits ≡ Nothing)
 some_need program words.Rule limits none = absurd cc
 some_need program (words.Script name) limits none = absurd cc
@@ -131,8 +133,8 @@ some_need program (words.Drawn seed) limits none = absurd cc
 needs_some : (files : Files) (command : Option words.Command) (written : List ℕ) → IsOutputOf files command written
     → ¬ (needs_of command ≡ Nothing)
 needs_some files None written output none = absurd output
-needs_some files (Some command) written output none =
-    some_need command.program command.source command.limits none
+needs_some files (Some (words.Runs run)) written output none = some_need run.program run.source run.limits none
+needs_some files (Some (words.Makes guest)) written output none = absurd cc
 
 pub good_files : (files : Files) (command : Option words.Command) (written : List ℕ)
     → AreTold files (needs_of command) → IsOutputOf files command written

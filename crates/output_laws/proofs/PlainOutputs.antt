@@ -10,7 +10,7 @@ use Rattle.block_model.proofs.Laws.{answers_itself, plain_makes, plain_solo_log,
 use Rattle.drawn_runs.specs.Manners.{manner_of}
 use Rattle.drawn_runs.specs.WholeRuns.{IsDrawnRun}
 use Rattle.command_words.specs.declared.table.Shown.{Shown}
-use Rattle.command_words.specs.Commands.{Command, Source, Rule, Script, Workers, Drawn}
+use Rattle.command_words.specs.Commands.{Command, Runs, Makes, Source, Rule, Script, Workers, Drawn}
 use Rattle.outcomes.specs.Outputs.{IsLogOf, IsOutputOf, IsPlainOutputOf, IsPlainRunOf, IsPlainRunOver, plain_text}
 use Rattle.outcomes.specs.Outputs.{setting_for, shown_text, text_of}
 use Rattle.outcomes.specs.Programs.{Files}
@@ -71,13 +71,14 @@ run_alike files (Drawn seed) s log run = over_log s (IsDrawnRun s (manner_of see
 pub plain_output_of : (files : Files) (command : Option Command) (written : List ℕ)
     → IsOutputOf files command written → IsPlainOutputOf files command written
 plain_output_of files None written output = absurd output
-plain_output_of files (Some command) written output =
-    let s = setting_for command output.image in
-    let alike = run_alike files command.source s output.log output.made in
+plain_output_of files (Some (Makes guest)) written output = output
+plain_output_of files (Some (Runs run)) written output =
+    let s = setting_for run output.image in
+    let alike = run_alike files run.source s output.log output.made in
     record {
       image = output.image;
       taken = output.taken;
       run = alike.run;
       made = alike.made;
-      text = output.text ∙ shows_alike command.shown s output.log alike.run alike.same alike.says;
+      text = output.text ∙ shows_alike run.shown s output.log alike.run alike.same alike.says;
     }

@@ -25,8 +25,8 @@ use Rattle.block_model.specs.Setting.{Setting, setting_of}
 use Rattle.block_model.proofs.Laws.{HaveBytes, all_addresses, all_harts, all_threads, answers_itself, image_bytes, within_limit}
 use Rattle.command_words.specs.declared.table.Shown.{Shown}
 use Rattle.command_words.specs.declared.table.Shown.TheVariants.{Output}
-use Rattle.command_words.specs.Commands.{Command, Source, Rule, Script, Workers, Drawn}
-use Rattle.outcomes.specs.Outputs.{IsCommandOutput, IsLogOf, IsPlayOutput, log_output, setting_for, shown_text}
+use Rattle.command_words.specs.Commands.{Run, Source, Rule, Script, Workers, Drawn}
+use Rattle.outcomes.specs.Outputs.{IsLogOf, IsPlayOutput, IsRunOutput, log_output, setting_for, shown_text}
 use Rattle.outcomes.specs.Programs.{Files, IsProgram, IsReadAs, ask_in, ask_of, asks_of, most_script_bytes}
 use Rattle.outcomes.specs.Runs.{IsPlayedRun}
 
@@ -173,12 +173,12 @@ block_run_of files (Workers seed) s log made = made.block_run
 block_run_of files (Drawn seed) s log made = made.block_run
 
 -- so it is played again to the same text
-pub printed_again : (files later : Files) (command : Command) (script written : List ℕ)
-    → InRange command.limits → command.shown ≡ Output → later command.program ≡ files command.program
-    → (output : IsCommandOutput files command written) → IsReadAs later script (log_text output.log)
-    → IsPlayOutput later command.program script command.limits written
-printed_again files later command script written range shows same output read =
-    let s = setting_for command output.image in
-    output_again files later command.program script command.limits written output.image output.log range same
-    output.taken (block_run_of files command.source s output.log output.made)
+pub printed_again : (files later : Files) (run : Run) (script written : List ℕ)
+    → InRange run.limits → run.shown ≡ Output → later run.program ≡ files run.program
+    → (output : IsRunOutput files run written) → IsReadAs later script (log_text output.log)
+    → IsPlayOutput later run.program script run.limits written
+printed_again files later run script written range shows same output read =
+    let s = setting_for run output.image in
+    output_again files later run.program script run.limits written output.image output.log range same
+    output.taken (block_run_of files run.source s output.log output.made)
     (output.text ∙ ap (λ (x : Shown). shown_text x s output.log) shows) read

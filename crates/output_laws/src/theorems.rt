@@ -5,37 +5,37 @@ ghost use Rattle.mach_types.specs.Limits.{InRange};
 ghost use Rattle.step_log.specs.Grammar.{log_text};
 ghost use Rattle.log_gather.specs.Gathered.{gathered};
 ghost use Rattle.outcomes.specs.Needs.{needs_of};
-ghost use Rattle.outcomes.specs.Outputs.{IsCommandOutput, IsOutput, IsOutputOf, IsPlainOutput, IsPlayOutput};
+ghost use Rattle.outcomes.specs.Outputs.{IsOutput, IsOutputOf, IsPlainOutput, IsPlayOutput, IsRunOutput};
 ghost use Rattle.outcomes.specs.Outputs.{setting_for};
 ghost use Rattle.outcomes.specs.Programs.{Files, IsReadAs};
 ghost use Rattle.outcomes.specs.Told.{AreTold, TellsGoodFiles};
 ghost use Rattle.command_words.specs.declared.table.Shown.TheVariants.{Gathered, Output};
-ghost use Rattle.command_words.specs.Commands.{Command, is_run};
+ghost use Rattle.command_words.specs.Commands.{Command, Run, is_run};
 
-/// The log lines of an output, read as a script by `play` with the same program and limits, are allowed at
+/// The log lines of the output of a run, read as a script by `play` with the same program and limits, are allowed at
 /// every line and give the same output text. The shelf of the later call has the same program, and those
 /// lines as the script.
 pub fn printed_log_replays()
-    ensures { (files later : Files) (command : Command) (script written : List ℕ)
-        → InRange command.limits → command.shown ≡ Output → later command.program ≡ files command.program
-        → (output : IsCommandOutput files command written) → IsReadAs later script (log_text output.log)
-        → IsPlayOutput later command.program script command.limits written }
+    ensures { (files later : Files) (run : Run) (script written : List ℕ)
+        → InRange run.limits → run.shown ≡ Output → later run.program ≡ files run.program
+        → (output : IsRunOutput files run written) → IsReadAs later script (log_text output.log)
+        → IsPlayOutput later run.program script run.limits written }
 {}
 
 /// The log lines of an output with a gathered log, read as a script by `play` in the same way, are allowed at
 /// every line too, and give the same output text: the console and the end beside them are those that they come
 /// to.
 pub fn gathered_log_replays()
-    ensures { (files later : Files) (command : Command) (script written : List ℕ)
-        → InRange command.limits → command.shown ≡ Gathered → later command.program ≡ files command.program
-        → (output : IsCommandOutput files command written)
-        → IsReadAs later script (log_text (gathered (setting_for command output.image) output.log))
-        → IsPlayOutput later command.program script command.limits written }
+    ensures { (files later : Files) (run : Run) (script written : List ℕ)
+        → InRange run.limits → run.shown ≡ Gathered → later run.program ≡ files run.program
+        → (output : IsRunOutput files run written)
+        → IsReadAs later script (log_text (gathered (setting_for run output.image) output.log))
+        → IsPlayOutput later run.program script run.limits written }
 {}
 
-/// Where a shelf tells the files that a command needs, there is one output, unless its log comes about by workers:
-/// which it is depends on their bytes, the limits and, for `draw`, the seed alone. Which one comes of `run` hangs also
-/// on the order in which the harts take turns. And where there is an output, the files are good.
+/// Where a shelf tells the files that a command needs, and it needs nothing else, there is one output, unless its log
+/// comes about by workers: which it is depends on their bytes, the limits and, for `draw`, the seed alone. Which one comes
+/// of `run` hangs also on the order in which the harts take turns. And where there is an output, the files are good.
 pub fn told_files_have_one_output()
     ensures one { (files : Files) (command : Option Command) (written other : List ℕ)
         → is_run command ≡ false → AreTold files (needs_of command)

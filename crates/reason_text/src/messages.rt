@@ -5,7 +5,7 @@ mod programs;
 mod shown;
 mod words;
 
-use command_words::{Source, WordsError, read_words};
+use command_words::{Command, Source, WordsError, read_words};
 use lines::push_line_fault;
 use outcomes::{FileRole, Reason};
 use programs::push_elf_fault;
@@ -39,7 +39,7 @@ pub fn brief(reason: &Reason) -> &'static str {
         Reason::TooBig(_) => "rseq_run: a file has too many bytes\n",
         Reason::Elf { .. } => "rseq_run: the program is refused\n",
         Reason::Script { .. } => "rseq_run: a line of the script is refused\n",
-        Reason::Guest(_) => "rseq_run: the guest doesn't take this number\n",
+        Reason::Guest(_) => "rseq_run: the guest doesn't take this size\n",
         Reason::Unwritten { .. } => "rseq_run: standard output can't be written\n",
     }
 }
@@ -66,7 +66,7 @@ pub fn explain(alloc: Global, reason: &Reason, at_hand: AtHand) -> Result<String
             let name = file_name(alloc, at_hand.words, FileRole::Script)?;
             push_line_fault(&mut text, name, at_hand.script, *line, *fault)?;
         }
-        Reason::Guest(number) => writeln!(text, "{number}: the guest doesn't take this number")?,
+        Reason::Guest(number) => push_bad_size(&mut text, alloc, at_hand.words, *number)?,
         Reason::Unwritten { trouble } => push_unwritten(&mut text, *trouble)?,
     }
     Ok(text)
@@ -74,15 +74,34 @@ pub fn explain(alloc: Global, reason: &Reason, at_hand: AtHand) -> Result<String
 
 /// The name of the file that has this role, by the words.
 fn file_name(alloc: Global, words: &[String], role: FileRole) -> Result<&str, AllocError> {
-    let command = match read_words(alloc, words) {
-        Ok(command) => command,
-        Err(WordsError::Wrong(_)) => return Ok("the file"),
+    let run = match read_words(alloc, words) {
+        Ok(Command::Runs(run)) => run,
+        Ok(Command::Makes(_)) | Err(WordsError::Wrong(_)) => return Ok("the file"),
         Err(WordsError::NoMemory) => return Err(AllocError),
     };
-    match (role, command.source) {
-        (FileRole::Program, _) => Ok(command.program),
+    match (role, run.source) {
+        (FileRole::Program, _) => Ok(run.program),
         (FileRole::Script, Source::Script(name)) => Ok(name),
         (FileRole::Script, _) => Ok("the file"),
+    }
+}
+
+/// Appends that a guest doesn't take its size, and which sizes it takes.
+fn push_bad_size(
+    text: &mut String,
+    alloc: Global,
+    words: &[String],
+    number: u64,
+) -> Result<(), AllocError> {
+    match read_words(alloc, words) {
+        Ok(Command::Makes(guest)) => {
+            let (name, most) = (guest.name.word(), guest.name.most_size());
+            writeln!(text, "{number}: the size of {name} is 1 to {most}")
+        }
+        Ok(Command::Runs(_)) | Err(WordsError::Wrong(_)) => {
+            writeln!(text, "{number}: the guest doesn't take this size")
+        }
+        Err(WordsError::NoMemory) => Err(AllocError),
     }
 }
 

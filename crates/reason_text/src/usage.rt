@@ -1,6 +1,6 @@
 //! The usage of all commands, and help. Both go over the table of commands, and name none.
 
-use command_words::{COMMANDS, SourceKind, command_kind};
+use command_words::{COMMANDS, CommandKind, SourceKind, command_kind};
 use std::alloc::{AllocError, Global};
 use std::fmt::Write;
 
@@ -14,8 +14,16 @@ const OPTIONS: &str = "  --harts N   how many harts there are: 1 to 8; 2 where i
 /// The version (own).
 const VERSION: &str = "0.1";
 
+/// What stands behind the word of a command of this kind.
+fn words_behind(kind: CommandKind) -> &'static str {
+    match kind {
+        CommandKind::Runs { source, .. } => words_of_run(source),
+        CommandKind::Makes => "NAME N",
+    }
+}
+
 /// What stands behind the word of a command whose log comes about in this way.
-fn words_behind(source: SourceKind) -> &'static str {
+fn words_of_run(source: SourceKind) -> &'static str {
     match source {
         SourceKind::ByRule => "FILE [--frames N] [--steps N]",
         SourceKind::ByScript => "FILE SCRIPT [--harts N] [--frames N] [--steps N]",
@@ -30,7 +38,7 @@ pub(crate) fn push_usage(text: &mut String) -> Result<(), AllocError> {
     let mut begin = "usage:";
     for word in COMMANDS {
         if let Some(kind) = command_kind(word) {
-            let behind = words_behind(kind.source);
+            let behind = words_behind(kind);
             writeln!(text, "{begin} rseq_run {word} {behind}")?;
             begin = "      ";
         }
@@ -42,12 +50,23 @@ pub(crate) fn push_usage(text: &mut String) -> Result<(), AllocError> {
 pub(crate) fn push_help(text: &mut String) -> Result<(), AllocError> {
     for word in COMMANDS {
         if let Some(kind) = command_kind(word) {
-            let (runs, prints) = (kind.source.about(), kind.shown.about());
-            writeln!(text, "{word}: {runs}; {prints}")?;
+            write!(text, "{word}: ")?;
+            push_about(text, kind)?;
         }
     }
     writeln!(text, "for example: rseq_run solo FILE > OUTPUT")?;
     writeln!(text, "rseq_run {VERSION}")
+}
+
+/// Appends what a command of this kind does.
+fn push_about(text: &mut String, kind: CommandKind) -> Result<(), AllocError> {
+    match kind {
+        CommandKind::Runs { source, shown } => {
+            let (runs, prints) = (source.about(), shown.about());
+            writeln!(text, "{runs}; {prints}")
+        }
+        CommandKind::Makes => text.push_str("prints the file of the guest NAME for the size N\n"),
+    }
 }
 
 /// The usage of all commands.

@@ -170,6 +170,7 @@ cause_of files words old new said (Unread file trouble) why = by_needs (need.nee
     by_needs (need.Program program limits) role.Script why = absurd why
     by_needs (need.Script program script limits) role.Program why = inl why
     by_needs (need.Script program script limits) role.Script why = inr why
+    by_needs (need.Guest guest) file why = absurd why
 cause_of files words old new said NoMemory why = why
 cause_of files words old new said (TooBig file) why = by_needs (need.needs_in words) file why
   where
@@ -179,12 +180,14 @@ cause_of files words old new said (TooBig file) why = by_needs (need.needs_in wo
     by_needs (need.Program program limits) role.Script why = absurd why
     by_needs (need.Script program script limits) role.Program why = inl why
     by_needs (need.Script program script limits) role.Script why = inr why
+    by_needs (need.Guest guest) file why = absurd why
 cause_of files words old new said (Elf fault about) why = by_needs (need.needs_in words) why
   where
     by_needs : (needs : need.Needs) → IsRefusalAbout files needs fault about → IsRefusalOf files needs fault
     by_needs need.Nothing why = absurd why
     by_needs (need.Program program limits) why = why.refused
     by_needs (need.Script program script limits) why = why.refused
+    by_needs (need.Guest guest) why = absurd why
 cause_of files words old new said (Script number fault) why = by_needs (need.needs_in words) why
   where
     by_needs : (needs : need.Needs) → IsScriptRefusalFor files needs number fault
@@ -192,7 +195,8 @@ cause_of files words old new said (Script number fault) why = by_needs (need.nee
     by_needs need.Nothing why = absurd why
     by_needs (need.Program program limits) why = absurd why
     by_needs (need.Script program script limits) why = why.refused
-cause_of files words old new said (Guest number) why = absurd why
+    by_needs (need.Guest guest) why = absurd why
+cause_of files words old new said (Guest number) why = why
 cause_of files words old new said (Unwritten trouble) why = absurd why
 
 -- it stands for a fault
@@ -204,5 +208,5 @@ is_told files words old new said NoMemory why = refl
 is_told files words old new said (TooBig file) why = refl
 is_told files words old new said (Elf fault about) why = refl
 is_told files words old new said (Script number fault) why = refl
-is_told files words old new said (Guest number) why = absurd why
+is_told files words old new said (Guest number) why = refl
 is_told files words old new said (Unwritten trouble) why = absurd why

@@ -17,7 +17,7 @@ use Rattle.outcomes.specs.Causes.{IsCause}
 use Rattle.outcomes.specs.Delivery.{IsAsDue, IsDelivered, due_for}
 use Rattle.outcomes.specs.Outcome.{Call, IsOutcome, WrotePrefix, WroteText}
 use Rattle.outcomes.specs.Needs.{needs_of}
-use Rattle.outcomes.specs.Outputs.{IsCommandOutput, IsOutput, IsOutputOf}
+use Rattle.outcomes.specs.Outputs.{IsOutput, IsOutputOf}
 use Rattle.outcomes.specs.Programs.{Files}
 use Rattle.outcomes.specs.Text.{fault_line}
 use Rattle.outcomes.specs.Reasons.{IsExplained, IsReason, IsReasonFor, IsReasonOf, IsUntold, Troubles, WroteLine, fault_told, reason_status}
@@ -49,7 +49,8 @@ outcome_of call said (Err (Elf fault about)) status keeps why told_so =
     told_outcome call (Err (told.Elf fault)) status keeps (cause call said (Elf fault about) why) told_so
 outcome_of call said (Err (Script number fault)) status keeps why told_so =
     told_outcome call (Err (told.Script number)) status keeps (cause call said (Script number fault) why) told_so
-outcome_of call said (Err (Guest number)) status keeps why told_so = absurd why
+outcome_of call said (Err (Guest number)) status keeps why told_so =
+    told_outcome call (Err (told.Guest number)) status keeps (cause call said (Guest number) why) told_so
 outcome_of call said (Err (Unwritten trouble)) status keeps why told_so = absurd why
 
 -- a reason of the words and the files
@@ -65,7 +66,7 @@ module _ (call : Call) (troubles : Troubles) where
   is_reason (TooBig file) why = why
   is_reason (Elf fault about) why = why
   is_reason (Script number fault) why = why
-  is_reason (Guest number) why = absurd why
+  is_reason (Guest number) why = why
   is_reason (Unwritten trouble) why = absurd why
 
   -- has neither the status of an output nor that of a failed sink
@@ -203,13 +204,14 @@ reason_for files words old new said command (Elf fault about) is why =
     subst (λ (c : Option Command). IsReasonFor files (needs_of c) old new said (Elf fault about)) (sym is) why
 reason_for files words old new said command (Script number fault) is why =
     subst (λ (c : Option Command). IsReasonFor files (needs_of c) old new said (Script number fault)) (sym is) why
-reason_for files words old new said command (Guest number) is why = absurd why
+reason_for files words old new said command (Guest number) is why =
+    subst (λ (c : Option Command). IsReasonFor files (needs_of c) old new said (Guest number)) (sym is) why
 reason_for files words old new said command (Unwritten trouble) is why = absurd why
 
 -- the answer to the words, from the answer to their command
 pub answer_for : (files : Files) (words : List (List ℕ)) (old new : List ℕ → ℕ) (said : Option ErrorKind)
     (command : Command) (answer : Result (Vec ℕ Global) Reason) → command_of words ≡ Some command
-    → IfOk answer (λ text. IsCommandOutput files command text.items)
+    → IfOk answer (λ text. IsOutputOf files (Some command) text.items)
     → IfErr answer (IsReasonFor files (needs_of (Some command)) old new said)
     → IsAnswerFor files words old new said answer
 answer_for files words old new said command (Ok text) is output why =

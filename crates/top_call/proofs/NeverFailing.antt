@@ -2,7 +2,7 @@
 use Rattle.std.proofs.Common.{◌≡◌, ◌⊎◌, ℕ, inl, inr, List, Option, arith}
 use Rattle.outside.specs.Counts.{Rose}
 use Rattle.outcomes.specs.Causes.{ReadFailed}
-use Rattle.outcomes.specs.Needs.{Needs, Nothing, Program, Script, needs_in}
+use Rattle.outcomes.specs.Needs.{Needs, Nothing, Program, Script, Guest, needs_in}
 use Rattle.outcomes.specs.Outcome.{Call, IsOutcome, IsSureOutcome, NoneFailed, all_told}
 use Rattle.outcomes.specs.Programs.{Files}
 
@@ -28,6 +28,7 @@ all_read files Nothing failed = failed
 all_read files (Program program limits) rose = never_rose rose
 all_read files (Script program script limits) (inl rose) = never_rose rose
 all_read files (Script program script limits) (inr unread) = never_rose unread.rose
+all_read files (Guest guest) failed = failed
 
 -- no device of such a call failed
 none_failed : (words : List (List ℕ)) (files : List ℕ → List ℕ) (after : Files) (held held_after : Option (List ℕ))
@@ -60,5 +61,6 @@ sure_of words files after held held_after status outcome =
       big = outcome.big;
       big_always = λ told. outcome.big_always told none;
       guest = outcome.guest;
+      guest_always = λ number outside. outcome.guest_always number outside none;
       complete = λ told. outcome.complete told none;
     }

@@ -18,8 +18,8 @@ use Rattle.outcomes.specs.Statuses.{fault_status}
 use Rattle.outcomes.specs.Text.{fault_line}
 use Rattle.command_words.specs.Words.{command_of}
 use Rattle.output_laws.proofs.Laws.{fault_when_bad_line, fault_when_big, fault_when_faulty}
-use Rattle.output_laws.proofs.Laws.{fault_when_good, unused_when_bad_line, unused_when_big}
-use Rattle.output_laws.proofs.Laws.{unused_when_faulty, used_by_output}
+use Rattle.output_laws.proofs.Laws.{fault_when_good, fault_when_outside, unused_when_bad_line, unused_when_big}
+use Rattle.output_laws.proofs.Laws.{unused_when_faulty, unused_when_outside, used_by_output}
 use Rattle.output_laws.proofs.Laws.{plain_output_of}
 
 -- what each call leaves as it was
@@ -66,6 +66,7 @@ cut_short call text status keeps due cut =
       big = not_both status 6 8 is (λ e. absurd cc);
       big_always = λ told none. absurd (none.1 cut.rose);
       guest = not_both status 6 9 is (λ e. absurd cc);
+      guest_always = λ number outside none. absurd (none.1 cut.rose);
       complete = λ told none. absurd (none.1 cut.rose);
       files = keeps.files;
       shelf_counts = keeps.shelf_counts;
@@ -94,6 +95,8 @@ written_output call text status keeps output written =
       big = not_both status 0 8 is (λ e. absurd cc);
       big_always = λ told none. absurd (unused_when_big call.files (needs_in call.words) told used);
       guest = not_both status 0 9 is (λ e. absurd cc);
+      guest_always = λ number outside none.
+          absurd (unused_when_outside call.files (needs_in call.words) number outside used);
       complete = λ told none. inl is;
       files = keeps.files;
       shelf_counts = keeps.shelf_counts;
@@ -199,6 +202,8 @@ written_line call fault status keeps cause written =
       big_always = λ told none. is_now 8 7
           (fault_when_big call.files command old new fault told none.0 cause);
       guest = λ at. guest_said call fault cause written.gained (sym is ∙ at);
+      guest_always = λ number outside none. is_now 9 7
+          (fault_when_outside call.files command old new fault number outside none.0 cause);
       complete = λ told none. inr (is
           ∙ ap fault_status (fault_when_good call.files command old new fault told none.0 cause));
       files = keeps.files;

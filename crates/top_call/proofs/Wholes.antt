@@ -6,8 +6,8 @@ use Rattle.block_model.specs.Run.{IsBlockRun}
 use Rattle.block_model.specs.Setting.{Setting, Seen, setting_of}
 use Rattle.drawn_runs.specs.Manners.{manner_of}
 use Rattle.drawn_runs.specs.WholeRuns.{IsWholeDrawn}
-use Rattle.command_words.specs.Commands.{Command, Source, Rule, Script, Workers, Drawn}
-use Rattle.outcomes.specs.Outputs.{HasRun, IsCommandOutput, shown_text}
+use Rattle.command_words.specs.Commands.{Run, Source, Rule, Script, Workers, Drawn}
+use Rattle.outcomes.specs.Outputs.{HasRun, IsRunOutput, shown_text}
 use Rattle.outcomes.specs.Programs.{Files, IsProgram, IsScript}
 use Rattle.outcomes.specs.Runs.{IsPlayedRun, IsWholePlay, IsWholeRun, IsWholeSolo}
 use Rattle.output_laws.proofs.Laws.{block_run_of}
@@ -52,14 +52,14 @@ block_run_at_end files program source limits image m run =
     subst (λ (s : Setting). IsBlockRun s m.log) (sym run.setting)
     (block_run_of files source (setting_of image limits) m.log run.made)
 
--- what the command shows of it is its output
-pub output_of_run : (files : Files) (command : Command) (image : Image) (m : Seen) (text : List ℕ)
-    → HasRun files command.program command.source command.limits image m
-    → text ≡ shown_text command.shown m.setting m.log → IsCommandOutput files command text
-output_of_run files command image m text run is = record {
+-- what is shown of it is its output
+pub output_of_run : (files : Files) (asked : Run) (image : Image) (m : Seen) (text : List ℕ)
+    → HasRun files asked.program asked.source asked.limits image m
+    → text ≡ shown_text asked.shown m.setting m.log → IsRunOutput files asked text
+output_of_run files asked image m text run is = record {
   image = image;
   taken = run.taken;
   log = m.log;
   made = run.made;
-  text = subst (λ (s : Setting). text ≡ shown_text command.shown s m.log) run.setting is;
+  text = subst (λ (s : Setting). text ≡ shown_text asked.shown s m.log) run.setting is;
 }

@@ -1,10 +1,9 @@
 //! The top call: from words, files and a sink to a status, and to the reason that goes with it.
 
 ghost use Rattle.std.specs.Prelude.{◌≡◌, true, None, Some, Err, IfErr, IfNone, IfOk, IfSome};
-ghost use Rattle.mach_types.specs.Limits.{InRange};
 ghost use Rattle.outside.specs.Counts.{NoneFalls};
-ghost use Rattle.command_words.specs.Commands.{is_by_workers, is_run};
-ghost use Rattle.command_words.specs.Kept.{said, source_said};
+ghost use Rattle.command_words.specs.Commands.{HasLimits, is_run, needs_workers};
+ghost use Rattle.command_words.specs.Kept.{said};
 ghost use Rattle.command_words.specs.Words.{command_of, texts};
 ghost use Rattle.outcomes.specs.declared.faults.Fault.TheVariants.{Memory};
 ghost use Rattle.outcomes.specs.declared.reasons.Reason.TheVariants.{NoMemory};
@@ -103,8 +102,8 @@ fn quiet_explained<'a, S: Shelf, K: Sink>(
     sink: &mut K,
 ) -> Result<Explained, Command<'a>>
     ensures left { IfErr result (λ command. command_of (texts words.now) ≡ Some (said command)) }
-    ensures workers { IfErr result (λ command. is_by_workers (source_said command.source) ≡ true) }
-    ensures limits { IfErr result (λ command. InRange command.limits) }
+    ensures workers { IfErr result (λ command. needs_workers (said command) ≡ true) }
+    ensures limits { IfErr result (λ command. HasLimits (said command)) }
     ensures run { is_run (command_of (texts words.now)) ≡ true → IfOk result (λ explained.
         IsTold (K.held sink.old) (K.held sink.new) (K.faults sink.old) (K.faults sink.new) (Err Memory)
         explained.status) }
@@ -129,8 +128,8 @@ fn quiet_answer<'a, S: Shelf>(
     shelf: &mut S,
 ) -> Result<Result<Vec<u8>, Reason>, Command<'a>>
     ensures left { IfErr result (λ command. command_of (texts words.now) ≡ Some (said command)) }
-    ensures workers { IfErr result (λ command. is_by_workers (source_said command.source) ≡ true) }
-    ensures limits { IfErr result (λ command. InRange command.limits) }
+    ensures workers { IfErr result (λ command. needs_workers (said command) ≡ true) }
+    ensures limits { IfErr result (λ command. HasLimits (said command)) }
     ensures run { is_run (command_of (texts words.now)) ≡ true
         → IfOk result (λ answer. answer ≡ Err NoMemory) }
     ensures unread { is_run (command_of (texts words.now)) ≡ true → shelf.new ≡ shelf.old }
@@ -155,12 +154,15 @@ fn quiet_answer<'a, S: Shelf>(
     }
 }
 
-/// Whether the log of a command comes about by workers.
+/// Whether a command needs workers.
 fn needs_workers(command: &Command) -> bool
-    ensures { result ≡ is_by_workers (source_said command.now.source) }
+    ensures { result ≡ needs_workers (said command.now) }
 {
-    match command.source {
-        Source::Workers { .. } => true,
-        Source::Rule | Source::Script(_) | Source::Drawn { .. } => false,
+    match command {
+        Command::Runs(run) => match run.source {
+            Source::Workers { .. } => true,
+            Source::Rule | Source::Script(_) | Source::Drawn { .. } => false,
+        },
+        Command::Makes(_) => false,
     }
 }

@@ -1,21 +1,25 @@
-//! The text of each command: its files are taken, the program is run, and what the command asks for is shown.
+//! The text of each command: its files are taken, the program is run, and what the command asks for is shown; or the file of its
+//! guest is made.
 
 ghost use Rattle.std.specs.Prelude.{◌≡◌, IfErr, IfOk, Some, false, true};
 ghost use Rattle.mach_types.specs.Limits.{InRange};
 ghost use Rattle.elf_load.specs.Images.{IsBootable};
 ghost use Rattle.outside.specs.Counts.{NoneFalls};
-ghost use Rattle.command_words.specs.Commands.{Drawn, HasItsHarts, Rule, Script, Workers, is_by_workers};
-ghost use Rattle.command_words.specs.Kept.{said, source_said};
+ghost use Rattle.command_words.specs.Commands.{Drawn, HasHartsOf, HasItsHarts, HasLimits, Rule, Script};
+ghost use Rattle.command_words.specs.Commands.{Workers, is_by_workers, needs_workers};
+ghost use Rattle.command_words.specs.Kept.{run_said, said, source_said};
+ghost use Rattle.outcomes.specs.Delivery.{IsGuestReason};
 ghost use Rattle.outcomes.specs.Needs.{needs_by, needs_of};
-ghost use Rattle.outcomes.specs.Outputs.{HasRun, IsCommandOutput};
+ghost use Rattle.outcomes.specs.Outputs.{HasRun, IsGuestOutput, IsOutputOf, IsRunOutput};
 ghost use Rattle.outcomes.specs.Reasons.{IsReasonFor};
 
 use crate::fetching::{read_file, taken};
 use command_runs::{play, run_solo, run_workers, shown_text};
-use command_words::{Command, Source};
+use command_words::{Command, Guest, Run, Source};
 use drawn_machine::run_drawn;
 use drawn_runs::Manner;
 use elf_load::Image;
+use guest_programs::{GuestFault, make};
 use mach_types::Limits;
 use machine_core::Machine;
 use outcomes::{FileRole, Reason};
@@ -39,18 +43,20 @@ pub(crate) fn quiet_text<S: Shelf>(
     command: &Command,
     shelf: &mut S,
 ) -> Result<Vec<u8>, Reason>
-    requires limits { InRange command.now.limits }
+    requires limits { HasLimits (said command.now) }
     requires harts { HasItsHarts (said command.now) }
-    requires quiet { is_by_workers (source_said command.now.source) ≡ false }
-    ensures output { IfOk result (λ text. IsCommandOutput (S.file shelf.old) (said command.now) text.items) }
+    requires quiet { needs_workers (said command.now) ≡ false }
+    ensures output { IfOk result (λ text. IsOutputOf (S.file shelf.old) (Some (said command.now)) text.items) }
     ensures cause { let needs = needs_of (Some (said command.now)) in
         IfErr result (IsReasonFor (S.file shelf.old) needs (S.faults shelf.old) (S.faults shelf.new)
         (S.last_trouble shelf.new)) }
     ensures files { S.file shelf.new ≡ S.file shelf.old }
     ensures counts { NoneFalls (S.faults shelf.old) (S.faults shelf.new) }
 {
-    let made = quiet_run(alloc, command, shelf)?;
-    Ok(shown_text(alloc, command, &made.image, &made.machine)?)
+    match command {
+        Command::Runs(run) => quiet_run_text(alloc, run, shelf),
+        Command::Makes(guest) => guest_file(alloc, *guest),
+    }
 }
 
 /// The text of a command by workers.
@@ -61,77 +67,114 @@ pub(crate) fn workers_text<R: Threads + Wait + Sync, S: Shelf, G: Gate + Sync>(
     shelf: &mut S,
     gate: &G,
 ) -> Result<Vec<u8>, Reason>
-    requires limits { InRange command.now.limits }
-    requires workers { is_by_workers (source_said command.now.source) ≡ true }
-    ensures output { IfOk result (λ text. IsCommandOutput (S.file shelf.old) (said command.now) text.items) }
+    requires limits { HasLimits (said command.now) }
+    requires workers { needs_workers (said command.now) ≡ true }
+    ensures output { IfOk result (λ text. IsOutputOf (S.file shelf.old) (Some (said command.now)) text.items) }
     ensures cause { let needs = needs_of (Some (said command.now)) in
         IfErr result (IsReasonFor (S.file shelf.old) needs (S.faults shelf.old) (S.faults shelf.new)
         (S.last_trouble shelf.new)) }
     ensures files { S.file shelf.new ≡ S.file shelf.old }
     ensures counts { NoneFalls (S.faults shelf.old) (S.faults shelf.new) }
 {
-    let made = waiting_run(alloc, rt, command, shelf, gate)?;
-    Ok(shown_text(alloc, command, &made.image, &made.machine)?)
+    match command {
+        Command::Runs(run) => workers_run_text(alloc, rt, run, shelf, gate),
+        Command::Makes(_) => unreachable!(),
+    }
 }
 
-/// Runs the program of a command that needs no workers.
-fn quiet_run<S: Shelf>(
-    alloc: Global,
-    command: &Command,
-    shelf: &mut S,
-) -> Result<ProgramRun, Reason>
-    requires limits { InRange command.now.limits }
-    requires harts { HasItsHarts (said command.now) }
-    requires quiet { is_by_workers (source_said command.now.source) ≡ false }
-    ensures run { IfOk result (λ run. HasRun (S.file shelf.old) command.now.program.now
-        (source_said command.now.source) command.now.limits run.image run.machine) }
-    ensures bootable { IfOk result (λ run. IsBootable command.now.limits.frames run.image) }
-    ensures cause { let needs = needs_of (Some (said command.now)) in
+/// The file of a guest.
+fn guest_file(alloc: Global, guest: Guest) -> Result<Vec<u8>, Reason>
+    ensures output { IfOk result (λ file. IsGuestOutput guest file.items) }
+    ensures cause { IfErr result (IsGuestReason guest) }
+{
+    match make(alloc, guest.name, guest.size) {
+        Ok(file) => Ok(file),
+        Err(GuestFault::BadSize(size)) => Err(Reason::Guest(size)),
+        Err(GuestFault::NoMemory) => Err(Reason::NoMemory),
+    }
+}
+
+/// The text of a run that needs no workers.
+fn quiet_run_text<S: Shelf>(alloc: Global, run: &Run, shelf: &mut S) -> Result<Vec<u8>, Reason>
+    requires limits { InRange run.now.limits }
+    requires harts { HasHartsOf (source_said run.now.source) run.now.limits }
+    requires quiet { is_by_workers (source_said run.now.source) ≡ false }
+    ensures output { IfOk result (λ text. IsRunOutput (S.file shelf.old) (run_said run.now) text.items) }
+    ensures cause { let needs = needs_by run.now.program.now (source_said run.now.source) run.now.limits in
         IfErr result (IsReasonFor (S.file shelf.old) needs (S.faults shelf.old) (S.faults shelf.new)
         (S.last_trouble shelf.new)) }
     ensures files { S.file shelf.new ≡ S.file shelf.old }
     ensures counts { NoneFalls (S.faults shelf.old) (S.faults shelf.new) }
 {
-    match command.source {
-        Source::Rule => rule_run(alloc, command.program, command.limits, shelf),
-        Source::Script(script) => {
-            script_run(alloc, command.program, script, command.limits, shelf)
-        }
-        Source::Drawn { seed } => drawn_run(alloc, command.program, command.limits, seed, shelf),
+    let made = quiet_run(alloc, run, shelf)?;
+    Ok(shown_text(alloc, run, &made.image, &made.machine)?)
+}
+
+/// The text of a run by workers.
+fn workers_run_text<R: Threads + Wait + Sync, S: Shelf, G: Gate + Sync>(
+    alloc: Global,
+    rt: &R,
+    run: &Run,
+    shelf: &mut S,
+    gate: &G,
+) -> Result<Vec<u8>, Reason>
+    requires limits { InRange run.now.limits }
+    requires workers { is_by_workers (source_said run.now.source) ≡ true }
+    ensures output { IfOk result (λ text. IsRunOutput (S.file shelf.old) (run_said run.now) text.items) }
+    ensures cause { let needs = needs_by run.now.program.now (source_said run.now.source) run.now.limits in
+        IfErr result (IsReasonFor (S.file shelf.old) needs (S.faults shelf.old) (S.faults shelf.new)
+        (S.last_trouble shelf.new)) }
+    ensures files { S.file shelf.new ≡ S.file shelf.old }
+    ensures counts { NoneFalls (S.faults shelf.old) (S.faults shelf.new) }
+{
+    let made = waiting_run(alloc, rt, run, shelf, gate)?;
+    Ok(shown_text(alloc, run, &made.image, &made.machine)?)
+}
+
+/// Runs a program without workers.
+fn quiet_run<S: Shelf>(alloc: Global, run: &Run, shelf: &mut S) -> Result<ProgramRun, Reason>
+    requires limits { InRange run.now.limits }
+    requires harts { HasHartsOf (source_said run.now.source) run.now.limits }
+    requires quiet { is_by_workers (source_said run.now.source) ≡ false }
+    ensures run { IfOk result (λ made. HasRun (S.file shelf.old) run.now.program.now
+        (source_said run.now.source) run.now.limits made.image made.machine) }
+    ensures bootable { IfOk result (λ made. IsBootable run.now.limits.frames made.image) }
+    ensures cause { let needs = needs_by run.now.program.now (source_said run.now.source) run.now.limits in
+        IfErr result (IsReasonFor (S.file shelf.old) needs (S.faults shelf.old) (S.faults shelf.new)
+        (S.last_trouble shelf.new)) }
+    ensures files { S.file shelf.new ≡ S.file shelf.old }
+    ensures counts { NoneFalls (S.faults shelf.old) (S.faults shelf.new) }
+{
+    match run.source {
+        Source::Rule => rule_run(alloc, run.program, run.limits, shelf),
+        Source::Script(script) => script_run(alloc, run.program, script, run.limits, shelf),
+        Source::Drawn { seed } => drawn_run(alloc, run.program, run.limits, seed, shelf),
         Source::Workers { .. } => unreachable!(),
     }
 }
 
-/// Runs the program of a command by workers.
+/// Runs a program by workers.
 fn waiting_run<R: Threads + Wait + Sync, S: Shelf, G: Gate + Sync>(
     alloc: Global,
     rt: &R,
-    command: &Command,
+    run: &Run,
     shelf: &mut S,
     gate: &G,
 ) -> Result<ProgramRun, Reason>
-    requires limits { InRange command.now.limits }
-    requires workers { is_by_workers (source_said command.now.source) ≡ true }
-    ensures run { IfOk result (λ run. HasRun (S.file shelf.old) command.now.program.now
-        (source_said command.now.source) command.now.limits run.image run.machine) }
-    ensures bootable { IfOk result (λ run. IsBootable command.now.limits.frames run.image) }
-    ensures cause { let needs = needs_of (Some (said command.now)) in
+    requires limits { InRange run.now.limits }
+    requires workers { is_by_workers (source_said run.now.source) ≡ true }
+    ensures run { IfOk result (λ made. HasRun (S.file shelf.old) run.now.program.now
+        (source_said run.now.source) run.now.limits made.image made.machine) }
+    ensures bootable { IfOk result (λ made. IsBootable run.now.limits.frames made.image) }
+    ensures cause { let needs = needs_by run.now.program.now (source_said run.now.source) run.now.limits in
         IfErr result (IsReasonFor (S.file shelf.old) needs (S.faults shelf.old) (S.faults shelf.new)
         (S.last_trouble shelf.new)) }
     ensures files { S.file shelf.new ≡ S.file shelf.old }
     ensures counts { NoneFalls (S.faults shelf.old) (S.faults shelf.new) }
 {
-    match command.source {
+    match run.source {
         Source::Workers { seed } => {
-            workers_run(
-                alloc,
-                rt,
-                command.program,
-                command.limits,
-                seed,
-                shelf,
-                gate,
-            )
+            workers_run(alloc, rt, run.program, run.limits, seed, shelf, gate)
         }
         Source::Rule | Source::Script(_) | Source::Drawn { .. } => unreachable!(),
     }

@@ -8,7 +8,7 @@ use crate::dues::{DONE, Due, DueSaid, unlike_outcome};
 use crate::meeting::Meeting;
 use crate::printed::Printed;
 use crate::rows::{Failing, NamedFile, Run};
-use command_words::{Command, Shown, Source, WordsError, read_words};
+use command_words::{Command, Run as AskedRun, Shown, Source, WordsError, read_words};
 use mach_types::Limits;
 use outside::OpenGate;
 use std::alloc::{AllocError, Global};
@@ -105,8 +105,8 @@ fn quiet_unlike(
     due: &Due,
     found: &Outcome,
 ) -> Result<Option<Unlike>, AllocError> {
-    if let Some(command) = command_of(alloc, run.words)?
-        && let Source::Workers { .. } = command.source
+    if let Some(Command::Runs(asked)) = command_of(alloc, run.words)?
+        && let Source::Workers { .. } = asked.source
     {
         let nothing = Outcome {
             status: None,
@@ -136,14 +136,14 @@ fn command_of(alloc: Global, words: &[String]) -> Result<Option<Command<'_>>, Al
 /// The program and the limits of these words, where they are of a command that prints a log.
 fn logged_of(alloc: Global, words: &[String]) -> Result<Option<Logged<'_>>, AllocError> {
     match command_of(alloc, words)? {
-        Some(
-            Command {
+        Some(Command::Runs(
+            AskedRun {
                 program,
                 shown: Shown::Output | Shown::Gathered,
                 limits,
                 ..
             },
-        ) => Ok(Some(Logged { program, limits })),
+        )) => Ok(Some(Logged { program, limits })),
         _ => Ok(None),
     }
 }

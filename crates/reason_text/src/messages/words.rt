@@ -6,6 +6,9 @@ use command_words::WordsFault;
 use std::alloc::AllocError;
 use std::fmt::Write;
 
+/// The guests.
+const GUESTS: &str = "counter, list, pool, dekker, signals and migrate";
+
 /// Appends what is wrong with the words, and the usage.
 pub(crate) fn push_words_fault(
     text: &mut String,
@@ -25,12 +28,18 @@ pub(crate) fn push_words_fault(
 fn push_word(text: &mut String, fault: WordsFault, words: &[String]) -> Result<(), AllocError> {
     let number = match fault {
         WordsFault::NoCommand => return Ok(()),
-        WordsFault::UnknownCommand | WordsFault::NoProgram | WordsFault::NoScript => 1,
+        WordsFault::UnknownCommand
+        | WordsFault::NoProgram
+        | WordsFault::NoScript
+        | WordsFault::NoGuest
+        | WordsFault::NoSize => 1,
         WordsFault::UnknownOption(number)
         | WordsFault::NotTaken(number)
         | WordsFault::Twice(number)
         | WordsFault::NoValue(number)
-        | WordsFault::OneNameTooMany(number) => number,
+        | WordsFault::OneNameTooMany(number)
+        | WordsFault::UnknownGuest(number)
+        | WordsFault::NoNumber(number) => number,
         WordsFault::OutOfRange { word, .. } => {
             push_option(text, words, word)?;
             word
@@ -59,6 +68,12 @@ fn push_complaint(text: &mut String, fault: WordsFault, command: &str) -> Result
         }
         WordsFault::NoProgram => text.push_str("the name of the program is missing\n"),
         WordsFault::NoScript => text.push_str("the name of the script is missing\n"),
+        WordsFault::UnknownGuest(_) => writeln!(text, "there is no such guest; there are {GUESTS}"),
+        WordsFault::NoNumber(_) => {
+            text.push_str("the size isn't a number, of 20 digits at most and below 2^64\n")
+        }
+        WordsFault::NoGuest => text.push_str("the name of the guest is missing\n"),
+        WordsFault::NoSize => text.push_str("the size of the guest is missing\n"),
     }
 }
 

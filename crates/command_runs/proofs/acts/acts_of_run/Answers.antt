@@ -10,7 +10,7 @@ use Rattle.command_runs.proofs.acts.acts_of_run.Goals as goal
 
 pub unreachable-requires : goal.unreachable-requires
 unreachable-requires c =
-    let s = setting_of c.args.image.now c.args.command.now.limits in
+    let s = setting_of c.args.image.now c.args.limits.now in
     let cause = subst (λ (fault : ViewFault). IsViewCause s c.log.result.now fault) c.in-Err-NotARun.field-0-is
     c.in-Err-NotARun.ensures.cause in
     none_refused s c.log.result.now c.in-Err-NotARun.field-0-0
@@ -19,12 +19,12 @@ unreachable-requires c =
 
 pub returns-in-Ok-clause-acts : goal.returns-in-Ok-clause-acts
 returns-in-Ok-clause-acts c =
-    let s = setting_of c.args.image.now c.args.command.now.limits in
+    let s = setting_of c.args.image.now c.args.limits.now in
     c.in-Ok.ensures.acts.acts ∙ ap (acts_of s) c.log.ensures
     ∙ ap (λ setting. acts_of setting c.args.machine.now.log) (sym c.requires.setting)
 
 pub returns-in-Ok-clause-few : goal.returns-in-Ok-clause-few
 returns-in-Ok-clause-few c =
-    let s = setting_of c.args.image.now c.args.command.now.limits in
+    let s = setting_of c.args.image.now c.args.limits.now in
     subst (λ (acts : List Act). length acts < 2 ^ 32) (sym c.in-Ok.ensures.acts.acts)
     (few_acts s c.log.result.now c.requires.limits c.in-Ok.ensures.acts.block_run)
