@@ -72,7 +72,7 @@ pub enum CommandKind {
 }
 
 /// The words of the commands.
-pub const COMMANDS: [&str; 8] = [
+pub const COMMANDS: [&str; 9] = [
     "solo", "play", "blocks", "inspect", "acts", "gather", "run", "draw", "make",
 ];
 
