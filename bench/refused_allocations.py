@@ -34,6 +34,9 @@ LINES = [
     ['acts', EXAMPLES / 'percpu_counter' / 'percpu_counter.elf', EXAMPLES / 'percpu_counter' / 'side_by_side.script'],
     ['gather', EXAMPLES / 'percpu_counter' / 'percpu_counter.elf', EXAMPLES / 'percpu_counter' / 'side_by_side.script'],
     ['solo', EXAMPLES / 'check.py'],
+    ['make', 'counter', '1000'],
+    ['make', 'counter', '0'],
+    ['trial', 'counter', '1', '--steps', '100'],
     ['solo'],
 ]
 

@@ -78,7 +78,7 @@ chosen_on start past (e ∷ es) run chosen legal =
     (subst (IsBlockRun start.setting) whole on.0, subst (IsChosen start.setting start.seed) whole on.1)
 
 -- a run that has ended isn't left open
-over_when_ended : (s : Setting) (log : List Entry) → IsBlockRun s log → has_ended s (history s log) ≡ true
+pub over_when_ended : (s : Setting) (log : List Entry) → IsBlockRun s log → has_ended s (history s log) ≡ true
     → end_of s (history s log) ≢ Unended
 unfolding has_ended
 over_when_ended s log run ended end =

@@ -1,5 +1,6 @@
 mod Chosen
 mod Playing
+mod RoundTurns
 mod ShownRuns
 mod SoloSteps
 mod Stretches

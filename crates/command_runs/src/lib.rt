@@ -4,6 +4,7 @@
 mod acts;
 mod gather;
 mod output;
+mod rounds;
 mod run;
 mod scripts;
 mod shared;
@@ -11,7 +12,8 @@ mod solo;
 mod summary;
 mod texts;
 
+pub use rounds::run_rounds;
 pub use run::run_workers;
 pub use scripts::play;
 pub use solo::run_solo;
-pub use texts::shown_text;
+pub use texts::{shown_text, trial_text};

@@ -45,7 +45,7 @@ fn size_of_text(console: &[u8], log: &[Entry]) -> usize {
 }
 
 /// Appends the console's length, its bytes and a newline.
-fn push_console(text: &mut Vec<u8>, console: &[u8]) -> Result<(), AllocError>
+pub(crate) fn push_console(text: &mut Vec<u8>, console: &[u8]) -> Result<(), AllocError>
     ensures { OnOk result (text.new.items ≡ text.old.items ++ console_text console.now) }
 {
     push_number_line(text, b"console", console.len())?;

@@ -14,7 +14,6 @@ use place_text::{push_end, push_number_line};
 use std::alloc::{AllocError, Global};
 
 /// The summary of a run, at whose end a machine is: its acts, counted for each hart, its barriers, and its end.
-#[tactic(auto, unfolding(outcomes::specs::Summary::summary_text))]
 pub(crate) fn summary_text(
     alloc: Global,
     acts: &Acts,
@@ -25,10 +24,24 @@ pub(crate) fn summary_text(
     ensures { IfOk result (λ text. text.items ≡ log_summary machine.now.setting machine.now.log) }
 {
     let mut text = Vec::new(alloc);
-    push_hart_lines(&mut text, acts, machine.harts())?;
-    push_barriers_line(&mut text, machine.log())?;
-    push_end(&mut text, machine.end())?;
+    push_summary(&mut text, acts, machine)?;
     Ok(text)
+}
+
+/// Appends the summary of a run.
+#[tactic(auto, unfolding(outcomes::specs::Summary::summary_text))]
+pub(crate) fn push_summary(
+    text: &mut Vec<u8>,
+    acts: &Acts,
+    machine: &Machine,
+) -> Result<(), AllocError>
+    requires acts { acts.now.list.items ≡ acts_of machine.now.setting machine.now.log }
+    requires few { length acts.now.list.items < 2 ^ 32 }
+    ensures { OnOk result (text.new.items ≡ text.old.items ++ log_summary machine.now.setting machine.now.log) }
+{
+    push_hart_lines(text, acts, machine.harts())?;
+    push_barriers_line(text, machine.log())?;
+    push_end(text, machine.end())
 }
 
 /// Appends the lines of so many harts.

@@ -4,15 +4,18 @@ ghost use Rattle.std.specs.Prelude.{◌≡◌, IfOk};
 ghost use Rattle.mach_types.specs.Limits.{InRange};
 ghost use Rattle.elf_load.specs.Images.{IsBootable};
 ghost use Rattle.block_model.specs.Run.{IsBlockRun};
+ghost use Rattle.block_model.specs.Setting.{setting_of};
 ghost use Rattle.command_words.specs.Kept.{run_said};
+ghost use Rattle.outcomes.specs.Guests.{tried_text};
 ghost use Rattle.outcomes.specs.Outputs.{setting_for, shown_text};
 
 use crate::acts::{acts_of_run, acts_text};
 use crate::gather::gathered_log;
-use crate::output::output_text;
-use crate::summary::summary_text;
+use crate::output::{output_text, push_console};
+use crate::summary::{push_summary, summary_text};
 use command_words::{Run, Shown};
 use elf_load::Image;
+use mach_types::Limits;
 use machine_core::Machine;
 use place_text::place_text;
 use std::alloc::{AllocError, Global};
@@ -44,4 +47,24 @@ pub fn shown_text(
             output_text(alloc, machine, &log)
         }
     }
+}
+
+/// The text of a trial, at the end of whose run a machine is: its console, and the summary of its log.
+pub fn trial_text(
+    alloc: Global,
+    image: &Image,
+    limits: &Limits,
+    machine: &Machine,
+) -> Result<Vec<u8>, AllocError>
+    requires image { IsBootable limits.now.frames image.now }
+    requires limits { InRange limits.now }
+    requires setting { machine.now.setting ≡ setting_of image.now limits.now }
+    requires run { IsBlockRun machine.now.setting machine.now.log }
+    ensures { IfOk result (λ text. text.items ≡ tried_text machine.now.setting machine.now.log) }
+{
+    let acts = acts_of_run(alloc, image, limits, machine)?;
+    let mut text = Vec::new(alloc);
+    push_console(&mut text, machine.console())?;
+    push_summary(&mut text, &acts, machine)?;
+    Ok(text)
 }

@@ -11,7 +11,7 @@ use Rattle.guest_names.specs.Guests.{name_of}
 use Rattle.command_words.specs.declared.commands.Guest.{Guest as AskedGuest}
 use Rattle.step_log.specs.Script.{◌>>=◌}
 use Rattle.command_words.specs.declared.table.CommandKind.{CommandKind}
-use Rattle.command_words.specs.declared.table.CommandKind.TheVariants.{Runs, Makes}
+use Rattle.command_words.specs.declared.table.CommandKind.TheVariants.{Runs, Makes, Tries}
 use Rattle.command_words.specs.declared.table.SourceKind.{SourceKind}
 use Rattle.command_words.specs.declared.table.SourceKind.TheVariants.{ByRule, ByScript, ByWorkers, ByDraws}
 use Rattle.command_words.specs.declared.takes.NameKind.{NameKind}
@@ -191,6 +191,7 @@ names_are : (kind : CommandKind) (limits : Limits) (seed : ℕ) (names : List (L
 names_are (Runs source shown) limits seed names =
     mapped _ (files_for source names seed) ∙ files_are source names seed
 names_are Makes limits seed names = mapped _ (guest_for names) ∙ guests_are names
+names_are Tries limits seed names = mapped _ (guest_for names) ∙ guests_are names
 
 -- so a command of a kind is asked for exactly where the arguments are its own
 kind_fits : (kind : CommandKind) (given : Arguments) → is_some (asked_for kind given) ≡ fits (takes_kind kind) given
@@ -236,6 +237,7 @@ two_names_by ByDraws = omega arith
 two_names_most : (kind : CommandKind) → length (takes_kind kind).names ≤ 2
 two_names_most (Runs source shown) = two_names_by source
 two_names_most Makes = omega arith
+two_names_most Tries = omega arith
 
 pub few_taken : (word : List ℕ) (takes : Takes) → takes_of word ≡ Some takes → length takes.names ≤ 2
 few_taken word takes is = by_kind (command_kind word) is

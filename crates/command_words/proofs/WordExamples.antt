@@ -4,7 +4,7 @@ use Rattle.mach_types.specs.declared.limits.Limits.{Limits}
 use Rattle.command_words.specs.declared.table.Shown.{Shown}
 use Rattle.command_words.specs.declared.table.Shown.TheVariants.{Output, Summary, Place, Gathered}
 use Rattle.guest_names.specs.declared.names.Name.TheVariants.{Counter, Migrate}
-use Rattle.command_words.specs.Commands.{Command, Runs, Makes, Source, Rule, Script, Workers, Drawn}
+use Rattle.command_words.specs.Commands.{Command, Runs, Makes, Tries, Source, Rule, Script, Workers, Drawn}
 use Rattle.command_words.specs.Options.{number_of}
 use Rattle.command_words.specs.Words.{arguments_of, command_of}
 
@@ -417,3 +417,25 @@ make_three_names = refl
 make_steps : command_of (codes "make" ∷ codes "counter" ∷ codes "1" ∷ codes "--steps=5" ∷ []) ≡ None
 unfolding command_of arguments_of
 make_steps = refl
+
+-- `trial NAME N` tries a guest, with the harts, the steps and the seed that are given, or else the defaults
+trial_defaults : command_of (codes "trial" ∷ codes "counter" ∷ codes "1" ∷ [])
+    ≡ Some (Tries (record { guest = record { name = Counter; size = 1 }; harts = 2; steps = 200000; seed = 1 }))
+unfolding command_of arguments_of
+trial_defaults = refl
+
+trial_options : command_of
+    (codes "trial" ∷ codes "--harts=8" ∷ codes "migrate" ∷ codes "--steps" ∷ codes "5" ∷ codes "63"
+    ∷ codes "--seed=7" ∷ [])
+    ≡ Some (Tries (record { guest = record { name = Migrate; size = 63 }; harts = 8; steps = 5; seed = 7 }))
+unfolding command_of arguments_of
+trial_options = refl
+
+-- it takes no frames
+trial_frames : command_of (codes "trial" ∷ codes "counter" ∷ codes "1" ∷ codes "--frames=128" ∷ []) ≡ None
+unfolding command_of arguments_of
+trial_frames = refl
+
+trial_of_a_file : command_of (codes "trial" ∷ codes "F" ∷ codes "1" ∷ []) ≡ None
+unfolding command_of arguments_of
+trial_of_a_file = refl

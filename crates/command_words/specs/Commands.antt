@@ -1,9 +1,10 @@
--- What can be asked for (own): to run a program, and to show something of the run; or to make the file of a guest. The
--- names are those of files.
+-- What can be asked for (own): to run a program, and to show something of the run; to make the file of a guest; or to try
+-- a guest. The names are those of files.
 use Rattle.std.specs.Prelude.{ℕ, ◌≡◌, Bool, true, false, List, Option, Some, None}
 use Rattle.mach_types.specs.declared.limits.Limits.{Limits}
 use Rattle.mach_types.specs.Limits.{InRange}
 use Rattle.command_words.specs.declared.commands.Guest.{Guest}
+use Rattle.command_words.specs.declared.commands.Trial.{Trial}
 use Rattle.command_words.specs.declared.table.Shown.{Shown}
 
 -- how the log of the run comes about: on one hart by the fixed rule; by the events of a script; by workers, one for
@@ -20,10 +21,15 @@ pub record Run : Type 0 where
   pub shown : Shown
   pub limits : Limits
 
--- a command runs this, or makes the file of this guest
+-- a command runs this, makes the file of this guest, or makes this trial
 pub data Command : Type 0 where
   Runs : (run : Run) → Command
   Makes : (guest : Guest) → Command
+  Tries : (trial : Trial) → Command
+
+-- the limits of a trial: it has no option for the frames
+abbrev pub trial_limits : Trial → Limits
+trial_limits trial = record { harts = trial.harts; frames = 4096; steps = trial.steps }
 
 -- whether the log comes about by workers
 abbrev pub is_by_workers : Source → Bool
@@ -36,16 +42,18 @@ is_by_workers (Drawn seed) = false
 abbrev pub needs_workers : Command → Bool
 needs_workers (Runs run) = is_by_workers run.source
 needs_workers (Makes guest) = false
+needs_workers (Tries trial) = false
 
 -- whether the words ask for a run by workers
 abbrev pub is_run : Option Command → Bool
 is_run None = false
 is_run (Some command) = needs_workers command
 
--- the limits of a run are in their ranges
+-- the limits of a run or a trial are in their ranges
 abbrev pub HasLimits : Command → Type 0
 HasLimits (Runs run) = InRange run.limits
 HasLimits (Makes guest) = Unit {0}
+HasLimits (Tries trial) = InRange (trial_limits trial)
 
 -- the fixed rule runs on one hart
 abbrev pub HasHartsOf : Source → Limits → Type 0
@@ -57,3 +65,4 @@ HasHartsOf (Drawn seed) limits = Unit {0}
 abbrev pub HasItsHarts : Command → Type 0
 HasItsHarts (Runs run) = HasHartsOf run.source run.limits
 HasItsHarts (Makes guest) = Unit {0}
+HasItsHarts (Tries trial) = Unit {0}

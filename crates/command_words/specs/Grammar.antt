@@ -13,12 +13,13 @@ use Rattle.mach_types.specs.declared.limits.Limits.{Limits}
 use Rattle.guest_names.specs.Guests.{name_of}
 use Rattle.step_log.specs.Script.{◌>>=◌}
 use Rattle.command_words.specs.declared.commands.Guest.{Guest}
+use Rattle.command_words.specs.declared.commands.Trial.{Trial}
 use Rattle.command_words.specs.declared.table.CommandKind.{CommandKind}
 use Rattle.command_words.specs.declared.table.CommandKind.TheVariants as kind
 use Rattle.command_words.specs.declared.table.Shown.{Shown}
 use Rattle.command_words.specs.declared.table.SourceKind.{SourceKind}
 use Rattle.command_words.specs.declared.table.SourceKind.TheVariants.{ByRule, ByScript, ByWorkers, ByDraws}
-use Rattle.command_words.specs.Commands.{Command, Run, Runs, Makes, Source, Rule, Script, Workers, Drawn}
+use Rattle.command_words.specs.Commands.{Command, Run, Runs, Makes, Tries, Source, Rule, Script, Workers, Drawn}
 use Rattle.command_words.specs.Options.{OptionName, Harts, Frames, Steps, Seed, option_word, same_option}
 use Rattle.command_words.specs.Options.{chosen, number_of, range_of}
 use Rattle.command_words.specs.Table.{command_kind}
@@ -153,11 +154,16 @@ abbrev pub guest_for : List (List ℕ) → Option Guest
 guest_for (word ∷ text ∷ []) = guest_named word text
 guest_for _ = None
 
+-- the trial of this guest under these limits, with this seed
+abbrev pub trial_of : Limits → ℕ → Guest → Trial
+trial_of limits seed guest = record { guest = guest; harts = limits.harts; steps = limits.steps; seed = seed }
+
 -- the command of this kind and these limits, this seed and these names
 abbrev pub command_for : CommandKind → Limits → ℕ → List (List ℕ) → Option Command
 command_for (kind.Runs source shown) limits seed names =
     option_map (λ files. Runs (run_for source shown limits files)) (files_for source names seed)
 command_for kind.Makes limits seed names = option_map Makes (guest_for names)
+command_for kind.Tries limits seed names = option_map (λ guest. Tries (trial_of limits seed guest)) (guest_for names)
 
 -- what such a command asks for with these arguments
 abbrev pub asked_for : CommandKind → Arguments → Option Command

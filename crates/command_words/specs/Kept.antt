@@ -17,7 +17,7 @@ use Rattle.command_words.specs.declared.reader.Reading.{Reading}
 use Rattle.command_words.specs.declared.reader.Reading.TheVariants as reading
 use Rattle.command_words.specs.declared.takes.OptionSet.{OptionSet}
 use Rattle.command_words.specs.declared.takes.Takes.{Takes}
-use Rattle.command_words.specs.Commands.{Command as Asked, Run as AskedRun, Runs, Makes}
+use Rattle.command_words.specs.Commands.{Command as Asked, Run as AskedRun, Runs, Makes, Tries}
 use Rattle.command_words.specs.Commands.{Source as FromSource, Rule, Script, Workers, Drawn}
 use Rattle.command_words.specs.Grammar.{Arguments as Stated}
 use Rattle.command_words.specs.Options.{OptionName as Named, Harts, Frames, Steps, Seed, Range}
@@ -72,6 +72,7 @@ run_said run = record {
 abbrev pub said : Command → Asked
 said (command.Runs run) = Runs (run_said run)
 said (command.Makes guest) = Makes guest
+said (command.Tries trial) = Tries trial
 
 -- some of the options
 abbrev pub options_kept : OptionSet → SomeOptions

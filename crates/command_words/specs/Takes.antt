@@ -1,7 +1,7 @@
 -- What each command takes behind its word (own): which names, and which options.
 use Rattle.std.specs.Prelude.{ℕ, Bool, true, false, List, [], ◌∷◌, Option, option_map}
 use Rattle.command_words.specs.declared.table.CommandKind.{CommandKind}
-use Rattle.command_words.specs.declared.table.CommandKind.TheVariants.{Runs, Makes}
+use Rattle.command_words.specs.declared.table.CommandKind.TheVariants.{Runs, Makes, Tries}
 use Rattle.command_words.specs.declared.table.SourceKind.{SourceKind}
 use Rattle.command_words.specs.declared.table.SourceKind.TheVariants.{ByRule, ByScript, ByWorkers, ByDraws}
 use Rattle.command_words.specs.declared.takes.NameKind.{NameKind}
@@ -61,6 +61,11 @@ taken_by_seed =
 abbrev pub taken_by_make : Takes
 taken_by_make = record { names = Guest ∷ Size ∷ []; options = no_options }
 
+-- what a trial of a guest takes
+abbrev pub taken_by_trial : Takes
+taken_by_trial =
+    record { names = Guest ∷ Size ∷ []; options = record { harts = true; frames = false; steps = true; seed = true } }
+
 -- what a run takes by how its log comes about
 abbrev pub takes_by : SourceKind → Takes
 takes_by ByRule = taken_alone
@@ -72,6 +77,7 @@ takes_by ByDraws = taken_by_seed
 abbrev pub takes_kind : CommandKind → Takes
 takes_kind (Runs source shown) = takes_by source
 takes_kind Makes = taken_by_make
+takes_kind Tries = taken_by_trial
 
 -- what the command of a word takes, if a command has the word
 abbrev pub takes_of : List ℕ → Option Takes

@@ -2,10 +2,10 @@
 
 ghost use Rattle.std.specs.Prelude.{◌≡◌, ◌≤◌, IfOk, IfSome, option_copied, option_map};
 ghost use Rattle.mach_types.specs.Limits.{InRange};
-ghost use Rattle.command_words.specs.Commands.{HasHartsOf, HasItsHarts, HasLimits};
+ghost use Rattle.command_words.specs.Commands.{HasHartsOf, HasItsHarts, HasLimits, trial_limits};
 ghost use Rattle.command_words.specs.Kept.{named, names_kept, run_said, said, source_said, stated};
 ghost use Rattle.command_words.specs.Grammar.{asked_by, asked_for, command_for, files_for, guest_for, guest_named};
-ghost use Rattle.command_words.specs.Grammar.{harts_for, number_for, one_name, run_for, two_names};
+ghost use Rattle.command_words.specs.Grammar.{harts_for, number_for, one_name, run_for, trial_of, two_names};
 ghost use Rattle.command_words.specs.Options.{range_of};
 ghost use Rattle.command_words.specs.Words.{command_of, texts};
 
@@ -57,6 +57,22 @@ pub struct Guest {
     pub size: u64,
 }
 
+/// How many frames a trial has.
+const TRIAL_FRAMES: u32 = 4_096;
+
+/// To make a guest, to run it by rounds, and to show its console and its acts.
+#[derive(Clone, Copy, Debug, PartialEq, Eq, Drop)]
+pub struct Trial {
+    /// The guest.
+    pub guest: Guest,
+    /// How many harts there are.
+    pub harts: u8,
+    /// How many events the log can hold.
+    pub steps: u32,
+    /// The seed of what the harts choose.
+    pub seed: u64,
+}
+
 /// What words ask for.
 #[derive(Clone, Copy, Debug, PartialEq, Eq, Drop)]
 pub enum Command<'a> {
@@ -64,13 +80,28 @@ pub enum Command<'a> {
     Runs(Run<'a>),
     /// The file of a guest.
     Makes(Guest),
+    /// A trial of a guest.
+    Tries(Trial),
+}
+
+impl Trial {
+    /// The limits of the run: a trial has no option for the frames.
+    pub fn limits(&self) -> Limits
+        ensures { result ≡ trial_limits self.now }
+    {
+        Limits {
+            harts: self.harts,
+            frames: TRIAL_FRAMES,
+            steps: self.steps,
+        }
+    }
 }
 
 /// What the words ask for; None exactly where they aren't of the grammar. It errs only for want of memory.
 ///
 /// The first word is the command: `solo FILE`, with `--frames` and `--steps`; `play FILE SCRIPT` and the other
-/// commands on a script, with `--harts` too; `run FILE` and `draw FILE`, with `--harts` and `--seed` too; or
-/// `make NAME N`, with no option. Each limit is in its range.
+/// commands on a script, with `--harts` too; `run FILE` and `draw FILE`, with `--harts` and `--seed` too;
+/// `make NAME N`, with no option; or `trial NAME N`, with `--harts`, `--steps` and `--seed`. Each limit is in its range.
 #[tactic(auto, unfolding(crate::specs::Words::command_of))]
 pub(crate) fn command_of<'a>(
     alloc: Global,
@@ -134,6 +165,7 @@ fn command_for<'a>(
             Some(Command::Runs(run_for(source, shown, limits, seed, names)?))
         }
         CommandKind::Makes => Some(Command::Makes(guest_for(names)?)),
+        CommandKind::Tries => Some(Command::Tries(trial_of(limits, seed, guest_for(names)?))),
     }
 }
 
@@ -222,6 +254,20 @@ fn run_for<'a>(
         shown,
         limits,
     })
+}
+
+/// The trial of this guest under these limits, with this seed.
+fn trial_of(limits: Limits, seed: u64, guest: Guest) -> Trial
+    requires { InRange limits }
+    ensures trial { result ≡ trial_of limits seed guest }
+    ensures limits { InRange (trial_limits result) }
+{
+    Trial {
+        guest,
+        harts: limits.harts,
+        steps: limits.steps,
+        seed,
+    }
 }
 
 /// The guest that two names give, where there are two: the name is a guest's, and the size is a number.

@@ -1,5 +1,5 @@
-//! The commands: of each its word, and whether it makes a guest, or how the log of its run comes about and what is shown of
-//! it.
+//! The commands: of each its word, and whether it makes or tries a guest, or how the log of its run comes about and what is
+//! shown of it.
 
 ghost use Rattle.std.specs.Prelude.{◌≡◌};
 ghost use Rattle.command_words.specs.Table.{command_kind};
@@ -69,11 +69,13 @@ pub enum CommandKind {
     },
     /// It makes the file of a guest.
     Makes,
+    /// It makes a guest, and runs it by rounds.
+    Tries,
 }
 
 /// The words of the commands.
-pub const COMMANDS: [&str; 9] = [
-    "solo", "play", "blocks", "inspect", "acts", "gather", "run", "draw", "make",
+pub const COMMANDS: [&str; 10] = [
+    "solo", "play", "blocks", "inspect", "acts", "gather", "run", "draw", "make", "trial",
 ];
 
 /// What the command of a word is; None where no command has the word.
@@ -90,6 +92,7 @@ pub fn command_kind(word: &str) -> Option<CommandKind>
         "run" => (SourceKind::ByWorkers, Shown::Output),
         "draw" => (SourceKind::ByDraws, Shown::Output),
         "make" => return Some(CommandKind::Makes),
+        "trial" => return Some(CommandKind::Tries),
         _ => return None,
     };
     Some(CommandKind::Runs { source, shown })

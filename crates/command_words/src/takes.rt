@@ -1,6 +1,7 @@
 //! What each command takes behind its word: which names, and which options.
 
-ghost use Rattle.std.specs.Prelude.{◌≡◌, option_map};
+ghost use Rattle.std.specs.Prelude.{◌≡◌, ◌∷◌, [], option_map};
+ghost use Rattle.command_words.specs.declared.takes.NameKind.TheVariants.{Guest, Size};
 ghost use Rattle.command_words.specs.Kept.{named, options_kept, takes_kept};
 ghost use Rattle.command_words.specs.Takes.{has, no_options, takes_by, takes_kind, takes_of, with_option};
 ghost use Rattle.command_words.specs.WordFaults.{kind_at};
@@ -81,6 +82,14 @@ const ON_A_SCRIPT: OptionSet = OptionSet {
     seed: false,
 };
 
+/// The options of a trial.
+const OF_A_TRIAL: OptionSet = OptionSet {
+    harts: true,
+    frames: false,
+    steps: true,
+    seed: true,
+};
+
 /// The options of a command that chooses by a seed: by workers, or by draws.
 const BY_SEED: OptionSet = OptionSet {
     harts: true,
@@ -151,12 +160,20 @@ impl CommandKind {
     {
         match self {
             CommandKind::Runs { source, .. } => source.takes(),
-            CommandKind::Makes => Takes {
-                first: NameKind::Guest,
-                second: Some(NameKind::Size),
-                options: NO_OPTIONS,
-            },
+            CommandKind::Makes => of_a_guest(NO_OPTIONS),
+            CommandKind::Tries => of_a_guest(OF_A_TRIAL),
         }
+    }
+}
+
+/// What a command takes that is about a guest and has these options.
+fn of_a_guest(options: OptionSet) -> Takes
+    ensures { takes_kept result ≡ record { names = Guest ∷ Size ∷ []; options = options_kept options } }
+{
+    Takes {
+        first: NameKind::Guest,
+        second: Some(NameKind::Size),
+        options,
     }
 }
 

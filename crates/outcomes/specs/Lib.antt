@@ -2,11 +2,13 @@ pub mod Answers
 pub mod Causes
 pub mod Delivery
 pub mod ElfPlaces
+pub mod Guests
 pub mod Needs
 pub mod Outcome
 pub mod Outputs
 pub mod Programs
 pub mod Reasons
+pub mod Rounds
 pub mod Runs
 pub mod Statuses
 pub mod Summary

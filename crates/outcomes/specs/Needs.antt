@@ -26,6 +26,7 @@ abbrev pub needs_of : Option words.Command → Needs
 needs_of None = Nothing
 needs_of (Some (words.Runs run)) = needs_by run.program run.source run.limits
 needs_of (Some (words.Makes guest)) = Guest guest
+needs_of (Some (words.Tries trial)) = Guest trial.guest
 
 -- what the command of the words needs
 abbrev pub needs_in : List (List ℕ) → Needs

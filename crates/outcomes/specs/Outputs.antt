@@ -1,12 +1,10 @@
--- The output of a command: what it shows of a whole run of its program, or the file of its guest.
-use Rattle.std.specs.Prelude.{ℕ, ◌≡◌, List, Option, Some, None, Ok, map, true}
+-- The output of a command: what it shows of a whole run of its program, the file of its guest, or the text of its trial.
+use Rattle.std.specs.Prelude.{ℕ, ◌≡◌, List, Option, Some, None, Ok, map}
 use Rattle.std.specs.List.{flat_map}
 use Rattle.mach_types.specs.declared.events.Entry.{Entry}
 use Rattle.mach_types.specs.declared.limits.End.{End}
 use Rattle.mach_types.specs.declared.limits.Limits.{Limits}
 use Rattle.elf_load.specs.declared.image.Image.{Image}
-use Rattle.guest_names.specs.Guests.{is_size}
-use Rattle.guest_programs.specs.Guests.{IsGuestFile}
 use Rattle.block_model.specs.Setting.{Seen, Setting, setting_of}
 use Rattle.block_model.specs.History.{console}
 use Rattle.block_model.specs.Deciding.{history, end_of}
@@ -19,9 +17,9 @@ use Rattle.log_gather.specs.Gathered.{gathered}
 use Rattle.place_text.specs.Place.{place_text}
 use Rattle.command_words.specs.declared.table.Shown.{Shown}
 use Rattle.command_words.specs.declared.table.Shown.TheVariants as shows
-use Rattle.command_words.specs.declared.commands.Guest.{Guest}
-use Rattle.command_words.specs.Commands.{Command, Run, Runs, Makes, Source, Rule, Script, Workers, Drawn}
+use Rattle.command_words.specs.Commands.{Command, Run, Runs, Makes, Tries, Source, Rule, Script, Workers, Drawn}
 use Rattle.command_words.specs.Words.{command_of}
+use Rattle.outcomes.specs.Guests.{IsGuestOutput, IsPlainTrialOutput, IsTrialOutput}
 use Rattle.outcomes.specs.Programs.{Files, IsProgram, IsScript, asks_of}
 use Rattle.outcomes.specs.Runs.{IsChosenRun, IsSoloRun, IsPlayedRun}
 use Rattle.outcomes.specs.Summary.{act_line, summary_text}
@@ -81,16 +79,12 @@ pub record IsRunOutput (files : Files) (run : Run) (written : List ℕ) : Type 0
   pub made : IsLogOf files run.source (setting_for run image) log
   pub text : written ≡ shown_text run.shown (setting_for run image) log
 
--- the bytes are a file of the guest, which takes its size
-pub record IsGuestOutput (guest : Guest) (written : List ℕ) : Type 0 where
-  pub taken : is_size guest.name guest.size ≡ true
-  pub file : IsGuestFile guest.name guest.size written
-
 -- the output of a command
 abbrev pub IsOutputOf : Files → Option Command → List ℕ → Type 0
 IsOutputOf files None written = ⊥
 IsOutputOf files (Some (Runs run)) written = IsRunOutput files run written
 IsOutputOf files (Some (Makes guest)) written = IsGuestOutput guest written
+IsOutputOf files (Some (Tries trial)) written = IsTrialOutput trial written
 
 -- the output of the words
 abbrev pub IsOutput : Files → List (List ℕ) → List ℕ → Type 0
@@ -143,6 +137,7 @@ abbrev pub IsPlainOutputOf : Files → Option Command → List ℕ → Type 0
 IsPlainOutputOf files None written = ⊥
 IsPlainOutputOf files (Some (Runs run)) written = IsPlainRunOutput files run written
 IsPlainOutputOf files (Some (Makes guest)) written = IsGuestOutput guest written
+IsPlainOutputOf files (Some (Tries trial)) written = IsPlainTrialOutput trial written
 
 -- the plain machine's output of the words
 abbrev pub IsPlainOutput : Files → List (List ℕ) → List ℕ → Type 0

@@ -4,3 +4,4 @@ pub mod Laws
 mod OneOutput
 mod PlainOutputs
 mod Repeats
+mod RoundRuns

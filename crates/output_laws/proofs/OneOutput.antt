@@ -76,6 +76,7 @@ one_plain : (files : Files) (command : Option words.Command) (a b : List ℕ) �
     → IsPlainOutputOf files command a → IsPlainOutputOf files command b → a ≡ b
 one_plain files None a b quiet told first second = absurd first
 one_plain files (Some (words.Makes guest)) a b quiet told first second = absurd told
+one_plain files (Some (words.Tries trial)) a b quiet told first second = absurd told
 one_plain files (Some (words.Runs asked)) a b quiet told first second =
     let start = one_start files asked.program asked.limits first.image second.image
     (program_told files asked.program asked.source asked.limits told) first.taken second.taken in
@@ -135,6 +136,7 @@ needs_some : (files : Files) (command : Option words.Command) (written : List �
 needs_some files None written output none = absurd output
 needs_some files (Some (words.Runs run)) written output none = some_need run.program run.source run.limits none
 needs_some files (Some (words.Makes guest)) written output none = absurd cc
+needs_some files (Some (words.Tries trial)) written output none = absurd cc
 
 pub good_files : (files : Files) (command : Option words.Command) (written : List ℕ)
     → AreTold files (needs_of command) → IsOutputOf files command written

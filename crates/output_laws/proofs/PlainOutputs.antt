@@ -1,7 +1,7 @@
 -- The output of a command is what the plain machine prints.
 use Rattle.std.proofs.Common.{◌≡◌, ℕ, List, refl, sym, ◌∙◌, Option, Some, None}
 use Rattle.mach_types.specs.declared.events.Entry.{Entry}
-use Rattle.block_model.specs.Plain.{PlainRun, plain_solo}
+use Rattle.block_model.specs.Plain.{PlainRun, plain_end, plain_solo}
 use Rattle.block_model.specs.PlainSays.{SaysOf}
 use Rattle.block_model.specs.Replay.{script_of}
 use Rattle.block_model.specs.Run.{IsBlockRun}
@@ -10,9 +10,10 @@ use Rattle.block_model.proofs.Laws.{answers_itself, plain_makes, plain_solo_log,
 use Rattle.drawn_runs.specs.Manners.{manner_of}
 use Rattle.drawn_runs.specs.WholeRuns.{IsDrawnRun}
 use Rattle.command_words.specs.declared.table.Shown.{Shown}
-use Rattle.command_words.specs.Commands.{Command, Runs, Makes, Source, Rule, Script, Workers, Drawn}
+use Rattle.command_words.specs.Commands.{Command, Runs, Makes, Tries, Source, Rule, Script, Workers, Drawn}
 use Rattle.outcomes.specs.Outputs.{IsLogOf, IsOutputOf, IsPlainOutputOf, IsPlainRunOf, IsPlainRunOver, plain_text}
 use Rattle.outcomes.specs.Outputs.{setting_for, shown_text, text_of}
+use Rattle.outcomes.specs.Guests.{setting_tried, trial_text, tried_text}
 use Rattle.outcomes.specs.Programs.{Files}
 use Rattle.outcomes.specs.Runs.{IsChosenRun}
 
@@ -21,6 +22,10 @@ shows_alike : (shown : Shown) (s : Setting) (log : List Entry) (run : PlainRun) 
     → SaysOf s log run.machine → shown_text shown s log ≡ plain_text shown s run
 shows_alike shown s log run same says =
     λ i. text_of shown s (sym says.same_console i) (sym same i) (sym says.same_end i)
+
+tried_alike : (s : Setting) (log : List Entry) (run : PlainRun) → run.log ≡ log → SaysOf s log run.machine
+    → tried_text s log ≡ trial_text s run.machine.kernel.console run.log (plain_end s run.machine)
+tried_alike s log run same says = λ i. trial_text s (sym says.same_console i) (sym same i) (sym says.same_end i)
 
 -- a run of the plain machine, of this kind, beside the log of a run
 record IsRunAlike (IsOfKind : PlainRun → Type 0) (s : Setting) (log : List Entry) : Type 0 where
@@ -72,6 +77,18 @@ pub plain_output_of : (files : Files) (command : Option Command) (written : List
     → IsOutputOf files command written → IsPlainOutputOf files command written
 plain_output_of files None written output = absurd output
 plain_output_of files (Some (Makes guest)) written output = output
+plain_output_of files (Some (Tries trial)) written output =
+    let s = setting_tried trial output.image in
+    let made = plain_makes s (script_of output.log) output.log
+    (run_is_played s (script_of output.log) output.log output.made.block_run (answers_itself output.log)) in
+    let run : PlainRun = record { log = output.log; machine = made.machine } in
+    record {
+      image = output.image;
+      taken = output.taken;
+      run = run;
+      made = record { log = output.log; rounds = output.made; made = made.made };
+      text = output.text ∙ tried_alike s output.log run refl made.says;
+    }
 plain_output_of files (Some (Runs run)) written output =
     let s = setting_for run output.image in
     let alike = run_alike files run.source s output.log output.made in

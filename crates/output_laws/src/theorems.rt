@@ -1,13 +1,17 @@
 //! Laws of the outputs, each as the contract of a function that does nothing.
 
 ghost use Rattle.std.specs.Prelude.{◌≡◌, false, ℕ, List, Option};
+ghost use Rattle.mach_types.specs.declared.events.Entry.{Entry};
 ghost use Rattle.mach_types.specs.Limits.{InRange};
 ghost use Rattle.step_log.specs.Grammar.{log_text};
+ghost use Rattle.block_model.specs.Setting.{Setting};
 ghost use Rattle.log_gather.specs.Gathered.{gathered};
 ghost use Rattle.outcomes.specs.Needs.{needs_of};
 ghost use Rattle.outcomes.specs.Outputs.{IsOutput, IsOutputOf, IsPlainOutput, IsPlayOutput, IsRunOutput};
 ghost use Rattle.outcomes.specs.Outputs.{setting_for};
 ghost use Rattle.outcomes.specs.Programs.{Files, IsReadAs};
+ghost use Rattle.outcomes.specs.Rounds.{IsRoundsRun};
+ghost use Rattle.outcomes.specs.Runs.{IsChosenRun};
 ghost use Rattle.outcomes.specs.Told.{AreTold, TellsGoodFiles};
 ghost use Rattle.command_words.specs.declared.table.Shown.TheVariants.{Gathered, Output};
 ghost use Rattle.command_words.specs.Commands.{Command, Run, is_run};
@@ -49,4 +53,11 @@ pub fn told_files_have_one_output()
 pub fn plain_machine_prints()
     ensures { (files : Files) (words : List (List ℕ)) (written : List ℕ)
         → IsOutput files words written → IsPlainOutput files words written }
+{}
+
+/// A run by rounds is one that workers can make, who choose by the same seed; and of a setting and a seed there is one.
+pub fn rounds_make_one_log()
+    ensures chosen { (s : Setting) (seed : ℕ) (log : List Entry) → IsRoundsRun s seed log → IsChosenRun s seed log }
+    ensures one { (s : Setting) (seed : ℕ) (log other : List Entry)
+        → IsRoundsRun s seed log → IsRoundsRun s seed other → log ≡ other }
 {}

@@ -76,7 +76,9 @@ pub fn explain(alloc: Global, reason: &Reason, at_hand: AtHand) -> Result<String
 fn file_name(alloc: Global, words: &[String], role: FileRole) -> Result<&str, AllocError> {
     let run = match read_words(alloc, words) {
         Ok(Command::Runs(run)) => run,
-        Ok(Command::Makes(_)) | Err(WordsError::Wrong(_)) => return Ok("the file"),
+        Ok(Command::Makes(_) | Command::Tries(_)) | Err(WordsError::Wrong(_)) => {
+            return Ok("the file");
+        }
         Err(WordsError::NoMemory) => return Err(AllocError),
     };
     match (role, run.source) {
@@ -93,16 +95,16 @@ fn push_bad_size(
     words: &[String],
     number: u64,
 ) -> Result<(), AllocError> {
-    match read_words(alloc, words) {
-        Ok(Command::Makes(guest)) => {
-            let (name, most) = (guest.name.word(), guest.name.most_size());
-            writeln!(text, "{number}: the size of {name} is 1 to {most}")
-        }
+    let guest = match read_words(alloc, words) {
+        Ok(Command::Makes(guest)) => guest,
+        Ok(Command::Tries(trial)) => trial.guest,
         Ok(Command::Runs(_)) | Err(WordsError::Wrong(_)) => {
-            writeln!(text, "{number}: the guest doesn't take this size")
+            return writeln!(text, "{number}: the guest doesn't take this size");
         }
-        Err(WordsError::NoMemory) => Err(AllocError),
-    }
+        Err(WordsError::NoMemory) => return Err(AllocError),
+    };
+    let (name, most) = (guest.name.word(), guest.name.most_size());
+    writeln!(text, "{number}: the size of {name} is 1 to {most}")
 }
 
 /// Appends that a file couldn't be read.

@@ -19,6 +19,7 @@ fn words_behind(kind: CommandKind) -> &'static str {
     match kind {
         CommandKind::Runs { source, .. } => words_of_run(source),
         CommandKind::Makes => "NAME N",
+        CommandKind::Tries => "NAME N [--harts N] [--steps N] [--seed N]",
     }
 }
 
@@ -66,6 +67,9 @@ fn push_about(text: &mut String, kind: CommandKind) -> Result<(), AllocError> {
             writeln!(text, "{runs}; {prints}")
         }
         CommandKind::Makes => text.push_str("prints the file of the guest NAME for the size N\n"),
+        CommandKind::Tries => text.push_str(
+            "runs the guest NAME for the size N by rounds; prints its console, and how many acts of each form each hart made\n",
+        ),
     }
 }
 

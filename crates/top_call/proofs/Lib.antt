@@ -4,4 +4,5 @@ mod Explaining
 mod NeverFailing
 mod Outcomes
 mod Taken
+mod Trials
 mod Wholes

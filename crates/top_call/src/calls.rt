@@ -163,6 +163,6 @@ fn needs_workers(command: &Command) -> bool
             Source::Workers { .. } => true,
             Source::Rule | Source::Script(_) | Source::Drawn { .. } => false,
         },
-        Command::Makes(_) => false,
+        Command::Makes(_) | Command::Tries(_) => false,
     }
 }

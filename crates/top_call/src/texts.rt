@@ -1,24 +1,26 @@
-//! The text of each command: its files are taken, the program is run, and what the command asks for is shown; or the file of its
-//! guest is made.
+//! The text of each command: its files are taken, the program is run, and what the command asks for is shown; or its guest is made,
+//! or made and tried.
 
 ghost use Rattle.std.specs.Prelude.{◌≡◌, IfErr, IfOk, Some, false, true};
 ghost use Rattle.mach_types.specs.Limits.{InRange};
 ghost use Rattle.elf_load.specs.Images.{IsBootable};
 ghost use Rattle.outside.specs.Counts.{NoneFalls};
 ghost use Rattle.command_words.specs.Commands.{Drawn, HasHartsOf, HasItsHarts, HasLimits, Rule, Script};
-ghost use Rattle.command_words.specs.Commands.{Workers, is_by_workers, needs_workers};
+ghost use Rattle.command_words.specs.Commands.{Workers, is_by_workers, needs_workers, trial_limits};
 ghost use Rattle.command_words.specs.Kept.{run_said, said, source_said};
+ghost use Rattle.outcomes.specs.declared.reasons.Reason.TheVariants.{NoMemory};
 ghost use Rattle.outcomes.specs.Delivery.{IsGuestReason};
 ghost use Rattle.outcomes.specs.Needs.{needs_by, needs_of};
-ghost use Rattle.outcomes.specs.Outputs.{HasRun, IsGuestOutput, IsOutputOf, IsRunOutput};
+ghost use Rattle.outcomes.specs.Guests.{IsGuestImage, IsGuestOutput, IsTrialOutput};
+ghost use Rattle.outcomes.specs.Outputs.{HasRun, IsOutputOf, IsRunOutput};
 ghost use Rattle.outcomes.specs.Reasons.{IsReasonFor};
 
 use crate::fetching::{read_file, taken};
-use command_runs::{play, run_solo, run_workers, shown_text};
-use command_words::{Command, Guest, Run, Source};
+use command_runs::{play, run_rounds, run_solo, run_workers, shown_text, trial_text};
+use command_words::{Command, Guest, Run, Source, Trial};
 use drawn_machine::run_drawn;
 use drawn_runs::Manner;
-use elf_load::Image;
+use elf_load::{ElfFault, Image, load};
 use guest_programs::{GuestFault, make};
 use mach_types::Limits;
 use machine_core::Machine;
@@ -56,6 +58,7 @@ pub(crate) fn quiet_text<S: Shelf>(
     match command {
         Command::Runs(run) => quiet_run_text(alloc, run, shelf),
         Command::Makes(guest) => guest_file(alloc, *guest),
+        Command::Tries(trial) => tried(alloc, trial),
     }
 }
 
@@ -78,7 +81,7 @@ pub(crate) fn workers_text<R: Threads + Wait + Sync, S: Shelf, G: Gate + Sync>(
 {
     match command {
         Command::Runs(run) => workers_run_text(alloc, rt, run, shelf, gate),
-        Command::Makes(_) => unreachable!(),
+        Command::Makes(_) | Command::Tries(_) => unreachable!(),
     }
 }
 
@@ -92,6 +95,40 @@ fn guest_file(alloc: Global, guest: Guest) -> Result<Vec<u8>, Reason>
         Err(GuestFault::BadSize(size)) => Err(Reason::Guest(size)),
         Err(GuestFault::NoMemory) => Err(Reason::NoMemory),
     }
+}
+
+/// The image of a guest.
+fn guest_image(alloc: Global, guest: Guest, limits: &Limits) -> Result<Image, Reason>
+    requires { limits.now.frames ≡ 4096 }
+    ensures image { IfOk result (IsGuestImage guest limits.now) }
+    ensures bootable { IfOk result (IsBootable limits.now.frames) }
+    ensures cause { IfErr result (IsGuestReason guest) }
+{
+    let file = guest_file(alloc, guest)?;
+    match load(alloc, &file, limits) {
+        Ok(image) => Ok(image),
+        Err(fault) => Err(unloaded(fault)),
+    }
+}
+
+/// Why the file of a guest isn't loaded: it has no fault, so memory is short.
+fn unloaded(_fault: ElfFault) -> Reason
+    requires { _fault ≡ ElfFault.NoMemory }
+    ensures { result ≡ NoMemory }
+{
+    Reason::NoMemory
+}
+
+/// The text of a trial.
+fn tried(alloc: Global, trial: &Trial) -> Result<Vec<u8>, Reason>
+    requires { InRange (trial_limits trial.now) }
+    ensures output { IfOk result (λ text. IsTrialOutput trial.now text.items) }
+    ensures cause { IfErr result (IsGuestReason trial.now.guest) }
+{
+    let limits = trial.limits();
+    let image = guest_image(alloc, trial.guest, &limits)?;
+    let machine = run_rounds(alloc, &image, limits, trial.seed)?;
+    Ok(trial_text(alloc, &image, &limits, &machine)?)
 }
 
 /// The text of a run that needs no workers.

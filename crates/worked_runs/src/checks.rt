@@ -136,14 +136,16 @@ fn command_of(alloc: Global, words: &[String]) -> Result<Option<Command<'_>>, Al
 /// The program and the limits of these words, where they are of a command that prints a log.
 fn logged_of(alloc: Global, words: &[String]) -> Result<Option<Logged<'_>>, AllocError> {
     match command_of(alloc, words)? {
-        Some(Command::Runs(
-            AskedRun {
-                program,
-                shown: Shown::Output | Shown::Gathered,
-                limits,
-                ..
-            },
-        )) => Ok(Some(Logged { program, limits })),
+        Some(
+            Command::Runs(
+                AskedRun {
+                    program,
+                    shown: Shown::Output | Shown::Gathered,
+                    limits,
+                    ..
+                },
+            ),
+        ) => Ok(Some(Logged { program, limits })),
         _ => Ok(None),
     }
 }
