@@ -29,9 +29,9 @@ For each example NAME:
 - `draw`, with each of DRAWN_SEEDS on as many harts, does so too, and prints the same text at a second call.
 
 For each worked run crates/worked_runs/data/GROUP/NAME, each line of its file `words`, given to the program in that folder, gives its
-`status` and its `stdout` (but for the number of the hart, where a file `any-hart` is there and all log lines are of one hart); or a
-text that begins with its `begins` and ends with its `ends`. Standard error says what its `stderr` has, or begins with the line of its
-`told` at the place of the command line. Those whose devices fail (a file `fails`) only crates/worked_runs can make.
+`status` and its `stdout` (or its `any-hart`, where that is there), or a text that begins with its `begins` and ends with its `ends`.
+Standard error says what its `stderr` has, or begins with the line of its `told` at the place of the command line. Those whose devices
+fail (a file `fails`) only crates/worked_runs can make. And crates/worked_runs/data/rows lists just these folders, in order.
 
 In each call standard error is empty exactly where the status is 0.
 """
@@ -321,15 +321,6 @@ def check_draws(program, folder, elf, harts):
         check_outcome(program, elf, text, harts, seed, allowed)
 
 
-def on_hart_0(text):
-    """The text with hart 0 in its log lines, where they are all of one hart; else as it is."""
-    log = Output(text).log
-    if len({line[:1] for line in log}) != 1:
-        return text
-    end = Output(text).end
-    return text[:len(text) - len(b''.join(log)) - len(end)] + b''.join(b'0' + line[1:] for line in log) + end
-
-
 def words_of(line):
     """The words of a command line: between spaces, or, where it has a tab, between tabs."""
     return line.split('\t') if '\t' in line else line.split()
@@ -359,10 +350,8 @@ def check_line(program, folder, place, line):
         want('its beginning', text[:len(begins)], begins)
         want('its ending', text[max(0, len(text) - len(ends)):], ends)
         return
-    due = (folder / 'stdout').read_bytes()
-    if (folder / 'any-hart').exists():
-        text, due = on_hart_0(text), on_hart_0(due)
-    want('its text', text, due)
+    if not (folder / 'any-hart').is_file() or text != (folder / 'any-hart').read_bytes():
+        want('its text', text, (folder / 'stdout').read_bytes())
 
 
 def row_passes(program, folder):
@@ -375,6 +364,15 @@ def row_passes(program, folder):
             is_well = False
             print(f'{folder.parent.name}/{folder.name}: {line}: {difference}')
     return is_well
+
+
+def are_listed():
+    """Whether the file `rows` lists the folders of the worked runs, in the order of their names; says which it doesn't, or lists too many."""
+    there = sorted(f'{words.parent.parent.name}/{words.parent.name}' for words in ROWS.glob('*/*/words'))
+    listed = (ROWS / 'rows').read_text().splitlines()
+    if listed != there:
+        print(f'crates/worked_runs/data/rows: {" ".join(sorted(set(listed) ^ set(there))) or "the names are out of order"}')
+    return listed == there
 
 
 def rows(names):
@@ -431,11 +429,12 @@ def main():
     folders = sorted(it.parent for it in HERE.glob('*/console.expected') if not names or it.parent.name in names)
     failed = sum(not passes(program, folder) for folder in folders)
     print(f'{len(folders) - failed} examples passed' + (f', {failed} failed' if failed else ''))
+    is_listed = are_listed()
     worked = list(rows(names))
     with ThreadPoolExecutor(os.cpu_count()) as workers:
         differ = sum(not is_well for is_well in workers.map(lambda row: row_passes(program, row), worked))
     print(f'{len(worked) - differ} worked runs passed' + (f', {differ} failed' if differ else ''))
-    sys.exit(1 if failed or differ or not (folders or worked) or not (names or worked) else 0)
+    sys.exit(1 if failed or differ or not is_listed or not (folders or worked) or not (names or worked) else 0)
 
 
 main()

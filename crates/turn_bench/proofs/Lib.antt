@@ -1,2 +1,3 @@
 pub mod QuotaLemmas
 pub mod CountLemmas
+mod Examples

@@ -5,8 +5,6 @@
 mod counting;
 mod order;
 mod tally;
-#[cfg(test)]
-mod tests;
 mod turns;
 
 use order::{Order, order_of};

@@ -1,91 +1,94 @@
-//! The calls that are made of a run, over devices in memory.
+//! The calls that are made of a run, over devices in memory, and whether each comes to what is due.
 
-use crate::rows::{NamedFile, Run};
+use crate::due::{lines_differ, outcome_differs, said_differs, tell};
+use crate::lines::log_of;
+use crate::meeting::Meeting;
+use crate::rows::shelf_files;
+use crate::runs::{ROOM, Run, sure_sink, words_of};
+use mach_types::Limits;
 use outcomes::{Explained, Reason};
-use outside::{Gate, MemShelf, MemSink, OpenGate, SureShelf, SureSink};
+use outside::{MemShelf, MemSink, OpenGate};
 use reason_text::{AtHand, KeepingShelf, explain};
 use std::alloc::{AllocError, Global};
+use std::io;
 use std::sync::Wait;
 use std::thread::Threads;
 use top_call::{rseq_explained, rseq_main, rseq_quiet, sure_main, sure_quiet};
 
-/// More bytes than the text of any row has.
-const ROOM: usize = 1_048_576;
+/// The exit status of a call that wrote its output.
+const DONE: u64 = 0;
 
-/// What a call came to: its status, none where it leaves the words to workers, and what the sink holds.
-#[derive(Drop)]
-pub(crate) struct Outcome {
-    pub(crate) status: Option<u8>,
-    pub(crate) text: Vec<u8>,
-}
+/// The exit statuses of a device that failed.
+const UNREAD: u64 = 5;
 
-/// What a call came to, and what is said of it on standard error.
-#[derive(Drop)]
-pub(crate) struct ExplainedOutcome {
-    pub(crate) outcome: Outcome,
-    pub(crate) said: String,
-}
+const UNWRITTEN: u64 = 6;
 
-/// The words of a command line, which spaces separate; where it has a tab, tabs alone do.
-pub(crate) fn words_of(alloc: Global, line: &str) -> Result<Vec<String>, AllocError> {
-    let mut words = Vec::new(alloc);
-    if line.contains('\t') {
-        for word in line.split('\t') {
-            words.push(String::from_str(alloc, word)?)?;
-        }
-    } else {
-        for word in line.split_whitespace() {
-            words.push(String::from_str(alloc, word)?)?;
-        }
-    }
-    Ok(words)
-}
-
-/// The files as a shelf takes them.
-fn shelf_files(alloc: Global, files: &[NamedFile]) -> Result<Vec<(String, Vec<u8>)>, AllocError> {
-    let mut shelf = Vec::new(alloc);
-    for file in files {
-        shelf.push((file.name.clone()?, file.bytes.clone()?))?;
-    }
-    Ok(shelf)
-}
-
-/// `rseq_main` over devices that fail where the run says so, with this gate.
-pub(crate) fn by_main<R: Threads + Wait + Sync, G: Gate + Sync>(
+/// Whether a run differs from what is due of it: of `rseq_main` by workers that meet, where they are to; of
+/// `rseq_explained`, and of what it says; of `rseq_main`, and of its log, played again; of `rseq_quiet`; and of
+/// both over devices that never fail, where nothing is to fail. The first difference is printed.
+pub(crate) fn differs<R: Print + Threads + Wait + Sync>(
     alloc: Global,
     rt: &R,
     run: &Run,
-    gate: &G,
-) -> Result<Outcome, AllocError> {
-    let mut shelf = mem_shelf(alloc, run)?;
-    let mut sink = mem_sink(alloc, run)?;
-    let status = rseq_main(alloc, rt, run.words, &mut shelf, &mut sink, gate);
-    Ok(Outcome {
-        status: Some(status),
-        text: sink.held().to_vec(alloc)?,
-    })
+) -> io::Result<bool> {
+    Ok(
+        meeting_differs(alloc, rt, run)?
+            || explained_differs(alloc, rt, run)?
+            || main_differs(alloc, rt, run)?
+            || quiet_differs(alloc, rt, run)?
+            || (is_sure(run)
+                && (sure_main_differs(alloc, rt, run)? || sure_quiet_differs(alloc, rt, run)?)),
+    )
 }
 
-/// `rseq_explained` over the same devices, and what the program says of its reasons on standard error.
-pub(crate) fn by_explained<R: Threads + Wait + Sync>(
+/// Whether the devices of a run are to do all that they are asked for.
+fn is_sure(run: &Run) -> bool {
+    run.failing.is_empty() && run.status != UNREAD && run.status != UNWRITTEN
+}
+
+/// `rseq_main` with a gate at which two workers wait for one another, where they are to.
+fn meeting_differs<R: Print + Threads + Wait + Sync>(
     alloc: Global,
     rt: &R,
     run: &Run,
-) -> Result<ExplainedOutcome, AllocError> {
-    let mut shelf = KeepingShelf::new(alloc, mem_shelf(alloc, run)?);
-    let mut sink = mem_sink(alloc, run)?;
+) -> io::Result<bool> {
+    if run.row.file("meets").is_none() {
+        return Ok(false);
+    }
+    let gate = Meeting::new();
+    let mut shelf = run.shelf(alloc)?;
+    let mut sink = run.sink(alloc)?;
+    let status = rseq_main(alloc, rt, run.words, &mut shelf, &mut sink, &gate);
+    if !gate.met() {
+        return tell(rt, run, "rseq_main", "its workers don't overlap");
+    }
+    outcome_differs(
+        rt,
+        run,
+        "rseq_main by workers that meet",
+        status,
+        sink.held(),
+    )
+}
+
+/// `rseq_explained`, and what the program says of its reasons on standard error.
+fn explained_differs<R: Print + Threads + Wait + Sync>(
+    alloc: Global,
+    rt: &R,
+    run: &Run,
+) -> io::Result<bool> {
+    let mut shelf = KeepingShelf::new(alloc, run.shelf(alloc)?);
+    let mut sink = run.sink(alloc)?;
     let explained = rseq_explained(alloc, rt, run.words, &mut shelf, &mut sink, &OpenGate);
+    if outcome_differs(rt, run, "rseq_explained", explained.status, sink.held())? {
+        return Ok(true);
+    }
     let at_hand = AtHand {
         words: run.words,
         script: shelf.kept(),
     };
-    Ok(ExplainedOutcome {
-        said: text_of(alloc, &explained, at_hand)?,
-        outcome: Outcome {
-            status: Some(explained.status),
-            text: sink.held().to_vec(alloc)?,
-        },
-    })
+    let said = text_of(alloc, &explained, at_hand)?;
+    said_differs(rt, run, said.as_bytes())
 }
 
 /// The text of what couldn't be told and of the reason.
@@ -109,53 +112,104 @@ fn push_reason(
     }
 }
 
-/// `rseq_quiet` over devices that fail where the run says so.
-pub(crate) fn by_quiet(alloc: Global, run: &Run) -> Result<Outcome, AllocError> {
-    let mut shelf = mem_shelf(alloc, run)?;
-    let mut sink = mem_sink(alloc, run)?;
-    let status = rseq_quiet(alloc, run.words, &mut shelf, &mut sink);
-    Ok(Outcome {
-        status,
-        text: sink.held().to_vec(alloc)?,
-    })
-}
-
-/// `sure_main`.
-pub(crate) fn by_sure_main<R: Threads + Wait + Sync>(
+/// `rseq_main`, and where it printed a log, `rseq_main` with `play` on the lines of that.
+fn main_differs<R: Print + Threads + Wait + Sync>(
     alloc: Global,
     rt: &R,
     run: &Run,
-) -> Result<Outcome, AllocError> {
-    let mut shelf = SureShelf::new(alloc, shelf_files(alloc, run.files)?);
-    let mut sink = SureSink::new(alloc, ROOM)?;
-    let status = sure_main(alloc, rt, run.words, &mut shelf, &mut sink, &OpenGate);
-    Ok(Outcome {
-        status: Some(status),
-        text: sink.held().to_vec(alloc)?,
-    })
-}
-
-/// `sure_quiet`.
-pub(crate) fn by_sure_quiet(alloc: Global, run: &Run) -> Result<Outcome, AllocError> {
-    let mut shelf = SureShelf::new(alloc, shelf_files(alloc, run.files)?);
-    let mut sink = SureSink::new(alloc, ROOM)?;
-    let status = sure_quiet(alloc, run.words, &mut shelf, &mut sink);
-    Ok(Outcome {
-        status,
-        text: sink.held().to_vec(alloc)?,
-    })
-}
-
-/// A shelf of the files of a run, whose calls fail where it says so.
-fn mem_shelf(alloc: Global, run: &Run) -> Result<MemShelf, AllocError> {
-    MemShelf::new(
-        alloc,
-        shelf_files(alloc, run.files)?,
-        run.failing.shelf.clone()?,
+) -> io::Result<bool> {
+    let mut shelf = run.shelf(alloc)?;
+    let mut sink = run.sink(alloc)?;
+    let status = rseq_main(alloc, rt, run.words, &mut shelf, &mut sink, &OpenGate);
+    Ok(
+        outcome_differs(rt, run, "rseq_main", status, sink.held())?
+            || replay_differs(alloc, rt, run, sink.held())?,
     )
 }
 
-/// A sink whose calls fail where the run says so.
-fn mem_sink(alloc: Global, run: &Run) -> Result<MemSink, AllocError> {
-    MemSink::new(alloc, ROOM, run.failing.sink.clone()?)
+/// `rseq_main` with `play` on the log lines that a run printed and with its limits: it comes to the same text.
+/// Where the run printed no log, nothing is played.
+fn replay_differs<R: Print + Threads + Wait + Sync>(
+    alloc: Global,
+    rt: &R,
+    run: &Run,
+    text: &[u8],
+) -> io::Result<bool> {
+    let Some(limits) = run.asked.logged else {
+        return Ok(false);
+    };
+    if run.status != DONE {
+        return Ok(false);
+    }
+    let Some(log) = log_of(text) else {
+        return tell(rt, run, "rseq_main", "its text has no log");
+    };
+    let files = shelf_files(alloc, run.row.file("F"), Some(log))?;
+    let mut shelf = MemShelf::new(alloc, files, Vec::new(alloc))?;
+    let mut sink = MemSink::new(alloc, ROOM, Vec::new(alloc))?;
+    let words = words_of(alloc, play_line(alloc, limits)?.as_str())?;
+    let status = rseq_main(alloc, rt, &words, &mut shelf, &mut sink, &OpenGate);
+    if u64::from(status) != DONE {
+        return tell(rt, run, "play of its log", "its status isn't 0");
+    }
+    lines_differ(rt, run, "play of its log", sink.held(), text)
+}
+
+/// The command line that plays the file S on the program F with these limits.
+fn play_line(alloc: Global, limits: Limits) -> Result<String, AllocError> {
+    let Limits {
+        harts,
+        frames,
+        steps,
+    } = limits;
+    format!(in alloc; "play F S --harts {harts} --frames {frames} --steps {steps}")
+}
+
+/// `rseq_quiet`, which waits for no workers.
+fn quiet_differs<R: Print>(alloc: Global, rt: &R, run: &Run) -> io::Result<bool> {
+    let mut shelf = run.shelf(alloc)?;
+    let mut sink = run.sink(alloc)?;
+    let status = rseq_quiet(alloc, run.words, &mut shelf, &mut sink);
+    quiet_outcome_differs(rt, run, "rseq_quiet", status, sink.held())
+}
+
+/// Whether the outcome of a call without workers differs. Where the words are a `run`, it answers nothing and
+/// writes nothing.
+fn quiet_outcome_differs<R: Print>(
+    rt: &R,
+    run: &Run,
+    call: &str,
+    status: Option<u8>,
+    text: &[u8],
+) -> io::Result<bool> {
+    match (status, run.asked.by_workers) {
+        (None, true) => lines_differ(rt, run, call, text, &[]),
+        (Some(status), false) => outcome_differs(rt, run, call, status, text),
+        _ => tell(
+            rt,
+            run,
+            call,
+            "it is to answer exactly where no workers are asked for",
+        ),
+    }
+}
+
+/// `sure_main`, over devices that never fail.
+fn sure_main_differs<R: Print + Threads + Wait + Sync>(
+    alloc: Global,
+    rt: &R,
+    run: &Run,
+) -> io::Result<bool> {
+    let mut shelf = run.sure_shelf(alloc)?;
+    let mut sink = sure_sink(alloc)?;
+    let status = sure_main(alloc, rt, run.words, &mut shelf, &mut sink, &OpenGate);
+    outcome_differs(rt, run, "sure_main", status, sink.held())
+}
+
+/// `sure_quiet`, over the same devices.
+fn sure_quiet_differs<R: Print>(alloc: Global, rt: &R, run: &Run) -> io::Result<bool> {
+    let mut shelf = run.sure_shelf(alloc)?;
+    let mut sink = sure_sink(alloc)?;
+    let status = sure_quiet(alloc, run.words, &mut shelf, &mut sink);
+    quiet_outcome_differs(rt, run, "sure_quiet", status, sink.held())
 }

@@ -1,36 +1,31 @@
 //! `worked_runs`: makes the runs that its folder data/ tells of, and says which of them come to something
-//! else than stands there.
+//! else than stands there. Behind them it prints what is said of reasons that no run gives.
 //!
 //! A row is a folder GROUP/NAME: command lines, the files that they name, and the status and the text that
-//! are due.
+//! are due. The file data/rows lists the rows.
 #![tactic(auto)]
 
 mod calls;
-mod checks;
-mod differences;
-mod dues;
+mod due;
+mod lines;
 mod meeting;
-mod printed;
-mod reading;
 mod reasons;
 mod rows;
+mod runs;
 
-use anyhow::{Context, Result};
-use calls::words_of;
-use checks::{difference_of, meeting_difference};
-use differences::Difference;
-use reading::{folders_in, read_row};
-use reasons::differing_texts;
-use rows::{CommandLine, Row, Run};
+use calls::differs;
+use reasons::say_reasons;
+use rows::{Row, read_file};
+use runs::{Run, asked_of, words_of};
+use std::alloc::Global;
+use std::io::{self, ErrorKind};
 use std::process::ExitCode;
 use std::rt::Files;
+use std::str;
 use std::sync::Wait;
 use std::thread::Threads;
 
-/// The folder of the groups: the one that the program runs in.
-const HERE: &str = ".";
-
-/// How many runs were made, and how many of them differ from what is due.
+/// How many runs were made, and how many of them differ from what is due, or have a row that isn't whole.
 #[derive(Drop)]
 struct Tally {
     runs: u64,
@@ -38,13 +33,11 @@ struct Tally {
 }
 
 /// Ends with status 0 only where no run differs.
-fn main(rt: HostRuntime) -> Result<ExitCode> {
-    let mut tally = walk(&rt)?;
-    for text in differing_texts(rt.alloc())?.iter() {
-        tally.differ = tally.differ.saturating_add(1);
-        println!(rt; "this text differs: {text:?}")?;
-    }
+fn main(rt: HostRuntime) -> io::Result<ExitCode> {
+    let mut tally = Tally { runs: 0, differ: 0 };
+    check_rows(rt.alloc(), &rt, &mut tally)?;
     println!(rt; "{} runs, {} differ", tally.runs, tally.differ)?;
+    say_reasons(rt.alloc(), &rt)?;
     if tally.differ == 0 {
         Ok(ExitCode::SUCCESS)
     } else {
@@ -52,76 +45,86 @@ fn main(rt: HostRuntime) -> Result<ExitCode> {
     }
 }
 
-/// Makes the runs of all groups, and prints a line for each that differs.
-fn walk<R: Files + AllocGlobal + Print + Threads + Wait + Sync + Clone + Drop>(
+/// Makes the runs of all rows that are listed.
+fn check_rows<R: Files + AllocGlobal + Print + Threads + Wait + Sync>(
+    alloc: Global,
     rt: &R,
-) -> Result<Tally> {
-    let mut tally = Tally { runs: 0, differ: 0 };
-    for group in folders_in(rt, HERE)?.iter() {
-        check_group(rt, group.as_str(), &mut tally)?;
-    }
-    Ok(tally)
-}
-
-/// Makes the runs of the rows of one group.
-fn check_group<R: Files + AllocGlobal + Print + Threads + Wait + Sync + Clone + Drop>(
-    rt: &R,
-    group: &str,
     tally: &mut Tally,
-) -> Result<()> {
-    for name in folders_in(rt, group)?.iter() {
-        let row = read_row(rt, group, name.as_str()).context(format_args!("{group}/{name}"))?;
-        check_row(rt, &row, tally)?;
+) -> io::Result<()> {
+    let Some(list) = read_file(rt, ".", "rows")? else {
+        return Err(ErrorKind::NotFound.into());
+    };
+    let Ok(names) = str::from_utf8(&list) else {
+        return Err(ErrorKind::InvalidData.into());
+    };
+    for name in names.lines() {
+        let row = Row::read(rt, name)?;
+        check_row(alloc, rt, &row, tally)?;
     }
     Ok(())
 }
 
-/// Makes the runs of one row.
-fn check_row<R: AllocGlobal + Print + Threads + Wait + Sync>(
+/// Makes the runs of one row. One without a file of command lines differs.
+fn check_row<R: Print + Threads + Wait + Sync>(
+    alloc: Global,
     rt: &R,
     row: &Row,
     tally: &mut Tally,
-) -> Result<()> {
-    for line in row.lines.iter() {
-        check_line(rt, row, line, tally)?;
+) -> io::Result<()> {
+    let Some(lines) = row.text("words") else {
+        return tell_bad_row(rt, row, "words", tally);
+    };
+    for (place, line) in lines.lines().enumerate() {
+        check_line(alloc, rt, row, place, line, tally)?;
     }
     Ok(())
 }
 
 /// Makes the runs of one command line: one for each choice of calls of its devices that fail.
-fn check_line<R: AllocGlobal + Print + Threads + Wait + Sync>(
+fn check_line<'a, R: Print + Threads + Wait + Sync>(
+    alloc: Global,
     rt: &R,
-    row: &Row,
-    line: &CommandLine,
+    row: &'a Row,
+    place: usize,
+    line: &'a str,
     tally: &mut Tally,
-) -> Result<()> {
-    let words = words_of(rt.alloc(), line.line.as_str())?;
-    for failing in row.failing.iter() {
+) -> io::Result<()> {
+    let Some(status) = row.status() else {
+        return tell_bad_row(rt, row, "status", tally);
+    };
+    let Some(choices) = row.choices() else {
+        return tell_bad_row(rt, row, "fails", tally);
+    };
+    let words = words_of(alloc, line)?;
+    let asked = asked_of(alloc, &words)?;
+    for failing in choices.lines() {
         let run = Run {
+            row,
+            line,
+            place,
             words: &words,
-            files: &row.files,
+            asked,
             failing,
+            status,
         };
         tally.runs = tally.runs.saturating_add(1);
-        if let Some(difference) = check_run(rt, row, line, &run)? {
-            tally.differ = tally.differ.saturating_add(1);
-            println!(rt; "{}: {}{failing}: {difference}", row.name, line.line)?;
+        match differs(alloc, rt, &run) {
+            Ok(true) => tally.differ = tally.differ.saturating_add(1),
+            Ok(false) => {}
+            Err(error) if error.kind() == ErrorKind::InvalidData => {
+                tell_bad_row(rt, row, "fails", tally)?;
+            }
+            Err(error) => return Err(error),
         }
     }
     Ok(())
 }
 
-/// The first difference of a run from what its row says.
-fn check_run<R: AllocGlobal + Threads + Wait + Sync>(
-    rt: &R,
-    row: &Row,
-    line: &CommandLine,
-    run: &Run,
-) -> Result<Option<Difference>> {
-    if row.meets
-        && let Some(difference) = meeting_difference(rt.alloc(), rt, run, &row.due)?
-    {
-        return Ok(Some(difference));
-    }
-    Ok(difference_of(rt.alloc(), rt, run, &row.due, &line.said)?)
+/// Prints that a file of a row isn't as it should be, and counts this.
+fn tell_bad_row<R: Print>(rt: &R, row: &Row, file: &str, tally: &mut Tally) -> io::Result<()> {
+    tally.differ = tally.differ.saturating_add(1);
+    println!(rt;
+        "{}: its file {file} isn't there or isn't as it should be",
+        row.name
+    )
 }

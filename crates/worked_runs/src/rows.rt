@@ -1,73 +1,104 @@
-//! What a row is: runs, and what is due of them.
+//! What a row is: the files of its folder.
 
-use crate::dues::{Due, DueSaid};
-use std::alloc::Global;
-use std::fmt;
+use crate::lines::number_line;
+use std::alloc::{AllocError, Global};
+use std::io::{self, ErrorKind};
+use std::rt::Files;
+use std::{fs, str};
 
-/// A file that the command lines of a row may name.
+/// The files that a row may have: the program `F` and the script `S`, which its command lines may name; the
+/// command lines, and the calls of the devices that fail; the status and the text that are due; what standard
+/// error is to say; and whether two workers are to overlap. examples/README.md says what each holds.
+const NAMES: [&str; 12] = [
+    "F", "S", "words", "fails", "status", "stdout", "any-hart", "begins", "ends", "stderr", "told",
+    "meets",
+];
+
+/// A file of a row.
 #[derive(Drop)]
-pub(crate) struct NamedFile {
-    pub(crate) name: String,
-    pub(crate) bytes: Vec<u8>,
+struct RowFile {
+    name: &'static str,
+    bytes: Vec<u8>,
 }
 
-/// Which calls of the shelf and of the sink fail, each counted from 1.
-#[derive(Drop)]
-pub(crate) struct Failing {
-    pub(crate) shelf: Vec<u64>,
-    pub(crate) sink: Vec<u64>,
-}
-
-impl Failing {
-    /// No call fails.
-    pub(crate) fn none(alloc: Global) -> Failing {
-        Failing {
-            shelf: Vec::new(alloc),
-            sink: Vec::new(alloc),
-        }
-    }
-
-    /// Whether no call fails.
-    pub(crate) fn is_none(&self) -> bool {
-        self.shelf.is_empty() && self.sink.is_empty()
-    }
-}
-
-/// Nothing where no call fails.
-impl fmt::Display for Failing {
-    fn fmt<W: fmt::Write>(&self, f: &mut fmt::Formatter<W>) -> fmt::Result {
-        if self.is_none() {
-            return Ok(());
-        }
-        let shelf = &self.shelf;
-        let sink = &self.sink;
-        write!(f, " (shelf {shelf:?}, sink {sink:?})")
-    }
-}
-
-/// A command line, and what standard error is to say of it.
-#[derive(Drop)]
-pub(crate) struct CommandLine {
-    pub(crate) line: String,
-    pub(crate) said: DueSaid,
-}
-
-/// A row: each of its command lines is a run with each of its choices of calls that fail.
+/// A row: its name, and the files of its folder.
 #[derive(Drop)]
 pub(crate) struct Row {
+    /// GROUP/NAME.
     pub(crate) name: String,
-    pub(crate) lines: Vec<CommandLine>,
-    pub(crate) failing: Vec<Failing>,
-    pub(crate) files: Vec<NamedFile>,
-    pub(crate) due: Due,
-    /// Whether the workers of harts 0 and 1 are to overlap.
-    pub(crate) meets: bool,
+    files: Vec<RowFile>,
 }
 
-/// A run: the words of its command line, the files that they name, and which calls of its devices fail.
-#[derive(Clone, Copy, Drop)]
-pub(crate) struct Run<'a> {
-    pub(crate) words: &'a [String],
-    pub(crate) files: &'a [NamedFile],
-    pub(crate) failing: &'a Failing,
+impl Row {
+    /// The row of this name, with those of its files that are there.
+    pub(crate) fn read<R: Files + AllocGlobal>(rt: &R, name: &str) -> io::Result<Row> {
+        let mut files = Vec::new(rt.alloc());
+        for file in NAMES {
+            if let Some(bytes) = read_file(rt, name, file)? {
+                files.push(RowFile { name: file, bytes })?;
+            }
+        }
+        Ok(Row {
+            name: String::from_str(rt.alloc(), name)?,
+            files,
+        })
+    }
+
+    /// The bytes of a file, if it is there.
+    pub(crate) fn file(&self, name: &str) -> Option<&[u8]> {
+        for file in &self.files {
+            if file.name == name {
+                return Some(&file.bytes);
+            }
+        }
+        None
+    }
+
+    /// The text of a file; none where it isn't there or isn't UTF-8.
+    pub(crate) fn text(&self, name: &str) -> Option<&str> {
+        str::from_utf8(self.file(name)?).ok()
+    }
+
+    /// The status that is due.
+    pub(crate) fn status(&self) -> Option<u64> {
+        let (status, _) = number_line(self.file("status")?, b"")?;
+        Some(status)
+    }
+
+    /// The choices of calls that fail, one a line: where there is no such file, one of no call.
+    pub(crate) fn choices(&self) -> Option<&str> {
+        match self.file("fails") {
+            Some(_) => self.text("fails"),
+            None => Some("\n"),
+        }
+    }
+}
+
+/// The bytes of a file in a folder, if it is there.
+pub(crate) fn read_file<R: Files + AllocGlobal>(
+    rt: &R,
+    folder: &str,
+    file: &str,
+) -> io::Result<Option<Vec<u8>>> {
+    let path = format!(in rt.alloc(); "{folder}/{file}")?;
+    match fs::read(rt, path.as_str()) {
+        Ok(bytes) => Ok(Some(bytes)),
+        Err(error) if error.kind() == ErrorKind::NotFound => Ok(None),
+        Err(error) => Err(error),
+    }
+}
+
+/// The files that the words of a command line may name, as a shelf takes them.
+pub(crate) fn shelf_files(
+    alloc: Global,
+    program: Option<&[u8]>,
+    script: Option<&[u8]>,
+) -> Result<Vec<(String, Vec<u8>)>, AllocError> {
+    let mut files = Vec::new(alloc);
+    for (name, bytes) in [("F", program), ("S", script)] {
+        if let Some(bytes) = bytes {
+            files.push((String::from_str(alloc, name)?, bytes.to_vec(alloc)?))?;
+        }
+    }
+    Ok(files)
 }
