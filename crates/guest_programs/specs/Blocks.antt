@@ -1,0 +1,39 @@
+-- Blocks that stand in a program (own).
+use Rattle.std.specs.Prelude.{ℕ, ◌≡◌, ◌≢◌, ◌+◌, ◌%◌, ◌^◌, ◌<◌, List, [], ◌∷◌, replicate, slice_get, slice_set}
+use Rattle.std.specs.Prelude.{Option, Some, None, if◌then◌else◌}
+use Rattle.elf_load.specs.declared.image.ImagePage.{ImagePage}
+use Rattle.rv_inst.specs.declared.instruction.Inst.{Inst}
+use Rattle.alone_laws.specs.Spans.{code_of}
+use Rattle.percpu_lib.specs.Lines.{instructions, is_free}
+use Rattle.percpu_lib.specs.Words.{AreHeld, AreSlots}
+use Rattle.percpu_lib.specs.declared.lines.Line.{Line}
+use Rattle.percpu_lib.specs.declared.lines.Line.TheVariants as line
+use Rattle.percpu_lib.specs.declared.slots.Slots.{Slots}
+
+-- a label is bound to the word at an index, if it is free
+abbrev pub bind : List (Option ℕ) → ℕ → ℕ → List (Option ℕ)
+bind labels label index = if is_free (slice_get labels label) then slice_set labels label (Some index) else labels
+
+-- labels behind lines whose first word has an index
+abbrev pub bound_by : List (Option ℕ) → ℕ → List Line → List (Option ℕ)
+bound_by labels index [] = labels
+bound_by labels index (line.Label l ∷ rest) = bound_by (bind labels l index) index rest
+bound_by labels index (line.Plain i ∷ rest) = bound_by labels (index + 1) rest
+bound_by labels index (line.Branch i l ∷ rest) = bound_by labels (index + 1) rest
+bound_by labels index (line.Data w ∷ rest) = bound_by labels (index + 1) rest
+
+-- the instructions of a block that stands alone: of its lines with labels from 0 on, of which it has eight
+abbrev pub block_alone : List Line → List (Option Inst)
+block_alone lines = instructions (bound_by (replicate 8 None) 0 lines) 0 lines
+
+-- a program holds a block of some lines: for some registers and some descriptor, word k of the block, from some
+-- address on, is its instruction k
+pub record HoldsBlock (block : Slots → ℕ → List Line) (pages : List ImagePage) : Type 0 where
+  pub slots : Slots
+  pub at : ℕ
+  pub are_slots : AreSlots slots
+  pub some_table : slots.table ≢ 0
+  pub low_table : slots.table < 0x7FFFF800
+  pub aligned : at % 4 ≡ 0
+  pub low : at < 2 ^ 37
+  pub stands : AreHeld (code_of pages) at (block_alone (block slots 0))

@@ -1,0 +1,70 @@
+-- The lines of steps (own).
+use Rattle.std.specs.Prelude.{ℕ, ◌&&◌, ◌++◌, Bool, true, List, [], ◌∷◌, length, nat_lt}
+use Rattle.std.specs.List.{flat_map, list_all}
+use Rattle.guest_names.specs.declared.names.Name.{Name}
+use Rattle.guest_names.specs.declared.names.Name.TheVariants.{Counter, List as Lists, Pool, Dekker, Signals, Migrate}
+use Rattle.percpu_lib.specs.Adds.{add_lines}
+use Rattle.percpu_lib.specs.Allocs.{alloc_lines}
+use Rattle.percpu_lib.specs.Frees.{free_lines}
+use Rattle.percpu_lib.specs.Pops.{pop_lines}
+use Rattle.percpu_lib.specs.Pushes.{push_lines}
+use Rattle.percpu_lib.specs.declared.lines.Line.{Line}
+use Rattle.percpu_lib.specs.declared.lines.Line.TheVariants as line
+use Rattle.percpu_lib.specs.declared.slots.Slots.{Slots}
+use Rattle.rv_asm.specs.Assembly.{is_aimable}
+use Rattle.rv_asm.specs.Fields.{fits_fields}
+use Rattle.guest_programs.specs.declared.counter.TheConstants.{COUNTER}
+use Rattle.guest_programs.specs.declared.dekker.TheConstants.{DEKKER}
+use Rattle.guest_programs.specs.declared.list.TheConstants.{LIST}
+use Rattle.guest_programs.specs.declared.migrate.TheConstants.{MIGRATE}
+use Rattle.guest_programs.specs.declared.pool.TheConstants.{POOL}
+use Rattle.guest_programs.specs.declared.shared.TheConstants.{AREA, CELLS_AT, VALUE, BEGINNING, ENDING, PINNING, PRINTING, STARTING}
+use Rattle.guest_programs.specs.declared.signals.TheConstants.{SIGNALS}
+use Rattle.guest_programs.specs.declared.steps.BlockKind.{BlockKind}
+use Rattle.guest_programs.specs.declared.steps.BlockKind.TheVariants as kind
+use Rattle.guest_programs.specs.declared.steps.Step.{Step}
+use Rattle.guest_programs.specs.declared.steps.Step.TheVariants as step
+
+-- what the blocks of guests work with
+abbrev pub slots_of : ℕ → Slots
+slots_of table = record { area = AREA; cells = CELLS_AT; value = VALUE; table = table }
+
+-- the lines of a block, with its labels from a number on
+abbrev pub lines_of_block : BlockKind → Slots → ℕ → List Line
+lines_of_block kind.Add = add_lines
+lines_of_block kind.Push = push_lines
+lines_of_block kind.Pop = pop_lines
+lines_of_block kind.Alloc = alloc_lines
+lines_of_block kind.Free = free_lines
+
+-- the lines of a step, and of steps
+abbrev pub lines_of_step : Step → List Line
+lines_of_step (step.Of l) = l ∷ []
+lines_of_step (step.Block k base table) = lines_of_block k (slots_of table) base
+
+abbrev pub lines_of : List Step → List Line
+lines_of steps = flat_map lines_of_step steps
+
+-- the steps that only a guest has, and all its steps
+abbrev pub own_steps : Name → List Step
+own_steps Counter = COUNTER
+own_steps Lists = LIST
+own_steps Pool = POOL
+own_steps Dekker = DEKKER
+own_steps Signals = SIGNALS
+own_steps Migrate = MIGRATE
+
+-- a step can be appended where there are so many labels: its instruction has a word, its label is there, and the
+-- descriptor of its block stands low enough
+abbrev pub is_line_good : ℕ → Line → Bool
+is_line_good labels (line.Label l) = true
+is_line_good labels (line.Plain i) = fits_fields i
+is_line_good labels (line.Branch i l) = is_aimable i && nat_lt l labels
+is_line_good labels (line.Data w) = true
+
+abbrev pub is_step_good : ℕ → Step → Bool
+is_step_good labels (step.Of l) = is_line_good labels l
+is_step_good labels (step.Block k base table) = nat_lt table 0x7FFFF800
+
+abbrev pub are_good : ℕ → List Step → Bool
+are_good labels steps = list_all (is_step_good labels) steps

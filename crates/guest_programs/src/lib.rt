@@ -1,0 +1,22 @@
+//! Guests: programs that work on data of their processors by restartable sequences (rseq(2)), that try what a
+//! barrier promises (membarrier(2)), or that go from processor to processor, each made for a size.
+//!
+//! The code of a guest is a list of steps. The size stands in memory, so the code is the same for all sizes.
+#![tactic(auto)]
+
+mod code;
+mod counter;
+mod dekker;
+mod fault;
+mod layout;
+mod list;
+mod making;
+mod migrate;
+mod pool;
+mod shared;
+mod signals;
+mod steps;
+
+pub use fault::GuestFault;
+pub use guest_names::Name;
+pub use making::make;
