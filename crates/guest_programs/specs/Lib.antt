@@ -1,3 +1,4 @@
 pub mod Blocks
 pub mod Guests
+pub mod Programs
 pub mod Steps

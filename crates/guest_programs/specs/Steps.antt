@@ -45,7 +45,7 @@ lines_of_step (step.Block k base table) = lines_of_block k (slots_of table) base
 abbrev pub lines_of : List Step → List Line
 lines_of steps = flat_map lines_of_step steps
 
--- the steps that only a guest has, and all its steps
+-- the steps that only a guest has
 abbrev pub own_steps : Name → List Step
 own_steps Counter = COUNTER
 own_steps Lists = LIST
@@ -53,6 +53,12 @@ own_steps Pool = POOL
 own_steps Dekker = DEKKER
 own_steps Signals = SIGNALS
 own_steps Migrate = MIGRATE
+
+-- all lines of a guest: those that all guests have, and its own
+abbrev pub guest_lines : Name → List Line
+guest_lines name =
+    lines_of BEGINNING
+    ++ (lines_of STARTING ++ (lines_of ENDING ++ (lines_of PRINTING ++ (lines_of PINNING ++ lines_of (own_steps name)))))
 
 -- a step can be appended where there are so many labels: its instruction has a word, its label is there, and the
 -- descriptor of its block stands low enough

@@ -3,16 +3,19 @@
 /// The first word of the code.
 pub(crate) const CODE: u64 = 0x10000;
 
+/// The bytes of the code in memory.
+pub(crate) const CODE_SIZE: u64 = 0x1000;
+
 /// The first byte of the data: the size.
 pub(crate) const DATA: i64 = 0x20000;
 
 /// Where a text that is written ends, from the first byte of the data on.
-pub(crate) const TEXT_END: i64 = 0x60;
+pub(crate) const TEXT_END: i64 = 0xa0;
 
 /// The descriptors of the blocks.
-pub(crate) const FIRST_TABLE: u64 = 0x20080;
+pub(crate) const FIRST_TABLE: u64 = 0x20020;
 
-pub(crate) const SECOND_TABLE: u64 = 0x200a0;
+pub(crate) const SECOND_TABLE: u64 = 0x20040;
 
 /// The action of a signal, from the first byte of the data on.
 pub(crate) const ACTION: i64 = 0xc0;

@@ -4,14 +4,16 @@
 //! The code of a guest is a list of steps. The size stands in memory, so the code is the same for all sizes.
 #![tactic(auto)]
 
-mod code;
 mod counter;
+mod data;
 mod dekker;
+mod emitting;
 mod fault;
 mod layout;
 mod list;
 mod making;
 mod migrate;
+mod parts;
 mod pool;
 mod shared;
 mod signals;

@@ -1,0 +1,4 @@
+pub mod Emitted
+pub mod Fetched
+pub mod Held
+pub mod Pages

@@ -1,0 +1,104 @@
+//! Appends the steps of a guest to an assembler.
+
+ghost use Rattle.std.specs.Prelude.{◌≡◌, ◌<◌, ◌++◌, IfOk, OnOk, length, true};
+ghost use Rattle.rv_asm.specs.Assembly.{empty};
+ghost use Rattle.percpu_lib.specs.Lines.{AreEmitted};
+ghost use Rattle.guest_programs.specs.Steps.{are_good, guest_lines, is_step_good, lines_of, lines_of_block, lines_of_step, own_steps, slots_of};
+
+use crate::counter::COUNTER;
+use crate::dekker::DEKKER;
+use crate::layout::CODE;
+use crate::list::LIST;
+use crate::migrate::MIGRATE;
+use crate::pool::POOL;
+use crate::shared::{AREA, BEGINNING, CELLS_AT, ENDING, LABELS, PINNING, PRINTING, STARTING, VALUE};
+use crate::signals::SIGNALS;
+use crate::steps::{BlockKind, Step};
+use guest_names::Name;
+use percpu_lib::{EmitFault, Slots, emit_add, emit_alloc, emit_free, emit_lines, emit_pop, emit_push};
+use rv_asm::Asm;
+use std::alloc::Global;
+
+/// The steps that only a guest has.
+fn own_steps(name: Name) -> &'static [Step]
+    ensures steps { result.now ≡ own_steps name }
+    ensures good { are_good LABELS result.now ≡ true }
+{
+    match name {
+        Name::Counter => &COUNTER,
+        Name::List => &LIST,
+        Name::Pool => &POOL,
+        Name::Dekker => &DEKKER,
+        Name::Signals => &SIGNALS,
+        Name::Migrate => &MIGRATE,
+    }
+}
+
+/// Appends a block.
+#[tactic(auto, using(crate::proofs::Emitted::slots_are))]
+fn emit_block(
+    alloc: Global,
+    asm: &mut Asm,
+    kind: BlockKind,
+    base: u32,
+    table: u64,
+) -> Result<(), EmitFault>
+    requires { table < 0x7FFFF800 }
+    ensures { OnOk result (AreEmitted (lines_of_block kind (slots_of table) base) asm.old asm.new) }
+{
+    let slots = Slots {
+        area: AREA,
+        cells: CELLS_AT,
+        value: VALUE,
+        table,
+    };
+    match kind {
+        BlockKind::Add => emit_add(alloc, asm, base, &slots),
+        BlockKind::Push => emit_push(alloc, asm, base, &slots),
+        BlockKind::Pop => emit_pop(alloc, asm, base, &slots),
+        BlockKind::Alloc => emit_alloc(alloc, asm, base, &slots),
+        BlockKind::Free => emit_free(alloc, asm, base, &slots),
+    }
+}
+
+/// Appends a step.
+fn emit_step(alloc: Global, asm: &mut Asm, step: Step) -> Result<(), EmitFault>
+    requires labels { length asm.old.labels ≡ LABELS }
+    requires good { is_step_good LABELS step ≡ true }
+    ensures { OnOk result (AreEmitted (lines_of_step step) asm.old asm.new) }
+{
+    match step {
+        Step::Of(line) => {
+            emit_lines(asm, &[line])?;
+            Ok(())
+        }
+        Step::Block(kind, base, table) => emit_block(alloc, asm, kind, base, table),
+    }
+}
+
+/// Appends steps.
+fn emit_steps(alloc: Global, asm: &mut Asm, steps: &[Step]) -> Result<(), EmitFault>
+    requires labels { length asm.old.labels ≡ LABELS }
+    requires good { are_good LABELS steps.now ≡ true }
+    ensures emitted { OnOk result (AreEmitted (lines_of steps.now) asm.old asm.new) }
+    ensures labels { OnOk result (length asm.new.labels ≡ LABELS) }
+{
+    for step in steps {
+        emit_step(alloc, asm, *step)?;
+    }
+    Ok(())
+}
+
+/// The assembler of a guest.
+pub(crate) fn assembler(alloc: Global, name: Name) -> Result<Asm, EmitFault>
+    ensures { IfOk result (λ asm. AreEmitted (guest_lines name) (empty CODE LABELS) asm) }
+{
+    let mut asm = Asm::new(alloc, CODE, LABELS)?;
+    emit_steps(alloc, &mut asm, &BEGINNING)?;
+    emit_steps(alloc, &mut asm, &STARTING)?;
+    emit_steps(alloc, &mut asm, &ENDING)?;
+    emit_steps(alloc, &mut asm, &PRINTING)?;
+    emit_steps(alloc, &mut asm, &PINNING)?;
+    emit_steps(alloc, &mut asm, own_steps(name))?;
+    Ok(asm)
+}
