@@ -1,4 +1,6 @@
+pub mod Blocks
 pub mod Emitted
 pub mod Fetched
+pub mod Files
 pub mod Held
 pub mod Pages

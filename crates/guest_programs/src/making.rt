@@ -1,6 +1,6 @@
 //! Makes a guest.
 
-ghost use Rattle.std.specs.Prelude.{◌≡◌, false, Err, IfOk, IfErr};
+ghost use Rattle.std.specs.Prelude.{◌≡◌, ◌<◌, All, false, Err, IfOk, IfErr};
 ghost use Rattle.guest_names.specs.Guests.{is_size};
 ghost use Rattle.guest_programs.specs.Guests.{IsFaultOf, IsGuestFile};
 
@@ -11,6 +11,11 @@ use crate::parts::parts_of;
 use elf_make::write_elf;
 use guest_names::Name;
 use std::alloc::Global;
+
+/// What was written are bytes.
+fn shows_bytes(bytes: &[u8])
+    ensures { All (λ b. b < 256) bytes.now }
+{}
 
 /// Makes a guest for a size: the bytes of an ELF file.
 pub fn make(alloc: Global, name: Name, n: u64) -> Result<Vec<u8>, GuestFault>
@@ -32,5 +37,6 @@ pub fn make(alloc: Global, name: Name, n: u64) -> Result<Vec<u8>, GuestFault>
     let Ok(file) = write_elf(alloc, &parts) else {
         return Err(GuestFault::NoMemory);
     };
+    shows_bytes(&file);
     Ok(file)
 }

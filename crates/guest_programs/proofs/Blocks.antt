@@ -1,0 +1,132 @@
+-- The blocks of each guest stand in its code.
+use Rattle.std.proofs.Common.{◌≡◌, ◌≢◌, ℕ, zero, suc, ◌+◌, ◌*◌, ◌<◌, ◌≤◌, ◌^◌, ◌%◌, List, [], ◌∷◌, ◌++◌, length, replicate, slice_get}
+use Rattle.std.proofs.Common.{refl, sym, ap, ◌∙◌, arith, Option, Some, None, take, drop, length-append}
+use Rattle.elf_load.specs.declared.image.ImagePage.{ImagePage}
+use Rattle.rv_asm.specs.Assembly.{AreAssembled, Assembly, empty}
+use Rattle.rv_asm.specs.declared.item.Item.{Item}
+use Rattle.rv_asm.specs.declared.item.Item.TheVariants as item
+use Rattle.rv_inst.specs.declared.instruction.Inst.{Inst}
+use Rattle.alone_laws.specs.Spans.{code_of}
+use Rattle.block_model.specs.Instruction.{fetched, instruction_of}
+use Rattle.percpu_lib.specs.Adds.{add_lines}
+use Rattle.percpu_lib.specs.Allocs.{alloc_lines}
+use Rattle.percpu_lib.specs.Frees.{free_lines}
+use Rattle.percpu_lib.specs.Lines.{AreEmitted, IsEmitted, instructions, with_item, with_label}
+use Rattle.percpu_lib.specs.Pops.{pop_lines}
+use Rattle.percpu_lib.specs.Pushes.{push_lines}
+use Rattle.percpu_lib.specs.declared.lines.Line.{Line}
+use Rattle.percpu_lib.specs.declared.lines.Line.TheVariants as line
+use Rattle.percpu_lib.specs.declared.slots.Slots.{Slots}
+use Rattle.percpu_lib.proofs.HeldWords.{labelled_items}
+use Rattle.guest_names.specs.declared.names.Name.{Name}
+use Rattle.guest_names.specs.declared.names.Name.TheVariants.{Counter, List as Lists, Pool, Dekker, Signals, Migrate}
+use Rattle.guest_programs.specs.Blocks.{HoldsBlock, block_alone, bound_by}
+use Rattle.guest_programs.specs.Guests.{HoldsBlocks}
+use Rattle.guest_programs.specs.Steps.{guest_lines, slots_of}
+use Rattle.guest_programs.specs.declared.layout.TheConstants.{CODE, FIRST_TABLE, SECOND_TABLE}
+use Rattle.guest_programs.specs.declared.shared.TheConstants.{LABELS}
+use Rattle.guest_programs.proofs.Emitted.{slots_are}
+use Rattle.guest_programs.proofs.Held.{IsWordAt, labels_bound, within, word_at_line}
+
+-- the labels of a guest, and its instructions
+abbrev pub guest_labels : Name → List (Option ℕ)
+guest_labels name = bound_by (replicate LABELS None) 0 (guest_lines name)
+
+abbrev pub guest_instructions : Name → List (Option Inst)
+guest_instructions name = instructions (guest_labels name) 0 (guest_lines name)
+
+-- instructions stand from 0x10000 on
+abbrev pub Stand : List ImagePage → List (Option Inst) → Type 0
+Stand pages held = (k : ℕ) (i : Inst) → slice_get held k ≡ Some (Some i) → code_of pages (0x10000 + 4 * k) ≡ Some i
+
+-- a block from word n on
+holds_block : (block : Slots → ℕ → List Line) (table n count : ℕ) (pages : List ImagePage) (held : List (Option Inst))
+    → table < 0x7FFFF800 → table ≢ 0 → n < 1024 → Stand pages held
+    → block_alone (block (slots_of table) 0) ≡ take count (drop n held) → HoldsBlock block pages
+holds_block block table n count pages held low some few stand is = record {
+  slots = slots_of table;
+  at = 0x10000 + 4 * n;
+  are_slots = slots_are table;
+  some_table = some;
+  low_table = low;
+  aligned = omega arith;
+  low = omega arith;
+  stands = record {
+    holds = λ k i at.
+        let place : 0x10000 + 4 * n + 4 * k ≡ 0x10000 + 4 * (n + k) = omega arith in
+        ap (code_of pages) place
+        ∙ stand (n + k) i (within held n count k (Some i) (ap (λ xs. slice_get xs k) (sym is) ∙ at));
+  };
+}
+
+pub holds : (name : Name) (pages : List ImagePage) → Stand pages (guest_instructions name) → HoldsBlocks name pages
+holds Counter pages stand =
+    holds_block add_lines FIRST_TABLE 91 14 pages (guest_instructions Counter) (omega arith) (λ e. omega arith) (omega arith)
+    stand refl
+holds Lists pages stand = (
+  holds_block push_lines FIRST_TABLE 121 14 pages (guest_instructions Lists) (omega arith) (λ e. omega arith)
+  (omega arith) stand refl,
+  holds_block pop_lines SECOND_TABLE 92 15 pages (guest_instructions Lists) (omega arith) (λ e. omega arith)
+  (omega arith) stand refl,
+)
+holds Pool pages stand = (
+  holds_block alloc_lines FIRST_TABLE 107 19 pages (guest_instructions Pool) (omega arith) (λ e. omega arith)
+  (omega arith) stand refl,
+  holds_block free_lines SECOND_TABLE 127 22 pages (guest_instructions Pool) (omega arith) (λ e. omega arith)
+  (omega arith) stand refl,
+)
+holds Dekker pages stand = tt
+holds Signals pages stand =
+    holds_block add_lines FIRST_TABLE 107 14 pages (guest_instructions Signals) (omega arith) (λ e. omega arith) (omega arith)
+    stand refl
+holds Migrate pages stand =
+    holds_block add_lines FIRST_TABLE 92 14 pages (guest_instructions Migrate) (omega arith) (λ e. omega arith) (omega arith)
+    stand refl
+
+-- finished code stands so where its words are fetched
+pub code_stands : (name : Name) (asm : Assembly) (bytes : List ℕ) (pages : List ImagePage)
+    → AreEmitted (guest_lines name) (empty CODE LABELS) asm → (code : AreAssembled asm.labels asm.items bytes)
+    → ((k w : ℕ) → slice_get code.words k ≡ Some w → fetched pages (0x10000 + 4 * k) ≡ Some w)
+    → Stand pages (guest_instructions name)
+code_stands name asm bytes pages emitted code fetch k i at =
+    let labels_are : asm.labels ≡ guest_labels name = labels_bound (guest_lines name) (empty CODE LABELS) asm emitted.are in
+    let held : slice_get (instructions asm.labels 0 (guest_lines name)) k ≡ Some (Some i) =
+    ap (λ (ls : List (Option ℕ)). slice_get (instructions ls 0 (guest_lines name)) k) labels_are ∙ at in
+    let word : IsWordAt code.words k i = word_at_line (guest_lines name) (empty CODE LABELS) asm bytes k i refl emitted.are code held in
+    ap instruction_of (fetch k word.word word.there) ∙ word.is
+
+-- there are no more words than lines
+one_more : (a : Assembly) (x : Item) (n m : ℕ) → m ≤ length (a.items ++ x ∷ []) + n → m ≤ length a.items + suc n
+one_more a x n m is =
+    let longer : length (a.items ++ x ∷ []) ≡ length a.items + 1 = length-append a.items (x ∷ []) ∙ refl in
+    omega arith
+
+items_few : (xs : List Line) (a b : Assembly) → IsEmitted xs a b → length b.items ≤ length a.items + length xs
+items_few [] a b is =
+    let same = ap (λ (x : Assembly). length x.items) is in
+    omega arith
+items_few (line.Label n ∷ xs) a b is =
+    let rest = items_few xs (with_label a n) b is in
+    let same : length (with_label a n).items ≡ length a.items = ap (λ (ys : List Item). length ys) (labelled_items a n) in
+    omega arith
+items_few (line.Plain i ∷ xs) a b is =
+    one_more a (item.Word is.0) (length xs) (length b.items) (items_few xs (with_item a (item.Word is.0)) b is.2)
+items_few (line.Branch i n ∷ xs) a b is =
+    one_more a (item.Aimed i n) (length xs) (length b.items) (items_few xs (with_item a (item.Aimed i n)) b is)
+items_few (line.Data w ∷ xs) a b is =
+    one_more a (item.Word w) (length xs) (length b.items) (items_few xs (with_item a (item.Word w)) b is)
+
+few_lines : (name : Name) → length (guest_lines name) ≤ 1024
+few_lines Counter = omega arith
+few_lines Lists = omega arith
+few_lines Pool = omega arith
+few_lines Dekker = omega arith
+few_lines Signals = omega arith
+few_lines Migrate = omega arith
+
+pub few_words : (name : Name) (asm : Assembly) → AreEmitted (guest_lines name) (empty CODE LABELS) asm
+    → length asm.items ≤ 1024
+few_words name asm emitted =
+    let few = items_few (guest_lines name) (empty CODE LABELS) asm emitted.are in
+    let lines = few_lines name in
+    omega arith

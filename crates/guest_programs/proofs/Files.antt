@@ -1,0 +1,154 @@
+-- The file of a guest, from what its parts are.
+use Rattle.std.proofs.Common.{◌≡◌, ℕ, zero, suc, ◌+◌, ◌-◌, ◌*◌, ◌/◌, ◌%◌, ◌<◌, ◌≤◌, ◌^◌, List, [], ◌∷◌, ◌++◌, length, replicate, map}
+use Rattle.std.proofs.Common.{refl, sym, ap, subst, ◌∙◌, arith, Option, Some, None, cond, All, get_or, nat_lt, length-append, slice_get}
+use Rattle.std.proofs.lemmas.List.{length-replicate}
+use Rattle.std.specs.List.{flat_map}
+use Rattle.mach_types.specs.Bytes.{word_at}
+use Rattle.elf_load.specs.declared.fault.ElfFault.TheVariants.{TooLarge}
+use Rattle.elf_load.specs.declared.image.Image.{Image}
+use Rattle.elf_load.specs.declared.image.ImagePage.{ImagePage}
+use Rattle.elf_load.specs.declared.program_headers.ProgramHeader.{ProgramHeader}
+use Rattle.elf_load.specs.Faults.{first_fault, frames_needed}
+use Rattle.elf_load.specs.Images.{IsImage}
+use Rattle.elf_load.specs.Start.{image_byte, loaded_byte, page_of}
+use Rattle.elf_make.specs.Layout.{contents_from, contents_start, file_header, file_of, place_from, placed_from, table_entry}
+use Rattle.elf_make.specs.Parts.{ArePagesOf, IsImageOf, NeedsFrames, segment_of}
+use Rattle.elf_make.specs.Refusals.{segments_of}
+use Rattle.elf_make.specs.declared.parts.Part.{Part}
+use Rattle.elf_make.specs.declared.parts.Parts.{Parts}
+use Rattle.elf_make.proofs.Reading.{length-file_header, length-table_entry}
+use Rattle.rv_asm.specs.Assembly.{AreAssembled, Assembly, empty}
+use Rattle.percpu_lib.specs.Lines.{AreEmitted}
+use Rattle.guest_names.specs.declared.names.Name.{Name}
+use Rattle.guest_programs.specs.Guests.{HoldsBlocks, IsGuestFile}
+use Rattle.guest_programs.specs.Programs.{data_bytes}
+use Rattle.guest_programs.specs.Steps.{guest_lines}
+use Rattle.guest_programs.specs.declared.layout.TheConstants.{CODE}
+use Rattle.guest_programs.specs.declared.shared.TheConstants.{LABELS}
+use Rattle.guest_programs.proofs.Blocks.{code_stands, few_words, holds}
+use Rattle.guest_programs.proofs.Fetched.{AreCode, fetched_is, length_encoded}
+use Rattle.guest_programs.proofs.Pages.{code_byte_at, data_byte_at}
+
+-- ---- how long the file is
+
+place_near : (end at : ℕ) → place_from end at ≤ end + 4096
+place_near end at = omega arith
+
+padded_long : (k : ℕ) (bytes rest : List ℕ) → length (replicate k 0 ++ bytes ++ rest) ≡ k + length bytes + length rest
+padded_long k bytes rest =
+    length-append (replicate k 0 ++ bytes) rest
+    ∙ ap (λ m. m + length rest) (length-append (replicate k 0) bytes
+    ∙ ap (λ m. m + length bytes) (length-replicate {A = ℕ} k 0))
+
+bytes_behind : (end at : ℕ) (bytes rest : List ℕ)
+    → length (replicate (place_from end at - end) 0 ++ bytes ++ rest) ≤ 4096 + length bytes + length rest
+bytes_behind end at bytes rest =
+    let near = place_near end at in
+    let long = padded_long (place_from end at - end) bytes rest in
+    omega arith
+
+contents_short : (end : ℕ) (c d : Part)
+    → length (contents_from end (c ∷ d ∷ [])) ≤ 8192 + length c.bytes.items + length d.bytes.items
+contents_short end c d =
+    let next = place_from end c.at + length c.bytes.items in
+    let one = bytes_behind end c.at c.bytes.items (contents_from next (d ∷ [])) in
+    let two = bytes_behind next d.at d.bytes.items [] in
+    omega arith
+
+table_short : (g h : ProgramHeader) → length (flat_map table_entry (g ∷ h ∷ [])) ≡ 112
+table_short g h =
+    let one = length-append (table_entry g) (table_entry h ++ []) in
+    let two = length-append (table_entry h) [] in
+    let first = length-table_entry g in
+    let second = length-table_entry h in
+    omega arith
+
+file_short : (c d : Part) (parts : Parts) → parts.segments.items ≡ c ∷ d ∷ [] → length c.bytes.items ≤ 4096
+    → length d.bytes.items ≤ 4096 → length (file_of parts) ≤ 8388608
+unfolding file_of
+file_short c d parts segments first second =
+    subst (λ (ps : List Part). length (file_header parts.entry parts.flags (length ps) ++ flat_map table_entry (placed_from (contents_start ps) ps) ++ contents_from (contents_start ps) ps) ≤ 8388608)
+    (sym segments) short
+  where
+    two : List Part
+    two = c ∷ d ∷ []
+
+    short : length (file_header parts.entry parts.flags 2 ++ flat_map table_entry (placed_from (contents_start (c ∷ d ∷ [])) (c ∷ d ∷ [])) ++ contents_from (contents_start (c ∷ d ∷ [])) (c ∷ d ∷ [])) ≤ 8388608
+    short =
+        let head = file_header parts.entry parts.flags 2 in
+        let table = flat_map table_entry (placed_from (contents_start (c ∷ d ∷ [])) (c ∷ d ∷ [])) in
+        let rest = contents_from (contents_start (c ∷ d ∷ [])) (c ∷ d ∷ []) in
+        let one = length-append (head ++ table) rest in
+        let both = length-append head table in
+        let front : length head ≡ 64 = length-file_header parts.entry parts.flags 2 in
+        let middle : length table ≡ 112 = table_short _ _ in
+        let behind : length rest ≤ 8192 + length c.bytes.items + length d.bytes.items =
+        contents_short (contents_start (c ∷ d ∷ [])) c d in
+        omega arith
+
+-- ---- the size in memory
+
+eight_bytes : (n x0 x1 x2 x3 x4 x5 x6 x7 : ℕ) → n < 2 ^ 64 → x0 ≡ n % 256 → x1 ≡ n / 256 % 256
+    → x2 ≡ n / 65536 % 256 → x3 ≡ n / 16777216 % 256 → x4 ≡ n / 4294967296 % 256 → x5 ≡ n / 1099511627776 % 256
+    → x6 ≡ n / 281474976710656 % 256 → x7 ≡ n / 72057594037927936 % 256
+    → x0 + 256 * (x1 + 256 * (x2 + 256 * (x3 + 256 * (x4 + 256 * (x5 + 256 * (x6 + 256 * (x7 + 256 * 0))))))) ≡ n
+eight_bytes n x0 x1 x2 x3 x4 x5 x6 x7 lt e0 e1 e2 e3 e4 e5 e6 e7 = omega arith
+
+-- ---- the file
+
+module _ (name : Name) (n : ℕ) (asm : Assembly) (c d : Part) (parts : Parts) (file : List ℕ)
+    (segments : parts.segments.items ≡ c ∷ d ∷ []) (c_at : c.at ≡ 0x10000) (c_size : c.memsz ≡ 0x1000)
+    (c_perm : c.perm ≡ 5) (d_at : d.at ≡ 0x20000) (d_size : d.memsz ≡ 0x30000)
+    (emitted : AreEmitted (guest_lines name) (empty CODE LABELS) asm)
+    (code : AreAssembled asm.labels asm.items c.bytes.items) (data_is : d.bytes.items ≡ data_bytes asm n)
+    (fits : n < 2 ^ 64) (image_of : (image : Image) → IsImage file image → IsImageOf parts image) where
+
+  code_short : length c.bytes.items ≤ 4096
+  code_short =
+      let few = few_words name asm emitted in
+      let long : length c.bytes.items ≡ 4 * length code.words = ap length code.bytes_are ∙ length_encoded code.words in
+      let count = code.count in
+      omega arith
+
+  data_long : length d.bytes.items ≡ 96
+  data_long = ap length data_is
+
+  are_pages : (image : Image) → IsImage file image → ArePagesOf (c ∷ d ∷ []) image.pages.items
+  are_pages image is = subst (λ (ps : List Part). ArePagesOf ps image.pages.items) segments (image_of image is).pages
+
+  are_code : (image : Image) → IsImage file image → AreCode image.pages.items c.bytes.items
+  are_code image is j lt =
+      code_byte_at c d image.pages.items (are_pages image is) c_at c_size c_perm d_at d_size code_short j lt
+
+  blocks_held : (image : Image) → IsImage file image → HoldsBlocks name image.pages.items
+  blocks_held image is =
+      holds name image.pages.items (code_stands name asm c.bytes.items image.pages.items emitted code
+      (fetched_is image.pages.items c.bytes.items code.words (are_code image is) code.bytes_are code.have_32_bits))
+
+  data_byte : (image : Image) → IsImage file image → (j : ℕ) → j < 96
+      → image_byte (page_of image.pages.items 32) j ≡ get_or (data_bytes asm n) j 0
+  data_byte image is j lt =
+      data_byte_at c d image.pages.items (are_pages image is) c_at c_size c_perm d_at d_size code_short j
+      (omega (arith, data_long)) (omega arith)
+      ∙ ap (λ (xs : List ℕ). get_or xs j 0) data_is
+
+  size_told : (image : Image) → IsImage file image
+      → word_at (λ a. Some (loaded_byte image.pages.items a)) 0x20000 8 ≡ Some n
+  size_told image is =
+      ap Some (eight_bytes n _ _ _ _ _ _ _ _ fits (data_byte image is 0 (omega arith)) (data_byte image is 1 (omega arith))
+      (data_byte image is 2 (omega arith)) (data_byte image is 3 (omega arith)) (data_byte image is 4 (omega arith))
+      (data_byte image is 5 (omega arith)) (data_byte image is 6 (omega arith)) (data_byte image is 7 (omega arith)))
+
+  needed : frames_needed (segments_of parts) ≡ 114
+  needed = ap (λ (ps : List Part). frames_needed (map segment_of ps)) segments ∙ (rw (c_at, c_size, d_at, d_size) refl)
+
+  pub guest_file : file ≡ file_of parts → NeedsFrames file (frames_needed (segments_of parts))
+      → All (λ b. b < 256) file → IsGuestFile name n file
+  guest_file is frames bytes = record {
+    small = subst (λ (xs : List ℕ). length xs ≤ 8388608) (sym is)
+        (file_short c d parts segments code_short (omega (arith, data_long)));
+    are_bytes = bytes;
+    taken = frames 4096 ∙ ap (λ m. cond (nat_lt 4096 m) (Some (TooLarge m)) None) needed;
+    told = size_told;
+    holds = blocks_held;
+  }
