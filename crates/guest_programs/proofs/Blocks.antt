@@ -1,5 +1,5 @@
 -- The blocks of each guest stand in its code.
-use Rattle.std.proofs.Common.{◌≡◌, ◌≢◌, ℕ, zero, suc, ◌+◌, ◌*◌, ◌<◌, ◌≤◌, ◌^◌, ◌%◌, List, [], ◌∷◌, ◌++◌, length, replicate, slice_get}
+use Rattle.std.proofs.Common.{◌≡◌, ◌≢◌, ℕ, suc, ◌+◌, ◌*◌, ◌<◌, ◌≤◌, List, [], ◌∷◌, ◌++◌, length, replicate, slice_get}
 use Rattle.std.proofs.Common.{refl, sym, ap, ◌∙◌, arith, Option, Some, None, take, drop, length-append}
 use Rattle.elf_load.specs.declared.image.ImagePage.{ImagePage}
 use Rattle.rv_asm.specs.Assembly.{AreAssembled, Assembly, empty}
@@ -65,15 +65,15 @@ holds Counter pages stand =
     stand refl
 holds Lists pages stand = (
   holds_block push_lines FIRST_TABLE 121 14 pages (guest_instructions Lists) (omega arith) (λ e. omega arith)
-  (omega arith) stand refl,
+      (omega arith) stand refl,
   holds_block pop_lines SECOND_TABLE 92 15 pages (guest_instructions Lists) (omega arith) (λ e. omega arith)
-  (omega arith) stand refl,
+      (omega arith) stand refl,
 )
 holds Pool pages stand = (
   holds_block alloc_lines FIRST_TABLE 107 19 pages (guest_instructions Pool) (omega arith) (λ e. omega arith)
-  (omega arith) stand refl,
+      (omega arith) stand refl,
   holds_block free_lines SECOND_TABLE 127 22 pages (guest_instructions Pool) (omega arith) (λ e. omega arith)
-  (omega arith) stand refl,
+      (omega arith) stand refl,
 )
 holds Dekker pages stand = tt
 holds Signals pages stand =

@@ -1,6 +1,6 @@
 -- The words of the code are fetched where they stand.
-use Rattle.std.proofs.Common.{◌≡◌, ℕ, zero, suc, ◌+◌, ◌*◌, ◌%◌, ◌<◌, ◌≤◌, ◌^◌, List, [], ◌∷◌, ◌++◌, length, Option, Some, None}
-use Rattle.std.proofs.Common.{cond, refl, ap, sym, ◌∙◌, arith, eq-eqb, get_or, slice_get, All, length-append, nat_eq}
+use Rattle.std.proofs.Common.{◌≡◌, ℕ, ◌+◌, ◌*◌, ◌%◌, ◌<◌, ◌^◌, List, [], ◌∷◌, length, Option, Some, None}
+use Rattle.std.proofs.Common.{cond, refl, ap, ◌∙◌, arith, eq-eqb, get_or, slice_get, All, length-append}
 use Rattle.std.specs.Int.{to_le_bytes, w32}
 use Rattle.std.specs.List.{flat_map}
 use Rattle.std.proofs.lemmas.Option.{get_or_from_slice_get, slice_get_within}
@@ -30,7 +30,6 @@ AreCode pages bytes = (j : ℕ) → j < length bytes → code_byte pages (0x1000
 
 module _ (pages : List ImagePage) (bytes words : List ℕ) (are : AreCode pages bytes) (bytes_are : bytes ≡ encoded words)
     (small : All (λ w. w < 2 ^ 32) words) where
-
   byte_of_word : (k j w a : ℕ) → slice_get words k ≡ Some w → j < 4 → a ≡ 0x10000 + (4 * k + j)
       → code_byte pages a ≡ Some (get_or (to_le_bytes w32 w) j 0)
   byte_of_word k j w a at lt is =

@@ -1,14 +1,13 @@
 -- The file of a guest, from what its parts are.
-use Rattle.std.proofs.Common.{◌≡◌, ℕ, zero, suc, ◌+◌, ◌-◌, ◌*◌, ◌/◌, ◌%◌, ◌<◌, ◌≤◌, ◌^◌, List, [], ◌∷◌, ◌++◌, length, replicate, map}
-use Rattle.std.proofs.Common.{refl, sym, ap, subst, ◌∙◌, arith, Option, Some, None, cond, All, get_or, nat_lt, length-append, slice_get}
+use Rattle.std.proofs.Common.{◌≡◌, ℕ, ◌+◌, ◌-◌, ◌*◌, ◌/◌, ◌%◌, ◌<◌, ◌≤◌, ◌^◌, List, [], ◌∷◌, ◌++◌, length, replicate, map}
+use Rattle.std.proofs.Common.{refl, sym, ap, subst, ◌∙◌, arith, Some, None, cond, All, get_or, nat_lt, length-append}
 use Rattle.std.proofs.lemmas.List.{length-replicate}
 use Rattle.std.specs.List.{flat_map}
 use Rattle.mach_types.specs.Bytes.{word_at}
 use Rattle.elf_load.specs.declared.fault.ElfFault.TheVariants.{TooLarge}
 use Rattle.elf_load.specs.declared.image.Image.{Image}
-use Rattle.elf_load.specs.declared.image.ImagePage.{ImagePage}
 use Rattle.elf_load.specs.declared.program_headers.ProgramHeader.{ProgramHeader}
-use Rattle.elf_load.specs.Faults.{first_fault, frames_needed}
+use Rattle.elf_load.specs.Faults.{frames_needed}
 use Rattle.elf_load.specs.Images.{IsImage}
 use Rattle.elf_load.specs.Start.{image_byte, loaded_byte, page_of}
 use Rattle.elf_make.specs.Layout.{contents_from, contents_start, file_header, file_of, place_from, placed_from, table_entry}
@@ -102,7 +101,6 @@ module _ (name : Name) (n : ℕ) (asm : Assembly) (c d : Part) (parts : Parts) (
     (emitted : AreEmitted (guest_lines name) (empty CODE LABELS) asm)
     (code : AreAssembled asm.labels asm.items c.bytes.items) (data_is : d.bytes.items ≡ data_bytes asm n)
     (fits : n < 2 ^ 64) (image_of : (image : Image) → IsImage file image → IsImageOf parts image) where
-
   code_short : length c.bytes.items ≤ 4096
   code_short =
       let few = few_words name asm emitted in

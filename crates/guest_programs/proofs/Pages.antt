@@ -1,16 +1,14 @@
 -- Pages of an image that is that of two parts: page 16 has the code, and page 32 begins with the data.
-use Rattle.std.proofs.Common.{◌≡◌, ◌≢◌, ℕ, zero, suc, ◌+◌, ◌-◌, ◌*◌, ◌/◌, ◌%◌, ◌<◌, ◌≤◌, ◌^◌, ◌&&◌, inl, inr, List, [], ◌∷◌, map, Option, Some, None, Bool, true, false, cond, nat_le, nat_lt, nat_eq, refl, ap, sym, subst, ◌∙◌, arith, eq-eqb, slice_index, slice_index_or, option_map, length, get_or, find, unwrap_or, All, IsTrue, ◌↔◌}
+use Rattle.std.proofs.Common.{◌≡◌, ℕ, zero, suc, ◌+◌, ◌*◌, ◌/◌, ◌%◌, ◌<◌, ◌≤◌, ◌&&◌, inl, inr, List, [], ◌∷◌, map, Option, Some, None, Bool, true, false, cond, nat_le, nat_lt, nat_eq, refl, ap, subst, ◌∙◌, arith, eq-eqb, slice_index, slice_index_or, option_map, length, get_or, All, IsTrue}
 use Rattle.std.specs.List.{Contains, list_any}
 use Rattle.std.proofs.lemmas.Bool.{ne_eqb, cases_eq, cases_lt, le-leb, lt-leb, le-ltb, lt-ltb}
-use Rattle.mach_types.specs.Bytes.{joined, word_at}
-use Rattle.mach_types.specs.Kernel.Pages.{can_execute, is_in, permission_of}
+use Rattle.mach_types.specs.Kernel.Pages.{can_execute, permission_of}
 use Rattle.elf_load.specs.declared.image.ImagePage.{ImagePage}
 use Rattle.elf_load.specs.Fields.{has_page}
-use Rattle.elf_load.specs.Images.{covers, number_of, numbers, permission}
+use Rattle.elf_load.specs.Images.{numbers}
 use Rattle.elf_load.specs.Start.{code_byte, image_byte, image_run, page_byte, page_of, start_runs}
-use Rattle.elf_make.specs.Parts.{ArePagesOf, byte_of_part, parts_byte, parts_permission, segment_of}
+use Rattle.elf_make.specs.Parts.{ArePagesOf, parts_byte, parts_permission, segment_of}
 use Rattle.elf_make.specs.declared.parts.Part.{Part}
-use Rattle.block_model.specs.Instruction.{fetched}
 
 -- ---- the page with a number
 
@@ -94,7 +92,6 @@ module _ (code data_part : Part) (pages : List ImagePage) (are : ArePagesOf (cod
     (code_at : code.at ≡ 0x10000) (code_size : code.memsz ≡ 0x1000) (code_perm : code.perm ≡ 5)
     (data_at : data_part.at ≡ 0x20000) (data_size : data_part.memsz ≡ 0x30000)
     (short : length code.bytes.items ≤ 0x1000) where
-
   abbrev parts : List Part
   parts = code ∷ data_part ∷ []
 

@@ -1,8 +1,10 @@
 //! Rounds of two threads that each store a flag and load the other's.
 
 use crate::layout::{DATA, MORE};
-use crate::shared::{A0, A1, A2, A3, A7, FUTEX, MAIN, PRINT, RA, SIZE, START_ALL, STOP, T0, T1, THREAD};
-use crate::shared::{THREAD_COUNT, VALUE, WAIT_ALL};
+use crate::shared::{
+    A0, A1, A2, A3, A7, FUTEX, MAIN, PRINT, RA, SIZE, START_ALL, STOP, T0, T1, THREAD,
+    THREAD_COUNT, VALUE, WAIT_ALL,
+};
 use crate::steps::{Step, branch, ecall, inst, label};
 use percpu_lib::Line;
 use rv_inst::Inst;

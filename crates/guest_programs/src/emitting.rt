@@ -11,11 +11,15 @@ use crate::layout::CODE;
 use crate::list::LIST;
 use crate::migrate::MIGRATE;
 use crate::pool::POOL;
-use crate::shared::{AREA, BEGINNING, CELLS_AT, ENDING, LABELS, PINNING, PRINTING, STARTING, VALUE};
+use crate::shared::{
+    AREA, BEGINNING, CELLS_AT, ENDING, LABELS, PINNING, PRINTING, STARTING, VALUE,
+};
 use crate::signals::SIGNALS;
 use crate::steps::{BlockKind, Step};
 use guest_names::Name;
-use percpu_lib::{EmitFault, Slots, emit_add, emit_alloc, emit_free, emit_lines, emit_pop, emit_push};
+use percpu_lib::{
+    EmitFault, Slots, emit_add, emit_alloc, emit_free, emit_lines, emit_pop, emit_push,
+};
 use rv_asm::Asm;
 use std::alloc::Global;
 

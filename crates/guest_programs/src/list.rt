@@ -1,8 +1,10 @@
 //! Two threads push nodes to the lists of their processors, and one pops them all.
 
 use crate::layout::{FIRST_TABLE, MORE, SECOND_TABLE, THREADS};
-use crate::shared::{A0, BASE, MAIN, MASK, OWN, PIN, PRINT, RA, SECOND_BASE, SIZE, START_ALL, STOP, T0, THREAD};
-use crate::shared::{THREAD_COUNT, VALUE, WAIT_ALL, WORK};
+use crate::shared::{
+    A0, BASE, MAIN, MASK, OWN, PIN, PRINT, RA, SECOND_BASE, SIZE, START_ALL, STOP, T0, THREAD,
+    THREAD_COUNT, VALUE, WAIT_ALL, WORK,
+};
 use crate::steps::{BlockKind, Step, branch, inst, label};
 use percpu_lib::Line;
 use rv_inst::Inst;

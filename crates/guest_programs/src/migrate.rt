@@ -1,8 +1,10 @@
 //! Threads that add to counters and go from processor to processor.
 
 use crate::layout::FIRST_TABLE;
-use crate::shared::{A0, AREA, BASE, MAIN, MASK, PIN, PRINT_SUM, RA, SIZE, START_ALL, STOP, T0, THREAD};
-use crate::shared::{THREAD_COUNT, WAIT_ALL};
+use crate::shared::{
+    A0, AREA, BASE, MAIN, MASK, PIN, PRINT_SUM, RA, SIZE, START_ALL, STOP, T0, THREAD,
+    THREAD_COUNT, WAIT_ALL,
+};
 use crate::steps::{BlockKind, Step, branch, inst, label};
 use percpu_lib::Line;
 use rv_inst::Inst;

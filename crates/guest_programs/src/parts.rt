@@ -15,11 +15,7 @@ const CODE_PERM: u8 = 5;
 const DATA_PERM: u8 = 6;
 
 /// The program of this code and these first bytes of the data.
-pub(crate) fn parts_of(
-    alloc: Global,
-    code: Vec<u8>,
-    data: Vec<u8>,
-) -> Result<Parts, AllocError>
+pub(crate) fn parts_of(alloc: Global, code: Vec<u8>, data: Vec<u8>) -> Result<Parts, AllocError>
     ensures entry { IfOk result (λ parts. parts.entry ≡ CODE) }
     ensures flags { IfOk result (λ parts. parts.flags ≡ EF_RISCV_TSO) }
     ensures segments { IfOk result (λ parts. parts.segments.items

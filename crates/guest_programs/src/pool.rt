@@ -1,8 +1,10 @@
 //! Four threads take blocks from the pools of their processors and give them back.
 
 use crate::layout::{FIRST_TABLE, MORE, SECOND_TABLE};
-use crate::shared::{BASE, CELLS_AT, LEFT, MAIN, OTHER, PRINT_SUM, RA, SECOND_BASE, SIZE, START_ALL, STOP, STRIDE};
-use crate::shared::{T0, T1, THREAD, THREAD_COUNT, VALUE, WAIT_ALL, WORK};
+use crate::shared::{
+    BASE, CELLS_AT, LEFT, MAIN, OTHER, PRINT_SUM, RA, SECOND_BASE, SIZE, START_ALL, STOP, STRIDE,
+    T0, T1, THREAD, THREAD_COUNT, VALUE, WAIT_ALL, WORK,
+};
 use crate::steps::{BlockKind, Step, branch, inst, label};
 use percpu_lib::Line;
 use rv_inst::Inst;

@@ -1,6 +1,6 @@
 //! What all guests have: the beginning, threads, processors, sums and output.
 
-use crate::layout::{CELLS, DATA, NUMBER, SET, TEXT_END, THREADS, THREAD_SIZE};
+use crate::layout::{CELLS, DATA, NUMBER, SET, TEXT_END, THREAD_SIZE, THREADS};
 use crate::steps::{Step, branch, ecall, inst, label};
 use percpu_lib::Line;
 use rv_inst::Inst;

@@ -1,8 +1,10 @@
 //! A thread adds to its counter while it is sent signals.
 
 use crate::layout::{ACTION, DATA, FIRST_TABLE, NUMBER, THREAD_SIZE};
-use crate::shared::{A0, A1, A2, A3, A7, BASE, LEFT, MAIN, OTHER, OWN, PRINT_SUM, RA, SIZE, START_ALL, STOP, T0, T1};
-use crate::shared::{THREAD, THREAD_COUNT, WAIT_ALL};
+use crate::shared::{
+    A0, A1, A2, A3, A7, BASE, LEFT, MAIN, OTHER, OWN, PRINT_SUM, RA, SIZE, START_ALL, STOP, T0, T1,
+    THREAD, THREAD_COUNT, WAIT_ALL,
+};
 use crate::steps::{BlockKind, Step, branch, ecall, inst, label};
 use percpu_lib::Line;
 use rv_inst::Inst;

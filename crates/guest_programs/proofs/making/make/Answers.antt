@@ -1,4 +1,4 @@
-use Rattle.std.proofs.Common.{rules, arith, ◌≡◌, ◌<◌, ◌^◌, ℕ, List, refl, subst, All}
+use Rattle.std.proofs.Common.{arith, ◌<◌, ◌^◌, ℕ, List, refl, subst, All}
 use Rattle.guest_programs.proofs.Files.{guest_file}
 use Rattle.guest_programs.proofs.making.make.Goals as goal
 
