@@ -1,6 +1,6 @@
 -- The blocks of each guest stand in its code.
 use Rattle.std.proofs.Common.{◌≡◌, ◌≢◌, ℕ, suc, ◌+◌, ◌*◌, ◌<◌, ◌≤◌, List, [], ◌∷◌, ◌++◌, length, replicate, slice_get}
-use Rattle.std.proofs.Common.{refl, sym, ap, ◌∙◌, arith, Option, Some, None, take, drop, length-append}
+use Rattle.std.proofs.Common.{zero, ◌^◌, Bool, true, false, cond, nat_lt, subst, slice_set, refl, sym, ap, ◌∙◌, arith, Option, Some, None, take, drop, length-append}
 use Rattle.elf_load.specs.declared.image.ImagePage.{ImagePage}
 use Rattle.rv_asm.specs.Assembly.{AreAssembled, Assembly, empty}
 use Rattle.rv_asm.specs.declared.item.Item.{Item}
@@ -11,7 +11,9 @@ use Rattle.block_model.specs.Instruction.{fetched, instruction_of}
 use Rattle.percpu_lib.specs.Adds.{add_lines}
 use Rattle.percpu_lib.specs.Allocs.{alloc_lines}
 use Rattle.percpu_lib.specs.Frees.{free_lines}
-use Rattle.percpu_lib.specs.Lines.{AreEmitted, IsEmitted, instructions, with_item, with_label}
+use Rattle.percpu_lib.specs.Lines.{AreEmitted, IsEmitted, instructions, is_free, with_item, with_label}
+use Rattle.std.specs.List.{list_all}
+use Rattle.std.proofs.lemmas.Bool.{and_parts, ltb-true}
 use Rattle.percpu_lib.specs.Pops.{pop_lines}
 use Rattle.percpu_lib.specs.Pushes.{push_lines}
 use Rattle.percpu_lib.specs.declared.lines.Line.{Line}
@@ -20,7 +22,8 @@ use Rattle.percpu_lib.specs.declared.slots.Slots.{Slots}
 use Rattle.percpu_lib.proofs.HeldWords.{labelled_items}
 use Rattle.guest_names.specs.declared.names.Name.{Name}
 use Rattle.guest_names.specs.declared.names.Name.TheVariants.{Counter, List as Lists, Pool, Dekker, Signals, Migrate}
-use Rattle.guest_programs.specs.Blocks.{HoldsBlock, block_alone, bound_by}
+use Rattle.guest_programs.specs.Blocks.{HoldsBlock, block_alone, bound_by, descriptor_of, start_word}
+use Rattle.guest_programs.specs.Programs.{data_words}
 use Rattle.guest_programs.specs.Guests.{HoldsBlocks}
 use Rattle.guest_programs.specs.Steps.{guest_lines, slots_of}
 use Rattle.guest_programs.specs.declared.layout.TheConstants.{CODE, FIRST_TABLE, SECOND_TABLE}
@@ -39,11 +42,31 @@ guest_instructions name = instructions (guest_labels name) 0 (guest_lines name)
 abbrev pub Stand : List ImagePage → List (Option Inst) → Type 0
 Stand pages held = (k : ℕ) (i : Inst) → slice_get held k ≡ Some (Some i) → code_of pages (0x10000 + 4 * k) ≡ Some i
 
--- a block from word n on
-holds_block : (block : Slots → ℕ → List Line) (table n count : ℕ) (pages : List ImagePage) (held : List (Option Inst))
-    → table < 0x7FFFF800 → table ≢ 0 → n < 1024 → Stand pages held
-    → block_alone (block (slots_of table) 0) ≡ take count (drop n held) → HoldsBlock block pages
-holds_block block table n count pages held low some few stand is = record {
+-- words of the data are read from 0x20000 on
+abbrev pub Read : List ImagePage → List ℕ → Type 0
+Read pages words = (m w : ℕ) → slice_get words m ≡ Some w → w < 2 ^ 64 → start_word pages (0x20000 + 8 * m) ≡ Some w
+
+-- the assembler of a guest, without its items
+abbrev pub model : Name → Assembly
+model name = record { at = CODE; items = []; labels = guest_labels name }
+
+all_low : (xs : List ℕ) (k w : ℕ) → list_all (λ x. nat_lt x (2 ^ 64)) xs ≡ true → slice_get xs k ≡ Some w → w < 2 ^ 64
+all_low [] k w all at = absurd cc
+all_low (x ∷ xs) zero w all at =
+    let same : x ≡ w = cc in
+    let P : ℕ → Type 0 = λ y. y < 2 ^ 64 in
+    subst P same (ltb-true x (2 ^ 64) (and_parts (nat_lt x (2 ^ 64)) _ all).0)
+all_low (x ∷ xs) (suc k) w all at = all_low xs k w (and_parts (nat_lt x (2 ^ 64)) _ all).1 at
+
+-- a block from word n on, whose descriptor stands from a word of the data on
+holds_block : (block : Slots → ℕ → List Line) (table n count first : ℕ) (pages : List ImagePage)
+    (held : List (Option Inst)) (words : List ℕ)
+    → table < 0x7FFFF800 → table ≢ 0 → n < 1024 → table ≡ 0x20000 + 8 * first → Stand pages held → Read pages words
+    → block_alone (block (slots_of table) 0) ≡ take count (drop n held)
+    → descriptor_of (block (slots_of table) 0) (0x10000 + 4 * n) ≡ take 4 (drop first words)
+    → list_all (λ x. nat_lt x (2 ^ 64)) (descriptor_of (block (slots_of table) 0) (0x10000 + 4 * n)) ≡ true
+    → HoldsBlock block pages
+holds_block block table n count first pages held words low some few placed stand read is described small = record {
   slots = slots_of table;
   at = 0x10000 + 4 * n;
   are_slots = slots_are table;
@@ -57,31 +80,60 @@ holds_block block table n count pages held low some few stand is = record {
         ap (code_of pages) place
         ∙ stand (n + k) i (within held n count k (Some i) (ap (λ xs. slice_get xs k) (sym is) ∙ at));
   };
+  describes = λ k w at.
+      let place : table + 8 * k ≡ 0x20000 + 8 * (first + k) = omega arith in
+      ap (start_word pages) place
+      ∙ read (first + k) w (within words first 4 k w (ap (λ xs. slice_get xs k) (sym described) ∙ at))
+      (all_low (descriptor_of (block (slots_of table) 0) (0x10000 + 4 * n)) k w small at);
 }
 
-pub holds : (name : Name) (pages : List ImagePage) → Stand pages (guest_instructions name) → HoldsBlocks name pages
-holds Counter pages stand =
-    holds_block add_lines FIRST_TABLE 91 14 pages (guest_instructions Counter) (omega arith) (λ e. omega arith) (omega arith)
-    stand refl
-holds Lists pages stand = (
-  holds_block push_lines FIRST_TABLE 121 14 pages (guest_instructions Lists) (omega arith) (λ e. omega arith)
-      (omega arith) stand refl,
-  holds_block pop_lines SECOND_TABLE 92 15 pages (guest_instructions Lists) (omega arith) (λ e. omega arith)
-      (omega arith) stand refl,
+pub holds : (name : Name) (n : ℕ) (pages : List ImagePage) → Stand pages (guest_instructions name)
+    → Read pages (data_words (model name) n) → HoldsBlocks name pages
+holds Counter n pages stand read =
+    holds_block add_lines FIRST_TABLE 91 14 4 pages (guest_instructions Counter) (data_words (model Counter) n)
+    (omega arith) (λ e. omega arith) (omega arith) (omega arith) stand read refl refl refl
+holds Lists n pages stand read = (
+  holds_block push_lines FIRST_TABLE 121 14 4 pages (guest_instructions Lists) (data_words (model Lists) n)
+  (omega arith) (λ e. omega arith) (omega arith) (omega arith) stand read refl refl refl,
+  holds_block pop_lines SECOND_TABLE 92 15 8 pages (guest_instructions Lists) (data_words (model Lists) n)
+  (omega arith) (λ e. omega arith) (omega arith) (omega arith) stand read refl refl refl,
 )
-holds Pool pages stand = (
-  holds_block alloc_lines FIRST_TABLE 107 19 pages (guest_instructions Pool) (omega arith) (λ e. omega arith)
-      (omega arith) stand refl,
-  holds_block free_lines SECOND_TABLE 127 22 pages (guest_instructions Pool) (omega arith) (λ e. omega arith)
-      (omega arith) stand refl,
+holds Pool n pages stand read = (
+  holds_block alloc_lines FIRST_TABLE 107 19 4 pages (guest_instructions Pool) (data_words (model Pool) n)
+  (omega arith) (λ e. omega arith) (omega arith) (omega arith) stand read refl refl refl,
+  holds_block free_lines SECOND_TABLE 127 22 8 pages (guest_instructions Pool) (data_words (model Pool) n)
+  (omega arith) (λ e. omega arith) (omega arith) (omega arith) stand read refl refl refl,
 )
-holds Dekker pages stand = tt
-holds Signals pages stand =
-    holds_block add_lines FIRST_TABLE 107 14 pages (guest_instructions Signals) (omega arith) (λ e. omega arith) (omega arith)
-    stand refl
-holds Migrate pages stand =
-    holds_block add_lines FIRST_TABLE 92 14 pages (guest_instructions Migrate) (omega arith) (λ e. omega arith) (omega arith)
-    stand refl
+holds Dekker n pages stand read = tt
+holds Signals n pages stand read =
+    holds_block add_lines FIRST_TABLE 107 14 4 pages (guest_instructions Signals) (data_words (model Signals) n)
+    (omega arith) (λ e. omega arith) (omega arith) (omega arith) stand read refl refl refl
+holds Migrate n pages stand read =
+    holds_block add_lines FIRST_TABLE 92 14 4 pages (guest_instructions Migrate) (data_words (model Migrate) n)
+    (omega arith) (λ e. omega arith) (omega arith) (omega arith) stand read refl refl refl
+
+-- the first address stays
+labelled_at : (a : Assembly) (l : ℕ) (b : Bool)
+    → (cond b (record a { labels = slice_set a.labels l (Some (length a.items)) }) a).at ≡ a.at
+labelled_at a l true = refl
+labelled_at a l false = refl
+
+emitted_at : (xs : List Line) (a b : Assembly) → IsEmitted xs a b → b.at ≡ a.at
+emitted_at [] a b is = ap (λ (x : Assembly). x.at) is
+emitted_at (line.Label l ∷ xs) a b is =
+    emitted_at xs (with_label a l) b is ∙ labelled_at a l (is_free (slice_get a.labels l))
+emitted_at (line.Plain i ∷ xs) a b is = emitted_at xs (with_item a (item.Word is.0)) b is.2
+emitted_at (line.Branch i l ∷ xs) a b is = emitted_at xs (with_item a (item.Aimed i l)) b is
+emitted_at (line.Data w ∷ xs) a b is = emitted_at xs (with_item a (item.Word w)) b is
+
+-- the words of the data of a guest
+pub words_are : (name : Name) (asm : Assembly) (n : ℕ) → AreEmitted (guest_lines name) (empty CODE LABELS) asm
+    → data_words asm n ≡ data_words (model name) n
+words_are name asm n emitted =
+    ap (λ (ls : List (Option ℕ)). data_words (record { at = asm.at; items = []; labels = ls }) n)
+    (labels_bound (guest_lines name) (empty CODE LABELS) asm emitted.are)
+    ∙ ap (λ (a : ℕ). data_words (record { at = a; items = []; labels = guest_labels name }) n)
+    (emitted_at (guest_lines name) (empty CODE LABELS) asm emitted.are)
 
 -- finished code stands so where its words are fetched
 pub code_stands : (name : Name) (asm : Assembly) (bytes : List ℕ) (pages : List ImagePage)

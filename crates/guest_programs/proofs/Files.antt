@@ -3,6 +3,7 @@ use Rattle.std.proofs.Common.{◌≡◌, ℕ, ◌+◌, ◌-◌, ◌*◌, ◌/◌
 use Rattle.std.proofs.Common.{refl, sym, ap, subst, ◌∙◌, arith, Some, None, cond, All, get_or, nat_lt, length-append}
 use Rattle.std.proofs.lemmas.List.{length-replicate}
 use Rattle.std.specs.List.{flat_map}
+use Rattle.std.specs.Int.{to_le_bytes, w64}
 use Rattle.mach_types.specs.Bytes.{word_at}
 use Rattle.elf_load.specs.declared.fault.ElfFault.TheVariants.{TooLarge}
 use Rattle.elf_load.specs.declared.image.Image.{Image}
@@ -20,11 +21,13 @@ use Rattle.rv_asm.specs.Assembly.{AreAssembled, Assembly, empty}
 use Rattle.percpu_lib.specs.Lines.{AreEmitted}
 use Rattle.guest_names.specs.declared.names.Name.{Name}
 use Rattle.guest_programs.specs.Guests.{HoldsBlocks, IsGuestFile}
-use Rattle.guest_programs.specs.Programs.{data_bytes}
+use Rattle.guest_programs.specs.Programs.{data_bytes, data_words}
 use Rattle.guest_programs.specs.Steps.{guest_lines}
 use Rattle.guest_programs.specs.declared.layout.TheConstants.{CODE}
 use Rattle.guest_programs.specs.declared.shared.TheConstants.{LABELS}
-use Rattle.guest_programs.proofs.Blocks.{code_stands, few_words, holds}
+use Rattle.guest_programs.proofs.Blocks.{Read, code_stands, few_words, holds, model, words_are}
+use Rattle.guest_programs.proofs.Words.{AreData, word_is}
+use Rattle.guest_programs.specs.Blocks.{start_word}
 use Rattle.guest_programs.proofs.Fetched.{AreCode, fetched_is, length_encoded}
 use Rattle.guest_programs.proofs.Pages.{code_byte_at, data_byte_at}
 
@@ -85,14 +88,6 @@ file_short c d parts segments first second =
         contents_short (contents_start (c ∷ d ∷ [])) c d in
         omega arith
 
--- ---- the size in memory
-
-eight_bytes : (n x0 x1 x2 x3 x4 x5 x6 x7 : ℕ) → n < 2 ^ 64 → x0 ≡ n % 256 → x1 ≡ n / 256 % 256
-    → x2 ≡ n / 65536 % 256 → x3 ≡ n / 16777216 % 256 → x4 ≡ n / 4294967296 % 256 → x5 ≡ n / 1099511627776 % 256
-    → x6 ≡ n / 281474976710656 % 256 → x7 ≡ n / 72057594037927936 % 256
-    → x0 + 256 * (x1 + 256 * (x2 + 256 * (x3 + 256 * (x4 + 256 * (x5 + 256 * (x6 + 256 * (x7 + 256 * 0))))))) ≡ n
-eight_bytes n x0 x1 x2 x3 x4 x5 x6 x7 lt e0 e1 e2 e3 e4 e5 e6 e7 = omega arith
-
 -- ---- the file
 
 module _ (name : Name) (n : ℕ) (asm : Assembly) (c d : Part) (parts : Parts) (file : List ℕ)
@@ -118,24 +113,24 @@ module _ (name : Name) (n : ℕ) (asm : Assembly) (c d : Part) (parts : Parts) (
   are_code image is j lt =
       code_byte_at c d image.pages.items (are_pages image is) c_at c_size c_perm d_at d_size code_short j lt
 
+  are_data : (image : Image) → IsImage file image → AreData image.pages.items d.bytes.items
+  are_data image is j lt =
+      data_byte_at c d image.pages.items (are_pages image is) c_at c_size c_perm d_at d_size code_short j lt
+      (omega (arith, data_long))
+
+  read : (image : Image) → IsImage file image → Read image.pages.items (data_words (model name) n)
+  read image is =
+      word_is image.pages.items d.bytes.items (data_words (model name) n) (are_data image is)
+      (data_is ∙ ap (flat_map (λ w. to_le_bytes w64 w)) (words_are name asm n emitted)) (omega arith)
+
   blocks_held : (image : Image) → IsImage file image → HoldsBlocks name image.pages.items
   blocks_held image is =
-      holds name image.pages.items (code_stands name asm c.bytes.items image.pages.items emitted code
+      holds name n image.pages.items (code_stands name asm c.bytes.items image.pages.items emitted code
       (fetched_is image.pages.items c.bytes.items code.words (are_code image is) code.bytes_are code.have_32_bits))
+      (read image is)
 
-  data_byte : (image : Image) → IsImage file image → (j : ℕ) → j < 96
-      → image_byte (page_of image.pages.items 32) j ≡ get_or (data_bytes asm n) j 0
-  data_byte image is j lt =
-      data_byte_at c d image.pages.items (are_pages image is) c_at c_size c_perm d_at d_size code_short j
-      (omega (arith, data_long)) (omega arith)
-      ∙ ap (λ (xs : List ℕ). get_or xs j 0) data_is
-
-  size_told : (image : Image) → IsImage file image
-      → word_at (λ a. Some (loaded_byte image.pages.items a)) 0x20000 8 ≡ Some n
-  size_told image is =
-      ap Some (eight_bytes n _ _ _ _ _ _ _ _ fits (data_byte image is 0 (omega arith)) (data_byte image is 1 (omega arith))
-      (data_byte image is 2 (omega arith)) (data_byte image is 3 (omega arith)) (data_byte image is 4 (omega arith))
-      (data_byte image is 5 (omega arith)) (data_byte image is 6 (omega arith)) (data_byte image is 7 (omega arith)))
+  size_told : (image : Image) → IsImage file image → start_word image.pages.items 0x20000 ≡ Some n
+  size_told image is = read image is 0 n refl fits
 
   needed : frames_needed (segments_of parts) ≡ 114
   needed = ap (λ (ps : List Part). frames_needed (map segment_of ps)) segments ∙ (rw (c_at, c_size, d_at, d_size) refl)

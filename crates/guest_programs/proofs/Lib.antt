@@ -4,3 +4,4 @@ pub mod Fetched
 pub mod Files
 pub mod Held
 pub mod Pages
+pub mod Words

@@ -1,6 +1,9 @@
 -- Blocks that stand in a program (own).
-use Rattle.std.specs.Prelude.{ℕ, ◌≡◌, ◌≢◌, ◌+◌, ◌%◌, ◌^◌, ◌<◌, List, [], ◌∷◌, replicate, slice_get, slice_set}
-use Rattle.std.specs.Prelude.{Option, Some, None, if◌then◌else◌}
+use Rattle.std.specs.Prelude.{ℕ, ◌≡◌, ◌≢◌, ◌+◌, ◌-◌, ◌*◌, ◌%◌, ◌^◌, ◌<◌, List, [], ◌∷◌, replicate, slice_get}
+use Rattle.std.specs.Prelude.{slice_set, Option, Some, None, if◌then◌else◌, unwrap_or}
+use Rattle.mach_types.specs.Bytes.{word_at}
+use Rattle.elf_load.specs.Start.{loaded_byte}
+use Rattle.rv_asm.specs.Assembly.{index_of}
 use Rattle.elf_load.specs.declared.image.ImagePage.{ImagePage}
 use Rattle.rv_inst.specs.declared.instruction.Inst.{Inst}
 use Rattle.alone_laws.specs.Spans.{code_of}
@@ -26,8 +29,22 @@ bound_by labels index (line.Data w ∷ rest) = bound_by labels (index + 1) rest
 abbrev pub block_alone : List Line → List (Option Inst)
 block_alone lines = instructions (bound_by (replicate 8 None) 0 lines) 0 lines
 
+-- where a label of a block stands that begins at an address
+abbrev pub label_of : List Line → ℕ → ℕ → ℕ
+label_of lines at label = at + 4 * unwrap_or (index_of (bound_by (replicate 8 None) 0 lines) label) 0
+
+-- the descriptor of such a block, as words of 8 bytes (`struct rseq_cs`): version and flags, the start, how long the
+-- sequence is, and the abort address
+abbrev pub descriptor_of : List Line → ℕ → List ℕ
+descriptor_of lines at =
+    0 ∷ label_of lines at 1 ∷ (label_of lines at 2 - label_of lines at 1) ∷ label_of lines at 3 ∷ []
+
+-- the word of 8 bytes at an address when a program starts
+abbrev pub start_word : List ImagePage → ℕ → Option ℕ
+start_word pages at = word_at (λ a. Some (loaded_byte pages a)) at 8
+
 -- a program holds a block of some lines: for some registers and some descriptor, word k of the block, from some
--- address on, is its instruction k
+-- address on, is its instruction k, and the descriptor is that of the block
 pub record HoldsBlock (block : Slots → ℕ → List Line) (pages : List ImagePage) : Type 0 where
   pub slots : Slots
   pub at : ℕ
@@ -37,3 +54,5 @@ pub record HoldsBlock (block : Slots → ℕ → List Line) (pages : List ImageP
   pub aligned : at % 4 ≡ 0
   pub low : at < 2 ^ 37
   pub stands : AreHeld (code_of pages) at (block_alone (block slots 0))
+  pub describes : (k w : ℕ) → slice_get (descriptor_of (block slots 0) at) k ≡ Some w
+      → start_word pages (slots.table + 8 * k) ≡ Some w

@@ -4,8 +4,6 @@ use Rattle.elf_load.specs.declared.image.Image.{Image}
 use Rattle.elf_load.specs.declared.image.ImagePage.{ImagePage}
 use Rattle.elf_load.specs.Faults.{first_fault}
 use Rattle.elf_load.specs.Images.{IsImage}
-use Rattle.elf_load.specs.Start.{loaded_byte}
-use Rattle.mach_types.specs.Bytes.{word_at}
 use Rattle.guest_names.specs.Guests.{is_size}
 use Rattle.guest_names.specs.declared.names.Name.{Name}
 use Rattle.guest_names.specs.declared.names.Name.TheVariants.{Counter, List as Lists, Pool, Dekker, Signals, Migrate}
@@ -14,7 +12,7 @@ use Rattle.percpu_lib.specs.Allocs.{alloc_lines}
 use Rattle.percpu_lib.specs.Frees.{free_lines}
 use Rattle.percpu_lib.specs.Pops.{pop_lines}
 use Rattle.percpu_lib.specs.Pushes.{push_lines}
-use Rattle.guest_programs.specs.Blocks.{HoldsBlock}
+use Rattle.guest_programs.specs.Blocks.{HoldsBlock, start_word}
 use Rattle.guest_programs.specs.declared.fault.GuestFault.{GuestFault}
 use Rattle.guest_programs.specs.declared.fault.GuestFault.TheVariants.{BadSize, NoMemory}
 
@@ -38,7 +36,7 @@ pub record IsGuestFile (name : Name) (n : ℕ) (file : List ℕ) : Type 0 where
   pub are_bytes : All (λ b. b < 256) file
   pub taken : first_fault file 4096 ≡ None
   pub told : (image : Image) → IsImage file image
-      → word_at (λ a. Some (loaded_byte image.pages.items a)) size_address 8 ≡ Some n
+      → start_word image.pages.items size_address ≡ Some n
   pub holds : (image : Image) → IsImage file image → HoldsBlocks name image.pages.items
 
 -- a size is bad exactly where the guest doesn't take it; else memory is short
