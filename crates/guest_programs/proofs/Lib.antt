@@ -5,4 +5,5 @@ pub mod Files
 pub mod Finished
 pub mod Held
 pub mod Pages
+pub mod Rooms
 pub mod Words

@@ -27,9 +27,7 @@ pub fn make(alloc: Global, name: Name, n: u64) -> Result<Vec<u8>, GuestFault>
     if !name.takes(n) {
         return Err(GuestFault::BadSize(n));
     }
-    let Ok(asm) = assembler(alloc, name) else {
-        return Err(GuestFault::NoMemory);
-    };
+    let asm = assembler(alloc, name)?;
     let data = data_of(alloc, &asm, n)?;
     let code = match asm.finish(alloc) {
         Ok(code) => code,
