@@ -94,15 +94,15 @@ holds Counter n pages stand read =
     (omega arith) (λ e. omega arith) (omega arith) (omega arith) stand read refl refl refl
 holds Lists n pages stand read = (
   holds_block push_lines FIRST_TABLE 121 14 4 pages (guest_instructions Lists) (data_words (model Lists) n)
-  (omega arith) (λ e. omega arith) (omega arith) (omega arith) stand read refl refl refl,
+      (omega arith) (λ e. omega arith) (omega arith) (omega arith) stand read refl refl refl,
   holds_block pop_lines SECOND_TABLE 92 15 8 pages (guest_instructions Lists) (data_words (model Lists) n)
-  (omega arith) (λ e. omega arith) (omega arith) (omega arith) stand read refl refl refl,
+      (omega arith) (λ e. omega arith) (omega arith) (omega arith) stand read refl refl refl,
 )
 holds Pool n pages stand read = (
   holds_block alloc_lines FIRST_TABLE 107 19 4 pages (guest_instructions Pool) (data_words (model Pool) n)
-  (omega arith) (λ e. omega arith) (omega arith) (omega arith) stand read refl refl refl,
+      (omega arith) (λ e. omega arith) (omega arith) (omega arith) stand read refl refl refl,
   holds_block free_lines SECOND_TABLE 127 22 8 pages (guest_instructions Pool) (data_words (model Pool) n)
-  (omega arith) (λ e. omega arith) (omega arith) (omega arith) stand read refl refl refl,
+      (omega arith) (λ e. omega arith) (omega arith) (omega arith) stand read refl refl refl,
 )
 holds Dekker n pages stand read = tt
 holds Signals n pages stand read =

@@ -46,7 +46,6 @@ AreData pages bytes = (j : ℕ) → j < length bytes → image_byte (page_of pag
 
 module _ (pages : List ImagePage) (bytes words : List ℕ) (are : AreData pages bytes)
     (bytes_are : bytes ≡ flat_map encode words) (few : length words ≤ 512) where
-
   byte_is : (m j w a : ℕ) → slice_get words m ≡ Some w → j < 8 → a ≡ 0x20000 + (8 * m + j)
       → loaded_byte pages a ≡ get_or (encode w) j 0
   byte_is m j w a at lt is =

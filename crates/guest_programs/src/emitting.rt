@@ -3,7 +3,8 @@
 ghost use Rattle.std.specs.Prelude.{◌≡◌, ◌<◌, ◌++◌, Err, IfOk, OnOk, length, true};
 ghost use Rattle.rv_asm.specs.Assembly.{empty};
 ghost use Rattle.percpu_lib.specs.Lines.{AreEmitted, HasRoom};
-ghost use Rattle.guest_programs.specs.Steps.{are_good, guest_lines, has_step_room, have_room, is_step_good, lines_of, lines_of_block, lines_of_step, own_steps, slots_of};
+ghost use Rattle.guest_programs.specs.Steps.{are_good, guest_lines, has_step_room, have_room, is_step_good};
+ghost use Rattle.guest_programs.specs.Steps.{lines_of, lines_of_block, lines_of_step, own_steps, slots_of};
 
 use crate::counter::COUNTER;
 use crate::dekker::DEKKER;
