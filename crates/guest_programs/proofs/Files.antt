@@ -1,6 +1,7 @@
 -- The file of a guest, from what its parts are.
 use Rattle.std.proofs.Common.{◌≡◌, ℕ, ◌+◌, ◌-◌, ◌*◌, ◌/◌, ◌%◌, ◌<◌, ◌≤◌, ◌^◌, List, [], ◌∷◌, ◌++◌, length, replicate, map}
-use Rattle.std.proofs.Common.{refl, sym, ap, subst, ◌∙◌, arith, Some, None, cond, All, get_or, nat_lt, length-append}
+use Rattle.std.proofs.Common.{◌⊎◌, inl, inr, None, refl, sym, ap, subst, ◌∙◌, arith, Some, None, cond, false, All, get_or, nat_lt, length-append}
+use Rattle.std.proofs.lemmas.Bool.{le-ltb}
 use Rattle.std.proofs.lemmas.List.{length-replicate}
 use Rattle.std.specs.List.{flat_map}
 use Rattle.std.specs.Int.{to_le_bytes, w64}
@@ -13,7 +14,9 @@ use Rattle.elf_load.specs.Images.{IsImage}
 use Rattle.elf_load.specs.Start.{image_byte, loaded_byte, page_of}
 use Rattle.elf_make.specs.Layout.{contents_from, contents_start, file_header, file_of, place_from, placed_from, table_entry}
 use Rattle.elf_make.specs.Parts.{ArePagesOf, IsImageOf, NeedsFrames, segment_of}
-use Rattle.elf_make.specs.Refusals.{segments_of}
+use Rattle.elf_make.specs.Refusals.{refusal, segments_of}
+use Rattle.elf_make.specs.declared.parts.MakeFault.{MakeFault}
+use Rattle.elf_make.specs.declared.parts.MakeFault.TheVariants.{BadParts, NoMemory}
 use Rattle.elf_make.specs.declared.parts.Part.{Part}
 use Rattle.elf_make.specs.declared.parts.Parts.{Parts}
 use Rattle.elf_make.proofs.Reading.{length-file_header, length-table_entry}
@@ -88,6 +91,21 @@ file_short c d parts segments first second =
         contents_short (contents_start (c ∷ d ∷ [])) c d in
         omega arith
 
+-- ---- how long the parts are
+
+pub code_fits : (name : Name) (asm : Assembly) (bytes : List ℕ) → AreEmitted (guest_lines name) (empty CODE LABELS) asm
+    → AreAssembled asm.labels asm.items bytes → length bytes ≤ 4096
+code_fits name asm bytes emitted code =
+    let few = few_words name asm emitted in
+    let long : length bytes ≡ 4 * length code.words = ap length code.bytes_are ∙ length_encoded code.words in
+    let count = code.count in
+    omega arith
+
+pub data_fits : (asm : Assembly) (n : ℕ) (bytes : List ℕ) → bytes ≡ data_bytes asm n → length bytes ≤ 0x30000
+data_fits asm n bytes is =
+    let long : length bytes ≡ 96 = ap length is in
+    omega arith
+
 -- ---- the file
 
 module _ (name : Name) (n : ℕ) (asm : Assembly) (c d : Part) (parts : Parts) (file : List ℕ)
@@ -97,11 +115,7 @@ module _ (name : Name) (n : ℕ) (asm : Assembly) (c d : Part) (parts : Parts) (
     (code : AreAssembled asm.labels asm.items c.bytes.items) (data_is : d.bytes.items ≡ data_bytes asm n)
     (fits : n < 2 ^ 64) (image_of : (image : Image) → IsImage file image → IsImageOf parts image) where
   code_short : length c.bytes.items ≤ 4096
-  code_short =
-      let few = few_words name asm emitted in
-      let long : length c.bytes.items ≡ 4 * length code.words = ap length code.bytes_are ∙ length_encoded code.words in
-      let count = code.count in
-      omega arith
+  code_short = code_fits name asm c.bytes.items emitted code
 
   data_long : length d.bytes.items ≡ 96
   data_long = ap length data_is
@@ -145,3 +159,20 @@ module _ (name : Name) (n : ℕ) (asm : Assembly) (c d : Part) (parts : Parts) (
     told = size_told;
     holds = blocks_held;
   }
+
+-- ---- no part is refused
+
+same_length : (n : ℕ) → nat_lt n (0 + n) ≡ false
+same_length n = le-ltb n (0 + n) (omega arith)
+
+pub not_refused : (c d : Part) (parts : Parts) → parts.segments.items ≡ c ∷ d ∷ [] → parts.entry ≡ 0x10000
+    → parts.flags ≡ 16 → c.at ≡ 0x10000 → c.memsz ≡ 0x1000 → c.perm ≡ 5 → d.at ≡ 0x20000 → d.memsz ≡ 0x30000
+    → d.perm ≡ 6 → length c.bytes.items ≤ 0x1000 → length d.bytes.items ≤ 0x30000 → refusal parts ≡ None
+unfolding refusal
+not_refused c d parts segments entry flags c_at c_size c_perm d_at d_size d_perm short_code short_data =
+    rw (segments, entry, flags, c_at, c_size, c_perm, d_at, d_size, d_perm, le-ltb 0x1000 (length c.bytes.items) short_code, le-ltb 0x30000 (length d.bytes.items) short_data, same_length (length c.bytes.items), same_length (length d.bytes.items)) refl
+
+pub never_bad : (fault : MakeFault) (k : ℕ) (parts : Parts) → fault ≡ BadParts k → refusal parts ≡ None
+    → (fault ≡ NoMemory) ⊎ (refusal parts ≡ Some fault) → ⊥
+never_bad fault k parts bad none (inl short) = absurd cc
+never_bad fault k parts bad none (inr some) = absurd cc

@@ -1,11 +1,12 @@
 -- The lines of steps (own).
-use Rattle.std.specs.Prelude.{ℕ, ◌&&◌, ◌++◌, Bool, true, List, [], ◌∷◌, nat_lt}
+use Rattle.std.specs.Prelude.{ℕ, ◌&&◌, ◌++◌, Bool, true, List, [], ◌∷◌, nat_lt, ◌+◌, Option, slice_get}
 use Rattle.std.specs.List.{flat_map, list_all}
 use Rattle.guest_names.specs.declared.names.Name.{Name}
 use Rattle.guest_names.specs.declared.names.Name.TheVariants.{Counter, List as Lists, Pool, Dekker, Signals, Migrate}
 use Rattle.percpu_lib.specs.Adds.{add_lines}
 use Rattle.percpu_lib.specs.Allocs.{alloc_lines}
 use Rattle.percpu_lib.specs.Frees.{free_lines}
+use Rattle.percpu_lib.specs.Lines.{is_free}
 use Rattle.percpu_lib.specs.Pops.{pop_lines}
 use Rattle.percpu_lib.specs.Pushes.{push_lines}
 use Rattle.percpu_lib.specs.declared.lines.Line.{Line}
@@ -13,6 +14,7 @@ use Rattle.percpu_lib.specs.declared.lines.Line.TheVariants as line
 use Rattle.percpu_lib.specs.declared.slots.Slots.{Slots}
 use Rattle.rv_asm.specs.Assembly.{is_aimable}
 use Rattle.rv_asm.specs.Fields.{fits_fields}
+use Rattle.guest_programs.specs.Blocks.{bound_by}
 use Rattle.guest_programs.specs.declared.counter.TheConstants.{COUNTER}
 use Rattle.guest_programs.specs.declared.dekker.TheConstants.{DEKKER}
 use Rattle.guest_programs.specs.declared.list.TheConstants.{LIST}
@@ -74,3 +76,27 @@ is_step_good labels (step.Block k base table) = nat_lt table 0x7FFFF800
 
 abbrev pub are_good : ℕ → List Step → Bool
 are_good labels steps = list_all (is_step_good labels) steps
+
+-- eight labels from one on are free
+abbrev pub are_free : List (Option ℕ) → ℕ → Bool
+are_free labels base =
+    list_all (λ k. is_free (slice_get labels (base + k))) (0 ∷ 1 ∷ 2 ∷ 3 ∷ 4 ∷ 5 ∷ 6 ∷ 7 ∷ [])
+
+-- whether the labels of a step's block are free
+abbrev pub has_step_room : List (Option ℕ) → Step → Bool
+has_step_room labels (step.Of l) = true
+has_step_room labels (step.Block k base table) = are_free labels base
+
+-- the index of the word behind lines whose first word has an index
+abbrev pub index_behind : ℕ → List Line → ℕ
+index_behind index [] = index
+index_behind index (line.Label l ∷ rest) = index_behind index rest
+index_behind index (line.Plain i ∷ rest) = index_behind (index + 1) rest
+index_behind index (line.Branch i l ∷ rest) = index_behind (index + 1) rest
+index_behind index (line.Data w ∷ rest) = index_behind (index + 1) rest
+
+-- whether the labels of each step's block are free when it is appended, where the first word has an index
+abbrev pub have_room : List (Option ℕ) → ℕ → List Step → Bool
+have_room labels index [] = true
+have_room labels index (s ∷ rest) =
+    has_step_room labels s && have_room (bound_by labels index (lines_of_step s)) (index_behind index (lines_of_step s)) rest

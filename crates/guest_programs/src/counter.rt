@@ -8,8 +8,8 @@ use crate::steps::{BlockKind, Step, branch, inst, label};
 use percpu_lib::Line;
 use rv_inst::Inst;
 
-/// The first thread starts three others, and each adds 1 as often as the size says. Then the sum of the counters is
-/// printed.
+/// The first thread starts three others, and each adds 1 as often as the size says. Then the sum of the
+/// counters is printed.
 pub(crate) const COUNTER: [Step; 14] = [
     label!(MAIN),
     inst!(Addi rd = THREAD_COUNT, rs1 = 0, imm = 3),

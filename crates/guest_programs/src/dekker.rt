@@ -45,9 +45,9 @@ const PRIVATE_EXPEDITED: i64 = 8;
 
 const REGISTER_PRIVATE_EXPEDITED: i64 = 16;
 
-/// The first thread registers for the private expedited barrier (membarrier(2)) and starts another. In each round the
-/// two meet; then each stores 1 as its flag and loads the other's, the first with that barrier in between and the
-/// other with nothing. It prints in how many rounds both have read 0.
+/// The first thread registers for the private expedited barrier (membarrier(2)) and starts another. In each
+/// round the two meet; then each stores 1 as its flag and loads the other's, the first with that barrier in
+/// between and the other with nothing. It prints in how many rounds both have read 0.
 pub(crate) const DEKKER: [Step; 69] = [
     label!(MAIN),
     inst!(Addi rd = A0, rs1 = 0, imm = REGISTER_PRIVATE_EXPEDITED),

@@ -1,9 +1,10 @@
 //! Appends the steps of a guest to an assembler.
 
-ghost use Rattle.std.specs.Prelude.{◌≡◌, ◌<◌, ◌++◌, IfOk, OnOk, length, true};
+ghost use Rattle.std.specs.Prelude.{◌≡◌, ◌<◌, ◌++◌, Err, IfOk, OnOk, length, true};
 ghost use Rattle.rv_asm.specs.Assembly.{empty};
-ghost use Rattle.percpu_lib.specs.Lines.{AreEmitted};
-ghost use Rattle.guest_programs.specs.Steps.{are_good, guest_lines, is_step_good, lines_of, lines_of_block, lines_of_step, own_steps, slots_of};
+ghost use Rattle.percpu_lib.specs.Lines.{AreEmitted, HasRoom};
+ghost use Rattle.guest_programs.specs.Steps.{are_good, guest_lines, has_step_room, have_room, is_step_good};
+ghost use Rattle.guest_programs.specs.Steps.{lines_of, lines_of_block, lines_of_step, own_steps, slots_of};
 
 use crate::counter::COUNTER;
 use crate::dekker::DEKKER;
@@ -21,7 +22,7 @@ use percpu_lib::{
     EmitFault, Slots, emit_add, emit_alloc, emit_free, emit_lines, emit_pop, emit_push,
 };
 use rv_asm::Asm;
-use std::alloc::Global;
+use std::alloc::{AllocError, Global};
 
 /// The steps that only a guest has.
 fn own_steps(name: Name) -> &'static [Step]
@@ -48,7 +49,8 @@ fn emit_block(
     table: u64,
 ) -> Result<(), EmitFault>
     requires { table < 0x7FFFF800 }
-    ensures { OnOk result (AreEmitted (lines_of_block kind (slots_of table) base) asm.old asm.new) }
+    ensures emitted { OnOk result (AreEmitted (lines_of_block kind (slots_of table) base) asm.old asm.new) }
+    ensures room { result ≡ Err EmitFault.Room → HasRoom asm.old.labels base → ⊥ }
 {
     let slots = Slots {
         area: AREA,
@@ -66,9 +68,10 @@ fn emit_block(
 }
 
 /// Appends a step.
-fn emit_step(alloc: Global, asm: &mut Asm, step: Step) -> Result<(), EmitFault>
+fn emit_step(alloc: Global, asm: &mut Asm, step: Step) -> Result<(), AllocError>
     requires labels { length asm.old.labels ≡ LABELS }
     requires good { is_step_good LABELS step ≡ true }
+    requires room { has_step_room asm.old.labels step ≡ true }
     ensures { OnOk result (AreEmitted (lines_of_step step) asm.old asm.new) }
 {
     match step {
@@ -76,14 +79,19 @@ fn emit_step(alloc: Global, asm: &mut Asm, step: Step) -> Result<(), EmitFault>
             emit_lines(asm, &[line])?;
             Ok(())
         }
-        Step::Block(kind, base, table) => emit_block(alloc, asm, kind, base, table),
+        Step::Block(kind, base, table) => match emit_block(alloc, asm, kind, base, table) {
+            Ok(()) => Ok(()),
+            Err(EmitFault::NoMemory) => Err(AllocError),
+            Err(EmitFault::Room) => unreachable!(),
+        },
     }
 }
 
 /// Appends steps.
-fn emit_steps(alloc: Global, asm: &mut Asm, steps: &[Step]) -> Result<(), EmitFault>
+fn emit_steps(alloc: Global, asm: &mut Asm, steps: &[Step]) -> Result<(), AllocError>
     requires labels { length asm.old.labels ≡ LABELS }
     requires good { are_good LABELS steps.now ≡ true }
+    requires room { have_room asm.old.labels (length asm.old.items) steps.now ≡ true }
     ensures emitted { OnOk result (AreEmitted (lines_of steps.now) asm.old asm.new) }
     ensures labels { OnOk result (length asm.new.labels ≡ LABELS) }
 {
@@ -94,7 +102,7 @@ fn emit_steps(alloc: Global, asm: &mut Asm, steps: &[Step]) -> Result<(), EmitFa
 }
 
 /// The assembler of a guest.
-pub(crate) fn assembler(alloc: Global, name: Name) -> Result<Asm, EmitFault>
+pub(crate) fn assembler(alloc: Global, name: Name) -> Result<Asm, AllocError>
     ensures { IfOk result (λ asm. AreEmitted (guest_lines name) (empty CODE LABELS) asm) }
 {
     let mut asm = Asm::new(alloc, CODE, LABELS)?;

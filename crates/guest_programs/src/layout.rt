@@ -23,8 +23,8 @@ pub(crate) const ACTION: i64 = 0xc0;
 /// The cells of the processors, of 64 bytes each.
 pub(crate) const CELLS: i64 = 0x21000;
 
-/// The threads' own bytes, of 1024 bytes each: the area, then the number, then a set of processors, and at the end
-/// the stack.
+/// The threads' own bytes, of 1024 bytes each: the area, then the number, then a set of processors, and at
+/// the end the stack.
 pub(crate) const THREADS: i64 = 0x30000;
 
 pub(crate) const THREAD_SIZE: i64 = 1024;

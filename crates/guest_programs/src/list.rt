@@ -23,9 +23,9 @@ const ALL_EMPTY: u32 = 37;
 /// How many nodes were popped.
 const POPPED: u8 = 25;
 
-/// The first thread starts another, and each pushes as many nodes of 16 bytes as the size says, from its own place
-/// on. Then the first goes to each processor in turn and pops until the list there is empty. It prints how many
-/// nodes it has popped.
+/// The first thread starts another, and each pushes as many nodes of 16 bytes as the size says, from its own
+/// place on. Then the first goes to each processor in turn and pops until the list there is empty. It prints
+/// how many nodes it has popped.
 pub(crate) const LIST: [Step; 36] = [
     label!(MAIN),
     inst!(Addi rd = THREAD_COUNT, rs1 = 0, imm = 1),

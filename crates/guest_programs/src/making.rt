@@ -8,8 +8,9 @@ use crate::data::data_of;
 use crate::emitting::assembler;
 use crate::fault::GuestFault;
 use crate::parts::parts_of;
-use elf_make::write_elf;
+use elf_make::{MakeFault, write_elf};
 use guest_names::Name;
+use rv_asm::AsmFault;
 use std::alloc::Global;
 
 /// What was written are bytes.
@@ -26,17 +27,21 @@ pub fn make(alloc: Global, name: Name, n: u64) -> Result<Vec<u8>, GuestFault>
     if !name.takes(n) {
         return Err(GuestFault::BadSize(n));
     }
-    let Ok(asm) = assembler(alloc, name) else {
-        return Err(GuestFault::NoMemory);
-    };
+    let asm = assembler(alloc, name)?;
     let data = data_of(alloc, &asm, n)?;
-    let Ok(code) = asm.finish(alloc) else {
-        return Err(GuestFault::NoMemory);
+    let code = match asm.finish(alloc) {
+        Ok(code) => code,
+        Err(AsmFault::NoMemory) => return Err(GuestFault::NoMemory),
+        Err(AsmFault::UnboundLabel(_)) => unreachable!(),
+        Err(AsmFault::TooFar(_)) => unreachable!(),
     };
     let parts = parts_of(alloc, code, data)?;
-    let Ok(file) = write_elf(alloc, &parts) else {
-        return Err(GuestFault::NoMemory);
-    };
-    shows_bytes(&file);
-    Ok(file)
+    match write_elf(alloc, &parts) {
+        Ok(file) => {
+            shows_bytes(&file);
+            Ok(file)
+        }
+        Err(MakeFault::NoMemory) => Err(GuestFault::NoMemory),
+        Err(MakeFault::BadParts(_)) => unreachable!(),
+    }
 }

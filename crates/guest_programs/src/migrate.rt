@@ -17,8 +17,8 @@ const HAS_MOVED: u32 = 33;
 /// How many adds are left to a thread.
 const ADDS_LEFT: u8 = 25;
 
-/// The first thread starts as many others as the size says. Each adds 1 a hundred times, and after each time goes to
-/// the next processor, or to the first behind the last. Then the sum of the counters is printed.
+/// The first thread starts as many others as the size says. Each adds 1 a hundred times, and after each time
+/// goes to the next processor, or to the first behind the last. Then the sum of the counters is printed.
 pub(crate) const MIGRATE: [Step; 21] = [
     label!(MAIN),
     inst!(Addi rd = THREAD_COUNT, rs1 = SIZE, imm = 0),

@@ -19,9 +19,9 @@ const WAS_EMPTY: u32 = 35;
 /// Where a pool is filled.
 const SLOT: u8 = 7;
 
-/// The first thread fills eight pools with 64 blocks each, numbered from 1 on, and starts three others. Each takes a
-/// block out of the pool of its processor and puts it into that of its processor by then, as often as the size says.
-/// Then the sum of the counts is printed.
+/// The first thread fills eight pools with 64 blocks each, numbered from 1 on, and starts three others. Each
+/// takes a block out of the pool of its processor and puts it into that of its processor by then, as often as
+/// the size says. Then the sum of the counts is printed.
 pub(crate) const POOL: [Step; 35] = [
     label!(MAIN),
     inst!(Lui rd = CELLS_AT, imm = MORE),

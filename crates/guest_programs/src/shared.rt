@@ -166,7 +166,8 @@ pub(crate) const STARTING: [Step; 20] = [
     branch!(Jal rd = 0 => THREAD),
 ];
 
-/// Waits until the other threads have ended: the kernel clears their numbers, and wakes who sleeps there (futex(2)).
+/// Waits until the other threads have ended: the kernel clears their numbers, and wakes who sleeps there
+/// (futex(2)).
 pub(crate) const ENDING: [Step; 22] = [
     label!(WAIT_ALL),
     inst!(Addi rd = LEFT, rs1 = THREAD_COUNT, imm = 0),

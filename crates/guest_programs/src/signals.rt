@@ -25,8 +25,8 @@ const SIGUSR1: i64 = 10;
 /// The number of the other thread.
 const SECOND: u8 = 25;
 
-/// The first thread sets a handler of SIGUSR1 that only returns, and starts another. That one adds 1 as often as the
-/// size says, and the first sends it the signal as often. Then the sum of the counters is printed.
+/// The first thread sets a handler of SIGUSR1 that only returns, and starts another. That one adds 1 as often
+/// as the size says, and the first sends it the signal as often. Then the sum of the counters is printed.
 pub(crate) const SIGNALS: [Step; 32] = [
     label!(MAIN),
     branch!(Jal rd = T0 => BEHIND_HANDLER),
