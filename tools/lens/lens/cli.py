@@ -25,8 +25,8 @@ def make_parser() -> argparse.ArgumentParser:
     parser = argparse.ArgumentParser(
         prog='lens',
         description='Shows a run of rseq_run. RUN is an output text of '
-        'solo, play or run in a file, or - for standard input; ELF is the file that ran, '
-        'with its symbols.',
+        'solo, play, run or draw in a file, or - for standard input; ELF is the file that ran, '
+        'with its symbols. With --seed RUN is left out: it is the run that draw makes of ELF.',
     )
     commands = parser.add_subparsers(metavar='COMMAND', required=True)
     add_list(commands)
@@ -95,8 +95,10 @@ def add_steer(commands) -> None:
 
 
 def add_run_and_elf(command: argparse.ArgumentParser) -> None:
-    command.add_argument('run', metavar='RUN')
+    command.add_argument('run', metavar='RUN', nargs='?')
     command.add_argument('elf', metavar='ELF')
+    command.add_argument('--seed', type=int, metavar='S', help='the run that this seed draws, in place of RUN')
+    add_program(command)
 
 
 def add_out(command: argparse.ArgumentParser, name: str) -> None:
@@ -104,7 +106,16 @@ def add_out(command: argparse.ArgumentParser, name: str) -> None:
 
 
 def read_history(arguments: argparse.Namespace) -> History:
-    return make_history(read_output(arguments.run), Program(arguments.elf))
+    return make_history(output_of(arguments), Program(arguments.elf))
+
+
+def output_of(arguments: argparse.Namespace) -> Output:
+    """The run that is shown: that of a file, or that of a seed."""
+    if (arguments.run is None) == (arguments.seed is None):
+        raise LensFault('either RUN or --seed is wanted')
+    if arguments.seed is None:
+        return read_output(arguments.run)
+    return Machine(arguments.program, arguments.elf, tuple(limits_of(arguments))).draw(arguments.seed)
 
 
 def write_out(path: str | None, parts: Iterable[str]) -> None:

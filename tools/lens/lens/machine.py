@@ -1,4 +1,4 @@
-"""Calls the program `rseq_run` to play scripts."""
+"""Calls the program `rseq_run` to play scripts and to draw runs."""
 from __future__ import annotations
 
 import os
@@ -36,8 +36,20 @@ class Machine:
         words = text.decode('ascii', 'replace').split()
         if status == SCRIPT_REFUSED and len(words) == 3:
             return int(words[2])
-        raise LensFault(
-            f'{self.program} can\'t play {self.elf}: status {status}, "{" ".join(words)}"{said(reason)}'
+        raise self.fault('play', status, text, reason)
+
+    def draw(self, seed: int) -> Output:
+        """The run that a seed draws."""
+        status, text, reason = self.answer(['draw', self.elf, f'--seed={seed}', *self.options])
+        if status == DONE:
+            return parse_output(f'the run of seed {seed}', text)
+        raise self.fault('draw', status, text, reason)
+
+    def fault(self, command: str, status: int, text: bytes, reason: bytes) -> LensFault:
+        """Why a command gave no output."""
+        words = ' '.join(text.decode('ascii', 'replace').split())
+        return LensFault(
+            f'{self.program} can\'t {command} {self.elf}: status {status}, "{words}"{said(reason)}'
         )
 
     def answer(self, words: list[str]) -> tuple[int, bytes, bytes]:

@@ -13,9 +13,9 @@ from lens.output import shown_console
 
 from .jobs import Parallel, Swept, make_jobs, seconds_of_jobs, sweep_jobs
 from .limits import jobs_that_fit, mebibytes_a_run
-from .records import Folder
+from .records import Folder, Met, Outcome
 
-FAULT_STATUS, INTERRUPTED_STATUS = 2, 130
+UNEXPECTED_STATUS, FAULT_STATUS, INTERRUPTED_STATUS = 1, 2, 130
 SEEDS = 1 << 64
 
 
@@ -24,12 +24,21 @@ def make_parser() -> argparse.ArgumentParser:
         prog='sweep',
         description='Runs a program many times, each time with another seed, '
         'and says which outcomes came how often. The same command goes on with a sweep '
-        'that was interrupted.',
+        'that was interrupted. Ends with 1 where a run ended otherwise than --expect says.',
     )
     parser.add_argument('elf', metavar='ELF')
     parser.add_argument('-o', '--out', metavar='FOLDER', required=True, help='where the sweep is kept')
     parser.add_argument('--runs', type=positive, default=1000, metavar='N', help='how many seeds (1000)')
     parser.add_argument('--first-seed', type=int, default=1, metavar='S', help='the first of them (1)')
+    parser.add_argument(
+        '--by',
+        choices=('draw', 'run'),
+        default='draw',
+        help='the command: by draw a seed gives one run on each machine; by run it repeats nothing (draw)',
+    )
+    parser.add_argument(
+        '--expect', metavar='END', help="how each run is to end, as 'exit 0'"
+    )
     parser.add_argument(
         '--seeds-a-job', type=positive, default=50, metavar='K', help='seeds run by one process (50)'
     )
@@ -63,6 +72,7 @@ def asked_of(arguments: argparse.Namespace) -> dict:
     return {
         'program': digest(arguments.program),
         'elf': digest(arguments.elf),
+        'command': arguments.by,
         'runs': arguments.runs,
         'first seed': arguments.first_seed,
         'seeds a job': arguments.seeds_a_job,
@@ -77,7 +87,7 @@ def sweep(arguments: argparse.Namespace) -> int:
     folder.open(asked_of(arguments))
     mebibytes = mebibytes_a_run(arguments.frames, arguments.steps)
     program, elf = (str(Path(path).resolve()) for path in (arguments.program, arguments.elf))
-    command = [str(arguments.seconds), program, elf, *limits_of(arguments)]
+    command = [str(arguments.seconds), program, arguments.by, elf, *limits_of(arguments)]
     parallel = Parallel(jobs_that_fit(arguments.jobs, mebibytes), mebibytes, arguments.sshlogin, command)
     jobs = make_jobs(arguments.first_seed, arguments.runs, arguments.seeds_a_job)
     swept = sweep_jobs(parallel, folder, jobs)
@@ -93,7 +103,12 @@ def sweep(arguments: argparse.Namespace) -> int:
     print(
         f'\nThe jobs took {seconds_of_jobs(folder):.1f} seconds, added up, with {parallel.jobs_at_once} at once.'
     )
-    return 0
+    return UNEXPECTED_STATUS if has_unexpected(swept, arguments.expect) else 0
+
+
+def has_unexpected(swept: Swept, expected: str | None) -> bool:
+    """Whether some run ended otherwise than was expected."""
+    return expected is not None and any(outcome.end != expected for outcome in swept.tally)
 
 
 def table_of(swept: Swept, folder: Folder, arguments: argparse.Namespace) -> str:
@@ -111,19 +126,16 @@ def table_of(swept: Swept, folder: Folder, arguments: argparse.Namespace) -> str
         '',
         'The shortest run of each, again ("steps" are its steps; its text is in the file .output beside):',
     ]
-    lines += [
-        shlex.join(
-            [
-                arguments.program,
-                'play',
-                arguments.elf,
-                str(folder.script_of(outcome)),
-                *limits_of(arguments),
-            ]
-        )
-        for outcome, _ in rows
-    ]
+    lines += [shlex.join(again(outcome, met, folder, arguments)) for outcome, met in rows]
     return ''.join(f'{line}\n' for line in lines)
+
+
+def again(outcome: Outcome, met: Met, folder: Folder, arguments: argparse.Namespace) -> list[str]:
+    """The words that make the kept run of an outcome again: its seed draws it, or its log is played."""
+    limits = limits_of(arguments)
+    if arguments.by == 'draw':
+        return [arguments.program, 'draw', arguments.elf, f'--seed={met.rank.seed}', *limits]
+    return [arguments.program, 'play', arguments.elf, str(folder.script_of(outcome)), *limits]
 
 
 def main() -> int:

@@ -1,5 +1,5 @@
 #!/usr/bin/python3
-"""Stands in for rseq_run in the tests of the sweep: answers `run FILE --seed=S` with an output text that
+"""Stands in for rseq_run in the tests of the sweep: answers `draw FILE --seed=S`, and `run`, with an output text that
 depends on the seed alone. One seed in seven loses, and the runs of an outcome have logs of different
 lengths. FILE's first line says how many seconds a run takes, and may say which seed is refused. With STAND_IN_LAST
 in the environment, runs of later seeds than that don't end."""
@@ -12,7 +12,7 @@ LINES = ['0 run 1 0000000000010078'] + [f'0 exec 1 {pc:016x}' for pc in range(0x
 
 def main():
     command, file, *options = sys.argv[1:]
-    assert command == 'run', command
+    assert command in ('draw', 'run'), command
     seed = next(int(option.removeprefix('--seed=')) for option in options if option.startswith('--seed='))
     with open(file) as text:
         seconds, *refused = text.readline().split()

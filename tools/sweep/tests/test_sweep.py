@@ -19,7 +19,7 @@ TOOLS = Path(__file__).resolve().parents[2]
 SWEEP = TOOLS / 'bin' / 'sweep'
 STAND_IN = Path(__file__).with_name('stand_in.py')
 RUNS, SEEDS_A_JOB = 30, 5
-FAULT_STATUS, INTERRUPTED_STATUS = 2, 130
+UNEXPECTED_STATUS, FAULT_STATUS, INTERRUPTED_STATUS = 1, 2, 130
 
 
 def heed_interrupts() -> None:
@@ -73,7 +73,7 @@ class Sweeps(unittest.TestCase):
 
     def test_table(self):
         folder = self.room / 'swept'
-        answer = self.sweep('-o', folder, '--harts', 2)
+        answer = self.sweep('-o', folder, '--harts', 2, '--by', 'run')
         self.assertEqual((answer.returncode, answer.stderr), (0, ''))
         lines = answer.stdout.splitlines()
         self.assertEqual(lines[0], f'{RUNS} runs of {self.elf}, 2 outcomes')
@@ -92,6 +92,23 @@ class Sweeps(unittest.TestCase):
             run = read_output(str(script.with_suffix('.output')))
             self.assertEqual((run.end, len(run.steps)), (end, 4))
             self.assertEqual(script.read_text(), ''.join(f'{step.line()}\n' for step in run.steps))
+
+    def test_draws(self):
+        folder = self.room / 'swept'
+        answer = self.sweep('-o', folder, '--harts', 2, '--expect', 'exit 0')
+        self.assertEqual((answer.returncode, answer.stderr), (UNEXPECTED_STATUS, ''))
+        again = [line.split() for line in answer.stdout.splitlines() if ' draw ' in line]
+        seeds = [int(words[3].removeprefix('--seed=')) for words in again]
+        self.assertEqual(
+            again,
+            [[str(STAND_IN), 'draw', str(self.elf), f'--seed={seed}', '--harts=2'] for seed in seeds],
+        )
+        self.assertEqual([seed % 7 == 3 for seed in seeds], [False, True])
+
+    def test_expected_ends(self):
+        folder = self.room / 'swept'
+        answer = self.sweep('-o', folder, '--first-seed', 4, '--expect', 'exit 0', runs=6)
+        self.assertEqual((answer.returncode, answer.stderr), (0, ''))
 
     def test_interrupted_and_taken_up_again(self):
         whole, cut = self.room / 'whole', self.room / 'cut'
@@ -133,7 +150,7 @@ class Sweeps(unittest.TestCase):
         self.addCleanup(os.environ.pop, 'STAND_IN_LAST')
         folder = InterruptedFolder(self.room / 'swept')
         folder.open({})
-        parallel = Parallel(2, 1, [], ['300', str(STAND_IN), str(self.elf)])
+        parallel = Parallel(2, 1, [], ['300', str(STAND_IN), 'draw', str(self.elf)])
         swept = sweep_jobs(parallel, folder, make_jobs(1, RUNS, SEEDS_A_JOB))
         self.assertEqual((swept.is_whole, swept.was_interrupted), (False, True))
         self.assertTrue(0 < swept.runs < RUNS)
