@@ -28,6 +28,9 @@ For each example NAME:
   whole console); and the log lines that it prints, played on as many harts, give the same text;
 - `draw`, with each of DRAWN_SEEDS on as many harts, does so too, and prints the same text at a second call.
 
+For each of GUESTS the file that `make` prints runs so by `run` and by `draw`, with its number on the console, and `trial` on so many
+harts has that console too, and prints the same text at a second call.
+
 For each worked run crates/worked_runs/data/GROUP/NAME, each line of its file `words`, given to the program in that folder, gives its
 `status` and its `stdout` (or its `any-hart`, where that is there), or a text that begins with its `begins` and ends with its `ends`.
 Standard error says what its `stderr` has, or begins with the line of its `told` at the place of the command line. Those whose devices
@@ -51,6 +54,7 @@ STEPS = '1000000'
 SEEDS = range(1, 11)
 DRAWN_SEEDS = range(5)
 HARTS = ('1', '2', '4', '8')
+GUESTS = {'counter': (100, 400), 'list': (50, 100), 'pool': (50, 512), 'dekker': (20, 0), 'signals': (20, 20), 'migrate': (8, 800)}
 SECONDS = 120
 DONE, SCRIPT_REFUSED, UNREAD = 0, 4, 5
 TAKE_SCRIPT = r"sed -n '/^log /{h;d;};$!H;${g;s/^log [0-9]*\n//p;}'"
@@ -304,17 +308,15 @@ def check_outcome(program, elf, text, harts, seed, allowed):
     check_replay(program, elf, text, harts)
 
 
-def check_runs(program, folder, elf, harts):
-    """`run` on so many harts, with each seed: it ends as the example may end, and its log replays."""
-    allowed = list(outcomes(folder))
+def check_runs(program, allowed, elf, harts):
+    """`run` on so many harts, with each seed: it ends in one of the ways that are allowed, and its log replays."""
     for seed in SEEDS:
         check_outcome(program, elf, with_seed(program, 'run', elf, harts, seed), harts, seed, allowed)
 
 
-def check_draws(program, folder, elf, harts):
-    """`draw` on so many harts, with a seed of each policy: it ends as the example may end, its log replays, and a second call prints
-    the same."""
-    allowed = list(outcomes(folder))
+def check_draws(program, allowed, elf, harts):
+    """`draw` on so many harts, with a seed of each policy: it ends in one of the ways that are allowed, its log replays, and a second
+    call prints the same."""
     for seed in DRAWN_SEEDS:
         text = with_seed(program, 'draw', elf, harts, seed)
         want(f'its text at a second call with seed {seed}', with_seed(program, 'draw', elf, harts, seed), text)
@@ -401,19 +403,43 @@ def checks(program, folder):
     for session in sorted(folder.glob('*.session')):
         yield session.name, lambda: check_session(program, session)
     for harts in HARTS:
-        yield f'run on {harts}', lambda: check_runs(program, folder, elf, harts)
-        yield f'draw on {harts}', lambda: check_draws(program, folder, elf, harts)
+        yield f'run on {harts}', lambda: check_runs(program, list(outcomes(folder)), elf, harts)
+        yield f'draw on {harts}', lambda: check_draws(program, list(outcomes(folder)), elf, harts)
 
 
-def passes(program, folder):
-    """Whether the example passes each of its checks; says which it doesn't."""
+def check_trial(program, guest, size, console, harts):
+    """`trial` of a guest on so many harts: its console, and the same text at a second call."""
+    words = ('trial', guest, str(size), '--harts', harts, '--steps', STEPS)
+    status, text = run(program, *words)
+    want('its status', status, DONE)
+    want('its text at a second call', run(program, *words), (status, text))
+    want('its console', text.startswith(b'console %d\n%s\n' % (len(console), console)), True)
+
+
+def check_guest(program, guest):
+    """A guest that is made runs by workers, by draws and by rounds, on each number of harts."""
+    size, number = GUESTS[guest]
+    console = b'%d\n' % number
+    status, file = run(program, 'make', guest, str(size))
+    want('the status of make', status, DONE)
+    with tempfile.NamedTemporaryFile(suffix='.elf') as elf:
+        elf.write(file)
+        elf.flush()
+        for harts in HARTS:
+            check_runs(program, [(console, b'end exit 0\n')], elf.name, harts)
+            check_draws(program, [(console, b'end exit 0\n')], elf.name, harts)
+            check_trial(program, guest, size, console, harts)
+
+
+def passes(name, checks):
+    """Whether the checks of an example or a guest pass; says which doesn't."""
     is_well = True
-    for name, check in checks(program, folder):
+    for what, check in checks:
         try:
             check()
         except Difference as difference:
             is_well = False
-            print(f'{folder.name}: {name}: {difference}')
+            print(f'{name}: {what}: {difference}')
     return is_well
 
 
@@ -427,14 +453,17 @@ def main():
         sys.exit(f'a console that looks like a log: {difference}')
     names = sys.argv[2:]
     folders = sorted(it.parent for it in HERE.glob('*/console.expected') if not names or it.parent.name in names)
-    failed = sum(not passes(program, folder) for folder in folders)
+    failed = sum(not passes(folder.name, checks(program, folder)) for folder in folders)
     print(f'{len(folders) - failed} examples passed' + (f', {failed} failed' if failed else ''))
+    guests = [guest for guest in GUESTS if not names or guest in names]
+    broken = sum(not passes(guest, [('guest', lambda: check_guest(program, guest))]) for guest in guests)
+    print(f'{len(guests) - broken} guests passed' + (f', {broken} failed' if broken else ''))
     is_listed = are_listed()
     worked = list(rows(names))
     with ThreadPoolExecutor(os.cpu_count()) as workers:
         differ = sum(not is_well for is_well in workers.map(lambda row: row_passes(program, row), worked))
     print(f'{len(worked) - differ} worked runs passed' + (f', {differ} failed' if differ else ''))
-    sys.exit(1 if failed or differ or not is_listed or not (folders or worked) or not (names or worked) else 0)
+    sys.exit(1 if failed or broken or differ or not is_listed or not (folders or guests or worked) or not (names or worked) else 0)
 
 
 main()
