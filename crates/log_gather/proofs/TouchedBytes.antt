@@ -16,7 +16,7 @@ use Rattle.log_gather.specs.ByteSets.{AreWith, HasLookedAt, HasTouched, IsBounde
 use Rattle.log_gather.specs.Facts.{is_of}
 use Rattle.log_gather.specs.LogEvents.{LogEvent, clash, is_own, is_undisturbed, own_of, reads_of, writes_of}
 use Rattle.log_gather.specs.Lookups.{bytes_if, bytes_looked_at}
-use Rattle.log_gather.specs.Marks.{step_of, steps_of}
+use Rattle.log_gather.specs.Marks.{entry_marked, step_of, steps_of}
 use Rattle.log_gather.specs.Turns.{event_of, own_steps}
 use Rattle.log_gather.specs.declared.byte_sets.ByteSet.{ByteSet}
 use Rattle.log_gather.specs.declared.clashes.Touched.{Touched}
@@ -148,19 +148,19 @@ filter_append p (x ∷ xs) ys = go (p x) (filter_append p xs ys)
 
 owns_more : (d : Details) (h : ℕ) (span : List Mark) (i : ℕ) (m : Mark) → i < length span
     → own_steps h (steps_of d (take (i + 1) span))
-    ≡ own_steps h (steps_of d (take i span)) ++ cond (is_of h (get_or span i m).entry) (step_of d (get_or span i m) ∷ []) []
+    ≡ own_steps h (steps_of d (take i span)) ++ cond (is_of h (entry_marked (get_or span i m))) (step_of d (get_or span i m) ∷ []) []
 owns_more d h span i m within =
     ap (λ l. own_steps h (steps_of d l)) (take_more span i m within)
     ∙ ap (own_steps h) (map-append (step_of d) (take i span) (get_or span i m ∷ []))
     ∙ filter_append (λ x. is_of h x.entry) (steps_of d (take i span)) (step_of d (get_or span i m) ∷ [])
 
-owns_with : (d : Details) (h : ℕ) (span : List Mark) (i : ℕ) (m : Mark) → i < length span → is_of h (get_or span i m).entry ≡ true
+owns_with : (d : Details) (h : ℕ) (span : List Mark) (i : ℕ) (m : Mark) → i < length span → is_of h (entry_marked (get_or span i m)) ≡ true
     → map event_of (own_steps h (steps_of d (take (i + 1) span))) ≡ map event_of (own_steps h (steps_of d (take i span))) ++ event_of (step_of d (get_or span i m)) ∷ []
 owns_with d h span i m within own =
     ap (map event_of) (owns_more d h span i m within ∙ ap (λ b. own_steps h (steps_of d (take i span)) ++ cond b (step_of d (get_or span i m) ∷ []) []) own)
     ∙ map-append event_of (own_steps h (steps_of d (take i span))) (step_of d (get_or span i m) ∷ [])
 
-owns_without : (d : Details) (h : ℕ) (span : List Mark) (i : ℕ) (m : Mark) → i < length span → is_of h (get_or span i m).entry ≡ false
+owns_without : (d : Details) (h : ℕ) (span : List Mark) (i : ℕ) (m : Mark) → i < length span → is_of h (entry_marked (get_or span i m)) ≡ false
     → map event_of (own_steps h (steps_of d (take (i + 1) span))) ≡ map event_of (own_steps h (steps_of d (take i span)))
 owns_without d h span i m within other =
     ap (map event_of)
@@ -169,13 +169,13 @@ owns_without d h span i m within other =
 
 -- what they touch, with an event more
 pub touched_own : (d : Details) (h : ℕ) (span : List Mark) (i : ℕ) (m : Mark) (s t : Touched) → IsTouched (map event_of (own_steps h (steps_of d (take i span)))) s
-    → i < length span → is_of h (get_or span i m).entry ≡ true → HasTouched s (event_of (step_of d (get_or span i m))) t
+    → i < length span → is_of h (entry_marked (get_or span i m)) ≡ true → HasTouched s (event_of (step_of d (get_or span i m))) t
     → IsTouched (map event_of (own_steps h (steps_of d (take (i + 1) span)))) t
 touched_own d h span i m s t so_far within own one =
     subst (λ l. IsTouched l t) (sym (owns_with d h span i m within own)) (touched_more (map event_of (own_steps h (steps_of d (take i span)))) s (event_of (step_of d (get_or span i m))) t so_far one)
 
 pub touched_other : (d : Details) (h : ℕ) (span : List Mark) (i : ℕ) (m : Mark) (s : Touched) → IsTouched (map event_of (own_steps h (steps_of d (take i span)))) s
-    → i < length span → is_of h (get_or span i m).entry ≡ false → IsTouched (map event_of (own_steps h (steps_of d (take (i + 1) span)))) s
+    → i < length span → is_of h (entry_marked (get_or span i m)) ≡ false → IsTouched (map event_of (own_steps h (steps_of d (take (i + 1) span)))) s
 touched_other d h span i m s so_far within other = subst (λ l. IsTouched l s) (sym (owns_without d h span i m within other)) so_far
 
 own_events : (h : ℕ) (span : List Step) → map event_of (own_steps h span) ≡ own_of h (map event_of span)
