@@ -12,7 +12,7 @@ use Rattle.block_model.specs.Footprints.{has_byte, have_byte, overlap_any}
 use Rattle.rseq_area.specs.declared.lookups.Lookups.{Lookups}
 use Rattle.log_gather.specs.declared.accesses.Access.{Access}
 use Rattle.log_gather.specs.Accesses.{bytes_in}
-use Rattle.log_gather.specs.ByteSets.{AreWith, HasLookedAt, HasTouched, IsBounded, IsReady, IsTouched, IsWith, any_in, clashes_in, holds}
+use Rattle.log_gather.specs.ByteSets.{AreWith, HasLookedAt, HasTouched, IsBounded, IsReady, IsTouched, IsWith, any_in, clashes_in, disturbs, holds}
 use Rattle.log_gather.specs.Facts.{is_of}
 use Rattle.log_gather.specs.LogEvents.{LogEvent, clash, is_own, is_undisturbed, own_of, reads_of, writes_of}
 use Rattle.log_gather.specs.Lookups.{bytes_if, bytes_looked_at}
@@ -24,6 +24,10 @@ use Rattle.log_gather.specs.declared.marks.Details.{Details}
 use Rattle.log_gather.specs.declared.marks.Mark.{Mark}
 use Rattle.log_gather.specs.declared.steps.Step.{Step}
 use Rattle.log_gather.proofs.ClashingBytes.{any_in_is, clashes_with_one, undisturbed_is}
+
+or_true : (b : Bool) → (b || true) ≡ true
+or_true true = refl
+or_true false = refl
 
 or_false : (b : Bool) → b ≡ (b || false)
 or_false true = refl
@@ -195,23 +199,39 @@ clashes_is xs t touched y =
     ∙ ap (λ b. overlap_any (flat_map reads_of xs) (writes_of y) || (overlap_any (flat_map writes_of xs) (writes_of y) || b)) (any_in_is (holds t.writes) (flat_map writes_of xs) (reads_of y) touched.writes.members)
     ∙ clashes_with_one xs y
 
-plain_events : (span : List Step) → list_all (λ x. x.facts.plain) (map event_of span) ≡ list_all (λ x. x.plain) span
-plain_events [] = refl
-plain_events (x ∷ xs) = ap (λ b. x.plain && b) (plain_events xs)
+any_or : {A : Type 0} (p q : A → Bool) (xs : List A) → list_any (λ x. p x || q x) xs ≡ (list_any p xs || list_any q xs)
+any_or p q [] = refl
+any_or p q (x ∷ xs) = go (p x) (q x) (any_or p q xs)
+  where
+    go : (a b : Bool) → list_any (λ y. p y || q y) xs ≡ (list_any p xs || list_any q xs)
+        → ((a || b) || list_any (λ y. p y || q y) xs) ≡ ((a || list_any p xs) || (b || list_any q xs))
+    go true b rest = refl
+    go false true rest = sym (or_true (list_any p xs))
+    go false false rest = rest
 
--- so a span of plain events is undisturbed where none of another hart clashes with what its own touch
-pub undisturbed_by : (h : ℕ) (span : List Step) (t : Touched) → IsTouched (map event_of (own_steps h span)) t → list_all (λ x. x.plain) span ≡ true
-    → not (list_any (λ y. not (is_own h y) && clashes_in t y) (map event_of span)) ≡ is_undisturbed h (map event_of span)
-undisturbed_by h span t touched plain =
+none_not : {A : Type 0} (p : A → Bool) (xs : List A) → not (list_any (λ x. not (p x)) xs) ≡ list_all p xs
+none_not p [] = refl
+none_not p (x ∷ xs) = go (p x) (none_not p xs)
+  where
+    go : (a : Bool) → not (list_any (λ y. not (p y)) xs) ≡ list_all p xs → not (not a || list_any (λ y. not (p y)) xs) ≡ (a && list_all p xs)
+    go true rest = rest
+    go false rest = refl
+
+not_or : (a b : Bool) → not (a || b) ≡ (not a && not b)
+not_or true b = refl
+not_or false b = refl
+
+-- so a span is undisturbed where all events are plain, and none of another hart clashes with what its own touch
+pub undisturbed_by : (h : ℕ) (span : List Step) (t : Touched) → IsTouched (map event_of (own_steps h span)) t
+    → not (list_any (disturbs t h) (map event_of span)) ≡ is_undisturbed h (map event_of span)
+undisturbed_by h span t touched =
     let all = map event_of span in
-    ap (λ p. not (list_any p all)) (fun_ext (λ y. ap (λ b. not (is_own h y) && b) (clashes_is (map event_of (own_steps h span)) t touched y ∙ ap (list_any (λ x. clash x y)) (own_events h span))))
-    ∙ ap (λ b. b && not (list_any (λ y. not (is_own h y) && list_any (λ x. clash x y) (own_of h all)) all)) (sym (plain_events span ∙ plain))
+    ap not (any_or (λ y. not y.facts.plain) (λ y. not (is_own h y) && clashes_in t y) all)
+    ∙ not_or (list_any (λ y. not y.facts.plain) all) (list_any (λ y. not (is_own h y) && clashes_in t y) all)
+    ∙ ap (λ b. b && not (list_any (λ y. not (is_own h y) && clashes_in t y) all)) (none_not (λ y. y.facts.plain) all)
+    ∙ ap (λ p. list_all (λ y. y.facts.plain) all && not (list_any p all))
+    (fun_ext (λ y. ap (λ b. not (is_own h y) && b) (clashes_is (map event_of (own_steps h span)) t touched y ∙ ap (list_any (λ x. clash x y)) (own_events h span))))
     ∙ sym (undisturbed_is h all)
-
-pub disturbed_by : (h : ℕ) (span : List Step) → list_all (λ x. x.plain) span ≡ false → false ≡ is_undisturbed h (map event_of span)
-disturbed_by h span plain =
-    let all = map event_of span in
-    ap (λ b. b && not (list_any (λ y. not (is_own h y) && list_any (λ x. clash x y) (own_of h all)) all)) (sym (plain_events span ∙ plain)) ∙ sym (undisturbed_is h all)
 
 -- an area at which was looked last
 pub looked_again : (t : Touched) (looked : Option Lookups) → IsReady t → t.last ≡ looked → HasLookedAt t looked t
