@@ -13,7 +13,7 @@ use Rattle.log_gather.specs.Facts.{first_place}
 use Rattle.log_gather.specs.Gathered.{IsGathered, names_in}
 use Rattle.log_gather.specs.Located.{at_end, entry_in, event_in, gather_located}
 use Rattle.log_gather.specs.LogEvents.{Name}
-use Rattle.log_gather.specs.Marks.{steps_of}
+use Rattle.log_gather.specs.Marks.{entry_marked, steps_of}
 use Rattle.log_gather.specs.Passing.{IsPassage}
 use Rattle.log_gather.specs.Spans.{begins_act, names_from}
 use Rattle.log_gather.specs.Steps.{AllAwait, facts_seen, located_of, names_awaited}
@@ -59,6 +59,6 @@ is_gathered s log x ys entries seen made is =
           ∙ sym (sym (gathered_is_by_acts s log seen.block_run) ∙ gathered_by_located s log seen.block_run);
     }
 
-pub entries_marked : (d : Details) (ms : List Mark) → map (λ x. x.entry) ms ≡ map (λ y. y.entry) (steps_of d ms)
+pub entries_marked : (d : Details) (ms : List Mark) → map entry_marked ms ≡ map (λ y. y.entry) (steps_of d ms)
 entries_marked d [] = refl
-entries_marked d (m ∷ ms) = ap (λ l. m.entry ∷ l) (entries_marked d ms)
+entries_marked d (m ∷ ms) = ap (λ l. entry_marked m ∷ l) (entries_marked d ms)

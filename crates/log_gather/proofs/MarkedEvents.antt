@@ -9,7 +9,7 @@ use Rattle.log_gather.specs.declared.marks.Details.{Details}
 use Rattle.log_gather.specs.declared.marks.Mark.{Mark}
 use Rattle.log_gather.specs.declared.steps.Step.{Step}
 use Rattle.log_gather.specs.Facts.{is_of}
-use Rattle.log_gather.specs.Marks.{IsAdded, IsGrown, IsLonger, IsMarked, IsNumbered, are_known, first_taken, is_known, other_marks, own_marks, step_of, steps_of}
+use Rattle.log_gather.specs.Marks.{IsAdded, IsGrown, IsLonger, IsMarked, IsNumbered, are_known, entry_marked, first_taken, is_known, other_marks, own_marks, step_of, steps_of}
 use Rattle.log_gather.specs.Turns.{other_steps, own_steps, taken_first}
 
 -- LISTS WITH MORE AT THEIR END
@@ -142,7 +142,7 @@ filtered p q (x ∷ xs) all =
 pub known_parted : (d : Details) (h : ℕ) (xs : List Mark) → are_known d xs ≡ true → are_known d (other_marks h xs ++ own_marks h xs) ≡ true
 known_parted d h xs known =
     list_all-append (is_known d) (other_marks h xs) (own_marks h xs)
-    ∙ and_from (are_known d (other_marks h xs)) (are_known d (own_marks h xs)) (filtered (is_known d) (λ x. not (is_of h x.entry)) xs known) (filtered (is_known d) (λ x. is_of h x.entry) xs known)
+    ∙ and_from (are_known d (other_marks h xs)) (are_known d (own_marks h xs)) (filtered (is_known d) (λ x. not (is_of h (entry_marked x))) xs known) (filtered (is_known d) (λ x. is_of h (entry_marked x)) xs known)
 
 -- the first awaits its turn no longer
 pub steps_taken : (d : Details) (xs : List Mark) → steps_of d (first_taken xs) ≡ taken_first (steps_of d xs)

@@ -57,11 +57,11 @@ module _ (d : Details) (h : ℕ) (at_end : Bool) (from : List Mark) (m : Mark) (
 
 -- where the sequence stays
 pub kept_marks : (at_end : ℕ → Bool) (d : Details) (old new : List Mark) (m : Mark) (inside : Bool) (o : Option ℕ) → 0 < length old → new ≡ first_taken old
-    → inside ≡ at_end (get_or new 0 m).entry.hart.0 → IsPrivateLength (get_or new 0 m).entry.hart.0 inside (steps_of d new) o → o ≡ None → are_known d old ≡ true
+    → inside ≡ at_end (get_or new 0 m).hart.0 → IsPrivateLength (get_or new 0 m).hart.0 inside (steps_of d new) o → o ≡ None → are_known d old ≡ true
     → AreOf d (after_turn at_end (steps_of d old)) d new
 kept_marks at_end d [] new m inside o some is same private none known = absurd (omega (arith, some))
 kept_marks at_end d (x ∷ xs) new m inside o some is same private none known =
-    let P : List Mark → Type 0 = λ l. inside ≡ at_end (get_or l 0 m).entry.hart.0 → IsPrivateLength (get_or l 0 m).entry.hart.0 inside (steps_of d l) o
+    let P : List Mark → Type 0 = λ l. inside ≡ at_end (get_or l 0 m).hart.0 → IsPrivateLength (get_or l 0 m).hart.0 inside (steps_of d l) o
     → AreOf d (after_turn at_end (steps_of d (x ∷ xs))) d l in
     subst P (sym is) (λ same private. record {
       grown = grown_same d;
@@ -71,19 +71,19 @@ kept_marks at_end d (x ∷ xs) new m inside o some is same private none known =
 
 -- and where it is moved
 pub moved_marks : (at_end : ℕ → Bool) (c d : Details) (old new made : List Mark) (m : Mark) (inside : Bool) (o : Option ℕ) (n : ℕ) → 0 < length old → new ≡ first_taken old
-    → inside ≡ at_end (get_or new 0 m).entry.hart.0 → IsPrivateLength (get_or new 0 m).entry.hart.0 inside (steps_of c new) o → o ≡ Some n → are_known c old ≡ true
-    → AreOf c (moved_steps (get_or new 0 m).entry.hart.0 (steps_of c (take n new))) d made → AreOf c (after_turn at_end (steps_of c old)) d (made ++ drop n new)
+    → inside ≡ at_end (get_or new 0 m).hart.0 → IsPrivateLength (get_or new 0 m).hart.0 inside (steps_of c new) o → o ≡ Some n → are_known c old ≡ true
+    → AreOf c (moved_steps (get_or new 0 m).hart.0 (steps_of c (take n new))) d made → AreOf c (after_turn at_end (steps_of c old)) d (made ++ drop n new)
 moved_marks at_end c d [] new made m inside o n some is same private there known moved = absurd (omega (arith, some))
 moved_marks at_end c d (x ∷ xs) new made m inside o n some is same private there known moved =
-    let P : List Mark → Type 0 = λ l. inside ≡ at_end (get_or l 0 m).entry.hart.0 → IsPrivateLength (get_or l 0 m).entry.hart.0 inside (steps_of c l) o
-    → AreOf c (moved_steps (get_or l 0 m).entry.hart.0 (steps_of c (take n l))) d made → AreOf c (after_turn at_end (steps_of c (x ∷ xs))) d (made ++ drop n l) in
+    let P : List Mark → Type 0 = λ l. inside ≡ at_end (get_or l 0 m).hart.0 → IsPrivateLength (get_or l 0 m).hart.0 inside (steps_of c l) o
+    → AreOf c (moved_steps (get_or l 0 m).hart.0 (steps_of c (take n l))) d made → AreOf c (after_turn at_end (steps_of c (x ∷ xs))) d (made ++ drop n l) in
     subst P (sym is) here same private moved
   where
     taken : List Mark
     taken = first_taken (x ∷ xs)
 
-    here : inside ≡ at_end x.entry.hart.0 → IsPrivateLength x.entry.hart.0 inside (steps_of c taken) o
-        → AreOf c (moved_steps x.entry.hart.0 (steps_of c (take n taken))) d made → AreOf c (after_turn at_end (steps_of c (x ∷ xs))) d (made ++ drop n taken)
+    here : inside ≡ at_end x.hart.0 → IsPrivateLength x.hart.0 inside (steps_of c taken) o
+        → AreOf c (moved_steps x.hart.0 (steps_of c (take n taken))) d made → AreOf c (after_turn at_end (steps_of c (x ∷ xs))) d (made ++ drop n taken)
     here same private moved =
         let rest_known = known_rest c taken n (known_taken c (x ∷ xs) known) in
         let spans : steps_of c (take n taken) ≡ take n (steps_of c taken) = sym (take-map (step_of c) n taken) in
@@ -94,7 +94,7 @@ moved_marks at_end c d (x ∷ xs) new made m inside o n some is same private the
               map-append (step_of d) made (drop n taken)
               ∙ ap (λ l. steps_of d made ++ l) (steps_same c d moved.grown (drop n taken) rest_known ∙ sym (drop-map (step_of c) n taken))
               ∙ turn_private at_end (steps_of c (x ∷ xs)) (steps_of c taken) (step_of c x) inside o n (steps_of d made) (omega arith) refl same private there
-              (moved.events ∙ ap (moved_steps x.entry.hart.0) spans);
+              (moved.events ∙ ap (moved_steps x.hart.0) spans);
         }
 
 -- what is asked of the span that is moved

@@ -6,31 +6,31 @@ use Rattle.std.proofs.lemmas.List.Filters.{length-filter_both}
 use borrow.Rule.Slice.PartMut.{put_mid}
 use Rattle.log_gather.specs.declared.marks.Mark.{Mark}
 use Rattle.log_gather.specs.Facts.{is_of}
-use Rattle.log_gather.specs.Marks.{AreTaken, other_marks, own_marks}
+use Rattle.log_gather.specs.Marks.{AreTaken, entry_marked, other_marks, own_marks}
 use Rattle.log_gather.proofs.TurnsTaken.{put_to_end, to_end}
 
 module _ (h : ℕ) (span : List Mark) (i : ℕ) (d : Mark) (within : i < length span) where
   abbrev mark : Mark
   mark = get_or span i d
 
-  own_more : own_marks h (take (i + 1) span) ≡ own_marks h (take i span) ++ cond (is_of h mark.entry) (mark ∷ []) []
-  own_more = ap (own_marks h) (take_more span i d within) ∙ filter-append (λ x. is_of h x.entry) (take i span) (mark ∷ [])
+  own_more : own_marks h (take (i + 1) span) ≡ own_marks h (take i span) ++ cond (is_of h (entry_marked mark)) (mark ∷ []) []
+  own_more = ap (own_marks h) (take_more span i d within) ∙ filter-append (λ x. is_of h (entry_marked x)) (take i span) (mark ∷ [])
 
-  other_more : other_marks h (take (i + 1) span) ≡ other_marks h (take i span) ++ cond (not (is_of h mark.entry)) (mark ∷ []) []
-  other_more = ap (other_marks h) (take_more span i d within) ∙ filter-append (λ x. not (is_of h x.entry)) (take i span) (mark ∷ [])
+  other_more : other_marks h (take (i + 1) span) ≡ other_marks h (take i span) ++ cond (not (is_of h (entry_marked mark))) (mark ∷ []) []
+  other_more = ap (other_marks h) (take_more span i d within) ∙ filter-append (λ x. not (is_of h (entry_marked x))) (take i span) (mark ∷ [])
 
   -- one of the hart
-  pub own_with : is_of h mark.entry ≡ true → own_marks h (take i span) ++ mark ∷ [] ≡ own_marks h (take (i + 1) span)
+  pub own_with : is_of h (entry_marked mark) ≡ true → own_marks h (take i span) ++ mark ∷ [] ≡ own_marks h (take (i + 1) span)
   own_with own = sym (own_more ∙ ap (λ b. own_marks h (take i span) ++ cond b (mark ∷ []) []) own)
 
-  pub others_same : is_of h mark.entry ≡ true → other_marks h (take i span) ≡ other_marks h (take (i + 1) span)
+  pub others_same : is_of h (entry_marked mark) ≡ true → other_marks h (take i span) ≡ other_marks h (take (i + 1) span)
   others_same own = sym (other_more ∙ ap (λ b. other_marks h (take i span) ++ cond (not b) (mark ∷ []) []) own ∙ append-nil (other_marks h (take i span)))
 
   -- one of another
-  pub own_same : is_of h mark.entry ≡ false → own_marks h (take i span) ≡ own_marks h (take (i + 1) span)
+  pub own_same : is_of h (entry_marked mark) ≡ false → own_marks h (take i span) ≡ own_marks h (take (i + 1) span)
   own_same other = sym (own_more ∙ ap (λ b. own_marks h (take i span) ++ cond b (mark ∷ []) []) other ∙ append-nil (own_marks h (take i span)))
 
-  pub others_with : is_of h mark.entry ≡ false → other_marks h (take i span) ++ mark ∷ [] ≡ other_marks h (take (i + 1) span)
+  pub others_with : is_of h (entry_marked mark) ≡ false → other_marks h (take i span) ++ mark ∷ [] ≡ other_marks h (take (i + 1) span)
   others_with other = sym (other_more ∙ ap (λ b. other_marks h (take i span) ++ cond (not b) (mark ∷ []) []) other)
 
 -- an event that is still in its place
@@ -61,9 +61,9 @@ module _ (h : ℕ) (old new : List Mark) (i n : ℕ) (these : List Mark) (was : 
       drop_one_more : (xs : List Mark) → drop (i + 1) xs ≡ drop 1 (drop i xs)
       drop_one_more xs = sym (drop-drop 1 i xs)
 
-  pub one_taken : (more : List Mark) → is_of h next.entry ≡ true → more ≡ these ++ next ∷ [] → AreTakenTo h old new (i + 1) n more
+  pub one_taken : (more : List Mark) → is_of h (entry_marked next) ≡ true → more ≡ these ++ next ∷ [] → AreTakenTo h old new (i + 1) n more
   one_taken more own is =
-      let its : is_of h (get_or old i m).entry ≡ true = ap (λ (x : Mark). is_of h x.entry) (sym here) ∙ own in
+      let its : is_of h (entry_marked (get_or old i m)) ≡ true = ap (λ (x : Mark). is_of h (entry_marked x)) (sym here) ∙ own in
       record {
         long = was.long;
         low = omega (arith, was.low);
@@ -73,9 +73,9 @@ module _ (h : ℕ) (old new : List Mark) (i n : ℕ) (these : List Mark) (was : 
         rest = rest_more;
       }
 
-  pub one_passed : is_of h next.entry ≡ false → AreTakenTo h old (set new n next) (i + 1) (n + 1) these
+  pub one_passed : is_of h (entry_marked next) ≡ false → AreTakenTo h old (set new n next) (i + 1) (n + 1) these
   one_passed other =
-      let its : is_of h (get_or old i m).entry ≡ false = ap (λ (x : Mark). is_of h x.entry) (sym here) ∙ other in
+      let its : is_of h (entry_marked (get_or old i m)) ≡ false = ap (λ (x : Mark). is_of h (entry_marked x)) (sym here) ∙ other in
       let more = others_with h old i m within its in
       record {
         long = length-set new n next ∙ was.long;
@@ -103,7 +103,7 @@ not_not true = refl
 not_not false = refl
 
 pub parted_length : (h : ℕ) (span : List Mark) → length (other_marks h span) + length (own_marks h span) ≡ length span
-parted_length h span = length-filter_both (λ (x : Mark). not (is_of h x.entry)) (λ (x : Mark). is_of h x.entry) (λ x. not_not (is_of h x.entry)) span
+parted_length h span = length-filter_both (λ (x : Mark). not (is_of h (entry_marked x))) (λ (x : Mark). is_of h (entry_marked x)) (λ x. not_not (is_of h (entry_marked x))) span
 
 -- they are put behind
 pub put_behind : (h : ℕ) (old new own made : List Mark) → AreTaken h old new own → length new ≡ length old → made ≡ own

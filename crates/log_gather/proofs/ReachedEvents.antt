@@ -1,7 +1,7 @@
 -- How far an act goes on, found in one pass over what follows its first event.
 use Rattle.std.proofs.Common.{◌≡◌, ℕ, suc, ◌+◌, ◌<◌, ◌≤◌, List, [], ◌∷◌, length, get_or, map, take, drop, refl, sym, ap, subst, ◌∙◌, arith, length-append, Bool, true, false, not, cond, ◌&&◌, ◌||◌}
 use Rattle.std.specs.List.{fold}
-use Rattle.std.proofs.lemmas.List.{drop_all, drop_at, drop_more, take-map, take_at}
+use Rattle.std.proofs.lemmas.List.{drop_all, drop_at, drop_more, take_at}
 use Rattle.block_model.specs.Acts.{is_instruction}
 use Rattle.log_gather.specs.declared.marks.Details.{Details}
 use Rattle.log_gather.specs.declared.marks.Mark.{Mark}
@@ -9,8 +9,8 @@ use Rattle.log_gather.specs.declared.spans.Reach.{Reach}
 use Rattle.log_gather.specs.declared.steps.Step.{Step}
 use Rattle.log_gather.specs.Facts.{is_of}
 use Rattle.log_gather.specs.LogEvents.{LogEvent, entry_of, is_own}
-use Rattle.log_gather.specs.Marks.{step_of, steps_of}
-use Rattle.log_gather.specs.Spans.{after_act, begins_act, goes_on, is_inside_next, rest_of_act, span_from}
+use Rattle.log_gather.specs.Marks.{entry_marked, step_of, steps_of}
+use Rattle.log_gather.specs.Spans.{after_act, begins_act, goes_on, is_inside_next, rest_of_act}
 use Rattle.log_gather.specs.Steps.{facts_seen}
 use Rattle.log_gather.specs.Turns.{IsReach, event_of}
 use Rattle.log_gather.proofs.ActPlaces.{act_and_after}
@@ -122,39 +122,39 @@ module _ (h : ℕ) (at_end : Bool) where
   abbrev pub passed : ℕ → ℕ → Bool → List Mark → Reach
   passed i n moved [] = record { length = n; moved_out = moved; inside_next = at_end }
   passed i n moved (x ∷ xs) =
-      cond (is_of h x.entry)
-      (cond (not x.within || x.begins) (record { length = n; moved_out = moved; inside_next = x.inside }) (passed (i + 1) (i + 1) (cond (is_instruction x.entry.kind) x.moves_out moved) xs))
+      cond (is_of h (entry_marked x))
+      (cond (not x.within || x.begins) (record { length = n; moved_out = moved; inside_next = x.inside }) (passed (i + 1) (i + 1) (cond (is_instruction x.kind) x.moves_out moved) xs))
       (passed (i + 1) n moved xs)
 
   passed_is : (d : Details) (i n : ℕ) (moved : Bool) (xs : List Mark) → reached i n moved (steps_of d xs) ≡ passed i n moved xs
   passed_is d i n moved [] = refl
   passed_is d i n moved (x ∷ xs) =
       let over : Reach = record { length = n; moved_out = moved; inside_next = x.inside } in
-      let goes : Bool = cond (is_instruction x.entry.kind) x.moves_out moved in
-      λ j. cond (is_of h x.entry) (cond (not x.within || x.begins) over (passed_is d (i + 1) (i + 1) goes xs j)) (passed_is d (i + 1) n moved xs j)
+      let goes : Bool = cond (is_instruction x.kind) x.moves_out moved in
+      λ j. cond (is_of h (entry_marked x)) (cond (not x.within || x.begins) over (passed_is d (i + 1) (i + 1) goes xs j)) (passed_is d (i + 1) n moved xs j)
 
   abbrev pub pass_of : List Mark → Reach
   pass_of [] = record { length = 0; moved_out = false; inside_next = at_end }
-  pass_of (x ∷ xs) = passed 1 1 (cond (is_of h x.entry && is_instruction x.entry.kind) x.moves_out false) xs
+  pass_of (x ∷ xs) = passed 1 1 (cond (is_of h (entry_marked x) && is_instruction x.kind) x.moves_out false) xs
 
   pass_reaches : (d : Details) (from : List Mark) → 0 < length from → IsReach h at_end (steps_of d from) (pass_of from)
   pass_reaches d [] some = absurd (omega (arith, some))
   pass_reaches d (x ∷ xs) some =
-      subst (IsReach h at_end (steps_of d (x ∷ xs))) (passed_is d 1 1 (cond (is_of h x.entry && is_instruction x.entry.kind) x.moves_out false) xs)
+      subst (IsReach h at_end (steps_of d (x ∷ xs))) (passed_is d 1 1 (cond (is_of h (entry_marked x) && is_instruction x.kind) x.moves_out false) xs)
       (reach_is (step_of d x) (steps_of d xs))
 
   pub pass_starts : (from : List Mark) (x : Mark) → 0 < length from → x ≡ get_or from 0 x
-      → passed 1 1 (cond (is_of h x.entry && is_instruction x.entry.kind) x.moves_out false) (drop 1 from) ≡ pass_of from
+      → passed 1 1 (cond (is_of h (entry_marked x) && is_instruction x.kind) x.moves_out false) (drop 1 from) ≡ pass_of from
   pass_starts [] x some is = absurd (omega (arith, some))
-  pass_starts (y ∷ ys) x some is = ap (λ (z : Mark). passed 1 1 (cond (is_of h z.entry && is_instruction z.entry.kind) z.moves_out false) ys) is
+  pass_starts (y ∷ ys) x some is = ap (λ (z : Mark). passed 1 1 (cond (is_of h (entry_marked z) && is_instruction z.kind) z.moves_out false) ys) is
 
   -- where it comes to an event that begins another act, and to the end
   pub reach_before : (d : Details) (i n : ℕ) (moved : Bool) (from : List Mark) (m : Mark) → 0 < length from → passed i n moved (drop i from) ≡ pass_of from → i < length from
-      → is_of h (get_or from i m).entry ≡ true → (not (get_or from i m).within || (get_or from i m).begins) ≡ true
+      → is_of h (entry_marked (get_or from i m)) ≡ true → (not (get_or from i m).within || (get_or from i m).begins) ≡ true
       → IsReach h at_end (steps_of d from) (record { length = n; moved_out = moved; inside_next = (get_or from i m).inside })
   reach_before d i n moved from m some stays within own begins =
       let x = get_or from i m in
-      let goes : Bool = cond (is_instruction x.entry.kind) x.moves_out moved in
+      let goes : Bool = cond (is_instruction x.kind) x.moves_out moved in
       let rest : Bool → Bool → Reach = λ o b.
       cond o (cond b (record { length = n; moved_out = moved; inside_next = x.inside }) (passed (i + 1) (i + 1) goes (drop (i + 1) from))) (passed (i + 1) n moved (drop (i + 1) from)) in
       let made : pass_of from ≡ record { length = n; moved_out = moved; inside_next = x.inside } =
@@ -165,7 +165,3 @@ module _ (h : ℕ) (at_end : Bool) where
       → IsReach h at_end (steps_of d from) (record { length = n; moved_out = moved; inside_next = at_end })
   reach_to_end d i n moved from some stays over =
       subst (IsReach h at_end (steps_of d from)) (sym stays ∙ ap (passed i n moved) (drop_all i from over)) (pass_reaches d from some)
-
--- the span of a sequence, where it is one of so many events
-pub reach_takes : (d : Details) (h : ℕ) (at_end : Bool) (from : List Mark) (r : Reach) → IsReach h at_end (steps_of d from) r → steps_of d (take r.length from) ≡ span_from facts_seen h (steps_of d from)
-reach_takes d h at_end from r reach = sym (take-map (step_of d) r.length from) ∙ reach.span

@@ -63,7 +63,7 @@ all_set p (x ∷ xs) (suc i) y all here =
 
 -- whether its hart is one of eight
 abbrev pub has_hart : Mark → Bool
-has_hart x = ltb x.entry.hart.0 8
+has_hart x = ltb x.hart.0 8
 
 pub harts_of : (d : Details) (xs : List Mark) → list_all is_of_eight (steps_of d xs) ≡ true → list_all has_hart xs ≡ true
 harts_of d [] all = refl
@@ -90,8 +90,8 @@ module _ (c d : Details) (old new : List Mark) (first i n : ℕ) (was : AreRenew
   rest_is : drop i new ≡ x ∷ drop (i + 1) new
   rest_is = drop_more new i m within
 
-  pub next_hart : x.entry.hart.0 < 8
-  next_hart = ltb-true x.entry.hart.0 8 (and_parts (has_hart x) (list_all has_hart (drop (i + 1) new)) (ap (list_all has_hart) (sym rest_is) ∙ was.harts)).0
+  pub next_hart : x.hart.0 < 8
+  next_hart = ltb-true x.hart.0 8 (and_parts (has_hart x) (list_all has_hart (drop (i + 1) new)) (ap (list_all has_hart) (sym rest_is) ∙ was.harts)).0
 
   x_known : is_known d x ≡ true
   x_known = (and_parts (is_known d x) (are_known d (drop (i + 1) new)) (ap (are_known d) (sym rest_is) ∙ known_rest d new i was.known)).0

@@ -12,11 +12,11 @@ use Rattle.block_model.specs.Footprints.{has_byte, have_byte, overlap_any}
 use Rattle.rseq_area.specs.declared.lookups.Lookups.{Lookups}
 use Rattle.log_gather.specs.declared.accesses.Access.{Access}
 use Rattle.log_gather.specs.Accesses.{bytes_in}
-use Rattle.log_gather.specs.ByteSets.{AreWith, HasLookedAt, HasTouched, IsBounded, IsReady, IsTouched, IsWith, any_in, clashes_in, holds}
+use Rattle.log_gather.specs.ByteSets.{AreWith, HasLookedAt, HasTouched, IsBounded, IsReady, IsTouched, IsWith, any_in, clashes_in, disturbs, holds}
 use Rattle.log_gather.specs.Facts.{is_of}
 use Rattle.log_gather.specs.LogEvents.{LogEvent, clash, is_own, is_undisturbed, own_of, reads_of, writes_of}
 use Rattle.log_gather.specs.Lookups.{bytes_if, bytes_looked_at}
-use Rattle.log_gather.specs.Marks.{step_of, steps_of}
+use Rattle.log_gather.specs.Marks.{entry_marked, step_of, steps_of}
 use Rattle.log_gather.specs.Turns.{event_of, own_steps}
 use Rattle.log_gather.specs.declared.byte_sets.ByteSet.{ByteSet}
 use Rattle.log_gather.specs.declared.clashes.Touched.{Touched}
@@ -24,6 +24,10 @@ use Rattle.log_gather.specs.declared.marks.Details.{Details}
 use Rattle.log_gather.specs.declared.marks.Mark.{Mark}
 use Rattle.log_gather.specs.declared.steps.Step.{Step}
 use Rattle.log_gather.proofs.ClashingBytes.{any_in_is, clashes_with_one, undisturbed_is}
+
+or_true : (b : Bool) → (b || true) ≡ true
+or_true true = refl
+or_true false = refl
 
 or_false : (b : Bool) → b ≡ (b || false)
 or_false true = refl
@@ -148,19 +152,19 @@ filter_append p (x ∷ xs) ys = go (p x) (filter_append p xs ys)
 
 owns_more : (d : Details) (h : ℕ) (span : List Mark) (i : ℕ) (m : Mark) → i < length span
     → own_steps h (steps_of d (take (i + 1) span))
-    ≡ own_steps h (steps_of d (take i span)) ++ cond (is_of h (get_or span i m).entry) (step_of d (get_or span i m) ∷ []) []
+    ≡ own_steps h (steps_of d (take i span)) ++ cond (is_of h (entry_marked (get_or span i m))) (step_of d (get_or span i m) ∷ []) []
 owns_more d h span i m within =
     ap (λ l. own_steps h (steps_of d l)) (take_more span i m within)
     ∙ ap (own_steps h) (map-append (step_of d) (take i span) (get_or span i m ∷ []))
     ∙ filter_append (λ x. is_of h x.entry) (steps_of d (take i span)) (step_of d (get_or span i m) ∷ [])
 
-owns_with : (d : Details) (h : ℕ) (span : List Mark) (i : ℕ) (m : Mark) → i < length span → is_of h (get_or span i m).entry ≡ true
+owns_with : (d : Details) (h : ℕ) (span : List Mark) (i : ℕ) (m : Mark) → i < length span → is_of h (entry_marked (get_or span i m)) ≡ true
     → map event_of (own_steps h (steps_of d (take (i + 1) span))) ≡ map event_of (own_steps h (steps_of d (take i span))) ++ event_of (step_of d (get_or span i m)) ∷ []
 owns_with d h span i m within own =
     ap (map event_of) (owns_more d h span i m within ∙ ap (λ b. own_steps h (steps_of d (take i span)) ++ cond b (step_of d (get_or span i m) ∷ []) []) own)
     ∙ map-append event_of (own_steps h (steps_of d (take i span))) (step_of d (get_or span i m) ∷ [])
 
-owns_without : (d : Details) (h : ℕ) (span : List Mark) (i : ℕ) (m : Mark) → i < length span → is_of h (get_or span i m).entry ≡ false
+owns_without : (d : Details) (h : ℕ) (span : List Mark) (i : ℕ) (m : Mark) → i < length span → is_of h (entry_marked (get_or span i m)) ≡ false
     → map event_of (own_steps h (steps_of d (take (i + 1) span))) ≡ map event_of (own_steps h (steps_of d (take i span)))
 owns_without d h span i m within other =
     ap (map event_of)
@@ -169,13 +173,13 @@ owns_without d h span i m within other =
 
 -- what they touch, with an event more
 pub touched_own : (d : Details) (h : ℕ) (span : List Mark) (i : ℕ) (m : Mark) (s t : Touched) → IsTouched (map event_of (own_steps h (steps_of d (take i span)))) s
-    → i < length span → is_of h (get_or span i m).entry ≡ true → HasTouched s (event_of (step_of d (get_or span i m))) t
+    → i < length span → is_of h (entry_marked (get_or span i m)) ≡ true → HasTouched s (event_of (step_of d (get_or span i m))) t
     → IsTouched (map event_of (own_steps h (steps_of d (take (i + 1) span)))) t
 touched_own d h span i m s t so_far within own one =
     subst (λ l. IsTouched l t) (sym (owns_with d h span i m within own)) (touched_more (map event_of (own_steps h (steps_of d (take i span)))) s (event_of (step_of d (get_or span i m))) t so_far one)
 
 pub touched_other : (d : Details) (h : ℕ) (span : List Mark) (i : ℕ) (m : Mark) (s : Touched) → IsTouched (map event_of (own_steps h (steps_of d (take i span)))) s
-    → i < length span → is_of h (get_or span i m).entry ≡ false → IsTouched (map event_of (own_steps h (steps_of d (take (i + 1) span)))) s
+    → i < length span → is_of h (entry_marked (get_or span i m)) ≡ false → IsTouched (map event_of (own_steps h (steps_of d (take (i + 1) span)))) s
 touched_other d h span i m s so_far within other = subst (λ l. IsTouched l s) (sym (owns_without d h span i m within other)) so_far
 
 own_events : (h : ℕ) (span : List Step) → map event_of (own_steps h span) ≡ own_of h (map event_of span)
@@ -195,23 +199,39 @@ clashes_is xs t touched y =
     ∙ ap (λ b. overlap_any (flat_map reads_of xs) (writes_of y) || (overlap_any (flat_map writes_of xs) (writes_of y) || b)) (any_in_is (holds t.writes) (flat_map writes_of xs) (reads_of y) touched.writes.members)
     ∙ clashes_with_one xs y
 
-plain_events : (span : List Step) → list_all (λ x. x.facts.plain) (map event_of span) ≡ list_all (λ x. x.plain) span
-plain_events [] = refl
-plain_events (x ∷ xs) = ap (λ b. x.plain && b) (plain_events xs)
+any_or : {A : Type 0} (p q : A → Bool) (xs : List A) → list_any (λ x. p x || q x) xs ≡ (list_any p xs || list_any q xs)
+any_or p q [] = refl
+any_or p q (x ∷ xs) = go (p x) (q x) (any_or p q xs)
+  where
+    go : (a b : Bool) → list_any (λ y. p y || q y) xs ≡ (list_any p xs || list_any q xs)
+        → ((a || b) || list_any (λ y. p y || q y) xs) ≡ ((a || list_any p xs) || (b || list_any q xs))
+    go true b rest = refl
+    go false true rest = sym (or_true (list_any p xs))
+    go false false rest = rest
 
--- so a span of plain events is undisturbed where none of another hart clashes with what its own touch
-pub undisturbed_by : (h : ℕ) (span : List Step) (t : Touched) → IsTouched (map event_of (own_steps h span)) t → list_all (λ x. x.plain) span ≡ true
-    → not (list_any (λ y. not (is_own h y) && clashes_in t y) (map event_of span)) ≡ is_undisturbed h (map event_of span)
-undisturbed_by h span t touched plain =
+none_not : {A : Type 0} (p : A → Bool) (xs : List A) → not (list_any (λ x. not (p x)) xs) ≡ list_all p xs
+none_not p [] = refl
+none_not p (x ∷ xs) = go (p x) (none_not p xs)
+  where
+    go : (a : Bool) → not (list_any (λ y. not (p y)) xs) ≡ list_all p xs → not (not a || list_any (λ y. not (p y)) xs) ≡ (a && list_all p xs)
+    go true rest = rest
+    go false rest = refl
+
+not_or : (a b : Bool) → not (a || b) ≡ (not a && not b)
+not_or true b = refl
+not_or false b = refl
+
+-- so a span is undisturbed where all events are plain, and none of another hart clashes with what its own touch
+pub undisturbed_by : (h : ℕ) (span : List Step) (t : Touched) → IsTouched (map event_of (own_steps h span)) t
+    → not (list_any (disturbs t h) (map event_of span)) ≡ is_undisturbed h (map event_of span)
+undisturbed_by h span t touched =
     let all = map event_of span in
-    ap (λ p. not (list_any p all)) (fun_ext (λ y. ap (λ b. not (is_own h y) && b) (clashes_is (map event_of (own_steps h span)) t touched y ∙ ap (list_any (λ x. clash x y)) (own_events h span))))
-    ∙ ap (λ b. b && not (list_any (λ y. not (is_own h y) && list_any (λ x. clash x y) (own_of h all)) all)) (sym (plain_events span ∙ plain))
+    ap not (any_or (λ y. not y.facts.plain) (λ y. not (is_own h y) && clashes_in t y) all)
+    ∙ not_or (list_any (λ y. not y.facts.plain) all) (list_any (λ y. not (is_own h y) && clashes_in t y) all)
+    ∙ ap (λ b. b && not (list_any (λ y. not (is_own h y) && clashes_in t y) all)) (none_not (λ y. y.facts.plain) all)
+    ∙ ap (λ p. list_all (λ y. y.facts.plain) all && not (list_any p all))
+    (fun_ext (λ y. ap (λ b. not (is_own h y) && b) (clashes_is (map event_of (own_steps h span)) t touched y ∙ ap (list_any (λ x. clash x y)) (own_events h span))))
     ∙ sym (undisturbed_is h all)
-
-pub disturbed_by : (h : ℕ) (span : List Step) → list_all (λ x. x.plain) span ≡ false → false ≡ is_undisturbed h (map event_of span)
-disturbed_by h span plain =
-    let all = map event_of span in
-    ap (λ b. b && not (list_any (λ y. not (is_own h y) && list_any (λ x. clash x y) (own_of h all)) all)) (sym (plain_events span ∙ plain)) ∙ sym (undisturbed_is h all)
 
 -- an area at which was looked last
 pub looked_again : (t : Touched) (looked : Option Lookups) → IsReady t → t.last ≡ looked → HasLookedAt t looked t

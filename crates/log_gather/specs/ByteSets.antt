@@ -1,12 +1,12 @@
 -- Sets of bytes of memory, and what the events of a sequence touch, as code keeps them (own).
-use Rattle.std.specs.Prelude.{ℕ, ◌+◌, ◌<◌, ◌≤◌, ◌≡◌, ◌&&◌, ◌||◌, Bool, true, false, List, length, nat_eq, nat_le, nat_lt, Option, []}
+use Rattle.std.specs.Prelude.{ℕ, ◌+◌, ◌<◌, ◌≤◌, ◌≡◌, ◌&&◌, ◌||◌, Bool, true, false, not, List, length, nat_eq, nat_le, nat_lt, Option, []}
 use Rattle.std.specs.HashSet.{contains}
 use Rattle.std.specs.Option.{option_map_or}
 use Rattle.std.specs.List.{flat_map, list_any, range_with_len}
 use Rattle.rv_inst.specs.Accesses.{Bytes}
 use Rattle.block_model.specs.Footprints.{has_byte, have_byte}
 use Rattle.rseq_area.specs.declared.lookups.Lookups.{Lookups}
-use Rattle.log_gather.specs.LogEvents.{LogEvent, reads_of, writes_of}
+use Rattle.log_gather.specs.LogEvents.{LogEvent, is_own, reads_of, writes_of}
 use Rattle.log_gather.specs.Lookups.{bytes_looked_at}
 use Rattle.log_gather.specs.declared.byte_sets.ByteSet.{ByteSet}
 use Rattle.log_gather.specs.declared.byte_sets.Extent.{Extent}
@@ -74,6 +74,10 @@ pub record IsTouched (events : List LogEvent) (t : Touched) : Type 0 where
 abbrev pub clashes_in : Touched → LogEvent → Bool
 clashes_in t y =
     any_in (holds t.reads) (writes_of y) || (any_in (holds t.writes) (writes_of y) || any_in (holds t.writes) (reads_of y))
+
+-- whether an event isn't plain, or is one of another hart than h that does
+abbrev pub disturbs : Touched → ℕ → LogEvent → Bool
+disturbs t h y = not y.facts.plain || (not (is_own h y) && clashes_in t y)
 
 -- what is touched so far can be added to
 pub record IsReady (t : Touched) : Type 0 where

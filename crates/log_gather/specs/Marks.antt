@@ -2,6 +2,7 @@
 use Rattle.std.specs.Prelude.{ℕ, ◌<◌, ◌≡◌, ◌&&◌, Bool, true, false, not, List, [], ◌∷◌, ◌++◌, filter, length, map, nat_lt, take, replicate, slice_index_or, Option, None, is_none}
 use Rattle.std.specs.List.{list_all}
 use Rattle.log_gather.specs.declared.accesses.TheConstants.{NO_ACCESS}
+use Rattle.mach_types.specs.declared.events.Entry.{Entry}
 use Rattle.log_gather.specs.declared.accesses.Access.{Access}
 use Rattle.log_gather.specs.declared.marks.Details.{Details}
 use Rattle.log_gather.specs.declared.marks.Mark.{Mark}
@@ -15,10 +16,14 @@ use Rattle.log_gather.specs.Turns.{reserved_after}
 abbrev pub reserved_by : Details → ℕ → List (Option ℕ)
 reserved_by d n = slice_index_or d.reserved.items n (replicate 8 None)
 
+-- its entry
+abbrev pub entry_marked : Mark → Entry
+entry_marked x = record { hart = x.hart; kind = x.kind; tid = x.tid; pc = x.pc }
+
 -- the event of a mark
 abbrev pub step_of : Details → Mark → Step
 step_of d x = record {
-  entry = x.entry;
+  entry = entry_marked x;
   plain = x.plain;
   inside = x.inside;
   within = x.within;
@@ -75,10 +80,10 @@ pub record IsAdded (old : Details) (ms : List Mark) (x : Step) (new : Details) (
 -- MOVING
 
 abbrev pub own_marks : ℕ → List Mark → List Mark
-own_marks h span = filter (λ x. is_of h x.entry) span
+own_marks h span = filter (λ x. is_of h (entry_marked x)) span
 
 abbrev pub other_marks : ℕ → List Mark → List Mark
-other_marks h span = filter (λ x. not (is_of h x.entry)) span
+other_marks h span = filter (λ x. not (is_of h (entry_marked x))) span
 
 -- the marks of hart h were taken out of a span, and those of others are at its front
 pub record AreTaken (h : ℕ) (old new these : List Mark) : Type 0 where

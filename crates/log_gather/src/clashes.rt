@@ -1,9 +1,9 @@
 //! Whether the events of a span disturb a sequence.
 
-ghost use Rattle.std.specs.Prelude.{ℕ, ◌≡◌, ◌&&◌, [], IfOk, map, not};
-ghost use Rattle.std.specs.List.{list_all, list_any};
+ghost use Rattle.std.specs.Prelude.{◌≡◌, [], IfOk, map};
+ghost use Rattle.std.specs.List.{list_any};
 ghost use Rattle.log_gather.specs.ByteSets.{HasLookedAt, HasTouched, IsBounded, IsReady, IsTouched};
-ghost use Rattle.log_gather.specs.ByteSets.{any_in, clashes_in, holds};
+ghost use Rattle.log_gather.specs.ByteSets.{any_in, clashes_in, disturbs, holds};
 ghost use Rattle.log_gather.specs.LogEvents as events;
 ghost use Rattle.log_gather.specs.Marks.{step_of, steps_of};
 ghost use Rattle.log_gather.specs.Turns.{event_of, own_steps};
@@ -93,14 +93,13 @@ impl Touched {
             || reads_any(&self.writes, details, mark)
     }
 
-    /// Whether an event of another hart in a span does.
-    fn clashes_in_span(&self, details: &Details, span: &[Mark], hart: Hart) -> bool
+    /// Whether an event in a span isn't plain, or is one of another hart that does.
+    fn is_disturbed(&self, details: &Details, span: &[Mark], hart: Hart) -> bool
         requires { IsReady self.now }
-        ensures { result ≡ list_any (λ y. not (events.is_own hart.0 y) && clashes_in self.now y)
-            (map event_of (steps_of details.now span.now)) }
+        ensures { result ≡ list_any (disturbs self.now hart.0) (map event_of (steps_of details.now span.now)) }
     {
         for mark in span {
-            if !mark.is_of(hart) && self.clashes(details, mark) {
+            if !mark.plain || !mark.is_of(hart) && self.clashes(details, mark) {
                 return true;
             }
         }
@@ -120,13 +119,6 @@ fn reads_any(bytes: &ByteSet, details: &Details, mark: &Mark) -> bool
         || bytes.has_range(details.held(mark))
 }
 
-/// Whether all events of a span are plain.
-fn are_plain(span: &[Mark]) -> bool
-    ensures { result ≡ list_all (λ x. x.plain) span.now }
-{
-    span.iter().all(|mark| mark.plain)
-}
-
 /// Whether all events of a span are plain, and none of another hart clashes with one of this hart.
 pub(crate) fn is_undisturbed(
     alloc: Global,
@@ -136,9 +128,6 @@ pub(crate) fn is_undisturbed(
 ) -> Result<bool, AllocError>
     ensures { IfOk result (λ b. b ≡ events.is_undisturbed hart.0 (map event_of (steps_of details.now span.now))) }
 {
-    if !are_plain(span) {
-        return Ok(false);
-    }
     let touched = Touched::of(alloc, details, span, hart)?;
-    Ok(!touched.clashes_in_span(details, span, hart))
+    Ok(!touched.is_disturbed(details, span, hart))
 }

@@ -6,6 +6,7 @@ ghost use Rattle.elf_load.specs.Images.{IsBootable};
 ghost use Rattle.block_model.specs.Setting.{setting_of};
 ghost use Rattle.block_view.specs.Viewing.{IsViewCause};
 ghost use Rattle.log_gather.specs.Gathered.{IsGathered};
+ghost use Rattle.log_gather.specs.Marks.{entry_marked};
 
 use crate::marks::Mark;
 use crate::passing::pass;
@@ -17,9 +18,9 @@ use std::alloc::{AllocError, Global};
 
 /// The entries of events, in their order.
 fn entries_of(alloc: Global, marks: &[Mark]) -> Result<Vec<Entry>, AllocError>
-    ensures { IfOk result (λ entries. entries.items ≡ map (λ x. x.entry) marks.now) }
+    ensures { IfOk result (λ entries. entries.items ≡ map entry_marked marks.now) }
 {
-    marks.iter().map(|mark| mark.entry).collect(alloc)
+    marks.iter().map(|mark| mark.entry()).collect(alloc)
 }
 
 /// The gathered log of a log of an image under limits. Its restartable sequences (rseq(2)) have their turn in

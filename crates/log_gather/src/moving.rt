@@ -10,7 +10,7 @@ use mach_types::Hart;
 use std::alloc::{AllocError, Global};
 
 /// Finds anew what is reserved before each of plain events, where what has this number is reserved before the first.
-fn renew(details: &mut Details, span: &mut [Mark], first: usize) -> Result<(), AllocError>
+fn renew(details: &mut Details, span: &mut [Mark], first: u32) -> Result<(), AllocError>
     requires eight { list_all is_of_eight (steps_of details.old span.old) ≡ true }
     requires known { are_known details.old span.old ≡ true }
     requires first { first < length details.old.reserved.items }

@@ -61,7 +61,7 @@ fn take_turn(
         (after_turn (inside_in inside_at_end.now) (steps_of details.old from.old)) details.new from.new) }
 {
     take_first(from);
-    let hart = from[0].entry.hart;
+    let hart = from[0].hart;
     let inside = inside_at_end[usize::from(hart.0)];
     match private_length(alloc, details, from, hart, inside)? {
         Some(length) => move_others(alloc, details, &mut from[..length], hart)?,

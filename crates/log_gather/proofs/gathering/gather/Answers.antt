@@ -2,7 +2,7 @@ use Rattle.std.proofs.Common.{◌≡◌, ◌++◌, ◌∙◌, List, drop, length
 use Rattle.std.proofs.Math.Seq.{take-append_seam}
 use Rattle.block_model.specs.Setting.{setting_of}
 use Rattle.log_gather.specs.declared.marks.Mark.{Mark}
-use Rattle.log_gather.specs.Marks.{steps_of}
+use Rattle.log_gather.specs.Marks.{entry_marked, steps_of}
 use Rattle.log_gather.specs.Steps.{located_of}
 use Rattle.log_gather.specs.Turns.{after_turns, inside_in}
 use Rattle.log_gather.proofs.GatheredEntries.{entries_marked, is_gathered}
@@ -22,4 +22,4 @@ returns-clause-entries c =
     let front : take x.marks.len (ms ++ drop (length ms) x.marks.items) ≡ ms =
     ap (λ n. take n (ms ++ drop (length ms) x.marks.items)) (sym long) ∙ take-append_seam ms (drop (length ms) x.marks.items) in
     is_gathered s c.args.log.now x (steps_of d ms) c.in_ok-entries_of.field-0.items c.in_ok-passage.ensures.passage made
-    (c.in_ok-entries_of.ensures ∙ ap (map (λ (y : Mark). y.entry)) (c.deref.ensures.value ∙ front) ∙ entries_marked d ms)
+    (c.in_ok-entries_of.ensures ∙ ap (map entry_marked) (c.deref.ensures.value ∙ front) ∙ entries_marked d ms)
