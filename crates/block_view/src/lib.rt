@@ -15,7 +15,7 @@ mod viewing;
 pub use block_model::SeqEnd;
 pub use counting::counts;
 pub use forms::{Act, Acts, Form, form_word};
-pub use passing::{Passed, inside, make_again};
+pub use passing::{Passed, inside, make_again, make_named};
 pub use tally::Counts;
 pub use theorems::{acts_cover_the_log, counts_add_up};
 pub use viewing::{ViewFault, acts};

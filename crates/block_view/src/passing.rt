@@ -4,7 +4,7 @@ ghost use Rattle.std.specs.Prelude.{◌≡◌, ◌<◌, ◌↔◌, false, IfSome
 ghost use Rattle.mach_types.specs.Limits.{InRange};
 ghost use Rattle.block_model.specs.Deciding.{history};
 ghost use Rattle.block_model.specs.History.{restart, running};
-ghost use Rattle.block_model.specs.Acts.{is_instruction};
+ghost use Rattle.block_model.specs.Acts.{is_instruction, named_at};
 ghost use Rattle.block_view.specs.Acts.{form_alone, is_run};
 ghost use Rattle.block_view.specs.Ledgers.{begins, is_fatal, is_more, leaves_inside, moves_out, takes, verdict_by};
 ghost use Rattle.block_view.specs.Passing.{IsDecided, IsMadeAgain, IsMadeBy, inside_at, is_by_signal, would_interrupt};
@@ -126,7 +126,16 @@ pub fn inside(machine: &Machine, hart: Hart) -> Option<Seq>
     requires { hart.0 < machine.now.setting.limits.harts }
     ensures { result ≡ inside_at machine.now.setting hart.0 (history machine.now.setting machine.now.log) }
 {
-    match machine.named(hart) {
+    inside_named(machine, hart, &machine.named(hart))
+}
+
+/// The sequence that the thread of a hart is inside, if it is inside one, where its area names this.
+fn inside_named(machine: &Machine, hart: Hart, named: &Named) -> Option<Seq>
+    requires hart { hart.0 < machine.now.setting.limits.harts }
+    requires named { named.now ≡ named_at machine.now.setting hart.0 (history machine.now.setting machine.now.log) }
+    ensures { result ≡ inside_at machine.now.setting hart.0 (history machine.now.setting machine.now.log) }
+{
+    match *named {
         Named::Good(sequence) if sequence.is_inside(machine.hart(hart).pc) => Some(sequence),
         Named::Good(_) | Named::Bad(_) | Named::Nothing => None,
     }
@@ -180,11 +189,23 @@ pub fn make_again(machine: &mut Machine, harts: u8, entry: Entry) -> Option<Pass
     ensures made { IfSome result (IsMadeAgain machine.old machine.new entry) }
     ensures refused { IfNone result (IsDecided machine.old entry → ⊥) }
 {
-    let hart = entry.hart;
-    if hart.0 >= harts {
+    if entry.hart.0 >= harts {
         return None;
     }
-    let inside = inside(machine, hart);
+    let named = machine.named(entry.hart);
+    make_named(machine, entry, &named)
+}
+
+/// Makes an entry again, where the area of its hart's thread names this; None where it isn't the one that is decided.
+pub fn make_named(machine: &mut Machine, entry: Entry, named: &Named) -> Option<Passed>
+    requires limits { InRange machine.old.setting.limits }
+    requires hart { entry.hart.0 < machine.old.setting.limits.harts }
+    requires named { named.now ≡ named_at machine.old.setting entry.hart.0 (history machine.old.setting machine.old.log) }
+    ensures made { IfSome result (IsMadeAgain machine.old machine.new entry) }
+    ensures refused { IfNone result (IsDecided machine.old entry → ⊥) }
+{
+    let hart = entry.hart;
+    let inside = inside_named(machine, hart, named);
     let interrupts = interrupts(machine, hart, entry.kind);
     if !make(machine, entry) {
         return None;
