@@ -19,6 +19,7 @@ mod LeftSequences
 mod LocatedEvents
 mod MarkedEvents
 mod MarkedTurns
+mod NamedLookups
 mod NamedSequences
 mod NumberedActs
 mod OwnEvents

@@ -1,7 +1,8 @@
 //! A log is gone through on a machine that makes its entries again, and each event is seen.
 
-ghost use Rattle.std.specs.Prelude.{ℕ, ◌≡◌, ◌<◌, ◌&&◌, not, false, None, if◌then◌else◌};
+ghost use Rattle.std.specs.Prelude.{ℕ, ◌≡◌, ◌<◌, ◌+◌, ◌&&◌, Some, not, false, None, if◌then◌else◌};
 ghost use Rattle.std.specs.Prelude.{slice_index_or, length, IfOk, IfErr, IfSome, IfNone, is_some};
+ghost use Rattle.mach_types.specs.Bytes.{word_at};
 ghost use Rattle.mach_types.specs.Events.{choice_of};
 ghost use Rattle.mach_types.specs.Kernel.Areas.{is_inside_named};
 ghost use Rattle.mach_types.specs.Limits.{InRange};
@@ -9,9 +10,10 @@ ghost use Rattle.mach_types.specs.declared.events.Choice.TheVariants as asked;
 ghost use Rattle.mach_types.specs.declared.events.Entry.{Entry};
 ghost use Rattle.rv_inst.specs.Class as class;
 ghost use Rattle.elf_load.specs.Images.{IsBootable};
+ghost use Rattle.block_model.specs.Here.{view};
 ghost use Rattle.block_model.specs.PlainEvents.{is_plain};
 ghost use Rattle.block_model.specs.Setting.{Seen, setting_of};
-ghost use Rattle.process.specs.Sequences.{looked_at_on};
+ghost use Rattle.process.specs.Sequences.{looked_at_on, named_on};
 ghost use Rattle.block_view.specs.Ledgers as ledgers;
 ghost use Rattle.block_view.specs.Passing.{IsDecided, IsMadeAgain};
 ghost use Rattle.block_view.specs.Viewing.{IsViewCause};
@@ -24,9 +26,10 @@ ghost use Rattle.log_gather.specs.Steps.{facts_seen, reserved_in};
 use crate::accesses::{Access, NO_ACCESS, access_of, access_of_drain};
 use crate::marks::{Details, Mark};
 use crate::steps::{Reservations, Step};
-use block_view::{Passed, ViewFault, inside, make_again};
+use block_view::{Passed, ViewFault, inside, make_named};
 use elf_load::Image;
-use mach_types::{Entry, Hart, Kind, Limits, Named};
+use mach_types::sequences::RSEQ_CS;
+use mach_types::{Area, Entry, Hart, Kind, Limits, Named};
 use machine_core::Machine;
 use rseq_area::Lookups;
 use rv_inst::Effect;
@@ -190,12 +193,51 @@ fn access_of_entry(machine: &Machine, entry: Entry) -> Option<Access>
     }
 }
 
-/// At which bytes the check of the area of a hart's thread looks, if this holds and the thread has one.
-fn looked_at_if(machine: &Machine, hart: Hart, holds: bool) -> Option<Lookups>
+/// Where the descriptor stands that the area of a hart's thread names, if the pointer to it can be read.
+fn pointer_of(machine: &Machine, hart: Hart, area: &Area) -> Option<u64>
     requires { hart.0 < machine.now.setting.limits.harts }
+    ensures { IfSome result (λ p. word_at (view (here_on machine.now hart.0)) (area.now.at + RSEQ_CS) 8 ≡ Some p) }
+{
+    machine.view(hart, area.at.checked_add(RSEQ_CS)?, 8)
+}
+
+/// At which bytes the check of the area of a hart's thread looks, where the area names this, which says most of it; None where the thread
+/// has no area.
+fn looked_at_naming(machine: &Machine, hart: Hart, named: &Named) -> Option<Lookups>
+    requires hart { hart.0 < machine.now.setting.limits.harts }
+    requires named { named.now ≡ named_on (here_on machine.now hart.0) }
+    ensures { result ≡ looked_at_on (here_on machine.now hart.0) }
+{
+    let area = machine.area(hart)?;
+    match *named {
+        Named::Nothing => Some(Lookups {
+            area: area.at,
+            descriptor: None,
+            signature: None,
+        }),
+        Named::Good(sequence) => match pointer_of(machine, hart, &area) {
+            Some(pointer) => Some(Lookups {
+                area: area.at,
+                descriptor: Some(pointer),
+                signature: sequence.abort.checked_sub(4),
+            }),
+            None => machine.looked_at(hart),
+        },
+        Named::Bad(_) => machine.looked_at(hart),
+    }
+}
+
+/// At which bytes the check of the area of a hart's thread looks, where the area names this, if this holds and the thread has one.
+fn looked_at_if(machine: &Machine, hart: Hart, named: &Named, holds: bool) -> Option<Lookups>
+    requires hart { hart.0 < machine.now.setting.limits.harts }
+    requires named { named.now ≡ named_on (here_on machine.now hart.0) }
     ensures { result ≡ (if holds then looked_at_on (here_on machine.now hart.0) else None) }
 {
-    if holds { machine.looked_at(hart) } else { None }
+    if holds {
+        looked_at_naming(machine, hart, named)
+    } else {
+        None
+    }
 }
 
 /// What is read of a machine before it makes an entry.
@@ -207,11 +249,12 @@ fn read_before(machine: &Machine, entry: Entry) -> Before
     let hart = entry.hart;
     let access = access_of_entry(machine, entry);
     let plain = access.is_some();
+    let named = machine.named(hart);
     Before {
         plain,
         access: access.unwrap_or(NO_ACCESS),
-        looked_at: looked_at_if(machine, hart, plain),
-        named: machine.named(hart),
+        looked_at: looked_at_if(machine, hart, &named, plain),
+        named,
         idle: machine.hart(hart).is_idle(),
         reserved: reservations(machine),
     }
@@ -229,7 +272,7 @@ fn see(machine: &mut Machine, harts: u8, entry: Entry, was: bool) -> Option<Step
         return None;
     }
     let before = read_before(machine, entry);
-    let passed = make_again(machine, harts, entry)?;
+    let passed = make_named(machine, entry, &before.named)?;
     Some(before.step(&passed, was))
 }
 
