@@ -1,4 +1,4 @@
-use Rattle.std.proofs.Common.{◌≡◌, ◌∙◌, Some, sym, ap}
+use Rattle.std.proofs.Common.{◌∙◌, Some, sym, ap}
 use Rattle.log_gather.specs.Passing.{here_on}
 use Rattle.log_gather.proofs.NamedLookups.{looks_where_good, signature_read}
 use Rattle.log_gather.proofs.passing.looked_at_naming.Goals as goal
