@@ -35,7 +35,7 @@ use Rattle.alone_laws.specs.Blocks.{IsFairSince, IsSoFar, among}
 use Rattle.alone_laws.specs.Entering.{IsIn}
 use Rattle.alone_laws.specs.Spans.{alone_from, code_of}
 use Rattle.alone_laws.specs.Undisturbed.{Brings, IsUndisturbed, executed_on}
-use Rattle.alone_laws.specs.Uses.{CanAlwaysBegin, CanBegin, IsWellPlaced, Placed, is_before}
+use Rattle.alone_laws.specs.Uses.{AlwaysOutside, CanAlwaysBegin, CanBegin, IsWellPlaced, Placed, is_before}
 use Rattle.alone_laws.proofs.Arrivals.{IsCode}
 use Rattle.alone_laws.proofs.Entered.{entered, points}
 use Rattle.alone_laws.proofs.Entering.{goes_there, inside_there}
@@ -65,11 +65,13 @@ module _ (s : Setting) (p : Slots) (at : ℕ) (area : Area) (h t : ℕ) where
   record IsAsked (history : History) : Type 0 where
     held : HoldsAdd s history p at area t
     begins : CanAlwaysBegin s b t history
+    outside : AlwaysOutside s b t history
 
   fewer : (e : Event) (before : History) → IsAsked (e ∷ before) → IsAsked before
   fewer e before asked = record {
     held = held_before s e before p at area t asked.held;
     begins = asked.begins.0;
+    outside = asked.outside.0;
   }
 
   -- before the sequence: the thread has executed so many words of the block
@@ -286,14 +288,17 @@ module _ (s : Setting) (p : Slots) (at : ℕ) (area : Area) (h t : ℕ) where
 
         -- BEFORE THE SEQUENCE
         module _ (n : ℕ) (few : n ≤ 3) (was : IsComing n before) where
+          before_start : is_before b (file s t before).pc ≡ true
+          before_start =
+              let low = held.low in
+              ap (λ x. ltb ((x + (2 ^ 64 - at)) % 2 ^ 64) ((at + 16 + (2 ^ 64 - at)) % 2 ^ 64)) was.pc
+              ∙ lt-ltb ((at + 4 * n + (2 ^ 64 - at)) % 2 ^ 64) ((at + 16 + (2 ^ 64 - at)) % 2 ^ 64) (omega arith)
+
           can : CanBegin s b h t before
           can = asked.begins.1 h was.runs before_start
-            where
-              before_start : is_before b (file s t before).pc ≡ true
-              before_start =
-                  let low = held.low in
-                  ap (λ x. ltb ((x + (2 ^ 64 - at)) % 2 ^ 64) ((at + 16 + (2 ^ 64 - at)) % 2 ^ 64)) was.pc
-                  ∙ lt-ltb ((at + 4 * n + (2 ^ 64 - at)) % 2 ^ 64) ((at + 16 + (2 ^ 64 - at)) % 2 ^ 64) (omega arith)
+
+          outside : is_inside_at s h before ≡ false
+          outside = asked.outside.1 h was.runs before_start
 
           area_is : register (file s t before).file p.area ≡ area.at
           area_is =
@@ -311,7 +316,7 @@ module _ (s : Setting) (p : Slots) (at : ℕ) (area : Area) (h t : ℕ) where
               runs = runs;
               pc = pc;
               chosen = λ some. five;
-              closed = λ some. none_open s h e before own can.outside;
+              closed = λ some. none_open s h e before own outside;
             }),
           )
 
@@ -407,11 +412,12 @@ module _ (s : Setting) (p : Slots) (at : ℕ) (area : Area) (h t : ℕ) where
 
   pub comes_to_add : (log rest : List Entry) → IsBlockRun s (log ++ rest)
       → HoldsAdd s (history s (log ++ rest)) p at area t → CanAlwaysBegin s b t (history s (log ++ rest))
+      → AlwaysOutside s b t (history s (log ++ rest))
       → running s h (history s log) ≡ Some t → (file s t (history s log)).pc ≡ at → IsUndisturbed h rest
       → 11 ≤ executed_on h rest → Brings s h 11 (IsAdded s p at h t) log rest
-  comes_to_add log rest run held begins runs pc calm many =
+  comes_to_add log rest run held begins outside runs pc calm many =
       brought s h IsAsked fewer IsLeft (IsAdded s p at h t) apart drained executed rest log 10 run
-      (record { held = held; begins = begins }) calm
+      (record { held = held; begins = begins; outside = outside }) calm
       (coming 0 (omega arith) (omega arith) (record {
         runs = runs;
         pc = pc ∙ omega arith;

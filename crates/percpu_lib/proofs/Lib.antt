@@ -13,5 +13,7 @@ pub mod FileCode
 pub mod HeldWords
 pub mod Labels
 pub mod RetryTests
+pub mod ShareLaw
+pub mod ShareTests
 pub mod UseTests
 pub mod UsesLaw

@@ -1,6 +1,7 @@
 -- How a program uses an add block: what is asked of a setting and a log, one condition at each event, read
 -- back from it.
-use Rattle.std.specs.Prelude.{ℕ, ◌≡◌, ◌≢◌, ◌+◌, ◌%◌, ◌^◌, ◌<◌, ◌≤◌, [], ◌∷◌, Some}
+use Rattle.std.specs.Prelude.{ℕ, ◌≡◌, ◌≢◌, ◌+◌, ◌%◌, ◌^◌, ◌<◌, ◌≤◌, List, [], ◌∷◌, Some}
+use Rattle.std.specs.Prelude.{Contains}
 use Rattle.mach_types.specs.Registers.{register}
 use Rattle.mach_types.specs.declared.sequences.Area.{Area}
 use Rattle.block_model.specs.Acts.{Sequence, sequence_on}
@@ -10,7 +11,8 @@ use Rattle.alone_laws.specs.Areas.{ProcessorKept}
 use Rattle.alone_laws.specs.Blocks.{IsFair, IsOpen}
 use Rattle.alone_laws.specs.Entering.{IsIn}
 use Rattle.alone_laws.specs.Spans.{code_of}
-use Rattle.alone_laws.specs.Uses.{AreUsed}
+use Rattle.alone_laws.specs.Pointers.{AlwaysDescribed, LiesBeside, PointerKept}
+use Rattle.alone_laws.specs.Uses.{AreUsed, Placed}
 use Rattle.percpu_lib.specs.Adds.{IsAddBegin, IsWholeAdd, add_block, add_of, add_range, placed_add}
 use Rattle.percpu_lib.specs.Words.{AreHeld, AreSlots}
 use Rattle.percpu_lib.specs.declared.slots.Slots.{Slots}
@@ -54,6 +56,16 @@ pub record HoldsAdd (s : Setting) (history : History) (p : Slots) (at : ℕ) (ar
     pub processor : ProcessorKept s t area history
     pub few : s.limits.harts ≤ 8
     pub uses : AreUsed s (placed_add p at area) t history
+
+-- thread t uses its area for an add block and for others: from its first registration on nobody writes the area's
+-- pointer but the thread's instructions just before the starts of these blocks, and the kernel as that of the
+-- thread; wherever the thread runs in the add block before its sequence their descriptors stand; and no sequence
+-- of the others has a word there
+pub record SharesArea (s : Setting) (history : History) (p : Slots) (at : ℕ) (area : Area) (t : ℕ)
+    (others : List Placed) : Type 0 where
+  pub beside : (other : Placed) → Contains others other → LiesBeside (placed_add p at area) other
+  pub kept : PointerKept s (placed_add p at area ∷ others) t area.at history
+  pub described : AlwaysDescribed s (placed_add p at area) (placed_add p at area ∷ others) t history
 
 -- thread t of hart h has come to the post-commit address just now, by a sequence of the block that is whole
 pub record IsAdded (s : Setting) (p : Slots) (at h t : ℕ) (now : History) : Type 0 where

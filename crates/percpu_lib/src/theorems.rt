@@ -16,7 +16,7 @@ ghost use Rattle.alone_laws.specs.Blocks.{IsPlaceOf};
 ghost use Rattle.alone_laws.specs.Entering.{IsIn};
 ghost use Rattle.alone_laws.specs.Retries.{Retries};
 ghost use Rattle.alone_laws.specs.Undisturbed.{Brings, IsUndisturbed, executed_on};
-ghost use Rattle.alone_laws.specs.Uses.{CanAlwaysBegin, in_block};
+ghost use Rattle.alone_laws.specs.Uses.{AlwaysOutside, CanAlwaysBegin, Placed, in_block};
 ghost use Rattle.alone_laws.specs.Spans.{code_of};
 ghost use Rattle.block_model.specs.Instruction.{fetched};
 ghost use Rattle.elf_load.specs.Images.{IsImage};
@@ -30,7 +30,7 @@ ghost use Rattle.percpu_lib.specs.Adds.{cell_seen, placed_add};
 ghost use Rattle.percpu_lib.specs.BlockLines.{HasNoLabel, IsLabelled, block_lines};
 ghost use Rattle.percpu_lib.specs.Files.{HoldsCode};
 ghost use Rattle.percpu_lib.specs.Lines.{AreEmitted, HasRoom, IsContinued};
-ghost use Rattle.percpu_lib.specs.Uses.{HoldsAdd, IsAdded, cells_of};
+ghost use Rattle.percpu_lib.specs.Uses.{HoldsAdd, IsAdded, SharesArea, cells_of};
 ghost use Rattle.percpu_lib.specs.Words.{AreHeld};
 ghost use Rattle.percpu_lib.specs.declared.lines.Line.{Line};
 ghost use Rattle.percpu_lib.specs.declared.slots.Slots.{Slots};
@@ -78,13 +78,35 @@ pub fn add_keeps_registers()
         → register (file s t (history s (log ++ entry ∷ []))).file r ≡ register (file s t (history s log)).file r }
 {}
 
+/// In a block run a thread is inside no sequence where it runs before the sequence of an add block and can begin it: where
+/// nobody writes the pointer of its area but its own instructions just before the starts of this block and of others
+/// beside it, and the kernel.
+pub fn adds_begin_outside()
+    ensures { (s : Setting) (log : List Entry) (p : Slots) (at : ℕ) (area : Area) (t : ℕ) (others : List Placed)
+        → IsBlockRun s log → HoldsAdd s (history s log) p at area t
+        → CanAlwaysBegin s (placed_add p at area) t (history s log)
+        → SharesArea s (history s log) p at area t others
+        → AlwaysOutside s (placed_add p at area) t (history s log) }
+{}
+
 /// In a block run a thread that is at the retry label of an add block, and whose hart from there on executes
 /// instructions and lets stores enter memory and does nothing else, is at the post-commit address after one of its
 /// first 11 instructions, by a sequence that is whole.
 pub fn adds_are_done()
-    ensures { (s : Setting) (log stretch : List Entry) (p : Slots) (at : ℕ) (area : Area) (h t : ℕ)
+    // where only blocks and the kernel write the pointer of the area
+    ensures shared { (s : Setting) (log stretch : List Entry) (p : Slots) (at : ℕ) (area : Area) (h t : ℕ)
+        (others : List Placed)
         → IsBlockRun s (log ++ stretch) → HoldsAdd s (history s (log ++ stretch)) p at area t
         → CanAlwaysBegin s (placed_add p at area) t (history s (log ++ stretch))
+        → SharesArea s (history s (log ++ stretch)) p at area t others
+        → running s h (history s log) ≡ Some t → (file s t (history s log)).pc ≡ at
+        → IsUndisturbed h stretch → 11 ≤ executed_on h stretch
+        → Brings s h 11 (IsAdded s p at h t) log stretch }
+    // and wherever the thread is inside no sequence before the block's own
+    ensures outside { (s : Setting) (log stretch : List Entry) (p : Slots) (at : ℕ) (area : Area) (h t : ℕ)
+        → IsBlockRun s (log ++ stretch) → HoldsAdd s (history s (log ++ stretch)) p at area t
+        → CanAlwaysBegin s (placed_add p at area) t (history s (log ++ stretch))
+        → AlwaysOutside s (placed_add p at area) t (history s (log ++ stretch))
         → running s h (history s log) ≡ Some t → (file s t (history s log)).pc ≡ at
         → IsUndisturbed h stretch → 11 ≤ executed_on h stretch
         → Brings s h 11 (IsAdded s p at h t) log stretch }
@@ -150,6 +172,7 @@ pub fn aborted_adds_begin_anew()
     ensures { (s : Setting) × (first log stretch : List Entry) × (p : Slots) × (at : ℕ) × (area : Area) × (h t : ℕ)
         × IsBlockRun s (log ++ stretch) × HoldsAdd s (history s (log ++ stretch)) p at area t
         × CanAlwaysBegin s (placed_add p at area) t (history s (log ++ stretch))
+        × SharesArea s (history s (log ++ stretch)) p at area t []
         × Retries s (placed_add p at area) t first log
         × (running s h (history s log) ≡ Some t) × ((file s t (history s log)).pc ≡ at)
         × IsUndisturbed h stretch × (11 ≤ executed_on h stretch) }
