@@ -50,9 +50,10 @@ use Rattle.percpu_lib.specs.Adds.{IsAddPlace, IsWholeAdd, add_of, add_range, pla
 use Rattle.percpu_lib.specs.Uses.{HoldsAdd, IsAdded, IsAtStart, cells_of}
 use Rattle.percpu_lib.specs.Words.{lower, upper}
 use Rattle.percpu_lib.specs.declared.slots.Slots.{Slots}
+use Rattle.percpu_lib.proofs.BlockWords.{block_aligned}
 use Rattle.percpu_lib.proofs.AddCode.{KnowsTable, add_code, add_placed, within_range}
 use Rattle.percpu_lib.proofs.AddLaw.{add_sole, adds_once, gone_on}
-use Rattle.percpu_lib.proofs.UsesLaw.{fair_since, held_before}
+use Rattle.percpu_lib.proofs.UsesLaw.{add_begin, fair_since, held_before}
 
 module _ (s : Setting) (p : Slots) (at : ℕ) (area : Area) (h t : ℕ) where
   abbrev b : Placed
@@ -106,11 +107,11 @@ module _ (s : Setting) (p : Slots) (at : ℕ) (area : Area) (h t : ℕ) where
     held = asked.held
 
     placed : IsWellPlaced b
-    placed = add_placed s p at area held.stands held.slots held.low_table held.low held.aligned held.low_area
+    placed = add_placed s p at area held.stands held.slots held.low_table held.low (block_aligned s.program.pages p at held.stands) held.low_area
         held.some_table
 
     code : IsCode s b (KnowsTable p)
-    code = add_code s p at area held.stands held.slots held.low_table held.low held.aligned held.low_area
+    code = add_code s p at area held.stands held.slots held.low_table held.low (block_aligned s.program.pages p at held.stands) held.low_area
 
     fair_at : (begun : History) → IsAtStart s at h t begun → IsFairSince s
         (add_of p at area (cells_of s p t begun) h) h t begun (e ∷ before)
@@ -263,6 +264,8 @@ module _ (s : Setting) (p : Slots) (at : ℕ) (area : Area) (h t : ℕ) where
         executed_first m sum was =
             let cells = cells_of s p t before in
             let block = add_of p at area cells h in
+            let lt = step.good.lt in
+            let few = held.few in
             let start : IsAtStart s at h t before =
             record { runs = was.runs; pc = was.pc ∙ omega arith } in
             let in_it : IsIn s (add_range at) t before =
@@ -273,7 +276,8 @@ module _ (s : Setting) (p : Slots) (at : ℕ) (area : Area) (h t : ℕ) where
             let place : IsAddPlace s p at area cells h t before = record {
               runs = was.runs;
               pc = start.pc;
-              begins = held.used.1.begins h start;
+              begins = add_begin s e before p at area h t (block_aligned s.program.pages p at held.stands) held.low
+                  held.low_area (omega (arith, own)) held.used.1 held.uses.1 start;
               many = has_registers s before run.0 t;
               points = points s b t (KnowsTable p) placed code before h run.0 held.uses.0 went was.runs in_it;
               on_cpu = tells s t area held.few before h run.0 held.processor.0 was.runs fair.place.registered;

@@ -186,7 +186,7 @@ low_area = leb-true (area.at + 32) (2 ^ 38) refl
 
 pub holds : HoldsAdd adding (history adding log) slots at area 1
 holds =
-    let used = all_used adding slots at area 1 refl low low_area (history adding log) is_run.allowed fine in
+    let used = all_used adding slots at area 1 (history adding log) is_run.allowed fine in
     record {
       stands = record { holds = word_is (code_of adding.program.pages) (add_block slots) at there };
       slots = record {
@@ -205,7 +205,6 @@ holds =
       };
       some_table = eqb-false 0x10120 0 refl;
       low_table = ltb-true 0x10120 0x7FFFF800 refl;
-      aligned = refl;
       low = low;
       low_area = low_area;
       used = used.0;

@@ -1,7 +1,7 @@
 -- Before the sequence of an add block its thread is inside no sequence, where only blocks that lie beside it write
 -- the pointer of the area.
-use Rattle.std.proofs.Common.{◌≡◌, ℕ, zero, suc, ◌+◌, ◌-◌, ◌%◌, ◌^◌, ◌<◌, List, [], ◌∷◌, arith, subst, sym, ap, ◌∙◌}
-use Rattle.std.proofs.Common.{refl, true, false, leb, ltb}
+use Rattle.std.proofs.Common.{◌≡◌, ℕ, zero, suc, ◌+◌, ◌-◌, ◌%◌, ◌^◌, List, ◌∷◌, arith, subst}
+use Rattle.std.proofs.Common.{true, false}
 use Rattle.std.specs.Prelude.{Contains}
 use Rattle.std.proofs.lemmas.Bool.{le-ltb, ltb-true}
 use Rattle.mach_types.specs.Kernel.Areas.{is_inside}

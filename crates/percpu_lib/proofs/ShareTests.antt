@@ -1,11 +1,11 @@
 -- Tests of each event of a run on hart 0 that find from its history that a thread uses its area for an add block
 -- alone: what SharesArea asks of each event, by computation. They ask for more than it does.
-use Rattle.std.proofs.Common.{◌≡◌, ◌≢◌, ℕ, zero, suc, ◌+◌, ◌<◌, List, [], ◌∷◌, refl, sym, ap, ◌∙◌, arith, subst, Bool, true}
+use Rattle.std.proofs.Common.{◌≡◌, ◌≢◌, ℕ, zero, suc, ◌+◌, List, [], ◌∷◌, refl, sym, ap, ◌∙◌, arith, subst, Bool, true}
 use Rattle.std.proofs.Common.{false, not, ◌&&◌, ◌||◌, ◌⊎◌, inl, inr, eqb, Some}
 use Rattle.std.specs.Prelude.{Contains}
-use Rattle.std.proofs.lemmas.Bool.{and_from, and_parts, eqb-true, eqb-false, false≢true, not-true}
+use Rattle.std.proofs.lemmas.Bool.{and_from, and_parts, eqb-true, false≢true}
 use Rattle.mach_types.specs.Bytes.{overlay, word_at}
-use Rattle.mach_types.specs.Kernel.Areas.{descriptor_at, sequence_of, writes_of}
+use Rattle.mach_types.specs.Kernel.Areas.{descriptor_at, sequence_of}
 use Rattle.mach_types.specs.declared.events.Kind.TheVariants as kind
 use Rattle.mach_types.specs.declared.sequences.Area.{Area}
 use Rattle.mach_types.specs.declared.sequences.TheConstants.{RSEQ_CS}
@@ -16,12 +16,11 @@ use Rattle.block_model.specs.History.{Event, History, file, here_in_history, ker
 use Rattle.block_model.specs.Run.{IsRunHistory}
 use Rattle.block_model.specs.Setting.{Setting}
 use Rattle.block_model.proofs.Laws.{IsStep, runs_apart, step_of}
-use Rattle.alone_laws.specs.Blocks.{among}
 use Rattle.alone_laws.specs.Pointers.{AlwaysDescribed, AreDescribed, KeepsPointer, PointerIs, PointerKept}
 use Rattle.alone_laws.specs.Pointers.{StoresTable, WritesPointer, has_area, has_had, pointer_at}
 use Rattle.alone_laws.specs.Spans.{seen_at}
 use Rattle.alone_laws.specs.Uses.{Placed, is_before}
-use Rattle.alone_laws.proofs.EventKinds.{is_kind, kind_is, number_of}
+use Rattle.alone_laws.proofs.EventKinds.{is_kind}
 use Rattle.percpu_lib.specs.Adds.{add_range, placed_add}
 use Rattle.percpu_lib.specs.Uses.{SharesArea}
 use Rattle.percpu_lib.specs.declared.slots.Slots.{Slots}

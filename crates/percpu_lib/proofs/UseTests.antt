@@ -1,6 +1,6 @@
 -- Tests of each event of a run on hart 0 that find from its history that a thread uses an add block as it
 -- should: what HoldsAdd asks of each event, by computation. They ask for more than it does.
-use Rattle.std.proofs.Common.{◌≡◌, ◌≢◌, ℕ, zero, suc, ◌+◌, ◌<◌, ◌≤◌, ◌%◌, ◌^◌, List, [], ◌∷◌, refl, sym, ap}
+use Rattle.std.proofs.Common.{◌≡◌, ◌≢◌, ℕ, zero, suc, ◌+◌, ◌<◌, ◌≤◌, ◌^◌, List, [], ◌∷◌, refl, sym, ap}
 use Rattle.std.proofs.Common.{◌∙◌, arith, subst, Bool, true, false, not, ◌&&◌, ◌||◌, ◌⊎◌, inl, inr, ⊎_elim, cond}
 use Rattle.std.proofs.Common.{eqb, leb, Option, Some, None}
 use Rattle.std.specs.Option.{option_map_or}
@@ -35,7 +35,7 @@ use Rattle.alone_laws.proofs.EventKinds.{is_kind, kind_is}
 use Rattle.alone_laws.proofs.OpenSequences.{still_open}
 use Rattle.alone_laws.proofs.Sequences.{exec_kind}
 use Rattle.alone_laws.proofs.StoredWords.{among_low}
-use Rattle.percpu_lib.specs.Adds.{AreApart, IsAddBegin, add_of, add_range, cell_at, placed_add}
+use Rattle.percpu_lib.specs.Adds.{IsCellApart, add_of, add_range, cell_at, placed_add}
 use Rattle.percpu_lib.specs.Uses.{AreAddUsed, IsAddUsed, IsAtStart, cells_of}
 use Rattle.percpu_lib.specs.declared.slots.Slots.{Slots}
 
@@ -239,8 +239,7 @@ module _ (s : Setting) (p : Slots) (at : ℕ) (area : Area) (t : ℕ) where
   -- where a sequence begins, and as long as it is open
   abbrev starts : History → Bool
   starts before =
-      is_fair (cells_of s p t before) before
-      && (is_apart (cells_of s p t before) && eqb (register (file s t before).file p.area) area.at)
+      is_fair (cells_of s p t before) before && is_apart (cells_of s p t before)
 
   abbrev is_begun : History → Bool
   is_begun before = implies (eqb (file s t before).pc (at + 16)) (starts before)
@@ -541,15 +540,10 @@ module _ (s : Setting) (p : Slots) (at : ℕ) (area : Area) (t : ℕ) where
           };
         }
 
-    apart_is : (cells : ℕ) → at % 4 ≡ 0 → at < 2 ^ 37 → area.at + 32 ≤ 2 ^ 38 → is_apart cells ≡ true
-        → AreApart at area.at cells 0
-    apart_is cells aligned low low_area is =
+    apart_is : (cells : ℕ) → is_apart cells ≡ true → IsCellApart area.at cells 0
+    apart_is cells is =
         let one = and_parts (leb (cell_at cells 0 + 8) (2 ^ 64)) _ is in
         record {
-          aligned = aligned;
-          low = low;
-          low_area = low_area;
-          few = omega arith;
           low_cells = leb-true (cell_at cells 0 + 8) (2 ^ 64) one.0;
           beside =
               ⊎_elim (λ (under : leb (cell_at cells 0 + 8) area.at ≡ true). inl (leb-true (cell_at cells 0 + 8) area.at under))
@@ -560,14 +554,11 @@ module _ (s : Setting) (p : Slots) (at : ℕ) (area : Area) (t : ℕ) where
     -- where a sequence begins
     begun_is : (file s t before).pc ≡ at + 16 → (is_fair (cells_of s p t before) before ≡ true)
         × (is_apart (cells_of s p t before) ≡ true)
-        × (register (file s t before).file p.area ≡ area.at)
     begun_is here =
         let test = follows (eqb (file s t before).pc (at + 16)) (starts before)
         (and_parts (is_begun before) (is_open before) last).0
         (ap (λ n. eqb n (at + 16)) here ∙ eqb_same (at + 16)) in
-        let one = and_parts (is_fair (cells_of s p t before) before) _ test in
-        let two = and_parts (is_apart (cells_of s p t before)) _ one.1 in
-        (one.0, two.0, eqb-true (register (file s t before).file p.area) area.at two.1)
+        and_parts (is_fair (cells_of s p t before) before) (is_apart (cells_of s p t before)) test
 
     -- and as long as it is open
     open_is : (q : Sequence) → sequence_on s 0 before ≡ Some q → is_fair (cells_of s p t q.begun) before ≡ true
@@ -592,9 +583,8 @@ module _ (s : Setting) (p : Slots) (at : ℕ) (area : Area) (t : ℕ) where
     fair_later begun q is from =
         subst (λ (x : History). Fair 0 x) from (fair (cells_of s p t q.begun) (open_is q is))
 
-    add_used : at % 4 ≡ 0 → at < 2 ^ 37 → area.at + 32 ≤ 2 ^ 38
-        → ((h : ℕ) (q : Sequence) → sequence_on s h before ≡ Some q → 0 ≡ h) → IsAddUsed s p at area t e before
-    add_used aligned low low_area sole = record {
+    add_used : ((h : ℕ) (q : Sequence) → sequence_on s h before ≡ Some q → 0 ≡ h) → IsAddUsed s p at area t e before
+    add_used sole = record {
       fair = λ h begun start opened.
           ⊎_elim (λ (here : before ≡ begun). fair_first h begun start here)
           (λ (that : (q : Sequence) × (sequence_on s h before ≡ Some q) × (q.begun ≡ begun)).
@@ -604,12 +594,8 @@ module _ (s : Setting) (p : Slots) (at : ℕ) (area : Area) (t : ℕ) where
       begins = λ h start.
           let test = begun_is start.pc in
           let runs = (and_parts (runs_there before) _ test.0).0 in
-          subst (λ n. IsAddBegin s p at area (cells_of s p t before) n t before) (only_hart runs h start.runs)
-          (record {
-            apart = apart_is (cells_of s p t before) aligned low low_area test.1;
-            area_is = test.2;
-            cells_is = refl;
-          });
+          subst (λ n. IsCellApart area.at (cells_of s p t before) n) (only_hart runs h start.runs)
+          (apart_is (cells_of s p t before) test.1);
     }
 
   -- ALL EVENTS
@@ -630,21 +616,20 @@ module _ (s : Setting) (p : Slots) (at : ℕ) (area : Area) (t : ℕ) where
           earlier
           (sym (still_open s h e before apart) ∙ is)
 
-  pub all_used : at % 4 ≡ 0 → at < 2 ^ 37 → area.at + 32 ≤ 2 ^ 38 → (history : History)
-      → IsRunHistory s history → are_fine history ≡ true
+  pub all_used : (history : History) → IsRunHistory s history → are_fine history ≡ true
       → AreAddUsed s p at area t history × ProcessorKept s t area history
       × AreUsed s (placed_add p at area) t history
-  all_used aligned low low_area [] run fine = (
+  all_used [] run fine = (
     tt,
     tt,
     λ inside.
         eqb-true s.program.entry at (follows (in_words s.program.entry) (eqb s.program.entry at) fine inside),
   )
-  all_used aligned low low_area (e ∷ before) run fine =
+  all_used (e ∷ before) run fine =
       let parts = and_parts (are_fine before) (is_fine e before) fine in
-      let earlier = all_used aligned low low_area before run.0 parts.0 in
+      let earlier = all_used before run.0 parts.0 in
       let step = step_of s e before run in (
-        (earlier.0, add_used e before step parts.1 aligned low low_area (sole before parts.0)),
+        (earlier.0, add_used e before step parts.1 (sole before parts.0)),
         (earlier.1, processor_kept e before step parts.1),
         (earlier.2, used e before step parts.1),
       )
