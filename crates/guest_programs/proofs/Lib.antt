@@ -1,5 +1,6 @@
 pub mod Blocks
 pub mod Emitted
+pub mod Exact
 pub mod Fetched
 pub mod Files
 pub mod Finished
