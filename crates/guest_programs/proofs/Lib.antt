@@ -1,4 +1,6 @@
 pub mod Blocks
+pub mod CounterCode
+pub mod CounterLog
 pub mod Emitted
 pub mod Exact
 pub mod Fetched

@@ -1,7 +1,9 @@
 -- What a guest's program is made of (own).
-use Rattle.std.specs.Prelude.{ℕ, ◌≡◌, ◌+◌, ◌-◌, List, [], ◌∷◌, unwrap_or}
+use Rattle.std.specs.Prelude.{ℕ, zero, suc, ◌≡◌, ◌+◌, ◌-◌, ◌++◌, List, [], ◌∷◌, length, replicate, unwrap_or}
 use Rattle.std.specs.Int.{to_le_bytes, w64}
 use Rattle.std.specs.List.{flat_map}
+use Rattle.elf_load.specs.Start.{Program}
+use Rattle.elf_load.specs.declared.image.ImagePage.{ImagePage}
 use Rattle.elf_make.specs.Layout.{file_of}
 use Rattle.elf_make.specs.declared.parts.Part.{Part}
 use Rattle.elf_make.specs.declared.parts.Parts.{Parts}
@@ -34,6 +36,26 @@ data_words asm n =
 
 abbrev pub data_bytes : Assembly → ℕ → List ℕ
 data_bytes asm n = flat_map (λ w. to_le_bytes w64 w) (data_words asm n)
+
+-- so many pages of data from a number on, all zeros but the first bytes of the first
+abbrev pub filled : List ℕ → List ℕ
+filled bytes = bytes ++ replicate (4096 - length bytes) 0
+
+abbrev pub data_pages : ℕ → List ℕ → ℕ → List ImagePage
+data_pages number bytes zero = []
+data_pages number bytes (suc count) =
+    record { number = number; perm = DATA_PERM; bytes = filled bytes } ∷ data_pages (number + 1) [] count
+
+-- the program of this code and these first bytes of the data: a page of code, and 48 pages of data; the program headers
+-- don't stand in memory
+abbrev pub guest_program : List ℕ → List ℕ → Program
+guest_program code first_bytes = record {
+  pages = record { number = 0x10; perm = CODE_PERM; bytes = filled code } ∷ data_pages 0x20 first_bytes 48;
+  entry = CODE;
+  phdr = 0;
+  phnum = 2;
+  break_at = 0x50000;
+}
 
 -- a part of a program: where it begins in memory, what is allowed there, its first bytes, and how many bytes of
 -- memory it has
