@@ -5,6 +5,7 @@ pub mod AddLaw
 pub mod AddRegisters
 pub mod AddRetries
 pub mod AddWords
+pub mod BesideLaw
 pub mod BlockWords
 pub mod CellPath
 pub mod Emittable

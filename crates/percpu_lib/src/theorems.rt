@@ -1,7 +1,7 @@
 //! Laws of blocks in runs, each as the contract of a function that does nothing.
 
 ghost use Rattle.std.specs.Prelude.{ℕ, List, [], ◌∷◌, ◌++◌, Some, length, slice_get, true, false};
-ghost use Rattle.std.specs.Prelude.{◌+◌, ◌*◌, ◌≡◌, ◌≢◌, ◌≤◌, Option};
+ghost use Rattle.std.specs.Prelude.{◌+◌, ◌*◌, ◌<◌, ◌^◌, ◌≡◌, ◌≢◌, ◌≤◌, Option};
 ghost use Rattle.mach_types.specs.Registers.{register};
 ghost use Rattle.mach_types.specs.declared.events.Entry.{Entry};
 ghost use Rattle.mach_types.specs.declared.events.Kind.TheVariants as kind;
@@ -14,6 +14,7 @@ ghost use Rattle.block_model.specs.Setting.{Setting};
 ghost use Rattle.alone.specs.Temps.{is_scratch};
 ghost use Rattle.alone_laws.specs.Blocks.{IsPlaceOf};
 ghost use Rattle.alone_laws.specs.Entering.{IsIn};
+ghost use Rattle.alone_laws.specs.Pointers.{LiesBeside};
 ghost use Rattle.alone_laws.specs.Retries.{Retries};
 ghost use Rattle.alone_laws.specs.Undisturbed.{Brings, IsUndisturbed, executed_on};
 ghost use Rattle.alone_laws.specs.Uses.{AlwaysOutside, CanAlwaysBegin, Placed, in_block};
@@ -21,12 +22,14 @@ ghost use Rattle.alone_laws.specs.Spans.{code_of};
 ghost use Rattle.block_model.specs.Instruction.{fetched};
 ghost use Rattle.elf_load.specs.Images.{IsImage};
 ghost use Rattle.elf_load.specs.declared.image.Image.{Image};
+ghost use Rattle.elf_load.specs.declared.image.ImagePage.{ImagePage};
 ghost use Rattle.rv_asm.specs.Assembly.{AreAssembled, Assembly};
 ghost use Rattle.rv_asm.specs.declared.item.Item.{Item};
 ghost use Rattle.rv_inst.specs.Table.{row_of};
 ghost use Rattle.rv_inst.specs.declared.instruction.Inst.{Inst};
 ghost use Rattle.percpu_lib.specs.Adds.{IsLeftAt, IsNoAdd, IsWholeAdd, add_block, add_lines, add_of, add_range};
 ghost use Rattle.percpu_lib.specs.Adds.{cell_seen, placed_add};
+ghost use Rattle.percpu_lib.specs.Beside.{IsOfLibrary};
 ghost use Rattle.percpu_lib.specs.BlockLines.{HasNoLabel, IsLabelled, block_lines};
 ghost use Rattle.percpu_lib.specs.Files.{HoldsCode};
 ghost use Rattle.percpu_lib.specs.Lines.{AreEmitted, HasRoom, IsContinued};
@@ -76,6 +79,14 @@ pub fn add_keeps_registers()
         → entry.kind ≡ kind.Exec → running s entry.hart.0 (history s log) ≡ Some t
         → in_block (placed_add p at area) (file s t (history s log)).pc ≡ true → is_scratch r ≡ false
         → register (file s t (history s (log ++ entry ∷ []))).file r ≡ register (file s t (history s log)).file r }
+{}
+
+/// No sequence of a block of the library has a word of an add block before that one's sequence, wherever both stand in
+/// a program.
+pub fn blocks_lie_beside()
+    ensures { (pages : List ImagePage) (p : Slots) (at : ℕ) (area : Area) (other : Placed)
+        → AreHeld (code_of pages) at (add_block p) → at < 2 ^ 37 → IsOfLibrary (code_of pages) other
+        → LiesBeside (placed_add p at area) other }
 {}
 
 /// In a block run a thread is inside no sequence where it runs before the sequence of an add block and can begin it: where
