@@ -77,7 +77,7 @@ empty_of : (ws : List Store) → unless_waiting ws ≡ None → ws ≡ []
 empty_of [] free = refl
 empty_of (w ∷ ws) free = absurd cc
 
-take_empty : (here : Here) → refusal_take here ≡ None → waiting_here here ≡ []
+pub take_empty : (here : Here) → refusal_take here ≡ None → waiting_here here ≡ []
 take_empty here free = by_requests (eqb here.requests 0) free
   where
     by_requests : (b : Bool) → cond b (Some why.NoRequest) (unless_waiting (waiting_here here)) ≡ None
@@ -85,18 +85,18 @@ take_empty here free = by_requests (eqb here.requests 0) free
     by_requests true free = absurd cc
     by_requests false free = empty_of (waiting_here here) free
 
-awaits_open : (awaits : Option ℕ) (o : Option Why) → unless_in_barrier awaits o ≡ None → o ≡ None
+pub awaits_open : (awaits : Option ℕ) (o : Option Why) → unless_in_barrier awaits o ≡ None → o ≡ None
 awaits_open None o free = free
 awaits_open (Some left) o free = absurd cc
 
-no_reason : (Some why.NoSignal ≡ None) → ⊥
+pub no_reason : (Some why.NoSignal ≡ None) → ⊥
 no_reason is = cc
 
 preempt_empty : (here : Here) (t : ℕ) → refusal_preempt_by here (Some t) ≡ None → waiting_here here ≡ []
 preempt_empty here t free = empty_of (waiting_here here)
     (awaits_open here.awaits (unless_waiting (waiting_here here)) free)
 
-signal_empty : (here : Here) (t : ℕ) → refusal_signal_by here (Some t) ≡ None → waiting_here here ≡ []
+pub signal_empty : (here : Here) (t : ℕ) → refusal_signal_by here (Some t) ≡ None → waiting_here here ≡ []
 signal_empty here t free =
     by_next (next_for t here.kernel.signals)
     (awaits_open here.awaits (refusal_delivery here (next_for t here.kernel.signals)) free)
@@ -157,7 +157,7 @@ pub record IsCode (s : Setting) (b : Placed) (Know : ℕ → Regs → Type 0) : 
 pub no_one : (t : ℕ) → None ≡ Some t → ⊥
 no_one t is = cc
 
-one_thread : (u t : ℕ) → Some u ≡ Some t → u ≡ t
+pub one_thread : (u t : ℕ) → Some u ≡ Some t → u ≡ t
 one_thread u t is = cc
 
 exec_drain : kind.Exec ≡ kind.Drain → ⊥
@@ -221,7 +221,7 @@ module _ (s : Setting) (e : Event) (before : History) (step : IsStep s e before)
       is_on hart.0 (running_there s.limits.harts hart.0 t ts (kernel s before).scheduling
       step.good.kernel.tables is)
 
-  on_or_off : IsOnOrOff s t before
+  pub on_or_off : IsOnOrOff s t before
   on_or_off = by_state (state_of t ts) refl
 
 -- THE BLOCK

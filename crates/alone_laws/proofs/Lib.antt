@@ -7,6 +7,7 @@ pub mod EventKinds
 pub mod OneStep
 pub mod OpenSequences
 pub mod PathLaw
+pub mod Pointers
 pub mod Processors
 pub mod Retrying
 pub mod Sequences

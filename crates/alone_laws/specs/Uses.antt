@@ -139,11 +139,10 @@ abbrev pub is_before : Placed → ℕ → Bool
 is_before b pc = nat_lt (distance b.at pc) (distance b.at b.range.start)
 
 -- thread t, which runs on hart h before the block's sequence, can begin it: the area is the thread's and can
--- be read and written, and the thread is inside no sequence
+-- be read and written
 pub record CanBegin (s : Setting) (b : Placed) (h t : ℕ) (before : History) : Type 0 where
   pub registered : area_of t (kernel s before).areas ≡ Some b.area
   pub usable : IsUsable s (among b.area.at AREA_SIZE) before
-  pub outside : is_inside_at s h before ≡ false
 
 -- before every event of a history
 abbrev pub CanAlwaysBegin : Setting → Placed → ℕ → History → Type 0
@@ -151,3 +150,11 @@ CanAlwaysBegin s b t [] = Unit {0}
 CanAlwaysBegin s b t (e ∷ before) =
     CanAlwaysBegin s b t before
     × ((h : ℕ) → running s h before ≡ Some t → is_before b (file s t before).pc ≡ true → CanBegin s b h t before)
+
+-- and there it is inside no sequence
+abbrev pub AlwaysOutside : Setting → Placed → ℕ → History → Type 0
+AlwaysOutside s b t [] = Unit {0}
+AlwaysOutside s b t (e ∷ before) =
+    AlwaysOutside s b t before
+    × ((h : ℕ) → running s h before ≡ Some t → is_before b (file s t before).pc ≡ true
+    → is_inside_at s h before ≡ false)

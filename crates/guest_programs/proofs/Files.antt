@@ -1,17 +1,15 @@
 -- The file of a guest, from what its parts are.
-use Rattle.std.proofs.Common.{◌≡◌, ℕ, ◌+◌, ◌-◌, ◌*◌, ◌/◌, ◌%◌, ◌<◌, ◌≤◌, ◌^◌, List, [], ◌∷◌, ◌++◌, length, replicate, map}
-use Rattle.std.proofs.Common.{◌⊎◌, inl, inr, None, refl, sym, ap, subst, ◌∙◌, arith, Some, None, cond, false, All, get_or, nat_lt, length-append}
+use Rattle.std.proofs.Common.{◌≡◌, ℕ, ◌+◌, ◌-◌, ◌*◌, ◌<◌, ◌≤◌, ◌^◌, List, [], ◌∷◌, ◌++◌, length, replicate, map}
+use Rattle.std.proofs.Common.{◌⊎◌, inl, inr, None, refl, sym, ap, subst, ◌∙◌, arith, Some, None, cond, false, All, nat_lt, length-append}
 use Rattle.std.proofs.lemmas.Bool.{le-ltb}
 use Rattle.std.proofs.lemmas.List.{length-replicate}
 use Rattle.std.specs.List.{flat_map}
 use Rattle.std.specs.Int.{to_le_bytes, w64}
-use Rattle.mach_types.specs.Bytes.{word_at}
 use Rattle.elf_load.specs.declared.fault.ElfFault.TheVariants.{TooLarge}
 use Rattle.elf_load.specs.declared.image.Image.{Image}
 use Rattle.elf_load.specs.declared.program_headers.ProgramHeader.{ProgramHeader}
 use Rattle.elf_load.specs.Faults.{frames_needed}
 use Rattle.elf_load.specs.Images.{IsImage}
-use Rattle.elf_load.specs.Start.{image_byte, loaded_byte, page_of}
 use Rattle.elf_make.specs.Layout.{contents_from, contents_start, file_header, file_of, place_from, placed_from, table_entry}
 use Rattle.elf_make.specs.Parts.{ArePagesOf, IsImageOf, NeedsFrames, segment_of}
 use Rattle.elf_make.specs.Refusals.{refusal, segments_of}
@@ -68,7 +66,7 @@ table_short g h =
     let second = length-table_entry h in
     omega arith
 
-file_short : (c d : Part) (parts : Parts) → parts.segments.items ≡ c ∷ d ∷ [] → length c.bytes.items ≤ 4096
+pub file_short : (c d : Part) (parts : Parts) → parts.segments.items ≡ c ∷ d ∷ [] → length c.bytes.items ≤ 4096
     → length d.bytes.items ≤ 4096 → length (file_of parts) ≤ 8388608
 unfolding file_of
 file_short c d parts segments first second =
@@ -113,7 +111,7 @@ module _ (name : Name) (n : ℕ) (asm : Assembly) (c d : Part) (parts : Parts) (
     (c_perm : c.perm ≡ 5) (d_at : d.at ≡ 0x20000) (d_size : d.memsz ≡ 0x30000)
     (emitted : AreEmitted (guest_lines name) (empty CODE LABELS) asm)
     (code : AreAssembled asm.labels asm.items c.bytes.items) (data_is : d.bytes.items ≡ data_bytes asm n)
-    (fits : n < 2 ^ 64) (image_of : (image : Image) → IsImage file image → IsImageOf parts image) where
+    (d_perm : d.perm ≡ 6) (entry : parts.entry ≡ CODE) (flags : parts.flags ≡ 16) (fits : n < 2 ^ 64) (image_of : (image : Image) → IsImage file image → IsImageOf parts image) where
   code_short : length c.bytes.items ≤ 4096
   code_short = code_fits name asm c.bytes.items emitted code
 
@@ -155,6 +153,21 @@ module _ (name : Name) (n : ℕ) (asm : Assembly) (c d : Part) (parts : Parts) (
     small = subst (λ (xs : List ℕ). length xs ≤ 8388608) (sym is)
         (file_short c d parts segments code_short (omega (arith, data_long)));
     are_bytes = bytes;
+    exact = record {
+      asm = asm;
+      emitted = emitted;
+      code = c.bytes.items;
+      assembled = code;
+      parts = parts;
+      code_part = c;
+      data_part = d;
+      segments = segments;
+      code_is = record { begins = c_at; allowed = c_perm; holds = refl; size = c_size };
+      data_is = record { begins = d_at; allowed = d_perm; holds = data_is; size = d_size };
+      entry = entry;
+      flags = flags;
+      bytes = is;
+    };
     taken = frames 4096 ∙ ap (λ m. cond (nat_lt 4096 m) (Some (TooLarge m)) None) needed;
     told = size_told;
     holds = blocks_held;

@@ -1,6 +1,6 @@
 -- The code of a guest can be finished: each label is bound, and each branch reaches it.
-use Rattle.std.proofs.Common.{◌≡◌, ◌↔◌, ℕ, zero, suc, ◌+◌, List, [], ◌∷◌, ◌++◌, length, refl, sym, ap, ◌∙◌, arith, subst, Bool}
-use Rattle.std.proofs.Common.{true, false, cond, ◌&&◌, Option, Some, None, length-append, slice_get, replicate, is_none}
+use Rattle.std.proofs.Common.{◌≡◌, ◌↔◌, ℕ, ◌+◌, List, [], ◌∷◌, ◌++◌, length, refl, sym, ap, ◌∙◌, arith, subst, Bool}
+use Rattle.std.proofs.Common.{true, ◌&&◌, Option, Some, None, length-append, is_none}
 use Rattle.std.specs.Option.{option_or}
 use Rattle.std.proofs.lemmas.Bool.{and_parts, false≢true}
 use Rattle.rv_asm.specs.Assembly.{Assembly, empty, far_label, first_too_far, first_unbound, unbound_label}

@@ -1,5 +1,8 @@
 pub mod Blocks
+pub mod CounterCode
+pub mod CounterLog
 pub mod Emitted
+pub mod Exact
 pub mod Fetched
 pub mod Files
 pub mod Finished

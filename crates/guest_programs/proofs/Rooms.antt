@@ -1,6 +1,6 @@
 -- The labels of each block are free when it is appended.
 use Rattle.std.proofs.Common.{◌≡◌, ℕ, zero, suc, ◌+◌, ◌<◌, List, [], ◌∷◌, ◌++◌, length, drop, get_or, refl, sym, ap, ◌∙◌, subst, arith}
-use Rattle.std.proofs.Common.{Bool, true, false, ◌&&◌, Option, Some, None, slice_get, replicate, add-one, drop-cons, length-append}
+use Rattle.std.proofs.Common.{Bool, true, false, Option, Some, None, slice_get, replicate, add-one, drop-cons, length-append}
 use Rattle.std.specs.List.{list_all}
 use Rattle.std.proofs.lemmas.Bool.{and_parts, false≢true}
 use Rattle.rv_asm.specs.Assembly.{Assembly, empty}

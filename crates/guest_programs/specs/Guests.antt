@@ -13,6 +13,7 @@ use Rattle.percpu_lib.specs.Frees.{free_lines}
 use Rattle.percpu_lib.specs.Pops.{pop_lines}
 use Rattle.percpu_lib.specs.Pushes.{push_lines}
 use Rattle.guest_programs.specs.Blocks.{HoldsBlock, start_word}
+use Rattle.guest_programs.specs.Programs.{IsGuestElf}
 use Rattle.guest_programs.specs.declared.fault.GuestFault.{GuestFault}
 use Rattle.guest_programs.specs.declared.fault.GuestFault.TheVariants.{BadSize, NoMemory}
 
@@ -29,11 +30,12 @@ HoldsBlocks Migrate pages = HoldsBlock add_lines pages
 abbrev pub size_address : ℕ
 size_address = 0x20000
 
--- a file of at most 8,388,608 bytes, which is taken with the default frames, and whose image holds the size and the
--- blocks of a guest
+-- the ELF file of a guest, of at most 8,388,608 bytes, which is taken with the default frames, and whose image holds
+-- the size and the blocks of the guest
 pub record IsGuestFile (name : Name) (n : ℕ) (file : List ℕ) : Type 0 where
   pub small : length file ≤ 8388608
   pub are_bytes : All (λ b. b < 256) file
+  pub exact : IsGuestElf name n file
   pub taken : first_fault file 4096 ≡ None
   pub told : (image : Image) → IsImage file image
       → start_word image.pages.items size_address ≡ Some n

@@ -18,7 +18,9 @@ mod pool;
 mod shared;
 mod signals;
 mod steps;
+mod theorems;
 
 pub use fault::GuestFault;
 pub use guest_names::Name;
 pub use making::make;
+pub use theorems::{counters_use_their_block, made_files_hold_their_code};

@@ -35,7 +35,7 @@ use Rattle.alone_laws.specs.Blocks.{IsFairSince, IsSoFar, among}
 use Rattle.alone_laws.specs.Entering.{IsIn}
 use Rattle.alone_laws.specs.Spans.{alone_from, code_of}
 use Rattle.alone_laws.specs.Undisturbed.{Brings, IsUndisturbed, executed_on}
-use Rattle.alone_laws.specs.Uses.{CanAlwaysBegin, CanBegin, IsWellPlaced, Placed, is_before}
+use Rattle.alone_laws.specs.Uses.{AlwaysOutside, CanAlwaysBegin, CanBegin, IsWellPlaced, Placed, is_before}
 use Rattle.alone_laws.proofs.Arrivals.{IsCode}
 use Rattle.alone_laws.proofs.Entered.{entered, points}
 use Rattle.alone_laws.proofs.Entering.{goes_there, inside_there}
@@ -50,9 +50,10 @@ use Rattle.percpu_lib.specs.Adds.{IsAddPlace, IsWholeAdd, add_of, add_range, pla
 use Rattle.percpu_lib.specs.Uses.{HoldsAdd, IsAdded, IsAtStart, cells_of}
 use Rattle.percpu_lib.specs.Words.{lower, upper}
 use Rattle.percpu_lib.specs.declared.slots.Slots.{Slots}
+use Rattle.percpu_lib.proofs.BlockWords.{block_aligned}
 use Rattle.percpu_lib.proofs.AddCode.{KnowsTable, add_code, add_placed, within_range}
 use Rattle.percpu_lib.proofs.AddLaw.{add_sole, adds_once, gone_on}
-use Rattle.percpu_lib.proofs.UsesLaw.{fair_since, held_before}
+use Rattle.percpu_lib.proofs.UsesLaw.{add_begin, fair_since, held_before}
 
 module _ (s : Setting) (p : Slots) (at : ℕ) (area : Area) (h t : ℕ) where
   abbrev b : Placed
@@ -65,11 +66,13 @@ module _ (s : Setting) (p : Slots) (at : ℕ) (area : Area) (h t : ℕ) where
   record IsAsked (history : History) : Type 0 where
     held : HoldsAdd s history p at area t
     begins : CanAlwaysBegin s b t history
+    outside : AlwaysOutside s b t history
 
   fewer : (e : Event) (before : History) → IsAsked (e ∷ before) → IsAsked before
   fewer e before asked = record {
     held = held_before s e before p at area t asked.held;
     begins = asked.begins.0;
+    outside = asked.outside.0;
   }
 
   -- before the sequence: the thread has executed so many words of the block
@@ -104,11 +107,11 @@ module _ (s : Setting) (p : Slots) (at : ℕ) (area : Area) (h t : ℕ) where
     held = asked.held
 
     placed : IsWellPlaced b
-    placed = add_placed s p at area held.stands held.slots held.low_table held.low held.aligned held.low_area
+    placed = add_placed s p at area held.stands held.slots held.low_table held.low (block_aligned s.program.pages p at held.stands) held.low_area
         held.some_table
 
     code : IsCode s b (KnowsTable p)
-    code = add_code s p at area held.stands held.slots held.low_table held.low held.aligned held.low_area
+    code = add_code s p at area held.stands held.slots held.low_table held.low (block_aligned s.program.pages p at held.stands) held.low_area
 
     fair_at : (begun : History) → IsAtStart s at h t begun → IsFairSince s
         (add_of p at area (cells_of s p t begun) h) h t begun (e ∷ before)
@@ -261,6 +264,8 @@ module _ (s : Setting) (p : Slots) (at : ℕ) (area : Area) (h t : ℕ) where
         executed_first m sum was =
             let cells = cells_of s p t before in
             let block = add_of p at area cells h in
+            let lt = step.good.lt in
+            let few = held.few in
             let start : IsAtStart s at h t before =
             record { runs = was.runs; pc = was.pc ∙ omega arith } in
             let in_it : IsIn s (add_range at) t before =
@@ -271,7 +276,8 @@ module _ (s : Setting) (p : Slots) (at : ℕ) (area : Area) (h t : ℕ) where
             let place : IsAddPlace s p at area cells h t before = record {
               runs = was.runs;
               pc = start.pc;
-              begins = held.used.1.begins h start;
+              begins = add_begin s e before p at area h t (block_aligned s.program.pages p at held.stands) held.low
+                  held.low_area (omega (arith, own)) held.used.1 held.uses.1 start;
               many = has_registers s before run.0 t;
               points = points s b t (KnowsTable p) placed code before h run.0 held.uses.0 went was.runs in_it;
               on_cpu = tells s t area held.few before h run.0 held.processor.0 was.runs fair.place.registered;
@@ -286,14 +292,17 @@ module _ (s : Setting) (p : Slots) (at : ℕ) (area : Area) (h t : ℕ) where
 
         -- BEFORE THE SEQUENCE
         module _ (n : ℕ) (few : n ≤ 3) (was : IsComing n before) where
+          before_start : is_before b (file s t before).pc ≡ true
+          before_start =
+              let low = held.low in
+              ap (λ x. ltb ((x + (2 ^ 64 - at)) % 2 ^ 64) ((at + 16 + (2 ^ 64 - at)) % 2 ^ 64)) was.pc
+              ∙ lt-ltb ((at + 4 * n + (2 ^ 64 - at)) % 2 ^ 64) ((at + 16 + (2 ^ 64 - at)) % 2 ^ 64) (omega arith)
+
           can : CanBegin s b h t before
           can = asked.begins.1 h was.runs before_start
-            where
-              before_start : is_before b (file s t before).pc ≡ true
-              before_start =
-                  let low = held.low in
-                  ap (λ x. ltb ((x + (2 ^ 64 - at)) % 2 ^ 64) ((at + 16 + (2 ^ 64 - at)) % 2 ^ 64)) was.pc
-                  ∙ lt-ltb ((at + 4 * n + (2 ^ 64 - at)) % 2 ^ 64) ((at + 16 + (2 ^ 64 - at)) % 2 ^ 64) (omega arith)
+
+          outside : is_inside_at s h before ≡ false
+          outside = asked.outside.1 h was.runs before_start
 
           area_is : register (file s t before).file p.area ≡ area.at
           area_is =
@@ -311,7 +320,7 @@ module _ (s : Setting) (p : Slots) (at : ℕ) (area : Area) (h t : ℕ) where
               runs = runs;
               pc = pc;
               chosen = λ some. five;
-              closed = λ some. none_open s h e before own can.outside;
+              closed = λ some. none_open s h e before own outside;
             }),
           )
 
@@ -407,11 +416,12 @@ module _ (s : Setting) (p : Slots) (at : ℕ) (area : Area) (h t : ℕ) where
 
   pub comes_to_add : (log rest : List Entry) → IsBlockRun s (log ++ rest)
       → HoldsAdd s (history s (log ++ rest)) p at area t → CanAlwaysBegin s b t (history s (log ++ rest))
+      → AlwaysOutside s b t (history s (log ++ rest))
       → running s h (history s log) ≡ Some t → (file s t (history s log)).pc ≡ at → IsUndisturbed h rest
       → 11 ≤ executed_on h rest → Brings s h 11 (IsAdded s p at h t) log rest
-  comes_to_add log rest run held begins runs pc calm many =
+  comes_to_add log rest run held begins outside runs pc calm many =
       brought s h IsAsked fewer IsLeft (IsAdded s p at h t) apart drained executed rest log 10 run
-      (record { held = held; begins = begins }) calm
+      (record { held = held; begins = begins; outside = outside }) calm
       (coming 0 (omega arith) (omega arith) (record {
         runs = runs;
         pc = pc ∙ omega arith;

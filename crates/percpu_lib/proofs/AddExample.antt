@@ -27,9 +27,10 @@ use Rattle.alone_laws.specs.Spans.{code_of}
 use Rattle.alone_laws.specs.Undisturbed.{IsUndisturbed}
 use Rattle.alone_laws.specs.Uses.{CanAlwaysBegin}
 use Rattle.percpu_lib.specs.Adds.{add_block, add_range, cell_seen, placed_add}
-use Rattle.percpu_lib.specs.Uses.{HoldsAdd, cells_of}
+use Rattle.percpu_lib.specs.Uses.{HoldsAdd, SharesArea, cells_of}
 use Rattle.percpu_lib.specs.declared.slots.Slots.{Slots}
 use Rattle.percpu_lib.proofs.RetryTests.{registers_are, same_registers, walk_found, walks_at_work}
+use Rattle.percpu_lib.proofs.ShareTests.{all_shares, shares_alone}
 use Rattle.percpu_lib.proofs.UseTests.{all_can_begin, all_used, always_begins_freely, are_fine}
 
 -- `lui x8, 0x20`, `addi x10, x8, 0`, `addi x11, x0, 32`, `lui x13, 0xF1401`, `addi x13, x13, 0x73`,
@@ -185,7 +186,7 @@ low_area = leb-true (area.at + 32) (2 ^ 38) refl
 
 pub holds : HoldsAdd adding (history adding log) slots at area 1
 holds =
-    let used = all_used adding slots at area 1 refl low low_area (history adding log) is_run.allowed fine in
+    let used = all_used adding slots at area 1 (history adding log) is_run.allowed fine in
     record {
       stands = record { holds = word_is (code_of adding.program.pages) (add_block slots) at there };
       slots = record {
@@ -204,7 +205,6 @@ holds =
       };
       some_table = eqb-false 0x10120 0 refl;
       low_table = ltb-true 0x10120 0x7FFFF800 refl;
-      aligned = refl;
       low = low;
       low_area = low_area;
       used = used.0;
@@ -237,6 +237,14 @@ begins_anew = refl
 
 instruction : (h : ℕ) → h ≡ 0 → (kind.Exec ≡ kind.Exec) ⊎ (kind.Exec ≡ kind.Drain)
 instruction h own = inl refl
+
+shares_fine : shares_alone adding slots at area 1 (history adding log) ≡ true
+unfolding decide history done meaning row_of rows lui_rows auipc_rows jal_rows jalr_rows branch_rows load_rows store_rows op_imm_rows op_imm_32_rows op_rows op_32_rows misc_mem_rows amo_rows system_rows are_readable number_at
+shares_fine = refl
+
+-- it uses its area for this block alone
+pub shares : SharesArea adding (history adding log) slots at area 1 []
+shares = all_shares adding slots at area 1 (history adding log) is_run.allowed fine shares_fine
 
 pub undisturbed : IsUndisturbed 0 rest
 undisturbed = (

@@ -98,7 +98,7 @@ module _ (s : Setting) (p : Slots) (at : ℕ) (area : Area) (cells h t : ℕ) (b
     on_cpu = place.on_cpu;
     few = place.begins.apart.few;
     shifts = let few = place.begins.apart.few in omega arith;
-    fits = let low = place.begins.apart.low_cells in omega arith;
+    fits = let low = place.begins.apart.cell.low_cells in omega arith;
     inside = refl;
     left = λ differs temps. inl (refl, refl, differs);
   }
@@ -106,7 +106,7 @@ module _ (s : Setting) (p : Slots) (at : ℕ) (area : Area) (cells h t : ℕ) (b
   keeps : KeepsOn w (alone_from s h t begun 0)
   keeps =
       let low = place.begins.apart.low in
-      let low_cells = place.begins.apart.low_cells in
+      let low_cells = place.begins.apart.cell.low_cells in
       let at_0 : IsAt is_scratch (file s t begun).file (at + 16) (register (file s t begun).file) []
       (alone_from s h t begun 0) =
       record {
@@ -169,7 +169,7 @@ module _ (s : Setting) (p : Slots) (at : ℕ) (area : Area) (cells h t : ℕ) (b
   points_out to temps es (inl back) = points_in es back.1
   points_out to temps es (inr done) =
       ap (λ (x : List Store). word_at (seen_byte x seen) (area.at + 8) 8) done.1
-      ∙ beside_word seen (cell_store cells h sum) (area.at + 8) 8 (beside_pointer place.begins.apart.beside)
+      ∙ beside_word seen (cell_store cells h sum) (area.at + 8) 8 (beside_pointer place.begins.apart.cell.beside)
       ∙ place.points
 
   -- where it stands at the post-commit address, and where not

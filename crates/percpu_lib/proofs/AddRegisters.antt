@@ -38,6 +38,7 @@ use Rattle.percpu_lib.specs.Adds.{add_block, placed_add}
 use Rattle.percpu_lib.specs.Uses.{HoldsAdd}
 use Rattle.percpu_lib.specs.Words.{AreHeld, AreSlots, lower, upper}
 use Rattle.percpu_lib.specs.declared.slots.Slots.{Slots}
+use Rattle.percpu_lib.proofs.BlockWords.{block_aligned}
 use Rattle.percpu_lib.proofs.AddCode.{KnowsTable, add_code, add_placed, at_word, outcome_of_word, plain_at}
 
 module _ (seen : ℕ → Option ℕ) (f : Regs) (pc : ℕ) (r : Option ℕ) (x : ℕ) where
@@ -188,9 +189,9 @@ module _ (s : Setting) (p : Slots) (at : ℕ) (area : Area) (t : ℕ) (e : Event
 
   pub registers_kept : register (file s t (e ∷ before)).file x ≡ register now.file x
   registers_kept =
-      let code = add_code s p at area holds.stands holds.slots holds.low_table holds.low holds.aligned
+      let code = add_code s p at area holds.stands holds.slots holds.low_table holds.low (block_aligned s.program.pages p at holds.stands)
       holds.low_area in
-      let placed = add_placed s p at area holds.stands holds.slots holds.low_table holds.low holds.aligned
+      let placed = add_placed s p at area holds.stands holds.slots holds.low_table holds.low (block_aligned s.program.pages p at holds.stands)
       holds.low_area holds.some_table in
       let went = goes_there s (placed_add p at area).range t e.entry.hart.0 e before run in
       let at_it = (sound s (placed_add p at area) t (KnowsTable p) placed code before run.0 holds.uses.0
@@ -200,9 +201,9 @@ module _ (s : Setting) (p : Slots) (at : ℕ) (area : Area) (t : ℕ) (e : Event
       step.did ∙ ap (λ k. done_of (choice_with k e.entry) here) exec ∙ ap (done_exec_by here) runs in
       ap (λ (d : Done). register (file_among d.files t now).file x) did
       ∙ effect_keeps (next_fault here t) (next_effect here t)
-      (λ y is. plain_at s p at area holds.stands holds.slots holds.low_table holds.low holds.aligned
+      (λ y is. plain_at s p at area holds.stands holds.slots holds.low_table holds.low (block_aligned s.program.pages p at holds.stands)
       holds.low_area now y (view here) here.reserved is
       at_it.word at_it.pc at_it.below at_it.know)
-      (λ y is. registers_at s p at area holds.stands holds.slots holds.low_table holds.low holds.aligned
+      (λ y is. registers_at s p at area holds.stands holds.slots holds.low_table holds.low (block_aligned s.program.pages p at holds.stands)
       holds.low_area now y (view here) here.reserved is
       x kept at_it.word at_it.pc at_it.below at_it.know)

@@ -17,6 +17,7 @@ use Rattle.alone_laws.proofs.Retrying.{IsKept, first_place, known_throughout}
 use Rattle.percpu_lib.specs.Adds.{placed_add}
 use Rattle.percpu_lib.specs.Uses.{HoldsAdd}
 use Rattle.percpu_lib.specs.declared.slots.Slots.{Slots}
+use Rattle.percpu_lib.proofs.BlockWords.{block_aligned}
 use Rattle.percpu_lib.proofs.AddCode.{KnowsTable, add_code}
 use Rattle.percpu_lib.proofs.AddRegisters.{registers_at}
 
@@ -34,7 +35,7 @@ module _ (s : Setting) (history_of : History) (p : Slots) (at : ℕ) (area : Are
   Know k regs = KnowsValue p v k regs
 
   code : IsCode s b (KnowsTable p)
-  code = add_code s p at area held.stands held.slots held.low_table held.low held.aligned held.low_area
+  code = add_code s p at area held.stands held.slots held.low_table held.low (block_aligned s.program.pages p at held.stands) held.low_area
 
   without : (f : Saved) → KnowsAt b Know f → KnowsAt b (KnowsTable p) f
   without f at_it = record { word = at_it.word; below = at_it.below; pc = at_it.pc; know = at_it.know.table }
@@ -52,7 +53,7 @@ module _ (s : Setting) (history_of : History) (p : Slots) (at : ℕ) (area : Are
     plain = λ f e at_it is. code.no_call f e (without f at_it) is;
     goes = λ f e seen r many at_it is inside uncommitted.
         with_value (record { file = (outcome seen f.file f.pc r e).regs; pc = (outcome seen f.file f.pc r e).pc })
-        (registers_at s p at area held.stands held.slots held.low_table held.low held.aligned held.low_area f e
+        (registers_at s p at area held.stands held.slots held.low_table held.low (block_aligned s.program.pages p at held.stands) held.low_area f e
         seen r is p.value held.slots.value at_it.word at_it.pc at_it.below at_it.know.table ∙ at_it.know.value)
         (code.goes f e seen r many (without f at_it) is inside);
     cut = λ f at_it inside. record {

@@ -5,6 +5,7 @@ pub mod AddLaw
 pub mod AddRegisters
 pub mod AddRetries
 pub mod AddWords
+pub mod BesideLaw
 pub mod BlockWords
 pub mod CellPath
 pub mod Emittable
@@ -13,5 +14,7 @@ pub mod FileCode
 pub mod HeldWords
 pub mod Labels
 pub mod RetryTests
+pub mod ShareLaw
+pub mod ShareTests
 pub mod UseTests
 pub mod UsesLaw

@@ -1,6 +1,6 @@
 -- Tests of each event of a run on hart 0 that find from its history that a thread uses an add block as it
 -- should: what HoldsAdd asks of each event, by computation. They ask for more than it does.
-use Rattle.std.proofs.Common.{◌≡◌, ◌≢◌, ℕ, zero, suc, ◌+◌, ◌<◌, ◌≤◌, ◌%◌, ◌^◌, List, [], ◌∷◌, refl, sym, ap}
+use Rattle.std.proofs.Common.{◌≡◌, ◌≢◌, ℕ, zero, suc, ◌+◌, ◌<◌, ◌≤◌, ◌^◌, List, [], ◌∷◌, refl, sym, ap}
 use Rattle.std.proofs.Common.{◌∙◌, arith, subst, Bool, true, false, not, ◌&&◌, ◌||◌, ◌⊎◌, inl, inr, ⊎_elim, cond}
 use Rattle.std.proofs.Common.{eqb, leb, Option, Some, None}
 use Rattle.std.specs.Option.{option_map_or}
@@ -19,7 +19,7 @@ use Rattle.mach_types.specs.declared.sequences.Area.{Area}
 use Rattle.mach_types.specs.declared.sequences.Seq.{Seq}
 use Rattle.mach_types.specs.declared.user_memory.Store.{Store}
 use Rattle.mach_types.specs.declared.user_memory.Write.{Write}
-use Rattle.block_model.specs.Acts.{Sequence, is_inside_at, is_instruction, sequence_on}
+use Rattle.block_model.specs.Acts.{Sequence, is_instruction, sequence_on}
 use Rattle.block_model.specs.Here.{memory, view}
 use Rattle.block_model.specs.History.{Event, History, file, here_in_history, kernel, running}
 use Rattle.block_model.specs.Run.{IsRunHistory}
@@ -35,7 +35,7 @@ use Rattle.alone_laws.proofs.EventKinds.{is_kind, kind_is}
 use Rattle.alone_laws.proofs.OpenSequences.{still_open}
 use Rattle.alone_laws.proofs.Sequences.{exec_kind}
 use Rattle.alone_laws.proofs.StoredWords.{among_low}
-use Rattle.percpu_lib.specs.Adds.{AreApart, IsAddBegin, add_of, add_range, cell_at, placed_add}
+use Rattle.percpu_lib.specs.Adds.{IsCellApart, add_of, add_range, cell_at, placed_add}
 use Rattle.percpu_lib.specs.Uses.{AreAddUsed, IsAddUsed, IsAtStart, cells_of}
 use Rattle.percpu_lib.specs.declared.slots.Slots.{Slots}
 
@@ -44,26 +44,26 @@ use Rattle.percpu_lib.specs.declared.slots.Slots.{Slots}
 abbrev pub implies : Bool → Bool → Bool
 implies a b = cond a b true
 
-follows : (a b : Bool) → implies a b ≡ true → a ≡ true → b ≡ true
+pub follows : (a b : Bool) → implies a b ≡ true → a ≡ true → b ≡ true
 follows true b is holds = is
 follows false b is holds = absurd (false≢true holds)
 
-either : (a b : Bool) → a || b ≡ true → (a ≡ true) ⊎ (b ≡ true)
+pub either : (a b : Bool) → a || b ≡ true → (a ≡ true) ⊎ (b ≡ true)
 either true b is = inl refl
 either false b is = inr is
 
-abbrev is_just : Option ℕ → ℕ → Bool
+abbrev pub is_just : Option ℕ → ℕ → Bool
 is_just o n = option_map_or (λ m. eqb m n) o false
 
-just_is : (o : Option ℕ) (n : ℕ) → is_just o n ≡ true → o ≡ Some n
+pub just_is : (o : Option ℕ) (n : ℕ) → is_just o n ≡ true → o ≡ Some n
 just_is None n is = absurd (false≢true is)
 just_is (Some m) n is = ap Some (eqb-true m n is)
 
-abbrev is_empty : List Write → Bool
+abbrev pub is_empty : List Write → Bool
 is_empty [] = true
 is_empty (w ∷ ws) = false
 
-leaves_all : (words : ℕ → Bool) (ws : List Write) → is_empty ws ≡ true → Leaves words ws
+pub leaves_all : (words : ℕ → Bool) (ws : List Write) → is_empty ws ≡ true → Leaves words ws
 leaves_all words [] is a b has = refl
 leaves_all words (w ∷ ws) is a b has = absurd (false≢true is)
 
@@ -91,10 +91,10 @@ each_among test at n all a has =
     each_holds test at n a all place.0 place.1
 
 -- a store beside some bytes, and stores beside them
-abbrev is_beside : ℕ → ℕ → Store → Bool
+abbrev pub is_beside : ℕ → ℕ → Store → Bool
 is_beside at n w = leb (w.at + w.size) at || leb (at + n) w.at
 
-abbrev are_beside : ℕ → ℕ → List Store → Bool
+abbrev pub are_beside : ℕ → ℕ → List Store → Bool
 are_beside at n [] = true
 are_beside at n (w ∷ ws) = is_beside at n w && are_beside at n ws
 
@@ -117,7 +117,7 @@ beside_one at n w is a c has = by_side (either (leb (w.at + w.size) at) (leb (at
         let over = leb-true (at + n) w.at high in
         beside_byte w a c (inr (omega arith))
 
-overlay_beside : (at n : ℕ) (ws : List Store) → are_beside at n ws ≡ true → (a c : ℕ) → among at n a ≡ true
+pub overlay_beside : (at n : ℕ) (ws : List Store) → are_beside at n ws ≡ true → (a c : ℕ) → among at n a ≡ true
     → overlay ws a c ≡ c
 overlay_beside at n [] is a c has = refl
 overlay_beside at n (w ∷ ws) is a c has =
@@ -134,7 +134,7 @@ module _ (s : Setting) (p : Slots) (at : ℕ) (area : Area) (t : ℕ) where
   in_sequence pc = is_inside (add_range at) pc
 
   -- the thread runs on hart 0, and has the area
-  abbrev runs_there : History → Bool
+  abbrev pub runs_there : History → Bool
   runs_there before = is_just (running s 0 before) t
 
   abbrev is_area : Area → Bool
@@ -143,7 +143,7 @@ module _ (s : Setting) (p : Slots) (at : ℕ) (area : Area) (t : ℕ) where
   abbrev has_area : History → Bool
   has_area before = option_map_or is_area (area_of t (kernel s before).areas) false
 
-  abbrev is_range : Seq → Bool
+  abbrev pub is_range : Seq → Bool
   is_range g = eqb g.start (add_range at).start && (eqb g.length 28 && eqb g.abort (add_range at).abort)
 
   -- bytes can be read and written
@@ -205,7 +205,7 @@ module _ (s : Setting) (p : Slots) (at : ℕ) (area : Area) (t : ℕ) where
   is_held before =
       implies (in_words (file s t before).pc) (eqb (register (file s t before).file p.area) area.at)
 
-  abbrev begins_to_run : Event → History → Bool
+  abbrev pub begins_to_run : Event → History → Bool
   begins_to_run e before =
       is_ready t (kernel s before).threads && (is_kind e.entry.kind kind.Run && eqb e.entry.tid.0 t)
 
@@ -239,8 +239,7 @@ module _ (s : Setting) (p : Slots) (at : ℕ) (area : Area) (t : ℕ) where
   -- where a sequence begins, and as long as it is open
   abbrev starts : History → Bool
   starts before =
-      is_fair (cells_of s p t before) before
-      && (is_apart (cells_of s p t before) && eqb (register (file s t before).file p.area) area.at)
+      is_fair (cells_of s p t before) before && is_apart (cells_of s p t before)
 
   abbrev is_begun : History → Bool
   is_begun before = implies (eqb (file s t before).pc (at + 16)) (starts before)
@@ -249,7 +248,7 @@ module _ (s : Setting) (p : Slots) (at : ℕ) (area : Area) (t : ℕ) where
   is_open before =
       option_map_or (λ q. is_fair (cells_of s p t q.begun) before) (sequence_on s 0 before) true
 
-  abbrev is_fine : Event → History → Bool
+  abbrev pub is_fine : Event → History → Bool
   is_fine e before =
       eqb e.entry.hart.0 0
       && (is_entered e before
@@ -259,12 +258,11 @@ module _ (s : Setting) (p : Slots) (at : ℕ) (area : Area) (t : ℕ) where
   are_fine [] = implies (in_words s.program.entry) (eqb s.program.entry at)
   are_fine (e ∷ before) = are_fine before && is_fine e before
 
-  -- before the sequence the thread runs on hart 0, the area is its own and can be used, and it is in no sequence
+  -- before the sequence the thread runs on hart 0, and the area is its own and can be used
   abbrev begins_freely : History → Bool
   begins_freely before =
       implies (is_before (placed_add p at area) (file s t before).pc)
-      (runs_there before
-      && (has_area before && (are_usable before area.at 32 && not (is_inside_at s 0 before))))
+      (runs_there before && (has_area before && are_usable before area.at 32))
 
   abbrev pub always_begins_freely : History → Bool
   always_begins_freely [] = true
@@ -280,7 +278,7 @@ module _ (s : Setting) (p : Slots) (at : ℕ) (area : Area) (t : ℕ) where
       let signature : a.sig ≡ area.sig = eqb-true a.sig area.sig parts.1 in
       λ i. Some (record { at = place i; sig = signature i })
 
-  range_is : (g : Seq) → is_range g ≡ true → g ≡ add_range at
+  pub range_is : (g : Seq) → is_range g ≡ true → g ≡ add_range at
   range_is g is =
       let parts = and_parts (eqb g.start (add_range at).start)
       (eqb g.length 28 && eqb g.abort (add_range at).abort) is in
@@ -320,7 +318,7 @@ module _ (s : Setting) (p : Slots) (at : ℕ) (area : Area) (t : ℕ) where
       }
 
   module _ (e : Event) (before : History) (step : IsStep s e before) (fine : is_fine e before ≡ true) where
-    own_hart : e.entry.hart.0 ≡ 0
+    pub own_hart : e.entry.hart.0 ≡ 0
     own_hart = eqb-true e.entry.hart.0 0 (and_parts (eqb e.entry.hart.0 0) _ fine).0
 
     rest : is_entered e before && (is_held before && (is_kept e before && (is_told e before
@@ -346,13 +344,13 @@ module _ (s : Setting) (p : Slots) (at : ℕ) (area : Area) (t : ℕ) where
     last = (and_parts (is_told e before) _ (and_parts (is_kept e before) _ more).1).1
 
     -- where the thread runs on hart 0 it does on the event's, and on no other
-    there : runs_there before ≡ true → running s 0 before ≡ Some t
+    pub there : runs_there before ≡ true → running s 0 before ≡ Some t
     there runs = just_is (running s 0 before) t runs
 
-    on_own : runs_there before ≡ true → running s e.entry.hart.0 before ≡ Some t
+    pub on_own : runs_there before ≡ true → running s e.entry.hart.0 before ≡ Some t
     on_own runs = ap (λ h. running s h before) own_hart ∙ there runs
 
-    only_hart : runs_there before ≡ true → (h : ℕ) → running s h before ≡ Some t → 0 ≡ h
+    pub only_hart : runs_there before ≡ true → (h : ℕ) → running s h before ≡ Some t → 0 ≡ h
     only_hart runs h at_h = one_hart s e before step 0 t (there runs) h at_h
 
     -- HOW THE BLOCK IS USED
@@ -392,12 +390,12 @@ module _ (s : Setting) (p : Slots) (at : ℕ) (area : Area) (t : ℕ) where
         by_way (inr moved) = by_event (either (by_word e before) (by_staying e before) moved)
 
     -- a thread that begins to run runs nowhere before
-    not_both : begins_to_run e before ≡ true → (h : ℕ) → running s h before ≡ Some t → ⊥
+    pub not_both : begins_to_run e before ≡ true → (h : ℕ) → running s h before ≡ Some t → ⊥
     not_both begins h runs =
         false≢true (sym (not_ready s e before step h t runs)
         ∙ (and_parts (is_ready t (kernel s before).threads) _ begins).0)
 
-    not_named : begins_to_run e before ≡ true → (e.entry.kind ≡ kind.Run → e.entry.tid.0 ≢ t) → ⊥
+    pub not_named : begins_to_run e before ≡ true → (e.entry.kind ≡ kind.Run → e.entry.tid.0 ≢ t) → ⊥
     not_named begins other =
         let parts = and_parts (is_kind e.entry.kind kind.Run) (eqb e.entry.tid.0 t)
         (and_parts (is_ready t (kernel s before).threads) _ begins).1 in
@@ -542,15 +540,10 @@ module _ (s : Setting) (p : Slots) (at : ℕ) (area : Area) (t : ℕ) where
           };
         }
 
-    apart_is : (cells : ℕ) → at % 4 ≡ 0 → at < 2 ^ 37 → area.at + 32 ≤ 2 ^ 38 → is_apart cells ≡ true
-        → AreApart at area.at cells 0
-    apart_is cells aligned low low_area is =
+    apart_is : (cells : ℕ) → is_apart cells ≡ true → IsCellApart area.at cells 0
+    apart_is cells is =
         let one = and_parts (leb (cell_at cells 0 + 8) (2 ^ 64)) _ is in
         record {
-          aligned = aligned;
-          low = low;
-          low_area = low_area;
-          few = omega arith;
           low_cells = leb-true (cell_at cells 0 + 8) (2 ^ 64) one.0;
           beside =
               ⊎_elim (λ (under : leb (cell_at cells 0 + 8) area.at ≡ true). inl (leb-true (cell_at cells 0 + 8) area.at under))
@@ -561,14 +554,11 @@ module _ (s : Setting) (p : Slots) (at : ℕ) (area : Area) (t : ℕ) where
     -- where a sequence begins
     begun_is : (file s t before).pc ≡ at + 16 → (is_fair (cells_of s p t before) before ≡ true)
         × (is_apart (cells_of s p t before) ≡ true)
-        × (register (file s t before).file p.area ≡ area.at)
     begun_is here =
         let test = follows (eqb (file s t before).pc (at + 16)) (starts before)
         (and_parts (is_begun before) (is_open before) last).0
         (ap (λ n. eqb n (at + 16)) here ∙ eqb_same (at + 16)) in
-        let one = and_parts (is_fair (cells_of s p t before) before) _ test in
-        let two = and_parts (is_apart (cells_of s p t before)) _ one.1 in
-        (one.0, two.0, eqb-true (register (file s t before).file p.area) area.at two.1)
+        and_parts (is_fair (cells_of s p t before) before) (is_apart (cells_of s p t before)) test
 
     -- and as long as it is open
     open_is : (q : Sequence) → sequence_on s 0 before ≡ Some q → is_fair (cells_of s p t q.begun) before ≡ true
@@ -593,9 +583,8 @@ module _ (s : Setting) (p : Slots) (at : ℕ) (area : Area) (t : ℕ) where
     fair_later begun q is from =
         subst (λ (x : History). Fair 0 x) from (fair (cells_of s p t q.begun) (open_is q is))
 
-    add_used : at % 4 ≡ 0 → at < 2 ^ 37 → area.at + 32 ≤ 2 ^ 38
-        → ((h : ℕ) (q : Sequence) → sequence_on s h before ≡ Some q → 0 ≡ h) → IsAddUsed s p at area t e before
-    add_used aligned low low_area sole = record {
+    add_used : ((h : ℕ) (q : Sequence) → sequence_on s h before ≡ Some q → 0 ≡ h) → IsAddUsed s p at area t e before
+    add_used sole = record {
       fair = λ h begun start opened.
           ⊎_elim (λ (here : before ≡ begun). fair_first h begun start here)
           (λ (that : (q : Sequence) × (sequence_on s h before ≡ Some q) × (q.begun ≡ begun)).
@@ -605,12 +594,8 @@ module _ (s : Setting) (p : Slots) (at : ℕ) (area : Area) (t : ℕ) where
       begins = λ h start.
           let test = begun_is start.pc in
           let runs = (and_parts (runs_there before) _ test.0).0 in
-          subst (λ n. IsAddBegin s p at area (cells_of s p t before) n t before) (only_hart runs h start.runs)
-          (record {
-            apart = apart_is (cells_of s p t before) aligned low low_area test.1;
-            area_is = test.2;
-            cells_is = refl;
-          });
+          subst (λ n. IsCellApart area.at (cells_of s p t before) n) (only_hart runs h start.runs)
+          (apart_is (cells_of s p t before) test.1);
     }
 
   -- ALL EVENTS
@@ -631,21 +616,20 @@ module _ (s : Setting) (p : Slots) (at : ℕ) (area : Area) (t : ℕ) where
           earlier
           (sym (still_open s h e before apart) ∙ is)
 
-  pub all_used : at % 4 ≡ 0 → at < 2 ^ 37 → area.at + 32 ≤ 2 ^ 38 → (history : History)
-      → IsRunHistory s history → are_fine history ≡ true
+  pub all_used : (history : History) → IsRunHistory s history → are_fine history ≡ true
       → AreAddUsed s p at area t history × ProcessorKept s t area history
       × AreUsed s (placed_add p at area) t history
-  all_used aligned low low_area [] run fine = (
+  all_used [] run fine = (
     tt,
     tt,
     λ inside.
         eqb-true s.program.entry at (follows (in_words s.program.entry) (eqb s.program.entry at) fine inside),
   )
-  all_used aligned low low_area (e ∷ before) run fine =
+  all_used (e ∷ before) run fine =
       let parts = and_parts (are_fine before) (is_fine e before) fine in
-      let earlier = all_used aligned low low_area before run.0 parts.0 in
+      let earlier = all_used before run.0 parts.0 in
       let step = step_of s e before run in (
-        (earlier.0, add_used e before step parts.1 aligned low low_area (sole before parts.0)),
+        (earlier.0, add_used e before step parts.1 (sole before parts.0)),
         (earlier.1, processor_kept e before step parts.1),
         (earlier.2, used e before step parts.1),
       )
@@ -662,15 +646,13 @@ module _ (s : Setting) (p : Slots) (at : ℕ) (area : Area) (t : ℕ) where
       can_begin test h runs here =
           let one = and_parts (runs_there before) _
           (follows (is_before (placed_add p at area) (file s t before).pc) _ test here) in
-          let two = and_parts (has_area before) _ one.1 in
-          let three = and_parts (are_usable before area.at 32) (not (is_inside_at s 0 before)) two.1 in
+          let two = and_parts (has_area before) (are_usable before area.at 32) one.1 in
           subst (λ n. CanBegin s (placed_add p at area) n t before)
           (one_hart s e before (step_of s e before run) 0 t (just_is (running s 0 before) t one.0) h runs)
           (record {
             registered = area_is (area_of t (kernel s before).areas) two.0;
             usable = record {
-              read = reads_are before area.at 32 three.0;
-              write = writes_are before area.at 32 three.0;
+              read = reads_are before area.at 32 two.1;
+              write = writes_are before area.at 32 two.1;
             };
-            outside = not-true (is_inside_at s 0 before) three.1;
           })

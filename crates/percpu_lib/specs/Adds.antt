@@ -66,14 +66,18 @@ cell_at cells cpu = cells + 64 * cpu
 abbrev pub add_bytes : ℕ → ℕ → ℕ → ℕ → Bool
 add_bytes area cells cpu a = among area 32 a || among (cell_at cells cpu) 8 a
 
+-- the cell of a processor doesn't wrap, and doesn't lie on the area
+pub record IsCellApart (area cells cpu : ℕ) : Type 0 where
+  pub low_cells : cell_at cells cpu + 8 ≤ 2 ^ 64
+  pub beside : (cell_at cells cpu + 8 ≤ area) ⊎ (area + 32 ≤ cell_at cells cpu)
+
 -- where a block stands, and on what it works: no address wraps, and the cell doesn't lie on the area
 pub record AreApart (at area cells cpu : ℕ) : Type 0 where
   pub aligned : at % 4 ≡ 0
   pub low : at < 2 ^ 37
   pub low_area : area + 32 ≤ 2 ^ 38
   pub few : cpu < 8
-  pub low_cells : cell_at cells cpu + 8 ≤ 2 ^ 64
-  pub beside : (cell_at cells cpu + 8 ≤ area) ⊎ (area + 32 ≤ cell_at cells cpu)
+  pub cell : IsCellApart area cells cpu
 
 -- the block of the sequence, where it is of this area
 abbrev pub add_of : Slots → ℕ → Area → ℕ → ℕ → Block

@@ -1,5 +1,6 @@
 pub mod Adds
 pub mod Allocs
+pub mod Beside
 pub mod BlockLines
 pub mod Files
 pub mod Frees

@@ -1,7 +1,7 @@
 //! Laws of blocks in runs, each as the contract of a function that does nothing.
 
 ghost use Rattle.std.specs.Prelude.{ℕ, List, [], ◌∷◌, ◌++◌, Some, length, slice_get, true, false};
-ghost use Rattle.std.specs.Prelude.{◌+◌, ◌*◌, ◌≡◌, ◌≢◌, ◌≤◌, Option};
+ghost use Rattle.std.specs.Prelude.{◌+◌, ◌*◌, ◌<◌, ◌^◌, ◌≡◌, ◌≢◌, ◌≤◌, Option};
 ghost use Rattle.mach_types.specs.Registers.{register};
 ghost use Rattle.mach_types.specs.declared.events.Entry.{Entry};
 ghost use Rattle.mach_types.specs.declared.events.Kind.TheVariants as kind;
@@ -14,23 +14,26 @@ ghost use Rattle.block_model.specs.Setting.{Setting};
 ghost use Rattle.alone.specs.Temps.{is_scratch};
 ghost use Rattle.alone_laws.specs.Blocks.{IsPlaceOf};
 ghost use Rattle.alone_laws.specs.Entering.{IsIn};
+ghost use Rattle.alone_laws.specs.Pointers.{LiesBeside};
 ghost use Rattle.alone_laws.specs.Retries.{Retries};
 ghost use Rattle.alone_laws.specs.Undisturbed.{Brings, IsUndisturbed, executed_on};
-ghost use Rattle.alone_laws.specs.Uses.{CanAlwaysBegin, in_block};
+ghost use Rattle.alone_laws.specs.Uses.{AlwaysOutside, CanAlwaysBegin, Placed, in_block};
 ghost use Rattle.alone_laws.specs.Spans.{code_of};
 ghost use Rattle.block_model.specs.Instruction.{fetched};
 ghost use Rattle.elf_load.specs.Images.{IsImage};
 ghost use Rattle.elf_load.specs.declared.image.Image.{Image};
+ghost use Rattle.elf_load.specs.declared.image.ImagePage.{ImagePage};
 ghost use Rattle.rv_asm.specs.Assembly.{AreAssembled, Assembly};
 ghost use Rattle.rv_asm.specs.declared.item.Item.{Item};
 ghost use Rattle.rv_inst.specs.Table.{row_of};
 ghost use Rattle.rv_inst.specs.declared.instruction.Inst.{Inst};
 ghost use Rattle.percpu_lib.specs.Adds.{IsLeftAt, IsNoAdd, IsWholeAdd, add_block, add_lines, add_of, add_range};
 ghost use Rattle.percpu_lib.specs.Adds.{cell_seen, placed_add};
+ghost use Rattle.percpu_lib.specs.Beside.{IsOfLibrary};
 ghost use Rattle.percpu_lib.specs.BlockLines.{HasNoLabel, IsLabelled, block_lines};
 ghost use Rattle.percpu_lib.specs.Files.{HoldsCode};
 ghost use Rattle.percpu_lib.specs.Lines.{AreEmitted, HasRoom, IsContinued};
-ghost use Rattle.percpu_lib.specs.Uses.{HoldsAdd, IsAdded, cells_of};
+ghost use Rattle.percpu_lib.specs.Uses.{HoldsAdd, IsAdded, SharesArea, cells_of};
 ghost use Rattle.percpu_lib.specs.Words.{AreHeld};
 ghost use Rattle.percpu_lib.specs.declared.lines.Line.{Line};
 ghost use Rattle.percpu_lib.specs.declared.slots.Slots.{Slots};
@@ -78,13 +81,43 @@ pub fn add_keeps_registers()
         → register (file s t (history s (log ++ entry ∷ []))).file r ≡ register (file s t (history s log)).file r }
 {}
 
+/// No sequence of a block of the library has a word of an add block before that one's sequence, wherever both stand in
+/// a program.
+pub fn blocks_lie_beside()
+    ensures { (pages : List ImagePage) (p : Slots) (at : ℕ) (area : Area) (other : Placed)
+        → AreHeld (code_of pages) at (add_block p) → at < 2 ^ 37 → IsOfLibrary (code_of pages) other
+        → LiesBeside (placed_add p at area) other }
+{}
+
+/// In a block run a thread is inside no sequence where it runs before the sequence of an add block and can begin it: where
+/// nobody writes the pointer of its area but its own instructions just before the starts of this block and of others
+/// beside it, and the kernel.
+pub fn adds_begin_outside()
+    ensures { (s : Setting) (log : List Entry) (p : Slots) (at : ℕ) (area : Area) (t : ℕ) (others : List Placed)
+        → IsBlockRun s log → HoldsAdd s (history s log) p at area t
+        → CanAlwaysBegin s (placed_add p at area) t (history s log)
+        → SharesArea s (history s log) p at area t others
+        → AlwaysOutside s (placed_add p at area) t (history s log) }
+{}
+
 /// In a block run a thread that is at the retry label of an add block, and whose hart from there on executes
 /// instructions and lets stores enter memory and does nothing else, is at the post-commit address after one of its
 /// first 11 instructions, by a sequence that is whole.
 pub fn adds_are_done()
-    ensures { (s : Setting) (log stretch : List Entry) (p : Slots) (at : ℕ) (area : Area) (h t : ℕ)
+    // where only blocks and the kernel write the pointer of the area
+    ensures shared { (s : Setting) (log stretch : List Entry) (p : Slots) (at : ℕ) (area : Area) (h t : ℕ)
+        (others : List Placed)
         → IsBlockRun s (log ++ stretch) → HoldsAdd s (history s (log ++ stretch)) p at area t
         → CanAlwaysBegin s (placed_add p at area) t (history s (log ++ stretch))
+        → SharesArea s (history s (log ++ stretch)) p at area t others
+        → running s h (history s log) ≡ Some t → (file s t (history s log)).pc ≡ at
+        → IsUndisturbed h stretch → 11 ≤ executed_on h stretch
+        → Brings s h 11 (IsAdded s p at h t) log stretch }
+    // and wherever the thread is inside no sequence before the block's own
+    ensures outside { (s : Setting) (log stretch : List Entry) (p : Slots) (at : ℕ) (area : Area) (h t : ℕ)
+        → IsBlockRun s (log ++ stretch) → HoldsAdd s (history s (log ++ stretch)) p at area t
+        → CanAlwaysBegin s (placed_add p at area) t (history s (log ++ stretch))
+        → AlwaysOutside s (placed_add p at area) t (history s (log ++ stretch))
         → running s h (history s log) ≡ Some t → (file s t (history s log)).pc ≡ at
         → IsUndisturbed h stretch → 11 ≤ executed_on h stretch
         → Brings s h 11 (IsAdded s p at h t) log stretch }
@@ -150,6 +183,7 @@ pub fn aborted_adds_begin_anew()
     ensures { (s : Setting) × (first log stretch : List Entry) × (p : Slots) × (at : ℕ) × (area : Area) × (h t : ℕ)
         × IsBlockRun s (log ++ stretch) × HoldsAdd s (history s (log ++ stretch)) p at area t
         × CanAlwaysBegin s (placed_add p at area) t (history s (log ++ stretch))
+        × SharesArea s (history s (log ++ stretch)) p at area t []
         × Retries s (placed_add p at area) t first log
         × (running s h (history s log) ≡ Some t) × ((file s t (history s log)).pc ≡ at)
         × IsUndisturbed h stretch × (11 ≤ executed_on h stretch) }

@@ -11,7 +11,8 @@ returns-in-Ok-write_elf-clause-guest c =
     let P : List ℕ → Type 0 = λ xs. All (λ (b : ℕ). b < 256) xs in
     subst P c.deref.ensures.value c.shows_bytes.ensures in
     guest_file c.args.name c.args.n c.in_ok-asm.asm _ _ c.in_ok-parts.parts _ c.in_ok-parts.ensures.segments refl refl refl refl
-    refl c.in_ok-asm.ensures c.in-Ok.ensures.code c.in_ok-data.ensures fits c.in-Ok-write_elf.ensures.image
+    refl c.in_ok-asm.ensures c.in-Ok.ensures.code c.in_ok-data.ensures refl c.in_ok-parts.ensures.entry
+    c.in_ok-parts.ensures.flags fits c.in-Ok-write_elf.ensures.image
     c.in-Ok-write_elf.ensures.bytes c.in-Ok-write_elf.ensures.frames bytes
 
 pub unreachable-requires : goal.unreachable-requires

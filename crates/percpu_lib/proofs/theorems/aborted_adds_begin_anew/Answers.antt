@@ -17,6 +17,7 @@ returns c = (
   example.is_run,
   example.holds,
   example.can_begin,
+  example.shares,
   example.retried,
   example.runs_anew,
   example.begins_anew,

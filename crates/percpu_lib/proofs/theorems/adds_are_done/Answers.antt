@@ -1,6 +1,15 @@
+use Rattle.std.proofs.Common.{◌++◌}
+use Rattle.block_model.specs.Deciding.{history}
 use Rattle.percpu_lib.proofs.AddCourse.{comes_to_add}
+use Rattle.percpu_lib.proofs.ShareLaw.{outside_before}
 use Rattle.percpu_lib.proofs.theorems.adds_are_done.Goals as goal
 
 pub returns : goal.returns
-returns c s log stretch p at area h t run held begins runs pc calm many =
-    comes_to_add s p at area h t log stretch run held begins runs pc calm many
+returns c = record {
+  shared = λ s log stretch p at area h t others run held can shares runs pc calm many.
+      comes_to_add s p at area h t log stretch run held can
+      (outside_before s p at area t (history s (log ++ stretch)) held others run.allowed shares can)
+      runs pc calm many;
+  outside = λ s log stretch p at area h t run held can outside runs pc calm many.
+      comes_to_add s p at area h t log stretch run held can outside runs pc calm many;
+}

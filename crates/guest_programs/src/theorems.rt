@@ -1,0 +1,46 @@
+//! Laws of made guests, each as the contract of a function that does nothing.
+
+ghost use Rattle.std.specs.Prelude.{ℕ, List, [], ◌≡◌, ◌+◌, Some};
+ghost use Rattle.mach_types.specs.declared.events.Entry.{Entry};
+ghost use Rattle.mach_types.specs.declared.sequences.Area.{Area};
+ghost use Rattle.rv_asm.specs.Assembly.{AreAssembled, Assembly, empty};
+ghost use Rattle.block_model.specs.Acts.{Sequence, sequence_on};
+ghost use Rattle.block_model.specs.Deciding.{history};
+ghost use Rattle.block_model.specs.History.{file};
+ghost use Rattle.block_model.specs.Run.{IsBlockRun};
+ghost use Rattle.block_model.specs.Setting.{Setting};
+ghost use Rattle.alone_laws.specs.Entering.{IsIn};
+ghost use Rattle.alone_laws.specs.Uses.{CanAlwaysBegin};
+ghost use Rattle.percpu_lib.specs.Adds.{add_range, cell_seen, placed_add};
+ghost use Rattle.percpu_lib.specs.Lines.{AreEmitted};
+ghost use Rattle.percpu_lib.specs.Uses.{HoldsAdd, SharesArea, cells_of};
+ghost use Rattle.percpu_lib.specs.declared.slots.Slots.{Slots};
+ghost use Rattle.guest_names.specs.declared.names.Name.TheVariants.{Counter};
+ghost use Rattle.guest_names.specs.declared.names.Name.{Name};
+ghost use Rattle.guest_programs.specs.Programs.{IsGuestElf, data_bytes, guest_program};
+ghost use Rattle.guest_programs.specs.Steps.{guest_lines};
+ghost use Rattle.guest_programs.specs.declared.layout.TheConstants.{CODE};
+ghost use Rattle.guest_programs.specs.declared.shared.TheConstants.{LABELS};
+ghost use Rattle.percpu_lib.specs.Files.{HoldsCode};
+
+/// The code of a guest's file stands in the memory with which its program starts, from the first word on, and may be
+/// executed.
+pub fn made_files_hold_their_code()
+    ensures { (name : Name) (n : ℕ) (file : List ℕ) → (elf : IsGuestElf name n file) → HoldsCode file 0x10000 elf.code }
+{}
+
+/// What `HoldsAdd` asks is met by a made guest: there are a block run of the counter guest for the size 1 and a thread of it
+/// that uses its add block so, is preempted inside, begins anew, and comes to the post-commit address by a sequence of
+/// the block. The cell of its processor is 1 then.
+pub fn counters_use_their_block()
+    ensures { (asm : Assembly) × (code : List ℕ) × (s : Setting) × (log : List Entry) × (p : Slots) × (at : ℕ)
+        × (area : Area) × (h : ℕ) × (q : Sequence)
+        × AreEmitted (guest_lines Counter) (empty CODE LABELS) asm × AreAssembled asm.labels asm.items code
+        × (s.program ≡ guest_program code (data_bytes asm 1))
+        × IsBlockRun s log × HoldsAdd s (history s log) p at area q.thread
+        × CanAlwaysBegin s (placed_add p at area) q.thread (history s log)
+        × SharesArea s (history s log) p at area q.thread []
+        × (sequence_on s h (history s log) ≡ Some q) × IsIn s (add_range at) q.thread q.begun
+        × ((file s q.thread q.reached).pc ≡ at + 44)
+        × (cell_seen s h (cells_of s p q.thread q.begun) q.reached ≡ Some 1) }
+{}

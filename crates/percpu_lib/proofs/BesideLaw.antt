@@ -1,0 +1,261 @@
+-- No sequence of a block of the library has a word of an add block before its sequence: those words are a load into
+-- x5, a LUI, an ADDI and a store, and a sequence begins with a load into x6 and has neither of the first two.
+use Rattle.std.proofs.Common.{◌≡◌, ℕ, zero, suc, ◌+◌, ◌*◌, ◌-◌, ◌/◌, ◌%◌, ◌<◌, ◌≤◌, ◌^◌, List, [], ◌∷◌, length, refl, sym, ap, ◌∙◌}
+use Rattle.std.proofs.Common.{arith, Bool, true, false, eqb, Option, Some, slice_get, pos}
+use Rattle.std.specs.Option.{option_map}
+use Rattle.std.proofs.lemmas.Bool.{false≢true, ltb-true}
+use Rattle.elf_load.specs.declared.image.ImagePage.{ImagePage}
+use Rattle.mach_types.specs.Kernel.Areas.{is_inside}
+use Rattle.mach_types.specs.declared.sequences.Area.{Area}
+use Rattle.rv_asm.specs.Assembly.{aimed, distance, index_of}
+use Rattle.rv_inst.specs.declared.instruction.Inst.{Inst}
+use Rattle.rv_inst.specs.declared.instruction.Inst.TheVariants as inst
+use Rattle.alone_laws.specs.Pointers.{LiesBeside}
+use Rattle.alone_laws.specs.Spans.{code_of}
+use Rattle.alone_laws.specs.Uses.{Placed, is_before}
+use Rattle.percpu_lib.specs.Adds.{add_block, add_steps, placed_add}
+use Rattle.percpu_lib.specs.Allocs.{alloc_steps}
+use Rattle.percpu_lib.specs.Beside.{HoldsSequence, IsOfLibrary, is_add, is_alloc, is_free, is_pop, is_push, sequence_lines}
+use Rattle.percpu_lib.specs.Frees.{free_steps}
+use Rattle.percpu_lib.specs.Lines.{instructions}
+use Rattle.percpu_lib.specs.Pops.{pop_steps}
+use Rattle.percpu_lib.specs.Pushes.{push_steps}
+use Rattle.percpu_lib.specs.Words.{AreHeld, lower, upper}
+use Rattle.percpu_lib.specs.declared.lines.Line.{Line}
+use Rattle.percpu_lib.specs.declared.slots.Slots.{Slots}
+use Rattle.percpu_lib.proofs.BlockWords.{block_aligned, held_aligned}
+
+-- an instruction that no sequence has; and one with which a sequence begins
+abbrev is_early : Inst → Bool
+is_early (inst.Lui rd imm) = true
+is_early (inst.Lw rd rs1 imm) = eqb rd 5
+is_early other = false
+
+abbrev is_start : Inst → Bool
+is_start (inst.Lw rd rs1 imm) = true
+is_start other = false
+
+-- words that are known, and none of which is early
+pub record IsLate (o : Option Inst) : Type 0 where
+  pub instruction : Inst
+  pub is : o ≡ Some instruction
+  pub late : is_early instruction ≡ false
+
+abbrev AreLate : List (Option Inst) → Type 0
+AreLate [] = Unit {0}
+AreLate (o ∷ rest) = IsLate o × AreLate rest
+
+late : (i : Inst) → is_early i ≡ false → IsLate (Some i)
+late i test = record { instruction = i; is = refl; late = test }
+
+to_retry : (o : Option ℕ) (n to : ℕ) → o ≡ Some to → IsLate (option_map (λ t. aimed (inst.Bne 6 5 (pos 0)) (distance n t)) o)
+to_retry o n to bound = record {
+  instruction = inst.Bne 6 5 (distance n to);
+  is = ap (option_map (λ t. aimed (inst.Bne 6 5 (pos 0)) (distance n t))) bound;
+  late = refl;
+}
+
+to_leave : (a b : ℕ) (o : Option ℕ) (n to : ℕ) → o ≡ Some to
+    → IsLate (option_map (λ t. aimed (inst.Beq a b (pos 0)) (distance n t)) o)
+to_leave a b o n to bound = record {
+  instruction = inst.Beq a b (distance n to);
+  is = ap (option_map (λ t. aimed (inst.Beq a b (pos 0)) (distance n t))) bound;
+  late = refl;
+}
+
+each_late : (ws : List (Option Inst)) → AreLate ws → (k : ℕ) → k < length ws
+    → (i : Inst) × (slice_get ws k ≡ Some (Some i)) × (is_early i ≡ false)
+each_late [] are k lt = absurd (omega arith)
+each_late (o ∷ rest) are zero lt = (are.0.instruction, ap Some are.0.is, are.0.late)
+each_late (o ∷ rest) are (suc k) lt = each_late rest are.1 k (omega arith)
+
+same_inst : (i j : Inst) → Some i ≡ Some j → i ≡ j
+same_inst i j is = cc
+
+-- TWO BLOCKS
+
+module _ (pages : List ImagePage) (p : Slots) (at : ℕ) (area : Area) (x : Placed) (q : Slots)
+    (ws : List (Option Inst)) (held : AreHeld (code_of pages) at (add_block p)) (low : at < 2 ^ 37)
+    (stands : AreHeld (code_of pages) x.range.start ws) (long : x.range.length ≡ 4 * length ws)
+    (few : length ws ≤ 100) (some : 1 ≤ length ws) (low_start : x.range.start < 2 ^ 37) (are : AreLate ws)
+    (starts : slice_get ws 0 ≡ Some (Some (inst.Lw 6 q.area (pos 4)))) where
+  abbrev start : ℕ
+  start = x.range.start
+
+  -- an early word doesn't stand in the sequence, and its first word is a load
+  not_early : (a k : ℕ) (i : Inst) → code_of pages a ≡ Some i → is_early i ≡ true → a ≡ start + 4 * k → k < length ws
+      → ⊥
+  not_early a k i is early same lt =
+      let w = each_late ws are k lt in
+      let both : i ≡ w.0 = same_inst i w.0 (sym is ∙ ap (code_of pages) same ∙ stands.holds k w.0 w.1) in
+      false≢true (sym w.2 ∙ sym (ap is_early both) ∙ early)
+
+  is_first : (a : ℕ) (i : Inst) → code_of pages a ≡ Some i → is_start i ≡ false → a ≡ start + 4 * 0 → ⊥
+  is_first a i is other same =
+      let both : i ≡ inst.Lw 6 q.area (pos 4) =
+      same_inst i (inst.Lw 6 q.area (pos 4)) (sym is ∙ ap (code_of pages) same
+      ∙ stands.holds 0 (inst.Lw 6 q.area (pos 4)) starts) in
+      false≢true (sym other ∙ ap is_start both)
+
+  word_0 : code_of pages (at + 4 * 0) ≡ Some (inst.Lw 5 p.area (pos 0))
+  word_0 = held.holds 0 (inst.Lw 5 p.area (pos 0)) refl
+
+  word_1 : code_of pages (at + 4 * 1) ≡ Some (inst.Lui 6 (upper p.table))
+  word_1 = held.holds 1 (inst.Lui 6 (upper p.table)) refl
+
+  word_2 : code_of pages (at + 4 * 2) ≡ Some (inst.Addi 6 6 (lower p.table))
+  word_2 = held.holds 2 (inst.Addi 6 6 (lower p.table)) refl
+
+  word_3 : code_of pages (at + 4 * 3) ≡ Some (inst.Sd p.area 6 (pos 8))
+  word_3 = held.holds 3 (inst.Sd p.area 6 (pos 8)) refl
+
+  not_upper : (k : ℕ) → at + 4 * 1 ≡ start + 4 * k → k < length ws → ⊥
+  not_upper k same lt = not_early (at + 4 * 1) k (inst.Lui 6 (upper p.table)) word_1 refl same lt
+
+  not_lower : (k : ℕ) → at + 4 * 2 ≡ start + 4 * k → k < length ws → ⊥
+  not_lower zero same lt = is_first (at + 4 * 2) (inst.Addi 6 6 (lower p.table)) word_2 refl same
+  not_lower (suc k) same lt = not_upper k (omega arith) (omega arith)
+
+  not_store : (k : ℕ) → at + 4 * 3 ≡ start + 4 * k → k < length ws → ⊥
+  not_store zero same lt = is_first (at + 4 * 3) (inst.Sd p.area 6 (pos 8)) word_3 refl same
+  not_store (suc k) same lt = not_lower k (omega arith) (omega arith)
+
+  -- a word of both
+  by_word : (j k : ℕ) → j < 4 → at + 4 * j ≡ start + 4 * k → k < length ws → ⊥
+  by_word zero k lt same within = not_early (at + 4 * 0) k (inst.Lw 5 p.area (pos 0)) word_0 refl same within
+  by_word (suc zero) k lt same within = not_upper k same within
+  by_word (suc (suc zero)) k lt same within = not_lower k same within
+  by_word (suc (suc (suc zero))) k lt same within = not_store k same within
+  by_word (suc (suc (suc (suc j)))) k lt same within = absurd (omega arith)
+
+  aligned : at % 4 ≡ 0
+  aligned = block_aligned pages p at held
+
+  start_aligned : start % 4 ≡ 0
+  start_aligned =
+      let first = held_aligned pages (start + 4 * 0) (inst.Lw 6 q.area (pos 4)) (stands.holds 0 (inst.Lw 6 q.area (pos 4)) starts) in
+      omega (arith, first)
+
+  -- an address of both
+  by_address : (d e : ℕ) → at + d ≡ start + e → d < 16 → e < 4 * length ws → ⊥
+  by_address d e same near within =
+      by_word (d / 4) (e / 4) (omega arith) (omega (arith, aligned, start_aligned)) (omega arith)
+
+  near_at : (from pc n : ℕ) → from < 2 ^ 37 → n < 2 ^ 37 → (pc + (2 ^ 64 - from)) % 2 ^ 64 < n
+      → pc % 2 ^ 64 ≡ from + (pc + (2 ^ 64 - from)) % 2 ^ 64
+  near_at from pc n low_from small near = omega arith
+
+  apart : (pc : ℕ) → is_before (placed_add p at area) pc ≡ true → is_inside x.range pc ≡ false
+  apart pc here = by_test (is_inside x.range pc) refl
+    where
+      near : (pc + (2 ^ 64 - at)) % 2 ^ 64 < 16
+      near =
+          let lt = ltb-true ((pc + (2 ^ 64 - at)) % 2 ^ 64) ((at + 16 + (2 ^ 64 - at)) % 2 ^ 64) here in omega arith
+
+      by_test : (c : Bool) → is_inside x.range pc ≡ c → is_inside x.range pc ≡ false
+      by_test false out = out
+      by_test true inside =
+          let within = ltb-true ((pc + (2 ^ 64 - start)) % 2 ^ 64) x.range.length inside in
+          let one = near_at at pc 16 low (omega arith) near in
+          let two = near_at start pc x.range.length low_start (omega (arith, long)) within in
+          absurd (by_address ((pc + (2 ^ 64 - at)) % 2 ^ 64) ((pc + (2 ^ 64 - start)) % 2 ^ 64) (sym one ∙ two) near
+          (omega (arith, long)))
+
+module _ (pages : List ImagePage) (p : Slots) (at : ℕ) (area : Area) (x : Placed)
+    (held : AreHeld (code_of pages) at (add_block p)) (low : at < 2 ^ 37) where
+  of_sequence : (q : Slots) (base shift : ℕ) (inside : List Line) (its : HoldsSequence (code_of pages) x q base shift inside)
+      → length (instructions its.labels its.first (sequence_lines q base shift inside)) ≤ 100
+      → AreLate (instructions its.labels its.first (sequence_lines q base shift inside))
+      → LiesBeside (placed_add p at area) x
+  of_sequence q base shift inside its few are = record {
+    low_table = let small = its.low_table in omega arith;
+    apart = apart pages p at area x q (instructions its.labels its.first (sequence_lines q base shift inside)) held low
+        its.stands its.long few (omega arith) its.low are refl;
+  }
+
+  pub beside : IsOfLibrary (code_of pages) x → LiesBeside (placed_add p at area) x
+  beside (is_add q base its) =
+      of_sequence q base 6 (add_steps q) its (omega arith) (
+        late _ refl,
+        (
+          to_retry (index_of its.labels base) (its.first + 1) its.retry its.bound_retry,
+          (late _ refl, (late _ refl, (late _ refl, (late _ refl, (late _ refl, tt))))),
+        ),
+      )
+  beside (is_push q base its) =
+      of_sequence q base 6 (push_steps q) its (omega arith) (
+        late _ refl,
+        (
+          to_retry (index_of its.labels base) (its.first + 1) its.retry its.bound_retry,
+          (late _ refl, (late _ refl, (late _ refl, (late _ refl, (late _ refl, tt))))),
+        ),
+      )
+  beside (is_pop q base its) =
+      of_sequence q base 6 (pop_steps q base) its (omega arith) (
+        late _ refl,
+        (
+          to_retry (index_of its.labels base) (its.first + 1) its.retry its.bound_retry,
+          (
+            late _ refl,
+            (
+              late _ refl,
+              (
+                late _ refl,
+                (
+                  to_leave q.value 0 (index_of its.labels (base + 2)) (its.first + 1 + 1 + 1 + 1 + 1) its.leave its.bound_leave,
+                  (late _ refl, (late _ refl, tt)),
+                ),
+              ),
+            ),
+          ),
+        ),
+      )
+  beside (is_alloc q base its) =
+      of_sequence q base 13 (alloc_steps q base) its (omega arith) (
+        late _ refl,
+        (
+          to_retry (index_of its.labels base) (its.first + 1) its.retry its.bound_retry,
+          (
+            late _ refl,
+            (
+              late _ refl,
+              (
+                late _ refl,
+                (
+                  late _ refl,
+                  (
+                    to_leave 6 0 (index_of its.labels (base + 2)) (its.first + 1 + 1 + 1 + 1 + 1 + 1) its.leave its.bound_leave,
+                    (late _ refl, (late _ refl, (late _ refl, (late _ refl, (late _ refl, tt))))),
+                  ),
+                ),
+              ),
+            ),
+          ),
+        ),
+      )
+  beside (is_free q base its) =
+      of_sequence q base 13 (free_steps q base) its (omega arith) (
+        late _ refl,
+        (
+          to_retry (index_of its.labels base) (its.first + 1) its.retry its.bound_retry,
+          (
+            late _ refl,
+            (
+              late _ refl,
+              (
+                late _ refl,
+                (
+                  late _ refl,
+                  (
+                    to_leave 6 7 (index_of its.labels (base + 2)) (its.first + 1 + 1 + 1 + 1 + 1 + 1) its.leave its.bound_leave,
+                    (
+                      late _ refl,
+                      (late _ refl, (late _ refl, (late _ refl, (late _ refl, (late _ refl, tt))))),
+                    ),
+                  ),
+                ),
+              ),
+            ),
+          ),
+        ),
+      )

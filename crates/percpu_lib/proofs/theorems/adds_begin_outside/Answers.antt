@@ -1,0 +1,7 @@
+use Rattle.block_model.specs.Deciding.{history}
+use Rattle.percpu_lib.proofs.ShareLaw.{outside_before}
+use Rattle.percpu_lib.proofs.theorems.adds_begin_outside.Goals as goal
+
+pub returns : goal.returns
+returns c s log p at area t others run held can shares =
+    outside_before s p at area t (history s log) held others run.allowed shares can
