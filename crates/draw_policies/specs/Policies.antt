@@ -1,6 +1,9 @@
 -- The policies of drawn runs (own): five that are taken in turn by the seed, and the fair one by which each run goes on after some
 -- time. A policy is a record of weights.
-use Rattle.std.specs.Prelude.{ℕ, ◌%◌, ◌==◌, true, false, if◌then◌else◌}
+use Rattle.std.specs.Prelude.{ℕ, ◌%◌, ◌==◌, true, false, List, Option, Some, None, if◌then◌else◌, codes}
+use Rattle.std.specs.Str.{bytes_eq}
+use Rattle.draw_policies.specs.declared.policies.Policies.{Policies}
+use Rattle.draw_policies.specs.declared.policies.Policies.TheVariants.{All, Only}
 use Rattle.draw_policies.specs.declared.policies.Policy.{Policy}
 use Rattle.draw_policies.specs.declared.policies.Policy.TheVariants as policy
 use Rattle.draw_policies.specs.declared.policies.Weights.{Weights}
@@ -13,6 +16,31 @@ policy_of_seed seed =
     else if seed % 5 == 2 then policy.Short
     else if seed % 5 == 3 then policy.Pos
     else policy.Spread
+
+-- the policy that draws the run of a seed: that of its turn, or the only one
+abbrev pub policy_for : Policies → ℕ → Policy
+policy_for All seed = policy_of_seed seed
+policy_for (Only p) seed = p
+
+-- the word of a policy
+abbrev pub word_of : Policy → List ℕ
+word_of policy.One = codes "one"
+word_of policy.Long = codes "long"
+word_of policy.Short = codes "short"
+word_of policy.Pos = codes "pos"
+word_of policy.Spread = codes "spread"
+word_of policy.Fair = codes "fair"
+
+-- the policies that a word names: all in turn, or one of the five
+abbrev pub policies_of_word : List ℕ → Option Policies
+policies_of_word word =
+    if bytes_eq word (codes "all") then Some All
+    else if bytes_eq word (word_of policy.One) then Some (Only policy.One)
+    else if bytes_eq word (word_of policy.Long) then Some (Only policy.Long)
+    else if bytes_eq word (word_of policy.Short) then Some (Only policy.Short)
+    else if bytes_eq word (word_of policy.Pos) then Some (Only policy.Pos)
+    else if bytes_eq word (word_of policy.Spread) then Some (Only policy.Spread)
+    else None
 
 -- how often a policy does what, in thousandths of the words that could let it happen; and whether it goes by priorities
 abbrev pub weights_of : Policy → Weights

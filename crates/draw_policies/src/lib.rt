@@ -17,7 +17,7 @@ pub use accesses::{Access, access_of_effect, access_of_store, race};
 pub use acting::{can_act, has_stores};
 pub use aims::{Aim, still_due};
 pub use beginning::thread_to_run;
-pub use policies::{Policy, Weights};
+pub use policies::{Policies, Policy, Weights};
 pub use theorems::{turn_is_allowed, turns_come};
 pub use turns::{Turn, turn_of};
 pub use words::Word;

@@ -1,10 +1,10 @@
 //! The policies, and how often each does what.
 
 ghost use Rattle.std.specs.Prelude.{◌≡◌};
-ghost use Rattle.draw_policies.specs.Policies.{policy_of_seed, weights_of};
+ghost use Rattle.draw_policies.specs.Policies.{policies_of_word, policy_for, policy_of_seed, weights_of, word_of};
 
 /// How a run is drawn.
-#[derive(Clone, Copy, Debug, PartialEq, Eq, Drop)]
+#[derive(Clone, Copy, Drop)]
 pub enum Policy {
     /// All threads on one hart, unless their affinities forbid it.
     One,
@@ -20,8 +20,44 @@ pub enum Policy {
     Fair,
 }
 
+/// Which policies draw the runs of many seeds.
+#[derive(Clone, Copy, Drop)]
+pub enum Policies {
+    /// The first five in turn, by the seed modulo 5.
+    All,
+    /// One, whatever the seed is.
+    Only(Policy),
+}
+
+impl Policies {
+    /// The policies that a word names: `all`, or the word of one of the first five; None where it names none.
+    pub fn of_word(word: &str) -> Option<Policies>
+        ensures { result ≡ policies_of_word word.now }
+    {
+        match word {
+            "all" => Some(Policies::All),
+            "one" => Some(Policies::Only(Policy::One)),
+            "long" => Some(Policies::Only(Policy::Long)),
+            "short" => Some(Policies::Only(Policy::Short)),
+            "pos" => Some(Policies::Only(Policy::Pos)),
+            "spread" => Some(Policies::Only(Policy::Spread)),
+            _ => None,
+        }
+    }
+
+    /// The policy that draws the run of a seed.
+    pub fn of_seed(self, seed: u64) -> Policy
+        ensures { result ≡ policy_for self seed }
+    {
+        match self {
+            Policies::All => Policy::of_seed(seed),
+            Policies::Only(policy) => policy,
+        }
+    }
+}
+
 /// How often something is done that could be, in thousandths of the words that are drawn, 0 to 1000.
-#[derive(Clone, Copy, Debug, PartialEq, Eq, Drop)]
+#[derive(Clone, Copy, Drop)]
 pub struct Weights {
     /// The hart of the last event goes on.
     pub stay: u16,
@@ -57,6 +93,20 @@ impl Policy {
             Policy::Pos
         } else {
             Policy::Spread
+        }
+    }
+
+    /// The word of the policy, in lower case.
+    pub fn word(self) -> &'static str
+        ensures { result.now ≡ word_of self }
+    {
+        match self {
+            Policy::One => "one",
+            Policy::Long => "long",
+            Policy::Short => "short",
+            Policy::Pos => "pos",
+            Policy::Spread => "spread",
+            Policy::Fair => "fair",
         }
     }
 

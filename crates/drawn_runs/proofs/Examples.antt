@@ -1,11 +1,12 @@
 -- Worked examples: which ready threads a policy sees, in which order, and the manner of a seed.
-use Rattle.std.proofs.Common.{◌≡◌, ℕ, [], ◌∷◌, refl}
+use Rattle.std.proofs.Common.{◌≡◌, ℕ, [], ◌∷◌, Some, None, refl}
 use Rattle.mach_types.specs.Kernel.Threads.{Thread, Threads}
 use Rattle.mach_types.specs.declared.threads.ThreadState.{ThreadState}
 use Rattle.mach_types.specs.declared.threads.ThreadState.TheVariants.{Ready, Running, Waiting}
+use Rattle.draw_policies.specs.declared.policies.Policies.TheVariants.{All, Only}
 use Rattle.draw_policies.specs.declared.policies.Policy.TheVariants as policy
 use Rattle.drawn_runs.specs.DrawnRuns.{ready_numbers}
-use Rattle.drawn_runs.specs.Manners.{manner_of}
+use Rattle.drawn_runs.specs.Manners.{manner_for}
 
 abbrev thread : ℕ → ThreadState → Thread
 thread t state = record { tid = t; state = state; clear_at = 0 }
@@ -26,5 +27,11 @@ pub ready_at_start : ready_numbers (record { live = thread 1 Ready ∷ []; given
 ready_at_start = refl
 
 -- seed 7 draws by the third policy, and of 100,000 steps the last 75,000 go on fairly
-pub manner_of_7 : manner_of 7 100000 ≡ record { seed = 7; policy = policy.Short; scripted = 0; calm = 25000 }
+pub manner_of_7 : manner_for All None 7 100000
+    ≡ record { seed = 7; policy = policy.Short; scripted = 0; calm = 25000 }
 manner_of_7 = refl
+
+-- by one policy, each seed draws by that one; and from the first event on fairly where that is said
+pub manner_of_7_alone : manner_for (Only policy.Pos) (Some 0) 7 100000
+    ≡ record { seed = 7; policy = policy.Pos; scripted = 0; calm = 0 }
+manner_of_7_alone = refl

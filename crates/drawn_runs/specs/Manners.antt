@@ -1,8 +1,15 @@
 -- In which manner the events of a run are drawn by its seed alone (own).
-use Rattle.std.specs.Prelude.{ℕ, ◌/◌}
-use Rattle.draw_policies.specs.Policies.{policy_of_seed}
+use Rattle.std.specs.Prelude.{ℕ, ◌/◌, Option, Some, None}
+use Rattle.draw_policies.specs.Policies.{policy_for}
+use Rattle.draw_policies.specs.declared.policies.Policies.{Policies}
 use Rattle.drawn_runs.specs.declared.manner.Manner.{Manner}
 
--- in a run of at most so many steps: the policies in turn, and from a quarter of the steps on fairly
-abbrev pub manner_of : ℕ → ℕ → Manner
-manner_of seed steps = record { seed = seed; policy = policy_of_seed seed; scripted = 0; calm = steps / 4 }
+-- after how many events a run goes on fairly: so many, or a quarter of the steps that it may make
+abbrev pub calm_of : Option ℕ → ℕ → ℕ
+calm_of (Some events) steps = events
+calm_of None steps = steps / 4
+
+-- in a run of at most so many steps, without a script: by these policies
+abbrev pub manner_for : Policies → Option ℕ → ℕ → ℕ → Manner
+manner_for policies calm seed steps =
+    record { seed = seed; policy = policy_for policies seed; scripted = 0; calm = calm_of calm steps }

@@ -1,12 +1,12 @@
 //! In which manner the events of a run are drawn.
 
 ghost use Rattle.std.specs.Prelude.{◌≡◌};
-ghost use Rattle.drawn_runs.specs.Manners.{manner_of};
+ghost use Rattle.drawn_runs.specs.Manners.{calm_of, manner_for};
 
-use draw_policies::Policy;
+use draw_policies::{Policies, Policy};
 
 /// In which manner the events of a run are drawn.
-#[derive(Clone, Copy, Debug, PartialEq, Eq, Drop)]
+#[derive(Clone, Copy, Drop)]
 pub struct Manner {
     /// The seed.
     pub seed: u64,
@@ -18,17 +18,27 @@ pub struct Manner {
     pub calm: u32,
 }
 
+/// After how many events a run of at most so many steps goes on fairly, where nothing else is said: a quarter of them.
+fn calm_of(calm: Option<u32>, steps: u32) -> u32
+    ensures { result ≡ calm_of calm steps }
+{
+    match calm {
+        Some(events) => events,
+        None => steps / 4,
+    }
+}
+
 impl Manner {
-    /// The manner of a seed in a run of at most so many steps: the first five policies in turn, by the seed modulo 5, and from a
-    /// quarter of the steps on fairly.
-    pub fn of_seed(seed: u64, steps: u32) -> Manner
-        ensures { result ≡ manner_of seed steps }
+    /// The manner of a seed in a run of at most so many steps: by these policies, and from so many events on fairly; where that isn't
+    /// said, from a quarter of the steps on.
+    pub fn of(policies: Policies, calm: Option<u32>, seed: u64, steps: u32) -> Manner
+        ensures { result ≡ manner_for policies calm seed steps }
     {
         Manner {
             seed,
-            policy: Policy::of_seed(seed),
+            policy: policies.of_seed(seed),
             scripted: 0,
-            calm: steps / 4,
+            calm: calm_of(calm, steps),
         }
     }
 }

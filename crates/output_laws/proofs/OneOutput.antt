@@ -9,7 +9,8 @@ use Rattle.block_model.specs.Plain.{PlainRun, plain_run}
 use Rattle.block_model.specs.Replay.{Ask, script_of}
 use Rattle.block_model.specs.Setting.{Setting, setting_of}
 use Rattle.block_model.proofs.Laws.{one_setting}
-use Rattle.drawn_runs.specs.Manners.{manner_of}
+use Rattle.draw_policies.specs.declared.policies.Policies.TheVariants.{All}
+use Rattle.drawn_runs.specs.Manners.{manner_for}
 use Rattle.drawn_runs.proofs.Laws.{goes_on_alike}
 use Rattle.command_words.specs.Commands as words
 use Rattle.outcomes.specs.Needs.{Needs, Nothing, Program, Script, Guest, needs_by, needs_of}
@@ -66,7 +67,7 @@ one_run files program (words.Script name) limits s run other quiet told first se
 one_run files program (words.Workers seed) limits s run other quiet told first second = absurd (cc quiet)
 one_run files program (words.Drawn seed) limits s run other quiet told first second =
     let same : first.log ≡ second.log =
-    goes_on_alike s (manner_of seed s.limits.steps) [] first.log second.log (omega arith) first.kind second.kind in
+    goes_on_alike s (manner_for All None seed s.limits.steps) [] first.log second.log (omega arith) first.kind second.kind in
     let made : plain_run s (script_of second.log) ≡ Ok run = ap (λ l. plain_run s (script_of l)) (sym same) ∙ first.made in
     let is = second.made in
     cc

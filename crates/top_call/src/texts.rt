@@ -19,6 +19,7 @@ use crate::fetching::{read_file, taken};
 use command_runs::{play, run_rounds, run_solo, run_workers, shown_text, trial_text};
 use command_words::{Command, Guest, Run, Source, Trial};
 use drawn_machine::run_drawn;
+use draw_policies::Policies;
 use drawn_runs::Manner;
 use elf_load::{ElfFault, Image, load};
 use guest_programs::{GuestFault, make};
@@ -283,7 +284,7 @@ fn drawn_run<S: Shelf>(
     ensures counts { NoneFalls (S.faults shelf.old) (S.faults shelf.new) }
 {
     let image = taken(alloc, program, &limits, shelf)?;
-    let manner = Manner::of_seed(seed, limits.steps);
+    let manner = Manner::of(Policies::All, None, seed, limits.steps);
     let machine = run_drawn(alloc, &image, limits, &manner)?;
     Ok(ProgramRun { image, machine })
 }

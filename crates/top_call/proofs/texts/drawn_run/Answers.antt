@@ -6,11 +6,11 @@ use Rattle.top_call.proofs.Wholes.{run_by_draws}
 use Rattle.top_call.proofs.texts.drawn_run.Goals as goal
 
 pub run_drawn-requires-clause-unscripted : goal.run_drawn-requires-clause-unscripted
-run_drawn-requires-clause-unscripted g c = ap (λ (m : Manner). m.scripted) c.of_seed-manner.ensures
+run_drawn-requires-clause-unscripted g c = ap (λ (m : Manner). m.scripted) c.of-manner.ensures
 
 pub returns-clause-run : goal.returns-clause-run
 returns-clause-run g c =
     run_by_draws (g.S.Shelf.file c.args.shelf.now) c.args.program.now c.args.limits c.args.seed c.in_ok-image.image
     c.in_ok-machine.machine c.in_ok-image.ensures.taken
     (subst (λ (m : Manner). IsWholeDrawn (setting_of c.in_ok-image.image c.args.limits) m c.in_ok-machine.machine)
-    c.of_seed-manner.ensures c.in_ok-machine.ensures)
+    c.of-manner.ensures c.in_ok-machine.ensures)
