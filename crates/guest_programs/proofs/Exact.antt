@@ -21,30 +21,30 @@ use Rattle.guest_programs.specs.Programs.{IsGuestElf}
 use Rattle.guest_programs.proofs.Files.{code_fits, file_short, not_refused}
 
 -- the byte of the memory of two parts, and the permission of the page of the first
-code_part_byte : (c d : Part) (k : ℕ) → c.at ≡ 0x10000 → k < length c.bytes.items
+pub code_part_byte : (c d : Part) (k : ℕ) → c.at ≡ 0x10000 → k < length c.bytes.items
     → parts_byte (c ∷ d ∷ []) (0x10000 + k) ≡ get_or c.bytes.items k 0
 unfolding parts_byte
 code_part_byte c d k from lt =
     rw (from, le-leb 0x10000 (0x10000 + k) (omega arith), lt-ltb (0x10000 + k) (0x10000 + length c.bytes.items) (omega arith))
     (ap (λ m. get_or c.bytes.items m 0) (omega arith))
 
-code_part_permission : (c d : Part) → c.at ≡ 0x10000 → c.memsz ≡ 0x1000 → c.perm ≡ 5
+pub code_part_permission : (c d : Part) → c.at ≡ 0x10000 → c.memsz ≡ 0x1000 → c.perm ≡ 5
     → parts_permission (c ∷ d ∷ []) 16 ≡ 5
 unfolding parts_permission
 code_part_permission c d from size may = rw (from, size, may) refl
 
 -- the code stands from its first address on, and may be executed
 module _ (name : Name) (n : ℕ) (file : List ℕ) (elf : IsGuestElf name n file) where
-  short : length elf.code ≤ 4096
+  pub short : length elf.code ≤ 4096
   short = code_fits name elf.asm elf.code elf.emitted elf.assembled
 
-  held : elf.code_part.bytes.items ≡ elf.code
+  pub held : elf.code_part.bytes.items ≡ elf.code
   held = elf.code_is.holds
 
-  code_short : length elf.code_part.bytes.items ≤ 4096
+  pub code_short : length elf.code_part.bytes.items ≤ 4096
   code_short = subst (λ (xs : List ℕ). length xs ≤ 4096) (sym held) short
 
-  data_short : length elf.data_part.bytes.items ≡ 96
+  pub data_short : length elf.data_part.bytes.items ≡ 96
   data_short = ap length elf.data_is.holds
 
   good : refusal elf.parts ≡ None
@@ -58,10 +58,10 @@ module _ (name : Name) (n : ℕ) (file : List ℕ) (elf : IsGuestElf name n file
       subst (λ (xs : List ℕ). length xs ≤ 8388608) (sym elf.bytes)
       (file_short elf.code_part elf.data_part elf.parts elf.segments code_short (omega (arith, data_short)))
 
-  abbrev segments : List Part
+  abbrev pub segments : List Part
   segments = elf.parts.segments.items
 
-  abbrev two : List Part
+  abbrev pub two : List Part
   two = elf.code_part ∷ elf.data_part ∷ []
 
   code_flags : elf.code_part.perm < 256
@@ -75,21 +75,21 @@ module _ (name : Name) (n : ℕ) (file : List ℕ) (elf : IsGuestElf name n file
   low_flags (suc zero) d lt = data_flags
   low_flags (suc (suc k)) d lt = absurd (omega arith)
 
-  written : IsWritten elf.parts file
+  pub written : IsWritten elf.parts file
   written =
       written_file elf.parts file segments (placed_from (contents_start segments) segments) good
       (omega (arith, elf.entry)) (omega (arith, elf.flags)) refl refl
       (subst (λ (ps : List Part). All (λ (h : ProgramHeader). h.flags < 256) (placed_from (contents_start ps) ps))
       (sym elf.segments) low_flags) elf.bytes (omega (arith, small))
 
-  byte_is : (a : ℕ) → memory_byte file a ≡ parts_byte two a
+  pub byte_is : (a : ℕ) → memory_byte file a ≡ parts_byte two a
   unfolding memory_byte parts_byte
   byte_is a =
       ap (λ (hs : List ProgramHeader). byte_of_segment file a (find (covers a) hs)) written.table
       ∙ stand-byte file a written.headers segments written.stand
       ∙ ap (λ (ps : List Part). byte_of_part a (find (λ p. covers a (segment_of p)) ps)) elf.segments
 
-  permission_is : (m : ℕ) → page_permission file m ≡ parts_permission two m
+  pub permission_is : (m : ℕ) → page_permission file m ≡ parts_permission two m
   unfolding page_permission parts_permission
   permission_is m =
       ap (λ (hs : List ProgramHeader). unwrap_or (option_map permission (find (has_page m) hs)) 0) written.table

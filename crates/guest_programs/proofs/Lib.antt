@@ -9,4 +9,5 @@ pub mod Finished
 pub mod Held
 pub mod Pages
 pub mod Rooms
+pub mod Started
 pub mod Words

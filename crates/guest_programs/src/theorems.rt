@@ -2,13 +2,16 @@
 
 ghost use Rattle.std.specs.Prelude.{ℕ, List, [], ◌≡◌, ◌+◌, Some};
 ghost use Rattle.mach_types.specs.declared.events.Entry.{Entry};
+ghost use Rattle.mach_types.specs.declared.limits.Limits.{Limits};
 ghost use Rattle.mach_types.specs.declared.sequences.Area.{Area};
+ghost use Rattle.elf_load.specs.Images.{IsImage};
+ghost use Rattle.elf_load.specs.declared.image.Image.{Image};
 ghost use Rattle.rv_asm.specs.Assembly.{AreAssembled, Assembly, empty};
 ghost use Rattle.block_model.specs.Acts.{Sequence, sequence_on};
 ghost use Rattle.block_model.specs.Deciding.{history};
 ghost use Rattle.block_model.specs.History.{file};
 ghost use Rattle.block_model.specs.Run.{IsBlockRun};
-ghost use Rattle.block_model.specs.Setting.{Setting};
+ghost use Rattle.block_model.specs.Setting.{Setting, setting_of};
 ghost use Rattle.alone_laws.specs.Entering.{IsIn};
 ghost use Rattle.alone_laws.specs.Uses.{CanAlwaysBegin};
 ghost use Rattle.percpu_lib.specs.Adds.{add_range, cell_seen, placed_add};
@@ -27,6 +30,15 @@ ghost use Rattle.percpu_lib.specs.Files.{HoldsCode};
 /// executed.
 pub fn made_files_hold_their_code()
     ensures { (name : Name) (n : ℕ) (file : List ℕ) → (elf : IsGuestElf name n file) → HoldsCode file 0x10000 elf.code }
+{}
+
+/// A guest's file starts the program of its code and its data: each image of it has these pages, this entry and this break.
+/// Where the program headers stand in memory is the image's.
+pub fn made_files_start_their_programs()
+    ensures { (name : Name) (n : ℕ) (file : List ℕ) → (elf : IsGuestElf name n file) → (image : Image) (limits : Limits)
+        → IsImage file image
+        → (setting_of image limits).program
+        ≡ record (guest_program elf.code (data_bytes elf.asm n)) { phdr = image.phdr } }
 {}
 
 /// What `HoldsAdd` asks is met by a made guest: there are a block run of the counter guest for the size 1 and a thread of it
