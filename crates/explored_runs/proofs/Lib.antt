@@ -3,3 +3,4 @@ pub mod Examples
 pub mod OneExploration
 pub mod Outcomes
 pub mod Telling
+pub mod Told

@@ -2,5 +2,6 @@ pub mod Accounts
 pub mod Explorations
 pub mod Explored
 pub mod Made
+pub mod Sums
 pub mod Tallies
 pub mod Text

@@ -21,4 +21,4 @@ pub use printed::Printed;
 pub use sharing::explore_on;
 pub use tallies::Tried;
 pub use text::explored_text;
-pub use theorems::explorations_are_one;
+pub use theorems::{explorations_are_one, outcomes_are_told_once};
