@@ -16,19 +16,19 @@ use Rattle.clap.specs.Walk.{Held, Row, Text, Waiting, Walk, arg_by_id, arg_by_lo
 use Rattle.clap.specs.Walk.{is_pending, option, settled, used, value, walked, word_met}
 use Rattle.clap.specs.Faults.{bundle_fault, settle_fault, step_fault, turn_fault, walk_fault, word_fault}
 use Rattle.command_words.specs.Grammar.{Arguments, Item, Given, is_option}
-use Rattle.command_words.specs.Options.{OptionName, Harts, Frames, Steps, Seed, option_named}
-use Rattle.command_words.proofs.Parts.{with_item, with_name}
+use Rattle.command_words.specs.Options.{OptionName, Harts, Frames, Steps, Seed, Policy, Calm, long_name, option_named}
+use Rattle.command_words.proofs.Parts.{with_item, with_name, with_option}
 use Rattle.command_words.specs.Words.{Reading, Options, Value, Names, option_read}
 use Rattle.command_words.proofs.ClapRows.{has_held}
 use Rattle.command_words.proofs.ClapEquals.{long_read, short_unread}
-use Rattle.command_words.proofs.ClapWords.{by_form, id_of, long_named, rules, option_built, name_built}
+use Rattle.command_words.proofs.ClapWords.{by_form, long_named, rules, option_built, name_built}
 use Rattle.command_words.proofs.ClapTurns.{AreLetters, Ends, Fits, IsPlainWord, nothing_plain, dash_plain}
 use Rattle.command_words.proofs.ClapTurns.{other_plain, and_false, or_false, held, long_bad, name_bad}
 use Rattle.command_words.proofs.ClapTurns.{or_bad, plain_fine, plain_met, shape, short_bad, step_off, step_to}
 use Rattle.command_words.proofs.ClapTurns.{value_of, walk_at}
 use Rattle.command_words.proofs.ClapWalk.{GoesOn, Goes, IsReady, loose, read_on}
 use Rattle.command_words.proofs.ClapWalk.{option_fits, option_free, program_fits, program_free, script_fits}
-use Rattle.command_words.proofs.ClapWalk.{script_free, with_names, with_option}
+use Rattle.command_words.proofs.ClapWalk.{script_free, with_names}
 
 -- ---- a name
 
@@ -99,12 +99,14 @@ doomed_names (word ∷ rest) names h waiting few bad =
 
 -- ---- words that are flags
 
-option_words : (o : OptionName) → (arg_by_long rules (id_of o) ≡ Some (option_built (id_of o)))
-    × (arg_by_id rules (id_of o) ≡ Some (option_built (id_of o)))
+option_words : (o : OptionName) → (arg_by_long rules (long_name o) ≡ Some (option_built (long_name o)))
+    × (arg_by_id rules (long_name o) ≡ Some (option_built (long_name o)))
 option_words Harts = (refl, refl)
 option_words Frames = (refl, refl)
 option_words Steps = (refl, refl)
 option_words Seed = (refl, refl)
+option_words Policy = (refl, refl)
+option_words Calm = (refl, refl)
 
 past_dash : (word : Text) → IsUtf8 (45 ∷ word) → IsUtf8 word
 past_dash word letters = IsUtf8-drop (45 ∷ word) 1 letters (IsCharBoundary-after_ascii (45 ∷ word) 0 letters
@@ -178,42 +180,30 @@ doomed (word ∷ rest) letters names rows pending few bad =
 
 pub option_item : (o : OptionName) (v : Text) (given : Arguments) → value_of o given ≡ None
     → with_item given (Some (Given o v)) ≡ Some (with_option o v given)
-option_item Harts v given none = rw none refl
-option_item Frames v given none = rw none refl
-option_item Steps v given none = rw none refl
-option_item Seed v given none = rw none refl
+option_item o v given none = rw none refl
 
 pub option_twice : (o : OptionName) (v x : Text) (given : Arguments) → value_of o given ≡ Some x
     → with_item given (Some (Given o v)) ≡ None
-option_twice Harts v x given some = rw some refl
-option_twice Frames v x given some = rw some refl
-option_twice Steps v x given some = rw some refl
-option_twice Seed v x given some = rw some refl
+option_twice o v x given some = rw some refl
 
 few_after : (o : OptionName) (v : Text) (given : Arguments) → length given.names ≤ 2
     → length (with_option o v given).names ≤ 2
-few_after Harts v given few = few
-few_after Frames v given few = few
-few_after Steps v given few = few
-few_after Seed v given few = few
+few_after o v given few = few
 
 same_place : (o : OptionName) (v : Text) (given : Arguments) → length given.names
     ≡ length (with_option o v given).names
-same_place Harts v given = refl
-same_place Frames v given = refl
-same_place Steps v given = refl
-same_place Seed v given = refl
+same_place o v given = refl
 
 repeated : (o : OptionName) (v x : Text) (given : Arguments) (rows : List Row) → Fits given rows
     → value_of o given ≡ Some x
-    → has_row (id_of o) rows ≡ true
+    → has_row (long_name o) rows ≡ true
 repeated o v x given rows fits some =
-    has_held (id_of o) rows (value_of o given) (fits.options o) ∙ ap (λ (y : Option Text). is_some y) some
+    has_held (long_name o) rows (value_of o given) (fits.options o) ∙ ap (λ (y : Option Text). is_some y) some
 
 absent_row : (o : OptionName) (given : Arguments) (rows : List Row) → Fits given rows → value_of o given ≡ None
-    → has_row (id_of o) rows ≡ false
+    → has_row (long_name o) rows ≡ false
 absent_row o given rows fits none =
-    has_held (id_of o) rows (value_of o given) (fits.options o) ∙ ap (λ (y : Option Text). is_some y) none
+    has_held (long_name o) rows (value_of o given) (fits.options o) ∙ ap (λ (y : Option Text). is_some y) none
 
 module _ (word : Text) (rest : List Text) (on : GoesOn rest) (given : Arguments) (rows : List Row)
     (pending : Option (Text × List Text)) (few : length given.names ≤ 2) (ready : IsReady given rows pending)
@@ -221,21 +211,21 @@ module _ (word : Text) (rest : List Text) (on : GoesOn rest) (given : Arguments)
   abbrev here : Walk
   here = walk_at (held rows pending) idle (1 + length given.names) false
 
-  waits : (o : OptionName) → long_of word ≡ Some (id_of o, None) → Ends here (word ∷ rest)
+  waits : (o : OptionName) → long_of word ≡ Some (long_name o, None) → Ends here (word ∷ rest)
       (loose rest given (Value o))
   unfolding walked
   waits o long =
       let now = rows_of_held rows pending in
       let turn : turn_fault shape [] here word ≡ [] = rw (dashes, long, (option_words o).0, ready.0) refl in
-      let goes : walked rules [] here word ≡ walk_at (held now (Some (id_of o, []))) (option (id_of o))
+      let goes : walked rules [] here word ≡ walk_at (held now (Some (long_name o, []))) (option (long_name o))
       (1 + length given.names) false =
       rw (dashes, long, (option_words o).0) refl in
-      step_to here (walk_at (held now (Some (id_of o, []))) (option (id_of o)) (1 + length given.names) false)
+      step_to here (walk_at (held now (Some (long_name o, []))) (option (long_name o)) (1 + length given.names) false)
       word rest
-      (loose rest given (Value o)) turn goes (on given (Value o) now (Some (id_of o, [])) few (refl, ready.1))
+      (loose rest given (Value o)) turn goes (on given (Value o) now (Some (long_name o, [])) few (refl, ready.1))
 
   has_value : (o : OptionName) (v : Text) (x : Option Text) → value_of o given ≡ x → long_of word
-      ≡ Some (id_of o, Some v)
+      ≡ Some (long_name o, Some v)
       → Ends here (word ∷ rest) (read_on (loose rest) given (Some (Given o v), Options))
   unfolding walked
   has_value o v (Some x) some long =
@@ -248,7 +238,7 @@ module _ (word : Text) (rest : List Text) (on : GoesOn rest) (given : Arguments)
   has_value o v None none long =
       let now = rows_of_held rows pending in
       let absent = absent_row o given now ready.1 none in
-      let after = used (option_built (id_of o)) (v ∷ []) now in
+      let after = used (option_built (long_name o)) (v ∷ []) now in
       let next = walk_at (held after None) idle (1 + length (with_option o v given).names) false in
       let turn : turn_fault shape [] here word ≡ [] = rw (dashes, long, (option_words o).0, ready.0, absent) refl in
       let goes : walked rules [] here word ≡ walk_at (held after None) idle (1 + length given.names) false =
@@ -275,7 +265,7 @@ module _ (word : Text) (rest : List Text) (on : GoesOn rest) (given : Arguments)
         (step_off here word rest (λ none. absurd (cc (sym (unknown name v long is.0) ∙ none))))
   ]
     where
-      by_value : (o : OptionName) (v : Option Text) → long_of word ≡ Some (id_of o, v)
+      by_value : (o : OptionName) (v : Option Text) → long_of word ≡ Some (long_name o, v)
           → Ends here (word ∷ rest) (option_read (Some o) v >>= read_on (loose rest) given)
       by_value o None long = waits o long
       by_value o (Some text) long = has_value o text (value_of o given) refl long
@@ -325,13 +315,13 @@ names_turn word rest on given rows pending few ready =
 
 -- ---- a word where a value is wanted
 
-lacking : (o : OptionName) (rows : List Row) → settle_fault rules false (held rows (Some (id_of o, [])))
+lacking : (o : OptionName) (rows : List Row) → settle_fault rules false (held rows (Some (long_name o, [])))
     ≡ InvalidValue ∷ []
 lacking o rows = rw (option_words o).1 refl
 
 short_waits : (o : OptionName) (y : ℕ) (more : Text) (rows : List Row) → (y == 45) ≡ false
-    → word_fault shape [] false (option (id_of o)) (45 ∷ y ∷ more) (held rows (Some (id_of o, [])))
-    ≡ bundle_fault rules false (y ∷ more) (held rows (Some (id_of o, [])))
+    → word_fault shape [] false (option (long_name o)) (45 ∷ y ∷ more) (held rows (Some (long_name o, [])))
+    ≡ bundle_fault rules false (y ∷ more) (held rows (Some (long_name o, [])))
 short_waits o y more rows e =
     let dashes : bytes_eq (45 ∷ y ∷ more) (45 ∷ 45 ∷ []) ≡ false = rw e refl in
     let long : long_of (45 ∷ y ∷ more) ≡ None = rw e refl in
@@ -341,10 +331,10 @@ short_waits o y more rows e =
 module _ (o : OptionName) (rest : List Text) (on : GoesOn rest) (later : AreLetters rest) (given : Arguments)
     (rows : List Row) (few : length given.names ≤ 2) (fits : Fits given rows) where
   abbrev lacks : Held
-  lacks = held rows (Some (id_of o, []))
+  lacks = held rows (Some (long_name o, []))
 
   abbrev asks : Walk
-  asks = walk_at lacks (option (id_of o)) (1 + length given.names) false
+  asks = walk_at lacks (option (long_name o)) (1 + length given.names) false
 
   bad : settle_fault rules false lacks ≡ [] → ⊥
   bad is = absurd (cc (sym (lacking o rows) ∙ is))
@@ -352,10 +342,10 @@ module _ (o : OptionName) (rest : List Text) (on : GoesOn rest) (later : AreLett
   -- the word is the option's value
   module _ (w : Text) (is : IsPlainWord w) where
     abbrev filled : Walk
-    filled = walk_at (held rows (Some (id_of o, w ∷ []))) idle (1 + length given.names) false
+    filled = walk_at (held rows (Some (long_name o, w ∷ []))) idle (1 + length given.names) false
 
-    same : bytes_eq (id_of o) (id_of o) ≡ true
-    same = (bytes_eq-Decides (id_of o) (id_of o)).1 refl
+    same : bytes_eq (long_name o) (long_name o) ≡ true
+    same = (bytes_eq-Decides (long_name o) (long_name o)).1 refl
 
     fine : turn_fault shape [] asks w ≡ []
     fine = rw (is.dashes, is.long, is.short) refl
@@ -368,50 +358,50 @@ module _ (o : OptionName) (rest : List Text) (on : GoesOn rest) (later : AreLett
         → Ends asks (w ∷ rest) (read_on (loose rest) given (Some (Given o w), Options))
     value_ends (Some v) some =
         let there = repeated o w v given rows fits some in
-        let conflict : settle_fault rules false (held rows (Some (id_of o, w ∷ []))) ≡ ArgumentConflict ∷ [] =
+        let conflict : settle_fault rules false (held rows (Some (long_name o, w ∷ []))) ≡ ArgumentConflict ∷ [] =
         rw ((option_words o).1, there) refl in
         subst (λ (e : Option Arguments). Ends asks (w ∷ rest) (e >>= (λ n. loose rest n Options)))
         (sym (option_twice o w v given some)) (step_to asks filled w rest None fine goes
-        (doomed rest later given.names rows (Some (id_of o, w ∷ [])) few (λ none. absurd (cc (sym conflict ∙ none)))))
+        (doomed rest later given.names rows (Some (long_name o, w ∷ [])) few (λ none. absurd (cc (sym conflict ∙ none)))))
     value_ends None none =
-        let settles : (settled rules (held rows (Some (id_of o, w ∷ [])))).rows ≡ used (option_built (id_of o))
+        let settles : (settled rules (held rows (Some (long_name o, w ∷ [])))).rows ≡ used (option_built (long_name o))
         (w ∷ []) rows = rw (option_words o).1 refl in
-        let after = walk_at (held rows (Some (id_of o, w ∷ []))) idle (1 + length (with_option o w given).names)
+        let after = walk_at (held rows (Some (long_name o, w ∷ []))) idle (1 + length (with_option o w given).names)
         false in
-        let placed : filled ≡ after = ap (λ (n : ℕ). walk_at (held rows (Some (id_of o, w ∷ []))) idle (1 + n)
+        let placed : filled ≡ after = ap (λ (n : ℕ). walk_at (held rows (Some (long_name o, w ∷ []))) idle (1 + n)
         false) (same_place o w given) in
         subst (λ (e : Option Arguments). Ends asks (w ∷ rest) (e >>= (λ n. loose rest n Options)))
         (sym (option_item o w given none))
         (step_to asks after w rest (loose rest (with_option o w given) Options) fine (goes ∙ placed)
-        (on (with_option o w given) Options rows (Some (id_of o, w ∷ [])) (few_after o w given few) (
+        (on (with_option o w given) Options rows (Some (long_name o, w ∷ [])) (few_after o w given few) (
           option_free given rows w fits o none,
           subst (λ (rs : List Row). Fits (with_option o w given) rs)
               (sym settles) (option_fits given rows w fits o none),
         )))
 
-    value_goes : Goes (w ∷ rest) given (Value o) rows (Some (id_of o, []))
+    value_goes : Goes (w ∷ rest) given (Value o) rows (Some (long_name o, []))
     value_goes =
         subst (λ (b : Bool). Ends asks (w ∷ rest) (cond b None (Some (Some (Given o w), Options)) >>= read_on
         (loose rest) given))
         (sym is.name) (value_ends (value_of o given) refl)
 
-  value_turn : (word : Text) → IsUtf8 word → Goes (word ∷ rest) given (Value o) rows (Some (id_of o, []))
+  value_turn : (word : Text) → IsUtf8 word → Goes (word ∷ rest) given (Value o) rows (Some (long_name o, []))
   unfolding walked
   value_turn word letters =
-      by_form (λ w. IsUtf8 w → Goes (w ∷ rest) given (Value o) rows (Some (id_of o, [])))
+      by_form (λ w. IsUtf8 w → Goes (w ∷ rest) given (Value o) rows (Some (long_name o, [])))
       (λ u. value_goes [] nothing_plain) (λ u. value_goes (45 ∷ []) dash_plain)
-      (λ u. step_to asks (walk_at lacks (option (id_of o)) (1 + length given.names) true)
-      (45 ∷ 45 ∷ []) rest None refl refl (doomed_names rest given.names lacks (option (id_of o)) few bad))
+      (λ u. step_to asks (walk_at lacks (option (long_name o)) (1 + length given.names) true)
+      (45 ∷ 45 ∷ []) rest None refl refl (doomed_names rest given.names lacks (option (long_name o)) few bad))
       (λ z more u. subst (λ (b : Bool). Ends asks ((45 ∷ 45 ∷ z ∷ more) ∷ rest)
       (cond b None (Some (Some (Given o (45 ∷ 45 ∷ z ∷ more)), Options)) >>= read_on (loose rest) given))
       (sym (long_word_is 45 (z ∷ more)))
       (step_off asks (45 ∷ 45 ∷ z ∷ more) rest
-      (or_bad (word_fault shape [] false (option (id_of o)) (45 ∷ 45 ∷ z ∷ more) lacks) _
+      (or_bad (word_fault shape [] false (option (long_name o)) (45 ∷ 45 ∷ z ∷ more) lacks) _
       (long_bad (arg_by_long rules (name_and_value (z ∷ more)).0) (name_and_value (z ∷ more)).1 lacks bad))))
       (λ y more e u. subst (λ (b : Bool). Ends asks ((45 ∷ y ∷ more) ∷ rest)
       (cond b None (Some (Some (Given o (45 ∷ y ∷ more)), Options)) >>= read_on (loose rest) given))
       (sym (long_word_is y more))
-      (short_off (option (id_of o)) (1 + length given.names) y more rest rows (Some (id_of o, [])) e u
+      (short_off (option (long_name o)) (1 + length given.names) y more rest rows (Some (long_name o, [])) e u
       (short_waits o y more rows e)))
       (λ x more e f u. value_goes (x ∷ more) (other_plain x more e f))
       word letters

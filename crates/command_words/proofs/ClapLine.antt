@@ -9,11 +9,11 @@ use Rattle.clap.specs.Walk.{nothing_held}
 use Rattle.clap.specs.Simple.{built, entered, matches_of}
 use Rattle.clap.specs.Faults.{defaults_fault, entered_fault, fault_of, settle_fault, walk_fault}
 use Rattle.command_words.specs.Line.{line}
-use Rattle.command_words.specs.Options.{OptionName, Harts, Frames, Steps, Seed}
+use Rattle.command_words.specs.Options.{OptionName, long_name}
 use Rattle.command_words.proofs.Parts.{no_arguments}
 use Rattle.command_words.specs.Words.{Options}
 use Rattle.command_words.proofs.ClapRows.{Holds}
-use Rattle.command_words.proofs.ClapWords.{id_of, rules}
+use Rattle.command_words.proofs.ClapWords.{rules}
 use Rattle.command_words.proofs.ClapTurns.{AreLetters, Ends, end_of, fails, held, shape, value_of}
 use Rattle.command_words.proofs.ClapTurns.{walk_at}
 use Rattle.command_words.proofs.ClapWalk.{loose}
@@ -23,11 +23,8 @@ use Rattle.clap.specs.Walk.{idle, Walk}
 abbrev pub start : Walk
 start = walk_at (held [] None) idle 1 false
 
-no_row : (o : OptionName) → Holds (id_of o) [] (value_of o no_arguments)
-no_row Harts = refl
-no_row Frames = refl
-no_row Steps = refl
-no_row Seed = refl
+no_row : (o : OptionName) → Holds (long_name o) [] (value_of o no_arguments)
+no_row o = refl
 
 -- the walk over a whole line
 pub whole : (words : List Text) → AreLetters words → Ends start words (loose words no_arguments Options)
@@ -66,7 +63,7 @@ no_default_fault rows (a ∷ rest) none =
     rw (none.0, or_true (has_row a.id rows), kept (has_row a.id rows) rows) (no_default_fault rows rest none.1)
 
 none_here : HasNone rules
-none_here = (refl, (refl, (refl, (refl, (refl, (refl, tt))))))
+none_here = (refl, (refl, (refl, (refl, (refl, (refl, (refl, (refl, tt))))))))
 
 not_entered : (stop : Option (Text × List Text)) → entered_fault (built line) stop ≡ []
 not_entered None = refl

@@ -1,67 +1,65 @@
 -- What `clap` finds asks each command for what the grammar asks it for: the two differ at a value that is `-`
 -- alone, which is no number of any option.
 use Rattle.std.proofs.Common.{◌≡◌, ◌∙◌, ◌⊎◌, inl, inr, ℕ, ◌≤◌, Bool, cond, true, false, List, [], ◌∷◌, ◌++◌}
-use Rattle.std.proofs.Common.{length, Option, Some, None, refl, sym, ap, subst, codes, arith, String}
-use Rattle.std.specs.Prelude.{nat_lt, slice_get}
+use Rattle.std.proofs.Common.{length, Option, Some, None, refl, sym, ap, ap₂, subst, codes, arith, String}
+use Rattle.std.specs.Prelude.{◌&&◌, nat_lt, slice_get}
 use Rattle.std.specs.declared.alloc.Global.{Global}
 use Rattle.std.proofs.lemmas.Str.{IsUtf8-string_bytes}
 use Rattle.step_log.specs.Script.{◌>>=◌}
-use Rattle.clap.specs.Walk.{Row, Text}
+use Rattle.clap.specs.Walk.{Row, Text, first_of}
 use Rattle.clap.specs.Simple.{matches_of}
 use Rattle.clap.specs.Faults.{fault_of}
-use Rattle.command_words.specs.Grammar.{Arguments, Item, Name, Given, asked_by, begins_with_dash, is_option}
+use Rattle.command_words.specs.Grammar.{Arguments, Item, Name, Given, asked_by, begins_with_dash, is_option, suits}
 use Rattle.command_words.specs.Line.{AsksAlike, arguments_found, line, names_found}
-use Rattle.command_words.specs.Options.{OptionName, Harts, Frames, Steps, Seed}
+use Rattle.command_words.specs.Options.{OptionName, Harts, Frames, Steps, Seed, Policy, Calm, is_value, long_name, same_option}
+use Rattle.command_words.specs.Options.{values_of}
 use Rattle.command_words.specs.Takes.{has, takes_kind}
 use Rattle.command_words.specs.Words.{Reading, Options, Value, Names, texts, word_read}
-use Rattle.command_words.proofs.Parts.{no_arguments, with_item}
+use Rattle.command_words.proofs.EachOption.{same_is, same_self}
+use Rattle.command_words.proofs.Parts.{no_arguments, with_item, with_option}
 use Rattle.command_words.proofs.Gathering.{arguments_gathered, with_words}
 use Rattle.command_words.proofs.Gathering.{word_refused, word_taken, word_unread}
 use Rattle.command_words.proofs.ClapRows.{first_held}
 use Rattle.command_words.proofs.ClapWords.{by_form}
 use Rattle.command_words.proofs.ClapTurns.{AreLetters, Ends, Fits, and_false, value_of}
-use Rattle.command_words.proofs.ClapWalk.{loose, loosely, read_on, with_option}
+use Rattle.command_words.proofs.ClapWalk.{loose, loosely, read_on}
 use Rattle.command_words.proofs.ClapGoes.{long_word_is, option_item, option_twice}
 use Rattle.command_words.proofs.ClapLine.{fault_is, matches_are, start, whole}
-use Rattle.command_words.proofs.Suits.{suits, unsuited}
+use Rattle.command_words.proofs.Suits.{unsuited}
 
 -- ---- no command takes a value that is `-`
 
 abbrev pub dash : Text
 dash = 45 ∷ []
 
+none_takes : (o : OptionName) → is_value (values_of o) dash ≡ false
+none_takes Harts = refl
+none_takes Frames = refl
+none_takes Steps = refl
+none_takes Seed = refl
+none_takes Policy = refl
+none_takes Calm = refl
+
 none_asked : (word : Text) (o : OptionName) (given : Arguments) → value_of o given ≡ Some dash
     → asked_by word given ≡ None
 none_asked word o given is =
-    unsuited word given o (λ kind. ap (suits (takes_kind kind) o) is ∙ and_false (has (takes_kind kind).options o))
+    unsuited word given o (λ kind. ap (suits (takes_kind kind) o) is
+    ∙ ap (λ b. has (takes_kind kind).options o && b) (none_takes o) ∙ and_false (has (takes_kind kind).options o))
 
 -- ---- such a value stays
 
 pub stays_apart : (o other : OptionName) (v : Text) (given : Arguments)
     → (o ≡ other) ⊎ (value_of o (with_option other v given) ≡ value_of o given)
-stays_apart Harts Harts v given = inl refl
-stays_apart Harts Frames v given = inr refl
-stays_apart Harts Steps v given = inr refl
-stays_apart Harts Seed v given = inr refl
-stays_apart Frames Harts v given = inr refl
-stays_apart Frames Frames v given = inl refl
-stays_apart Frames Steps v given = inr refl
-stays_apart Frames Seed v given = inr refl
-stays_apart Steps Harts v given = inr refl
-stays_apart Steps Frames v given = inr refl
-stays_apart Steps Steps v given = inl refl
-stays_apart Steps Seed v given = inr refl
-stays_apart Seed Harts v given = inr refl
-stays_apart Seed Frames v given = inr refl
-stays_apart Seed Steps v given = inr refl
-stays_apart Seed Seed v given = inl refl
+stays_apart o other v given = go (same_option other o) refl
+  where
+    go : (b : Bool) → same_option other o ≡ b
+        → (o ≡ other) ⊎ (value_of o (with_option other v given) ≡ value_of o given)
+    go true same = inl (sym (same_is other o same))
+    go false apart = inr (rw apart refl)
 
 pub same_value : (o : OptionName) (names : List Text) (given : Arguments)
     → value_of o (record given { names = names }) ≡ value_of o given
-same_value Harts names given = refl
-same_value Frames names given = refl
-same_value Steps names given = refl
-same_value Seed names given = refl
+same_value o names given = refl
 
 name_stays : (o : OptionName) (text : Text) (given next : Arguments) (b : Bool)
     → cond b (Some (record given { names = given.names ++ text ∷ [] })) None ≡ Some next
@@ -157,10 +155,7 @@ alone next =
     next
 
 given_dash : (o : OptionName) (given : Arguments) → value_of o (with_option o dash given) ≡ Some dash
-given_dash Harts given = refl
-given_dash Frames given = refl
-given_dash Steps given = refl
-given_dash Seed given = refl
+given_dash o given = rw (same_self o) refl
 
 dash_asks_none : (word : Text) (o : OptionName) (rest : List Text) (given : Arguments) (value : Option Text)
     → value_of o given ≡ value
@@ -227,11 +222,11 @@ read_back : (given : Arguments) (rows : List Row) → Fits given rows → argume
 read_back given rows fits =
     let first = first_held (codes "program") rows (slice_get given.names 0) fits.first in
     let second = first_held (codes "script") rows (slice_get given.names 1) fits.second in
-    let harts = first_held (codes "harts") rows given.harts (fits.options Harts) in
-    let frames = first_held (codes "frames") rows given.frames (fits.options Frames) in
-    let steps = first_held (codes "steps") rows given.steps (fits.options Steps) in
-    let seed = first_held (codes "seed") rows given.seed (fits.options Seed) in
-    rw (first, second, harts, frames, steps, seed, names_back given.names fits.few) refl
+    let names : names_found (first_of (codes "program") rows) (first_of (codes "script") rows) ≡ given.names =
+    ap₂ names_found first second ∙ names_back given.names fits.few in
+    let value : (o : OptionName) → first_of (long_name o) rows ≡ given.values o =
+    λ o. first_held (long_name o) rows (given.values o) (fits.options o) in
+    λ i. record { names = names i; values = λ option. value option i }
 
 by_ends : (words : List Text) (o : Option Arguments) → loose words no_arguments Options ≡ o → Ends start words o
     → (rows : List Row) → fault_of line words ≡ [] → rows ≡ matches_of line words

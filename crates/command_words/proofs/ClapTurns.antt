@@ -16,9 +16,9 @@ use Rattle.clap.specs.Faults.{turn_fault, walk_fault, word_fault, bundle_fault}
 use Rattle.clap.specs.declared.error.kind.ErrorKind.TheVariants as kind
 use Rattle.command_words.specs.Line.{line}
 use Rattle.command_words.specs.Grammar.{Arguments, is_option}
-use Rattle.command_words.specs.Options.{OptionName, Harts, Frames, Steps, Seed}
+use Rattle.command_words.specs.Options.{OptionName, long_name}
 use Rattle.command_words.proofs.ClapRows.{Holds}
-use Rattle.command_words.proofs.ClapWords.{id_of, name_built, rules}
+use Rattle.command_words.proofs.ClapWords.{name_built, rules}
 
 -- each word is UTF-8
 abbrev pub AreLetters : List Text → Type 0
@@ -50,13 +50,10 @@ fails w words = or_else (walk_fault shape [] w words) (settle_fault rules false 
 
 -- the arguments are those of the rows
 abbrev pub value_of : OptionName → Arguments → Option Text
-value_of Harts given = given.harts
-value_of Frames given = given.frames
-value_of Steps given = given.steps
-value_of Seed given = given.seed
+value_of option given = given.values option
 
 pub record Fits (given : Arguments) (rows : List Row) : Type 0 where
-  pub options : (o : OptionName) → Holds (id_of o) rows (value_of o given)
+  pub options : (o : OptionName) → Holds (long_name o) rows (value_of o given)
   pub first : Holds (codes "program") rows (slice_get given.names 0)
   pub second : Holds (codes "script") rows (slice_get given.names 1)
   pub few : length given.names ≤ 2

@@ -13,11 +13,12 @@ use Rattle.clap.specs.declared.parser.matches.ValueSource.TheVariants.{CommandLi
 use Rattle.clap.specs.declared.builder.value_parser.Reading.TheVariants.{AsWritten}
 use Rattle.std.proofs.lemmas.Slice.Eq.{bytes_eq-Decides}
 use Rattle.command_words.specs.Grammar.{Arguments, Item, Given, is_option}
-use Rattle.command_words.specs.Options.{OptionName, Harts, Frames, Steps, Seed}
-use Rattle.command_words.proofs.Parts.{with_item}
+use Rattle.command_words.specs.Options.{OptionName, Harts, Frames, Steps, Seed, Policy, Calm, long_name, same_option}
+use Rattle.command_words.proofs.EachOption.{names_apart, same_is}
+use Rattle.command_words.proofs.Parts.{with_item, with_option}
 use Rattle.command_words.specs.Words.{Reading, Options, Value, Names, word_read}
 use Rattle.command_words.proofs.ClapRows.{Holds, has_held, found_before, found_last, row_added}
-use Rattle.command_words.proofs.ClapWords.{id_of, rules, option_built, name_built}
+use Rattle.command_words.proofs.ClapWords.{rules, option_built, name_built}
 use Rattle.command_words.proofs.ClapTurns.{Ends, Fits, held}
 use Rattle.command_words.proofs.ClapTurns.{value_of, walk_at}
 
@@ -46,12 +47,12 @@ IsReady given rows pending =
 
 abbrev pub IsHeld : Reading → Arguments → List Row → Option (Text × List Text) → Type 0
 IsHeld Options given rows pending = IsReady given rows pending
-IsHeld (Value o) given rows pending = (pending ≡ Some (id_of o, [])) × Fits given rows
+IsHeld (Value o) given rows pending = (pending ≡ Some (long_name o, [])) × Fits given rows
 IsHeld Names given rows pending = IsReady given rows pending
 
 abbrev pub waits_for : Reading → Waiting
 waits_for Options = idle
-waits_for (Value o) = option (id_of o)
+waits_for (Value o) = option (long_name o)
 waits_for Names = idle
 
 abbrev pub trails : Reading → Bool
@@ -74,12 +75,6 @@ GoesOn rest = (given : Arguments) (reading : Reading) (rows : List Row) (pending
 abbrev pub with_names : List Text → Arguments → Arguments
 with_names names given = record given { names = names }
 
-abbrev pub with_option : OptionName → Text → Arguments → Arguments
-with_option Harts v given = record given { harts = Some v }
-with_option Frames v given = record given { frames = Some v }
-with_option Steps v given = record given { steps = Some v }
-with_option Seed v given = record given { seed = Some v }
-
 abbrev pub new_row : Text → Text → Row
 new_row id v = record {
   id = id;
@@ -101,74 +96,63 @@ pub used_name : (place : ℕ) (name v : Text) (rows : List Row) → has_row name
 used_name place name v rows none = used_option name v rows none
 
 module _ (given : Arguments) (rows : List Row) (v : Text) (fits : Fits given rows) where
-  last : (o : OptionName) → value_of o given ≡ None → Holds (id_of o) (rows ++ new_row (id_of o) v ∷ []) (Some v)
+  last : (o : OptionName) → value_of o given ≡ None → Holds (long_name o) (rows ++ new_row (long_name o) v ∷ []) (Some v)
   last o none =
-      let absent = has_held (id_of o) rows (value_of o given) (fits.options o)
+      let absent = has_held (long_name o) rows (value_of o given) (fits.options o)
       ∙ ap (λ (x : Option Text). is_some x) none in
-      let own : bytes_eq (id_of o) (id_of o) ≡ true = (bytes_eq-Decides (id_of o) (id_of o)).1 refl in
-      found_last (id_of o) rows (new_row (id_of o) v) v own refl absent
+      let own : bytes_eq (long_name o) (long_name o) ≡ true = (bytes_eq-Decides (long_name o) (long_name o)).1 refl in
+      found_last (long_name o) rows (new_row (long_name o) v) v own refl absent
 
   options_after : (o other : OptionName) → value_of o given ≡ None
-      → Holds (id_of other) (rows ++ new_row (id_of o) v ∷ []) (value_of other (with_option o v given))
-  options_after Harts Harts none = last Harts none
-  options_after Harts Frames none = found_before (id_of Frames) rows _ given.frames refl (fits.options Frames)
-  options_after Harts Steps none = found_before (id_of Steps) rows _ given.steps refl (fits.options Steps)
-  options_after Harts Seed none = found_before (id_of Seed) rows _ given.seed refl (fits.options Seed)
-  options_after Frames Frames none = last Frames none
-  options_after Frames Harts none = found_before (id_of Harts) rows _ given.harts refl (fits.options Harts)
-  options_after Frames Steps none = found_before (id_of Steps) rows _ given.steps refl (fits.options Steps)
-  options_after Frames Seed none = found_before (id_of Seed) rows _ given.seed refl (fits.options Seed)
-  options_after Steps Steps none = last Steps none
-  options_after Steps Harts none = found_before (id_of Harts) rows _ given.harts refl (fits.options Harts)
-  options_after Steps Frames none = found_before (id_of Frames) rows _ given.frames refl (fits.options Frames)
-  options_after Steps Seed none = found_before (id_of Seed) rows _ given.seed refl (fits.options Seed)
-  options_after Seed Seed none = last Seed none
-  options_after Seed Harts none = found_before (id_of Harts) rows _ given.harts refl (fits.options Harts)
-  options_after Seed Frames none = found_before (id_of Frames) rows _ given.frames refl (fits.options Frames)
-  options_after Seed Steps none = found_before (id_of Steps) rows _ given.steps refl (fits.options Steps)
+      → Holds (long_name other) (rows ++ new_row (long_name o) v ∷ []) (value_of other (with_option o v given))
+  options_after o other none = go (same_option o other) refl
+    where
+      go : (b : Bool) → same_option o other ≡ b
+          → Holds (long_name other) (rows ++ new_row (long_name o) v ∷ []) (cond b (Some v) (given.values other))
+      go true same =
+          subst (λ (n : OptionName). Holds (long_name n) (rows ++ new_row (long_name o) v ∷ []) (Some v))
+          (same_is o other same) (last o none)
+      go false other_name =
+          found_before (long_name other) rows (new_row (long_name o) v) (given.values other)
+          (names_apart o other other_name) (fits.options other)
 
   pub names_after : (o : OptionName) → (with_option o v given).names ≡ given.names
-  names_after Harts = refl
-  names_after Frames = refl
-  names_after Steps = refl
-  names_after Seed = refl
+  names_after o = refl
 
-  apart : (o : OptionName) → (bytes_eq (id_of o) (codes "program") ≡ false) ×
-      (bytes_eq (id_of o) (codes "script") ≡ false)
+  apart : (o : OptionName) → (bytes_eq (long_name o) (codes "program") ≡ false) ×
+      (bytes_eq (long_name o) (codes "script") ≡ false)
   apart Harts = (refl, refl)
   apart Frames = (refl, refl)
   apart Steps = (refl, refl)
   apart Seed = (refl, refl)
+  apart Policy = (refl, refl)
+  apart Calm = (refl, refl)
 
-  unlike_names : (o : OptionName) → (bytes_eq (codes "program") (id_of o) ≡ false) ×
-      (bytes_eq (codes "script") (id_of o) ≡ false)
+  unlike_names : (o : OptionName) → (bytes_eq (codes "program") (long_name o) ≡ false) ×
+      (bytes_eq (codes "script") (long_name o) ≡ false)
   unlike_names Harts = (refl, refl)
   unlike_names Frames = (refl, refl)
   unlike_names Steps = (refl, refl)
   unlike_names Seed = (refl, refl)
+  unlike_names Policy = (refl, refl)
+  unlike_names Calm = (refl, refl)
 
-  as_before : (o : OptionName) → Holds (id_of o) rows (value_of o (with_names (v ∷ []) given))
-  as_before Harts = fits.options Harts
-  as_before Frames = fits.options Frames
-  as_before Steps = fits.options Steps
-  as_before Seed = fits.options Seed
+  as_before : (o : OptionName) → Holds (long_name o) rows (value_of o (with_names (v ∷ []) given))
+  as_before o = fits.options o
 
-  as_before_two : (a : Text) (o : OptionName) → Holds (id_of o) rows (value_of o (with_names (a ∷ v ∷ []) given))
-  as_before_two a Harts = fits.options Harts
-  as_before_two a Frames = fits.options Frames
-  as_before_two a Steps = fits.options Steps
-  as_before_two a Seed = fits.options Seed
+  as_before_two : (a : Text) (o : OptionName) → Holds (long_name o) rows (value_of o (with_names (a ∷ v ∷ []) given))
+  as_before_two a o = fits.options o
 
   pub option_fits : (o : OptionName) → value_of o given ≡ None
-      → Fits (with_option o v given) (used (option_built (id_of o)) (v ∷ []) rows)
+      → Fits (with_option o v given) (used (option_built (long_name o)) (v ∷ []) rows)
   option_fits o none =
-      let absent : has_row (id_of o) rows ≡ false = has_held (id_of o) rows (value_of o given) (fits.options o)
+      let absent : has_row (long_name o) rows ≡ false = has_held (long_name o) rows (value_of o given) (fits.options o)
       ∙ ap (λ (x : Option Text). is_some x) none in
-      let more = found_before (codes "program") rows (new_row (id_of o) v) (slice_get given.names 0) (apart o).0
+      let more = found_before (codes "program") rows (new_row (long_name o) v) (slice_get given.names 0) (apart o).0
       fits.first in
-      let most = found_before (codes "script") rows (new_row (id_of o) v) (slice_get given.names 1) (apart o).1
+      let most = found_before (codes "script") rows (new_row (long_name o) v) (slice_get given.names 1) (apart o).1
       fits.second in
-      subst (λ (rs : List Row). Fits (with_option o v given) rs) (sym (used_option (id_of o) v rows absent)) (record {
+      subst (λ (rs : List Row). Fits (with_option o v given) rs) (sym (used_option (long_name o) v rows absent)) (record {
         options = λ (other : OptionName). options_after o other none;
         first = more ∙ ap (λ (ns : List Text). option_map (λ (t : Text). t ∷ []) (slice_get ns 0))
             (sym (names_after o));
@@ -178,18 +162,20 @@ module _ (given : Arguments) (rows : List Row) (v : Text) (fits : Fits given row
       })
 
   pub option_free : (o : OptionName) → value_of o given ≡ None
-      → settle_fault rules false (held rows (Some (id_of o, v ∷ []))) ≡ []
+      → settle_fault rules false (held rows (Some (long_name o, v ∷ []))) ≡ []
   option_free o none =
-      let absent : has_row (id_of o) rows ≡ false = has_held (id_of o) rows (value_of o given) (fits.options o)
+      let absent : has_row (long_name o) rows ≡ false = has_held (long_name o) rows (value_of o given) (fits.options o)
       ∙ ap (λ (x : Option Text). is_some x) none in
       go o absent
     where
-      go : (o : OptionName) → has_row (id_of o) rows ≡ false
-          → settle_fault rules false (held rows (Some (id_of o, v ∷ []))) ≡ []
+      go : (o : OptionName) → has_row (long_name o) rows ≡ false
+          → settle_fault rules false (held rows (Some (long_name o, v ∷ []))) ≡ []
       go Harts absent = rw absent refl
       go Frames absent = rw absent refl
       go Steps absent = rw absent refl
       go Seed absent = rw absent refl
+      go Policy absent = rw absent refl
+      go Calm absent = rw absent refl
 
   pub program_fits : given.names ≡ []
       → Fits (with_names (v ∷ []) given) (used (name_built 1 (codes "program")) (v ∷ []) rows)
@@ -201,7 +187,7 @@ module _ (given : Arguments) (rows : List Row) (v : Text) (fits : Fits given row
       ∙ ap (λ (ns : List Text). option_map (λ (t : Text). t ∷ []) (slice_get ns 1)) none in
       subst (λ (rs : List Row). Fits (with_names (v ∷ []) given) rs)
       (sym (used_name 1 (codes "program") v rows absent)) (record {
-        options = λ (other : OptionName). found_before (id_of other) rows (new_row (codes "program") v)
+        options = λ (other : OptionName). found_before (long_name other) rows (new_row (codes "program") v)
             (value_of other (with_names (v ∷ []) given)) (unlike_names other).0 (as_before other);
         first = found_last (codes "program") rows (new_row (codes "program") v) v refl refl absent;
         second = found_before (codes "script") rows (new_row (codes "program") v) None refl second;
@@ -218,7 +204,7 @@ module _ (given : Arguments) (rows : List Row) (v : Text) (fits : Fits given row
       ∙ ap (λ (ns : List Text). option_map (λ (t : Text). t ∷ []) (slice_get ns 0)) one in
       subst (λ (rs : List Row). Fits (with_names (a ∷ v ∷ []) given) rs)
       (sym (used_name 2 (codes "script") v rows absent)) (record {
-        options = λ (other : OptionName). found_before (id_of other) rows (new_row (codes "script") v)
+        options = λ (other : OptionName). found_before (long_name other) rows (new_row (codes "script") v)
             (value_of other (with_names (a ∷ v ∷ []) given)) (unlike_names other).1 (as_before_two a other);
         first = found_before (codes "program") rows (new_row (codes "script") v) (Some a) refl first;
         second = found_last (codes "script") rows (new_row (codes "script") v) v refl refl absent;

@@ -1,15 +1,15 @@
 -- What `clap` takes a word for, and what the grammar does.
 use Rattle.std.proofs.Common.{◌≡◌, ◌⊎◌, inl, inr, ℕ, Bool, true, false, List, [], ◌∷◌}
-use Rattle.std.proofs.Common.{Some, None, refl, sym, subst, codes}
+use Rattle.std.proofs.Common.{◌++◌, map, Option, Some, None, refl, sym, subst, codes}
 use Rattle.std.proofs.lemmas.Slice.Eq.{bytes_eq-Decides}
 use Rattle.std.proofs.lemmas.Bool.Decides.{Decides-eqb}
-use Rattle.std.specs.Prelude.{◌==◌}
+use Rattle.std.specs.Prelude.{◌==◌, find}
 use Rattle.std.specs.Str.{bytes_eq}
 use Rattle.clap.specs.Walk.{Rule, Text, arg_by_long}
 use Rattle.clap.specs.Simple.{built, filled}
 use Rattle.clap.specs.Words.{new_rule}
 use Rattle.command_words.specs.Line.{line, option_rule}
-use Rattle.command_words.specs.Options.{OptionName, Harts, Frames, Steps, Seed, option_named}
+use Rattle.command_words.specs.Options.{OptionName, all_options, long_name, option_word}
 
 -- a word is of one of these forms
 pub by_form : (P : Text → Type 0) → P [] → P (45 ∷ []) → P (45 ∷ 45 ∷ [])
@@ -43,32 +43,32 @@ by_form P nothing dash dashes long short plain (x ∷ rest) = first (x == 45) re
     first true is = subst (λ (n : ℕ). P (n ∷ rest)) (sym ((Decides-eqb x 45).0 is)) (behind rest)
     first false is = plain x rest is (turned (45 == x) refl is)
 
--- the option of a long name
-abbrev pub id_of : OptionName → Text
-id_of Harts = codes "harts"
-id_of Frames = codes "frames"
-id_of Steps = codes "steps"
-id_of Seed = codes "seed"
-
 abbrev pub option_built : Text → Rule
 option_built name = filled (option_rule name)
 
 abbrev pub name_built : ℕ → Text → Rule
 name_built place name = record (filled (new_rule name)) { index = Some place }
 
+abbrev pub name_rules : List Rule
+name_rules = name_built 1 (codes "program") ∷ name_built 2 (codes "script") ∷ []
+
+abbrev rules_with : List OptionName → List Rule
+rules_with options = map (λ option. option_built (long_name option)) options ++ name_rules
+
 abbrev pub rules : List Rule
-rules =
-    option_built (codes "harts") ∷ option_built (codes "frames") ∷ option_built (codes "steps")
-    ∷ option_built (codes "seed") ∷ name_built 1 (codes "program") ∷ name_built 2 (codes "script") ∷ []
+rules = rules_with all_options
 
 pub rules_are : (built line).top.rules ≡ rules
 rules_are = refl
 
--- a long name is an option's, or none
-abbrev pub IsNamed : Text → Type 0
-IsNamed name =
-    ((option : OptionName) × (name ≡ id_of option) × (option_named (45 ∷ 45 ∷ name) ≡ Some option))
-    ⊎ ((arg_by_long rules name ≡ None) × (option_named (45 ∷ 45 ∷ name) ≡ None))
+-- a long name is that of one of these options, or none's
+abbrev named_among : List OptionName → Text → Option OptionName
+named_among options word = find (λ option. bytes_eq word (option_word option)) options
+
+abbrev IsNamedAmong : Text → List OptionName → Type 0
+IsNamedAmong name options =
+    ((option : OptionName) × (name ≡ long_name option) × (named_among options (45 ∷ 45 ∷ name) ≡ Some option))
+    ⊎ ((arg_by_long (rules_with options) name ≡ None) × (named_among options (45 ∷ 45 ∷ name) ≡ None))
 
 unlike : (name other : Text) → bytes_eq name other ≡ false → bytes_eq other name ≡ false
 unlike name other differ = go (bytes_eq other name) refl
@@ -80,22 +80,20 @@ unlike name other differ = go (bytes_eq other name) refl
         let agree : bytes_eq name other ≡ true = (bytes_eq-Decides name other).1 (sym same) in
         absurd (cc (agree, differ))
 
-named_or : (name : Text) (h f s d : Bool) → bytes_eq name (codes "harts") ≡ h → bytes_eq name (codes "frames") ≡ f
-    → bytes_eq name (codes "steps") ≡ s → bytes_eq name (codes "seed") ≡ d → IsNamed name
-named_or name true f s d is_h is_f is_s is_d =
-    inl (Harts, (bytes_eq-Decides name (codes "harts")).0 is_h, rw is_h refl)
-named_or name false true s d is_h is_f is_s is_d =
-    inl (Frames, (bytes_eq-Decides name (codes "frames")).0 is_f, rw (is_h, is_f) refl)
-named_or name false false true d is_h is_f is_s is_d =
-    inl (Steps, (bytes_eq-Decides name (codes "steps")).0 is_s, rw (is_h, is_f, is_s) refl)
-named_or name false false false true is_h is_f is_s is_d =
-    inl (Seed, (bytes_eq-Decides name (codes "seed")).0 is_d, rw (is_h, is_f, is_s, is_d) refl)
-named_or name false false false false is_h is_f is_s is_d =
-    let h = unlike name (codes "harts") is_h in
-    let f = unlike name (codes "frames") is_f in
-    let s = unlike name (codes "steps") is_s in
-    let d = unlike name (codes "seed") is_d in
-    inr (rw (h, f, s, d) refl, rw (is_h, is_f, is_s, is_d) refl)
+long_named_among : (name : Text) (options : List OptionName) → IsNamedAmong name options
+long_named_among name [] = inr (refl, refl)
+long_named_among name (first ∷ options) =
+    go (bytes_eq name (long_name first)) refl (long_named_among name options)
+  where
+    go : (b : Bool) → bytes_eq name (long_name first) ≡ b → IsNamedAmong name options
+        → IsNamedAmong name (first ∷ options)
+    go true is later = inl (first, (bytes_eq-Decides name (long_name first)).0 is, rw is refl)
+    go false is (inl found) = inl (found.0, found.1, rw is found.2)
+    go false is (inr none) = inr (rw (unlike name (long_name first) is) none.0, rw is none.1)
+
+-- a long name is an option's, or none
+abbrev pub IsNamed : Text → Type 0
+IsNamed name = IsNamedAmong name all_options
 
 pub long_named : (name : Text) → IsNamed name
-long_named name = named_or name _ _ _ _ refl refl refl refl
+long_named name = long_named_among name all_options

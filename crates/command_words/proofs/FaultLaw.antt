@@ -13,22 +13,21 @@ use Rattle.command_words.specs.declared.faults.WordsFault.TheVariants.{OneNameTo
 use Rattle.command_words.specs.declared.takes.NameKind.{NameKind}
 use Rattle.command_words.specs.declared.takes.NameKind.TheVariants.{Program, Script, Guest, Size}
 use Rattle.command_words.specs.Commands.{Command}
-use Rattle.command_words.specs.Grammar.{Arguments, Item, Name, Given, asked_by, begins_with_dash, is_option}
-use Rattle.command_words.specs.Options.{OptionName, Harts, Frames, Steps, Seed, chosen, option_named, range_of}
+use Rattle.command_words.specs.Grammar.{Arguments, Item, Name, Given, asked_by, begins_with_dash, is_option, suits}
+use Rattle.command_words.specs.Options.{OptionName, is_value, option_named, values_of}
 use Rattle.command_words.specs.Takes.{Takes, has, takes_of}
 use Rattle.command_words.specs.WordFaults.{fault_at, kind_at, kind_fault, missing}
-use Rattle.command_words.specs.WordFaults.{SoFar, fault_among, fault_behind, joined_fault, name_fault, name_missing, out_of}
+use Rattle.command_words.specs.WordFaults.{SoFar, fault_among, fault_behind, joined_fault, name_fault, name_missing, none_of}
 use Rattle.command_words.specs.WordFaults.{option_word_fault, value_fault}
 use Rattle.command_words.specs.WordFaults.{with_word, word_fault, words_fault}
 use Rattle.command_words.specs.Words.{Reading, Options, Value, Names, arguments_of, behind_equals, command_of}
 use Rattle.command_words.specs.Words.{is_equals, option_read, word_read}
-use Rattle.command_words.proofs.Parts.{no_arguments, with_item}
+use Rattle.command_words.proofs.Parts.{no_arguments, with_item, with_option}
 use Rattle.command_words.proofs.Gathering.{arguments_gathered, none_after}
 use Rattle.command_words.proofs.ClapTurns.{value_of}
-use Rattle.command_words.proofs.ClapWalk.{with_option}
 use Rattle.command_words.proofs.ClapGoes.{option_item, option_twice}
 use Rattle.command_words.proofs.Suits.{Sound, asked_fits, begin_more, few_taken, kind_within, name_suits}
-use Rattle.command_words.proofs.Suits.{names_begin, none_asked, sound_fits, suits, suits_at}
+use Rattle.command_words.proofs.Suits.{names_begin, none_asked, sound_fits, suits_at}
 use Rattle.command_words.proofs.FaultTurns.{asks, given_options, has_given, own_value, stood, name_more, names_same, never_asks, options_after}
 use Rattle.command_words.proofs.FaultTurns.{refused_asks, sound_name, sound_value, standing, taken_asks}
 use Rattle.command_words.proofs.FaultTurns.{unread_asks, with_name}
@@ -165,7 +164,7 @@ valued_on : (word : List ℕ) (takes : Takes) (next : ℕ) (reading : Reading) (
     → word_fault (standing takes next reading given) text ≡ value_fault (standing takes next reading given) option value
     → Agrees word takes (text ∷ rest) next reading given
 valued_on word takes next reading given option value text rest is sound later own lacks read fault =
-    by_number (is_some (chosen (range_of option) (Some value))) refl
+    by_number (is_value (values_of option) value) refl
   where
     goes : with_word (standing takes next reading given) text
         ≡ Some (standing takes (next + 1) Options (with_option option value given))
@@ -176,7 +175,7 @@ valued_on word takes next reading given option value text rest is sound later ow
     taken : with_item given (Some (Given option value)) ≡ Some (with_option option value given)
     taken = option_item option value given lacks
 
-    by_number : (b : Bool) → is_some (chosen (range_of option) (Some value)) ≡ b
+    by_number : (b : Bool) → is_value (values_of option) value ≡ b
         → Agrees word takes (text ∷ rest) next reading given
     by_number true number =
         let suit : suits takes option (Some value) ≡ true = rw (own, number) refl in
@@ -190,7 +189,7 @@ valued_on word takes next reading given option value text rest is sound later ow
         let not_suit : suits takes option (value_of option (with_option option value given)) ≡ false =
         ap (suits takes option) (own_value option value given) ∙ rw (own, number) refl in
         cc (sym suit ∙ not_suit) in
-        stops word takes next reading given text rest (out_of (range_of option) next) (fault ∙ rw number refl)
+        stops word takes next reading given text rest (none_of (values_of option) next) (fault ∙ rw number refl)
         (taken_asks word given (with_option option value given) reading Options (Some (Given option value)) text rest
         read taken ∙ never_asks word takes rest (with_option option value given) Options is bad)
 
@@ -344,13 +343,7 @@ agree word takes (text ∷ rest) next Options given is sound awaits =
 
 -- no argument is given yet, which is sound
 nothing_sound : (takes : Takes) → Sound takes no_arguments
-nothing_sound takes = record { begin = refl; suit = by_option }
-  where
-    by_option : (option : OptionName) → suits takes option (value_of option no_arguments) ≡ true
-    by_option Harts = refl
-    by_option Frames = refl
-    by_option Steps = refl
-    by_option Seed = refl
+nothing_sound takes = record { begin = refl; suit = λ option. refl }
 
 -- nothing is wrong behind the first word exactly where they name a command
 behind_command : (word : List ℕ) (rest : List (List ℕ)) (o : Option Takes) → takes_of word ≡ o

@@ -5,28 +5,30 @@ use Rattle.std.specs.Prelude.{nat_lt}
 use Rattle.std.proofs.lemmas.Bool.{and_parts}
 use Rattle.std.specs.Option.{is_some}
 use Rattle.step_log.specs.Script.{◌>>=◌}
-use Rattle.command_words.specs.Grammar.{Arguments, Item, Name, Given, asked_by}
-use Rattle.command_words.specs.Options.{OptionName, Harts, Frames, Steps, Seed}
+use Rattle.command_words.specs.Grammar.{Arguments, Item, Name, Given, asked_by, suits}
+use Rattle.command_words.specs.Options.{OptionName, Harts, Frames, Steps, Seed, Policy, Calm}
 use Rattle.command_words.specs.Takes.{OptionSet, Takes, has, takes_of}
 use Rattle.command_words.specs.Takes.{with_option as with_one}
 use Rattle.command_words.specs.WordFaults.{SoFar, kind_at}
 use Rattle.command_words.specs.Words.{Reading, Options, Value, Names, word_read}
-use Rattle.command_words.proofs.Parts.{with_item}
+use Rattle.command_words.proofs.EachOption.{same_self}
+use Rattle.command_words.proofs.Parts.{with_item, with_option}
 use Rattle.command_words.proofs.Gathering.{with_words, word_refused, word_taken, word_unread}
 use Rattle.command_words.proofs.ClapTurns.{value_of}
-use Rattle.command_words.proofs.ClapWalk.{with_option}
 use Rattle.command_words.proofs.ClapGoes.{option_item, option_twice}
 use Rattle.command_words.proofs.ClapReads.{item_stays, same_value, stays_apart}
-use Rattle.command_words.proofs.Suits.{Sound, asked_fits, begin_more, fits, fitting_sound, names_begin, suits}
+use Rattle.command_words.proofs.Suits.{Sound, asked_fits, begin_more, fits, fitting_sound, names_begin}
 use Rattle.command_words.proofs.Suits.{suits_at}
 
 -- which options the arguments give
 abbrev pub given_options : Arguments → OptionSet
 given_options given = record {
-  harts = is_some given.harts;
-  frames = is_some given.frames;
-  steps = is_some given.steps;
-  seed = is_some given.seed;
+  harts = is_some (given.values Harts);
+  frames = is_some (given.values Frames);
+  steps = is_some (given.values Steps);
+  seed = is_some (given.values Seed);
+  policy = is_some (given.values Policy);
+  calm = is_some (given.values Calm);
 }
 
 -- how far the words are read that give so many names and these options, or these arguments
@@ -44,14 +46,13 @@ has_given Harts given = refl
 has_given Frames given = refl
 has_given Steps given = refl
 has_given Seed given = refl
+has_given Policy given = refl
+has_given Calm given = refl
 
 -- with a value more the names stay
 pub names_same : (option : OptionName) (text : List ℕ) (given : Arguments)
     → (with_option option text given).names ≡ given.names
-names_same Harts text given = refl
-names_same Frames text given = refl
-names_same Steps text given = refl
-names_same Seed text given = refl
+names_same option text given = refl
 
 -- its option is given then, too
 pub options_after : (option : OptionName) (text : List ℕ) (given : Arguments)
@@ -60,14 +61,13 @@ options_after Harts text given = refl
 options_after Frames text given = refl
 options_after Steps text given = refl
 options_after Seed text given = refl
+options_after Policy text given = refl
+options_after Calm text given = refl
 
 -- with this value
 pub own_value : (option : OptionName) (text : List ℕ) (given : Arguments)
     → value_of option (with_option option text given) ≡ Some text
-own_value Harts text given = refl
-own_value Frames text given = refl
-own_value Steps text given = refl
-own_value Seed text given = refl
+own_value option text given = rw (same_self option) refl
 
 abbrev pub with_name : List ℕ → Arguments → Arguments
 with_name text given = record given { names = given.names ++ text ∷ [] }

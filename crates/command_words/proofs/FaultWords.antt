@@ -13,11 +13,11 @@ use Rattle.command_words.specs.declared.faults.WordsFault.TheVariants.{UnknownGu
 use Rattle.command_words.specs.declared.takes.NameKind.{NameKind}
 use Rattle.command_words.specs.declared.takes.NameKind.TheVariants.{Program, Script, Guest, Size}
 use Rattle.command_words.specs.Grammar.{Item, Name, Given, begins_with_dash, is_option}
-use Rattle.command_words.specs.Options.{OptionName, chosen, number_of, option_named, range_of}
+use Rattle.command_words.specs.Options.{OptionName, Values, Numbers, PolicyNames, is_value, number_of, option_named, values_of}
 use Rattle.command_words.specs.Takes.{Takes, has, takes_of}
 use Rattle.command_words.specs.WordFaults.{fault_at, kind_at, kind_fault, missing}
 use Rattle.command_words.specs.WordFaults.{IsAmong, SoFar, command_read, end_fault, fault_among, fault_behind, fault_read, joined_fault}
-use Rattle.command_words.specs.WordFaults.{name_fault, name_missing, one_further, option_fault, option_word_fault, out_of}
+use Rattle.command_words.specs.WordFaults.{name_fault, name_missing, one_further, option_fault, option_word_fault, none_of}
 use Rattle.command_words.specs.WordFaults.{value_fault, value_missing, with_item, with_read, word_of, words_fault}
 use Rattle.command_words.specs.Words.{Reading, Options, Value, Names, behind_equals, is_equals, word_read}
 
@@ -28,11 +28,15 @@ IsNear next most fault = IfSome fault (λ f. IfSome (word_of f) (λ word. (next 
 -- a value, a name, and an option's name that are wrong are so in the next word
 near_value : (so_far : SoFar) (option : OptionName) (text : List ℕ)
     → IsNear so_far.next so_far.next (value_fault so_far option text)
-near_value so_far option text = by_number (is_some (chosen (range_of option) (Some text)))
+near_value so_far option text = by_test (is_value (values_of option) text)
   where
-    by_number : (b : Bool) → IsNear so_far.next so_far.next (cond b None (Some (out_of (range_of option) so_far.next)))
-    by_number true = tt
-    by_number false = (omega arith, omega arith)
+    none_near : (values : Values) → IsNear so_far.next so_far.next (Some (none_of values so_far.next))
+    none_near (Numbers range) = (omega arith, omega arith)
+    none_near PolicyNames = (omega arith, omega arith)
+
+    by_test : (b : Bool) → IsNear so_far.next so_far.next (cond b None (Some (none_of (values_of option) so_far.next)))
+    by_test true = tt
+    by_test false = none_near (values_of option)
 
 near_kind : (kind : NameKind) (word : ℕ) (text : List ℕ) → IsNear word word (kind_fault kind word text)
 near_kind Program word text = tt

@@ -1,17 +1,20 @@
 -- The items of words, gathered one after another.
 use Rattle.std.proofs.Common.{◌≡◌, ℕ, ◌<◌, ◌≤◌, Bool, true, false, cond, ltb, List, [], ◌∷◌, ◌++◌}
 use Rattle.std.proofs.Common.{length, Option, Some, None, refl, sym, ap, ◌∙◌, arith, append_assoc}
-use Rattle.std.proofs.Common.{length-append, lt-ltb}
+use Rattle.std.proofs.Common.{length-append, lt-ltb, suc}
 use Rattle.std.proofs.lemmas.Bool.{ltb-false}
 use Rattle.std.proofs.lemmas.Bool.Decides.{nat_tests}
 use Rattle.std.proofs.lemmas.List.{append-nil}
-use Rattle.std.specs.Option.{option_to_list}
+use Rattle.std.specs.Prelude.{nat_le, slice_get}
+use Rattle.std.specs.List.{list_all}
+use Rattle.std.specs.Option.{is_some, option_to_list}
 use Rattle.step_log.specs.Script.{◌>>=◌}
 use Rattle.command_words.specs.Words.{Reading, few_arguments}
 use Rattle.command_words.specs.Words.{Options}
-use Rattle.command_words.specs.Options.{Harts, Frames, Steps, Seed}
-use Rattle.command_words.proofs.Parts.{no_arguments, with_item}
-use Rattle.command_words.specs.Grammar.{Item, Name, Given, Arguments, names_in, values_in, at_most_one}
+use Rattle.command_words.specs.Options.{OptionName, all_options, same_option}
+use Rattle.command_words.proofs.EachOption.{all_of, one_fails, same_is, same_self}
+use Rattle.command_words.proofs.Parts.{no_arguments, with_item, with_option}
+use Rattle.command_words.specs.Grammar.{Item, Name, Given, Arguments, names_in, values_in}
 use Rattle.command_words.specs.Words.{items, word_read, arguments_of}
 
 -- the arguments, with more items added
@@ -60,12 +63,18 @@ pub word_refused : (given : Arguments) (reading after : Reading) (item : Option 
 word_refused given reading after item word rest read fits =
     rw read (item_refused given item (items after rest) fits)
 
+-- what items say of each option: the values that they give it
+abbrev Lists : Type 0
+Lists = OptionName → List (List ℕ)
+
+abbrev once : Lists → Bool
+once lists = list_all (λ option. nat_le (length (lists option)) 1) all_options
+
 -- the arguments of these names and values
-sorted : (names harts frames steps seeds : List (List ℕ)) → Option Arguments
-sorted names harts frames steps seeds =
-    cond (ltb 2 (length names)) None (at_most_one harts
-    >>= (λ h. at_most_one frames >>= (λ f. at_most_one steps >>= (λ s. at_most_one seeds >>= (λ d.
-    Some (record { names = names; harts = h; frames = f; steps = s; seed = d }))))))
+sorted : List (List ℕ) → Lists → Option Arguments
+sorted names lists =
+    cond (ltb 2 (length names)) None
+    (cond (once lists) (Some (record { names = names; values = λ option. slice_get (lists option) 0 })) None)
 
 pub none_either : {A : Type 0} (b : Bool) (o : Option A) → o ≡ None → cond b None o ≡ None
 none_either true o none = refl
@@ -75,103 +84,108 @@ pub none_after : {A B : Type 0} (o : Option A) (f : A → Option B) → ((x : A)
 none_after None f none = refl
 none_after (Some x) f none = none x
 
-one_kept : (o : Option (List ℕ)) → at_most_one (option_to_list o) ≡ Some o
+too_many : (names : List (List ℕ)) (lists : Lists) → 2 < length names → sorted names lists ≡ None
+unfolding sorted
+too_many names lists more = rw (lt-ltb 2 (length names) more)
+
+twice : (names : List (List ℕ)) (lists : Lists) (option : OptionName) → nat_le (length (lists option)) 1 ≡ false
+    → sorted names lists ≡ None
+unfolding sorted
+twice names lists option many =
+    none_either (ltb 2 (length names)) _
+    (rw (one_fails (λ option. nat_le (length (lists option)) 1) option many) refl)
+
+-- what is given already, with no item behind it
+abbrev with_more : Arguments → List Item → Lists
+with_more given more option = option_to_list (given.values option) ++ values_in option more
+
+one_at_most : (o : Option (List ℕ)) → nat_le (length (option_to_list o ++ [])) 1 ≡ true
+one_at_most None = refl
+one_at_most (Some text) = refl
+
+one_kept : (o : Option (List ℕ)) → o ≡ slice_get (option_to_list o ++ []) 0
 one_kept None = refl
 one_kept (Some text) = refl
 
-kept : (names : List (List ℕ)) (h f s d : Option (List ℕ)) → length names ≤ 2
-    → Some (record { names = names; harts = h; frames = f; steps = s; seed = d })
-    ≡ sorted (names ++ []) (option_to_list h ++ []) (option_to_list f ++ []) (option_to_list s ++ [])
-    (option_to_list d ++ [])
-unfolding sorted
-kept names h f s d few =
-    let no_more : ltb 2 (length names) ≡ false = grind (arith, nat_tests) in
-    simp (append-nil, one_kept, no_more)
+same_kept : (given : Arguments)
+    → Some given
+    ≡ Some (record { names = given.names ++ []; values = λ option. slice_get (with_more given [] option) 0 })
+same_kept given = λ i. Some (record {
+  names = sym (append-nil given.names) i;
+  values = λ option. one_kept (given.values option) i;
+})
 
-too_many : (names harts frames steps seeds : List (List ℕ)) → 2 < length names
-    → sorted names harts frames steps seeds ≡ None
+kept : (given : Arguments) → length given.names ≤ 2 → Some given ≡ sorted (given.names ++ []) (with_more given [])
 unfolding sorted
-too_many names harts frames steps seeds more = rw (lt-ltb 2 (length names) more)
+kept given few =
+    let no_more : ltb 2 (length (given.names ++ [])) ≡ false =
+    simp append-nil (grind (arith, nat_tests)) in
+    let each : once (with_more given []) ≡ true =
+    all_of (λ option. nat_le (length (with_more given [] option)) 1) (λ option. one_at_most (given.values option)) in
+    rw (no_more, each) (same_kept given)
 
-harts_twice : (names : List (List ℕ)) (x y : List ℕ) (more frames steps seeds : List (List ℕ))
-    → sorted names (x ∷ y ∷ more) frames steps seeds ≡ None
-unfolding sorted
-harts_twice names x y more frames steps seeds = none_either (ltb 2 (length names)) _ refl
+name_gathered : (b : Bool) (given : Arguments) (text : List ℕ) (rest : List (List ℕ)) (lists : Lists) (more : List Item)
+    → ltb (length given.names) 2 ≡ b
+    → (length (given.names ++ text ∷ []) ≤ 2
+    → added (record given { names = given.names ++ text ∷ [] }) more ≡ sorted ((given.names ++ text ∷ []) ++ rest) lists)
+    → cond b (Some (record given { names = given.names ++ text ∷ [] })) None >>= (λ (next : Arguments). added next more)
+    ≡ sorted (given.names ++ text ∷ rest) lists
+name_gathered true given text rest lists more room whole =
+    let short : length (given.names ++ text ∷ []) ≤ 2 = simp length-append (grind (arith, nat_tests)) in
+    whole short ∙ ap (λ ns. sorted ns lists) (append_assoc given.names (text ∷ []) rest)
+name_gathered false given text rest lists more full whole =
+    let many : 2 < length (given.names ++ text ∷ rest) =
+    simp length-append (omega (arith, ltb-false (length given.names) 2 full)) in
+    sym (too_many (given.names ++ text ∷ rest) lists many)
 
-frames_twice : (names harts : List (List ℕ)) (x y : List ℕ) (more steps seeds : List (List ℕ))
-    → sorted names harts (x ∷ y ∷ more) steps seeds ≡ None
-unfolding sorted
-frames_twice names harts x y more steps seeds =
-    none_either (ltb 2 (length names)) _ (none_after (at_most_one harts) _ (λ h. refl))
+-- a value more: the option had none
+one_more : (given : Arguments) (option : OptionName) (text : List ℕ) (more : List Item) → given.values option ≡ None
+    → (other : OptionName)
+    → with_more (with_option option text given) more other ≡ with_more given (Given option text ∷ more) other
+one_more given option text more none other = go (same_option option other) refl
+  where
+    go : (b : Bool) → same_option option other ≡ b
+        → option_to_list (cond b (Some text) (given.values other)) ++ values_in other more
+        ≡ option_to_list (given.values other) ++ cond b (text ∷ values_in other more) (values_in other more)
+    go false apart = refl
+    go true same =
+        let free : given.values other ≡ None = ap given.values (sym (same_is option other same)) ∙ none in
+        rw free refl
 
-steps_twice : (names harts frames : List (List ℕ)) (x y : List ℕ) (more seeds : List (List ℕ))
-    → sorted names harts frames (x ∷ y ∷ more) seeds ≡ None
-unfolding sorted
-steps_twice names harts frames x y more seeds =
-    none_either (ltb 2 (length names)) _
-    (none_after (at_most_one harts) _ (λ h. none_after (at_most_one frames) _ (λ f. refl)))
+-- the option had one
+more_than_one : (n : ℕ) → nat_le (suc (suc n)) 1 ≡ false
+more_than_one n = grind (arith, nat_tests)
 
-seed_twice : (names harts frames steps : List (List ℕ)) (x y : List ℕ) (more : List (List ℕ))
-    → sorted names harts frames steps (x ∷ y ∷ more) ≡ None
-unfolding sorted
-seed_twice names harts frames steps x y more =
-    none_either (ltb 2 (length names)) _
-    (none_after (at_most_one harts) _
-    (λ h. none_after (at_most_one frames) _ (λ f. none_after (at_most_one steps) _ (λ s. refl))))
-
-name_gathered : (b : Bool) (names : List (List ℕ)) (h f s d : Option (List ℕ)) (text : List ℕ)
-    (rest harts frames steps seeds : List (List ℕ)) (more : List Item)
-    → ltb (length names) 2 ≡ b
-    → (length (names ++ text ∷ []) ≤ 2
-    → added (record { names = names ++ text ∷ []; harts = h; frames = f; steps = s; seed = d }) more
-    ≡ sorted ((names ++ text ∷ []) ++ rest) harts frames steps seeds)
-    → cond b (Some (record { names = names ++ text ∷ []; harts = h; frames = f; steps = s; seed = d })) None
-    >>= (λ (next : Arguments). added next more)
-    ≡ sorted (names ++ text ∷ rest) harts frames steps seeds
-name_gathered true names h f s d text rest harts frames steps seeds more room whole =
-    let short : length (names ++ text ∷ []) ≤ 2 = simp length-append (grind (arith, nat_tests)) in
-    whole short ∙ ap (λ ns. sorted ns harts frames steps seeds) (append_assoc names (text ∷ []) rest)
-name_gathered false names h f s d text rest harts frames steps seeds more full whole =
-    let many : 2 < length (names ++ text ∷ rest) =
-    simp length-append (omega (arith, ltb-false (length names) 2 full)) in
-    sym (too_many (names ++ text ∷ rest) harts frames steps seeds many)
+two_values : (given : Arguments) (option : OptionName) (text x : List ℕ) (more : List Item)
+    → given.values option ≡ Some x
+    → nat_le (length (with_more given (Given option text ∷ more) option)) 1 ≡ false
+two_values given option text x more some =
+    rw (some, same_self option) (more_than_one (length (values_in option more)))
 
 -- adding items one after another comes to what they say together
-gathered : (names : List (List ℕ)) (h f s d : Option (List ℕ)) (found : List Item) → length names ≤ 2
-    → added (record { names = names; harts = h; frames = f; steps = s; seed = d }) found
-    ≡ sorted (names ++ names_in found) (option_to_list h ++ values_in Harts found)
-    (option_to_list f ++ values_in Frames found) (option_to_list s ++ values_in Steps found)
-    (option_to_list d ++ values_in Seed found)
-gathered names h f s d [] few = kept names h f s d few
-gathered names h f s d (Name text ∷ more) few =
-    name_gathered (ltb (length names) 2) names h f s d text (names_in more)
-    (option_to_list h ++ values_in Harts more) (option_to_list f ++ values_in Frames more)
-    (option_to_list s ++ values_in Steps more) (option_to_list d ++ values_in Seed more) more refl
-    (λ short. gathered (names ++ text ∷ []) h f s d more short)
-gathered names None f s d (Given Harts text ∷ more) few = gathered names (Some text) f s d more few
-gathered names (Some x) f s d (Given Harts text ∷ more) few =
-    sym (harts_twice (names ++ names_in more) x text (values_in Harts more)
-    (option_to_list f ++ values_in Frames more) (option_to_list s ++ values_in Steps more)
-    (option_to_list d ++ values_in Seed more))
-gathered names h None s d (Given Frames text ∷ more) few = gathered names h (Some text) s d more few
-gathered names h (Some x) s d (Given Frames text ∷ more) few =
-    sym (frames_twice (names ++ names_in more) (option_to_list h ++ values_in Harts more) x text
-    (values_in Frames more) (option_to_list s ++ values_in Steps more)
-    (option_to_list d ++ values_in Seed more))
-gathered names h f None d (Given Steps text ∷ more) few = gathered names h f (Some text) d more few
-gathered names h f (Some x) d (Given Steps text ∷ more) few =
-    sym (steps_twice (names ++ names_in more) (option_to_list h ++ values_in Harts more)
-    (option_to_list f ++ values_in Frames more) x text (values_in Steps more)
-    (option_to_list d ++ values_in Seed more))
-gathered names h f s None (Given Seed text ∷ more) few = gathered names h f s (Some text) more few
-gathered names h f s (Some x) (Given Seed text ∷ more) few =
-    sym (seed_twice (names ++ names_in more) (option_to_list h ++ values_in Harts more)
-    (option_to_list f ++ values_in Frames more) (option_to_list s ++ values_in Steps more) x text
-    (values_in Seed more))
+gathered : (given : Arguments) (found : List Item) → length given.names ≤ 2
+    → added given found ≡ sorted (given.names ++ names_in found) (with_more given found)
+gathered given [] few = kept given few
+gathered given (Name text ∷ more) few =
+    name_gathered (ltb (length given.names) 2) given text (names_in more) (with_more given more) more refl
+    (λ short. gathered (record given { names = given.names ++ text ∷ [] }) more short)
+gathered given (Given option text ∷ more) few =
+    by_value (gathered (with_option option text given) more few) (given.values option) refl
+  where
+    by_value : added (with_option option text given) more
+        ≡ sorted (given.names ++ names_in more) (with_more (with_option option text given) more)
+        → (o : Option (List ℕ)) → given.values option ≡ o
+        → (cond (is_some o) None (Some (with_option option text given)) >>= (λ (next : Arguments). added next more))
+        ≡ sorted (given.names ++ names_in more) (with_more given (Given option text ∷ more))
+    by_value later None none =
+        later ∙ (λ i. sorted (given.names ++ names_in more) (λ other. one_more given option text more none other i))
+    by_value later (Some x) some =
+        sym (twice (given.names ++ names_in more) (with_more given (Given option text ∷ more)) option
+        (two_values given option text x more some))
 
 gathered_all : (found : List Item) → added no_arguments found ≡ few_arguments found
 unfolding sorted
-gathered_all found = gathered [] None None None None found (omega arith)
+gathered_all found = gathered no_arguments found (omega arith)
 
 pub arguments_gathered : (words : List (List ℕ)) → with_words no_arguments Options words ≡ arguments_of words
 unfolding arguments_of

@@ -6,6 +6,7 @@ mod ClapRows
 mod ClapTurns
 mod ClapWalk
 mod ClapWords
+mod EachOption
 mod FaultLaw
 mod FaultTurns
 mod FaultWords

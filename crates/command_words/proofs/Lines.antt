@@ -8,43 +8,27 @@ use Rattle.std.proofs.lemmas.List.{append-nil, take-append-drop, take_all}
 use Rattle.std.proofs.lemmas.List.Sums.{passes_at_first}
 use Rattle.std.proofs.lemmas.Bool.Decides.{nat_tests}
 use Rattle.std.proofs.lemmas.Slice.Eq.{bytes_eq-Decides}
-use Rattle.std.specs.List.{before_first, position_or_len}
+use Rattle.std.specs.Prelude.{nat_le, slice_get}
+use Rattle.std.specs.List.{before_first, list_all, position_or_len}
 use Rattle.std.specs.Option.{option_to_list}
 use Rattle.std.specs.Str.{bytes_eq}
 use Rattle.step_log.specs.Script.{◌>>=◌}
 use Rattle.command_words.specs.Commands.{Command}
-use Rattle.command_words.specs.Grammar.{AreWritten, Given, IsCommandLine, IsLine}
-use Rattle.command_words.specs.Grammar.{IsWritten, Item, Name, arguments_in, asked_by, at_most_one, names_in}
+use Rattle.command_words.specs.Grammar.{Arguments, AreWritten, Given, IsCommandLine, IsLine}
+use Rattle.command_words.specs.Grammar.{IsWritten, Item, Name, arguments_in, asked_by, names_in}
 use Rattle.command_words.specs.Grammar.{values_in, begins_with_dash, command_in, is_option}
-use Rattle.command_words.specs.Options.{OptionName, Harts, Frames, Steps, Seed, option_named, option_word}
+use Rattle.command_words.specs.Options.{OptionName, Harts, Frames, Steps, Seed, Policy, Calm, all_options, option_named}
+use Rattle.command_words.specs.Options.{option_word}
 use Rattle.command_words.specs.Words.{Reading, Options, Value, Names, arguments_of, behind_equals, command_of}
 use Rattle.command_words.specs.Words.{few_arguments, is_equals, items, option_read, word_read}
+use Rattle.command_words.proofs.EachOption.{found_passes}
 use Rattle.command_words.proofs.Suits.{many_names}
 
 -- the word that names an option is its word
-named_by : (word : List ℕ) (option : OptionName) (h f s d : Bool) → bytes_eq word (option_word Harts) ≡ h
-    → bytes_eq word (option_word Frames) ≡ f → bytes_eq word (option_word Steps) ≡ s
-    → bytes_eq word (option_word Seed) ≡ d
-    → cond h (Some Harts) (cond f (Some Frames) (cond s (Some Steps) (cond d (Some Seed) None)))
-    ≡ Some option
-    → word ≡ option_word option
-named_by word option true f s d at_harts at_frames at_steps at_seed is =
-    let same : Harts ≡ option = cc in
-    (bytes_eq-Decides word (option_word Harts)).0 at_harts ∙ ap option_word same
-named_by word option false true s d at_harts at_frames at_steps at_seed is =
-    let same : Frames ≡ option = cc in
-    (bytes_eq-Decides word (option_word Frames)).0 at_frames ∙ ap option_word same
-named_by word option false false true d at_harts at_frames at_steps at_seed is =
-    let same : Steps ≡ option = cc in
-    (bytes_eq-Decides word (option_word Steps)).0 at_steps ∙ ap option_word same
-named_by word option false false false true at_harts at_frames at_steps at_seed is =
-    let same : Seed ≡ option = cc in
-    (bytes_eq-Decides word (option_word Seed)).0 at_seed ∙ ap option_word same
-named_by word option false false false false at_harts at_frames at_steps at_seed is = absurd cc
-
-named_word : (word : List ℕ) (option : OptionName) → option_named word ≡ Some option
-    → word ≡ option_word option
-named_word word option is = named_by word option _ _ _ _ refl refl refl refl is
+named_word : (word : List ℕ) (option : OptionName) → option_named word ≡ Some option → word ≡ option_word option
+named_word word option is =
+    (bytes_eq-Decides word (option_word option)).0
+    (found_passes (λ option. bytes_eq word (option_word option)) all_options option is)
 
 -- a word and its first `=`
 no_equals : (word : List ℕ) → behind_equals word ≡ None → before_first is_equals word ≡ word
@@ -280,12 +264,26 @@ joined_read Seed text =
       longer_than 6 (codes "--seed=") text
           (omega arith),
     )
+joined_read Policy text =
+    simp (
+      longer_than 1 (codes "--policy=") text (omega arith),
+      longer_than 8 (codes "--policy=") text
+          (omega arith),
+    )
+joined_read Calm text =
+    simp (
+      longer_than 1 (codes "--calm=") text (omega arith),
+      longer_than 6 (codes "--calm=") text
+          (omega arith),
+    )
 
 option_alone : (option : OptionName) → word_read Options (option_word option) ≡ Some (None, Value option)
 option_alone Harts = refl
 option_alone Frames = refl
 option_alone Steps = refl
 option_alone Seed = refl
+option_alone Policy = refl
+option_alone Calm = refl
 
 value_read : (option : OptionName) (text : List ℕ) → begins_with_dash text ≡ false
     → word_read (Value option) text ≡ Some (Some (Given option text), Options)
@@ -349,25 +347,17 @@ line_read found words (inr ended) =
     ∙ ap (λ o. o >>= (λ more. Some (ended.before ++ more))) behind ∙ ap Some (sym ended.all)
 
 -- no command has more than two names
-too_many : (word : List ℕ) (names : List (List ℕ)) (h f s d : Option (Option (List ℕ))) → 2 < length names
-    → ((h >>= (λ harts. f
-    >>= (λ frames. s >>= (λ steps. d >>= (λ seed. Some
-    (record { names = names; harts = harts; frames = frames; steps = steps; seed = seed }))))))
-    >>= asked_by word) ≡ None
-too_many word names None f s d many = refl
-too_many word names (Some harts) None s d many = refl
-too_many word names (Some harts) (Some frames) None d many = refl
-too_many word names (Some harts) (Some frames) (Some steps) None many = refl
-too_many word names (Some harts) (Some frames) (Some steps) (Some seed) many =
-    many_names word (record { names = names; harts = harts; frames = frames; steps = steps; seed = seed }) many
+too_many : (word : List ℕ) (given : Arguments) (b : Bool) → 2 < length given.names
+    → (cond b (Some given) None >>= asked_by word) ≡ None
+too_many word given true many = many_names word given many
+too_many word given false many = refl
 
 few_asked : (found : List Item) (word : List ℕ) (many : Bool) → ltb 2 (length (names_in found)) ≡ many
     → (cond many None (arguments_in found) >>= asked_by word) ≡ (arguments_in found >>= asked_by word)
 few_asked found word false at = refl
 few_asked found word true at =
-    sym (too_many word (names_in found) (at_most_one (values_in Harts found))
-    (at_most_one (values_in Frames found)) (at_most_one (values_in Steps found))
-    (at_most_one (values_in Seed found))
+    sym (too_many word (record { names = names_in found; values = λ option. slice_get (values_in option found) 0 })
+    (list_all (λ option. nat_le (length (values_in option found)) 1) all_options)
     (ltb-true 2 (length (names_in found)) at))
 
 -- the command of the words behind a command's word

@@ -2,13 +2,13 @@
 -- has such names, and where each option that is given is one of its own, with a number in its range.
 use Rattle.std.proofs.Common.{◌≡◌, ◌∙◌, ℕ, ◌<◌, ◌≤◌, Bool, cond, true, false, List, [], ◌∷◌, ◌++◌, length, Option, Some}
 use Rattle.std.proofs.Common.{None, refl, sym, ap, arith, option_map, zero, suc}
-use Rattle.mach_types.specs.declared.limits.Limits.{Limits}
-use Rattle.std.specs.Prelude.{◌&&◌, not}
+use Rattle.std.specs.Prelude.{◌&&◌}
 use Rattle.std.specs.Option.{is_none, is_some}
 use Rattle.std.proofs.lemmas.Bool.{and_parts}
 use Rattle.guest_names.specs.declared.names.Name.{Name as GuestName}
 use Rattle.guest_names.specs.Guests.{name_of}
 use Rattle.command_words.specs.declared.commands.Guest.{Guest as AskedGuest}
+use Rattle.command_words.specs.declared.commands.Settings.{Settings}
 use Rattle.step_log.specs.Script.{◌>>=◌}
 use Rattle.command_words.specs.declared.table.CommandKind.{CommandKind}
 use Rattle.command_words.specs.declared.table.CommandKind.TheVariants.{Runs, Makes, Tries}
@@ -17,23 +17,14 @@ use Rattle.command_words.specs.declared.table.SourceKind.TheVariants.{ByRule, By
 use Rattle.command_words.specs.declared.takes.NameKind.{NameKind}
 use Rattle.command_words.specs.declared.takes.NameKind.TheVariants.{Program, Script, Guest, Size}
 use Rattle.command_words.specs.Commands.{Command, Source, Rule, Workers, Drawn}
-use Rattle.command_words.specs.Grammar.{Arguments, asked_by, asked_for, command_for, files_for, guest_for, guest_named}
-use Rattle.command_words.specs.Grammar.{number_for, one_name, two_names}
-use Rattle.command_words.specs.Options.{OptionName, Harts, Frames, Steps, Seed, chosen, number_of, range_of}
+use Rattle.command_words.specs.Grammar.{Arguments, all_suit, asked_by, asked_for, command_for, files_for, guest_for}
+use Rattle.command_words.specs.Grammar.{guest_named, one_name, settings_of, suits, two_names}
+use Rattle.command_words.specs.Options.{OptionName, number_of}
 use Rattle.command_words.specs.Table.{command_kind}
-use Rattle.command_words.specs.Takes.{Takes, has, takes_by, takes_kind, takes_of}
+use Rattle.command_words.specs.Takes.{Takes, takes_by, takes_kind, takes_of}
 use Rattle.command_words.specs.WordFaults.{kind_at}
 use Rattle.command_words.proofs.ClapTurns.{and_false, value_of}
-
--- the value of an option, if it is given, suits a command
-abbrev pub suits : Takes → OptionName → Option (List ℕ) → Bool
-suits takes option None = true
-suits takes option (Some text) = has takes.options option && is_some (chosen (range_of option) (Some text))
-
-abbrev pub all_suit : Takes → Arguments → Bool
-all_suit takes given =
-    suits takes Harts given.harts && suits takes Frames given.frames && suits takes Steps given.steps
-    && suits takes Seed given.seed
+use Rattle.command_words.proofs.EachOption.{all_of, each_of}
 
 -- with a truth
 and_true : (b : Bool) → (b && true) ≡ b
@@ -118,29 +109,7 @@ kind_within (first ∷ kinds) (suc place) kind is = let rest = kind_within kinds
 
 -- the arguments are a command's that takes this
 abbrev pub fits : Takes → Arguments → Bool
-fits takes given = names_fit takes.names given.names && all_suit takes given
-
--- it is told by the number that the option comes to
-suits_is : (kind : CommandKind) (option : OptionName) (value : Option (List ℕ))
-    → is_some (number_for kind option value) ≡ suits (takes_kind kind) option value
-suits_is kind option None = refl
-suits_is kind option (Some text) = by_has (has (takes_kind kind).options option)
-  where
-    by_has : (b : Bool) → is_some (cond (not b) None (chosen (range_of option) (Some text)))
-        ≡ (b && is_some (chosen (range_of option) (Some text)))
-    by_has true = refl
-    by_has false = refl
-
--- a command is made of numbers and names exactly where each is there
-made_of : {A : Type 0} (h f s d : Option ℕ) (make : ℕ → ℕ → ℕ → ℕ → Option A) (b : Bool)
-    → ((harts frames steps seed : ℕ) → is_some (make harts frames steps seed) ≡ b)
-    → is_some (h >>= (λ harts. f >>= (λ frames. s >>= (λ steps. d >>= (λ seed. make harts frames steps seed)))))
-    ≡ (b && (is_some h && is_some f && is_some s && is_some d))
-made_of None f s d make b named = sym (and_false b)
-made_of (Some x) None s d make b named = sym (and_false b)
-made_of (Some x) (Some y) None d make b named = sym (and_false b)
-made_of (Some x) (Some y) (Some z) None make b named = sym (and_false b)
-made_of (Some x) (Some y) (Some z) (Some w) make b named = named x y z w ∙ sym (and_true b)
+fits takes given = names_fit takes.names given.names && all_suit takes given.values
 
 -- names give files exactly where there are so many
 one_is : (source : Source) (names : List (List ℕ)) → is_some (one_name source names) ≡ names_fit (Program ∷ []) names
@@ -154,12 +123,12 @@ two_are (a ∷ []) = refl
 two_are (a ∷ b ∷ []) = refl
 two_are (a ∷ b ∷ c ∷ more) = refl
 
-files_are : (source : SourceKind) (names : List (List ℕ)) (seed : ℕ)
-    → is_some (files_for source names seed) ≡ names_fit (takes_by source).names names
-files_are ByRule names seed = one_is Rule names
-files_are ByScript names seed = two_are names
-files_are ByWorkers names seed = one_is (Workers seed) names
-files_are ByDraws names seed = one_is (Drawn seed) names
+files_are : (source : SourceKind) (names : List (List ℕ)) (settings : Settings)
+    → is_some (files_for source names settings) ≡ names_fit (takes_by source).names names
+files_are ByRule names settings = one_is Rule names
+files_are ByScript names settings = two_are names
+files_are ByWorkers names settings = one_is (Workers settings.seed) names
+files_are ByDraws names settings = one_is (Drawn settings.seed settings.draws) names
 
 -- and a guest exactly where the first is one's and the second is a number
 abbrev guest_of : GuestName → ℕ → AskedGuest
@@ -186,25 +155,24 @@ mapped : {A B : Type 0} (f : A → B) (o : Option A) → is_some (option_map f o
 mapped f None = refl
 mapped f (Some x) = refl
 
-names_are : (kind : CommandKind) (limits : Limits) (seed : ℕ) (names : List (List ℕ))
-    → is_some (command_for kind limits seed names) ≡ names_fit (takes_kind kind).names names
-names_are (Runs source shown) limits seed names =
-    mapped _ (files_for source names seed) ∙ files_are source names seed
-names_are Makes limits seed names = mapped _ (guest_for names) ∙ guests_are names
-names_are Tries limits seed names = mapped _ (guest_for names) ∙ guests_are names
+names_are : (kind : CommandKind) (settings : Settings) (names : List (List ℕ))
+    → is_some (command_for kind settings names) ≡ names_fit (takes_kind kind).names names
+names_are (Runs source shown) settings names =
+    mapped _ (files_for source names settings) ∙ files_are source names settings
+names_are Makes settings names = mapped _ (guest_for names) ∙ guests_are names
+names_are Tries settings names = mapped _ (guest_for names) ∙ guests_are names
 
 -- so a command of a kind is asked for exactly where the arguments are its own
 kind_fits : (kind : CommandKind) (given : Arguments) → is_some (asked_for kind given) ≡ fits (takes_kind kind) given
-kind_fits kind given =
-    let named = names_fit (takes_kind kind).names given.names in
-    made_of (number_for kind Harts given.harts) (number_for kind Frames given.frames)
-    (number_for kind Steps given.steps) (number_for kind Seed given.seed)
-    (λ harts frames steps seed.
-    command_for kind (record { harts = harts; frames = frames; steps = steps }) seed given.names)
-    named (λ harts frames steps seed.
-    names_are kind (record { harts = harts; frames = frames; steps = steps }) seed given.names)
-    ∙ (λ i. named && (suits_is kind Harts given.harts i && suits_is kind Frames given.frames i
-    && suits_is kind Steps given.steps i && suits_is kind Seed given.seed i))
+kind_fits kind given = by_suit (all_suit (takes_kind kind) given.values)
+  where
+    by_suit : (b : Bool)
+        → is_some (cond b (command_for kind (settings_of given.values) given.names) None)
+        ≡ (names_fit (takes_kind kind).names given.names && b)
+    by_suit true =
+        names_are kind (settings_of given.values) given.names
+        ∙ sym (and_true (names_fit (takes_kind kind).names given.names))
+    by_suit false = sym (and_false (names_fit (takes_kind kind).names given.names))
 
 -- what the command of a word asks for
 pub asked_fits : (word : List ℕ) (takes : Takes) (given : Arguments) → takes_of word ≡ Some takes
@@ -266,7 +234,7 @@ pub many_names : (word : List ℕ) (given : Arguments) → 2 < length given.name
 many_names word given many = nothing_asked word given (λ kind. by_test kind (names_fit (takes_kind kind).names given.names) refl)
   where
     by_test : (kind : CommandKind) (b : Bool) → names_fit (takes_kind kind).names given.names ≡ b
-        → (b && all_suit (takes_kind kind) given) ≡ false
+        → (b && all_suit (takes_kind kind) given.values) ≡ false
     by_test kind false is = refl
     by_test kind true is =
         let most = two_names_most kind in
@@ -279,21 +247,9 @@ pub record Sound (takes : Takes) (given : Arguments) : Type 0 where
   pub suit : (option : OptionName) → suits takes option (value_of option given) ≡ true
 
 -- where all options suit, each does
-parts_suit : (takes : Takes) (given : Arguments) → all_suit takes given ≡ true
+parts_suit : (takes : Takes) (given : Arguments) → all_suit takes given.values ≡ true
     → (option : OptionName) → suits takes option (value_of option given) ≡ true
-parts_suit takes given all =
-    let fourth = and_parts _ (suits takes Seed given.seed) all in
-    let third = and_parts _ (suits takes Steps given.steps) fourth.0 in
-    let second = and_parts (suits takes Harts given.harts) (suits takes Frames given.frames) third.0 in
-    by_option second.0 second.1 third.1 fourth.1
-  where
-    by_option : suits takes Harts given.harts ≡ true → suits takes Frames given.frames ≡ true
-        → suits takes Steps given.steps ≡ true → suits takes Seed given.seed ≡ true
-        → (option : OptionName) → suits takes option (value_of option given) ≡ true
-    by_option h f s d Harts = h
-    by_option h f s d Frames = f
-    by_option h f s d Steps = s
-    by_option h f s d Seed = d
+parts_suit takes given all = each_of (λ option. suits takes option (given.values option)) all
 
 -- where one doesn't suit, nothing is asked for
 pub unsuited : (word : List ℕ) (given : Arguments) (option : OptionName)
@@ -304,29 +260,20 @@ unsuited word given option bad = nothing_asked word given (λ kind. by_test kind
     by_test : (kind : CommandKind) (b : Bool) → fits (takes_kind kind) given ≡ b → b ≡ false
     by_test kind false is = refl
     by_test kind true is =
-        let all = (and_parts (names_fit (takes_kind kind).names given.names) (all_suit (takes_kind kind) given) is).1 in
+        let all = (and_parts (names_fit (takes_kind kind).names given.names) (all_suit (takes_kind kind) given.values) is).1 in
         absurd (cc (sym (parts_suit (takes_kind kind) given all option) ∙ bad kind))
-
--- where each suits, all do
-all_of : (takes : Takes) (given : Arguments)
-    → ((option : OptionName) → suits takes option (value_of option given) ≡ true) → all_suit takes given ≡ true
-all_of takes given suit =
-    let h : suits takes Harts given.harts ≡ true = suit Harts in
-    let f : suits takes Frames given.frames ≡ true = suit Frames in
-    let s : suits takes Steps given.steps ≡ true = suit Steps in
-    let d : suits takes Seed given.seed ≡ true = suit Seed in
-    rw (h, f, s, d) refl
 
 -- the arguments of a command are sound
 pub fitting_sound : (takes : Takes) (given : Arguments) → fits takes given ≡ true → Sound takes given
 fitting_sound takes given is =
-    let both = and_parts (names_fit takes.names given.names) (all_suit takes given) is in
+    let both = and_parts (names_fit takes.names given.names) (all_suit takes given.values) is in
     record { begin = fit_begins takes.names given.names both.0; suit = parts_suit takes given both.1 }
 
 -- sound arguments are a command's where no name is missing
 pub sound_fits : (takes : Takes) (given : Arguments) → Sound takes given
     → fits takes given ≡ is_none (kind_at takes.names (length given.names))
 sound_fits takes given sound =
-    let all = all_of takes given sound.suit in
+    let all : all_suit takes given.values ≡ true =
+    all_of (λ option. suits takes option (given.values option)) sound.suit in
     ap (λ b. names_fit takes.names given.names && b) all ∙ and_true (names_fit takes.names given.names)
     ∙ begin_fit takes.names given.names sound.begin

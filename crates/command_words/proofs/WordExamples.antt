@@ -3,6 +3,9 @@ use Rattle.std.proofs.Common.{◌≡◌, ℕ, ◌-◌, ◌^◌, List, [], ◌∷
 use Rattle.mach_types.specs.declared.limits.Limits.{Limits}
 use Rattle.command_words.specs.declared.table.Shown.{Shown}
 use Rattle.command_words.specs.declared.table.Shown.TheVariants.{Output, Summary, Place, Gathered}
+use Rattle.draw_policies.specs.declared.policies.Policies.{Policies}
+use Rattle.draw_policies.specs.declared.policies.Policies.TheVariants.{All, Only}
+use Rattle.draw_policies.specs.declared.policies.Policy.TheVariants as policy
 use Rattle.guest_names.specs.declared.names.Name.TheVariants.{Counter, Migrate}
 use Rattle.command_words.specs.Commands.{Command, Runs, Makes, Tries, Source, Rule, Script, Workers, Drawn}
 use Rattle.command_words.specs.Options.{number_of}
@@ -34,8 +37,9 @@ gather program script limits = asked program (Script script) Gathered limits
 abbrev run : List ℕ → Limits → ℕ → Command
 run program limits seed = asked program (Workers seed) Output limits
 
-abbrev draw : List ℕ → Limits → ℕ → Command
-draw program limits seed = asked program (Drawn seed) Output limits
+abbrev draw : List ℕ → Limits → ℕ → Policies → Option ℕ → Command
+draw program limits seed policies calm =
+    asked program (Drawn seed (record { policies = policies; calm = calm })) Output limits
 
 abbrev three_harts : Option Command
 three_harts = Some (play (codes "F") (codes "S") (limits 3 4096 200000))
@@ -283,15 +287,43 @@ unfolding command_of arguments_of
 run_two_names = refl
 
 -- so has `draw F`
-draw_defaults : command_of (codes "draw" ∷ codes "F" ∷ []) ≡ Some (draw (codes "F") (limits 2 4096 200000) 1)
+draw_defaults : command_of (codes "draw" ∷ codes "F" ∷ [])
+    ≡ Some (draw (codes "F") (limits 2 4096 200000) 1 All None)
 unfolding command_of arguments_of
 draw_defaults = refl
 
 draw_options : command_of
     (codes "draw" ∷ codes "--harts" ∷ codes "3" ∷ codes "F" ∷ codes "--frames=128" ∷ codes "--steps=5"
-    ∷ codes "--seed" ∷ codes "7" ∷ []) ≡ Some (draw (codes "F") (limits 3 128 5) 7)
+    ∷ codes "--seed" ∷ codes "7" ∷ []) ≡ Some (draw (codes "F") (limits 3 128 5) 7 All None)
 unfolding command_of arguments_of
 draw_options = refl
+
+draw_policy : command_of (codes "draw" ∷ codes "--policy=pos" ∷ codes "F" ∷ codes "--calm" ∷ codes "0" ∷ [])
+    ≡ Some (draw (codes "F") (limits 2 4096 200000) 1 (Only policy.Pos) (Some 0))
+unfolding command_of arguments_of
+draw_policy = refl
+
+draw_all : command_of (codes "draw" ∷ codes "F" ∷ codes "--policy" ∷ codes "all" ∷ [])
+    ≡ Some (draw (codes "F") (limits 2 4096 200000) 1 All None)
+unfolding command_of arguments_of
+draw_all = refl
+
+-- the policy of the fair end has no word here, and words are in lower case
+draw_fair : command_of (codes "draw" ∷ codes "F" ∷ codes "--policy=fair" ∷ []) ≡ None
+unfolding command_of arguments_of
+draw_fair = refl
+
+draw_upper_case : command_of (codes "draw" ∷ codes "F" ∷ codes "--policy=Pos" ∷ []) ≡ None
+unfolding command_of arguments_of
+draw_upper_case = refl
+
+draw_late : command_of (codes "draw" ∷ codes "F" ∷ codes "--calm=1000001" ∷ []) ≡ None
+unfolding command_of arguments_of
+draw_late = refl
+
+run_by_policy : command_of (codes "run" ∷ codes "F" ∷ codes "--policy=all" ∷ []) ≡ None
+unfolding command_of arguments_of
+run_by_policy = refl
 
 draw_seed_twice : command_of (codes "draw" ∷ codes "--seed=1" ∷ codes "--seed=1" ∷ codes "F" ∷ []) ≡ None
 unfolding command_of arguments_of

@@ -3,17 +3,18 @@
 use Rattle.std.specs.Prelude.{ℕ, ◌≡◌, Bool, true, false, List, Option, Some, None}
 use Rattle.mach_types.specs.declared.limits.Limits.{Limits}
 use Rattle.mach_types.specs.Limits.{InRange}
+use Rattle.command_words.specs.declared.commands.Draws.{Draws}
 use Rattle.command_words.specs.declared.commands.Guest.{Guest}
 use Rattle.command_words.specs.declared.commands.Trial.{Trial}
 use Rattle.command_words.specs.declared.table.Shown.{Shown}
 
 -- how the log of the run comes about: on one hart by the fixed rule; by the events of a script; by workers, one for
--- each hart, that choose by a seed; or by the events that a seed draws
+-- each hart, that choose by a seed; or by the events that a seed draws, by these policies
 pub data Source : Type 0 where
   Rule : Source
   Script : (name : List ℕ) → Source
   Workers : (seed : ℕ) → Source
-  Drawn : (seed : ℕ) → Source
+  Drawn : (seed : ℕ) (draws : Draws) → Source
 
 pub record Run : Type 0 where
   pub program : List ℕ
@@ -36,7 +37,7 @@ abbrev pub is_by_workers : Source → Bool
 is_by_workers Rule = false
 is_by_workers (Script name) = false
 is_by_workers (Workers seed) = true
-is_by_workers (Drawn seed) = false
+is_by_workers (Drawn seed draws) = false
 
 -- whether a command needs workers
 abbrev pub needs_workers : Command → Bool
@@ -60,7 +61,7 @@ abbrev pub HasHartsOf : Source → Limits → Type 0
 HasHartsOf Rule limits = limits.harts ≡ 1
 HasHartsOf (Script name) limits = Unit {0}
 HasHartsOf (Workers seed) limits = Unit {0}
-HasHartsOf (Drawn seed) limits = Unit {0}
+HasHartsOf (Drawn seed draws) limits = Unit {0}
 
 abbrev pub HasItsHarts : Command → Type 0
 HasItsHarts (Runs run) = HasHartsOf run.source run.limits

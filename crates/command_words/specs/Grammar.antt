@@ -5,14 +5,18 @@
 --     item ::= name  |  option value  |  option=value
 --
 -- Names and options stand in any order. Behind `--` each word is a name, a further `--` too.
-use Rattle.std.specs.Prelude.{ℕ, ◌≡◌, Bool, ◌&&◌, not, false, List, [], ◌∷◌, ◌++◌, ◌⊎◌, length, map, Option, Some}
-use Rattle.std.specs.Prelude.{None, if◌then◌else◌, nat_lt, nat_eq, codes}
-use Rattle.std.specs.List.{starts_with}
-use Rattle.std.specs.Option.{is_some, option_map}
+use Rattle.std.specs.Prelude.{ℕ, ◌≡◌, ◌-◌, ◌^◌, Bool, ◌&&◌, true, false, List, [], ◌∷◌, ◌++◌, ◌⊎◌, length, map, Option, Some}
+use Rattle.std.specs.Prelude.{None, if◌then◌else◌, nat_le, nat_lt, nat_eq, codes, slice_get}
+use Rattle.std.specs.List.{list_all, starts_with}
+use Rattle.std.specs.Option.{option_map, unwrap_or}
 use Rattle.mach_types.specs.declared.limits.Limits.{Limits}
+use Rattle.draw_policies.specs.Policies.{policies_of_word}
+use Rattle.draw_policies.specs.declared.policies.Policies.{Policies}
+use Rattle.draw_policies.specs.declared.policies.Policies.TheVariants.{All}
 use Rattle.guest_names.specs.Guests.{name_of}
 use Rattle.step_log.specs.Script.{◌>>=◌}
 use Rattle.command_words.specs.declared.commands.Guest.{Guest}
+use Rattle.command_words.specs.declared.commands.Settings.{Settings}
 use Rattle.command_words.specs.declared.commands.Trial.{Trial}
 use Rattle.command_words.specs.declared.table.CommandKind.{CommandKind}
 use Rattle.command_words.specs.declared.table.CommandKind.TheVariants as kind
@@ -20,10 +24,10 @@ use Rattle.command_words.specs.declared.table.Shown.{Shown}
 use Rattle.command_words.specs.declared.table.SourceKind.{SourceKind}
 use Rattle.command_words.specs.declared.table.SourceKind.TheVariants.{ByRule, ByScript, ByWorkers, ByDraws}
 use Rattle.command_words.specs.Commands.{Command, Run, Runs, Makes, Tries, Source, Rule, Script, Workers, Drawn}
-use Rattle.command_words.specs.Options.{OptionName, Harts, Frames, Steps, Seed, option_word, same_option}
-use Rattle.command_words.specs.Options.{chosen, number_of, range_of}
+use Rattle.command_words.specs.Options.{OptionName, Harts, Frames, Steps, Seed, Policy, Calm, Range, all_options, is_value}
+use Rattle.command_words.specs.Options.{number_in, number_of, option_word, range_of, same_option, values_of}
 use Rattle.command_words.specs.Table.{command_kind}
-use Rattle.command_words.specs.Takes.{has, takes_kind}
+use Rattle.command_words.specs.Takes.{Takes, has, takes_kind}
 
 -- what a command is given behind its word: a name, or an option with the text of its value
 pub data Item : Type 0 where
@@ -82,31 +86,49 @@ values_in option (Given other text ∷ more) =
 -- what a command is given: its names, and the value of each option that is given
 pub record Arguments : Type 0 where
   pub names : List (List ℕ)
-  pub harts : Option (List ℕ)
-  pub frames : Option (List ℕ)
-  pub steps : Option (List ℕ)
-  pub seed : Option (List ℕ)
-
--- the value of an option that is given at most once
-abbrev pub at_most_one : List (List ℕ) → Option (Option (List ℕ))
-at_most_one [] = Some None
-at_most_one (text ∷ []) = Some (Some text)
-at_most_one (text ∷ another ∷ more) = None
+  pub values : OptionName → Option (List ℕ)
 
 -- the arguments that items make: each option is given at most once
 abbrev pub arguments_in : List Item → Option Arguments
-arguments_in items = do
-  harts ← at_most_one (values_in Harts items)
-  frames ← at_most_one (values_in Frames items)
-  steps ← at_most_one (values_in Steps items)
-  seed ← at_most_one (values_in Seed items)
-  Some (record { names = names_in items; harts = harts; frames = frames; steps = steps; seed = seed })
+arguments_in items =
+    if list_all (λ option. nat_le (length (values_in option items)) 1) all_options
+    then Some (record { names = names_in items; values = λ option. slice_get (values_in option items) 0 })
+    else None
 
--- the number that an option of such a command comes to: none where it is given and the command hasn't the option,
--- and where it isn't one that the option takes
-abbrev pub number_for : CommandKind → OptionName → Option (List ℕ) → Option ℕ
-number_for kind option text =
-    if is_some text && not (has (takes_kind kind).options option) then None else chosen (range_of option) text
+-- the value of an option suits a command where it is given: the option is one of the command's, and takes the value
+abbrev pub suits : Takes → OptionName → Option (List ℕ) → Bool
+suits takes option None = true
+suits takes option (Some text) = has takes.options option && is_value (values_of option) text
+
+abbrev pub all_suit : Takes → (OptionName → Option (List ℕ)) → Bool
+all_suit takes values = list_all (λ option. suits takes option (values option)) all_options
+
+-- the number that an option comes to: that of its value, or the default where none that it takes is given
+abbrev pub number_or : ℕ → Range → Option (List ℕ) → ℕ
+number_or default range value = unwrap_or (value >>= number_in range) default
+
+-- which policies draw: those of the name that is given, or all in turn
+abbrev pub policies_or_all : Option (List ℕ) → Policies
+policies_or_all value = unwrap_or (value >>= policies_of_word) All
+
+-- from how many events on a run goes on fairly, where a number that the option takes is given
+abbrev pub calm_in : Option (List ℕ) → Option ℕ
+calm_in value = value >>= number_in (range_of 0 1000000)
+
+-- what the options come to
+abbrev pub settings_of : (OptionName → Option (List ℕ)) → Settings
+settings_of values = record {
+  limits = record {
+    harts = number_or 2 (range_of 1 8) (values Harts);
+    frames = number_or 4096 (range_of 128 16384) (values Frames);
+    steps = number_or 200000 (range_of 1 1000000) (values Steps);
+  };
+  seed = number_or 1 (range_of 0 (2 ^ 64 - 1)) (values Seed);
+  draws = record {
+    policies = policies_or_all (values Policy);
+    calm = calm_in (values Calm);
+  };
+}
 
 -- how many harts there are: one by the fixed rule
 abbrev pub harts_for : SourceKind → ℕ → ℕ
@@ -125,12 +147,12 @@ abbrev pub two_names : List (List ℕ) → Option (List ℕ × Source)
 two_names (program ∷ script ∷ []) = Some (program, Script script)
 two_names _ = None
 
--- the program that names give, and how the log comes about, with this seed
-abbrev pub files_for : SourceKind → List (List ℕ) → ℕ → Option (List ℕ × Source)
-files_for ByRule names seed = one_name Rule names
-files_for ByScript names seed = two_names names
-files_for ByWorkers names seed = one_name (Workers seed) names
-files_for ByDraws names seed = one_name (Drawn seed) names
+-- the program that names give, and how the log comes about with these settings
+abbrev pub files_for : SourceKind → List (List ℕ) → Settings → Option (List ℕ × Source)
+files_for ByRule names settings = one_name Rule names
+files_for ByScript names settings = two_names names
+files_for ByWorkers names settings = one_name (Workers settings.seed) names
+files_for ByDraws names settings = one_name (Drawn settings.seed settings.draws) names
 
 -- the run of these files under these limits
 abbrev pub run_for : SourceKind → Shown → Limits → List ℕ × Source → Run
@@ -154,25 +176,22 @@ abbrev pub guest_for : List (List ℕ) → Option Guest
 guest_for (word ∷ text ∷ []) = guest_named word text
 guest_for _ = None
 
--- the trial of this guest under these limits, with this seed
-abbrev pub trial_of : Limits → ℕ → Guest → Trial
-trial_of limits seed guest = record { guest = guest; harts = limits.harts; steps = limits.steps; seed = seed }
+-- the trial of this guest with these settings
+abbrev pub trial_of : Settings → Guest → Trial
+trial_of settings guest =
+    record { guest = guest; harts = settings.limits.harts; steps = settings.limits.steps; seed = settings.seed }
 
--- the command of this kind and these limits, this seed and these names
-abbrev pub command_for : CommandKind → Limits → ℕ → List (List ℕ) → Option Command
-command_for (kind.Runs source shown) limits seed names =
-    option_map (λ files. Runs (run_for source shown limits files)) (files_for source names seed)
-command_for kind.Makes limits seed names = option_map Makes (guest_for names)
-command_for kind.Tries limits seed names = option_map (λ guest. Tries (trial_of limits seed guest)) (guest_for names)
+-- the command of this kind with these settings and these names
+abbrev pub command_for : CommandKind → Settings → List (List ℕ) → Option Command
+command_for (kind.Runs source shown) settings names =
+    option_map (λ files. Runs (run_for source shown settings.limits files)) (files_for source names settings)
+command_for kind.Makes settings names = option_map Makes (guest_for names)
+command_for kind.Tries settings names = option_map (λ guest. Tries (trial_of settings guest)) (guest_for names)
 
--- what such a command asks for with these arguments
+-- what such a command asks for with these arguments: each value that is given suits it
 abbrev pub asked_for : CommandKind → Arguments → Option Command
-asked_for kind given = do
-  harts ← number_for kind Harts given.harts
-  frames ← number_for kind Frames given.frames
-  steps ← number_for kind Steps given.steps
-  seed ← number_for kind Seed given.seed
-  command_for kind (record { harts = harts; frames = frames; steps = steps }) seed given.names
+asked_for kind given =
+    if all_suit (takes_kind kind) given.values then command_for kind (settings_of given.values) given.names else None
 
 -- what a command's word asks for with them
 abbrev pub asked_by : List ℕ → Arguments → Option Command

@@ -1,5 +1,5 @@
 -- What the code keeps of the words, in the grammar's terms.
-use Rattle.std.specs.Prelude.{ℕ, List, [], ◌∷◌}
+use Rattle.std.specs.Prelude.{ℕ, List, [], ◌∷◌, Option}
 use Rattle.std.specs.Option.{option_copied, option_to_list}
 use Rattle.command_words.specs.declared.arguments.Arguments.{Arguments}
 use Rattle.command_words.specs.declared.arguments.FileNames.{FileNames}
@@ -12,6 +12,8 @@ use Rattle.command_words.specs.declared.commands.Source.TheVariants as code
 use Rattle.command_words.specs.declared.options.Numbers.{Numbers}
 use Rattle.command_words.specs.declared.options.OptionName.{OptionName}
 use Rattle.command_words.specs.declared.options.OptionName.TheVariants as option
+use Rattle.command_words.specs.declared.options.Values.{Values}
+use Rattle.command_words.specs.declared.options.Values.TheVariants as values
 use Rattle.command_words.specs.declared.reader.Reader.{Reader}
 use Rattle.command_words.specs.declared.reader.Reading.{Reading}
 use Rattle.command_words.specs.declared.reader.Reading.TheVariants as reading
@@ -20,7 +22,8 @@ use Rattle.command_words.specs.declared.takes.Takes.{Takes}
 use Rattle.command_words.specs.Commands.{Command as Asked, Run as AskedRun, Runs, Makes, Tries}
 use Rattle.command_words.specs.Commands.{Source as FromSource, Rule, Script, Workers, Drawn}
 use Rattle.command_words.specs.Grammar.{Arguments as Stated}
-use Rattle.command_words.specs.Options.{OptionName as Named, Harts, Frames, Steps, Seed, Range}
+use Rattle.command_words.specs.Options.{OptionName as Named, Harts, Frames, Steps, Seed, Policy, Calm, Range}
+use Rattle.command_words.specs.Options.{Values as ItsValues, Numbers as InRange, PolicyNames}
 use Rattle.command_words.specs.Takes.{OptionSet as SomeOptions, Takes as Taken}
 use Rattle.command_words.specs.WordFaults.{SoFar}
 use Rattle.command_words.specs.Words.{Reading as Read, Options, Value, Names}
@@ -31,10 +34,17 @@ named option.Harts = Harts
 named option.Frames = Frames
 named option.Steps = Steps
 named option.Seed = Seed
+named option.Policy = Policy
+named option.Calm = Calm
 
 -- the numbers that an option takes
 abbrev pub range : Numbers → Range
-range numbers = record { least = numbers.least; most = numbers.most; default = numbers.default }
+range numbers = record { least = numbers.least; most = numbers.most }
+
+-- the values that it takes
+abbrev pub values_kept : Values → ItsValues
+values_kept (values.Numbers numbers) = InRange (range numbers)
+values_kept values.PolicyNames = PolicyNames
 
 -- the names, as texts
 abbrev pub names_kept : FileNames → List (List ℕ)
@@ -42,22 +52,25 @@ names_kept Zero = []
 names_kept (One first) = first.now ∷ []
 names_kept (Two first second) = first.now ∷ second.now ∷ []
 
+-- the text of an option's value, if it is given
+abbrev pub value_kept : Arguments → Named → Option (List ℕ)
+value_kept kept Harts = option_copied kept.harts
+value_kept kept Frames = option_copied kept.frames
+value_kept kept Steps = option_copied kept.steps
+value_kept kept Seed = option_copied kept.seed
+value_kept kept Policy = option_copied kept.policy
+value_kept kept Calm = option_copied kept.calm
+
 -- the arguments, with the texts of their words
 abbrev pub stated : Arguments → Stated
-stated kept = record {
-  names = names_kept kept.names;
-  harts = option_copied kept.harts;
-  frames = option_copied kept.frames;
-  steps = option_copied kept.steps;
-  seed = option_copied kept.seed;
-}
+stated kept = record { names = names_kept kept.names; values = value_kept kept }
 
 -- how the log comes about, with the text of the script's name
 abbrev pub source_said : Source → FromSource
 source_said code.Rule = Rule
 source_said (code.Script name) = Script name.now
 source_said (code.Workers seed) = Workers seed
-source_said (code.Drawn seed) = Drawn seed
+source_said (code.Drawn seed draws) = Drawn seed draws
 
 -- the run, with the texts of its names
 abbrev pub run_said : Run → AskedRun
@@ -76,8 +89,14 @@ said (command.Tries trial) = Tries trial
 
 -- some of the options
 abbrev pub options_kept : OptionSet → SomeOptions
-options_kept options =
-    record { harts = options.harts; frames = options.frames; steps = options.steps; seed = options.seed }
+options_kept options = record {
+  harts = options.harts;
+  frames = options.frames;
+  steps = options.steps;
+  seed = options.seed;
+  policy = options.policy;
+  calm = options.calm;
+}
 
 -- what a command takes
 abbrev pub takes_kept : Takes → Taken

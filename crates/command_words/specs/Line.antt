@@ -1,9 +1,10 @@
--- What stands behind a command's word, as `clap` is told of it (own): four options that take a value each, and
+-- What stands behind a command's word, as `clap` is told of it (own): the options, which take a value each, and
 -- two names.
-use Rattle.std.specs.Prelude.{ℕ, ◌≡◌, List, [], ◌∷◌, Option, Some, None, codes, true}
+use Rattle.std.specs.Prelude.{ℕ, ◌≡◌, List, [], ◌∷◌, Option, Some, None, codes, fold, true}
 use Rattle.std.specs.Option.{option_to_list}
 use Rattle.clap.specs.Words.{App, Row, Rule, first_of, new_app, new_rule, with_rule}
 use Rattle.command_words.specs.Grammar.{Arguments, asked_by}
+use Rattle.command_words.specs.Options.{all_options, long_name}
 use Rattle.command_words.specs.Words.{arguments_of}
 use Rattle.step_log.specs.Script.{◌>>=◌}
 
@@ -19,9 +20,7 @@ bare = record (new_app (codes "rseq_run")) {
 
 -- the command with its options, and with its names too
 abbrev pub with_options : App
-with_options =
-    with_rule (with_rule (with_rule (with_rule bare (option_rule (codes "harts")))
-    (option_rule (codes "frames"))) (option_rule (codes "steps"))) (option_rule (codes "seed"))
+with_options = fold (λ app option. with_rule app (option_rule (long_name option))) bare all_options
 
 abbrev pub line : App
 line = with_rule (with_rule with_options (new_rule (codes "program"))) (new_rule (codes "script"))
@@ -35,10 +34,7 @@ names_found (Some first) second = first ∷ option_to_list second
 abbrev pub arguments_found : List Row → Arguments
 arguments_found rows = record {
   names = names_found (first_of (codes "program") rows) (first_of (codes "script") rows);
-  harts = first_of (codes "harts") rows;
-  frames = first_of (codes "frames") rows;
-  steps = first_of (codes "steps") rows;
-  seed = first_of (codes "seed") rows;
+  values = λ option. first_of (long_name option) rows;
 }
 
 -- these arguments ask each command for what those of the words ask it for

@@ -1,55 +1,68 @@
--- The options of a command line (own): their words, and the numbers that they take.
-use Rattle.std.specs.Prelude.{ℕ, ◌-◌, ◌^◌, Bool, ◌&&◌, true, false, List, length, Option, Some, None}
+-- The options of a command line (own): their words, and the values that they take.
+use Rattle.std.specs.Prelude.{ℕ, ◌-◌, ◌^◌, Bool, ◌&&◌, List, [], ◌∷◌, ◌++◌, length, find, Option, Some, None}
 use Rattle.std.specs.Prelude.{if◌then◌else◌, nat_lt, nat_le, codes}
 use Rattle.std.specs.Char.{is_ascii_digit}
 use Rattle.std.specs.List.{list_all}
+use Rattle.std.specs.Option.{is_some}
 use Rattle.std.specs.Str.{bytes_eq}
 use Rattle.std.specs.Str.Parse.{digits_value}
+use Rattle.draw_policies.specs.Policies.{policies_of_word}
 use Rattle.step_log.specs.Script.{◌>>=◌}
 
 -- the options that commands have: how many harts there are, how many frames of 4,096 bytes, how many lines
--- the log may have, and the seed of what the harts choose
+-- the log may have, the seed of what is chosen, which policies draw, and from how many events on a run goes on fairly
 pub data OptionName : Type 0 where
   Harts : OptionName
   Frames : OptionName
   Steps : OptionName
   Seed : OptionName
+  Policy : OptionName
+  Calm : OptionName
+
+abbrev pub all_options : List OptionName
+all_options = Harts ∷ Frames ∷ Steps ∷ Seed ∷ Policy ∷ Calm ∷ []
+
+-- the name of an option
+abbrev pub long_name : OptionName → List ℕ
+long_name Harts = codes "harts"
+long_name Frames = codes "frames"
+long_name Steps = codes "steps"
+long_name Seed = codes "seed"
+long_name Policy = codes "policy"
+long_name Calm = codes "calm"
 
 -- the word of an option
 abbrev pub option_word : OptionName → List ℕ
-option_word Harts = codes "--harts"
-option_word Frames = codes "--frames"
-option_word Steps = codes "--steps"
-option_word Seed = codes "--seed"
+option_word option = codes "--" ++ long_name option
 
 -- the option that a word names
 abbrev pub option_named : List ℕ → Option OptionName
-option_named word =
-    if bytes_eq word (option_word Harts) then Some Harts
-    else if bytes_eq word (option_word Frames) then Some Frames
-    else if bytes_eq word (option_word Steps) then Some Steps
-    else if bytes_eq word (option_word Seed) then Some Seed
-    else None
+option_named word = find (λ option. bytes_eq word (option_word option)) all_options
 
 -- whether two options are the same
 abbrev pub same_option : OptionName → OptionName → Bool
-same_option Harts Harts = true
-same_option Frames Frames = true
-same_option Steps Steps = true
-same_option Seed Seed = true
-same_option _ _ = false
+same_option one other = bytes_eq (option_word one) (option_word other)
 
--- the numbers that an option takes: from the least to the most, and the one where it isn't given
+-- some numbers: from the least to the most
 pub record Range : Type 0 where
   pub least : ℕ
   pub most : ℕ
-  pub default : ℕ
 
-abbrev pub range_of : OptionName → Range
-range_of Harts = record { least = 1; most = 8; default = 2 }
-range_of Frames = record { least = 128; most = 16384; default = 4096 }
-range_of Steps = record { least = 1; most = 1000000; default = 200000 }
-range_of Seed = record { least = 0; most = 2 ^ 64 - 1; default = 1 }
+abbrev pub range_of : ℕ → ℕ → Range
+range_of least most = record { least = least; most = most }
+
+-- the values of an option: numbers, or the names of policies
+pub data Values : Type 0 where
+  Numbers : (range : Range) → Values
+  PolicyNames : Values
+
+abbrev pub values_of : OptionName → Values
+values_of Harts = Numbers (range_of 1 8)
+values_of Frames = Numbers (range_of 128 16384)
+values_of Steps = Numbers (range_of 1 1000000)
+values_of Seed = Numbers (range_of 0 (2 ^ 64 - 1))
+values_of Policy = PolicyNames
+values_of Calm = Numbers (range_of 0 1000000)
 
 -- a number is 1 to 20 decimal digits and nothing else, and is below 2 ^ 64
 abbrev pub is_number : List ℕ → Bool
@@ -61,13 +74,13 @@ is_number text =
 abbrev pub number_of : List ℕ → Option ℕ
 number_of text = if is_number text then Some (digits_value 10 text) else None
 
--- a number that is in its range
-abbrev pub taken : Range → ℕ → Option ℕ
-taken range number = if nat_le range.least number && nat_le number range.most then Some number else None
-
--- the number that an option comes to: its default where it isn't given, else the number of its value
-abbrev pub chosen : Range → Option (List ℕ) → Option ℕ
-chosen range None = Some range.default
-chosen range (Some text) = do
+-- the number that a text writes, if it is one of these
+abbrev pub number_in : Range → List ℕ → Option ℕ
+number_in range text = do
   number ← number_of text
-  taken range number
+  if nat_le range.least number && nat_le number range.most then Some number else None
+
+-- whether a text is one of these values
+abbrev pub is_value : Values → List ℕ → Bool
+is_value (Numbers range) text = is_some (number_in range text)
+is_value PolicyNames text = is_some (policies_of_word text)

@@ -6,7 +6,7 @@ use Rattle.command_words.specs.declared.table.SourceKind.{SourceKind}
 use Rattle.command_words.specs.declared.table.SourceKind.TheVariants.{ByRule, ByScript, ByWorkers, ByDraws}
 use Rattle.command_words.specs.declared.takes.NameKind.{NameKind}
 use Rattle.command_words.specs.declared.takes.NameKind.TheVariants.{Program, Script, Guest, Size}
-use Rattle.command_words.specs.Options.{OptionName, Harts, Frames, Steps, Seed}
+use Rattle.command_words.specs.Options.{OptionName, Harts, Frames, Steps, Seed, Policy, Calm}
 use Rattle.command_words.specs.Table.{command_kind}
 
 -- some of the options
@@ -15,10 +15,19 @@ pub record OptionSet : Type 0 where
   pub frames : Bool
   pub steps : Bool
   pub seed : Bool
+  pub policy : Bool
+  pub calm : Bool
 
 -- none of them
 abbrev pub no_options : OptionSet
-no_options = record { harts = false; frames = false; steps = false; seed = false }
+no_options = record {
+  harts = false;
+  frames = false;
+  steps = false;
+  seed = false;
+  policy = false;
+  calm = false;
+}
 
 -- whether an option is among them
 abbrev pub has : OptionSet → OptionName → Bool
@@ -26,6 +35,8 @@ has options Harts = options.harts
 has options Frames = options.frames
 has options Steps = options.steps
 has options Seed = options.seed
+has options Policy = options.policy
+has options Calm = options.calm
 
 -- these and one more
 abbrev pub with_option : OptionSet → OptionName → OptionSet
@@ -33,6 +44,8 @@ with_option options Harts = record options { harts = true }
 with_option options Frames = record options { frames = true }
 with_option options Steps = record options { steps = true }
 with_option options Seed = record options { seed = true }
+with_option options Policy = record options { policy = true }
+with_option options Calm = record options { calm = true }
 
 -- what a command takes: these names in this order, and these options in any
 pub record Takes : Type 0 where
@@ -41,21 +54,27 @@ pub record Takes : Type 0 where
 
 -- what a run on one hart takes: it chooses nothing
 abbrev pub taken_alone : Takes
-taken_alone =
-    record { names = Program ∷ []; options = record { harts = false; frames = true; steps = true; seed = false } }
+taken_alone = record { names = Program ∷ []; options = record no_options { frames = true; steps = true } }
 
 -- what a run on the events of a script takes: it chooses nothing
 abbrev pub taken_on_script : Takes
 taken_on_script =
     record {
       names = Program ∷ Script ∷ [];
-      options = record { harts = true; frames = true; steps = true; seed = false };
+      options = record no_options { harts = true; frames = true; steps = true };
     }
 
--- what a run that chooses by a seed takes: by workers, or by draws
-abbrev pub taken_by_seed : Takes
-taken_by_seed =
-    record { names = Program ∷ []; options = record { harts = true; frames = true; steps = true; seed = true } }
+-- the options of a run that chooses by a seed
+abbrev pub options_by_seed : OptionSet
+options_by_seed = record no_options { harts = true; frames = true; steps = true; seed = true }
+
+-- what a run by workers takes
+abbrev pub taken_by_workers : Takes
+taken_by_workers = record { names = Program ∷ []; options = options_by_seed }
+
+-- what a run by draws takes
+abbrev pub taken_by_draws : Takes
+taken_by_draws = record { names = Program ∷ []; options = record options_by_seed { policy = true; calm = true } }
 
 -- what the making of a guest takes
 abbrev pub taken_by_make : Takes
@@ -64,14 +83,14 @@ taken_by_make = record { names = Guest ∷ Size ∷ []; options = no_options }
 -- what a trial of a guest takes
 abbrev pub taken_by_trial : Takes
 taken_by_trial =
-    record { names = Guest ∷ Size ∷ []; options = record { harts = true; frames = false; steps = true; seed = true } }
+    record { names = Guest ∷ Size ∷ []; options = record no_options { harts = true; steps = true; seed = true } }
 
 -- what a run takes by how its log comes about
 abbrev pub takes_by : SourceKind → Takes
 takes_by ByRule = taken_alone
 takes_by ByScript = taken_on_script
-takes_by ByWorkers = taken_by_seed
-takes_by ByDraws = taken_by_seed
+takes_by ByWorkers = taken_by_workers
+takes_by ByDraws = taken_by_draws
 
 -- what a command takes
 abbrev pub takes_kind : CommandKind → Takes

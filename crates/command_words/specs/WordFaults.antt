@@ -10,13 +10,13 @@ use Rattle.guest_names.specs.Guests.{name_of}
 use Rattle.step_log.specs.Script.{◌>>=◌}
 use Rattle.command_words.specs.declared.faults.WordsFault.{WordsFault}
 use Rattle.command_words.specs.declared.faults.WordsFault.TheVariants.{NoCommand, UnknownCommand, UnknownOption}
-use Rattle.command_words.specs.declared.faults.WordsFault.TheVariants.{NotTaken, Twice, NoValue, OutOfRange}
+use Rattle.command_words.specs.declared.faults.WordsFault.TheVariants.{NotTaken, Twice, NoValue, OutOfRange, UnknownPolicy}
 use Rattle.command_words.specs.declared.faults.WordsFault.TheVariants.{OneNameTooMany, NoProgram, NoScript}
 use Rattle.command_words.specs.declared.faults.WordsFault.TheVariants.{UnknownGuest, NoNumber, NoGuest, NoSize}
 use Rattle.command_words.specs.declared.takes.NameKind.{NameKind}
 use Rattle.command_words.specs.declared.takes.NameKind.TheVariants.{Program, Script, Guest, Size}
 use Rattle.command_words.specs.Grammar.{Item, Name, Given, begins_with_dash, is_option}
-use Rattle.command_words.specs.Options.{OptionName, Range, chosen, number_of, option_named, range_of}
+use Rattle.command_words.specs.Options.{OptionName, Values, Numbers, PolicyNames, is_value, number_of, option_named, values_of}
 use Rattle.command_words.specs.Takes.{OptionSet, Takes, has, no_options, takes_of, with_option}
 use Rattle.command_words.specs.Words.{Reading, Options, Value, Names, behind_equals, is_equals, word_read}
 
@@ -41,15 +41,15 @@ option_fault so_far (Some option) =
     else if has so_far.options option then Some (Twice so_far.next)
     else None
 
--- a number out of this range, in this word
-abbrev pub out_of : Range → ℕ → WordsFault
-out_of range word = OutOfRange word range.least range.most
+-- the fault where the value in this word is none of these
+abbrev pub none_of : Values → ℕ → WordsFault
+none_of (Numbers range) word = OutOfRange word range.least range.most
+none_of PolicyNames word = UnknownPolicy word
 
--- a value is a number in its option's range
+-- a value is one of those that its option takes
 abbrev pub value_fault : SoFar → OptionName → List ℕ → Option WordsFault
 value_fault so_far option text =
-    if is_some (chosen (range_of option) (Some text)) then None
-    else Some (out_of (range_of option) so_far.next)
+    if is_value (values_of option) text then None else Some (none_of (values_of option) so_far.next)
 
 -- the value that stands in its option's word; one in the next word is read there
 abbrev pub joined_fault : SoFar → Option OptionName → Option (List ℕ) → Option WordsFault
@@ -160,6 +160,7 @@ word_of (NotTaken word) = Some word
 word_of (Twice word) = Some word
 word_of (NoValue word) = Some word
 word_of (OutOfRange word least most) = Some word
+word_of (UnknownPolicy word) = Some word
 word_of (OneNameTooMany word) = Some word
 word_of (UnknownGuest word) = Some word
 word_of (NoNumber word) = Some word

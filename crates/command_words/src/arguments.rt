@@ -12,7 +12,7 @@ use clap::{Arg, ArgMatches, Command as Parser};
 use std::alloc::{AllocError, Global};
 
 /// The names that a command is given, in their order.
-#[derive(Clone, Copy, Debug, Drop)]
+#[derive(Clone, Copy, Drop)]
 pub(crate) enum FileNames<'a> {
     /// No name.
     Zero,
@@ -23,7 +23,7 @@ pub(crate) enum FileNames<'a> {
 }
 
 /// What a command is given: its names, and the value of each option that is given.
-#[derive(Clone, Copy, Debug, Drop)]
+#[derive(Clone, Copy, Drop)]
 pub(crate) struct Arguments<'a> {
     /// The names.
     pub(crate) names: FileNames<'a>,
@@ -35,6 +35,10 @@ pub(crate) struct Arguments<'a> {
     pub(crate) steps: Option<&'a str>,
     /// The value of `--seed`.
     pub(crate) seed: Option<&'a str>,
+    /// The value of `--policy`.
+    pub(crate) policy: Option<&'a str>,
+    /// The value of `--calm`.
+    pub(crate) calm: Option<&'a str>,
 }
 
 /// An option of this name, which takes a value.
@@ -55,7 +59,9 @@ fn options<'a>(alloc: Global) -> Result<Parser<'a>, AllocError>
         .arg(option(alloc, "harts"))?
         .arg(option(alloc, "frames"))?
         .arg(option(alloc, "steps"))?
-        .arg(option(alloc, "seed"))
+        .arg(option(alloc, "seed"))?
+        .arg(option(alloc, "policy"))?
+        .arg(option(alloc, "calm"))
 }
 
 /// A parser of what may stand behind a command.
@@ -88,6 +94,8 @@ fn arguments_in<'a>(matches: &ArgMatches<'a>) -> Arguments<'a>
         frames: matches.get_str("frames"),
         steps: matches.get_str("steps"),
         seed: matches.get_str("seed"),
+        policy: matches.get_str("policy"),
+        calm: matches.get_str("calm"),
     }
 }
 

@@ -3,21 +3,32 @@
 ghost use Rattle.std.specs.Prelude.{◌≡◌, ◌≤◌, IfOk, IfSome, option_copied, option_map};
 ghost use Rattle.mach_types.specs.Limits.{InRange};
 ghost use Rattle.command_words.specs.Commands.{HasHartsOf, HasItsHarts, HasLimits, trial_limits};
-ghost use Rattle.command_words.specs.Kept.{named, names_kept, run_said, said, source_said, stated};
-ghost use Rattle.command_words.specs.Grammar.{asked_by, asked_for, command_for, files_for, guest_for, guest_named};
-ghost use Rattle.command_words.specs.Grammar.{harts_for, number_for, one_name, run_for, trial_of, two_names};
-ghost use Rattle.command_words.specs.Options.{range_of};
+ghost use Rattle.command_words.specs.Kept.{named, names_kept, run_said, said, source_said, stated, takes_kept};
+ghost use Rattle.command_words.specs.Grammar.{all_suit, asked_by, asked_for, calm_in, command_for, files_for, guest_for, guest_named};
+ghost use Rattle.command_words.specs.Grammar.{harts_for, one_name, policies_or_all, run_for, settings_of, suits, trial_of};
+ghost use Rattle.command_words.specs.Grammar.{two_names};
 ghost use Rattle.command_words.specs.Words.{command_of, texts};
 
 use crate::arguments::{Arguments, FileNames, arguments_of};
-use crate::options::{OptionName, chosen, number_of};
+use crate::options::{CALM, FRAMES, HARTS, OptionName, SEEDS, STEPS, number_of};
 use crate::table::{CommandKind, Shown, SourceKind, command_kind};
+use crate::takes::Takes;
+use draw_policies::Policies;
 use guest_names::Name;
 use mach_types::Limits;
 use std::alloc::{AllocError, Global};
 
+/// How the events of runs are drawn from their seeds.
+#[derive(Clone, Copy, Drop)]
+pub struct Draws {
+    /// Which policies draw.
+    pub policies: Policies,
+    /// From how many events on a run goes on fairly; None: from a quarter of the steps that it may make.
+    pub calm: Option<u32>,
+}
+
 /// How the log of a run comes about.
-#[derive(Clone, Copy, Debug, PartialEq, Eq, Drop)]
+#[derive(Clone, Copy, Drop)]
 pub enum Source<'a> {
     /// On one hart, by the fixed rule.
     Rule,
@@ -32,11 +43,13 @@ pub enum Source<'a> {
     Drawn {
         /// The seed of what is drawn.
         seed: u64,
+        /// How its events are drawn.
+        draws: Draws,
     },
 }
 
 /// To run a program, and to show something of the run.
-#[derive(Clone, Copy, Debug, PartialEq, Eq, Drop)]
+#[derive(Clone, Copy, Drop)]
 pub struct Run<'a> {
     /// The name of the program's file.
     pub program: &'a str,
@@ -49,7 +62,7 @@ pub struct Run<'a> {
 }
 
 /// A guest of a size, which it needn't take.
-#[derive(Clone, Copy, Debug, PartialEq, Eq, Drop)]
+#[derive(Clone, Copy, Drop)]
 pub struct Guest {
     /// The guest's name.
     pub name: Name,
@@ -61,7 +74,7 @@ pub struct Guest {
 const TRIAL_FRAMES: u32 = 4_096;
 
 /// To make a guest, to run it by rounds, and to show its console and its acts.
-#[derive(Clone, Copy, Debug, PartialEq, Eq, Drop)]
+#[derive(Clone, Copy, Drop)]
 pub struct Trial {
     /// The guest.
     pub guest: Guest,
@@ -74,7 +87,7 @@ pub struct Trial {
 }
 
 /// What words ask for.
-#[derive(Clone, Copy, Debug, PartialEq, Eq, Drop)]
+#[derive(Clone, Copy, Drop)]
 pub enum Command<'a> {
     /// A run of a program.
     Runs(Run<'a>),
@@ -100,8 +113,8 @@ impl Trial {
 /// What the words ask for; None exactly where they aren't of the grammar. It errs only for want of memory.
 ///
 /// The first word is the command: `solo FILE`, with `--frames` and `--steps`; `play FILE SCRIPT` and the other
-/// commands on a script, with `--harts` too; `run FILE` and `draw FILE`, with `--harts` and `--seed` too;
-/// `make NAME N`, with no option; or `trial NAME N`, with `--harts`, `--steps` and `--seed`. Each limit is in its range.
+/// commands on a script, with `--harts` too; `run FILE`, with `--harts` and `--seed` too; `draw FILE`, with
+/// `--policy` and `--calm` besides; `make NAME N`, with no option; or `trial NAME N`, with `--harts`, `--steps` and `--seed`. Each limit is in its range.
 #[tactic(auto, unfolding(crate::specs::Words::command_of))]
 pub(crate) fn command_of<'a>(
     alloc: Global,
@@ -130,56 +143,141 @@ fn asked_by<'a>(command: &str, arguments: Arguments<'a>) -> Option<Command<'a>>
     asked_for(kind, arguments)
 }
 
-/// What a command of this kind asks for with these arguments.
+/// What the options come to.
+#[derive(Clone, Copy, Drop)]
+struct Settings {
+    /// The limits.
+    limits: Limits,
+    /// The seed.
+    seed: u64,
+    /// How events are drawn.
+    draws: Draws,
+}
+
+impl<'a> Arguments<'a> {
+    /// The value of an option, if it is given.
+    fn value(&self, option: OptionName) -> Option<&'a str>
+        ensures { option_copied result ≡ (stated self.now).values (named option) }
+    {
+        match option {
+            OptionName::Harts => self.harts,
+            OptionName::Frames => self.frames,
+            OptionName::Steps => self.steps,
+            OptionName::Seed => self.seed,
+            OptionName::Policy => self.policy,
+            OptionName::Calm => self.calm,
+        }
+    }
+
+    /// Whether the value of an option suits a command where it is given: the option is one of the command's, and takes the value.
+    fn suits(&self, takes: Takes, option: OptionName) -> bool
+        ensures { result ≡ suits (takes_kept takes) (named option) ((stated self.now).values (named option)) }
+    {
+        match self.value(option) {
+            Some(text) => takes.options.has(option) && option.values().contain(text),
+            None => true,
+        }
+    }
+
+    /// Whether each value that is given suits a command.
+    fn all_suit(&self, takes: Takes) -> bool
+        ensures { result ≡ all_suit (takes_kept takes) (stated self.now).values }
+    {
+        self.suits(takes, OptionName::Harts)
+            && self.suits(takes, OptionName::Frames)
+            && self.suits(takes, OptionName::Steps)
+            && self.suits(takes, OptionName::Seed)
+            && self.suits(takes, OptionName::Policy)
+            && self.suits(takes, OptionName::Calm)
+    }
+
+    /// The limits that the options come to.
+    fn limits(&self) -> Limits
+        ensures limits { result ≡ (settings_of (stated self.now).values).limits }
+        ensures range { InRange result }
+    {
+        Limits {
+            harts: HARTS.number_or(2, self.harts) as u8,
+            frames: FRAMES.number_or(4_096, self.frames) as u32,
+            steps: STEPS.number_or(200_000, self.steps) as u32,
+        }
+    }
+
+    /// How events are drawn.
+    fn draws(&self) -> Draws
+        ensures { result ≡ (settings_of (stated self.now).values).draws }
+    {
+        Draws {
+            policies: policies_or_all(self.policy),
+            calm: calm_in(self.calm),
+        }
+    }
+
+    /// What the options come to.
+    fn settings(&self) -> Settings
+        ensures settings { result ≡ settings_of (stated self.now).values }
+        ensures limits { InRange result.limits }
+    {
+        Settings {
+            limits: self.limits(),
+            seed: SEEDS.number_or(1, self.seed),
+            draws: self.draws(),
+        }
+    }
+}
+
+/// Which policies draw: those of the name that is given, or all in turn.
+fn policies_or_all(name: Option<&str>) -> Policies
+    ensures { result ≡ policies_or_all (option_copied name.entry) }
+{
+    let Some(name) = name else {
+        return Policies::All;
+    };
+    match Policies::of_word(name) {
+        Some(policies) => policies,
+        None => Policies::All,
+    }
+}
+
+/// From how many events on a run goes on fairly, where a number is given that the option takes.
+fn calm_in(text: Option<&str>) -> Option<u32>
+    ensures { result ≡ calm_in (option_copied text.entry) }
+{
+    let events = CALM.number_in(text?)?;
+    Some(events as u32)
+}
+
+/// What a command of this kind asks for with these arguments; None where a value that is given doesn't suit it.
 fn asked_for<'a>(kind: CommandKind, arguments: Arguments<'a>) -> Option<Command<'a>>
     ensures command { option_map said result ≡ asked_for kind (stated arguments.entry) }
     ensures limits { IfSome result (λ command. HasLimits (said command)) }
     ensures harts { IfSome result (λ command. HasItsHarts (said command)) }
 {
-    let harts = number_for(kind, OptionName::Harts, arguments.harts)?;
-    let frames = number_for(kind, OptionName::Frames, arguments.frames)?;
-    let steps = number_for(kind, OptionName::Steps, arguments.steps)?;
-    let seed = number_for(kind, OptionName::Seed, arguments.seed)?;
-    let limits = Limits {
-        harts: harts as u8,
-        frames: frames as u32,
-        steps: steps as u32,
-    };
-    command_for(kind, limits, seed, arguments.names)
+    if arguments.all_suit(kind.takes()) {
+        command_for(kind, arguments.settings(), arguments.names)
+    } else {
+        None
+    }
 }
 
-/// The command of this kind and these limits, this seed and these names; None where the names don't suit.
+/// The command of this kind with these settings and these names; None where the names don't suit.
 fn command_for<'a>(
     kind: CommandKind,
-    limits: Limits,
-    seed: u64,
+    settings: Settings,
     names: FileNames<'a>,
 ) -> Option<Command<'a>>
-    requires { InRange limits }
-    ensures command { option_map said result ≡ command_for kind limits seed (names_kept names.entry) }
+    requires { InRange settings.limits }
+    ensures command { option_map said result ≡ command_for kind settings (names_kept names.entry) }
     ensures limits { IfSome result (λ command. HasLimits (said command)) }
     ensures harts { IfSome result (λ command. HasItsHarts (said command)) }
 {
     match kind {
         CommandKind::Runs { source, shown } => {
-            Some(Command::Runs(run_for(source, shown, limits, seed, names)?))
+            Some(Command::Runs(run_for(source, shown, settings, names)?))
         }
         CommandKind::Makes => Some(Command::Makes(guest_for(names)?)),
-        CommandKind::Tries => Some(Command::Tries(trial_of(limits, seed, guest_for(names)?))),
+        CommandKind::Tries => Some(Command::Tries(trial_of(settings, guest_for(names)?))),
     }
-}
-
-/// The number that an option of such a command comes to; None where it is given and the command hasn't the option,
-/// and where it isn't one that the option takes.
-fn number_for(kind: CommandKind, option: OptionName, text: Option<&str>) -> Option<u64>
-    ensures number { result ≡ number_for kind (named option) (option_copied text.entry) }
-    ensures least { IfSome result (λ number. (range_of (named option)).least ≤ number) }
-    ensures most { IfSome result (λ number. number ≤ (range_of (named option)).most) }
-{
-    if text.is_some() && !kind.takes().options.has(option) {
-        return None;
-    }
-    chosen(option.numbers(), text)
 }
 
 /// How many harts there are: one by the fixed rule.
@@ -214,39 +312,47 @@ fn two_names(names: FileNames<'_>) -> Option<(&str, Source<'_>)>
     }
 }
 
-/// The program that names give, and how the log comes about, with this seed; None where they are too few or too
-/// many.
-fn files_for(source: SourceKind, names: FileNames<'_>, seed: u64) -> Option<(&str, Source<'_>)>
+/// The program that names give, and how the log comes about with these settings; None where they are too few or too many.
+fn files_for(
+    source: SourceKind,
+    names: FileNames<'_>,
+    settings: Settings,
+) -> Option<(&str, Source<'_>)>
     ensures { option_map (λ files. (files.0.now, source_said files.1)) result
-        ≡ files_for source (names_kept names.entry) seed }
+        ≡ files_for source (names_kept names.entry) settings }
 {
+    let Settings { seed, draws, .. } = settings;
     match source {
         SourceKind::ByRule => one_name(Source::Rule, names),
         SourceKind::ByScript => two_names(names),
         SourceKind::ByWorkers => one_name(Source::Workers { seed }, names),
-        SourceKind::ByDraws => one_name(Source::Drawn { seed }, names),
+        SourceKind::ByDraws => one_name(Source::Drawn { seed, draws }, names),
     }
 }
 
-/// The run of a program that names give, under these limits and with this seed; None where they are too few or too many.
+/// The run of a program that names give, with these settings; None where they are too few or too many.
 fn run_for<'a>(
     kind: SourceKind,
     shown: Shown,
-    limits: Limits,
-    seed: u64,
+    settings: Settings,
     names: FileNames<'a>,
 ) -> Option<Run<'a>>
-    requires { InRange limits }
+    requires { InRange settings.limits }
     ensures run { option_map run_said result
-        ≡ option_map (run_for kind shown limits) (files_for kind (names_kept names.entry) seed) }
+        ≡ option_map (run_for kind shown settings.limits) (files_for kind (names_kept names.entry) settings) }
     ensures limits { IfSome result (λ run. InRange run.limits) }
     ensures harts { IfSome result (λ run. HasHartsOf (source_said run.source) run.limits) }
 {
-    let (program, source) = files_for(kind, names, seed)?;
+    let (program, source) = files_for(kind, names, settings)?;
+    let Limits {
+        harts,
+        frames,
+        steps,
+    } = settings.limits;
     let limits = Limits {
-        harts: harts_for(kind, limits.harts),
-        frames: limits.frames,
-        steps: limits.steps,
+        harts: harts_for(kind, harts),
+        frames,
+        steps,
     };
     Some(Run {
         program,
@@ -256,17 +362,17 @@ fn run_for<'a>(
     })
 }
 
-/// The trial of this guest under these limits, with this seed.
-fn trial_of(limits: Limits, seed: u64, guest: Guest) -> Trial
-    requires { InRange limits }
-    ensures trial { result ≡ trial_of limits seed guest }
+/// The trial of this guest with these settings.
+fn trial_of(settings: Settings, guest: Guest) -> Trial
+    requires { InRange settings.limits }
+    ensures trial { result ≡ trial_of settings guest }
     ensures limits { InRange (trial_limits result) }
 {
     Trial {
         guest,
-        harts: limits.harts,
-        steps: limits.steps,
-        seed,
+        harts: settings.limits.harts,
+        steps: settings.limits.steps,
+        seed: settings.seed,
     }
 }
 

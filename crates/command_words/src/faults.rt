@@ -10,7 +10,7 @@ use crate::reader::Reader;
 use crate::takes::{Takes, takes_of};
 
 /// What is wrong with the words of a command line. Words are counted from 1, and the command's is the first.
-#[derive(Clone, Copy, Debug, PartialEq, Eq, Drop)]
+#[derive(Clone, Copy, Drop)]
 pub enum WordsFault {
     /// There is no word.
     NoCommand,
@@ -33,6 +33,8 @@ pub enum WordsFault {
         /// The largest number that it takes.
         most: u64,
     },
+    /// The value in this word names no policy.
+    UnknownPolicy(usize),
     /// This word is a name too many.
     OneNameTooMany(usize),
     /// This word is to name a guest, and names none.
@@ -53,7 +55,7 @@ pub enum WordsFault {
 ///
 /// The words are read from the left, and the first that is wrong, given those before it, gives the fault: an
 /// option's word where no command has the option, where this command hasn't, where it was given before, or where
-/// it lacks its value; a word where the value in it is out of the option's range; a name too many; and a word that is
+/// it lacks its value; a word where the value in it is none that the option takes; a name too many; and a word that is
 /// to name a guest or its size and doesn't. Where none is wrong, a name may be missing.
 pub fn words_fault(words: &[String]) -> Option<WordsFault>
     ensures fault { result ≡ words_fault (texts words.now) }

@@ -11,7 +11,7 @@ mod table;
 mod takes;
 mod theorems;
 
-pub use commands::{Command, Guest, Run, Source, Trial};
+pub use commands::{Command, Draws, Guest, Run, Source, Trial};
 pub use faults::{WordsFault, words_fault};
 pub use read::{WordsError, read_words};
 pub use table::{COMMANDS, CommandKind, Shown, SourceKind, command_kind};

@@ -1,13 +1,16 @@
-//! The options of a command line: the numbers that they take.
+//! The options of a command line: the values that they take.
 
-ghost use Rattle.std.specs.Prelude.{◌≡◌, option_copied, option_map};
+ghost use Rattle.std.specs.Prelude.{◌≡◌, ◌≤◌, IfSome, option_copied, option_map};
 ghost use Rattle.std.specs.Char.{is_ascii_digit};
 ghost use Rattle.std.specs.List.{list_all};
-ghost use Rattle.command_words.specs.Kept.{named, range};
-ghost use Rattle.command_words.specs.Options.{chosen, number_of, option_named, range_of};
+ghost use Rattle.command_words.specs.Grammar.{number_or};
+ghost use Rattle.command_words.specs.Kept.{named, range, values_kept};
+ghost use Rattle.command_words.specs.Options.{is_value, number_in, number_of, option_named, values_of};
+
+use draw_policies::Policies;
 
 /// The options that commands have.
-#[derive(Clone, Copy, Debug, PartialEq, Eq, Drop)]
+#[derive(Clone, Copy, Drop)]
 pub(crate) enum OptionName {
     /// How many harts there are.
     Harts,
@@ -15,19 +18,57 @@ pub(crate) enum OptionName {
     Frames,
     /// How many events the log can hold.
     Steps,
-    /// The seed of what the harts choose.
+    /// The seed of what is chosen.
     Seed,
+    /// Which policies draw.
+    Policy,
+    /// From how many events on a run goes on fairly.
+    Calm,
 }
 
-/// The numbers that an option takes.
-#[derive(Clone, Copy, Debug, PartialEq, Eq, Drop)]
+/// Some numbers.
+#[derive(Clone, Copy, Drop)]
 pub(crate) struct Numbers {
-    /// The least number.
+    /// The least.
     pub(crate) least: u64,
-    /// The largest number.
+    /// The largest.
     pub(crate) most: u64,
-    /// The number where the option isn't given.
-    pub(crate) default: u64,
+}
+
+/// How many harts there may be.
+pub(crate) const HARTS: Numbers = Numbers { least: 1, most: 8 };
+
+/// How many frames there may be.
+pub(crate) const FRAMES: Numbers = Numbers {
+    least: 128,
+    most: 16_384,
+};
+
+/// How many events a log may hold.
+pub(crate) const STEPS: Numbers = Numbers {
+    least: 1,
+    most: 1_000_000,
+};
+
+/// The seeds.
+pub(crate) const SEEDS: Numbers = Numbers {
+    least: 0,
+    most: u64::MAX,
+};
+
+/// From how many events on a run may go on fairly.
+pub(crate) const CALM: Numbers = Numbers {
+    least: 0,
+    most: 1_000_000,
+};
+
+/// The values of an option.
+#[derive(Clone, Copy, Drop)]
+pub(crate) enum Values {
+    /// These numbers.
+    Numbers(Numbers),
+    /// The names of policies.
+    PolicyNames,
 }
 
 impl OptionName {
@@ -40,24 +81,35 @@ impl OptionName {
             "--frames" => Some(OptionName::Frames),
             "--steps" => Some(OptionName::Steps),
             "--seed" => Some(OptionName::Seed),
+            "--policy" => Some(OptionName::Policy),
+            "--calm" => Some(OptionName::Calm),
             _ => None,
         }
     }
 
-    /// The numbers that the option takes.
-    pub(crate) fn numbers(self) -> Numbers
-        ensures { range result ≡ range_of (named self) }
+    /// The values that the option takes.
+    pub(crate) fn values(self) -> Values
+        ensures { values_kept result ≡ values_of (named self) }
     {
-        let (least, most, default) = match self {
-            OptionName::Harts => (1, 8, 2),
-            OptionName::Frames => (128, 16_384, 4_096),
-            OptionName::Steps => (1, 1_000_000, 200_000),
-            OptionName::Seed => (0, u64::MAX, 1),
-        };
-        Numbers {
-            least,
-            most,
-            default,
+        match self {
+            OptionName::Harts => Values::Numbers(HARTS),
+            OptionName::Frames => Values::Numbers(FRAMES),
+            OptionName::Steps => Values::Numbers(STEPS),
+            OptionName::Seed => Values::Numbers(SEEDS),
+            OptionName::Policy => Values::PolicyNames,
+            OptionName::Calm => Values::Numbers(CALM),
+        }
+    }
+}
+
+impl Values {
+    /// Whether a text is one of them.
+    pub(crate) fn contain(self, text: &str) -> bool
+        ensures { result ≡ is_value (values_kept self) text.now }
+    {
+        match self {
+            Values::Numbers(numbers) => numbers.number_in(text).is_some(),
+            Values::PolicyNames => Policies::of_word(text).is_some(),
         }
     }
 }
@@ -81,18 +133,35 @@ pub(crate) fn number_of(text: &str) -> Option<u64>
     }
 }
 
-/// The number that an option comes to, given the text of its value; None where that isn't a number that it
-/// takes.
-pub(crate) fn chosen(numbers: Numbers, text: Option<&str>) -> Option<u64>
-    ensures { result ≡ chosen (range numbers) (option_copied text.entry) }
-{
-    let Some(text) = text else {
-        return Some(numbers.default);
-    };
-    let number = number_of(text)?;
-    if (numbers.least..=numbers.most).contains(&number) {
-        Some(number)
-    } else {
-        None
+impl Numbers {
+    /// The number that a text writes; None where it writes none of these.
+    pub(crate) fn number_in(self, text: &str) -> Option<u64>
+        ensures number { result ≡ number_in (range self) text.now }
+        ensures least { IfSome result (λ number. self.least ≤ number) }
+        ensures most { IfSome result (λ number. number ≤ self.most) }
+    {
+        let number = number_of(text)?;
+        if self.least <= number && number <= self.most {
+            Some(number)
+        } else {
+            None
+        }
+    }
+
+    /// The number that an option comes to: that of its value, or the default where none of these is given.
+    pub(crate) fn number_or(self, default: u64, text: Option<&str>) -> u64
+        requires least { self.least ≤ default }
+        requires most { default ≤ self.most }
+        ensures number { result ≡ number_or default (range self) (option_copied text.entry) }
+        ensures least { self.least ≤ result }
+        ensures most { result ≤ self.most }
+    {
+        let Some(text) = text else {
+            return default;
+        };
+        match self.number_in(text) {
+            Some(number) => number,
+            None => default,
+        }
     }
 }

@@ -12,7 +12,7 @@ use crate::theorems::words_are_wrong_or_name_a_command;
 use std::alloc::Global;
 
 /// Why words give no command.
-#[derive(Clone, Copy, Debug, PartialEq, Eq, Drop)]
+#[derive(Clone, Copy, Drop)]
 pub enum WordsError {
     /// They are no command: this is what is wrong with them.
     Wrong(WordsFault),
@@ -24,8 +24,8 @@ pub enum WordsError {
 /// may want it.
 ///
 /// The first word is the command: `solo FILE`, with `--frames` and `--steps`; `play FILE SCRIPT` and the other
-/// commands on the events of a script, with `--harts` too; `run FILE` and `draw FILE`, with `--harts` and `--seed`
-/// too; `make NAME N`, with no option; or `trial NAME N`, with `--harts`, `--steps` and `--seed`. Each limit is in its
+/// commands on the events of a script, with `--harts` too; `run FILE`, with `--harts` and `--seed` too; `draw FILE`,
+/// with `--policy` and `--calm` besides; `make NAME N`, with no option; or `trial NAME N`, with `--harts`, `--steps` and `--seed`. Each limit is in its
 /// range.
 pub fn read_words<'a>(alloc: Global, words: &'a [String]) -> Result<Command<'a>, WordsError>
     ensures command { IfOk result (λ command. command_of (texts words.now) ≡ Some (said command)) }

@@ -4,20 +4,20 @@ ghost use Rattle.std.specs.Prelude.{◌≡◌, ◌+◌, ◌<◌, ◌≤◌, Some
 ghost use Rattle.std.specs.List.{before_first};
 ghost use Rattle.std.specs.Result.{result_err};
 ghost use Rattle.command_words.specs.Grammar.{Given, begins_with_dash, is_option};
-ghost use Rattle.command_words.specs.Kept.{named, reading_kept, so_far, takes_kept};
+ghost use Rattle.command_words.specs.Kept.{named, reading_kept, so_far, takes_kept, values_kept};
 ghost use Rattle.command_words.specs.Options.{option_named};
 ghost use Rattle.command_words.specs.WordFaults.{command_read, end_fault, fault_read, kind_fault, missing, name_fault};
-ghost use Rattle.command_words.specs.WordFaults.{option_fault};
+ghost use Rattle.command_words.specs.WordFaults.{none_of, option_fault};
 ghost use Rattle.command_words.specs.WordFaults.{option_word_fault, value_fault, with_read, with_word, word_fault};
 ghost use Rattle.command_words.specs.Words.{Options, Value, behind_equals, is_equals, option_read, word_read};
 
 use crate::faults::WordsFault;
-use crate::options::{OptionName, chosen, number_of};
+use crate::options::{Numbers, OptionName, Values, number_of};
 use crate::takes::{NameKind, OptionSet, Takes};
 use guest_names::Name;
 
 /// How the next word is read.
-#[derive(Clone, Copy, Debug, Drop)]
+#[derive(Clone, Copy, Drop)]
 enum Reading {
     /// As a name or as an option.
     Options,
@@ -28,7 +28,7 @@ enum Reading {
 }
 
 /// How far the words behind a command's are read, none of them wrong.
-#[derive(Debug, Drop)]
+#[derive(Drop)]
 pub(crate) struct Reader {
     takes: Takes,
     next: usize,
@@ -59,6 +59,20 @@ fn parted(word: &str) -> (&str, Option<&str>)
     match word.split_once('=') {
         Some((name, value)) => (name, Some(value)),
         None => (word, None),
+    }
+}
+
+impl Values {
+    /// The fault where the value in this word is none of these.
+    fn fault(self, word: usize) -> WordsFault
+        ensures { result ≡ none_of (values_kept self) word }
+    {
+        match self {
+            Values::Numbers(Numbers { least, most }) => {
+                WordsFault::OutOfRange { word, least, most }
+            }
+            Values::PolicyNames => WordsFault::UnknownPolicy(word),
+        }
     }
 }
 
@@ -197,13 +211,9 @@ impl Reader {
             (so_far self.new ≡ with_read (so_far self.old) (Some (Given (named option) text.now), Options)) }
         ensures next { self.new.next ≡ self.old.next }
     {
-        let numbers = option.numbers();
-        if chosen(numbers, Some(text)).is_none() {
-            return Err(WordsFault::OutOfRange {
-                word: self.next,
-                least: numbers.least,
-                most: numbers.most,
-            });
+        let values = option.values();
+        if !values.contain(text) {
+            return Err(values.fault(self.next));
         }
         self.options = self.options.with(option);
         self.reading = Reading::Options;

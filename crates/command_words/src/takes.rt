@@ -10,12 +10,14 @@ use crate::options::OptionName;
 use crate::table::{CommandKind, SourceKind, command_kind};
 
 /// Some of the options.
-#[derive(Clone, Copy, Debug, Drop)]
+#[derive(Clone, Copy, Drop)]
 pub(crate) struct OptionSet {
     harts: bool,
     frames: bool,
     steps: bool,
     seed: bool,
+    policy: bool,
+    calm: bool,
 }
 
 impl OptionSet {
@@ -23,12 +25,7 @@ impl OptionSet {
     pub(crate) fn none() -> OptionSet
         ensures { options_kept result ≡ no_options }
     {
-        OptionSet {
-            harts: false,
-            frames: false,
-            steps: false,
-            seed: false,
-        }
+        NO_OPTIONS
     }
 
     /// Whether an option is among these.
@@ -40,6 +37,8 @@ impl OptionSet {
             OptionName::Frames => self.frames,
             OptionName::Steps => self.steps,
             OptionName::Seed => self.seed,
+            OptionName::Policy => self.policy,
+            OptionName::Calm => self.calm,
         }
     }
 
@@ -53,6 +52,8 @@ impl OptionSet {
             OptionName::Frames => all.frames = true,
             OptionName::Steps => all.steps = true,
             OptionName::Seed => all.seed = true,
+            OptionName::Policy => all.policy = true,
+            OptionName::Calm => all.calm = true,
         }
         all
     }
@@ -64,14 +65,15 @@ const NO_OPTIONS: OptionSet = OptionSet {
     frames: false,
     steps: false,
     seed: false,
+    policy: false,
+    calm: false,
 };
 
 /// The options of a command that runs on one hart: it chooses nothing.
 const ON_ONE_HART: OptionSet = OptionSet {
-    harts: false,
     frames: true,
     steps: true,
-    seed: false,
+    ..NO_OPTIONS
 };
 
 /// The options of a command that runs on the events of a script: it chooses nothing.
@@ -79,27 +81,35 @@ const ON_A_SCRIPT: OptionSet = OptionSet {
     harts: true,
     frames: true,
     steps: true,
-    seed: false,
+    ..NO_OPTIONS
 };
 
 /// The options of a trial.
 const OF_A_TRIAL: OptionSet = OptionSet {
     harts: true,
-    frames: false,
     steps: true,
     seed: true,
+    ..NO_OPTIONS
 };
 
-/// The options of a command that chooses by a seed: by workers, or by draws.
-const BY_SEED: OptionSet = OptionSet {
+/// The options of a command whose workers choose by a seed.
+const OF_WORKERS: OptionSet = OptionSet {
     harts: true,
     frames: true,
     steps: true,
     seed: true,
+    ..NO_OPTIONS
+};
+
+/// The options of a command whose events a seed draws.
+const OF_DRAWS: OptionSet = OptionSet {
+    policy: true,
+    calm: true,
+    ..OF_WORKERS
 };
 
 /// What a name is.
-#[derive(Clone, Copy, Debug, Drop)]
+#[derive(Clone, Copy, Drop)]
 pub(crate) enum NameKind {
     /// That of a program's file.
     Program,
@@ -112,7 +122,7 @@ pub(crate) enum NameKind {
 }
 
 /// What a command takes behind its word.
-#[derive(Clone, Copy, Debug, Drop)]
+#[derive(Clone, Copy, Drop)]
 pub(crate) struct Takes {
     /// What its first name is.
     first: NameKind,
@@ -143,7 +153,8 @@ impl SourceKind {
         let (second, options) = match self {
             SourceKind::ByRule => (None, ON_ONE_HART),
             SourceKind::ByScript => (Some(NameKind::Script), ON_A_SCRIPT),
-            SourceKind::ByWorkers | SourceKind::ByDraws => (None, BY_SEED),
+            SourceKind::ByWorkers => (None, OF_WORKERS),
+            SourceKind::ByDraws => (None, OF_DRAWS),
         };
         Takes {
             first: NameKind::Program,

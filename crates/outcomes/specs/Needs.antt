@@ -19,7 +19,7 @@ abbrev pub needs_by : List ℕ → words.Source → Limits → Needs
 needs_by program words.Rule limits = Program program limits
 needs_by program (words.Script name) limits = Script program name limits
 needs_by program (words.Workers seed) limits = Program program limits
-needs_by program (words.Drawn seed) limits = Program program limits
+needs_by program (words.Drawn seed draws) limits = Program program limits
 
 -- what a command needs
 abbrev pub needs_of : Option words.Command → Needs

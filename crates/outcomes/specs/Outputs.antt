@@ -10,7 +10,6 @@ use Rattle.block_model.specs.History.{console}
 use Rattle.block_model.specs.Deciding.{history, end_of}
 use Rattle.block_model.specs.Plain.{PlainRun, plain_end, plain_run, plain_solo}
 use Rattle.block_model.specs.Replay.{Ask, script_of}
-use Rattle.draw_policies.specs.declared.policies.Policies.TheVariants.{All}
 use Rattle.drawn_runs.specs.Manners.{manner_for}
 use Rattle.drawn_runs.specs.WholeRuns.{IsDrawnRun}
 use Rattle.block_view.specs.Acts.{acts_of}
@@ -61,7 +60,7 @@ abbrev pub IsLogOf : Files → Source → Setting → List Entry → Type 0
 IsLogOf files Rule s log = IsSoloRun s log
 IsLogOf files (Script name) s log = IsScriptRun files name s log
 IsLogOf files (Workers seed) s log = IsChosenRun s seed log
-IsLogOf files (Drawn seed) s log = IsDrawnRun s (manner_for All None seed s.limits.steps) log
+IsLogOf files (Drawn seed draws) s log = IsDrawnRun s (manner_for draws.policies draws.calm seed s.limits.steps) log
 
 -- the program of this name was taken, and a machine is at the end of a run of this image, whose log came about in
 -- this way
@@ -123,7 +122,7 @@ abbrev pub IsPlainRunOf : Files → Source → Setting → PlainRun → Type 0
 IsPlainRunOf files Rule s run = run ≡ plain_solo s s.limits.steps
 IsPlainRunOf files (Script name) s run = IsPlainScriptRun files name s run
 IsPlainRunOf files (Workers seed) s run = IsPlainRunOver s (IsChosenRun s seed) run
-IsPlainRunOf files (Drawn seed) s run = IsPlainRunOver s (IsDrawnRun s (manner_for All None seed s.limits.steps)) run
+IsPlainRunOf files (Drawn seed draws) s run = IsPlainRunOver s (IsDrawnRun s (manner_for draws.policies draws.calm seed s.limits.steps)) run
 
 -- what the plain machine prints of a run that is asked for
 pub record IsPlainRunOutput (files : Files) (asked : Run) (written : List ℕ) : Type 0 where

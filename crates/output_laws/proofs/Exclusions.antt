@@ -108,7 +108,7 @@ used_by_run files program limits words.Rule image log taken made = (image, taken
 used_by_run files program limits (words.Script name) image log taken made =
     (image, made.lines, log, taken, made.read, made.run)
 used_by_run files program limits (words.Workers seed) image log taken made = (image, taken)
-used_by_run files program limits (words.Drawn seed) image log taken made = (image, taken)
+used_by_run files program limits (words.Drawn seed draws) image log taken made = (image, taken)
 
 pub used_by_output : (files : Files) (command : Option words.Command) (written : List ℕ)
     → IsOutputOf files command written → AreUsed files (needs_of command)

@@ -9,7 +9,6 @@ use Rattle.block_model.specs.Plain.{PlainRun, plain_run}
 use Rattle.block_model.specs.Replay.{Ask, script_of}
 use Rattle.block_model.specs.Setting.{Setting, setting_of}
 use Rattle.block_model.proofs.Laws.{one_setting}
-use Rattle.draw_policies.specs.declared.policies.Policies.TheVariants.{All}
 use Rattle.drawn_runs.specs.Manners.{manner_for}
 use Rattle.drawn_runs.proofs.Laws.{goes_on_alike}
 use Rattle.command_words.specs.Commands as words
@@ -51,7 +50,7 @@ program_told : (files : Files) (program : List ℕ) (source : words.Source) (lim
 program_told files program words.Rule limits told = told
 program_told files program (words.Script name) limits told = told.0
 program_told files program (words.Workers seed) limits told = told
-program_told files program (words.Drawn seed) limits told = told
+program_told files program (words.Drawn seed draws) limits told = told
 
 -- without workers it is run in one way
 one_run : (files : Files) (program : List ℕ) (source : words.Source) (limits : Limits) (s : Setting)
@@ -65,9 +64,9 @@ one_run files program (words.Script name) limits s run other quiet told first se
     let is = second.made in
     cc
 one_run files program (words.Workers seed) limits s run other quiet told first second = absurd (cc quiet)
-one_run files program (words.Drawn seed) limits s run other quiet told first second =
+one_run files program (words.Drawn seed draws) limits s run other quiet told first second =
     let same : first.log ≡ second.log =
-    goes_on_alike s (manner_for All None seed s.limits.steps) [] first.log second.log (omega arith) first.kind second.kind in
+    goes_on_alike s (manner_for draws.policies draws.calm seed s.limits.steps) [] first.log second.log (omega arith) first.kind second.kind in
     let made : plain_run s (script_of second.log) ≡ Ok run = ap (λ l. plain_run s (script_of l)) (sym same) ∙ first.made in
     let is = second.made in
     cc
@@ -130,7 +129,7 @@ some_need : (program : List ℕ) (source : words.Source) (limits : Limits) → �
 some_need program words.Rule limits none = absurd cc
 some_need program (words.Script name) limits none = absurd cc
 some_need program (words.Workers seed) limits none = absurd cc
-some_need program (words.Drawn seed) limits none = absurd cc
+some_need program (words.Drawn seed draws) limits none = absurd cc
 
 needs_some : (files : Files) (command : Option words.Command) (written : List ℕ) → IsOutputOf files command written
     → ¬ (needs_of command ≡ Nothing)

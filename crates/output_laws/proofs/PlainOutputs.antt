@@ -7,7 +7,6 @@ use Rattle.block_model.specs.Replay.{script_of}
 use Rattle.block_model.specs.Run.{IsBlockRun}
 use Rattle.block_model.specs.Setting.{Setting}
 use Rattle.block_model.proofs.Laws.{answers_itself, plain_makes, plain_solo_log, plain_solo_says, run_is_played}
-use Rattle.draw_policies.specs.declared.policies.Policies.TheVariants.{All}
 use Rattle.drawn_runs.specs.Manners.{manner_for}
 use Rattle.drawn_runs.specs.WholeRuns.{IsDrawnRun}
 use Rattle.command_words.specs.declared.table.Shown.{Shown}
@@ -72,7 +71,7 @@ run_alike files (Script name) s log played =
       says = made.says;
     }
 run_alike files (Workers seed) s log run = over_log s (IsChosenRun s seed) log run.block_run run
-run_alike files (Drawn seed) s log run = over_log s (IsDrawnRun s (manner_for All None seed s.limits.steps)) log run.block_run run
+run_alike files (Drawn seed draws) s log run = over_log s (IsDrawnRun s (manner_for draws.policies draws.calm seed s.limits.steps)) log run.block_run run
 
 pub plain_output_of : (files : Files) (command : Option Command) (written : List ℕ)
     → IsOutputOf files command written → IsPlainOutputOf files command written

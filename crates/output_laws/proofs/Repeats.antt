@@ -170,7 +170,7 @@ pub block_run_of : (files : Files) (source : Source) (s : Setting) (log : List E
 block_run_of files Rule s log made = made.block_run
 block_run_of files (Script name) s log made = made.run.block_run
 block_run_of files (Workers seed) s log made = made.block_run
-block_run_of files (Drawn seed) s log made = made.block_run
+block_run_of files (Drawn seed draws) s log made = made.block_run
 
 -- so it is played again to the same text
 pub printed_again : (files later : Files) (run : Run) (script written : List ℕ)

@@ -9,6 +9,8 @@ const OPTIONS: &str = "  --harts N   how many harts there are: 1 to 8; 2 where i
   --frames N  how many frames of memory there are: 128 to 16384; 4096
   --steps N   how many lines the log may have: 1 to 1000000; 200000
   --seed N    where the generators begin: 0 to 18446744073709551615; 1
+  --policy P  which policy draws: one, long, short, pos, spread, or all in turn by the seed; all
+  --calm N    from how many events on the run goes on fairly: 0 to 1000000; a quarter of the steps
 ";
 
 /// The version (own).
@@ -28,8 +30,9 @@ fn words_of_run(source: SourceKind) -> &'static str {
     match source {
         SourceKind::ByRule => "FILE [--frames N] [--steps N]",
         SourceKind::ByScript => "FILE SCRIPT [--harts N] [--frames N] [--steps N]",
-        SourceKind::ByWorkers | SourceKind::ByDraws => {
-            "FILE [--harts N] [--frames N] [--steps N] [--seed N]"
+        SourceKind::ByWorkers => "FILE [--harts N] [--frames N] [--steps N] [--seed N]",
+        SourceKind::ByDraws => {
+            "FILE [--harts N] [--frames N] [--steps N] [--seed N] [--policy P] [--calm N]"
         }
     }
 }

@@ -1,12 +1,12 @@
 -- From a whole run to the text of a command.
-use Rattle.std.proofs.Common.{◌≡◌, ℕ, List, None, subst, sym}
+use Rattle.std.proofs.Common.{◌≡◌, ℕ, List, subst, sym}
 use Rattle.mach_types.specs.declared.limits.Limits.{Limits}
 use Rattle.elf_load.specs.declared.image.Image.{Image}
 use Rattle.block_model.specs.Run.{IsBlockRun}
 use Rattle.block_model.specs.Setting.{Setting, Seen, setting_of}
-use Rattle.draw_policies.specs.declared.policies.Policies.TheVariants.{All}
 use Rattle.drawn_runs.specs.Manners.{manner_for}
 use Rattle.drawn_runs.specs.WholeRuns.{IsWholeDrawn}
+use Rattle.command_words.specs.declared.commands.Draws.{Draws}
 use Rattle.command_words.specs.Commands.{Run, Source, Rule, Script, Workers, Drawn}
 use Rattle.outcomes.specs.Outputs.{HasRun, IsRunOutput, shown_text}
 use Rattle.outcomes.specs.Programs.{Files, IsProgram, IsScript}
@@ -39,11 +39,11 @@ pub run_by_workers : (files : Files) (program : List ℕ) (limits : Limits) (see
 run_by_workers files program limits seed image m taken whole =
     record { taken = taken; setting = whole.setting; made = whole.run }
 
-pub run_by_draws : (files : Files) (program : List ℕ) (limits : Limits) (seed : ℕ) (image : Image) (m : Seen)
+pub run_by_draws : (files : Files) (program : List ℕ) (limits : Limits) (seed : ℕ) (draws : Draws) (image : Image) (m : Seen)
     → IsProgram files program limits image
-    → IsWholeDrawn (setting_of image limits) (manner_for All None seed limits.steps) m
-    → HasRun files program (Drawn seed) limits image m
-run_by_draws files program limits seed image m taken whole =
+    → IsWholeDrawn (setting_of image limits) (manner_for draws.policies draws.calm seed limits.steps) m
+    → HasRun files program (Drawn seed draws) limits image m
+run_by_draws files program limits seed draws image m taken whole =
     record { taken = taken; setting = whole.setting; made = whole.run }
 
 -- the machine at its end made a block run

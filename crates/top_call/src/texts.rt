@@ -17,9 +17,8 @@ ghost use Rattle.outcomes.specs.Reasons.{IsReasonFor};
 
 use crate::fetching::{read_file, taken};
 use command_runs::{play, run_rounds, run_solo, run_workers, shown_text, trial_text};
-use command_words::{Command, Guest, Run, Source, Trial};
+use command_words::{Command, Draws, Guest, Run, Source, Trial};
 use drawn_machine::run_drawn;
-use draw_policies::Policies;
 use drawn_runs::Manner;
 use elf_load::{ElfFault, Image, load};
 use guest_programs::{GuestFault, make};
@@ -186,7 +185,9 @@ fn quiet_run<S: Shelf>(alloc: Global, run: &Run, shelf: &mut S) -> Result<Progra
     match run.source {
         Source::Rule => rule_run(alloc, run.program, run.limits, shelf),
         Source::Script(script) => script_run(alloc, run.program, script, run.limits, shelf),
-        Source::Drawn { seed } => drawn_run(alloc, run.program, run.limits, seed, shelf),
+        Source::Drawn { seed, draws } => {
+            drawn_run(alloc, run.program, run.limits, seed, draws, shelf)
+        }
         Source::Workers { .. } => unreachable!(),
     }
 }
@@ -271,20 +272,21 @@ fn drawn_run<S: Shelf>(
     program: &str,
     limits: Limits,
     seed: u64,
+    draws: Draws,
     shelf: &mut S,
 ) -> Result<ProgramRun, Reason>
     requires { InRange limits }
     ensures run { IfOk result
-        (λ run. HasRun (S.file shelf.old) program.now (Drawn seed) limits run.image run.machine) }
+        (λ run. HasRun (S.file shelf.old) program.now (Drawn seed draws) limits run.image run.machine) }
     ensures bootable { IfOk result (λ run. IsBootable limits.frames run.image) }
-    ensures cause { let needs = needs_by program.now (Drawn seed) limits in
+    ensures cause { let needs = needs_by program.now (Drawn seed draws) limits in
         IfErr result (IsReasonFor (S.file shelf.old) needs (S.faults shelf.old) (S.faults shelf.new)
         (S.last_trouble shelf.new)) }
     ensures files { S.file shelf.new ≡ S.file shelf.old }
     ensures counts { NoneFalls (S.faults shelf.old) (S.faults shelf.new) }
 {
     let image = taken(alloc, program, &limits, shelf)?;
-    let manner = Manner::of(Policies::All, None, seed, limits.steps);
+    let manner = Manner::of(draws.policies, draws.calm, seed, limits.steps);
     let machine = run_drawn(alloc, &image, limits, &manner)?;
     Ok(ProgramRun { image, machine })
 }

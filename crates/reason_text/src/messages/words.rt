@@ -9,6 +9,9 @@ use std::fmt::Write;
 /// The guests.
 const GUESTS: &str = "counter, list, pool, dekker, signals and migrate";
 
+/// The names of policies.
+const POLICIES: &str = "all, one, long, short, pos and spread";
+
 /// Appends what is wrong with the words, and the usage.
 pub(crate) fn push_words_fault(
     text: &mut String,
@@ -40,7 +43,7 @@ fn push_word(text: &mut String, fault: WordsFault, words: &[String]) -> Result<(
         | WordsFault::OneNameTooMany(number)
         | WordsFault::UnknownGuest(number)
         | WordsFault::NoNumber(number) => number,
-        WordsFault::OutOfRange { word, .. } => {
+        WordsFault::OutOfRange { word, .. } | WordsFault::UnknownPolicy(word) => {
             push_option(text, words, word)?;
             word
         }
@@ -69,6 +72,9 @@ fn push_complaint(text: &mut String, fault: WordsFault, command: &str) -> Result
         WordsFault::NoProgram => text.push_str("the name of the program is missing\n"),
         WordsFault::NoScript => text.push_str("the name of the script is missing\n"),
         WordsFault::UnknownGuest(_) => writeln!(text, "there is no such guest; there are {GUESTS}"),
+        WordsFault::UnknownPolicy(_) => {
+            writeln!(text, "there is no such policy; there are {POLICIES}")
+        }
         WordsFault::NoNumber(_) => {
             text.push_str("the size isn't a number, of 20 digits at most and below 2^64\n")
         }

@@ -1,21 +1,49 @@
-use Rattle.std.proofs.Common.{◌≡◌, ◌∙◌, ap₂, codes, refl, List, ℕ, Option}
+use Rattle.std.proofs.Common.{◌≡◌, ◌∙◌, ap₂, codes, List, ℕ, Option}
+use Rattle.std.specs.Prelude.{option_copied}
 use Rattle.clap.proofs.WalkLemmas.{first_value-rows}
 use Rattle.clap.specs.Words.{Row, found_of, first_of, rows_of}
+use Rattle.command_words.specs.Kept.{names_kept, stated, value_kept}
 use Rattle.command_words.specs.Line.{arguments_found, names_found}
+use Rattle.command_words.specs.Options.{OptionName, Harts, Frames, Steps, Seed, Policy, Calm, long_name}
+use Rattle.command_words.specs.declared.arguments.Arguments.{Arguments}
 use Rattle.command_words.proofs.arguments.arguments_in.Goals as goal
 
-arguments_are : (rows : List Row) (names : List (List ℕ)) (h f s d : Option (List ℕ))
-    → names ≡ names_found (first_of (codes "program") rows) (first_of (codes "script") rows)
-    → h ≡ first_of (codes "harts") rows → f ≡ first_of (codes "frames") rows → s ≡ first_of (codes "steps") rows
-    → d ≡ first_of (codes "seed") rows
-    → arguments_found rows ≡ record { names = names; harts = h; frames = f; steps = s; seed = d }
-arguments_are rows names h f s d is_names is_h is_f is_s is_d = rw (is_names, is_h, is_f, is_s, is_d) refl
+arguments_are : (rows : List Row) (kept : Arguments)
+    → names_kept kept.names ≡ names_found (first_of (codes "program") rows) (first_of (codes "script") rows)
+    → ((option : OptionName) → value_kept kept option ≡ first_of (long_name option) rows)
+    → stated kept ≡ arguments_found rows
+arguments_are rows kept names value = λ i. record { names = names i; values = λ option. value option i }
+
+values_are : (rows : List Row) (kept : Arguments) → option_copied kept.harts ≡ first_of (codes "harts") rows
+    → option_copied kept.frames ≡ first_of (codes "frames") rows
+    → option_copied kept.steps ≡ first_of (codes "steps") rows
+    → option_copied kept.seed ≡ first_of (codes "seed") rows
+    → option_copied kept.policy ≡ first_of (codes "policy") rows
+    → option_copied kept.calm ≡ first_of (codes "calm") rows
+    → (option : OptionName) → value_kept kept option ≡ first_of (long_name option) rows
+values_are rows kept harts frames steps seed policy calm Harts = harts
+values_are rows kept harts frames steps seed policy calm Frames = frames
+values_are rows kept harts frames steps seed policy calm Steps = steps
+values_are rows kept harts frames steps seed policy calm Seed = seed
+values_are rows kept harts frames steps seed policy calm Policy = policy
+values_are rows kept harts frames steps seed policy calm Calm = calm
 
 pub returns : goal.returns
 returns c =
     let at = λ (id : List ℕ). first_value-rows (found_of c.args.matches.now) id in
-    Rattle.std.proofs.Common.sym (arguments_are (rows_of (found_of c.args.matches.now)) _ _ _ _ _
+    let rows = rows_of (found_of c.args.matches.now) in
+    let kept : Arguments = record {
+      names = c.names_of.result;
+      harts = c.get_str-3.result;
+      frames = c.get_str-4.result;
+      steps = c.get_str-5.result;
+      seed = c.get_str-6.result;
+      policy = c.get_str-7.result;
+      calm = c.get_str-8.result;
+    } in
+    arguments_are rows kept
     (c.names_of.ensures ∙ ap₂ names_found (c.get_str.ensures ∙ at (codes "program")) (c.get_str-2.ensures
     ∙ at (codes "script")))
-    (c.get_str-3.ensures ∙ at (codes "harts")) (c.get_str-4.ensures ∙ at (codes "frames"))
-    (c.get_str-5.ensures ∙ at (codes "steps")) (c.get_str-6.ensures ∙ at (codes "seed")))
+    (values_are rows kept (c.get_str-3.ensures ∙ at (codes "harts")) (c.get_str-4.ensures ∙ at (codes "frames"))
+    (c.get_str-5.ensures ∙ at (codes "steps")) (c.get_str-6.ensures ∙ at (codes "seed"))
+    (c.get_str-7.ensures ∙ at (codes "policy")) (c.get_str-8.ensures ∙ at (codes "calm")))
