@@ -1,9 +1,10 @@
 //! Tests of `elf_make`: files for programs, what is due for them, and parts that are refused.
 
-use elf_load::load;
+use elf_load::{ImagePage, load};
 use elf_make::{MakeFault, Part, Parts, write_elf};
 use mach_types::Limits;
 use std::alloc::{AllocError, Global};
+use std::process::Abort;
 use std::test::Fail;
 
 /// Three instructions that end the process with status 7.
@@ -51,7 +52,7 @@ fn one_part(rt: HostRuntime) -> Result<(), Fail> {
     let mut parts = program(rt.alloc(), 0x10078, 0);
     parts.segments.push(code_part(rt.alloc())?)?;
     let file = write_elf(rt.alloc(), &parts)?;
-    assert_eq!(rt; file.as_slice(), FILE.as_slice());
+    assert!(rt; file.as_slice() == FILE.as_slice());
     Ok(())
 }
 
@@ -73,32 +74,48 @@ const PAGES: [(u64, u8, [u8; 3]); 4] = [
     (0x31, 6, [0, 0, 0]),
 ];
 
+const LIMITS: Limits = Limits {
+    harts: 1,
+    frames: 128,
+    steps: 1,
+};
+
+/// A page must be as a row says.
+fn expect_page(rt: &impl Abort, page: &ImagePage, row: &(u64, u8, [u8; 3])) {
+    let (number, perm, due) = row;
+    assert!(rt;
+        page.number == *number && page.perm == *perm,
+        "page {number:x}"
+    );
+    let bytes = [page.bytes[0], page.bytes[0x78], page.bytes[0xffe]];
+    assert!(rt; bytes == *due, "page {number:x}");
+}
+
+/// The file is loaded to the pages.
+fn expect_loaded(rt: &impl Abort, alloc: Global, file: &[u8]) -> Result<(), Fail> {
+    let image = load(alloc, file, &LIMITS)?;
+    assert!(rt; image.break_at == 0x32000);
+    assert!(rt; image.entry == 0x10078);
+    assert!(rt; image.pages.len() == PAGES.len());
+    for (page, row) in image.pages.iter().zip(&PAGES) {
+        expect_page(rt, page, row);
+    }
+    Ok(())
+}
+
 #[test]
 fn parts_stand_at_places_of_their_addresses(rt: HostRuntime) -> Result<(), Fail> {
     let file = write_elf(rt.alloc(), &two_parts(rt.alloc())?)?;
     // The headers end at 176. The next place that is 0xffe modulo 4096 is 4094, and the next that is
     // 0x78 is 4216.
-    assert_eq!(rt; file.len(), 4228);
-    assert_eq!(rt; file.get(4094).copied(), Some(7));
-    assert_eq!(rt; file.get(4216).copied(), Some(0x13));
-    let limits = Limits {
-        harts: 1,
-        frames: 128,
-        steps: 1,
-    };
-    let image = load(rt.alloc(), &file, &limits)?;
-    assert_eq!(rt; image.pages.len(), PAGES.len());
-    for (page, due) in image.pages.iter().zip(PAGES) {
-        let bytes = [page.bytes[0], page.bytes[0x78], page.bytes[0xffe]];
-        assert_eq!(rt; (page.number, page.perm, bytes), due);
-    }
-    assert_eq!(rt; (image.break_at, image.entry), (0x32000, 0x10078));
-    Ok(())
+    assert!(rt; file.len() == 4228);
+    assert!(rt; file.get(4094).copied() == Some(7));
+    assert!(rt; file.get(4216).copied() == Some(0x13));
+    expect_loaded(&rt, rt.alloc(), &file)
 }
 
 /// A second part beside the code: its address, its permission, how many bytes it has in the file, and in
 /// memory.
-#[derive(Clone, Copy, Drop)]
 struct Second {
     at: u64,
     perm: u8,
@@ -146,7 +163,12 @@ const ROWS: [Row; 15] = [
 ];
 
 /// The code and a second part.
-fn with_second(alloc: Global, entry: u64, flags: u32, second: Second) -> Result<Parts, AllocError> {
+fn with_second(
+    alloc: Global,
+    entry: u64,
+    flags: u32,
+    second: &Second,
+) -> Result<Parts, AllocError> {
     let mut parts = program(alloc, entry, flags);
     parts.segments.push(code_part(alloc)?)?;
     let bytes = vec![in alloc; 0u8; second.length]?;
@@ -167,9 +189,9 @@ fn refused(alloc: Global, parts: &Parts) -> Result<Option<usize>, AllocError> {
 
 #[test]
 fn refusals(rt: HostRuntime) -> Result<(), Fail> {
-    for (entry, flags, second, index) in ROWS {
-        let parts = with_second(rt.alloc(), entry, flags, second)?;
-        assert_eq!(rt; refused(rt.alloc(), &parts)?, index, "at {}", second.at);
+    for (entry, flags, second, index) in &ROWS {
+        let parts = with_second(rt.alloc(), *entry, *flags, second)?;
+        assert!(rt; refused(rt.alloc(), &parts)? == *index, "at {}", second.at);
     }
     Ok(())
 }

@@ -7,7 +7,6 @@ use mach_types::Regs;
 use manual::EFFECTS;
 use rv_exec::{amo_value, effect, finish_load};
 use rv_inst::Effect;
-use std::test::Fail;
 use vectors::{AMOS, BRANCHES, IMMEDIATES, LOADS, REGISTERS};
 
 /// Registers with x1 and x2 set.
@@ -19,33 +18,37 @@ fn registers(x1: u64, x2: u64) -> Regs {
 }
 
 #[test]
-fn register_vectors(rt: HostRuntime) -> Result<(), Fail> {
+fn register_vectors(rt: HostRuntime) {
     for (inst, a, b, value) in &REGISTERS {
         let after = Effect::Next {
             rd: 3,
             value: *value,
             pc: 0x1004,
         };
-        assert_eq!(rt; effect(inst, &registers(*a, *b), 0x1000), after);
+        assert!(rt;
+            effect(inst, &registers(*a, *b), 0x1000) == after,
+            "{a:x} {b:x}"
+        );
     }
-    Ok(())
 }
 
 #[test]
-fn immediate_vectors(rt: HostRuntime) -> Result<(), Fail> {
+fn immediate_vectors(rt: HostRuntime) {
     for (inst, a, value) in &IMMEDIATES {
         let after = Effect::Next {
             rd: 3,
             value: *value,
             pc: 0x1004,
         };
-        assert_eq!(rt; effect(inst, &registers(*a, 0), 0x1000), after);
+        assert!(rt;
+            effect(inst, &registers(*a, 0), 0x1000) == after,
+            "{a:x} {value:x}"
+        );
     }
-    Ok(())
 }
 
 #[test]
-fn branch_vectors(rt: HostRuntime) -> Result<(), Fail> {
+fn branch_vectors(rt: HostRuntime) {
     for (inst, a, b, is_taken) in &BRANCHES {
         let pc = if *is_taken { 0xff8 } else { 0x1004 };
         let after = Effect::Next {
@@ -53,32 +56,40 @@ fn branch_vectors(rt: HostRuntime) -> Result<(), Fail> {
             value: 0,
             pc,
         };
-        assert_eq!(rt; effect(inst, &registers(*a, *b), 0x1000), after);
+        assert!(rt;
+            effect(inst, &registers(*a, *b), 0x1000) == after,
+            "{a:x} {b:x}"
+        );
     }
-    Ok(())
 }
 
 #[test]
-fn load_vectors(rt: HostRuntime) -> Result<(), Fail> {
+fn load_vectors(rt: HostRuntime) {
     for (size, signed, raw, value) in &LOADS {
-        assert_eq!(rt; finish_load(*raw, *size, *signed), *value);
+        assert!(rt;
+            finish_load(*raw, *size, *signed) == *value,
+            "{raw:x} {size}"
+        );
     }
-    Ok(())
 }
 
 #[test]
-fn amo_vectors(rt: HostRuntime) -> Result<(), Fail> {
+fn amo_vectors(rt: HostRuntime) {
     for (op, size, old, value, after, loaded) in &AMOS {
-        assert_eq!(rt; amo_value(*op, *size, *old, *value), *after);
-        assert_eq!(rt; finish_load(*old, *size, true), *loaded);
+        assert!(rt;
+            amo_value(*op, *size, *old, *value) == *after,
+            "{size} {old:x} {value:x}"
+        );
+        assert!(rt; finish_load(*old, *size, true) == *loaded, "{size} {old:x}");
     }
-    Ok(())
 }
 
 #[test]
-fn manual_cases(rt: HostRuntime) -> Result<(), Fail> {
+fn manual_cases(rt: HostRuntime) {
     for (inst, a, b, after) in &EFFECTS {
-        assert_eq!(rt; effect(inst, &registers(*a, *b), 0x1000), *after);
+        assert!(rt;
+            effect(inst, &registers(*a, *b), 0x1000) == *after,
+            "{a:x} {b:x}"
+        );
     }
-    Ok(())
 }

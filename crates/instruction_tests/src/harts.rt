@@ -109,27 +109,27 @@ impl Bench {
             assert!(rt; self.memory.writable(store.at, store.size));
         }
         let entered = self.hart.drain(&mut self.memory);
-        assert_eq!(rt; entered.map(|store| store.value), value);
+        assert!(rt; entered.map(|store| store.value) == value);
     }
 
     /// The register must have this value.
     fn expect_register(&self, rt: &impl Abort, number: u8, value: u64) {
-        assert_eq!(rt; self.hart.file.get(number), value, "x{number}");
+        assert!(rt; self.hart.file.get(number) == value, "x{number}");
     }
 
     /// The reservation must be this.
     fn expect_reserved(&self, rt: &impl Abort, reserved: Option<u64>) {
-        assert_eq!(rt; self.hart.reserved, reserved);
+        assert!(rt; self.hart.reserved == reserved);
     }
 
     /// The pc must be this.
     fn expect_pc(&self, rt: &impl Abort, pc: u64) {
-        assert_eq!(rt; self.hart.pc, pc);
+        assert!(rt; self.hart.pc == pc);
     }
 
     /// The 8 bytes of memory at an address must be those of this number.
     fn expect_double(&self, rt: &impl Abort, at: u64, value: u64) {
-        assert_eq!(rt; self.memory.get(at, 8), Some(value), "at {at}");
+        assert!(rt; self.memory.get(at, 8) == Some(value), "at {at}");
     }
 
     /// Writes the 8 bytes of memory at an address, which can be written.
@@ -137,52 +137,26 @@ impl Bench {
         assert!(rt; self.memory.set(at, 8, value));
     }
 
-    /// The condition that fails must be this.
-    fn expect_gate(&self, rt: &impl Abort, effect: Effect, faults: bool, why: Option<Why>) {
-        assert_eq!(rt; self.hart.exec_gate(Some(&effect), faults), why);
+    /// The conditions that fail must be these.
+    fn expect_gates(&self, rt: &impl Abort, rows: &[Gate]) {
+        for (row, effect, faults, why) in rows {
+            assert!(rt;
+                self.hart.exec_gate(Some(effect), *faults) == *why,
+                "row {row}"
+            );
+        }
     }
 
     /// The fault must be this.
-    fn expect_fault(&self, rt: &impl Abort, effect: Effect, signal: Option<u8>)
-        requires { HasAccessSizes effect }
+    fn expect_fault(&self, rt: &impl Abort, effect: &Effect, signal: Option<u8>)
+        requires { HasAccessSizes effect.now }
     {
-        assert_eq!(rt; self.hart.fault_of(&self.memory, &effect), signal);
-    }
-
-    /// The fault of an AMO of so many bytes must be this.
-    fn expect_amo_fault(&self, rt: &impl Abort, at: u64, size: u8, signal: Option<u8>)
-        requires { IsAccessSize size }
-    {
-        let amo = Effect::Amo {
-            op: AmoOp::Add,
-            at,
-            size,
-            value: 0,
-            rd: 1,
-        };
-        self.expect_fault(rt, amo, signal);
-    }
-
-    /// The fault of an LR of so many bytes must be this.
-    fn expect_lr_fault(&self, rt: &impl Abort, at: u64, size: u8, signal: Option<u8>)
-        requires { IsAccessSize size }
-    {
-        self.expect_fault(rt, Effect::Lr { at, size, rd: 1 }, signal);
-    }
-
-    /// The fault of an SC of so many bytes must be this.
-    fn expect_sc_fault(&self, rt: &impl Abort, at: u64, size: u8, signal: Option<u8>)
-        requires { IsAccessSize size }
-    {
-        let conditional = Effect::Sc {
-            at,
-            size,
-            value: 0,
-            rd: 1,
-        };
-        self.expect_fault(rt, conditional, signal);
+        assert!(rt; self.hart.fault_of(&self.memory, effect) == signal);
     }
 }
+
+/// The number of the row, what an instruction does, whether it faults there, and the condition that fails.
+type Gate = (u8, Effect, bool, Option<Why>);
 
 /// A plain store of the first byte.
 const STORE: Effect = Effect::Store {
@@ -192,75 +166,123 @@ const STORE: Effect = Effect::Store {
 };
 
 /// A plain load of 8 bytes.
-fn plain_load(at: u64) -> Effect
-    ensures { HasAccessSizes result }
-{
-    Effect::Load {
-        at,
-        size: 8,
-        signed: false,
-        rd: 1,
-    }
-}
+const LOAD: Effect = Effect::Load {
+    at: FLAT_START,
+    size: 8,
+    signed: false,
+    rd: 1,
+};
 
-/// A plain store of 8 bytes.
-fn plain_store(at: u64) -> Effect
-    ensures { HasAccessSizes result }
-{
-    Effect::Store {
-        at,
-        size: 8,
-        value: 0,
-    }
-}
+/// No store waits.
+const EMPTY: [Gate; 2] = [(0, Effect::FenceI, true, None), (1, STORE, false, None)];
+
+/// Eight stores wait.
+const FULL: [Gate; 8] = [
+    (0, Effect::Fence { full: true }, false, Some(Why::Waiting)),
+    (1, Effect::Fence { full: false }, false, None),
+    (2, Effect::FenceI, false, Some(Why::Waiting)),
+    (3, Effect::Call, false, Some(Why::Waiting)),
+    (4, LOAD, true, Some(Why::Waiting)),
+    (5, STORE, false, Some(Why::FullBuffer)),
+    (6, STORE, true, Some(Why::Waiting)),
+    (7, LOAD, false, None),
+];
+
+/// They wait, and so does the thread, in a barrier; and the same once no thread runs.
+const IN_BARRIER: [Gate; 1] = [(0, STORE, true, Some(Why::InBarrier))];
+
+const IDLE: [Gate; 1] = [(0, STORE, true, Some(Why::Idle))];
 
 #[test]
 fn gates_come_in_order(rt: HostRuntime) -> Result<(), Fail> {
     let mut bench = Bench::new(rt.alloc())?;
-    bench.expect_gate(&rt, Effect::FenceI, true, None);
+    bench.expect_gates(&rt, &EMPTY);
     for _ in 0..8 {
-        bench.expect_gate(&rt, STORE, false, None);
         bench.store(&rt, FLAT_START, 1, 1);
     }
-    assert_eq!(rt; bench.hart.exec_gate(None, true), Some(Why::Waiting));
-    assert_eq!(rt; bench.hart.exec_gate(None, false), None);
-    bench.expect_gate(&rt, Effect::Fence { full: true }, false, Some(Why::Waiting));
-    bench.expect_gate(&rt, Effect::Fence { full: false }, false, None);
-    bench.expect_gate(&rt, Effect::FenceI, false, Some(Why::Waiting));
-    bench.expect_gate(&rt, Effect::Call, false, Some(Why::Waiting));
-    bench.expect_gate(&rt, plain_load(FLAT_START), true, Some(Why::Waiting));
-    bench.expect_gate(&rt, STORE, false, Some(Why::FullBuffer));
-    bench.expect_gate(&rt, STORE, true, Some(Why::Waiting));
-    bench.expect_gate(&rt, plain_load(FLAT_START), false, None);
+    assert!(rt; bench.hart.exec_gate(None, true) == Some(Why::Waiting));
+    assert!(rt; bench.hart.exec_gate(None, false).is_none());
+    bench.expect_gates(&rt, &FULL);
     bench.hart.waits = Some(2);
-    bench.expect_gate(&rt, STORE, true, Some(Why::InBarrier));
+    bench.expect_gates(&rt, &IN_BARRIER);
     bench.hart.running = None;
-    bench.expect_gate(&rt, STORE, true, Some(Why::Idle));
+    bench.expect_gates(&rt, &IDLE);
     Ok(())
 }
+
+/// An access of memory.
+enum Access {
+    Load,
+    Store,
+    Amo,
+    Reserving,
+    Conditional,
+}
+
+/// What an instruction of an access does.
+fn effect_of(access: &Access, at: u64, size: u8) -> Effect
+    requires { IsAccessSize size }
+    ensures { HasAccessSizes result }
+{
+    let (value, rd) = (0, 1);
+    match access {
+        Access::Load => Effect::Load {
+            at,
+            size,
+            signed: false,
+            rd,
+        },
+        Access::Store => Effect::Store { at, size, value },
+        Access::Amo => Effect::Amo {
+            op: AmoOp::Add,
+            at,
+            size,
+            value,
+            rd,
+        },
+        Access::Reserving => Effect::Lr { at, size, rd },
+        Access::Conditional => Effect::Sc {
+            at,
+            size,
+            value,
+            rd,
+        },
+    }
+}
+
+/// An access, its address, how many bytes it has, and the signal of its fault.
+const FAULTS: [(Access, u64, u8, Option<u8>); 16] = [
+    (Access::Amo, 0x1004, 4, None),
+    (Access::Amo, 0x1004, 8, Some(7)),
+    (Access::Amo, 0x1031, 4, Some(7)),
+    (Access::Amo, 0x1030, 4, Some(11)),
+    (Access::Reserving, 0x1004, 8, Some(7)),
+    (Access::Reserving, 0x1030, 8, None),
+    (Access::Reserving, 0x1400, 8, Some(11)),
+    (Access::Conditional, 0x1001, 4, Some(7)),
+    (Access::Conditional, 0x1030, 4, Some(11)),
+    (Access::Conditional, 0x102c, 4, None),
+    (Access::Load, 0x1001, 8, None),
+    (Access::Load, 0x13f8, 8, None),
+    (Access::Load, 0x13f9, 8, Some(11)),
+    (Access::Store, 0x1001, 8, None),
+    (Access::Store, 0x1028, 8, None),
+    (Access::Store, 0x1029, 8, Some(11)),
+];
 
 #[test]
 fn faults_of_each_access(rt: HostRuntime) -> Result<(), Fail> {
     let bench = Bench::new(rt.alloc())?;
-    bench.expect_amo_fault(&rt, 0x1004, 4, None);
-    bench.expect_amo_fault(&rt, 0x1004, 8, Some(7));
-    bench.expect_amo_fault(&rt, 0x1031, 4, Some(7));
-    bench.expect_amo_fault(&rt, 0x1030, 4, Some(11));
-    bench.expect_lr_fault(&rt, 0x1004, 8, Some(7));
-    bench.expect_lr_fault(&rt, 0x1030, 8, None);
-    bench.expect_lr_fault(&rt, 0x1400, 8, Some(11));
-    bench.expect_sc_fault(&rt, 0x1001, 4, Some(7));
-    bench.expect_sc_fault(&rt, 0x1030, 4, Some(11));
-    bench.expect_sc_fault(&rt, 0x102c, 4, None);
-    bench.expect_fault(&rt, plain_load(0x1001), None);
-    bench.expect_fault(&rt, plain_load(0x13f8), None);
-    bench.expect_fault(&rt, plain_load(0x13f9), Some(11));
-    bench.expect_fault(&rt, plain_store(0x1001), None);
-    bench.expect_fault(&rt, plain_store(0x1028), None);
-    bench.expect_fault(&rt, plain_store(0x1029), Some(11));
-    bench.expect_fault(&rt, Effect::Break, Some(5));
-    bench.expect_fault(&rt, Effect::Misaligned, Some(7));
-    bench.expect_fault(&rt, Effect::Call, None);
+    for (access, at, size, signal) in &FAULTS {
+        assert!(rt; *size == 4 || *size == 8);
+        let fault = bench
+            .hart
+            .fault_of(&bench.memory, &effect_of(access, *at, *size));
+        assert!(rt; fault == *signal, "{at:x} {size}");
+    }
+    bench.expect_fault(&rt, &Effect::Break, Some(5));
+    bench.expect_fault(&rt, &Effect::Misaligned, Some(7));
+    bench.expect_fault(&rt, &Effect::Call, None);
     Ok(())
 }
 
@@ -332,33 +354,35 @@ fn a_thread_leaves_and_enters(rt: HostRuntime) -> Result<(), Fail> {
     bench.expect_register(&rt, 3, 0);
     bench.expect_pc(&rt, 0);
     bench.hart.enter(Tid(2), saved, 5);
-    assert_eq!(rt; bench.hart.running, Some(Tid(2)));
-    assert_eq!(rt; bench.hart.cid, 5);
+    assert!(rt; bench.hart.running == Some(Tid(2)));
+    assert!(rt; bench.hart.cid == 5);
     bench.expect_register(&rt, 3, 9);
     bench.expect_pc(&rt, 0x404);
     let _saved = bench.hart.leave();
-    assert_eq!(rt; bench.hart.cid, 0);
+    assert!(rt; bench.hart.cid == 0);
     Ok(())
 }
+
+/// An address, a size, and whether a write of so many bytes there leaves the reservation of 0x1008.
+const WRITES: [(u64, u8, bool); 9] = [
+    (0x1000, 8, true),
+    (0x1007, 1, true),
+    (0x1010, 4, true),
+    (0x1007, 2, false),
+    (0x1004, 8, false),
+    (0x1008, 1, false),
+    (0x100f, 1, false),
+    (0x100c, 8, false),
+    (0x100c, 0, true),
+];
 
 #[test]
 fn a_write_to_the_reserved_bytes_ends_the_reservation(rt: HostRuntime) -> Result<(), Fail> {
     let mut bench = Bench::new(rt.alloc())?;
-    let cases = [
-        (0x1000, 8, true),
-        (0x1007, 1, true),
-        (0x1010, 4, true),
-        (0x1007, 2, false),
-        (0x1004, 8, false),
-        (0x1008, 1, false),
-        (0x100f, 1, false),
-        (0x100c, 8, false),
-        (0x100c, 0, true),
-    ];
-    for (at, size, stays) in cases {
+    for (at, size, stays) in &WRITES {
         bench.hart.reserved = Some(0x1008);
-        bench.hart.lose(at, size);
-        assert_eq!(rt; bench.hart.reserved.is_some(), stays, "at {at}");
+        bench.hart.lose(*at, *size);
+        assert!(rt; bench.hart.reserved.is_some() == *stays, "at {at}");
     }
     Ok(())
 }

@@ -90,31 +90,68 @@ fn store(at: u64, size: u8, value: u64) -> Store
     Store { at, size, value }
 }
 
-fn sees(rt: &impl Abort, buffer: &StoreBuffer, mem: &Ramp, at: u64, size: u8, value: Option<u64>)
-    requires { IsAccessSize size }
-{
-    assert_eq!(rt; buffer.look(mem, at, size), value);
+/// An address, how many bytes a load there has, and what it sees.
+type Seen = (u64, u8, u64);
+
+/// What loads see of the wide memory.
+fn sees(rt: &impl Abort, buffer: &StoreBuffer, rows: &[Seen]) {
+    for (at, size, value) in rows {
+        assert!(rt; *size == 1 || *size == 2 || *size == 4 || *size == 8);
+        assert!(rt;
+            buffer.look(&WIDE, *at, *size) == Some(*value),
+            "{at:x} {size}"
+        );
+    }
 }
+
+/// Beside a store of 0xaabbccdd at 0x1010.
+const BESIDE: [Seen; 13] = [
+    (0x1010, 4, 0xaabb_ccdd),
+    (0x1010, 1, 0xdd),
+    (0x1013, 1, 0xaa),
+    (0x1011, 2, 0xbbcc),
+    (0x1010, 8, 0x1716_1514_aabb_ccdd),
+    (0x100c, 8, 0xaabb_ccdd_0f0e_0d0c),
+    (0x100e, 4, 0xccdd_0f0e),
+    (0x1012, 4, 0x1514_aabb),
+    (0x1014, 4, 0x1716_1514),
+    (0x100c, 4, 0x0f0e_0d0c),
+    (0x100f, 2, 0xdd0f),
+    (0x1009, 8, 0xdd0f_0e0d_0c0b_0a09),
+    (0x100e, 8, 0x1514_aabb_ccdd_0f0e),
+];
 
 #[test]
 fn one_store_is_seen_where_it_lies(rt: HostRuntime) -> Result<(), Fail> {
     let mut buffer = StoreBuffer::new(rt.alloc())?;
-    sees(&rt, &buffer, &WIDE, 0x1010, 4, Some(0x1312_1110));
+    sees(&rt, &buffer, &[(0x1010, 4, 0x1312_1110)]);
     buffer.push(store(0x1010, 4, 0xaabb_ccdd));
-    sees(&rt, &buffer, &WIDE, 0x1010, 4, Some(0xaabb_ccdd));
-    sees(&rt, &buffer, &WIDE, 0x1010, 1, Some(0xdd));
-    sees(&rt, &buffer, &WIDE, 0x1013, 1, Some(0xaa));
-    sees(&rt, &buffer, &WIDE, 0x1011, 2, Some(0xbbcc));
-    sees(&rt, &buffer, &WIDE, 0x1010, 8, Some(0x1716_1514_aabb_ccdd));
-    sees(&rt, &buffer, &WIDE, 0x100c, 8, Some(0xaabb_ccdd_0f0e_0d0c));
-    sees(&rt, &buffer, &WIDE, 0x100e, 4, Some(0xccdd_0f0e));
-    sees(&rt, &buffer, &WIDE, 0x1012, 4, Some(0x1514_aabb));
-    sees(&rt, &buffer, &WIDE, 0x1014, 4, Some(0x1716_1514));
-    sees(&rt, &buffer, &WIDE, 0x100c, 4, Some(0x0f0e_0d0c));
-    sees(&rt, &buffer, &WIDE, 0x100f, 2, Some(0xdd0f));
-    sees(&rt, &buffer, &WIDE, 0x1009, 8, Some(0xdd0f_0e0d_0c0b_0a09));
-    sees(&rt, &buffer, &WIDE, 0x100e, 8, Some(0x1514_aabb_ccdd_0f0e));
+    sees(&rt, &buffer, &BESIDE);
     Ok(())
+}
+
+/// Stores one over another: an address, a size, and a value.
+const YOUNGER: [(u64, u8, u64); 4] = [
+    (0x1020, 8, 0x1122_3344_5566_7788),
+    (0x1022, 2, 0xabcd),
+    (0x1023, 1, 0x1ee),
+    (0x1023, 1, 0x99),
+];
+
+/// After the first three of them.
+const AFTER_THREE: [Seen; 6] = [
+    (0x1020, 8, 0x1122_3344_eecd_7788),
+    (0x1022, 2, 0xeecd),
+    (0x1023, 1, 0xee),
+    (0x1021, 4, 0x44ee_cd77),
+    (0x1024, 8, 0x2b2a_2928_1122_3344),
+    (0x101e, 4, 0x7788_1f1e),
+];
+
+/// A store must be this.
+fn is_store(rt: &impl Abort, found: Option<Store>, expected: &(u64, u8, u64)) {
+    let (at, size, value) = *expected;
+    assert!(rt; found == Some(Store { at, size, value }), "{at:x} {size}");
 }
 
 #[test]
@@ -123,65 +160,79 @@ fn youngest_store_wins(rt: HostRuntime) -> Result<(), Fail> {
     buffer.push(store(0x1020, 8, 0x1122_3344_5566_7788));
     buffer.push(store(0x1022, 2, 0xabcd));
     buffer.push(store(0x1023, 1, 0x1ee));
-    sees(&rt, &buffer, &WIDE, 0x1020, 8, Some(0x1122_3344_eecd_7788));
-    sees(&rt, &buffer, &WIDE, 0x1022, 2, Some(0xeecd));
-    sees(&rt, &buffer, &WIDE, 0x1023, 1, Some(0xee));
-    sees(&rt, &buffer, &WIDE, 0x1021, 4, Some(0x44ee_cd77));
-    sees(&rt, &buffer, &WIDE, 0x1024, 8, Some(0x2b2a_2928_1122_3344));
-    sees(&rt, &buffer, &WIDE, 0x101e, 4, Some(0x7788_1f1e));
+    sees(&rt, &buffer, &AFTER_THREE);
     buffer.push(store(0x1023, 1, 0x99));
-    sees(&rt, &buffer, &WIDE, 0x1023, 1, Some(0x99));
-    assert_eq!(rt; buffer.len(), 4);
-    assert_eq!(rt; buffer.get(1), Some(store(0x1022, 2, 0xabcd)));
-    assert_eq!(rt; buffer.get(4), None);
-    assert_eq!(rt;
-        buffer.oldest(),
-        Some(store(0x1020, 8, 0x1122_3344_5566_7788))
-    );
-    assert_eq!(rt; buffer.pop(), Some(store(0x1020, 8, 0x1122_3344_5566_7788)));
-    sees(&rt, &buffer, &WIDE, 0x1020, 8, Some(0x2726_2524_99cd_2120));
-    assert_eq!(rt; buffer.pop(), Some(store(0x1022, 2, 0xabcd)));
-    assert_eq!(rt; buffer.pop(), Some(store(0x1023, 1, 0x1ee)));
-    assert_eq!(rt; buffer.pop(), Some(store(0x1023, 1, 0x99)));
-    assert_eq!(rt; buffer.pop(), None);
-    assert_eq!(rt; buffer.oldest(), None);
+    sees(&rt, &buffer, &[(0x1023, 1, 0x99)]);
+    assert!(rt; buffer.len() == 4);
+    is_store(&rt, buffer.get(1), &YOUNGER[1]);
+    assert!(rt; buffer.get(4).is_none());
+    is_store(&rt, buffer.oldest(), &YOUNGER[0]);
+    is_store(&rt, buffer.pop(), &YOUNGER[0]);
+    sees(&rt, &buffer, &[(0x1020, 8, 0x2726_2524_99cd_2120)]);
+    for expected in &YOUNGER[1..] {
+        is_store(&rt, buffer.pop(), expected);
+    }
+    assert!(rt; buffer.pop().is_none());
+    assert!(rt; buffer.oldest().is_none());
     assert!(rt; buffer.is_empty());
     Ok(())
 }
+
+/// Beside a store of 0xdeadbeef at 0x1ffe, over two pages.
+const ACROSS: [Seen; 4] = [
+    (0x1ffc, 8, 0x0302_dead_beef_fdfc),
+    (0x1fff, 2, 0xadbe),
+    (0x2000, 1, 0xad),
+    (0x2001, 8, 0x0807_0605_0403_02de),
+];
+
+/// A page, and whether that store touches it.
+const TOUCHED: [(u64, bool); 4] = [(0, false), (1, true), (2, true), (3, false)];
+
+/// The first of pages, how many they are, and whether that store touches one of them.
+const TOUCHED_OF: [(u64, u64, bool); 5] = [
+    (0, 1, false),
+    (0, 2, true),
+    (2, 1 << 26, true),
+    (3, u64::MAX, false),
+    (2, 0, false),
+];
 
 #[test]
 fn stores_are_seen_across_pages(rt: HostRuntime) -> Result<(), Fail> {
     let mut buffer = StoreBuffer::new(rt.alloc())?;
     buffer.push(store(0x1ffe, 4, 0xdead_beef));
-    sees(&rt, &buffer, &WIDE, 0x1ffc, 8, Some(0x0302_dead_beef_fdfc));
-    sees(&rt, &buffer, &WIDE, 0x1fff, 2, Some(0xadbe));
-    sees(&rt, &buffer, &WIDE, 0x2000, 1, Some(0xad));
-    sees(&rt, &buffer, &WIDE, 0x2001, 8, Some(0x0807_0605_0403_02de));
-    assert!(rt; !buffer.touches(0));
-    assert!(rt; buffer.touches(1));
-    assert!(rt; buffer.touches(2));
-    assert!(rt; !buffer.touches(3));
-    assert!(rt; !buffer.touches_any(0, 1));
-    assert!(rt; buffer.touches_any(0, 2));
-    assert!(rt; buffer.touches_any(2, 1 << 26));
-    assert!(rt; !buffer.touches_any(3, u64::MAX));
-    assert!(rt; !buffer.touches_any(2, 0));
+    sees(&rt, &buffer, &ACROSS);
+    for (page, is_touched) in &TOUCHED {
+        assert!(rt; buffer.touches(*page) == *is_touched, "page {page}");
+    }
+    for (first, count, is_touched) in &TOUCHED_OF {
+        assert!(rt;
+            buffer.touches_any(*first, *count) == *is_touched,
+            "pages {first} {count}"
+        );
+    }
     Ok(())
 }
+
+/// What the last eight of twelve stores at 0x1000 and on leave to be seen.
+const LAST_EIGHT: [Seen; 2] = [
+    (0x1000, 8, 0x8786_8584_0302_0100),
+    (0x1004, 8, 0x8b8a_8988_8786_8584),
+];
 
 #[test]
 fn eight_stores_wait(rt: HostRuntime) -> Result<(), Fail> {
     let mut buffer = StoreBuffer::new(rt.alloc())?;
     for turn in 0..12u64 {
         if buffer.len() == 8 {
-            assert_eq!(rt; buffer.pop(), Some(store(0x0ff8 + turn, 1, 0x78 + turn)));
+            assert!(rt; buffer.pop() == Some(store(0x0ff8 + turn, 1, 0x78 + turn)));
         }
         if buffer.len() < 8 {
             buffer.push(store(0x1000 + turn, 1, 0x80 + turn));
         }
     }
-    assert_eq!(rt; buffer.len(), 8);
-    sees(&rt, &buffer, &WIDE, 0x1000, 8, Some(0x8786_8584_0302_0100));
-    sees(&rt, &buffer, &WIDE, 0x1004, 8, Some(0x8b8a_8988_8786_8584));
+    assert!(rt; buffer.len() == 8);
+    sees(&rt, &buffer, &LAST_EIGHT);
     Ok(())
 }

@@ -2,8 +2,7 @@
 
 use mach_types::errors::{EBUSY, EFAULT, EINVAL, EPERM};
 use mach_types::{Area, BadWhy, Errno, FlatMemory, Named, Seq, UserMem};
-use rseq_area::{Lookups, looked_at, lowest_cid, named, register, set_cpu, unregister};
-use std::test::Fail;
+use rseq_area::{looked_at, lowest_cid, named, register, set_cpu, unregister};
 
 /// The signature that librseq has on RISC-V.
 const SIGNATURE: u32 = 0xF140_1073;
@@ -106,17 +105,15 @@ const NAMED: [Row; 25] = [
 ];
 
 #[test]
-fn what_an_area_names(rt: HostRuntime) -> Result<(), Fail> {
-    for (at, value, pc, expected) in NAMED {
+fn what_an_area_names(rt: HostRuntime) {
+    for (at, value, pc, expected) in &NAMED {
         let mut memory = good_memory();
-        put(&mut memory, at, value);
-        assert_eq!(rt;
-            named(&memory, &AREA, pc),
-            expected,
+        put(&mut memory, *at, *value);
+        assert!(rt;
+            named(&memory, &AREA, *pc) == *expected,
             "{at:x} {value:x} {pc:x}"
         );
     }
-    Ok(())
 }
 
 /// A word that is changed, and the addresses of the descriptor and of the signature at which the check of the
@@ -138,18 +135,15 @@ const LOOKED_AT: [(u64, u64, Option<u64>, Option<u64>); 13] = [
 ];
 
 #[test]
-fn at_what_a_check_looks(rt: HostRuntime) -> Result<(), Fail> {
-    for (at, value, descriptor, signature) in LOOKED_AT {
+fn at_what_a_check_looks(rt: HostRuntime) {
+    for (at, value, descriptor, signature) in &LOOKED_AT {
         let mut memory = good_memory();
-        put(&mut memory, at, value);
-        let expected = Lookups {
-            area: AREA.at,
-            descriptor,
-            signature,
-        };
-        assert_eq!(rt; looked_at(&memory, &AREA), expected, "{at:x} {value:x}");
+        put(&mut memory, *at, *value);
+        let looked = looked_at(&memory, &AREA);
+        assert!(rt; looked.area == AREA.at, "{at:x} {value:x}");
+        assert!(rt; looked.descriptor == *descriptor, "{at:x} {value:x}");
+        assert!(rt; looked.signature == *signature, "{at:x} {value:x}");
     }
-    Ok(())
 }
 
 /// Arguments of rseq(2): address, length, flags, signature.
@@ -184,50 +178,44 @@ const OLD: Option<Area> = Some(Area {
 });
 
 #[test]
-fn areas_are_registered_and_taken_back(rt: HostRuntime) -> Result<(), Fail> {
-    for (old, (at, len, flags, sig), refusal) in REGISTRATIONS {
-        let answer = if flags % 2 == 1 {
-            unregister(old, at, len, flags, sig).err()
+fn areas_are_registered_and_taken_back(rt: HostRuntime) {
+    for (old, (at, len, flags, sig), refusal) in &REGISTRATIONS {
+        let answer = if *flags % 2 == 1 {
+            unregister(*old, *at, *len, *flags, *sig).err()
         } else {
-            register(old, at, len, flags, sig).err()
+            register(*old, *at, *len, *flags, *sig).err()
         };
-        assert_eq!(rt; answer, refusal, "{at:x} {len} {flags} {sig}");
+        assert!(rt; answer == *refusal, "{at:x} {len} {flags} {sig}");
     }
-    Ok(())
 }
 
-/// The four words of the area of the tests, and what stands before `node_id` and behind `mm_cid`.
-fn words_of(memory: &FlatMemory) -> [Option<u64>; 4] {
-    [
-        memory.get(0x1000, 8),
-        memory.get(0x1008, 8),
-        memory.get(0x1010, 8),
-        memory.get(0x1018, 8),
-    ]
-}
+/// The four words of the area of the tests, and what they then hold: `cpu_id_start` and `cpu_id`, `rseq_cs`,
+/// `flags` and `node_id`, and `mm_cid`.
+const SET: [(u64, u64); 4] = [
+    (0x1000, 0x4_0000_0003),
+    (0x1008, u64::MAX),
+    (0x1010, 0x5_FFFF_FFFF),
+    (0x1018, 6),
+];
 
 #[test]
-fn words_are_set(rt: HostRuntime) -> Result<(), Fail> {
+fn words_are_set(rt: HostRuntime) {
     let mut memory = FlatMemory::new(28);
     put(&mut memory, 0x1008, u64::MAX);
     put(&mut memory, 0x1010, u64::MAX);
     assert!(rt; set_cpu(&mut memory, &AREA, 3, 4, 5, 6));
-    let expected = [
-        Some(0x4_0000_0003),
-        Some(u64::MAX),
-        Some(0x5_FFFF_FFFF),
-        Some(6),
-    ];
-    assert_eq!(rt; words_of(&memory), expected);
-    Ok(())
+    for (at, expected) in &SET {
+        assert!(rt; memory.get(*at, 8) == Some(*expected), "{at:x}");
+    }
 }
 
+/// Sets of harts that hold a concurrency id, and the lowest that none holds.
+const LOWEST: [(u8, u8); 5] = [(0, 0), (0b1, 1), (0b10, 0), (0b1011, 2), (0b0111_1111, 7)];
+
 #[test]
-fn lowest_ids(rt: HostRuntime) -> Result<(), Fail> {
-    assert_eq!(rt; lowest_cid(0), 0);
-    assert_eq!(rt; lowest_cid(0b1), 1);
-    assert_eq!(rt; lowest_cid(0b10), 0);
-    assert_eq!(rt; lowest_cid(0b1011), 2);
-    assert_eq!(rt; lowest_cid(0b0111_1111), 7);
-    Ok(())
+fn lowest_ids(rt: HostRuntime) {
+    for (held, lowest) in &LOWEST {
+        assert!(rt; *held < 255);
+        assert!(rt; lowest_cid(*held) == *lowest, "{held:b}");
+    }
 }

@@ -19,6 +19,12 @@ const IDLE: Sight = Sight {
     credit: 0,
 };
 
+/// An idle hart on which a thread could run.
+const READY: Sight = Sight {
+    first_ready: Some(Tid(7)),
+    ..IDLE
+};
+
 /// A thread that waits in a barrier.
 const WAITING: Sight = Sight {
     idle: false,
@@ -47,122 +53,232 @@ const HELD_UP: Sight = Sight {
     ..RUNNING
 };
 
-fn ready(sight: Sight) -> Sight {
-    Sight {
-        first_ready: Some(Tid(7)),
-        ..sight
-    }
+/// The same thread, whose next instruction touches registers alone.
+const LOCAL: Sight = Sight {
+    local: true,
+    ..RUNNING
+};
+
+/// Events without credit.
+const RUN: Pick = Pick {
+    choice: Choice::Run(Tid(7)),
+    credit: 0,
+};
+
+const PREEMPT: Pick = Pick {
+    choice: Choice::Preempt,
+    credit: 0,
+};
+
+const DRAIN: Pick = Pick {
+    choice: Choice::Drain,
+    credit: 0,
+};
+
+const SIGNAL: Pick = Pick {
+    choice: Choice::Signal,
+    credit: 0,
+};
+
+const TAKE: Pick = Pick {
+    choice: Choice::Take,
+    credit: 0,
+};
+
+const DONE: Pick = Pick {
+    choice: Choice::Done,
+    credit: 0,
+};
+
+const EXEC: Pick = Pick {
+    choice: Choice::Exec,
+    credit: 0,
+};
+
+/// An instruction, and so much credit for those that follow.
+macro_rules! executed {
+    ($credit:expr) => {
+        Pick { credit: $credit, ..EXEC }
+    };
 }
 
-fn requested(sight: Sight) -> Sight {
-    Sight {
-        requested: true,
-        ..sight
-    }
-}
+/// The number of the row, what is seen of hart 0, and what it does next, if anything.
+type Row = (u8, Sight, Option<Pick>);
 
-fn acknowledged(sight: Sight) -> Sight {
-    Sight {
-        all_taken: true,
-        ..sight
-    }
-}
-
-fn deliverable(sight: Sight) -> Sight {
-    Sight {
-        deliverable: true,
-        ..sight
-    }
-}
-
-fn storing(stores: u8, sight: Sight) -> Sight {
-    Sight { stores, ..sight }
-}
-
-fn ran(ran: u32, sight: Sight) -> Sight {
-    Sight { ran, ..sight }
-}
-
-/// The next instruction touches registers alone, and may be executed on so much credit.
-fn on_credit(credit: u8, sight: Sight) -> Sight {
-    Sight {
-        local: true,
-        credit,
-        ..sight
-    }
-}
-
-/// An event without credit.
-fn plain(choice: Choice) -> Pick {
-    Pick { choice, credit: 0 }
-}
-
-fn executed(credit: u8) -> Pick {
-    Pick {
-        choice: Choice::Exec,
-        credit,
-    }
-}
+/// In the last row the first word of the generator is still to come.
+const NO_WORD: [Row; 25] = [
+    (0, IDLE, None),
+    (
+        1,
+        Sight {
+            local: true,
+            deliverable: true,
+            stores: 1,
+            ran: 16,
+            credit: 1,
+            ..IDLE
+        },
+        None,
+    ),
+    (2, READY, Some(RUN)),
+    (
+        3,
+        Sight {
+            requested: true,
+            ..IDLE
+        },
+        Some(TAKE),
+    ),
+    (
+        4,
+        Sight {
+            requested: true,
+            ..READY
+        },
+        Some(TAKE),
+    ),
+    (
+        5,
+        Sight {
+            all_taken: true,
+            ..IDLE
+        },
+        None,
+    ),
+    (6, WAITING, None),
+    (
+        7,
+        Sight {
+            local: true,
+            first_ready: Some(Tid(7)),
+            deliverable: true,
+            credit: 1,
+            ..WAITING
+        },
+        None,
+    ),
+    (
+        8,
+        Sight {
+            all_taken: true,
+            ..WAITING
+        },
+        Some(DONE),
+    ),
+    (
+        9,
+        Sight {
+            requested: true,
+            ..WAITING
+        },
+        Some(TAKE),
+    ),
+    (
+        10,
+        Sight {
+            requested: true,
+            all_taken: true,
+            ..WAITING
+        },
+        Some(TAKE),
+    ),
+    (11, Sight { credit: 1, ..LOCAL }, Some(EXEC)),
+    (12, Sight { credit: 7, ..LOCAL }, Some(executed!(6))),
+    (
+        13,
+        Sight {
+            credit: 255,
+            ..LOCAL
+        },
+        Some(executed!(254)),
+    ),
+    (
+        14,
+        Sight {
+            requested: true,
+            deliverable: true,
+            stores: 8,
+            credit: 1,
+            ..LOCAL
+        },
+        Some(EXEC),
+    ),
+    (
+        15,
+        Sight {
+            requested: true,
+            ..LOCAL
+        },
+        Some(TAKE),
+    ),
+    (
+        16,
+        Sight {
+            requested: true,
+            credit: 1,
+            ..RUNNING
+        },
+        Some(TAKE),
+    ),
+    (
+        17,
+        Sight {
+            requested: true,
+            ..STORING
+        },
+        Some(DRAIN),
+    ),
+    (
+        18,
+        Sight {
+            requested: true,
+            deliverable: true,
+            ..HELD_UP
+        },
+        Some(TAKE),
+    ),
+    (
+        19,
+        Sight {
+            deliverable: true,
+            ..RUNNING
+        },
+        Some(SIGNAL),
+    ),
+    (
+        20,
+        Sight {
+            deliverable: true,
+            ..STORING
+        },
+        Some(DRAIN),
+    ),
+    (
+        21,
+        Sight {
+            deliverable: true,
+            ..HELD_UP
+        },
+        Some(SIGNAL),
+    ),
+    (
+        22,
+        Sight {
+            stores: 1,
+            ..HELD_UP
+        },
+        Some(DRAIN),
+    ),
+    (23, HELD_UP, None),
+    (24, RUNNING, Some(executed!(1))),
+];
 
 #[test]
 fn harts_that_draw_no_word(rt: HostRuntime) {
     let mut chooser = Chooser::new(1);
-    for (row, sight, expected) in [
-        (0, IDLE, None),
-        (
-            1,
-            on_credit(1, deliverable(storing(1, ran(16, IDLE)))),
-            None,
-        ),
-        (2, ready(IDLE), Some(plain(Choice::Run(Tid(7))))),
-        (3, requested(IDLE), Some(plain(Choice::Take))),
-        (4, requested(ready(IDLE)), Some(plain(Choice::Take))),
-        (5, acknowledged(IDLE), None),
-        (6, WAITING, None),
-        (7, on_credit(1, ready(deliverable(WAITING))), None),
-        (8, acknowledged(WAITING), Some(plain(Choice::Done))),
-        (9, requested(WAITING), Some(plain(Choice::Take))),
-        (
-            10,
-            requested(acknowledged(WAITING)),
-            Some(plain(Choice::Take)),
-        ),
-        (11, on_credit(1, RUNNING), Some(executed(0))),
-        (12, on_credit(7, RUNNING), Some(executed(6))),
-        (13, on_credit(255, RUNNING), Some(executed(254))),
-        (
-            14,
-            on_credit(1, requested(deliverable(storing(8, RUNNING)))),
-            Some(executed(0)),
-        ),
-        (
-            15,
-            on_credit(0, requested(RUNNING)),
-            Some(plain(Choice::Take)),
-        ),
-        (
-            16,
-            Sight {
-                credit: 1,
-                ..requested(RUNNING)
-            },
-            Some(plain(Choice::Take)),
-        ),
-        (17, requested(STORING), Some(plain(Choice::Drain))),
-        (
-            18,
-            requested(deliverable(HELD_UP)),
-            Some(plain(Choice::Take)),
-        ),
-        (19, deliverable(RUNNING), Some(plain(Choice::Signal))),
-        (20, deliverable(STORING), Some(plain(Choice::Drain))),
-        (21, deliverable(HELD_UP), Some(plain(Choice::Signal))),
-        (22, storing(1, HELD_UP), Some(plain(Choice::Drain))),
-        (23, HELD_UP, None),
-        // the first word of the generator is still to come
-        (24, RUNNING, Some(executed(1))),
-    ] {
-        assert_eq!(rt; chooser.next(Hart(0), &sight), expected, "row {row}");
+    for (row, sight, expected) in &NO_WORD {
+        let next = chooser.next(Hart(0), sight);
+        assert!(rt; next == *expected, "row {row}");
     }
 }
 
@@ -170,45 +286,50 @@ fn harts_that_draw_no_word(rt: HostRuntime) {
 /// what it does next.
 type ByWord = (Sight, u64, u64, Pick);
 
+const BY_WORD: [ByWord; 19] = [
+    (RUNNING, 0, 185, PREEMPT),
+    (RUNNING, 8, 28, PREEMPT),
+    (RUNNING, 16 * 5, 88, PREEMPT),
+    (Sight { ran: 17, ..RUNNING }, 0, 185, PREEMPT),
+    (Sight { ran: 15, ..RUNNING }, 16 * 5, 88, executed!(5)),
+    (
+        Sight {
+            first_ready: None,
+            ..RUNNING
+        },
+        16 * 5,
+        88,
+        executed!(5),
+    ),
+    (STORING, 16 * 5, 88, executed!(5)),
+    (RUNNING, 4, 130, EXEC),
+    (RUNNING, 12, 250, EXEC),
+    (RUNNING, 1, 291, EXEC),
+    (STORING, 1, 291, DRAIN),
+    (STORING, 5, 979, DRAIN),
+    (
+        Sight {
+            ran: 0,
+            stores: 8,
+            ..RUNNING
+        },
+        16 * 5 + 13,
+        108,
+        DRAIN,
+    ),
+    (STORING, 2, 80, EXEC),
+    (STORING, 15, 1233, EXEC),
+    (STORING, 16 * 1 + 7, 72, executed!(1)),
+    (RUNNING, 16 * 7 + 15, 1409, executed!(7)),
+    (RUNNING, 16 * 8 + 2, 182, EXEC),
+    (RUNNING, 0xffff, 13890, executed!(7)),
+];
+
 #[test]
 fn words_decide(rt: HostRuntime) {
-    let rows: [ByWord; 19] = [
-        (RUNNING, 0, 185, plain(Choice::Preempt)),
-        (RUNNING, 8, 28, plain(Choice::Preempt)),
-        (RUNNING, 16 * 5, 88, plain(Choice::Preempt)),
-        (ran(17, RUNNING), 0, 185, plain(Choice::Preempt)),
-        (ran(15, RUNNING), 16 * 5, 88, executed(5)),
-        (
-            Sight {
-                first_ready: None,
-                ..RUNNING
-            },
-            16 * 5,
-            88,
-            executed(5),
-        ),
-        (STORING, 16 * 5, 88, executed(5)),
-        (RUNNING, 4, 130, executed(0)),
-        (RUNNING, 12, 250, executed(0)),
-        (RUNNING, 1, 291, executed(0)),
-        (STORING, 1, 291, plain(Choice::Drain)),
-        (STORING, 5, 979, plain(Choice::Drain)),
-        (
-            ran(0, storing(8, RUNNING)),
-            16 * 5 + 13,
-            108,
-            plain(Choice::Drain),
-        ),
-        (STORING, 2, 80, executed(0)),
-        (STORING, 15, 1233, executed(0)),
-        (STORING, 16 * 1 + 7, 72, executed(1)),
-        (RUNNING, 16 * 7 + 15, 1409, executed(7)),
-        (RUNNING, 16 * 8 + 2, 182, executed(0)),
-        (RUNNING, 0xffff, 13890, executed(7)),
-    ];
-    for (sight, word, seed, expected) in rows {
-        let next = Chooser::new(seed).next(Hart(0), &sight);
-        assert_eq!(rt; next, Some(expected), "word {word}");
+    for (sight, word, seed, expected) in &BY_WORD {
+        let next = Chooser::new(*seed).next(Hart(0), sight);
+        assert!(rt; next == Some(*expected), "word {word}");
     }
 }
 
@@ -263,46 +384,51 @@ const WORDS: [Words; 5] = [
     ),
 ];
 
+/// A thread that may go on, and no other that could run there.
+const ALONE: Sight = Sight {
+    first_ready: None,
+    ..RUNNING
+};
+
 /// A thread that neither leaves nor drains shows three bits of each word: its credit. All bits of these words
 /// are worked examples of `chooser`.
 #[test]
 fn first_words(rt: HostRuntime) {
-    let alone = Sight {
-        first_ready: None,
-        ..RUNNING
-    };
-    for (seed, hart, words) in WORDS {
-        assert!(rt; hart < 8);
-        let mut chooser = Chooser::new(seed);
+    for (seed, hart, words) in &WORDS {
+        assert!(rt; *hart < 8);
+        let mut chooser = Chooser::new(*seed);
         for word in words {
-            let next = chooser.next(Hart(hart), &alone);
+            let next = chooser.next(Hart(*hart), &ALONE);
             let credit = (word / 16 % 8) as u8;
-            assert_eq!(rt; next, Some(executed(credit)), "seed {seed}, hart {hart}");
+            assert!(rt; next == Some(executed!(credit)), "seed {seed}, hart {hart}");
         }
     }
 }
+
+/// The number of the row, a hart, what is seen of it, and what it does next.
+const BY_HART: [(u8, u8, Sight, Pick); 10] = [
+    (0, 0, RUNNING, executed!(1)),
+    (1, 1, RUNNING, executed!(2)),
+    (2, 1, RUNNING, PREEMPT),
+    (3, 0, STORING, DRAIN),
+    (4, 1, Sight { credit: 1, ..LOCAL }, EXEC),
+    (5, 0, RUNNING, PREEMPT),
+    (6, 1, STORING, DRAIN),
+    (7, 0, STORING, executed!(5)),
+    (8, 1, RUNNING, executed!(7)),
+    (9, 7, RUNNING, executed!(3)),
+];
 
 /// Modulo 8 the first words of seed 1 are 3, 5, 0 and 6 for hart 0, 2, 0, 5 and 2 for hart 1, and 2 for
 /// hart 7.
 #[test]
 fn harts_draw_words_of_their_own(rt: HostRuntime) {
     let mut chooser = Chooser::new(1);
-    for (row, number, sight, expected) in [
-        (0, 0, RUNNING, executed(1)),
-        (1, 1, RUNNING, executed(2)),
-        (2, 1, RUNNING, plain(Choice::Preempt)),
-        (3, 0, STORING, plain(Choice::Drain)),
-        (4, 1, on_credit(1, RUNNING), executed(0)),
-        (5, 0, RUNNING, plain(Choice::Preempt)),
-        (6, 1, STORING, plain(Choice::Drain)),
-        (7, 0, STORING, executed(5)),
-        (8, 1, RUNNING, executed(7)),
-        (9, 7, RUNNING, executed(3)),
-    ] {
-        assert!(rt; number < 8);
-        let peeked = chooser.peek(Hart(number), &sight);
-        assert_eq!(rt; peeked, Some(expected), "row {row}");
-        let next = chooser.next(Hart(number), &sight);
-        assert_eq!(rt; next, Some(expected), "row {row}");
+    for (row, number, sight, expected) in &BY_HART {
+        assert!(rt; *number < 8);
+        let peeked = chooser.peek(Hart(*number), sight);
+        assert!(rt; peeked == Some(*expected), "row {row}");
+        let next = chooser.next(Hart(*number), sight);
+        assert!(rt; next == Some(*expected), "row {row}");
     }
 }

@@ -52,25 +52,25 @@ fn shows(rt: &impl Abort, pool: &FramePool, frame: &Frame, byte: u8)
     requires { IsTaken pool.now frame.now }
 {
     let bytes = pool.bytes(frame);
-    assert_eq!(rt; bytes[0], byte);
-    assert_eq!(rt; bytes[4095], byte);
+    assert!(rt; bytes[0] == byte);
+    assert!(rt; bytes[4095] == byte);
     for between in &bytes[1..4095] {
-        assert_eq!(rt; *between, 0);
+        assert!(rt; *between == 0);
     }
 }
 
 #[test]
 fn frame_that_is_taken_again_is_zero(rt: HostRuntime) -> Result<(), Fail> {
     let mut pool = FramePool::new(rt.alloc(), 1)?;
-    assert_eq!(rt; pool.free(), 1);
+    assert!(rt; pool.free() == 1);
     let frame = taken(&rt, &mut pool);
-    assert_eq!(rt; pool.free(), 0);
+    assert!(rt; pool.free() == 0);
     assert!(rt; is_used_up(&mut pool));
     shows(&rt, &pool, &frame, 0);
     mark(&mut pool, &frame, 0x5a);
     shows(&rt, &pool, &frame, 0x5a);
     give(&mut pool, frame);
-    assert_eq!(rt; pool.free(), 1);
+    assert!(rt; pool.free() == 1);
     let again = taken(&rt, &mut pool);
     shows(&rt, &pool, &again, 0);
     give(&mut pool, again);
@@ -88,9 +88,9 @@ fn frames_are_apart(rt: HostRuntime) -> Result<(), Fail> {
     mark(&mut pool, &second, 2);
     shows(&rt, &pool, &first, 1);
     give(&mut pool, first);
-    assert_eq!(rt; pool.free(), 1);
+    assert!(rt; pool.free() == 1);
     shows(&rt, &pool, &second, 2);
     give(&mut pool, second);
-    assert_eq!(rt; pool.free(), 2);
+    assert!(rt; pool.free() == 2);
     Ok(())
 }

@@ -2,7 +2,6 @@
 
 use mach_types::{Area, BadWhy, FlatMemory, Outcome, UserMem};
 use rseq_abort::interrupt;
-use std::test::Fail;
 
 /// The area of the tests.
 const AREA: Area = Area {
@@ -79,44 +78,39 @@ const ROWS: [Row; 12] = [
 ];
 
 #[test]
-fn each_outcome_of_an_interruption(rt: HostRuntime) -> Result<(), Fail> {
-    for ((at, value), pc, outcome, cleared) in ROWS {
+fn each_outcome_of_an_interruption(rt: HostRuntime) {
+    for ((at, value), pc, outcome, cleared) in &ROWS {
         let mut memory = good_memory();
-        put(&mut memory, at, value);
+        put(&mut memory, *at, *value);
         let before = memory.get(POINTER, 8);
-        let after = if cleared { Some(0) } else { before };
-        assert_eq!(rt;
-            interrupt(&mut memory, Some(AREA), pc),
-            outcome,
-            "{at:x} {pc:x}"
-        );
-        assert_eq!(rt; memory.get(POINTER, 8), after, "{at:x} {pc:x}");
+        let after = if *cleared { Some(0) } else { before };
+        let comes = interrupt(&mut memory, Some(AREA), *pc);
+        assert!(rt; comes == *outcome, "{at:x} {pc:x}");
+        assert!(rt; memory.get(POINTER, 8) == after, "{at:x} {pc:x}");
     }
-    Ok(())
 }
 
+/// So many bytes of the memory that can be written, a pc, and what an interruption there comes to.
+const WRITABLE: [(u16, u64, Outcome); 3] = [
+    (15, 0x40_0000, Outcome::Killed(BadWhy::AreaBytes)),
+    (15, 0x40_000C, Outcome::Killed(BadWhy::AreaBytes)),
+    (16, 0x40_0000, Outcome::Aborted(0x1050)),
+];
+
+/// An area whose bytes go beyond the last address.
+const FAR: Area = Area {
+    at: u64::MAX - 7,
+    sig: 0,
+};
+
 #[test]
-fn pointer_must_be_writable(rt: HostRuntime) -> Result<(), Fail> {
-    let rows = [
-        (15, 0x40_0000, Outcome::Killed(BadWhy::AreaBytes)),
-        (15, 0x40_000C, Outcome::Killed(BadWhy::AreaBytes)),
-        (16, 0x40_0000, Outcome::Aborted(0x1050)),
-    ];
-    for (writable, pc, outcome) in rows {
+fn pointer_must_be_writable(rt: HostRuntime) {
+    for (writable, pc, outcome) in &WRITABLE {
         let mut memory = good_memory();
-        memory.writable = writable;
-        assert_eq!(rt;
-            interrupt(&mut memory, Some(AREA), pc),
-            outcome,
-            "{writable} {pc:x}"
-        );
+        memory.writable = *writable;
+        let comes = interrupt(&mut memory, Some(AREA), *pc);
+        assert!(rt; comes == *outcome, "{writable} {pc:x}");
     }
-    let mut memory = good_memory();
-    let far = Area {
-        at: u64::MAX - 7,
-        sig: 0,
-    };
-    let killed = Outcome::Killed(BadWhy::AreaBytes);
-    assert_eq!(rt; interrupt(&mut memory, Some(far), 0), killed);
-    Ok(())
+    let comes = interrupt(&mut good_memory(), Some(FAR), 0);
+    assert!(rt; comes == Outcome::Killed(BadWhy::AreaBytes));
 }

@@ -27,40 +27,42 @@ const LIMITS: Limits = Limits {
 };
 
 /// An entry of the first thread.
-fn entry(hart: u8, kind: Kind, pc: u64) -> Entry {
-    Entry {
-        hart: Hart(hart),
-        kind,
-        tid: Tid(1),
-        pc,
-    }
+macro_rules! entry {
+    ($hart:expr, $kind:ident, $pc:expr) => {
+        Entry { hart: Hart($hart), kind: Kind::$kind, tid: Tid(1), pc: $pc }
+    };
 }
 
 /// The log of a thread that goes to another hart after its first instruction, and doesn't come to its end.
-fn moved() -> [Entry; 5] {
-    [
-        entry(0, Kind::Run, 0x10078),
-        entry(0, Kind::Exec, 0x10078),
-        entry(0, Kind::Preempt, 0x1007c),
-        entry(1, Kind::Run, 0x1007c),
-        entry(1, Kind::Exec, 0x1007c),
-    ]
-}
+const MOVED: [Entry; 5] = [
+    entry!(0, Run, 0x10078),
+    entry!(0, Exec, 0x10078),
+    entry!(0, Preempt, 0x1007c),
+    entry!(1, Run, 0x1007c),
+    entry!(1, Exec, 0x1007c),
+];
+
+/// The number of an entry of that log, and another that can't come in its place.
+const WRONG: [(u32, Entry); 4] = [
+    (1, entry!(2, Run, 0x10078)),
+    (2, entry!(0, Exec, 0x1007c)),
+    (3, entry!(0, Drain, 0x1007c)),
+    (5, entry!(0, Exec, 0x1007c)),
+];
 
 #[test]
 fn first_entry_that_cannot_come_is_named(rt: HostRuntime) -> Result<(), Fail> {
     let image = load(rt.alloc(), &EXITS, &LIMITS)?;
-    let wrong = [
-        (1, entry(2, Kind::Run, 0x10078)),
-        (2, entry(0, Kind::Exec, 0x1007c)),
-        (3, entry(0, Kind::Drain, 0x1007c)),
-        (5, entry(0, Kind::Exec, 0x1007c)),
-    ];
-    for (number, other) in wrong {
-        let mut log = moved();
-        log[number as usize - 1] = other;
+    for (number, other) in &WRONG {
+        let mut log = MOVED;
+        if let Some(entry) = log.get_mut(number.saturating_sub(1) as usize) {
+            *entry = *other;
+        }
         let refused = acts(rt.alloc(), &image, &LIMITS, &log);
-        assert_eq!(rt; refused.err(), Some(ViewFault::NotARun(number)));
+        assert!(rt;
+            refused.err() == Some(ViewFault::NotARun(*number)),
+            "entry {number}"
+        );
     }
     Ok(())
 }

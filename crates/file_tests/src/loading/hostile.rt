@@ -3,165 +3,173 @@
 //! The answers were made from the rows of faults by another program, and by hand for the first 27.
 
 use super::programs::{EXITS, THREADS, answer};
+use Base::{Exits, Threads};
 use byte_views::write_word;
 use std::alloc::{AllocError, Global};
 use std::test::Fail;
 
-/// A row is a file, the place, the size and the number (hexadecimal) of a field that is overwritten, the
-/// same of another, and the number of the fault with what it tells. 0 stands for no fault.
-const CHANGED: &str = "\
-exits   0 1 7e                  - - -                   2   -
-exits   4 1 1                   - - -                   3   -
-exits   5 1 2                   - - -                   4   -
-exits   6 1 0                   - - -                   5   -
-exits   20 1 2                  - - -                   5   -
-exits   16 1 3                  - - -                   6   -
-exits   18 1 3e                 - - -                   7   -
-exits   48 1 5                  - - -                   8   5
-exits   48 1 1                  - - -                   8   1
-exits   54 1 37                 - - -                   9   -
-exits   56 1 0                  - - -                   9   -
-exits   56 1 2                  - - -                   9   -
-exits   32 8 ffffffffffffffff   - - -                   9   -
-exits   64 1 2                  - - -                   10  -
-exits   64 1 3                  - - -                   10  -
-exits   104 1 83                - - -                   11  0
-exits   82 1 0                  - - -                   11  0
-exits   80 8 ffffffffffffffff   - - -                   11  0
-exits   80 1 4                  - - -                   12  0
-exits   68 1 7                  - - -                   13  0
-threads 138 1 1                 - - -                   14  1
-exits   24 1 79                 - - -                   15  -
-exits   24 1 84                 - - -                   15  -
-exits   68 1 4                  - - -                   15  -
-exits   64 1 4                  - - -                   15  -
-exits   106 1 10                - - -                   16  322
-exits   48 1 10                 - - -                   0   -
-exits   0 4 0                   - - -                   2   -
-exits   0 4 ffffffff            - - -                   2   -
-exits   4 1 0                   - - -                   3   -
-exits   4 1 ff                  - - -                   3   -
-exits   5 1 0                   - - -                   4   -
-exits   5 1 ff                  - - -                   4   -
-exits   6 1 ff                  - - -                   5   -
-exits   8 8 ffffffffffffffff    - - -                   0   -
-exits   16 2 0                  - - -                   6   -
-exits   16 2 ffff               - - -                   6   -
-exits   18 2 0                  - - -                   7   -
-exits   18 2 ffff               - - -                   7   -
-exits   20 4 0                  - - -                   5   -
-exits   20 4 ffffffff           - - -                   5   -
-exits   24 8 0                  - - -                   15  -
-exits   24 8 ffffffffffffffff   - - -                   15  -
-exits   24 8 fffffffffffffffc   - - -                   15  -
-exits   24 8 10080              - - -                   0   -
-exits   24 8 10000              - - -                   0   -
-exits   32 8 0                  - - -                   15  -
-exits   32 8 4c                 - - -                   15  -
-exits   32 8 4d                 - - -                   9   -
-exits   32 8 ffffffffffffffc8   - - -                   9   -
-exits   32 8 8000000000000000   - - -                   9   -
-exits   48 4 ffffffff           - - -                   8   4294967295
-exits   48 4 11                 - - -                   8   17
-exits   54 2 0                  - - -                   9   -
-exits   54 2 ffff               - - -                   9   -
-exits   56 2 40                 - - -                   9   -
-exits   56 2 41                 - - -                   9   -
-exits   56 2 ffff               - - -                   9   -
-exits   64 4 0                  - - -                   15  -
-exits   64 4 ffffffff           - - -                   15  -
-exits   68 4 0                  - - -                   15  -
-exits   68 4 1                  - - -                   0   -
-exits   68 4 ffffffff           - - -                   13  0
-exits   68 4 fffffffd           - - -                   0   -
-exits   72 8 1                  - - -                   11  0
-exits   72 8 ffffffffffffffff   - - -                   11  0
-exits   72 8 ffffffffffffff7c   - - -                   11  0
-exits   72 8 1000               - - -                   11  0
-exits   80 8 0                  - - -                   11  0
-exits   80 8 fff                - - -                   11  0
-exits   80 8 1000               - - -                   15  -
-exits   80 8 1ffffff000         - - -                   15  -
-exits   80 8 1fffffff7c         - - -                   12  0
-exits   80 8 1fffffff7d         - - -                   11  0
-exits   80 8 2000000000         - - -                   11  0
-exits   88 8 ffffffffffffffff   - - -                   0   -
-exits   96 8 0                  - - -                   0   -
-exits   96 8 85                 - - -                   11  0
-exits   96 8 ffffffffffffffff   - - -                   11  0
-exits   104 8 83                - - -                   11  0
-exits   104 8 1fffff0000        - - -                   16  33554481
-exits   104 8 1fffff0001        - - -                   11  0
-exits   104 8 ffffffffffffffff  - - -                   11  0
-exits   112 8 0                 - - -                   0   -
-exits   112 8 ffffffffffffffff  - - -                   0   -
-exits   72 8 ffffffffffffffff   96 8 ffffffffffffffff   11  0
-exits   80 8 ffffffffffffffff   104 8 ffffffffffffffff  11  0
-exits   32 8 ffffffffffffffff   56 2 40                 9   -
-exits   96 8 0                  104 8 0                 15  -
-threads 136 8 f000              160 8 1000              0   -
-threads 136 8 f000              160 8 1001              14  1
-threads 104 8 10000             - - -                   0   -
-threads 104 8 10001             - - -                   14  1
-threads 136 8 10000             160 8 0                 0   -
-threads 136 8 11000             - - -                   0   -
-threads 136 8 1fffffffff        128 8 fff               11  1
-threads 160 8 1fffffe0000       - - -                   11  1
-exits   0 1 0                   4 1 1                   2   -
-exits   16 1 3                  48 1 5                  6   -
-exits   48 1 5                  56 1 0                  8   5
-exits   18 1 3e                 54 1 37                 7   -
-threads 80 1 4                  136 8 0                 11  1
-threads 68 1 7                  136 8 20004             12  1
-threads 124 4 7                 136 8 10000             13  1
-threads 80 8 0                  136 8 0                 11  0
-threads 80 8 10004              136 8 20004             12  0
-threads 68 4 7                  124 4 7                 13  0
-threads 120 4 3                 80 8 0                  10  -
-threads 136 8 10000             24 8 1                  14  1
-threads 24 8 2                  160 8 1000000           15  -
-threads 160 8 1000000           - - -                   16  4162
-";
-
-/// A field that is overwritten.
-#[derive(Clone, Copy, Debug)]
-struct Change {
-    at: usize,
-    size: usize,
-    number: u64,
+/// The small programs.
+enum Base {
+    Exits,
+    Threads,
 }
 
-/// A row of the table.
-#[derive(Clone, Copy, Debug)]
-struct Case {
-    threads: bool,
-    first: Option<Change>,
-    second: Option<Change>,
-    answer: (u8, Option<u64>),
-}
+/// The place of a field, its size, and the number that overwrites it.
+type Change = (usize, usize, u64);
 
-fn read_change(at: &str, size: &str, number: &str) -> Option<Change> {
-    Some(Change {
-        at: at.parse().ok()?,
-        size: size.parse().ok()?,
-        number: u64::from_str_radix(number, 16).ok()?,
-    })
-}
+/// A file, a field that is overwritten, another one, and the number of the fault with what it tells. 0 stands for
+/// no fault.
+type Row = (Base, Change, Option<Change>, u8, Option<u64>);
 
-fn read_case(line: &str) -> Option<Case> {
-    let mut words = line.split_whitespace();
-    let base = words.next()?;
-    let first = read_change(words.next()?, words.next()?, words.next()?);
-    let second = read_change(words.next()?, words.next()?, words.next()?);
-    let number: u8 = words.next()?.parse().ok()?;
-    let detail: Option<u64> = words.next()?.parse().ok();
-    Some(Case {
-        threads: base == "threads",
-        first,
-        second,
-        answer: (number, detail),
-    })
-}
+const CHANGED: [Row; 111] = [
+    (Exits, (0, 1, 0x7e), None, 2, None),
+    (Exits, (4, 1, 0x1), None, 3, None),
+    (Exits, (5, 1, 0x2), None, 4, None),
+    (Exits, (6, 1, 0x0), None, 5, None),
+    (Exits, (20, 1, 0x2), None, 5, None),
+    (Exits, (16, 1, 0x3), None, 6, None),
+    (Exits, (18, 1, 0x3e), None, 7, None),
+    (Exits, (48, 1, 0x5), None, 8, Some(5)),
+    (Exits, (48, 1, 0x1), None, 8, Some(1)),
+    (Exits, (54, 1, 0x37), None, 9, None),
+    (Exits, (56, 1, 0x0), None, 9, None),
+    (Exits, (56, 1, 0x2), None, 9, None),
+    (Exits, (32, 8, 0xffffffffffffffff), None, 9, None),
+    (Exits, (64, 1, 0x2), None, 10, None),
+    (Exits, (64, 1, 0x3), None, 10, None),
+    (Exits, (104, 1, 0x83), None, 11, Some(0)),
+    (Exits, (82, 1, 0x0), None, 11, Some(0)),
+    (Exits, (80, 8, 0xffffffffffffffff), None, 11, Some(0)),
+    (Exits, (80, 1, 0x4), None, 12, Some(0)),
+    (Exits, (68, 1, 0x7), None, 13, Some(0)),
+    (Threads, (138, 1, 0x1), None, 14, Some(1)),
+    (Exits, (24, 1, 0x79), None, 15, None),
+    (Exits, (24, 1, 0x84), None, 15, None),
+    (Exits, (68, 1, 0x4), None, 15, None),
+    (Exits, (64, 1, 0x4), None, 15, None),
+    (Exits, (106, 1, 0x10), None, 16, Some(322)),
+    (Exits, (48, 1, 0x10), None, 0, None),
+    (Exits, (0, 4, 0x0), None, 2, None),
+    (Exits, (0, 4, 0xffffffff), None, 2, None),
+    (Exits, (4, 1, 0x0), None, 3, None),
+    (Exits, (4, 1, 0xff), None, 3, None),
+    (Exits, (5, 1, 0x0), None, 4, None),
+    (Exits, (5, 1, 0xff), None, 4, None),
+    (Exits, (6, 1, 0xff), None, 5, None),
+    (Exits, (8, 8, 0xffffffffffffffff), None, 0, None),
+    (Exits, (16, 2, 0x0), None, 6, None),
+    (Exits, (16, 2, 0xffff), None, 6, None),
+    (Exits, (18, 2, 0x0), None, 7, None),
+    (Exits, (18, 2, 0xffff), None, 7, None),
+    (Exits, (20, 4, 0x0), None, 5, None),
+    (Exits, (20, 4, 0xffffffff), None, 5, None),
+    (Exits, (24, 8, 0x0), None, 15, None),
+    (Exits, (24, 8, 0xffffffffffffffff), None, 15, None),
+    (Exits, (24, 8, 0xfffffffffffffffc), None, 15, None),
+    (Exits, (24, 8, 0x10080), None, 0, None),
+    (Exits, (24, 8, 0x10000), None, 0, None),
+    (Exits, (32, 8, 0x0), None, 15, None),
+    (Exits, (32, 8, 0x4c), None, 15, None),
+    (Exits, (32, 8, 0x4d), None, 9, None),
+    (Exits, (32, 8, 0xffffffffffffffc8), None, 9, None),
+    (Exits, (32, 8, 0x8000000000000000), None, 9, None),
+    (Exits, (48, 4, 0xffffffff), None, 8, Some(4294967295)),
+    (Exits, (48, 4, 0x11), None, 8, Some(17)),
+    (Exits, (54, 2, 0x0), None, 9, None),
+    (Exits, (54, 2, 0xffff), None, 9, None),
+    (Exits, (56, 2, 0x40), None, 9, None),
+    (Exits, (56, 2, 0x41), None, 9, None),
+    (Exits, (56, 2, 0xffff), None, 9, None),
+    (Exits, (64, 4, 0x0), None, 15, None),
+    (Exits, (64, 4, 0xffffffff), None, 15, None),
+    (Exits, (68, 4, 0x0), None, 15, None),
+    (Exits, (68, 4, 0x1), None, 0, None),
+    (Exits, (68, 4, 0xffffffff), None, 13, Some(0)),
+    (Exits, (68, 4, 0xfffffffd), None, 0, None),
+    (Exits, (72, 8, 0x1), None, 11, Some(0)),
+    (Exits, (72, 8, 0xffffffffffffffff), None, 11, Some(0)),
+    (Exits, (72, 8, 0xffffffffffffff7c), None, 11, Some(0)),
+    (Exits, (72, 8, 0x1000), None, 11, Some(0)),
+    (Exits, (80, 8, 0x0), None, 11, Some(0)),
+    (Exits, (80, 8, 0xfff), None, 11, Some(0)),
+    (Exits, (80, 8, 0x1000), None, 15, None),
+    (Exits, (80, 8, 0x1ffffff000), None, 15, None),
+    (Exits, (80, 8, 0x1fffffff7c), None, 12, Some(0)),
+    (Exits, (80, 8, 0x1fffffff7d), None, 11, Some(0)),
+    (Exits, (80, 8, 0x2000000000), None, 11, Some(0)),
+    (Exits, (88, 8, 0xffffffffffffffff), None, 0, None),
+    (Exits, (96, 8, 0x0), None, 0, None),
+    (Exits, (96, 8, 0x85), None, 11, Some(0)),
+    (Exits, (96, 8, 0xffffffffffffffff), None, 11, Some(0)),
+    (Exits, (104, 8, 0x83), None, 11, Some(0)),
+    (Exits, (104, 8, 0x1fffff0000), None, 16, Some(33554481)),
+    (Exits, (104, 8, 0x1fffff0001), None, 11, Some(0)),
+    (Exits, (104, 8, 0xffffffffffffffff), None, 11, Some(0)),
+    (Exits, (112, 8, 0x0), None, 0, None),
+    (Exits, (112, 8, 0xffffffffffffffff), None, 0, None),
+    (
+        Exits,
+        (72, 8, 0xffffffffffffffff),
+        Some((96, 8, 0xffffffffffffffff)),
+        11,
+        Some(0),
+    ),
+    (
+        Exits,
+        (80, 8, 0xffffffffffffffff),
+        Some((104, 8, 0xffffffffffffffff)),
+        11,
+        Some(0),
+    ),
+    (
+        Exits,
+        (32, 8, 0xffffffffffffffff),
+        Some((56, 2, 0x40)),
+        9,
+        None,
+    ),
+    (Exits, (96, 8, 0x0), Some((104, 8, 0x0)), 15, None),
+    (Threads, (136, 8, 0xf000), Some((160, 8, 0x1000)), 0, None),
+    (
+        Threads,
+        (136, 8, 0xf000),
+        Some((160, 8, 0x1001)),
+        14,
+        Some(1),
+    ),
+    (Threads, (104, 8, 0x10000), None, 0, None),
+    (Threads, (104, 8, 0x10001), None, 14, Some(1)),
+    (Threads, (136, 8, 0x10000), Some((160, 8, 0x0)), 0, None),
+    (Threads, (136, 8, 0x11000), None, 0, None),
+    (
+        Threads,
+        (136, 8, 0x1fffffffff),
+        Some((128, 8, 0xfff)),
+        11,
+        Some(1),
+    ),
+    (Threads, (160, 8, 0x1fffffe0000), None, 11, Some(1)),
+    (Exits, (0, 1, 0x0), Some((4, 1, 0x1)), 2, None),
+    (Exits, (16, 1, 0x3), Some((48, 1, 0x5)), 6, None),
+    (Exits, (48, 1, 0x5), Some((56, 1, 0x0)), 8, Some(5)),
+    (Exits, (18, 1, 0x3e), Some((54, 1, 0x37)), 7, None),
+    (Threads, (80, 1, 0x4), Some((136, 8, 0x0)), 11, Some(1)),
+    (Threads, (68, 1, 0x7), Some((136, 8, 0x20004)), 12, Some(1)),
+    (Threads, (124, 4, 0x7), Some((136, 8, 0x10000)), 13, Some(1)),
+    (Threads, (80, 8, 0x0), Some((136, 8, 0x0)), 11, Some(0)),
+    (
+        Threads,
+        (80, 8, 0x10004),
+        Some((136, 8, 0x20004)),
+        12,
+        Some(0),
+    ),
+    (Threads, (68, 4, 0x7), Some((124, 4, 0x7)), 13, Some(0)),
+    (Threads, (120, 4, 0x3), Some((80, 8, 0x0)), 10, None),
+    (Threads, (136, 8, 0x10000), Some((24, 8, 0x1)), 14, Some(1)),
+    (Threads, (24, 8, 0x2), Some((160, 8, 0x1000000)), 15, None),
+    (Threads, (160, 8, 0x1000000), None, 16, Some(4162)),
+];
 
 fn overwrite(file: &mut [u8], at: usize, size: usize, number: u64) {
     if size == 1 || size == 2 || size == 4 || size == 8 {
@@ -169,34 +177,40 @@ fn overwrite(file: &mut [u8], at: usize, size: usize, number: u64) {
     }
 }
 
-fn make_change(file: &mut [u8], change: Option<Change>) {
-    if let Some(change) = change {
-        overwrite(file, change.at, change.size, change.number);
-    }
+fn make_change(file: &mut [u8], change: &Change) {
+    overwrite(file, change.0, change.1, change.2);
 }
 
-fn changed(alloc: Global, case: &Case) -> Result<Vec<u8>, AllocError> {
-    let mut file = if case.threads {
-        Vec::from_slice(alloc, &THREADS)?
-    } else {
-        Vec::from_slice(alloc, &EXITS)?
+/// A small program with one or two fields overwritten.
+fn changed(
+    alloc: Global,
+    base: &Base,
+    first: &Change,
+    second: &Option<Change>,
+) -> Result<Vec<u8>, AllocError> {
+    let mut file = match base {
+        Base::Exits => Vec::from_slice(alloc, &EXITS)?,
+        Base::Threads => Vec::from_slice(alloc, &THREADS)?,
     };
-    make_change(&mut file, case.first);
-    make_change(&mut file, case.second);
+    make_change(&mut file, first);
+    if let Some(second) = second {
+        make_change(&mut file, second);
+    }
     Ok(file)
 }
 
 #[test]
 fn changed_fields(rt: HostRuntime) -> Result<(), Fail> {
-    let mut count = 0u32;
-    for line in CHANGED.lines() {
-        let case = read_case(line).ok_or("not a row")?;
-        let file = changed(rt.alloc(), &case)?;
+    for (base, first, second, number, detail) in &CHANGED {
+        let file = changed(rt.alloc(), base, first, second)?;
         let found = answer(rt.alloc(), &file, 128);
-        assert_eq!(rt; found, case.answer, "{line}");
-        count = count.saturating_add(1);
+        assert!(rt;
+            found.0 == *number && found.1 == *detail,
+            "{} {:x}",
+            first.0,
+            first.2
+        );
     }
-    assert_eq!(rt; count, 111);
     Ok(())
 }
 
@@ -223,19 +237,21 @@ fn many_headers(alloc: Global, count: u16) -> Result<Vec<u8>, AllocError> {
     Ok(file)
 }
 
+/// A count of headers, the frames of the machine, the number of the fault and what it tells.
+const COUNTS: [(u16, u32, u8, Option<u64>); 5] = [
+    (1, 66, 0, None),
+    (64, 129, 0, None),
+    (64, 128, 16, Some(129)),
+    (65, 130, 9, None),
+    (65535, 16384, 9, None),
+];
+
 #[test]
 fn header_counts(rt: HostRuntime) -> Result<(), Fail> {
-    let counts: [(u16, u32, u8, Option<u64>); 5] = [
-        (1, 66, 0, None),
-        (64, 129, 0, None),
-        (64, 128, 16, Some(129)),
-        (65, 130, 9, None),
-        (65535, 16384, 9, None),
-    ];
-    for (count, frames, number, detail) in counts {
-        let file = many_headers(rt.alloc(), count)?;
-        let found = answer(rt.alloc(), &file, frames);
-        assert_eq!(rt; found, (number, detail), "{count} headers");
+    for (count, frames, number, detail) in &COUNTS {
+        let file = many_headers(rt.alloc(), *count)?;
+        let found = answer(rt.alloc(), &file, *frames);
+        assert!(rt; found.0 == *number && found.1 == *detail, "{count} headers");
     }
     Ok(())
 }

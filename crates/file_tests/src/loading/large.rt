@@ -4,6 +4,8 @@ use super::programs::EXITS;
 use byte_views::write_word;
 use elf_load::load;
 use mach_types::Limits;
+use std::alloc::{AllocError, Global};
+use std::process::Abort;
 use std::test::Fail;
 
 /// The most bytes of a file, and the most pages of segments.
@@ -11,24 +13,31 @@ const FILE_SIZE: usize = 8_388_608;
 
 const PAGES: usize = 16_319;
 
-#[test]
-fn largest_file(rt: HostRuntime) -> Result<(), Fail> {
-    let mut file = vec![in rt.alloc(); 1u8; FILE_SIZE]?;
+const LIMITS: Limits = Limits {
+    harts: 1,
+    frames: 16_384,
+    steps: 1,
+};
+
+/// A file of that size, with that many pages of segments.
+fn largest(rt: &impl Abort, alloc: Global) -> Result<Vec<u8>, AllocError> {
+    let mut file = vec![in alloc; 1u8; FILE_SIZE]?;
     for (byte, start) in file.iter_mut().zip(&EXITS) {
         *byte = *start;
     }
     assert!(rt; write_word(&mut file, 96, 8, FILE_SIZE as u64));
     assert!(rt; write_word(&mut file, 104, 8, PAGES as u64 * 4096));
-    let limits = Limits {
-        harts: 1,
-        frames: 16_384,
-        steps: 1,
-    };
-    let image = load(rt.alloc(), &file, &limits)?;
-    assert_eq!(rt; image.pages.len(), PAGES);
-    assert_eq!(rt; image.pages[2047].bytes[4095], 1);
-    assert_eq!(rt; image.pages[2048].bytes[0], 0);
-    assert_eq!(rt; image.pages[16_318].number, 16_334);
-    assert_eq!(rt; image.break_at, 16_335 * 4096);
+    Ok(file)
+}
+
+#[test]
+fn largest_file(rt: HostRuntime) -> Result<(), Fail> {
+    let file = largest(&rt, rt.alloc())?;
+    let image = load(rt.alloc(), &file, &LIMITS)?;
+    assert!(rt; image.pages.len() == PAGES);
+    assert!(rt; image.pages[2047].bytes[4095] == 1);
+    assert!(rt; image.pages[2048].bytes[0] == 0);
+    assert!(rt; image.pages[16_318].number == 16_334);
+    assert!(rt; image.break_at == 16_335 * 4096);
     Ok(())
 }

@@ -39,8 +39,9 @@
 //! executed, and one at 0x11128 that is read and written, with 16 bytes from 0x128 of the file and
 //! 0x2010 bytes of memory.
 
-use elf_load::load;
+use elf_load::{ImagePage, load};
 use mach_types::Limits;
+use std::process::Abort;
 use std::test::Fail;
 
 const LINKED: [u8; 864] = [
@@ -100,33 +101,45 @@ const LINKED: [u8; 864] = [
     0x01, 0x00, 0x00, 0x00, 0x00, 0x00, 0x00, 0x00, 0x00, 0x00, 0x00, 0x00, 0x00, 0x00, 0x00, 0x00,
 ];
 
+/// Of each page its number, its permission and the sum of its bytes: 30 and 4 stand in `.data`, and `.bss` is
+/// zero.
+const PAGES: [(u64, u8, u64); 4] = [(0x10, 5, 5013), (0x11, 6, 34), (0x12, 6, 0), (0x13, 6, 0)];
+
+/// The sum of bytes.
+fn sum_of(bytes: &[u8]) -> u64 {
+    let mut sum = 0u64;
+    for byte in bytes {
+        sum = sum.wrapping_add(u64::from(*byte));
+    }
+    sum
+}
+
+const LIMITS: Limits = Limits {
+    harts: 1,
+    frames: 128,
+    steps: 1,
+};
+
+/// A page must be as a row says.
+fn expect_page(rt: &impl Abort, page: &ImagePage, row: &(u64, u8, u64)) {
+    let (number, perm, sum) = row;
+    assert!(rt;
+        page.number == *number && page.perm == *perm,
+        "page {number:x}"
+    );
+    assert!(rt; sum_of(&page.bytes) == *sum, "page {number:x}");
+}
+
 #[test]
 fn linked_program(rt: HostRuntime) -> Result<(), Fail> {
-    let limits = Limits {
-        harts: 1,
-        frames: 128,
-        steps: 1,
-    };
-    let image = load(rt.alloc(), &LINKED, &limits)?;
-    assert_eq!(rt; image.entry, 0x100e8);
-    assert_eq!(rt; image.phdr, 0x10040);
-    assert_eq!(rt; image.phnum, 3);
-    assert_eq!(rt; image.break_at, 0x14000);
-    let mut shape = Vec::new(rt.alloc());
-    let mut sums = Vec::new(rt.alloc());
-    for page in &image.pages {
-        shape.push((page.number, page.perm))?;
-        let mut sum = 0u64;
-        for byte in &page.bytes {
-            sum = sum.wrapping_add(u64::from(*byte));
-        }
-        sums.push(sum)?;
+    let image = load(rt.alloc(), &LINKED, &LIMITS)?;
+    assert!(rt; image.entry == 0x100e8);
+    assert!(rt; image.phdr == 0x10040);
+    assert!(rt; image.phnum == 3);
+    assert!(rt; image.break_at == 0x14000);
+    assert!(rt; image.pages.len() == PAGES.len());
+    for (page, row) in image.pages.iter().zip(&PAGES) {
+        expect_page(&rt, page, row);
     }
-    assert_eq!(rt;
-        shape.as_slice(),
-        [(0x10, 5), (0x11, 6), (0x12, 6), (0x13, 6)].as_slice()
-    );
-    // 30 and 4 stand in `.data`, and `.bss` is zero.
-    assert_eq!(rt; sums.as_slice(), [5013, 34, 0, 0].as_slice());
     Ok(())
 }

@@ -54,9 +54,8 @@ pub(super) fn answer(alloc: Global, file: &[u8], frames: u32) -> (u8, Option<u64
 #[test]
 fn prints_faults(rt: HostRuntime) -> Result<(), Fail> {
     let text = format!(in rt.alloc(); "{}; {}", ElfFault::Flags(5), ElfFault::TooLarge(322))?;
-    assert_eq!(rt;
-        text.as_str(),
-        "the flags 0x5 of the file header are not supported; 322 frames are needed"
+    assert!(rt;
+        text.as_str() == "the flags 0x5 of the file header are not supported; 322 frames are needed"
     );
     Ok(())
 }

@@ -3,6 +3,7 @@
 use rv_asm::{Asm, AsmFault, encode};
 use rv_inst::Inst;
 use std::alloc::Global;
+use std::process::Abort;
 use std::test::Fail;
 
 const NOP: u32 = 0x0000_0013;
@@ -46,23 +47,28 @@ fn backward(alloc: Global, words: u32) -> Result<Vec<u8>, AsmFault> {
 }
 
 #[test]
-fn branches_reach_4092_forward_and_4096_backward(rt: HostRuntime) -> Result<(), Fail> {
+fn branches_reach_4092_forward(rt: HostRuntime) -> Result<(), Fail> {
     let bytes = forward(rt.alloc(), 1022)?;
-    assert_eq!(rt; bytes.len(), 4 * 1024);
-    assert_eq!(rt; word_at(&bytes, 0), Some(0x7e20_8ee3));
-    assert_eq!(rt; word_at(&bytes, 1), Some(NOP));
+    assert!(rt; bytes.len() == 4 * 1024);
+    assert!(rt; word_at(&bytes, 0) == Some(0x7e20_8ee3));
+    assert!(rt; word_at(&bytes, 1) == Some(NOP));
     assert!(rt; matches!(forward(rt.alloc(), 1023), Err(AsmFault::TooFar(0))));
-    let bytes = backward(rt.alloc(), 1024)?;
-    assert_eq!(rt; word_at(&bytes, 1024), Some(0x8020_8063));
-    assert!(rt; matches!(backward(rt.alloc(), 1025), Err(AsmFault::TooFar(0))));
     Ok(())
 }
 
 #[test]
-fn keeps_labels(rt: HostRuntime) -> Result<(), Fail> {
-    let mut asm = Asm::new(rt.alloc(), 0x10078, 3)?;
-    assert_eq!(rt; asm.labels(), 3);
-    assert_eq!(rt; asm.place(0), None);
+fn branches_reach_4096_backward(rt: HostRuntime) -> Result<(), Fail> {
+    let bytes = backward(rt.alloc(), 1024)?;
+    assert!(rt; word_at(&bytes, 1024) == Some(0x8020_8063));
+    assert!(rt; matches!(backward(rt.alloc(), 1025), Err(AsmFault::TooFar(0))));
+    Ok(())
+}
+
+/// Three words, a label before the last and one behind it; a label is bound once.
+fn labelled(rt: &impl Abort, alloc: Global) -> Result<Asm, AsmFault> {
+    let mut asm = Asm::new(alloc, 0x10078, 3)?;
+    assert!(rt; asm.labels() == 3);
+    assert!(rt; asm.place(0).is_none());
     asm.push(NOP)?;
     asm.push(NOP)?;
     assert!(rt; asm.label(0));
@@ -70,12 +76,26 @@ fn keeps_labels(rt: HostRuntime) -> Result<(), Fail> {
     assert!(rt; !asm.label(3));
     asm.push(NOP)?;
     assert!(rt; asm.label(2));
-    assert_eq!(rt; asm.place(0), Some(0x10080));
-    assert_eq!(rt; asm.place(1), None);
-    assert_eq!(rt; asm.place(2), Some(0x10084));
-    assert_eq!(rt; asm.place(3), None);
-    assert_eq!(rt; asm.branch(BEQ, 3), Err(AsmFault::UnboundLabel(3)));
-    assert_eq!(rt; asm.finish(rt.alloc())?.len(), 12);
+    Ok(asm)
+}
+
+/// Labels, and where they then stand.
+const PLACES: [(u32, Option<u64>); 4] = [
+    (0, Some(0x10080)),
+    (1, None),
+    (2, Some(0x10084)),
+    (3, None),
+];
+
+#[test]
+fn keeps_labels(rt: HostRuntime) -> Result<(), Fail> {
+    let mut asm = labelled(&rt, rt.alloc())?;
+    for (label, place) in &PLACES {
+        assert!(rt; asm.place(*label) == *place, "label {label}");
+    }
+    assert!(rt; asm.branch(BEQ, 3) == Err(AsmFault::UnboundLabel(3)));
+    let bytes = asm.finish(rt.alloc())?;
+    assert!(rt; bytes.len() == 12);
     Ok(())
 }
 
@@ -158,9 +178,9 @@ const WORDS: [u32; 8] = [
 #[test]
 fn makes_the_words_of_a_loop(rt: HostRuntime) -> Result<(), Fail> {
     let bytes = sum_of_ten(rt.alloc())?;
-    assert_eq!(rt; bytes.len(), 4 * WORDS.len());
-    for (index, word) in WORDS.into_iter().enumerate() {
-        assert_eq!(rt; word_at(&bytes, index), Some(word), "word {index}");
+    assert!(rt; bytes.len() == 4 * WORDS.len());
+    for (index, word) in WORDS.iter().enumerate() {
+        assert!(rt; word_at(&bytes, index) == Some(*word), "word {index}");
     }
     Ok(())
 }

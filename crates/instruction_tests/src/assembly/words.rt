@@ -29,7 +29,7 @@ const WORDS: [(Inst, u32); 12] = rows! {
 
 #[test]
 fn encodes_words(rt: HostRuntime) {
-    for (inst, word) in WORDS {
-        assert_eq!(rt; encode(&inst), Some(word), "at {word:x}");
+    for (inst, word) in &WORDS {
+        assert!(rt; encode(inst) == Some(*word), "at {word:x}");
     }
 }

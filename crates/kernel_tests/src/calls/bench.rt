@@ -67,16 +67,12 @@ fn booted(alloc: Global) -> Result<PageMap, Fail> {
 fn asking(number: u64, arguments: [u64; 5]) -> Saved {
     let [a0, a1, a2, a3, a4] = arguments;
     let mut file = Regs::new();
-    for (register, value) in [
-        (17, number),
-        (10, a0),
-        (11, a1),
-        (12, a2),
-        (13, a3),
-        (14, a4),
-    ] {
-        file.set(register, value);
-    }
+    file.set(17, number);
+    file.set(10, a0);
+    file.set(11, a1);
+    file.set(12, a2);
+    file.set(13, a3);
+    file.set(14, a4);
     Saved { file, pc: CODE }
 }
 
@@ -144,10 +140,10 @@ fn running(rt: &impl Abort, threads: &Threads) -> u8
 fn expect_ready(rt: &impl Abort, threads: &Threads, tid: Tid)
     ensures { state_of tid.0 threads.now.threads ≡ Some Ready }
 {
-    assert_eq!(rt;
-        threads.state(tid),
-        Some(ThreadState::Ready),
-        "thread {tid:?}"
+    assert!(rt;
+        threads.state(tid) == Some(ThreadState::Ready),
+        "thread {}",
+        tid.0
     );
 }
 
@@ -157,7 +153,7 @@ fn hart_of(rt: &impl Abort, threads: &Threads, tid: Tid) -> Hart
 {
     match threads.state(tid) {
         Some(ThreadState::Running(hart)) => hart,
-        state => panic!(rt; "thread {tid:?} is {state:?}"),
+        _ => panic!(rt; "thread {} doesn't run", tid.0),
     }
 }
 
@@ -242,7 +238,12 @@ impl Bench {
         end: CallEnd,
     ) {
         let called = self.call(rt, tid, number, arguments);
-        assert_eq!(rt; called.end, end, "call {number} {arguments:?}");
+        assert!(rt;
+            called.end == end,
+            "call {number} {:x} {:x}",
+            arguments[0],
+            arguments[1]
+        );
     }
 
     /// The calls of one number must be answered as the rows say, and the thread goes on.
@@ -269,8 +270,8 @@ impl Bench {
         writes: &[Write],
     ) {
         let called = self.call(rt, 1, number, arguments);
-        assert_eq!(rt; called.end, CallEnd::Return(answer));
-        assert_eq!(rt; called.written.as_slice(), writes);
+        assert!(rt; called.end == CallEnd::Return(answer), "call {number}");
+        assert!(rt; called.written.as_slice() == writes, "call {number}");
     }
 
     /// Writes 8 bytes to memory.
@@ -287,27 +288,30 @@ impl Bench {
 
     /// The 8 bytes in memory must be these.
     pub fn expect_memory(&self, rt: &impl Abort, at: u64, value: u64) {
-        assert_eq!(rt; self.pages.get(at, 8), Some(value), "at {at:x}");
+        assert!(rt; self.pages.get(at, 8) == Some(value), "at {at:x}");
     }
 
     /// These bytes must have been written to the console.
     pub fn expect_console(&self, rt: &impl Abort, bytes: &[u8]) {
-        assert_eq!(rt; self.kernel.console.bytes(), bytes);
+        assert!(rt; self.kernel.console.bytes() == bytes);
     }
 
     /// So many threads must live.
     pub fn expect_live(&self, rt: &impl Abort, count: u8) {
-        assert_eq!(rt; self.kernel.threads.live(), count);
+        assert!(rt; self.kernel.threads.live() == count);
     }
 
     /// A thread must be in this state; None of one that isn't live.
     pub fn expect_state(&self, rt: &impl Abort, tid: u32, state: Option<ThreadState>) {
-        assert_eq!(rt; self.kernel.threads.state(Tid(tid)), state, "thread {tid}");
+        assert!(rt;
+            self.kernel.threads.state(Tid(tid)) == state,
+            "thread {tid}"
+        );
     }
 
     /// A thread must have this area registered.
     pub fn expect_area(&self, rt: &impl Abort, tid: u32, area: Option<Area>) {
-        assert_eq!(rt; area_of(&self.kernel, Tid(tid)), area, "thread {tid}");
+        assert!(rt; area_of(&self.kernel, Tid(tid)) == area, "thread {tid}");
     }
 
     /// The signal that comes next to a thread must be this one; None of one that isn't live.
@@ -318,12 +322,12 @@ impl Bench {
         } else {
             None
         };
-        assert_eq!(rt; comes, next, "thread {tid}");
+        assert!(rt; comes == next, "thread {tid}");
     }
 
     /// The first ready threads that may run on the harts must be these.
-    pub fn expect_first(&self, rt: &impl Abort, first: [Option<Tid>; 2]) {
-        let ready = &self.kernel.ready;
-        assert_eq!(rt; [ready.first_for(Hart(0)), ready.first_for(Hart(1))], first);
+    pub fn expect_first(&self, rt: &impl Abort, first: &[Option<Tid>; 2]) {
+        assert!(rt; self.kernel.ready.first_for(Hart(0)) == first[0]);
+        assert!(rt; self.kernel.ready.first_for(Hart(1)) == first[1]);
     }
 }

@@ -58,11 +58,11 @@ fn sixty_four_threads_live_and_leave(rt: HostRuntime) -> Result<(), Fail> {
     bench.expect_live(&rt, 63);
     bench.expect_answers(&rt, 1, CLONE, &CLONES_OF_63);
     for number in (2..5).chain(6..66) {
-        bench.expect_first(&rt, [Some(Tid(number)), Some(Tid(number))]);
+        bench.expect_first(&rt, &[Some(Tid(number)), Some(Tid(number))]);
         bench.exit(&rt, number);
     }
     bench.expect_live(&rt, 1);
-    bench.expect_first(&rt, [None, None]);
+    bench.expect_first(&rt, &[None, None]);
     bench.expect_answers(&rt, 1, CLONE, &[(MADE, 66)]);
     Ok(())
 }

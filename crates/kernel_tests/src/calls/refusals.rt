@@ -4,16 +4,18 @@ use crate::calls::scenes::{console, memory, sequences, signalling, threads};
 use crate::calls::steps::{Scene, play};
 use std::test::Fail;
 
+/// The scenes of all calls.
+const TABLES: [&[Scene]; 5] = [
+    &console::SCENES,
+    &memory::SCENES,
+    &sequences::SCENES,
+    &signalling::SCENES,
+    &threads::SCENES,
+];
+
 #[test]
 fn each_refusal_stands_beside_a_success(rt: HostRuntime) -> Result<(), Fail> {
-    let tables: [&[Scene]; 5] = [
-        &console::SCENES,
-        &memory::SCENES,
-        &sequences::SCENES,
-        &signalling::SCENES,
-        &threads::SCENES,
-    ];
-    for scenes in tables {
+    for scenes in &TABLES {
         play(&rt, rt.alloc(), scenes)?;
     }
     Ok(())

@@ -8,7 +8,6 @@ use std::test::Fail;
 use sys_calls::CallEnd;
 
 /// A step of a scene.
-#[derive(Clone, Copy)]
 pub enum Step {
     /// 8 bytes are put into memory: an address and a number.
     Put(u64, u64),
@@ -57,48 +56,48 @@ pub fn play(rt: &impl Abort, alloc: Global, scenes: &[Scene]) -> Result<(), Fail
 /// The steps must go as they say.
 pub fn go(rt: &impl Abort, bench: &mut Bench, steps: &[Step]) {
     for step in steps {
-        take(rt, bench, *step);
+        take(rt, bench, step);
     }
 }
 
 /// A step must go as it says.
-fn take(rt: &impl Abort, bench: &mut Bench, step: Step) {
+fn take(rt: &impl Abort, bench: &mut Bench, step: &Step) {
     match step {
-        Step::Put(at, value) => bench.put(rt, at, value),
+        Step::Put(at, value) => bench.put(rt, *at, *value),
         Step::PutAll(rows) => bench.put_all(rt, rows),
-        Step::Answers(number, rows) => bench.expect_answers(rt, 1, number, rows),
+        Step::Answers(number, rows) => bench.expect_answers(rt, 1, *number, rows),
         Step::Answer(tid, number, arguments, answer) => {
-            bench.expect_answers(rt, tid, number, &[(arguments, answer)]);
+            bench.expect_end(rt, *tid, *number, *arguments, CallEnd::Return(*answer));
         }
         Step::Writes(number, arguments, answer, writes) => {
-            bench.expect_writes(rt, number, arguments, answer, writes);
+            bench.expect_writes(rt, *number, *arguments, *answer, writes);
         }
         Step::End(tid, number, arguments, end) => {
-            bench.expect_end(rt, tid, number, arguments, end);
+            bench.expect_end(rt, *tid, *number, *arguments, *end);
         }
-        Step::Exit(tid) => bench.exit(rt, tid),
+        Step::Exit(tid) => bench.exit(rt, *tid),
         Step::Run(hart, tid) => {
-            assert!(rt; hart < 2);
-            let _saved = bench.begin(rt, hart, tid);
+            assert!(rt; *hart < 2);
+            let _saved = bench.begin(rt, *hart, *tid);
         }
         Step::Wakes(hart, tid, a0) => {
-            assert!(rt; hart < 2);
-            let saved = bench.begin(rt, hart, tid);
-            assert_eq!(rt; saved.file.get(10), a0);
+            assert!(rt; *hart < 2);
+            let saved = bench.begin(rt, *hart, *tid);
+            assert!(rt; saved.file.get(10) == *a0);
         }
         seen => look(rt, bench, seen),
     }
 }
 
 /// What a step says of the process must hold.
-fn look(rt: &impl Abort, bench: &Bench, step: Step) {
+fn look(rt: &impl Abort, bench: &Bench, step: &Step) {
     match step {
-        Step::Memory(at, value) => bench.expect_memory(rt, at, value),
+        Step::Memory(at, value) => bench.expect_memory(rt, *at, *value),
         Step::Console(bytes) => bench.expect_console(rt, bytes),
         Step::First(first) => bench.expect_first(rt, first),
-        Step::Next(tid, next) => bench.expect_next(rt, tid, next),
-        Step::State(tid, state) => bench.expect_state(rt, tid, state),
-        Step::HasArea(tid, area) => bench.expect_area(rt, tid, area),
+        Step::Next(tid, next) => bench.expect_next(rt, *tid, *next),
+        Step::State(tid, state) => bench.expect_state(rt, *tid, *state),
+        Step::HasArea(tid, area) => bench.expect_area(rt, *tid, *area),
         _ => panic!(rt; "no step that only looks"),
     }
 }
