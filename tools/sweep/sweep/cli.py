@@ -40,13 +40,13 @@ def make_parser() -> argparse.ArgumentParser:
         '--expect', metavar='END', help="how each run is to end, as 'exit 0'"
     )
     parser.add_argument(
-        '--seeds-a-job', type=positive, default=50, metavar='K', help='seeds run by one process (50)'
+        '--seeds-a-job', type=positive, default=100, metavar='K', help='seeds of one process (100)'
     )
     parser.add_argument(
         '--jobs', type=positive, metavar='J', help='how many at once (one a processor, as memory allows)'
     )
     parser.add_argument(
-        '--seconds', type=float, default=600, metavar='T', help='how long a run may take (600)'
+        '--seconds', type=float, default=600, metavar='T', help='how long a call may take (600)'
     )
     parser.add_argument(
         '--sshlogin',
@@ -124,7 +124,7 @@ def table_of(swept: Swept, folder: Folder, arguments: argparse.Namespace) -> str
     ]
     lines += [
         '',
-        'The shortest run of each, again ("steps" are its steps; its text is in the file .output beside):',
+        'A run of each, again ("steps" are its steps; its text is in the file .output beside):',
     ]
     lines += [shlex.join(again(outcome, met, folder, arguments)) for outcome, met in rows]
     return ''.join(f'{line}\n' for line in lines)

@@ -105,6 +105,17 @@ class Sweeps(unittest.TestCase):
         )
         self.assertEqual([seed % 7 == 3 for seed in seeds], [False, True])
 
+    def test_outcomes_that_are_not_told_apart(self):
+        """Where `explore` tells of others, each seed is drawn by itself, and nothing is missed."""
+        told, others = self.room / 'told', self.room / 'others'
+        self.assertEqual(self.sweep('-o', told).returncode, 0)
+        self.file('0 others')
+        self.assertEqual(self.sweep('-o', others).returncode, 0)
+        counts = [
+            [line.split()[:3] for line in self.table(folder).splitlines()[2:4]] for folder in (told, others)
+        ]
+        self.assertEqual(counts[0], counts[1])
+
     def test_expected_ends(self):
         folder = self.room / 'swept'
         answer = self.sweep('-o', folder, '--first-seed', 4, '--expect', 'exit 0', runs=6)
@@ -179,7 +190,7 @@ class Sweeps(unittest.TestCase):
         folder = self.room / 'swept'
         answer = self.sweep('-o', folder, '--jobs', 1)
         self.assertEqual(answer.returncode, FAULT_STATUS)
-        self.assertIn('sweep: the run of seed 20 gave status 7, "fault memory"', answer.stderr)
+        self.assertIn('sweep: the runs of the seeds 16 to 20 gave status 7, "fault memory"', answer.stderr)
         self.assertFalse((folder / 'table.txt').exists())
 
     def test_another_sweep_in_the_folder(self):
