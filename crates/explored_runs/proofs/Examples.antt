@@ -1,0 +1,44 @@
+-- Worked examples: seeds, what is told of a few runs, and the text of that.
+use Rattle.std.proofs.Common.{◌≡◌, ℕ, List, [], ◌∷◌, ◌++◌, Some, None, fold, refl}
+use Rattle.std.specs.Fmt.{digits}
+use Rattle.std.specs.Prelude.{codes}
+use Rattle.mach_types.specs.declared.limits.End.{End}
+use Rattle.mach_types.specs.declared.limits.End.TheVariants.{Exit, Stuck}
+use Rattle.draw_policies.specs.declared.policies.Policy.TheVariants as policy
+use Rattle.explored_runs.specs.declared.exploration.Apart.TheVariants.{ByText, ByEnd}
+use Rattle.explored_runs.specs.declared.made.Made.{Made}
+use Rattle.explored_runs.specs.Accounts.{Account, nothing, told}
+use Rattle.explored_runs.specs.Explorations.{seed_at}
+use Rattle.explored_runs.specs.Text.{explored_text}
+
+-- behind the last seed stands 0
+seed_behind_the_last : seed_at 0xffff_ffff_ffff_ffff 1 ≡ 0
+seed_behind_the_last = refl
+
+-- runs of seeds 7 to 9: the first and the last come to one outcome
+abbrev run : ℕ → List ℕ → End → Made
+run seed console end = record {
+  seed = seed;
+  policy = policy.Short;
+  steps = 100;
+  console = console;
+  end = end;
+  tally = record { harts = 2; switches = 5; preemptions = 1 };
+}
+
+abbrev three : Account
+three = fold told nothing (run 7 (codes "ab") (Exit 0) ∷ run 8 (codes "ab") Stuck ∷ run 9 (codes "ab") (Exit 0) ∷ [])
+
+text_of_three : explored_text ByText three
+    ≡ codes "outcomes 2\nruns 2 seed 7 policy short steps 100\nconsole 2\nab\nend exit 0\n"
+    ++ codes "runs 1 seed 8 policy short steps 100\nconsole 2\nab\nend stuck\n"
+    ++ codes "runs 3\nharts 2 3\nswitches 15\npreemptions 3\n"
+unfolding explored_text digits
+text_of_three = refl
+
+-- by their ends alone, and with others
+text_with_others : explored_text ByEnd (record three { others = Some (record { runs = 4; seed = 10 }) })
+    ≡ codes "outcomes 2\nruns 2 seed 7 policy short steps 100\nend exit 0\nruns 1 seed 8 policy short steps 100\nend stuck\n"
+    ++ codes "others 4 seed 10\nruns 3\nharts 2 3\nswitches 15\npreemptions 3\n"
+unfolding explored_text digits
+text_with_others = refl

@@ -1,0 +1,12 @@
+-- an exploration on its way; each run leaves one less
+use Rattle.std.proofs.Common.{◌-◌}
+use Rattle.block_model.specs.Setting.{setting_of}
+use Rattle.explored_runs.specs.Accounts.{account_of}
+use Rattle.explored_runs.specs.Explored.{IsExploring}
+use Rattle.explored_runs.proofs.exploring.explore.Given as goal
+
+abbrev pub invariant-runs : goal.invariant-runs
+invariant-runs l = IsExploring (setting_of l.image l.limits) l.exploration (account_of l.explored)
+
+abbrev pub decreases-runs : goal.decreases-runs
+decreases-runs l = l.exploration.runs - l.explored.runs

@@ -1,0 +1,8 @@
+use Rattle.block_model.specs.Setting.{setting_of}
+use Rattle.explored_runs.proofs.Telling.{short_log}
+use Rattle.explored_runs.proofs.made.make_run.Goals as goal
+
+pub made_by-requires-clause-log : goal.made_by-requires-clause-log
+made_by-requires-clause-log c =
+    short_log (setting_of c.args.image.now c.args.limits) c.manner-manner.result c.in_ok-machine.machine c.requires.limits
+    c.in_ok-machine.ensures

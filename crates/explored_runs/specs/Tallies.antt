@@ -1,0 +1,63 @@
+-- What was tried in a run (own): on how many harts threads ran, how often another hart went on, and how often a thread was preempted.
+use Rattle.std.specs.Prelude.{ℕ, zero, suc, ◌≤◌, ◌+◌, ◌==◌, ◌&&◌, Bool, true, false, List, [], ◌∷◌, count_by, if◌then◌else◌}
+use Rattle.std.specs.List.{list_any}
+use Rattle.mach_types.specs.declared.events.Entry.{Entry}
+use Rattle.mach_types.specs.declared.events.Kind.{Kind}
+use Rattle.mach_types.specs.declared.events.Kind.TheVariants as kind
+use Rattle.explored_runs.specs.declared.tallies.Tally.{Tally}
+
+-- whether a thread begins to run by an event of this kind
+abbrev pub is_run : Kind → Bool
+is_run kind.Exec = false
+is_run kind.Drain = false
+is_run kind.Take = false
+is_run kind.Done = false
+is_run kind.Preempt = false
+is_run kind.Run = true
+is_run kind.Signal = false
+
+-- whether a thread leaves its hart by one
+abbrev pub is_preempt : Kind → Bool
+is_preempt kind.Exec = false
+is_preempt kind.Drain = false
+is_preempt kind.Take = false
+is_preempt kind.Done = false
+is_preempt kind.Preempt = true
+is_preempt kind.Run = false
+is_preempt kind.Signal = false
+
+-- whether a thread began to run on hart h
+abbrev pub ran_on : ℕ → List Entry → Bool
+ran_on h log = list_any (λ (e : Entry). is_run e.kind && (e.hart.0 == h)) log
+
+-- on how many of the first harts, so many, a thread ran
+abbrev pub harts_in : List Entry → ℕ → ℕ
+harts_in log zero = 0
+harts_in log (suc h) = harts_in log h + (if ran_on h log then 1 else 0)
+
+-- how many entries are of another hart than the entry before them, where hart h made the entry before the first
+abbrev pub switches_from : ℕ → List Entry → ℕ
+switches_from h [] = 0
+switches_from h (e ∷ log) = (if e.hart.0 == h then 0 else 1) + switches_from e.hart.0 log
+
+-- in a whole log
+abbrev pub switches_in : List Entry → ℕ
+switches_in [] = 0
+switches_in (e ∷ log) = switches_from e.hart.0 log
+
+abbrev pub preemptions_in : List Entry → ℕ
+preemptions_in log = count_by (λ (e : Entry). is_preempt e.kind) log
+
+-- as of a run on at most 8 harts of at most 1,000,000 steps
+pub record IsShort (t : Tally) : Type 0 where
+  pub harts : t.harts ≤ 8
+  pub switches : t.switches ≤ 1000000
+  pub preemptions : t.preemptions ≤ 1000000
+
+-- what was tried in a run on so many harts
+abbrev pub tally_of : ℕ → List Entry → Tally
+tally_of harts log = record {
+  harts = harts_in log harts;
+  switches = switches_in log;
+  preemptions = preemptions_in log;
+}

@@ -1,0 +1,47 @@
+-- The text of an exploration (own). Characters are ASCII codes, and numbers are decimal.
+use Rattle.std.specs.Prelude.{ℕ, ◌+◌, ◌==◌, List, [], ◌∷◌, ◌++◌, Option, Some, None, length, codes, if◌then◌else◌}
+use Rattle.std.specs.Fmt.{decimal}
+use Rattle.std.specs.List.{flat_map}
+use Rattle.draw_policies.specs.Policies.{word_of}
+use Rattle.place_text.specs.Ends.{end_line, number_line}
+use Rattle.place_text.specs.Fields.{line}
+use Rattle.step_log.specs.Text.{newline}
+use Rattle.explored_runs.specs.declared.exploration.Apart.{Apart}
+use Rattle.explored_runs.specs.declared.exploration.Apart.TheVariants.{ByText, ByEnd}
+use Rattle.explored_runs.specs.declared.explored.Found.{Found}
+use Rattle.explored_runs.specs.declared.explored.Others.{Others}
+use Rattle.explored_runs.specs.Accounts.{Account}
+
+-- `runs N seed S policy NAME steps M`: how many runs came to an outcome, and of the first of them its seed, its policy and how many
+-- entries its log has
+abbrev pub found_line : Found → List ℕ
+found_line f = line (codes "runs")
+    (decimal f.runs ∷ codes "seed" ∷ decimal f.seed ∷ codes "policy" ∷ word_of f.policy
+    ∷ codes "steps" ∷ decimal f.steps ∷ [])
+
+-- the console's length, its bytes and a newline, where outcomes are told apart by it
+abbrev pub console_part : Apart → List ℕ → List ℕ
+console_part ByText console = number_line (codes "console") (length console) ++ console ++ newline ∷ []
+console_part ByEnd console = []
+
+-- an outcome
+abbrev pub found_text : Apart → Found → List ℕ
+found_text apart f = found_line f ++ console_part apart f.console ++ end_line f.end
+
+-- `others N seed S`: how many runs came to none of the outcomes that are told apart, and the seed of the first of them
+abbrev pub others_text : Option Others → List ℕ
+others_text None = []
+others_text (Some others) = line (codes "others") (decimal others.runs ∷ codes "seed" ∷ decimal others.seed ∷ [])
+
+-- of each number of harts, from h on, on which threads of some run ran: the number, and how many runs
+abbrev pub harts_fields : ℕ → List ℕ → List (List ℕ)
+harts_fields h [] = []
+harts_fields h (runs ∷ more) =
+    if runs == 0 then harts_fields (h + 1) more else decimal h ∷ decimal runs ∷ harts_fields (h + 1) more
+
+-- the whole text
+unfoldable pub explored_text : Apart → Account → List ℕ
+explored_text apart a =
+    number_line (codes "outcomes") (length a.found) ++ flat_map (found_text apart) a.found ++ others_text a.others
+    ++ number_line (codes "runs") a.runs ++ line (codes "harts") (harts_fields 0 a.tried.harts)
+    ++ number_line (codes "switches") a.tried.switches ++ number_line (codes "preemptions") a.tried.preemptions

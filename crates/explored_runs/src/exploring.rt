@@ -1,0 +1,36 @@
+//! An exploration, one run after the other.
+
+ghost use Rattle.std.specs.Prelude.{◌≡◌, ◌≤◌, IfOk};
+ghost use Rattle.mach_types.specs.Limits.{InRange};
+ghost use Rattle.elf_load.specs.Images.{IsBootable};
+ghost use Rattle.block_model.specs.Setting.{setting_of};
+ghost use Rattle.explored_runs.specs.Explored.{IsExplored};
+
+use crate::exploration::Exploration;
+use crate::explored::Explored;
+use crate::made::make_run;
+use elf_load::Image;
+use mach_types::Limits;
+use std::alloc::{AllocError, Global};
+
+/// Makes the runs of an exploration, one after the other, and tells what they come to.
+///
+/// Fails only where memory is short. No more is kept than the outcomes that are told apart.
+pub fn explore(
+    alloc: Global,
+    image: &Image,
+    limits: Limits,
+    exploration: &Exploration,
+) -> Result<Explored, AllocError>
+    requires image { IsBootable limits.frames image.now }
+    requires limits { InRange limits }
+    requires runs { exploration.now.runs ≤ 1000000000 }
+    ensures { IfOk result (IsExplored (setting_of image.now limits) exploration.now) }
+{
+    let mut explored = Explored::nothing(alloc)?;
+    'runs: while explored.runs < exploration.runs && !explored.has_enough(exploration.until) {
+        let made = make_run(alloc, image, limits, exploration, explored.runs)?;
+        explored.tell(made)?;
+    }
+    Ok(explored)
+}

@@ -1,0 +1,24 @@
+//! Explorations: the runs of a first seed and of the seeds behind it, and each different outcome of theirs once.
+//!
+//! A run is the one that `drawn_machine` makes of its seed. Nothing is kept of it but what it came to.
+#![tactic(auto)]
+
+mod exploration;
+mod explored;
+mod exploring;
+mod made;
+mod printed;
+mod sharing;
+mod tallies;
+mod tallying;
+mod text;
+mod theorems;
+
+pub use exploration::{Apart, Exploration};
+pub use explored::{Explored, Found, MOST_FOUND, Others};
+pub use exploring::explore;
+pub use printed::Printed;
+pub use sharing::explore_on;
+pub use tallies::Tried;
+pub use text::explored_text;
+pub use theorems::explorations_are_one;

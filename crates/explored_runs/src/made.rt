@@ -1,0 +1,85 @@
+//! What one run came to.
+
+ghost use Rattle.std.specs.Prelude.{◌≡◌, ◌≤◌, length, IfOk};
+ghost use Rattle.mach_types.specs.Limits.{InRange};
+ghost use Rattle.elf_load.specs.Images.{IsBootable};
+ghost use Rattle.block_model.specs.Setting.{setting_of};
+ghost use Rattle.explored_runs.specs.Made.{IsMadeAt, kept, made_by};
+
+use crate::exploration::{Apart, Exploration};
+use crate::printed::Printed;
+use crate::tallies::Tally;
+use draw_policies::Policy;
+use drawn_machine::run_drawn;
+use drawn_runs::Manner;
+use elf_load::Image;
+use mach_types::{End, Limits};
+use machine_core::Machine;
+use std::alloc::{AllocError, Global};
+
+/// What one run came to.
+#[derive(Drop)]
+pub(crate) struct Made {
+    /// Its seed.
+    pub(crate) seed: u64,
+    /// Its policy.
+    pub(crate) policy: Policy,
+    /// How many entries its log has.
+    pub(crate) steps: u32,
+    /// What it left on its console, where outcomes are told apart by that; else nothing.
+    pub(crate) console: Printed,
+    /// How it ended.
+    pub(crate) end: End,
+    /// What was tried in it.
+    pub(crate) tally: Tally,
+}
+
+/// Makes the run of a place, from 0 on.
+pub(crate) fn make_run(
+    alloc: Global,
+    image: &Image,
+    limits: Limits,
+    exploration: &Exploration,
+    place: u64,
+) -> Result<Made, AllocError>
+    requires image { IsBootable limits.frames image.now }
+    requires limits { InRange limits }
+    ensures { IfOk result (IsMadeAt (setting_of image.now limits) exploration.now place) }
+{
+    let manner = exploration.manner(place, limits.steps);
+    let machine = run_drawn(alloc, image, limits, &manner)?;
+    made_by(alloc, exploration.apart, &manner, &machine)
+}
+
+/// What a run in this manner came to, at whose end a machine is.
+fn made_by(
+    alloc: Global,
+    apart: Apart,
+    manner: &Manner,
+    machine: &Machine,
+) -> Result<Made, AllocError>
+    requires harts { machine.now.setting.limits.harts ≤ 8 }
+    requires log { length machine.now.log ≤ 1000000 }
+    ensures { IfOk result
+        (λ made. made ≡ made_by apart manner.now machine.now.setting machine.now.log) }
+{
+    let log = machine.log();
+    Ok(Made {
+        seed: manner.seed,
+        policy: manner.policy,
+        steps: log.len() as u32,
+        console: Printed::copied(alloc, kept(apart, machine.console()))?,
+        end: machine.end(),
+        tally: Tally::of(machine.harts(), log),
+    })
+}
+
+/// The console of a run, where outcomes are told apart by it; else nothing.
+fn kept(apart: Apart, console: &[u8]) -> &[u8]
+    ensures { result.now ≡ kept apart console.now }
+{
+    match apart {
+        Apart::ByText => console,
+        Apart::ByEnd => &[],
+    }
+}

@@ -1,0 +1,128 @@
+//! An exploration whose runs are shared out among host threads.
+
+ghost use Rattle.std.specs.Prelude.{◌≡◌, ◌≤◌, ◌<◌, ◌+◌, ◌^◌, false, length, IfOk, IfSome, OnOk};
+ghost use Rattle.mach_types.specs.Limits.{InRange};
+ghost use Rattle.elf_load.specs.Images.{IsBootable};
+ghost use Rattle.block_model.specs.Setting.{setting_of};
+ghost use Rattle.explored_runs.specs.Accounts.{account_of, has_enough};
+ghost use Rattle.explored_runs.specs.Explored.{AreMadeFrom, IsExplored, IsExploring};
+ghost use Rattle.explored_runs.specs.Made.{IsMadeAt};
+
+use crate::exploration::Exploration;
+use crate::explored::Explored;
+use crate::made::{Made, make_run};
+use elf_load::Image;
+use mach_types::Limits;
+use std::alloc::{AllocError, Global};
+use std::thread::{self, Threads};
+
+/// How many runs a host thread makes in a round.
+const STRETCH: u64 = 64;
+
+/// Makes the runs of an exploration on so many host threads, and tells what they come to.
+///
+/// The runs are made in rounds and told in the order of their seeds, so that what is told is what [`crate::explore`] tells.
+/// Fails only where memory is short.
+pub fn explore_on<R: Threads + Sync>(
+    alloc: Global,
+    rt: &R,
+    image: &Image,
+    limits: Limits,
+    exploration: &Exploration,
+    jobs: u8,
+) -> Result<Explored, AllocError>
+    requires image { IsBootable limits.frames image.now }
+    requires limits { InRange limits }
+    requires runs { exploration.now.runs ≤ 1000000000 }
+    requires jobs { 0 < jobs }
+    ensures { IfOk result (IsExplored (setting_of image.now limits) exploration.now) }
+{
+    let mut explored = Explored::nothing(alloc)?;
+    'rounds: while explored.runs < exploration.runs && !explored.has_enough(exploration.until) {
+        tell_round(&mut explored, alloc, rt, image, limits, exploration, jobs)?;
+    }
+    Ok(explored)
+}
+
+/// Makes the runs of a round, and tells them, until as many outcomes were found as are asked for.
+fn tell_round<R: Threads + Sync>(
+    explored: &mut Explored,
+    alloc: Global,
+    rt: &R,
+    image: &Image,
+    limits: Limits,
+    exploration: &Exploration,
+    jobs: u8,
+) -> Result<(), AllocError>
+    requires image { IsBootable limits.frames image.now }
+    requires limits { InRange limits }
+    requires runs { exploration.now.runs ≤ 1000000000 }
+    requires jobs { 0 < jobs }
+    requires exploring { IsExploring (setting_of image.now limits) exploration.now (account_of explored.old) }
+    requires some { explored.old.runs < exploration.now.runs }
+    requires wanted { has_enough exploration.now.until (account_of explored.old) ≡ false }
+    ensures exploring { OnOk result
+        (IsExploring (setting_of image.now limits) exploration.now (account_of explored.new)) }
+    ensures more { OnOk result (explored.old.runs < explored.new.runs) }
+{
+    let mut round = make_round(alloc, rt, image, limits, exploration, explored.runs, jobs)?;
+    for made in round.iter_mut() {
+        let Some(made) = made.take() else {
+            return Err(AllocError);
+        };
+        explored.tell(made)?;
+        if explored.has_enough(exploration.until) {
+            return Ok(());
+        }
+    }
+    Ok(())
+}
+
+/// Makes the runs of the next places, a stretch for each host thread and no more than are asked for. A run is absent where memory
+/// was short.
+fn make_round<R: Threads + Sync>(
+    alloc: Global,
+    rt: &R,
+    image: &Image,
+    limits: Limits,
+    exploration: &Exploration,
+    from: u64,
+    jobs: u8,
+) -> Result<Vec<Option<Made>>, AllocError>
+    requires image { IsBootable limits.frames image.now }
+    requires limits { InRange limits }
+    requires runs { exploration.now.runs ≤ 1000000000 }
+    requires from { from < exploration.now.runs }
+    requires jobs { 0 < jobs }
+    ensures some { IfOk result (λ round. 0 < length round.items) }
+    ensures few { IfOk result (λ round. from + length round.items ≤ exploration.now.runs) }
+    ensures made { IfOk result (λ round.
+        AreMadeFrom (setting_of image.now limits) exploration.now from round.items) }
+{
+    let count = (exploration.runs - from).min(STRETCH * u64::from(jobs));
+    let mut round = empty_round(alloc, count)?;
+    thread::for_each_mut(
+        rt,
+        &mut round,
+        usize::from(jobs),
+        &|index: usize, made: &mut Option<Made>|
+            requires { IsBootable limits.frames image.now × InRange limits × (from + index < 2 ^ 64) }
+            ensures { IfSome made.exit.now
+                (IsMadeAt (setting_of image.entry.now limits) exploration.entry.now (from + index)) }
+        {
+            *made = make_run(alloc, image, limits, exploration, from + index as u64).ok();
+        },
+    );
+    Ok(round)
+}
+
+/// So many runs that aren't made yet.
+fn empty_round(alloc: Global, count: u64) -> Result<Vec<Option<Made>>, AllocError>
+    ensures { IfOk result (λ round. length round.items ≡ count) }
+{
+    let mut round = Vec::with_capacity(alloc, count as usize)?;
+    for _ in 0..count {
+        round.push(None)?;
+    }
+    Ok(round)
+}

@@ -1,0 +1,23 @@
+//! What was tried in a run, and in all runs.
+
+/// What was tried in one run.
+#[derive(Clone, Copy, Drop)]
+pub(crate) struct Tally {
+    /// On how many harts a thread ran, 0 to 8.
+    pub(crate) harts: u8,
+    /// How many events were of another hart than the event before.
+    pub(crate) switches: u64,
+    /// How often a thread was preempted.
+    pub(crate) preemptions: u64,
+}
+
+/// What was tried in all runs.
+#[derive(Clone, Copy, Drop)]
+pub struct Tried {
+    /// By the number of harts, 0 to 8: in how many runs a thread ran on exactly so many.
+    pub harts: [u64; 9],
+    /// How many events were of another hart than the event before.
+    pub switches: u64,
+    /// How often a thread was preempted.
+    pub preemptions: u64,
+}

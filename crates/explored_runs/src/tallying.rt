@@ -1,0 +1,105 @@
+//! How what was tried is counted.
+
+ghost use Rattle.std.specs.Prelude.{◌≡◌, ◌≤◌, ◌<◌, ◌^◌, length, All};
+ghost use Rattle.explored_runs.specs.Accounts.{nothing, tried_after};
+ghost use Rattle.explored_runs.specs.Tallies.{IsShort, harts_in, preemptions_in, ran_on, switches_from, switches_in, tally_of};
+
+use crate::tallies::{Tally, Tried};
+use mach_types::{Entry, Hart, Kind};
+
+impl Tally {
+    /// What was tried in the run of a log, on so many harts.
+    pub(crate) fn of(harts: u8, log: &[Entry]) -> Tally
+        requires harts { harts ≤ 8 }
+        requires log { length log.now ≤ 1000000 }
+        ensures is { result ≡ tally_of harts log.now }
+        ensures short { IsShort result }
+    {
+        Tally {
+            harts: harts_of(harts, log),
+            switches: switches(log) as u64,
+            preemptions: preemptions(log) as u64,
+        }
+    }
+}
+
+/// On how many of the first harts, so many, a thread ran.
+fn harts_of(harts: u8, log: &[Entry]) -> u8
+    ensures is { result ≡ harts_in log.now harts }
+    ensures few { result ≤ harts }
+{
+    let mut count = 0;
+    for hart in 0..harts {
+        count += u8::from(ran_on(hart, log));
+    }
+    count
+}
+
+/// Whether a thread began to run on a hart.
+fn ran_on(hart: u8, log: &[Entry]) -> bool
+    ensures { result ≡ ran_on hart log.now }
+{
+    log.iter()
+        .any(|entry| entry.kind == Kind::Run && entry.hart.0 == hart)
+}
+
+/// How many entries are of another hart than the entry before them.
+fn switches(log: &[Entry]) -> usize
+    ensures is { result ≡ switches_in log.now }
+    ensures few { result ≤ length log.now }
+{
+    match log.split_first() {
+        Some((first, rest)) => switches_from(first.hart, rest),
+        None => 0,
+    }
+}
+
+/// The same, where this hart made the entry before the first.
+fn switches_from(hart: Hart, log: &[Entry]) -> usize
+    ensures is { result ≡ switches_from hart.0 log.now }
+    ensures few { result ≤ length log.now }
+{
+    let mut last = hart.0;
+    let mut count = 0;
+    for entry in log {
+        count += usize::from(entry.hart.0 != last);
+        last = entry.hart.0;
+    }
+    count
+}
+
+/// How often a thread was preempted.
+fn preemptions(log: &[Entry]) -> usize
+    ensures is { result ≡ preemptions_in log.now }
+    ensures few { result ≤ length log.now }
+{
+    log.iter()
+        .filter(|entry| entry.kind == Kind::Preempt)
+        .count()
+}
+
+impl Tried {
+    /// Nothing.
+    pub(crate) fn nothing() -> Tried
+        ensures { result ≡ nothing.tried }
+    {
+        Tried {
+            harts: [0; 9],
+            switches: 0,
+            preemptions: 0,
+        }
+    }
+
+    /// Counts one run more.
+    pub(crate) fn count(&mut self, tally: Tally)
+        requires short { IsShort tally }
+        requires harts { All (λ runs. runs < 2 ^ 63) self.old.harts }
+        requires switches { self.old.switches < 2 ^ 63 }
+        requires preemptions { self.old.preemptions < 2 ^ 63 }
+        ensures { self.new ≡ tried_after tally self.old }
+    {
+        self.harts[tally.harts as usize] += 1;
+        self.switches += tally.switches;
+        self.preemptions += tally.preemptions;
+    }
+}
