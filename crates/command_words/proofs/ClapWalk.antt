@@ -13,7 +13,7 @@ use Rattle.clap.specs.declared.parser.matches.ValueSource.TheVariants.{CommandLi
 use Rattle.clap.specs.declared.builder.value_parser.Reading.TheVariants.{AsWritten}
 use Rattle.std.proofs.lemmas.Slice.Eq.{bytes_eq-Decides}
 use Rattle.command_words.specs.Grammar.{Arguments, Item, Given, is_option}
-use Rattle.command_words.specs.Options.{OptionName, Harts, Frames, Steps, Seed, Policy, Calm, long_name, same_option}
+use Rattle.command_words.specs.Options.{OptionName, Harts, Frames, Steps, Seed, Policy, Calm, RunCount, Until, By, Jobs, long_name, same_option}
 use Rattle.command_words.proofs.EachOption.{names_apart, same_is}
 use Rattle.command_words.proofs.Parts.{with_item, with_option}
 use Rattle.command_words.specs.Words.{Reading, Options, Value, Names, word_read}
@@ -127,6 +127,10 @@ module _ (given : Arguments) (rows : List Row) (v : Text) (fits : Fits given row
   apart Seed = (refl, refl)
   apart Policy = (refl, refl)
   apart Calm = (refl, refl)
+  apart RunCount = (refl, refl)
+  apart Until = (refl, refl)
+  apart By = (refl, refl)
+  apart Jobs = (refl, refl)
 
   unlike_names : (o : OptionName) → (bytes_eq (codes "program") (long_name o) ≡ false) ×
       (bytes_eq (codes "script") (long_name o) ≡ false)
@@ -136,6 +140,10 @@ module _ (given : Arguments) (rows : List Row) (v : Text) (fits : Fits given row
   unlike_names Seed = (refl, refl)
   unlike_names Policy = (refl, refl)
   unlike_names Calm = (refl, refl)
+  unlike_names RunCount = (refl, refl)
+  unlike_names Until = (refl, refl)
+  unlike_names By = (refl, refl)
+  unlike_names Jobs = (refl, refl)
 
   as_before : (o : OptionName) → Holds (long_name o) rows (value_of o (with_names (v ∷ []) given))
   as_before o = fits.options o
@@ -176,6 +184,10 @@ module _ (given : Arguments) (rows : List Row) (v : Text) (fits : Fits given row
       go Seed absent = rw absent refl
       go Policy absent = rw absent refl
       go Calm absent = rw absent refl
+      go RunCount absent = rw absent refl
+      go Until absent = rw absent refl
+      go By absent = rw absent refl
+      go Jobs absent = rw absent refl
 
   pub program_fits : given.names ≡ []
       → Fits (with_names (v ∷ []) given) (used (name_built 1 (codes "program")) (v ∷ []) rows)

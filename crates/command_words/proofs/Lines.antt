@@ -17,7 +17,7 @@ use Rattle.command_words.specs.Commands.{Command}
 use Rattle.command_words.specs.Grammar.{Arguments, AreWritten, Given, IsCommandLine, IsLine}
 use Rattle.command_words.specs.Grammar.{IsWritten, Item, Name, arguments_in, asked_by, names_in}
 use Rattle.command_words.specs.Grammar.{values_in, begins_with_dash, command_in, is_option}
-use Rattle.command_words.specs.Options.{OptionName, Harts, Frames, Steps, Seed, Policy, Calm, all_options, option_named}
+use Rattle.command_words.specs.Options.{OptionName, Harts, Frames, Steps, Seed, Policy, Calm, RunCount, Until, By, Jobs, all_options, option_named}
 use Rattle.command_words.specs.Options.{option_word}
 use Rattle.command_words.specs.Words.{Reading, Options, Value, Names, arguments_of, behind_equals, command_of}
 use Rattle.command_words.specs.Words.{few_arguments, is_equals, items, option_read, word_read}
@@ -276,6 +276,30 @@ joined_read Calm text =
       longer_than 6 (codes "--calm=") text
           (omega arith),
     )
+joined_read RunCount text =
+    simp (
+      longer_than 1 (codes "--runs=") text (omega arith),
+      longer_than 6 (codes "--runs=") text
+          (omega arith),
+    )
+joined_read Until text =
+    simp (
+      longer_than 1 (codes "--until=") text (omega arith),
+      longer_than 7 (codes "--until=") text
+          (omega arith),
+    )
+joined_read By text =
+    simp (
+      longer_than 1 (codes "--by=") text (omega arith),
+      longer_than 4 (codes "--by=") text
+          (omega arith),
+    )
+joined_read Jobs text =
+    simp (
+      longer_than 1 (codes "--jobs=") text (omega arith),
+      longer_than 6 (codes "--jobs=") text
+          (omega arith),
+    )
 
 option_alone : (option : OptionName) → word_read Options (option_word option) ≡ Some (None, Value option)
 option_alone Harts = refl
@@ -284,6 +308,10 @@ option_alone Steps = refl
 option_alone Seed = refl
 option_alone Policy = refl
 option_alone Calm = refl
+option_alone RunCount = refl
+option_alone Until = refl
+option_alone By = refl
+option_alone Jobs = refl
 
 value_read : (option : OptionName) (text : List ℕ) → begins_with_dash text ≡ false
     → word_read (Value option) text ≡ Some (Some (Given option text), Options)

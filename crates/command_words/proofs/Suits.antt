@@ -11,14 +11,14 @@ use Rattle.command_words.specs.declared.commands.Guest.{Guest as AskedGuest}
 use Rattle.command_words.specs.declared.commands.Settings.{Settings}
 use Rattle.step_log.specs.Script.{◌>>=◌}
 use Rattle.command_words.specs.declared.table.CommandKind.{CommandKind}
-use Rattle.command_words.specs.declared.table.CommandKind.TheVariants.{Runs, Makes, Tries}
+use Rattle.command_words.specs.declared.table.CommandKind.TheVariants.{Runs, Makes, Tries, Explores}
 use Rattle.command_words.specs.declared.table.SourceKind.{SourceKind}
 use Rattle.command_words.specs.declared.table.SourceKind.TheVariants.{ByRule, ByScript, ByWorkers, ByDraws}
 use Rattle.command_words.specs.declared.takes.NameKind.{NameKind}
 use Rattle.command_words.specs.declared.takes.NameKind.TheVariants.{Program, Script, Guest, Size}
 use Rattle.command_words.specs.Commands.{Command, Source, Rule, Workers, Drawn}
 use Rattle.command_words.specs.Grammar.{Arguments, all_suit, asked_by, asked_for, command_for, files_for, guest_for}
-use Rattle.command_words.specs.Grammar.{guest_named, one_name, settings_of, suits, two_names}
+use Rattle.command_words.specs.Grammar.{guest_named, one_name, program_for, settings_of, suits, two_names}
 use Rattle.command_words.specs.Options.{OptionName, number_of}
 use Rattle.command_words.specs.Table.{command_kind}
 use Rattle.command_words.specs.Takes.{Takes, takes_by, takes_kind, takes_of}
@@ -151,6 +151,12 @@ guests_are (a ∷ b ∷ []) = guest_is a b
 guests_are (a ∷ b ∷ c ∷ more) =
     sym (ap (λ x. is_some (name_of a) && x) (and_false (is_some (number_of b))) ∙ and_false (is_some (name_of a)))
 
+-- and a program alone where there is one name
+program_is : (names : List (List ℕ)) → is_some (program_for names) ≡ names_fit (Program ∷ []) names
+program_is [] = refl
+program_is (a ∷ []) = refl
+program_is (a ∷ b ∷ more) = refl
+
 mapped : {A B : Type 0} (f : A → B) (o : Option A) → is_some (option_map f o) ≡ is_some o
 mapped f None = refl
 mapped f (Some x) = refl
@@ -161,6 +167,7 @@ names_are (Runs source shown) settings names =
     mapped _ (files_for source names settings) ∙ files_are source names settings
 names_are Makes settings names = mapped _ (guest_for names) ∙ guests_are names
 names_are Tries settings names = mapped _ (guest_for names) ∙ guests_are names
+names_are Explores settings names = mapped _ (program_for names) ∙ program_is names
 
 -- so a command of a kind is asked for exactly where the arguments are its own
 kind_fits : (kind : CommandKind) (given : Arguments) → is_some (asked_for kind given) ≡ fits (takes_kind kind) given
@@ -206,6 +213,7 @@ two_names_most : (kind : CommandKind) → length (takes_kind kind).names ≤ 2
 two_names_most (Runs source shown) = two_names_by source
 two_names_most Makes = omega arith
 two_names_most Tries = omega arith
+two_names_most Explores = omega arith
 
 pub few_taken : (word : List ℕ) (takes : Takes) → takes_of word ≡ Some takes → length takes.names ≤ 2
 few_taken word takes is = by_kind (command_kind word) is

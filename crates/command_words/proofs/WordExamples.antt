@@ -7,7 +7,10 @@ use Rattle.draw_policies.specs.declared.policies.Policies.{Policies}
 use Rattle.draw_policies.specs.declared.policies.Policies.TheVariants.{All, Only}
 use Rattle.draw_policies.specs.declared.policies.Policy.TheVariants as policy
 use Rattle.guest_names.specs.declared.names.Name.TheVariants.{Counter, Migrate}
-use Rattle.command_words.specs.Commands.{Command, Runs, Makes, Tries, Source, Rule, Script, Workers, Drawn}
+use Rattle.command_words.specs.Commands.{Command, Runs, Makes, Tries, Explores, Source, Rule, Script, Workers, Drawn}
+use Rattle.command_words.specs.declared.commands.Settings.{Settings}
+use Rattle.command_words.specs.declared.options.Apart.{Apart}
+use Rattle.command_words.specs.declared.options.Apart.TheVariants.{ByText, ByEnd}
 use Rattle.command_words.specs.Options.{number_of}
 use Rattle.command_words.specs.Words.{arguments_of, command_of}
 
@@ -324,6 +327,35 @@ draw_late = refl
 run_by_policy : command_of (codes "run" ∷ codes "F" ∷ codes "--policy=all" ∷ []) ≡ None
 unfolding command_of arguments_of
 run_by_policy = refl
+
+abbrev settings : ℕ → Option ℕ → Apart → Option ℕ → Settings
+settings runs until apart jobs = record {
+  limits = limits 2 4096 200000;
+  seed = 1;
+  draws = record { policies = All; calm = None };
+  runs = runs;
+  until = until;
+  apart = apart;
+  jobs = jobs;
+}
+
+explore_defaults : command_of (codes "explore" ∷ codes "F" ∷ []) ≡ Some (Explores (codes "F") (settings 10000 None ByText None))
+unfolding command_of arguments_of
+explore_defaults = refl
+
+explore_options : command_of
+    (codes "explore" ∷ codes "--runs=7" ∷ codes "--until" ∷ codes "2" ∷ codes "F" ∷ codes "--by=end" ∷ codes "--jobs=64" ∷ [])
+    ≡ Some (Explores (codes "F") (settings 7 (Some 2) ByEnd (Some 64)))
+unfolding command_of arguments_of
+explore_options = refl
+
+explore_none : command_of (codes "explore" ∷ codes "F" ∷ codes "--runs=0" ∷ []) ≡ None
+unfolding command_of arguments_of
+explore_none = refl
+
+explore_by_console : command_of (codes "explore" ∷ codes "F" ∷ codes "--by=console" ∷ []) ≡ None
+unfolding command_of arguments_of
+explore_by_console = refl
 
 draw_seed_twice : command_of (codes "draw" ∷ codes "--seed=1" ∷ codes "--seed=1" ∷ codes "F" ∷ []) ≡ None
 unfolding command_of arguments_of

@@ -1,10 +1,11 @@
--- What can be asked for (own): to run a program, and to show something of the run; to make the file of a guest; or to try
--- a guest. The names are those of files.
-use Rattle.std.specs.Prelude.{ℕ, ◌≡◌, Bool, true, false, List, Option, Some, None}
+-- What can be asked for (own): to run a program, and to show something of the run; to make the file of a guest; to try a
+-- guest; or to explore runs of a program. The names are those of files.
+use Rattle.std.specs.Prelude.{ℕ, ◌≡◌, ◌<◌, ◌≤◌, ◌==◌, Bool, true, false, not, List, Option, Some, None, IfSome}
 use Rattle.mach_types.specs.declared.limits.Limits.{Limits}
 use Rattle.mach_types.specs.Limits.{InRange}
 use Rattle.command_words.specs.declared.commands.Draws.{Draws}
 use Rattle.command_words.specs.declared.commands.Guest.{Guest}
+use Rattle.command_words.specs.declared.commands.Settings.{Settings}
 use Rattle.command_words.specs.declared.commands.Trial.{Trial}
 use Rattle.command_words.specs.declared.table.Shown.{Shown}
 
@@ -22,11 +23,12 @@ pub record Run : Type 0 where
   pub shown : Shown
   pub limits : Limits
 
--- a command runs this, makes the file of this guest, or makes this trial
+-- a command runs this, makes the file of this guest, makes this trial, or explores runs of this program
 pub data Command : Type 0 where
   Runs : (run : Run) → Command
   Makes : (guest : Guest) → Command
   Tries : (trial : Trial) → Command
+  Explores : (program : List ℕ) (settings : Settings) → Command
 
 -- the limits of a trial: it has no option for the frames
 abbrev pub trial_limits : Trial → Limits
@@ -39,22 +41,43 @@ is_by_workers (Script name) = false
 is_by_workers (Workers seed) = true
 is_by_workers (Drawn seed draws) = false
 
--- whether a command needs workers
+-- whether runs are made by one host thread alone
+abbrev pub is_alone : Option ℕ → Bool
+is_alone None = false
+is_alone (Some jobs) = jobs == 1
+
+-- whether a command needs workers, or other host threads
 abbrev pub needs_workers : Command → Bool
 needs_workers (Runs run) = is_by_workers run.source
 needs_workers (Makes guest) = false
 needs_workers (Tries trial) = false
+needs_workers (Explores program settings) = not (is_alone settings.jobs)
 
--- whether the words ask for a run by workers
+-- whether the words ask for a run by workers, or for runs by several host threads
 abbrev pub is_run : Option Command → Bool
 is_run None = false
 is_run (Some command) = needs_workers command
 
--- the limits of a run or a trial are in their ranges
+-- whether a text hangs on how workers take turns
+abbrev pub hangs_on_turns : Option Command → Bool
+hangs_on_turns None = false
+hangs_on_turns (Some (Runs run)) = is_by_workers run.source
+hangs_on_turns (Some (Makes guest)) = false
+hangs_on_turns (Some (Tries trial)) = false
+hangs_on_turns (Some (Explores program settings)) = false
+
+-- what options come to is in their ranges
+pub record AreInRange (settings : Settings) : Type 0 where
+  pub limits : InRange settings.limits
+  pub runs : settings.runs ≤ 1000000000
+  pub jobs : IfSome settings.jobs (λ jobs. 0 < jobs)
+
+-- the limits of a run or a trial, and the settings of an exploration, are in their ranges
 abbrev pub HasLimits : Command → Type 0
 HasLimits (Runs run) = InRange run.limits
 HasLimits (Makes guest) = Unit {0}
 HasLimits (Tries trial) = InRange (trial_limits trial)
+HasLimits (Explores program settings) = AreInRange settings
 
 -- the fixed rule runs on one hart
 abbrev pub HasHartsOf : Source → Limits → Type 0
@@ -67,3 +90,4 @@ abbrev pub HasItsHarts : Command → Type 0
 HasItsHarts (Runs run) = HasHartsOf run.source run.limits
 HasItsHarts (Makes guest) = Unit {0}
 HasItsHarts (Tries trial) = Unit {0}
+HasItsHarts (Explores program settings) = Unit {0}

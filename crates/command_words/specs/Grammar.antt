@@ -18,13 +18,16 @@ use Rattle.step_log.specs.Script.{◌>>=◌}
 use Rattle.command_words.specs.declared.commands.Guest.{Guest}
 use Rattle.command_words.specs.declared.commands.Settings.{Settings}
 use Rattle.command_words.specs.declared.commands.Trial.{Trial}
+use Rattle.command_words.specs.declared.options.Apart.{Apart}
+use Rattle.command_words.specs.declared.options.Apart.TheVariants.{ByText}
 use Rattle.command_words.specs.declared.table.CommandKind.{CommandKind}
 use Rattle.command_words.specs.declared.table.CommandKind.TheVariants as kind
 use Rattle.command_words.specs.declared.table.Shown.{Shown}
 use Rattle.command_words.specs.declared.table.SourceKind.{SourceKind}
 use Rattle.command_words.specs.declared.table.SourceKind.TheVariants.{ByRule, ByScript, ByWorkers, ByDraws}
-use Rattle.command_words.specs.Commands.{Command, Run, Runs, Makes, Tries, Source, Rule, Script, Workers, Drawn}
-use Rattle.command_words.specs.Options.{OptionName, Harts, Frames, Steps, Seed, Policy, Calm, Range, all_options, is_value}
+use Rattle.command_words.specs.Commands.{Command, Run, Runs, Makes, Tries, Explores, Source, Rule, Script, Workers, Drawn}
+use Rattle.command_words.specs.Options.{OptionName, Harts, Frames, Steps, Seed, Policy, Calm, RunCount, Until, By, Jobs}
+use Rattle.command_words.specs.Options.{Range, all_options, apart_named, is_value}
 use Rattle.command_words.specs.Options.{number_in, number_of, option_word, range_of, same_option, values_of}
 use Rattle.command_words.specs.Table.{command_kind}
 use Rattle.command_words.specs.Takes.{Takes, has, takes_kind}
@@ -111,9 +114,13 @@ number_or default range value = unwrap_or (value >>= number_in range) default
 abbrev pub policies_or_all : Option (List ℕ) → Policies
 policies_or_all value = unwrap_or (value >>= policies_of_word) All
 
--- from how many events on a run goes on fairly, where a number that the option takes is given
-abbrev pub calm_in : Option (List ℕ) → Option ℕ
-calm_in value = value >>= number_in (range_of 0 1000000)
+-- the number that an option comes to that has no default: none where no number that it takes is given
+abbrev pub number_given : Range → Option (List ℕ) → Option ℕ
+number_given range value = value >>= number_in range
+
+-- by what outcomes are told apart: as it is said, or by their texts
+abbrev pub apart_or_text : Option (List ℕ) → Apart
+apart_or_text value = unwrap_or (value >>= apart_named) ByText
 
 -- what the options come to
 abbrev pub settings_of : (OptionName → Option (List ℕ)) → Settings
@@ -126,8 +133,12 @@ settings_of values = record {
   seed = number_or 1 (range_of 0 (2 ^ 64 - 1)) (values Seed);
   draws = record {
     policies = policies_or_all (values Policy);
-    calm = calm_in (values Calm);
+    calm = number_given (range_of 0 1000000) (values Calm);
   };
+  runs = number_or 10000 (range_of 1 1000000000) (values RunCount);
+  until = number_given (range_of 1 64) (values Until);
+  apart = apart_or_text (values By);
+  jobs = number_given (range_of 1 64) (values Jobs);
 }
 
 -- how many harts there are: one by the fixed rule
@@ -181,12 +192,18 @@ abbrev pub trial_of : Settings → Guest → Trial
 trial_of settings guest =
     record { guest = guest; harts = settings.limits.harts; steps = settings.limits.steps; seed = settings.seed }
 
+-- the program that one name gives, where there is one
+abbrev pub program_for : List (List ℕ) → Option (List ℕ)
+program_for (program ∷ []) = Some program
+program_for _ = None
+
 -- the command of this kind with these settings and these names
 abbrev pub command_for : CommandKind → Settings → List (List ℕ) → Option Command
 command_for (kind.Runs source shown) settings names =
     option_map (λ files. Runs (run_for source shown settings.limits files)) (files_for source names settings)
 command_for kind.Makes settings names = option_map Makes (guest_for names)
 command_for kind.Tries settings names = option_map (λ guest. Tries (trial_of settings guest)) (guest_for names)
+command_for kind.Explores settings names = option_map (λ program. Explores program settings) (program_for names)
 
 -- what such a command asks for with these arguments: each value that is given suits it
 abbrev pub asked_for : CommandKind → Arguments → Option Command

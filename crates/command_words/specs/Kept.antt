@@ -19,11 +19,11 @@ use Rattle.command_words.specs.declared.reader.Reading.{Reading}
 use Rattle.command_words.specs.declared.reader.Reading.TheVariants as reading
 use Rattle.command_words.specs.declared.takes.OptionSet.{OptionSet}
 use Rattle.command_words.specs.declared.takes.Takes.{Takes}
-use Rattle.command_words.specs.Commands.{Command as Asked, Run as AskedRun, Runs, Makes, Tries}
+use Rattle.command_words.specs.Commands.{Command as Asked, Run as AskedRun, Runs, Makes, Tries, Explores}
 use Rattle.command_words.specs.Commands.{Source as FromSource, Rule, Script, Workers, Drawn}
 use Rattle.command_words.specs.Grammar.{Arguments as Stated}
-use Rattle.command_words.specs.Options.{OptionName as Named, Harts, Frames, Steps, Seed, Policy, Calm, Range}
-use Rattle.command_words.specs.Options.{Values as ItsValues, Numbers as InRange, PolicyNames}
+use Rattle.command_words.specs.Options.{OptionName as Named, Harts, Frames, Steps, Seed, Policy, Calm, RunCount, Until, By, Jobs, Range}
+use Rattle.command_words.specs.Options.{Values as ItsValues, Numbers as InRange, PolicyNames, ApartNames}
 use Rattle.command_words.specs.Takes.{OptionSet as SomeOptions, Takes as Taken}
 use Rattle.command_words.specs.WordFaults.{SoFar}
 use Rattle.command_words.specs.Words.{Reading as Read, Options, Value, Names}
@@ -36,6 +36,10 @@ named option.Steps = Steps
 named option.Seed = Seed
 named option.Policy = Policy
 named option.Calm = Calm
+named option.RunCount = RunCount
+named option.Until = Until
+named option.By = By
+named option.Jobs = Jobs
 
 -- the numbers that an option takes
 abbrev pub range : Numbers → Range
@@ -45,6 +49,7 @@ range numbers = record { least = numbers.least; most = numbers.most }
 abbrev pub values_kept : Values → ItsValues
 values_kept (values.Numbers numbers) = InRange (range numbers)
 values_kept values.PolicyNames = PolicyNames
+values_kept values.ApartNames = ApartNames
 
 -- the names, as texts
 abbrev pub names_kept : FileNames → List (List ℕ)
@@ -60,6 +65,10 @@ value_kept kept Steps = option_copied kept.steps
 value_kept kept Seed = option_copied kept.seed
 value_kept kept Policy = option_copied kept.policy
 value_kept kept Calm = option_copied kept.calm
+value_kept kept RunCount = option_copied kept.run_count
+value_kept kept Until = option_copied kept.until
+value_kept kept By = option_copied kept.by
+value_kept kept Jobs = option_copied kept.jobs
 
 -- the arguments, with the texts of their words
 abbrev pub stated : Arguments → Stated
@@ -86,6 +95,7 @@ abbrev pub said : Command → Asked
 said (command.Runs run) = Runs (run_said run)
 said (command.Makes guest) = Makes guest
 said (command.Tries trial) = Tries trial
+said (command.Explores explore) = Explores explore.program.now explore.settings
 
 -- some of the options
 abbrev pub options_kept : OptionSet → SomeOptions
@@ -96,6 +106,10 @@ options_kept options = record {
   seed = options.seed;
   policy = options.policy;
   calm = options.calm;
+  run_count = options.run_count;
+  until = options.until;
+  by = options.by;
+  jobs = options.jobs;
 }
 
 -- what a command takes

@@ -8,9 +8,12 @@ use Rattle.std.specs.Str.{bytes_eq}
 use Rattle.std.specs.Str.Parse.{digits_value}
 use Rattle.draw_policies.specs.Policies.{policies_of_word}
 use Rattle.step_log.specs.Script.{◌>>=◌}
+use Rattle.command_words.specs.declared.options.Apart.{Apart}
+use Rattle.command_words.specs.declared.options.Apart.TheVariants.{ByText, ByEnd}
 
 -- the options that commands have: how many harts there are, how many frames of 4,096 bytes, how many lines
--- the log may have, the seed of what is chosen, which policies draw, and from how many events on a run goes on fairly
+-- the log may have, the seed of what is chosen, which policies draw, and from how many events on a run goes on fairly; how many runs are explored, how many different
+-- outcomes are enough, by what they are told apart, and how many host threads make the runs
 pub data OptionName : Type 0 where
   Harts : OptionName
   Frames : OptionName
@@ -18,9 +21,13 @@ pub data OptionName : Type 0 where
   Seed : OptionName
   Policy : OptionName
   Calm : OptionName
+  RunCount : OptionName
+  Until : OptionName
+  By : OptionName
+  Jobs : OptionName
 
 abbrev pub all_options : List OptionName
-all_options = Harts ∷ Frames ∷ Steps ∷ Seed ∷ Policy ∷ Calm ∷ []
+all_options = Harts ∷ Frames ∷ Steps ∷ Seed ∷ Policy ∷ Calm ∷ RunCount ∷ Until ∷ By ∷ Jobs ∷ []
 
 -- the name of an option
 abbrev pub long_name : OptionName → List ℕ
@@ -30,6 +37,10 @@ long_name Steps = codes "steps"
 long_name Seed = codes "seed"
 long_name Policy = codes "policy"
 long_name Calm = codes "calm"
+long_name RunCount = codes "runs"
+long_name Until = codes "until"
+long_name By = codes "by"
+long_name Jobs = codes "jobs"
 
 -- the word of an option
 abbrev pub option_word : OptionName → List ℕ
@@ -51,10 +62,11 @@ pub record Range : Type 0 where
 abbrev pub range_of : ℕ → ℕ → Range
 range_of least most = record { least = least; most = most }
 
--- the values of an option: numbers, or the names of policies
+-- the values of an option: numbers, the names of policies, or by what outcomes are told apart
 pub data Values : Type 0 where
   Numbers : (range : Range) → Values
   PolicyNames : Values
+  ApartNames : Values
 
 abbrev pub values_of : OptionName → Values
 values_of Harts = Numbers (range_of 1 8)
@@ -63,6 +75,10 @@ values_of Steps = Numbers (range_of 1 1000000)
 values_of Seed = Numbers (range_of 0 (2 ^ 64 - 1))
 values_of Policy = PolicyNames
 values_of Calm = Numbers (range_of 0 1000000)
+values_of RunCount = Numbers (range_of 1 1000000000)
+values_of Until = Numbers (range_of 1 64)
+values_of By = ApartNames
+values_of Jobs = Numbers (range_of 1 64)
 
 -- a number is 1 to 20 decimal digits and nothing else, and is below 2 ^ 64
 abbrev pub is_number : List ℕ → Bool
@@ -80,7 +96,13 @@ number_in range text = do
   number ← number_of text
   if nat_le range.least number && nat_le number range.most then Some number else None
 
+-- by what outcomes are told apart, as a word says it
+abbrev pub apart_named : List ℕ → Option Apart
+apart_named word =
+    if bytes_eq word (codes "text") then Some ByText else if bytes_eq word (codes "end") then Some ByEnd else None
+
 -- whether a text is one of these values
 abbrev pub is_value : Values → List ℕ → Bool
 is_value (Numbers range) text = is_some (number_in range text)
 is_value PolicyNames text = is_some (policies_of_word text)
+is_value ApartNames text = is_some (apart_named text)

@@ -1,12 +1,12 @@
 -- What each command takes behind its word (own): which names, and which options.
 use Rattle.std.specs.Prelude.{ℕ, Bool, true, false, List, [], ◌∷◌, Option, option_map}
 use Rattle.command_words.specs.declared.table.CommandKind.{CommandKind}
-use Rattle.command_words.specs.declared.table.CommandKind.TheVariants.{Runs, Makes, Tries}
+use Rattle.command_words.specs.declared.table.CommandKind.TheVariants.{Runs, Makes, Tries, Explores}
 use Rattle.command_words.specs.declared.table.SourceKind.{SourceKind}
 use Rattle.command_words.specs.declared.table.SourceKind.TheVariants.{ByRule, ByScript, ByWorkers, ByDraws}
 use Rattle.command_words.specs.declared.takes.NameKind.{NameKind}
 use Rattle.command_words.specs.declared.takes.NameKind.TheVariants.{Program, Script, Guest, Size}
-use Rattle.command_words.specs.Options.{OptionName, Harts, Frames, Steps, Seed, Policy, Calm}
+use Rattle.command_words.specs.Options.{OptionName, Harts, Frames, Steps, Seed, Policy, Calm, RunCount, Until, By, Jobs}
 use Rattle.command_words.specs.Table.{command_kind}
 
 -- some of the options
@@ -17,6 +17,10 @@ pub record OptionSet : Type 0 where
   pub seed : Bool
   pub policy : Bool
   pub calm : Bool
+  pub run_count : Bool
+  pub until : Bool
+  pub by : Bool
+  pub jobs : Bool
 
 -- none of them
 abbrev pub no_options : OptionSet
@@ -27,6 +31,10 @@ no_options = record {
   seed = false;
   policy = false;
   calm = false;
+  run_count = false;
+  until = false;
+  by = false;
+  jobs = false;
 }
 
 -- whether an option is among them
@@ -37,6 +45,10 @@ has options Steps = options.steps
 has options Seed = options.seed
 has options Policy = options.policy
 has options Calm = options.calm
+has options RunCount = options.run_count
+has options Until = options.until
+has options By = options.by
+has options Jobs = options.jobs
 
 -- these and one more
 abbrev pub with_option : OptionSet → OptionName → OptionSet
@@ -46,6 +58,10 @@ with_option options Steps = record options { steps = true }
 with_option options Seed = record options { seed = true }
 with_option options Policy = record options { policy = true }
 with_option options Calm = record options { calm = true }
+with_option options RunCount = record options { run_count = true }
+with_option options Until = record options { until = true }
+with_option options By = record options { by = true }
+with_option options Jobs = record options { jobs = true }
 
 -- what a command takes: these names in this order, and these options in any
 pub record Takes : Type 0 where
@@ -68,13 +84,25 @@ taken_on_script =
 abbrev pub options_by_seed : OptionSet
 options_by_seed = record no_options { harts = true; frames = true; steps = true; seed = true }
 
+-- those of runs that a seed draws
+abbrev pub options_by_draws : OptionSet
+options_by_draws = record options_by_seed { policy = true; calm = true }
+
 -- what a run by workers takes
 abbrev pub taken_by_workers : Takes
 taken_by_workers = record { names = Program ∷ []; options = options_by_seed }
 
 -- what a run by draws takes
 abbrev pub taken_by_draws : Takes
-taken_by_draws = record { names = Program ∷ []; options = record options_by_seed { policy = true; calm = true } }
+taken_by_draws = record { names = Program ∷ []; options = options_by_draws }
+
+-- what an exploration takes
+abbrev pub taken_by_explore : Takes
+taken_by_explore =
+    record {
+      names = Program ∷ [];
+      options = record options_by_draws { run_count = true; until = true; by = true; jobs = true };
+    }
 
 -- what the making of a guest takes
 abbrev pub taken_by_make : Takes
@@ -97,6 +125,7 @@ abbrev pub takes_kind : CommandKind → Takes
 takes_kind (Runs source shown) = takes_by source
 takes_kind Makes = taken_by_make
 takes_kind Tries = taken_by_trial
+takes_kind Explores = taken_by_explore
 
 -- what the command of a word takes, if a command has the word
 abbrev pub takes_of : List ℕ → Option Takes

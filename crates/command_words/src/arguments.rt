@@ -4,7 +4,7 @@ ghost use Rattle.std.specs.Prelude.{◌≡◌, false, IfOk, option_copied, optio
 ghost use Rattle.clap.specs.Words.{app_of, found_of, rows_of, rule_of};
 ghost use Rattle.command_words.specs.Kept.{names_kept, stated};
 ghost use Rattle.command_words.specs.Line.{AsksAlike, arguments_found, line, names_found, option_rule};
-ghost use Rattle.command_words.specs.Line.{with_options};
+ghost use Rattle.command_words.specs.Line.{bare, with_options};
 ghost use Rattle.command_words.specs.Words.{texts};
 
 use clap::error::ErrorKind;
@@ -39,6 +39,14 @@ pub(crate) struct Arguments<'a> {
     pub(crate) policy: Option<&'a str>,
     /// The value of `--calm`.
     pub(crate) calm: Option<&'a str>,
+    /// The value of `--runs`.
+    pub(crate) run_count: Option<&'a str>,
+    /// The value of `--until`.
+    pub(crate) until: Option<&'a str>,
+    /// The value of `--by`.
+    pub(crate) by: Option<&'a str>,
+    /// The value of `--jobs`.
+    pub(crate) jobs: Option<&'a str>,
 }
 
 /// An option of this name, which takes a value.
@@ -49,19 +57,30 @@ fn option<'a>(alloc: Global, name: &'a str) -> Arg<'a>
     Arg::new(alloc, name).long(name)
 }
 
-/// A parser of the options alone.
-fn options<'a>(alloc: Global) -> Result<Parser<'a>, AllocError>
-    ensures { IfOk result (λ parser. app_of parser ≡ with_options) }
+/// A parser that isn't told a name of its own among the words, and has no help.
+fn bare<'a>(alloc: Global) -> Parser<'a>
+    ensures { app_of result ≡ bare }
 {
     Parser::new(alloc, "rseq_run")
         .no_binary_name(true)
         .disable_help_flag(true)
+}
+
+/// A parser of the options alone.
+fn options<'a>(alloc: Global) -> Result<Parser<'a>, AllocError>
+    ensures { IfOk result (λ parser. app_of parser ≡ with_options) }
+{
+    bare(alloc)
         .arg(option(alloc, "harts"))?
         .arg(option(alloc, "frames"))?
         .arg(option(alloc, "steps"))?
         .arg(option(alloc, "seed"))?
         .arg(option(alloc, "policy"))?
-        .arg(option(alloc, "calm"))
+        .arg(option(alloc, "calm"))?
+        .arg(option(alloc, "runs"))?
+        .arg(option(alloc, "until"))?
+        .arg(option(alloc, "by"))?
+        .arg(option(alloc, "jobs"))
 }
 
 /// A parser of what may stand behind a command.
@@ -96,6 +115,10 @@ fn arguments_in<'a>(matches: &ArgMatches<'a>) -> Arguments<'a>
         seed: matches.get_str("seed"),
         policy: matches.get_str("policy"),
         calm: matches.get_str("calm"),
+        run_count: matches.get_str("runs"),
+        until: matches.get_str("until"),
+        by: matches.get_str("by"),
+        jobs: matches.get_str("jobs"),
     }
 }
 

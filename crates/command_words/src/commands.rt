@@ -2,15 +2,18 @@
 
 ghost use Rattle.std.specs.Prelude.{◌≡◌, ◌≤◌, IfOk, IfSome, option_copied, option_map};
 ghost use Rattle.mach_types.specs.Limits.{InRange};
-ghost use Rattle.command_words.specs.Commands.{HasHartsOf, HasItsHarts, HasLimits, trial_limits};
-ghost use Rattle.command_words.specs.Kept.{named, names_kept, run_said, said, source_said, stated, takes_kept};
-ghost use Rattle.command_words.specs.Grammar.{all_suit, asked_by, asked_for, calm_in, command_for, files_for, guest_for, guest_named};
+ghost use Rattle.command_words.specs.Commands.{AreInRange, HasHartsOf, HasItsHarts, HasLimits, trial_limits};
+ghost use Rattle.command_words.specs.Kept.{named, names_kept, range, run_said, said, source_said, stated, takes_kept};
+ghost use Rattle.command_words.specs.Grammar.{all_suit, apart_or_text, asked_by, asked_for, command_for, files_for, guest_for, guest_named};
 ghost use Rattle.command_words.specs.Grammar.{harts_for, one_name, policies_or_all, run_for, settings_of, suits, trial_of};
-ghost use Rattle.command_words.specs.Grammar.{two_names};
+ghost use Rattle.command_words.specs.Grammar.{number_given, program_for, two_names};
+ghost use Rattle.command_words.specs.Options.{range_of};
 ghost use Rattle.command_words.specs.Words.{command_of, texts};
 
 use crate::arguments::{Arguments, FileNames, arguments_of};
-use crate::options::{CALM, FRAMES, HARTS, OptionName, SEEDS, STEPS, number_of};
+use crate::options::{
+    Apart, CALM, FRAMES, HARTS, JOBS, Numbers, OUTCOMES, OptionName, RUNS, SEEDS, STEPS, number_of,
+};
 use crate::table::{CommandKind, Shown, SourceKind, command_kind};
 use crate::takes::Takes;
 use draw_policies::Policies;
@@ -86,6 +89,34 @@ pub struct Trial {
     pub seed: u64,
 }
 
+/// What the options of a command come to.
+#[derive(Clone, Copy, Drop)]
+pub struct Settings {
+    /// The limits of a run.
+    pub limits: Limits,
+    /// The seed, of the first run where there are several.
+    pub seed: u64,
+    /// How events are drawn.
+    pub draws: Draws,
+    /// How many runs are made, 1 to 1,000,000,000.
+    pub runs: u64,
+    /// How many different outcomes are enough, 1 to 64; None: all runs are made.
+    pub until: Option<u8>,
+    /// By what outcomes are told apart.
+    pub apart: Apart,
+    /// How many host threads make the runs, 1 to 64; None: as many as there are processors.
+    pub jobs: Option<u8>,
+}
+
+/// To make runs of a program that seeds draw, one behind the other, and to tell their different outcomes.
+#[derive(Clone, Copy, Drop)]
+pub struct Explore<'a> {
+    /// The name of the program's file.
+    pub program: &'a str,
+    /// Which runs are made, and how.
+    pub settings: Settings,
+}
+
 /// What words ask for.
 #[derive(Clone, Copy, Drop)]
 pub enum Command<'a> {
@@ -95,6 +126,8 @@ pub enum Command<'a> {
     Makes(Guest),
     /// A trial of a guest.
     Tries(Trial),
+    /// An exploration of the runs of a program.
+    Explores(Explore<'a>),
 }
 
 impl Trial {
@@ -114,7 +147,8 @@ impl Trial {
 ///
 /// The first word is the command: `solo FILE`, with `--frames` and `--steps`; `play FILE SCRIPT` and the other
 /// commands on a script, with `--harts` too; `run FILE`, with `--harts` and `--seed` too; `draw FILE`, with
-/// `--policy` and `--calm` besides; `make NAME N`, with no option; or `trial NAME N`, with `--harts`, `--steps` and `--seed`. Each limit is in its range.
+/// `--policy` and `--calm` besides; `explore FILE`, with `--runs`, `--until`, `--by` and `--jobs` beside these;
+/// `make NAME N`, with no option; or `trial NAME N`, with `--harts`, `--steps` and `--seed`. Each limit is in its range.
 #[tactic(auto, unfolding(crate::specs::Words::command_of))]
 pub(crate) fn command_of<'a>(
     alloc: Global,
@@ -143,17 +177,6 @@ fn asked_by<'a>(command: &str, arguments: Arguments<'a>) -> Option<Command<'a>>
     asked_for(kind, arguments)
 }
 
-/// What the options come to.
-#[derive(Clone, Copy, Drop)]
-struct Settings {
-    /// The limits.
-    limits: Limits,
-    /// The seed.
-    seed: u64,
-    /// How events are drawn.
-    draws: Draws,
-}
-
 impl<'a> Arguments<'a> {
     /// The value of an option, if it is given.
     fn value(&self, option: OptionName) -> Option<&'a str>
@@ -166,6 +189,10 @@ impl<'a> Arguments<'a> {
             OptionName::Seed => self.seed,
             OptionName::Policy => self.policy,
             OptionName::Calm => self.calm,
+            OptionName::RunCount => self.run_count,
+            OptionName::Until => self.until,
+            OptionName::By => self.by,
+            OptionName::Jobs => self.jobs,
         }
     }
 
@@ -189,6 +216,10 @@ impl<'a> Arguments<'a> {
             && self.suits(takes, OptionName::Seed)
             && self.suits(takes, OptionName::Policy)
             && self.suits(takes, OptionName::Calm)
+            && self.suits(takes, OptionName::RunCount)
+            && self.suits(takes, OptionName::Until)
+            && self.suits(takes, OptionName::By)
+            && self.suits(takes, OptionName::Jobs)
     }
 
     /// The limits that the options come to.
@@ -216,12 +247,16 @@ impl<'a> Arguments<'a> {
     /// What the options come to.
     fn settings(&self) -> Settings
         ensures settings { result ≡ settings_of (stated self.now).values }
-        ensures limits { InRange result.limits }
+        ensures range { AreInRange result }
     {
         Settings {
             limits: self.limits(),
             seed: SEEDS.number_or(1, self.seed),
             draws: self.draws(),
+            runs: RUNS.number_or(10_000, self.run_count),
+            until: small_in(OUTCOMES, self.until),
+            apart: apart_or_text(self.by),
+            jobs: small_in(JOBS, self.jobs),
         }
     }
 }
@@ -241,10 +276,33 @@ fn policies_or_all(name: Option<&str>) -> Policies
 
 /// From how many events on a run goes on fairly, where a number is given that the option takes.
 fn calm_in(text: Option<&str>) -> Option<u32>
-    ensures { result ≡ calm_in (option_copied text.entry) }
+    ensures { result ≡ number_given (range_of 0 1000000) (option_copied text.entry) }
 {
-    let events = CALM.number_in(text?)?;
+    let events = CALM.number_given(text)?;
     Some(events as u32)
+}
+
+/// A small number of an option that has no default; None where none of these is given.
+fn small_in(numbers: Numbers, text: Option<&str>) -> Option<u8>
+    requires { numbers.most ≤ 64 }
+    ensures number { result ≡ number_given (range numbers) (option_copied text.entry) }
+    ensures least { IfSome result (λ number. numbers.least ≤ number) }
+{
+    let number = numbers.number_given(text)?;
+    Some(number as u8)
+}
+
+/// By what outcomes are told apart: as it is said, or by their texts.
+fn apart_or_text(word: Option<&str>) -> Apart
+    ensures { result ≡ apart_or_text (option_copied word.entry) }
+{
+    let Some(word) = word else {
+        return Apart::ByText;
+    };
+    match Apart::of_word(word) {
+        Some(apart) => apart,
+        None => Apart::ByText,
+    }
 }
 
 /// What a command of this kind asks for with these arguments; None where a value that is given doesn't suit it.
@@ -266,7 +324,7 @@ fn command_for<'a>(
     settings: Settings,
     names: FileNames<'a>,
 ) -> Option<Command<'a>>
-    requires { InRange settings.limits }
+    requires { AreInRange settings }
     ensures command { option_map said result ≡ command_for kind settings (names_kept names.entry) }
     ensures limits { IfSome result (λ command. HasLimits (said command)) }
     ensures harts { IfSome result (λ command. HasItsHarts (said command)) }
@@ -277,6 +335,10 @@ fn command_for<'a>(
         }
         CommandKind::Makes => Some(Command::Makes(guest_for(names)?)),
         CommandKind::Tries => Some(Command::Tries(trial_of(settings, guest_for(names)?))),
+        CommandKind::Explores => {
+            let program = program_for(names)?;
+            Some(Command::Explores(Explore { program, settings }))
+        }
     }
 }
 
@@ -287,6 +349,16 @@ fn harts_for(source: SourceKind, harts: u8) -> u8
     match source {
         SourceKind::ByRule => 1,
         SourceKind::ByScript | SourceKind::ByWorkers | SourceKind::ByDraws => harts,
+    }
+}
+
+/// The program that one name gives; None where there isn't one name.
+fn program_for(names: FileNames<'_>) -> Option<&str>
+    ensures { option_copied result ≡ program_for (names_kept names.entry) }
+{
+    match names {
+        FileNames::One(program) => Some(program),
+        FileNames::Zero | FileNames::Two(..) => None,
     }
 }
 

@@ -35,6 +35,8 @@ pub enum WordsFault {
     },
     /// The value in this word names no policy.
     UnknownPolicy(usize),
+    /// The value in this word is neither `text` nor `end`.
+    NeitherTextNorEnd(usize),
     /// This word is a name too many.
     OneNameTooMany(usize),
     /// This word is to name a guest, and names none.

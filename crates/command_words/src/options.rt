@@ -3,9 +3,9 @@
 ghost use Rattle.std.specs.Prelude.{◌≡◌, ◌≤◌, IfSome, option_copied, option_map};
 ghost use Rattle.std.specs.Char.{is_ascii_digit};
 ghost use Rattle.std.specs.List.{list_all};
-ghost use Rattle.command_words.specs.Grammar.{number_or};
+ghost use Rattle.command_words.specs.Grammar.{number_given, number_or};
 ghost use Rattle.command_words.specs.Kept.{named, range, values_kept};
-ghost use Rattle.command_words.specs.Options.{is_value, number_in, number_of, option_named, values_of};
+ghost use Rattle.command_words.specs.Options.{apart_named, is_value, number_in, number_of, option_named, values_of};
 
 use draw_policies::Policies;
 
@@ -24,6 +24,36 @@ pub(crate) enum OptionName {
     Policy,
     /// From how many events on a run goes on fairly.
     Calm,
+    /// How many runs are explored.
+    RunCount,
+    /// How many different outcomes are enough.
+    Until,
+    /// By what outcomes are told apart.
+    By,
+    /// How many host threads make the runs.
+    Jobs,
+}
+
+/// By what outcomes are told apart.
+#[derive(Clone, Copy, Drop)]
+pub enum Apart {
+    /// By their consoles and their ends.
+    ByText,
+    /// By their ends alone.
+    ByEnd,
+}
+
+impl Apart {
+    /// What a word says of it; None where it says nothing.
+    pub(crate) fn of_word(word: &str) -> Option<Apart>
+        ensures { result ≡ apart_named word.now }
+    {
+        match word {
+            "text" => Some(Apart::ByText),
+            "end" => Some(Apart::ByEnd),
+            _ => None,
+        }
+    }
 }
 
 /// Some numbers.
@@ -62,6 +92,18 @@ pub(crate) const CALM: Numbers = Numbers {
     most: 1_000_000,
 };
 
+/// How many runs may be explored.
+pub(crate) const RUNS: Numbers = Numbers {
+    least: 1,
+    most: 1_000_000_000,
+};
+
+/// How many different outcomes may be enough, as many as are told apart.
+pub(crate) const OUTCOMES: Numbers = Numbers { least: 1, most: 64 };
+
+/// How many host threads may make the runs.
+pub(crate) const JOBS: Numbers = Numbers { least: 1, most: 64 };
+
 /// The values of an option.
 #[derive(Clone, Copy, Drop)]
 pub(crate) enum Values {
@@ -69,6 +111,8 @@ pub(crate) enum Values {
     Numbers(Numbers),
     /// The names of policies.
     PolicyNames,
+    /// By what outcomes are told apart.
+    ApartNames,
 }
 
 impl OptionName {
@@ -83,6 +127,10 @@ impl OptionName {
             "--seed" => Some(OptionName::Seed),
             "--policy" => Some(OptionName::Policy),
             "--calm" => Some(OptionName::Calm),
+            "--runs" => Some(OptionName::RunCount),
+            "--until" => Some(OptionName::Until),
+            "--by" => Some(OptionName::By),
+            "--jobs" => Some(OptionName::Jobs),
             _ => None,
         }
     }
@@ -98,6 +146,10 @@ impl OptionName {
             OptionName::Seed => Values::Numbers(SEEDS),
             OptionName::Policy => Values::PolicyNames,
             OptionName::Calm => Values::Numbers(CALM),
+            OptionName::RunCount => Values::Numbers(RUNS),
+            OptionName::Until => Values::Numbers(OUTCOMES),
+            OptionName::By => Values::ApartNames,
+            OptionName::Jobs => Values::Numbers(JOBS),
         }
     }
 }
@@ -110,6 +162,7 @@ impl Values {
         match self {
             Values::Numbers(numbers) => numbers.number_in(text).is_some(),
             Values::PolicyNames => Policies::of_word(text).is_some(),
+            Values::ApartNames => Apart::of_word(text).is_some(),
         }
     }
 }
@@ -163,5 +216,14 @@ impl Numbers {
             Some(number) => number,
             None => default,
         }
+    }
+
+    /// The number of an option that has no default; None where none of these is given.
+    pub(crate) fn number_given(self, text: Option<&str>) -> Option<u64>
+        ensures number { result ≡ number_given (range self) (option_copied text.entry) }
+        ensures least { IfSome result (λ number. self.least ≤ number) }
+        ensures most { IfSome result (λ number. number ≤ self.most) }
+    {
+        self.number_in(text?)
     }
 }

@@ -72,6 +72,7 @@ impl Values {
                 WordsFault::OutOfRange { word, least, most }
             }
             Values::PolicyNames => WordsFault::UnknownPolicy(word),
+            Values::ApartNames => WordsFault::NeitherTextNorEnd(word),
         }
     }
 }

@@ -1,4 +1,4 @@
-//! The commands: of each its word, and whether it makes or tries a guest, or how the log of its run comes about and what is
+//! The commands: of each its word, and whether it makes or tries a guest or explores runs, or how the log of its run comes about and what is
 //! shown of it.
 
 ghost use Rattle.std.specs.Prelude.{◌≡◌};
@@ -71,11 +71,14 @@ pub enum CommandKind {
     Makes,
     /// It makes a guest, and runs it by rounds.
     Tries,
+    /// It explores the runs of a program.
+    Explores,
 }
 
 /// The words of the commands.
-pub const COMMANDS: [&str; 10] = [
-    "solo", "play", "blocks", "inspect", "acts", "gather", "run", "draw", "make", "trial",
+pub const COMMANDS: [&str; 11] = [
+    "solo", "play", "blocks", "inspect", "acts", "gather", "run", "draw", "explore", "make",
+    "trial",
 ];
 
 /// What the command of a word is; None where no command has the word.
@@ -91,6 +94,7 @@ pub fn command_kind(word: &str) -> Option<CommandKind>
         "gather" => (SourceKind::ByScript, Shown::Gathered),
         "run" => (SourceKind::ByWorkers, Shown::Output),
         "draw" => (SourceKind::ByDraws, Shown::Output),
+        "explore" => return Some(CommandKind::Explores),
         "make" => return Some(CommandKind::Makes),
         "trial" => return Some(CommandKind::Tries),
         _ => return None,

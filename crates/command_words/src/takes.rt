@@ -18,6 +18,10 @@ pub(crate) struct OptionSet {
     seed: bool,
     policy: bool,
     calm: bool,
+    run_count: bool,
+    until: bool,
+    by: bool,
+    jobs: bool,
 }
 
 impl OptionSet {
@@ -39,6 +43,10 @@ impl OptionSet {
             OptionName::Seed => self.seed,
             OptionName::Policy => self.policy,
             OptionName::Calm => self.calm,
+            OptionName::RunCount => self.run_count,
+            OptionName::Until => self.until,
+            OptionName::By => self.by,
+            OptionName::Jobs => self.jobs,
         }
     }
 
@@ -54,6 +62,10 @@ impl OptionSet {
             OptionName::Seed => all.seed = true,
             OptionName::Policy => all.policy = true,
             OptionName::Calm => all.calm = true,
+            OptionName::RunCount => all.run_count = true,
+            OptionName::Until => all.until = true,
+            OptionName::By => all.by = true,
+            OptionName::Jobs => all.jobs = true,
         }
         all
     }
@@ -67,6 +79,10 @@ const NO_OPTIONS: OptionSet = OptionSet {
     seed: false,
     policy: false,
     calm: false,
+    run_count: false,
+    until: false,
+    by: false,
+    jobs: false,
 };
 
 /// The options of a command that runs on one hart: it chooses nothing.
@@ -106,6 +122,15 @@ const OF_DRAWS: OptionSet = OptionSet {
     policy: true,
     calm: true,
     ..OF_WORKERS
+};
+
+/// The options of an exploration.
+const OF_EXPLORE: OptionSet = OptionSet {
+    run_count: true,
+    until: true,
+    by: true,
+    jobs: true,
+    ..OF_DRAWS
 };
 
 /// What a name is.
@@ -173,6 +198,11 @@ impl CommandKind {
             CommandKind::Runs { source, .. } => source.takes(),
             CommandKind::Makes => of_a_guest(NO_OPTIONS),
             CommandKind::Tries => of_a_guest(OF_A_TRIAL),
+            CommandKind::Explores => Takes {
+                first: NameKind::Program,
+                second: None,
+                options: OF_EXPLORE,
+            },
         }
     }
 }

@@ -2,6 +2,7 @@ pub mod Answers
 pub mod Causes
 pub mod Delivery
 pub mod ElfPlaces
+pub mod Explorations
 pub mod Guests
 pub mod Needs
 pub mod Outcome

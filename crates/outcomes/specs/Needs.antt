@@ -27,6 +27,7 @@ needs_of None = Nothing
 needs_of (Some (words.Runs run)) = needs_by run.program run.source run.limits
 needs_of (Some (words.Makes guest)) = Guest guest
 needs_of (Some (words.Tries trial)) = Guest trial.guest
+needs_of (Some (words.Explores program settings)) = Program program settings.limits
 
 -- what the command of the words needs
 abbrev pub needs_in : List (List ℕ) → Needs

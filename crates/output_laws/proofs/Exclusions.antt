@@ -117,6 +117,7 @@ used_by_output files (Some (words.Runs run)) written output =
     used_by_run files run.program run.limits run.source output.image output.log output.taken output.made
 used_by_output files (Some (words.Makes guest)) written output = output.taken
 used_by_output files (Some (words.Tries trial)) written output = output.taken.made.taken
+used_by_output files (Some (words.Explores program settings)) written output = (output.image, output.taken)
 
 -- the program is good
 program_fits : (files : Files) (name bytes : List ℕ) (limits : Limits) → files name ≡ Some bytes

@@ -1,6 +1,7 @@
 mod Exclusions
 mod GatheredOutputs
 pub mod Laws
+mod OneExploration
 mod OneOutput
 mod PlainOutputs
 mod Repeats

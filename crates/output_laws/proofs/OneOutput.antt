@@ -12,11 +12,15 @@ use Rattle.block_model.proofs.Laws.{one_setting}
 use Rattle.drawn_runs.specs.Manners.{manner_for}
 use Rattle.drawn_runs.proofs.Laws.{goes_on_alike}
 use Rattle.command_words.specs.Commands as words
+use Rattle.explored_runs.specs.Explored.{IsExploredAs}
+use Rattle.explored_runs.specs.Text.{explored_text}
+use Rattle.outcomes.specs.Explorations.{apart_of, exploration_of}
 use Rattle.outcomes.specs.Needs.{Needs, Nothing, Program, Script, Guest, needs_by, needs_of}
 use Rattle.outcomes.specs.Outputs.{IsOutputOf, IsPlainOutputOf, IsPlainRunOf, plain_text, setting_for}
 use Rattle.outcomes.specs.Programs.{Files, IsProgram, asks_of}
 use Rattle.outcomes.specs.Told.{AreTold, TellsGoodFiles}
 use Rattle.output_laws.proofs.Exclusions.{AreUsed, used_by_output}
+use Rattle.output_laws.proofs.OneExploration.{one_account}
 use Rattle.output_laws.proofs.PlainOutputs.{plain_output_of}
 
 -- two readings of one told file are one
@@ -71,12 +75,18 @@ one_run files program (words.Drawn seed draws) limits s run other quiet told fir
     let is = second.made in
     cc
 
-one_plain : (files : Files) (command : Option words.Command) (a b : List ℕ) → words.is_run command ≡ false
+one_plain : (files : Files) (command : Option words.Command) (a b : List ℕ) → words.hangs_on_turns command ≡ false
     → AreTold files (needs_of command)
     → IsPlainOutputOf files command a → IsPlainOutputOf files command b → a ≡ b
 one_plain files None a b quiet told first second = absurd first
 one_plain files (Some (words.Makes guest)) a b quiet told first second = absurd told
 one_plain files (Some (words.Tries trial)) a b quiet told first second = absurd told
+one_plain files (Some (words.Explores program settings)) a b quiet told first second =
+    let start = one_start files program settings.limits first.image second.image told first.taken second.taken in
+    let account = one_account (setting_of second.image settings.limits) (exploration_of settings) first.account
+    second.account
+    (subst (λ (s : Setting). IsExploredAs s (exploration_of settings) first.account) start first.told) second.told in
+    first.text ∙ ap (explored_text (apart_of settings.apart)) account ∙ sym second.text
 one_plain files (Some (words.Runs asked)) a b quiet told first second =
     let start = one_start files asked.program asked.limits first.image second.image
     (program_told files asked.program asked.source asked.limits told) first.taken second.taken in
@@ -85,7 +95,7 @@ one_plain files (Some (words.Runs asked)) a b quiet told first second =
     (subst (λ (s : Setting). IsPlainRunOf files asked.source s first.run) start first.made) second.made in
     first.text ∙ ap₂ (plain_text asked.shown) start run ∙ sym second.text
 
-pub one_output : (files : Files) (command : Option words.Command) (a b : List ℕ) → words.is_run command ≡ false
+pub one_output : (files : Files) (command : Option words.Command) (a b : List ℕ) → words.hangs_on_turns command ≡ false
     → AreTold files (needs_of command)
     → IsOutputOf files command a → IsOutputOf files command b → a ≡ b
 one_output files command a b no_run told first second =
@@ -137,6 +147,7 @@ needs_some files None written output none = absurd output
 needs_some files (Some (words.Runs run)) written output none = some_need run.program run.source run.limits none
 needs_some files (Some (words.Makes guest)) written output none = absurd cc
 needs_some files (Some (words.Tries trial)) written output none = absurd cc
+needs_some files (Some (words.Explores program settings)) written output none = absurd cc
 
 pub good_files : (files : Files) (command : Option words.Command) (written : List ℕ)
     → AreTold files (needs_of command) → IsOutputOf files command written

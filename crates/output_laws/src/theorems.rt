@@ -14,7 +14,7 @@ ghost use Rattle.outcomes.specs.Rounds.{IsRoundsRun};
 ghost use Rattle.outcomes.specs.Runs.{IsChosenRun};
 ghost use Rattle.outcomes.specs.Told.{AreTold, TellsGoodFiles};
 ghost use Rattle.command_words.specs.declared.table.Shown.TheVariants.{Gathered, Output};
-ghost use Rattle.command_words.specs.Commands.{Command, Run, is_run};
+ghost use Rattle.command_words.specs.Commands.{Command, Run, hangs_on_turns};
 
 /// The log lines of the output of a run, read as a script by `play` with the same program and limits, are allowed at
 /// every line and give the same output text. The shelf of the later call has the same program, and those
@@ -38,11 +38,12 @@ pub fn gathered_log_replays()
 {}
 
 /// Where a shelf tells the files that a command needs, and it needs nothing else, there is one output, unless its log
-/// comes about by workers: which it is depends on their bytes, the limits and, for `draw`, the seed alone. Which one comes
+/// comes about by workers: which it is depends on their bytes, the limits and, for `draw` and `explore`, the seeds and the
+/// options alone. Which one comes
 /// of `run` hangs also on the order in which the harts take turns. And where there is an output, the files are good.
 pub fn told_files_have_one_output()
     ensures one { (files : Files) (command : Option Command) (written other : List ℕ)
-        → is_run command ≡ false → AreTold files (needs_of command)
+        → hangs_on_turns command ≡ false → AreTold files (needs_of command)
         → IsOutputOf files command written → IsOutputOf files command other → written ≡ other }
     ensures good { (files : Files) (command : Option Command) (written : List ℕ)
         → AreTold files (needs_of command)

@@ -76,6 +76,7 @@ pub fn explain(alloc: Global, reason: &Reason, at_hand: AtHand) -> Result<String
 fn file_name(alloc: Global, words: &[String], role: FileRole) -> Result<&str, AllocError> {
     let run = match read_words(alloc, words) {
         Ok(Command::Runs(run)) => run,
+        Ok(Command::Explores(explore)) => return Ok(explore.program),
         Ok(Command::Makes(_) | Command::Tries(_)) | Err(WordsError::Wrong(_)) => {
             return Ok("the file");
         }
@@ -98,7 +99,7 @@ fn push_bad_size(
     let guest = match read_words(alloc, words) {
         Ok(Command::Makes(guest)) => guest,
         Ok(Command::Tries(trial)) => trial.guest,
-        Ok(Command::Runs(_)) | Err(WordsError::Wrong(_)) => {
+        Ok(Command::Runs(_) | Command::Explores(_)) | Err(WordsError::Wrong(_)) => {
             return writeln!(text, "{number}: the guest doesn't take this size");
         }
         Err(WordsError::NoMemory) => return Err(AllocError),

@@ -11,6 +11,10 @@ const OPTIONS: &str = "  --harts N   how many harts there are: 1 to 8; 2 where i
   --seed N    where the generators begin: 0 to 18446744073709551615; 1
   --policy P  which policy draws: one, long, short, pos, spread, or all in turn by the seed; all
   --calm N    from how many events on the run goes on fairly: 0 to 1000000; a quarter of the steps
+  --runs N    how many runs are explored: 1 to 1000000000; 10000
+  --until K   how many different outcomes are enough: 1 to 64; all runs are made
+  --by B      by what outcomes are told apart: text or end; text
+  --jobs N    how many threads make the runs: 1 to 64; as many as there are processors
 ";
 
 /// The version (own).
@@ -22,6 +26,8 @@ fn words_behind(kind: CommandKind) -> &'static str {
         CommandKind::Runs { source, .. } => words_of_run(source),
         CommandKind::Makes => "NAME N",
         CommandKind::Tries => "NAME N [--harts N] [--steps N] [--seed N]",
+        CommandKind::Explores =>
+            "FILE [--harts N] [--frames N] [--steps N] [--seed N] [--policy P] [--calm N] [--runs N] [--until K] [--by B] [--jobs N]",
     }
 }
 
@@ -69,6 +75,9 @@ fn push_about(text: &mut String, kind: CommandKind) -> Result<(), AllocError> {
             let (runs, prints) = (source.about(), shown.about());
             writeln!(text, "{runs}; {prints}")
         }
+        CommandKind::Explores => text.push_str(
+            "makes the runs of FILE that the seed and those behind it draw; prints each different outcome, and how many runs came to it\n",
+        ),
         CommandKind::Makes => text.push_str("prints the file of the guest NAME for the size N\n"),
         CommandKind::Tries => text.push_str(
             "runs the guest NAME for the size N by rounds; prints its console, and how many acts of each form each hart made\n",

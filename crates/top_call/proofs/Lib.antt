@@ -1,6 +1,7 @@
 mod Causes
 mod ElfPlaces
 mod Explaining
+mod Explorations
 mod NeverFailing
 mod Outcomes
 mod Taken

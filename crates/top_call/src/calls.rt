@@ -2,7 +2,7 @@
 
 ghost use Rattle.std.specs.Prelude.{◌≡◌, true, None, Some, Err, IfErr, IfNone, IfOk, IfSome};
 ghost use Rattle.outside.specs.Counts.{NoneFalls};
-ghost use Rattle.command_words.specs.Commands.{HasLimits, is_run, needs_workers};
+ghost use Rattle.command_words.specs.Commands.{HasLimits, is_alone, is_run, needs_workers};
 ghost use Rattle.command_words.specs.Kept.{said};
 ghost use Rattle.command_words.specs.Words.{command_of, texts};
 ghost use Rattle.outcomes.specs.declared.faults.Fault.TheVariants.{Memory};
@@ -26,10 +26,11 @@ use std::thread::Threads;
 /// at status 0 the output of the command, at every other status one line that names the fault. Where the
 /// sink fails, the status is 6, and it holds a prefix of the text.
 ///
-/// `run` alone starts worker threads and waits for them. The gate is passed once before each turn of a worker.
+/// `run` alone starts worker threads and waits for them, and `explore` other threads, unless its `--jobs` is 1. The gate is
+/// passed once before each turn of a worker.
 ///
 /// The call of [`rseq_quiet`] is made first, and what it answers is the answer unless it is None. No clause says
-/// so: where the words are no `run` both have the same clause `outcome`, and memory may run out in the one call
+/// so: where the words aren't left to it both have the same clause `outcome`, and memory may run out in the one call
 /// and not in the other.
 pub fn rseq_main<R: Threads + Wait + Sync, S: Shelf, K: Sink, G: Gate + Sync>(
     alloc: Global,
@@ -68,8 +69,8 @@ pub fn rseq_explained<R: Threads + Wait + Sync, S: Shelf, K: Sink, G: Gate + Syn
     }
 }
 
-/// The same for every command but `run`; None only where the words are a `run`, and then neither the shelf nor
-/// the sink was called. Where they are a `run` and memory runs out before that is known, the line of that fault
+/// The same for every command but `run`, and `explore` with `--jobs 1` alone; None only where the words are another, and then
+/// neither the shelf nor the sink was called. Where they are such and memory runs out before that is known, the line of that fault
 /// is written at status 7.
 ///
 /// It takes no runtime, so it waits for nobody and returns. [`rseq_main`] makes this call first.
@@ -121,7 +122,7 @@ fn quiet_explained<'a, S: Shelf, K: Sink>(
 }
 
 /// The output of the words, or the reason why there is none; Err with the command where it is left to workers. Where
-/// the words are a `run` the answer is that, or want of memory before it is known. All memory is taken here.
+/// it is, the answer is that, or want of memory before it is known. All memory is taken here.
 fn quiet_answer<'a, S: Shelf>(
     alloc: Global,
     words: &'a [String],
@@ -154,7 +155,17 @@ fn quiet_answer<'a, S: Shelf>(
     }
 }
 
-/// Whether a command needs workers.
+/// Whether runs are made by one host thread alone.
+fn is_alone(jobs: Option<u8>) -> bool
+    ensures { result ≡ is_alone jobs }
+{
+    match jobs {
+        Some(jobs) => jobs == 1,
+        None => false,
+    }
+}
+
+/// Whether a command needs workers, or other host threads.
 fn needs_workers(command: &Command) -> bool
     ensures { result ≡ needs_workers (said command.now) }
 {
@@ -164,5 +175,6 @@ fn needs_workers(command: &Command) -> bool
             Source::Rule | Source::Script(_) | Source::Drawn { .. } => false,
         },
         Command::Makes(_) | Command::Tries(_) => false,
+        Command::Explores(explore) => !is_alone(explore.settings.jobs),
     }
 }

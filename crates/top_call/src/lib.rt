@@ -4,6 +4,7 @@
 mod calls;
 mod delivery;
 mod elf_places;
+mod exploring;
 mod fetching;
 mod sure;
 mod texts;

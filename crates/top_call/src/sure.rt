@@ -29,7 +29,7 @@ pub fn sure_main<R: Threads + Wait + Sync, G: Gate + Sync>(
 }
 
 /// `rseq_quiet` over files and a sink that never fail, with the same promises: None only where the words are a
-/// `run`, and there nothing else but 7, for want of memory.
+/// `run`, or an `explore` without `--jobs 1`, and there nothing else but 7, for want of memory.
 pub fn sure_quiet(
     alloc: Global,
     words: &[String],

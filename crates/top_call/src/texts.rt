@@ -1,5 +1,5 @@
-//! The text of each command: its files are taken, the program is run, and what the command asks for is shown; or its guest is made,
-//! or made and tried.
+//! The text of each command: its files are taken, the program is run, and what the command asks for is shown; its guest is made,
+//! or made and tried; or its runs are explored.
 
 ghost use Rattle.std.specs.Prelude.{◌≡◌, IfErr, IfOk, Some, false, true};
 ghost use Rattle.mach_types.specs.Limits.{InRange};
@@ -15,6 +15,7 @@ ghost use Rattle.outcomes.specs.Guests.{IsGuestImage, IsGuestOutput, IsTrialOutp
 ghost use Rattle.outcomes.specs.Outputs.{HasRun, IsOutputOf, IsRunOutput};
 ghost use Rattle.outcomes.specs.Reasons.{IsReasonFor};
 
+use crate::exploring::{explored_alone, explored_together};
 use crate::fetching::{read_file, taken};
 use command_runs::{play, run_rounds, run_solo, run_workers, shown_text, trial_text};
 use command_words::{Command, Draws, Guest, Run, Source, Trial};
@@ -59,10 +60,11 @@ pub(crate) fn quiet_text<S: Shelf>(
         Command::Runs(run) => quiet_run_text(alloc, run, shelf),
         Command::Makes(guest) => guest_file(alloc, *guest),
         Command::Tries(trial) => tried(alloc, trial),
+        Command::Explores(explore) => explored_alone(alloc, explore, shelf),
     }
 }
 
-/// The text of a command by workers.
+/// The text of a command by workers, or by several host threads.
 pub(crate) fn workers_text<R: Threads + Wait + Sync, S: Shelf, G: Gate + Sync>(
     alloc: Global,
     rt: &R,
@@ -81,6 +83,7 @@ pub(crate) fn workers_text<R: Threads + Wait + Sync, S: Shelf, G: Gate + Sync>(
 {
     match command {
         Command::Runs(run) => workers_run_text(alloc, rt, run, shelf, gate),
+        Command::Explores(explore) => explored_together(alloc, rt, explore, shelf),
         Command::Makes(_) | Command::Tries(_) => unreachable!(),
     }
 }

@@ -14,7 +14,7 @@ pub(crate) const ROOM: usize = 1_048_576;
 /// What words ask for, as far as it matters to what is due; nothing of this where they are no command.
 #[derive(Clone, Copy, Drop)]
 pub(crate) struct Asked {
-    /// Whether workers make the run.
+    /// Whether workers make the run, or several threads the runs.
     pub(crate) by_workers: bool,
     /// The limits of a run whose log is printed.
     pub(crate) logged: Option<Limits>,
@@ -29,6 +29,10 @@ pub(crate) fn asked_of(alloc: Global, words: &[String]) -> Result<Asked, AllocEr
                 Shown::Output | Shown::Gathered => Some(run.limits),
                 _ => None,
             },
+        }),
+        Ok(Command::Explores(explore)) => Ok(Asked {
+            by_workers: explore.settings.jobs != Some(1),
+            logged: None,
         }),
         Ok(Command::Makes(_) | Command::Tries(_)) | Err(WordsError::Wrong(_)) => Ok(Asked {
             by_workers: false,

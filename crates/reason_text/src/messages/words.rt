@@ -43,7 +43,9 @@ fn push_word(text: &mut String, fault: WordsFault, words: &[String]) -> Result<(
         | WordsFault::OneNameTooMany(number)
         | WordsFault::UnknownGuest(number)
         | WordsFault::NoNumber(number) => number,
-        WordsFault::OutOfRange { word, .. } | WordsFault::UnknownPolicy(word) => {
+        WordsFault::OutOfRange { word, .. }
+        | WordsFault::UnknownPolicy(word)
+        | WordsFault::NeitherTextNorEnd(word) => {
             push_option(text, words, word)?;
             word
         }
@@ -74,6 +76,9 @@ fn push_complaint(text: &mut String, fault: WordsFault, command: &str) -> Result
         WordsFault::UnknownGuest(_) => writeln!(text, "there is no such guest; there are {GUESTS}"),
         WordsFault::UnknownPolicy(_) => {
             writeln!(text, "there is no such policy; there are {POLICIES}")
+        }
+        WordsFault::NeitherTextNorEnd(_) => {
+            text.push_str("outcomes are told apart by text or by end\n")
         }
         WordsFault::NoNumber(_) => {
             text.push_str("the size isn't a number, of 20 digits at most and below 2^64\n")

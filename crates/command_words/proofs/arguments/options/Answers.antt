@@ -1,4 +1,4 @@
-use Rattle.std.proofs.Common.{rules, ap₂, ◌≡◌, ◌∙◌}
+use Rattle.std.proofs.Common.{ap₂, ◌≡◌, ◌∙◌}
 use Rattle.std.proofs.lemmas.Result.{IfOk-weaker}
 use Rattle.clap.specs.Words.{app_of, with_rule}
 use Rattle.command_words.specs.Line.{bare}
@@ -6,12 +6,16 @@ use Rattle.command_words.proofs.arguments.options.Goals as goal
 
 pub returns : goal.returns
 returns c =
-    let start : app_of c.disable_help_flag.result ≡ bare = search rules in
+    let start : app_of c.bare.result ≡ bare = c.bare.ensures in
     let one = c.in_ok-arg.ensures.shape c.option.ensures.own ∙ ap₂ with_rule start c.option.ensures.rule in
     let two = c.in_ok-arg-2.ensures.shape c.option-2.ensures.own ∙ ap₂ with_rule one c.option-2.ensures.rule in
     let three = c.in_ok-arg-3.ensures.shape c.option-3.ensures.own ∙ ap₂ with_rule two c.option-3.ensures.rule in
     let four = c.in_ok-arg-4.ensures.shape c.option-4.ensures.own ∙ ap₂ with_rule three c.option-4.ensures.rule in
     let five = c.in_ok-arg-5.ensures.shape c.option-5.ensures.own ∙ ap₂ with_rule four c.option-5.ensures.rule in
-    IfOk-weaker c.arg-6.result _ _ (λ parser added. added.shape c.option-6.ensures.own
-    ∙ ap₂ with_rule five c.option-6.ensures.rule)
-    c.arg-6.ensures
+    let six = c.in_ok-arg-6.ensures.shape c.option-6.ensures.own ∙ ap₂ with_rule five c.option-6.ensures.rule in
+    let seven = c.in_ok-arg-7.ensures.shape c.option-7.ensures.own ∙ ap₂ with_rule six c.option-7.ensures.rule in
+    let eight = c.in_ok-arg-8.ensures.shape c.option-8.ensures.own ∙ ap₂ with_rule seven c.option-8.ensures.rule in
+    let nine = c.in_ok-arg-9.ensures.shape c.option-9.ensures.own ∙ ap₂ with_rule eight c.option-9.ensures.rule in
+    IfOk-weaker c.arg-10.result _ _ (λ parser added. added.shape c.option-10.ensures.own
+    ∙ ap₂ with_rule nine c.option-10.ensures.rule)
+    c.arg-10.ensures

@@ -1,0 +1,25 @@
+-- From what is told of runs to the text of an exploration.
+use Rattle.std.proofs.Common.{◌≡◌, ◌∙◌, ℕ, List, ap, subst}
+use Rattle.elf_load.specs.declared.image.Image.{Image}
+use Rattle.block_model.specs.Setting.{setting_of}
+use Rattle.command_words.specs.declared.commands.Settings.{Settings}
+use Rattle.explored_runs.specs.declared.exploration.Apart.{Apart}
+use Rattle.explored_runs.specs.declared.exploration.Exploration.{Exploration}
+use Rattle.explored_runs.specs.declared.explored.Explored.{Explored}
+use Rattle.explored_runs.specs.Accounts.{account_of}
+use Rattle.explored_runs.specs.Explored.{IsExplored, IsExploredAs}
+use Rattle.explored_runs.specs.Text.{explored_text}
+use Rattle.outcomes.specs.Explorations.{IsExploreOutput, exploration_of}
+use Rattle.outcomes.specs.Programs.{Files, IsProgram}
+
+pub output_of_exploration : (files : Files) (program : List ℕ) (settings : Settings) (image : Image) (x : Exploration)
+    (e : Explored) (text : List ℕ) → IsProgram files program settings.limits image → x ≡ exploration_of settings
+    → IsExplored (setting_of image settings.limits) x e → text ≡ explored_text x.apart (account_of e)
+    → IsExploreOutput files program settings text
+output_of_exploration files program settings image x e text taken same told is = record {
+  image = image;
+  taken = taken;
+  account = account_of e;
+  told = subst (λ (y : Exploration). IsExploredAs (setting_of image settings.limits) y (account_of e)) same told;
+  text = is ∙ ap (λ (y : Exploration). explored_text y.apart (account_of e)) same;
+}

@@ -1,0 +1,111 @@
+//! The text of an exploration: a program is taken, and its runs are made by this thread alone or by several.
+
+ghost use Rattle.std.specs.Prelude.{◌≡◌, ◌<◌, IfErr, IfOk, IfSome};
+ghost use Rattle.outside.specs.Counts.{NoneFalls};
+ghost use Rattle.command_words.specs.Commands.{AreInRange};
+ghost use Rattle.outcomes.specs.Explorations.{IsExploreOutput, apart_of, exploration_of};
+ghost use Rattle.outcomes.specs.Needs.{Program};
+ghost use Rattle.outcomes.specs.Reasons.{IsReasonFor};
+
+use crate::fetching::taken;
+use command_words::{Apart as Asked, Explore, Settings};
+use explored_runs::{Apart, Exploration, explore, explore_on, explored_text};
+use outcomes::Reason;
+use outside::Shelf;
+use std::alloc::Global;
+use std::thread::{Threads, available_parallelism};
+
+/// How many host threads make the runs at most, where it isn't said.
+const MOST_JOBS: usize = 64;
+
+/// By what outcomes are told apart.
+fn apart_of(asked: Asked) -> Apart
+    ensures { result ≡ apart_of asked }
+{
+    match asked {
+        Asked::ByText => Apart::ByText,
+        Asked::ByEnd => Apart::ByEnd,
+    }
+}
+
+/// The exploration that these settings ask for.
+fn exploration_of(settings: Settings) -> Exploration
+    ensures { result ≡ exploration_of settings }
+{
+    Exploration {
+        policies: settings.draws.policies,
+        calm: settings.draws.calm,
+        first: settings.seed,
+        runs: settings.runs,
+        until: settings.until,
+        apart: apart_of(settings.apart),
+    }
+}
+
+/// The text of an exploration by this thread alone.
+pub(crate) fn explored_alone<S: Shelf>(
+    alloc: Global,
+    asked: &Explore,
+    shelf: &mut S,
+) -> Result<Vec<u8>, Reason>
+    requires { AreInRange asked.now.settings }
+    ensures output { IfOk result
+        (λ text. IsExploreOutput (S.file shelf.old) asked.now.program.now asked.now.settings text.items) }
+    ensures cause { let needs = Program asked.now.program.now asked.now.settings.limits in
+        IfErr result (IsReasonFor (S.file shelf.old) needs (S.faults shelf.old) (S.faults shelf.new)
+        (S.last_trouble shelf.new)) }
+    ensures files { S.file shelf.new ≡ S.file shelf.old }
+    ensures counts { NoneFalls (S.faults shelf.old) (S.faults shelf.new) }
+{
+    let settings = asked.settings;
+    let image = taken(alloc, asked.program, &settings.limits, shelf)?;
+    let exploration = exploration_of(settings);
+    let explored = explore(alloc, &image, settings.limits, &exploration)?;
+    Ok(explored_text(alloc, &explored, exploration.apart)?)
+}
+
+/// The text of an exploration by as many host threads as are asked for.
+pub(crate) fn explored_together<R: Threads + Sync, S: Shelf>(
+    alloc: Global,
+    rt: &R,
+    asked: &Explore,
+    shelf: &mut S,
+) -> Result<Vec<u8>, Reason>
+    requires { AreInRange asked.now.settings }
+    ensures output { IfOk result
+        (λ text. IsExploreOutput (S.file shelf.old) asked.now.program.now asked.now.settings text.items) }
+    ensures cause { let needs = Program asked.now.program.now asked.now.settings.limits in
+        IfErr result (IsReasonFor (S.file shelf.old) needs (S.faults shelf.old) (S.faults shelf.new)
+        (S.last_trouble shelf.new)) }
+    ensures files { S.file shelf.new ≡ S.file shelf.old }
+    ensures counts { NoneFalls (S.faults shelf.old) (S.faults shelf.new) }
+{
+    let settings = asked.settings;
+    let image = taken(alloc, asked.program, &settings.limits, shelf)?;
+    let exploration = exploration_of(settings);
+    let jobs = jobs_of(rt, settings.jobs);
+    let explored = explore_on(alloc, rt, &image, settings.limits, &exploration, jobs)?;
+    Ok(explored_text(alloc, &explored, exploration.apart)?)
+}
+
+/// How many host threads make the runs: as many as are asked for, or as there are processors.
+fn jobs_of<R: Threads>(rt: &R, asked: Option<u8>) -> u8
+    requires { IfSome asked (λ jobs. 0 < jobs) }
+    ensures { 0 < result }
+{
+    match asked {
+        Some(jobs) => jobs,
+        None => processors(rt),
+    }
+}
+
+/// How many processors there are, as far as the system tells: 1 to 64.
+fn processors<R: Threads>(rt: &R) -> u8
+    ensures { 0 < result }
+{
+    let Ok(count) = available_parallelism(rt) else {
+        return 1;
+    };
+    let count = count.get();
+    if count < MOST_JOBS { count as u8 } else { 64 }
+}
