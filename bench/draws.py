@@ -1,21 +1,23 @@
 #!/usr/bin/env python3
 """Counts in how many drawn runs each example shows its bug, and prints a table for docs/FINDING_A_BUG.md.
 
-    bench/draws.py [--seeds N] [--harts N] [--steps N] [--program PROGRAM] [NAME ..]
+    bench/draws.py [--runs N] [--harts N] [--steps N] [--jobs N] [--program PROGRAM] [NAME ..]
 
-Of each example it draws the runs of the seeds 0 to N - 1 (2,000), so N / 5 by each of the five policies, on 2 harts with 20,000 steps. A run
-shows the bug where it doesn't end with `exit 0`. A right program has no such run. Without names: all examples whose folder has a broken twin,
-and these twins. The runs are shared out among the processors.
+Of each example `explore` makes N runs (400) by each of the five policies, those of the seeds 0 to N - 1, and 5 N runs by all in turn, on 2
+harts with 20,000 steps. A run shows the bug where it doesn't end with `exit 0`. A right program has no such run. Without names: all examples
+whose folder has a broken twin, and these twins.
 """
 import argparse
-import concurrent.futures
-import os
 import pathlib
 import subprocess
 import sys
 import time
 
 TOP = pathlib.Path(__file__).resolve().parent.parent
+sys.path += [str(TOP / 'tools' / name) for name in ('lens', 'sweep')]
+
+from sweep.explored import read_explored  # noqa: E402 (found by the line above)
+
 BROKEN = ('litmus peterson dekker_plain rcu_plain percpu_counter_plain percpu_list_next_outside percpu_list_commit_not_last hazard_plain '
           'deque_plain ring_wake_lost handler_add_plain').split()
 RIGHT = 'peterson_fenced dekker rcu percpu_counter percpu_list hazard deque ring_wake handler_add'.split()
@@ -23,53 +25,50 @@ POLICIES = ('one', 'long', 'short', 'pos', 'spread')
 BOTH_ZERO = b'main read 0\nother read 0\n'
 
 
-def shows_bug(name, text):
-    """Whether an output shows what the example is about: of `litmus`, which always exits, that both loads gave 0."""
-    if name == 'litmus':
-        return BOTH_ZERO in text.split(b'\nlog ')[0]
-    return not text.endswith(b'end exit 0\n')
+def shows_bug(name, found):
+    """Whether an outcome shows what the example is about: of `litmus`, which always exits, that both loads gave 0."""
+    return found.console == BOTH_ZERO if name == 'litmus' else found.end != 'exit 0'
 
 
-def draw(words, name, seed):
+def explored(words, name, policy, runs):
+    """The outcomes of so many runs of an example, from seed 0 on."""
     file = TOP / 'examples' / name / f'{name}.elf'
-    command = [words.program, 'draw', str(file), f'--seed={seed}', f'--harts={words.harts}', f'--steps={words.steps}']
-    return subprocess.run(command, capture_output=True, check=True).stdout
+    limits = [f'--harts={words.harts}', f'--steps={words.steps}', *([f'--jobs={words.jobs}'] if words.jobs else [])]
+    command = [words.program, 'explore', str(file), '--seed=0', f'--runs={runs}', f'--policy={policy}', *limits]
+    return read_explored(name, subprocess.run(command, capture_output=True, check=True).stdout)
 
 
-def count(words, name, seeds):
-    """By policy, how many of the seeds show the bug; and how many runs met the limit."""
-    found, limits = [0] * len(POLICIES), 0
-    for seed in seeds:
-        text = draw(words, name, seed)
-        limits += text.endswith(b'end limit\n')
-        found[seed % len(POLICIES)] += shows_bug(name, text)
-    return found, limits
+def count(words, name, policy, runs):
+    """How many of the runs show the bug, how many met the limit, and how many came to outcomes that aren't told apart."""
+    outcomes = explored(words, name, policy, runs)
+    limits = sum(found.runs for found in outcomes.found if found.end == 'limit')
+    return sum(found.runs for found in outcomes.found if shows_bug(name, found)), limits, outcomes.others
 
 
-def row(words, pool, name):
-    parts = os.cpu_count() or 1
-    jobs = [pool.submit(count, words, name, range(part, words.seeds, parts)) for part in range(parts)]
-    counts = [job.result() for job in jobs]
-    found = [sum(one[0][at] for one in counts) for at in range(len(POLICIES))]
-    return found, sum(one[1] for one in counts)
+def row(words, name):
+    start = time.time()
+    counts = [count(words, name, policy, words.runs) for policy in POLICIES]
+    together = 5 * words.runs
+    counts.append(count(words, name, 'all', together))
+    found = [one[0] for one in counts]
+    often = f'{together / found[-1]:.1f}' if found[-1] else 'none'
+    limits, others = (sum(one[at] for one in counts) for at in (1, 2))
+    return [f'`{name}`', *found, often, limits, others, f'{time.time() - start:.1f}']
 
 
 def main():
     parser = argparse.ArgumentParser(description=__doc__.splitlines()[0])
     parser.add_argument('names', nargs='*', metavar='NAME')
-    parser.add_argument('--seeds', type=int, default=2000)
+    parser.add_argument('--runs', type=int, default=400)
     parser.add_argument('--harts', type=int, default=2)
     parser.add_argument('--steps', type=int, default=20000)
+    parser.add_argument('--jobs', type=int)
     parser.add_argument('--program', default=str(TOP / 'crates/rseq_run/out/rseq_run'))
     words = parser.parse_args()
-    print('| example | ' + ' | '.join(POLICIES) + ' | runs a find, in turn | met the limit | s |')
-    print('|---' * (len(POLICIES) + 4) + '|')
-    with concurrent.futures.ThreadPoolExecutor(os.cpu_count()) as pool:
-        for name in words.names or BROKEN + RIGHT:
-            start = time.time()
-            found, limits = row(words, pool, name)
-            often = f'{words.seeds / sum(found):.1f}' if any(found) else 'none'
-            print(f'| `{name}` | ' + ' | '.join(map(str, found)) + f' | {often} | {limits} | {time.time() - start:.1f} |', flush=True)
+    print('| ' + ' | '.join(['example', *POLICIES, 'all', 'runs a find by all', 'met the limit', 'others', 's']) + ' |')
+    print('|---' * (len(POLICIES) + 6) + '|')
+    for name in words.names or BROKEN + RIGHT:
+        print('| ' + ' | '.join(map(str, row(words, name))) + ' |', flush=True)
     return 0
 
 
