@@ -1,11 +1,13 @@
 mod Accesses
 mod Alike
+mod Directories
 mod Keeping
 pub mod Laws
 mod Maps
 mod Protecting
 mod Readings
 mod Removing
+mod Rows
 mod Runs
 mod Starts
 mod Stores

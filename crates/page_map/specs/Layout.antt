@@ -1,38 +1,51 @@
 -- How a table lies in memory (own).
-use Rattle.std.specs.Prelude.{◌&&◌, ◌≡◌, ◌≢◌, ℕ, ◌+◌, ◌<◌, ◌≤◌, List, [], ◌∷◌, ◌++◌, if◌then◌else◌, ◌==◌, Option, None, is_some, true, count_by, length, nat_le, nat_lt, replicate, slice_index, slice_index_or, slice_set, All}
+use Rattle.std.specs.Prelude.{◌&&◌, ◌≡◌, ◌≢◌, ℕ, ◌+◌, ◌/◌, ◌%◌, ◌<◌, ◌≤◌, List, [], ◌∷◌, ◌++◌, if◌then◌else◌, ◌==◌, Option, None, is_some, true, count_by, length, map, nat_le, nat_lt, replicate, slice_index, slice_index_or, slice_set, All}
+use Rattle.std.specs.List.{range_with_len}
 use Rattle.mach_types.specs.declared.address_space.TheConstants.{FIRST_MAPPING_PAGE}
 use Rattle.page_map.specs.Table.{Table, place_in}
-use Rattle.page_map.specs.declared.table.TheConstants.{CHUNK, CHUNKS}
+use Rattle.page_map.specs.declared.table.TheConstants.{CHUNKS}
 
 -- a leaf without entries
 unfoldable pub empty_leaf : List (Option ℕ)
 empty_leaf = replicate 512 None
 
--- how many chunks have no leaf of their own
+-- a row of numbers that are all 0
+unfoldable pub empty_row : List ℕ
+empty_row = replicate 512 0
+
+-- how many chunks have no row of their own
 unfoldable pub bare_count : List ℕ → ℕ
-bare_count directory = count_by (λ leaf. leaf == 0) directory
+bare_count names = count_by (λ row. row == 0) names
 
--- The chunks that never had a page share leaf 0, which has no entries, and each other chunk has a leaf of its own. There is
--- room for a leaf of each chunk, so that a chunk keeps its leaf when its pages go.
-pub record IsTable (directory : List ℕ) (leaves : List (List (Option ℕ))) (capacity : ℕ) : Type 0 where
-  pub chunks : length directory ≡ CHUNKS
-  pub named : (c : ℕ) → c < CHUNKS → slice_index directory c < length leaves
-  pub whole : All (λ leaf. length leaf ≡ CHUNK) leaves
-  pub empty : (k : ℕ) → slice_index_or (slice_index_or leaves 0 []) k None ≡ None
-  pub own : (c d : ℕ) → c < CHUNKS → d < CHUNKS → slice_index directory c ≢ 0
-      → slice_index directory c ≡ slice_index directory d → c ≡ d
-  pub counted : length leaves + bare_count directory ≡ CHUNKS + 1
-  pub room : CHUNKS + 1 ≤ capacity
+-- Chunks of 512 entries each, and the name of a row for each chunk, the number of the row that has its entries. The chunks that
+-- never had an entry share row 0, which has none, and each other chunk has a row of its own. There is room for a row of each
+-- chunk, so that a chunk keeps its row when its entries go.
+pub record IsRows {A : Type 0} (none : A) (size : ℕ) (names : List ℕ) (rows : List (List A)) (capacity : ℕ) : Type 0 where
+  pub chunks : length names ≡ size
+  pub named : (c : ℕ) → c < size → slice_index names c < length rows
+  pub whole : All (λ row. length row ≡ 512) rows
+  pub empty : (k : ℕ) → slice_index_or (slice_index_or rows 0 []) k none ≡ none
+  pub own : (c d : ℕ) → c < size → d < size → slice_index names c ≢ 0 → slice_index names c ≡ slice_index names d → c ≡ d
+  pub counted : length rows + bare_count names ≡ size + 1
+  pub room : size + 1 ≤ capacity
 
--- the directory once a chunk has a leaf of its own
-abbrev pub directory_with : List ℕ → List (List (Option ℕ)) → ℕ → List ℕ
-directory_with directory leaves c =
-    if slice_index directory c == 0 then slice_set directory c (length leaves) else directory
+-- the names once a chunk has a row of its own, where there were so many rows
+abbrev pub names_with : List ℕ → ℕ → ℕ → List ℕ
+names_with names count c = if slice_index names c == 0 then slice_set names c count else names
 
--- its leaves then
-abbrev pub leaves_with : List ℕ → List (List (Option ℕ)) → ℕ → List (List (Option ℕ))
-leaves_with directory leaves c =
-    if slice_index directory c == 0 then leaves ++ empty_leaf ∷ [] else leaves
+-- the rows then, where this is a row without entries
+abbrev pub rows_with : {A : Type 0} → List ℕ → List (List A) → List A → ℕ → List (List A)
+rows_with names rows fresh c = if slice_index names c == 0 then rows ++ fresh ∷ [] else rows
+
+-- The leaves are the rows of the pages: each chunk of 512 pages has the number of a leaf.
+abbrev pub IsTable : List ℕ → List (List (Option ℕ)) → ℕ → Type 0
+IsTable directory leaves capacity = IsRows None CHUNKS directory leaves capacity
+
+-- The numbers of the leaves lie in rows in turn, so that no more of them are written than lie in the groups of 512 chunks
+-- that ever had a page.
+unfoldable pub numbers_in : List ℕ → List (List ℕ) → List ℕ
+numbers_in names rows =
+    map (λ c. slice_index_or (slice_index_or rows (slice_index names (c / 512)) []) (c % 512) 0) (range_with_len 0 CHUNKS)
 
 -- each page from the first one of the mappings on and before another has a place
 pub record IsFilled (t : Table) (filled_to : ℕ) : Type 0 where

@@ -8,6 +8,7 @@ mod access;
 mod boot;
 mod calls;
 mod changes;
+mod directory;
 mod map;
 mod mapped_page;
 mod table;

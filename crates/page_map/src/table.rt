@@ -2,9 +2,10 @@
 
 ghost use Rattle.std.specs.Prelude.{◌≡◌, ℕ, ◌-◌, ◌<◌, ◌≤◌, ◌^◌, ◌==◌, if◌then◌else◌, None, true, IfOk, is_some, length, slice_index, vec_capacity, vec_len};
 ghost use Rattle.mach_types.specs.Kernel.Pages.{first_page};
-ghost use Rattle.page_map.specs.Layout.{empty_leaf, directory_with, filled_with, leaves_with};
+ghost use Rattle.page_map.specs.Layout.{empty_leaf, filled_with, names_with, rows_with};
 ghost use Rattle.page_map.specs.Table.{place_in};
 
+use crate::directory::Directory;
 use mach_types::address_space::{FIRST_MAPPING_PAGE, PAGE_SIZE, USER_END};
 use std::alloc::{AllocError, Global};
 use std::marker::Model;
@@ -24,11 +25,11 @@ const EMPTY_LEAF: u32 = 0;
 /// The places of the pages of a chunk.
 type Leaf = [Option<u32>; 512];
 
-/// A table from the numbers of pages, below 2^26, to places. A page is found in two look-ups, however many
+/// A table from the numbers of pages, below 2^26, to places. A page is found in three look-ups, however many
 /// there are. Each mapping page before `filled_to` has a place, so that a hole is looked for from there on.
 #[derive(Drop)]
 pub struct PageTable {
-    directory: Vec<u32>,
+    directory: Directory,
     leaves: Vec<Leaf>,
     filled_to: u64,
 }
@@ -40,10 +41,10 @@ impl Model for PageTable {
 
     ghost Value = { Table };
 
-    ghost view = { λ t. record { directory = t.directory.items; leaves = t.leaves.items } };
+    ghost view = { λ t. record { directory = t.directory; leaves = t.leaves.items } };
 
-    ghost invariant = { λ t. IsTable t.directory.items t.leaves.items (vec_capacity t.leaves)
-        × IsFilled (record { directory = t.directory.items; leaves = t.leaves.items }) t.filled_to };
+    ghost invariant = { λ t. IsTable t.directory t.leaves.items (vec_capacity t.leaves)
+        × IsFilled (record { directory = t.directory; leaves = t.leaves.items }) t.filled_to };
 }
 
 impl PageTable {
@@ -52,7 +53,7 @@ impl PageTable {
     pub fn new(alloc: Global) -> Result<PageTable, AllocError>
         ensures empty { IfOk result (λ t. (n : ℕ) → place_in t n ≡ None) }
     {
-        let directory = empty_leaves(alloc, CHUNKS as usize)?;
+        let directory = Directory::new(alloc)?;
         let mut leaves = Vec::with_capacity(alloc, CHUNKS as usize + 1)?;
         leaves.push(empty_leaf())?;
         Ok(PageTable {
@@ -69,7 +70,7 @@ impl PageTable {
         if page >= PAGES {
             return None;
         }
-        let leaf = self.directory[(page / CHUNK) as usize];
+        let leaf = self.directory.get((page / CHUNK) as usize);
         self.leaves[leaf as usize][(page % CHUNK) as usize]
     }
 
@@ -122,7 +123,7 @@ impl PageTable {
     {
         let mut page = from;
         while page < end {
-            if self.directory[(page / CHUNK) as usize] == EMPTY_LEAF {
+            if self.directory.get((page / CHUNK) as usize) == EMPTY_LEAF {
                 page = (page / CHUNK + 1) * CHUNK;
             } else if self.get(page).is_some() {
                 return Some(page);
@@ -153,28 +154,20 @@ fn filled_with(filled_to: u64, page: u64, place: Option<u32>) -> u64
 }
 
 /// The leaf of a chunk, which gets one of its own if it has none.
-fn own_leaf(directory: &mut Vec<u32>, leaves: &mut Vec<Leaf>, chunk: usize) -> usize
-    requires chunk { chunk < length directory.old.items }
-    requires room { slice_index directory.old.items chunk ≡ 0 → vec_len leaves.old < vec_capacity leaves.old }
-    requires numbers { slice_index directory.old.items chunk ≡ 0 → vec_len leaves.old < 2 ^ 32 }
-    ensures directory { directory.new.items ≡ directory_with directory.old.items leaves.old.items chunk }
-    ensures leaves { leaves.new.items ≡ leaves_with directory.old.items leaves.old.items chunk }
-    ensures leaf { result ≡ slice_index directory.new.items chunk }
+fn own_leaf(directory: &mut Directory, leaves: &mut Vec<Leaf>, chunk: usize) -> usize
+    requires chunk { chunk < CHUNKS }
+    requires room { slice_index directory.old chunk ≡ 0 → vec_len leaves.old < vec_capacity leaves.old }
+    requires numbers { slice_index directory.old chunk ≡ 0 → vec_len leaves.old < 2 ^ 32 }
+    ensures directory { directory.new ≡ names_with directory.old (length leaves.old.items) chunk }
+    ensures leaves { leaves.new.items ≡ rows_with directory.old leaves.old.items empty_leaf chunk }
+    ensures leaf { result ≡ slice_index directory.new chunk }
     ensures capacity { vec_capacity leaves.old ≤ vec_capacity leaves.new }
 {
-    if directory[chunk] == EMPTY_LEAF {
-        directory[chunk] = leaves.len() as u32;
+    if directory.get(chunk) == EMPTY_LEAF {
+        directory.set(chunk, leaves.len() as u32);
         let _ = leaves.push(empty_leaf());
     }
-    directory[chunk] as usize
-}
-
-/// So many chunks, each with the leaf that has no entries.
-fn empty_leaves(alloc: Global, chunks: usize) -> Result<Vec<u32>, AllocError>
-    ensures length { IfOk result (λ directory. length directory.items ≡ chunks) }
-    ensures empty { IfOk result (λ directory. (c : ℕ) → slice_index directory.items c ≡ 0) }
-{
-    vec![in alloc; EMPTY_LEAF; chunks]
+    directory.get(chunk) as usize
 }
 
 /// A leaf without entries.

@@ -1,16 +1,17 @@
-use Rattle.std.proofs.Common.{◌≡◌, ◌/◌, ◌%◌, ◌∙◌, Option, List, [], cond, nat_eq, set, get_or, sym, subst, ap, arith, ℕ}
+use Rattle.std.proofs.Common.{◌≡◌, ◌/◌, ◌%◌, ◌∙◌, Option, None, List, [], cond, nat_eq, set, get_or, sym, subst, ap, arith, ℕ}
 use Rattle.std.specs.Vec.{vec_capacity}
-use Rattle.page_map.specs.Layout.{IsFilled}
+use Rattle.page_map.specs.Layout.{IsFilled, empty_leaf}
 use Rattle.page_map.specs.Table.{Table, place_in}
-use Rattle.page_map.proofs.Tables.{HasLeaf, filled-set, has-own, has-room, inserted-places, inserted-table, read-at}
+use Rattle.page_map.proofs.Rows.{HasRow, has-own, has-room, read-at, written-rows}
+use Rattle.page_map.proofs.Tables.{filled-set, fresh-leaf, inserted-places}
 use Rattle.page_map.proofs.table.PageTable.set.Goals as goal
 
 -- the leaf of the page's chunk, and what is written to it
-own : (c : goal.After-self-2-1) → HasLeaf c.self.inside.directory.items c.self.inside.leaves.items (c.args.page / 512)
-    c.own_leaf-leaf.new.directory.items c.own_leaf-leaf.new.leaves.items c.own_leaf-leaf.result
+own : (c : goal.After-self-2-1) → HasRow None 131072 c.self.inside.directory c.self.inside.leaves.items (c.args.page / 512)
+    c.own_leaf-leaf.new.directory c.own_leaf-leaf.new.leaves.items c.own_leaf-leaf.result
 own c =
-    has-own c.self.inside.directory.items c.self.inside.leaves.items (vec_capacity c.self.inside.leaves) c.self.invariant.0
-    (c.args.page / 512) c.own_leaf-leaf.result c.own_leaf-leaf.new.directory.items c.own_leaf-leaf.new.leaves.items (omega arith)
+    has-own None empty_leaf fresh-leaf 131072 c.self.inside.directory c.self.inside.leaves.items (vec_capacity c.self.inside.leaves) c.self.invariant.0
+    (c.args.page / 512) c.own_leaf-leaf.result c.own_leaf-leaf.new.directory c.own_leaf-leaf.new.leaves.items (omega arith)
     c.own_leaf-leaf.ensures.directory c.own_leaf-leaf.ensures.leaves c.own_leaf-leaf.ensures.leaf
 
 written : (c : goal.After-self-2-1) →
@@ -26,19 +27,19 @@ written c =
 places : (c : goal.After-self-2-1) (n : ℕ)
     → let after : List (List (Option ℕ)) =
     set c.own_leaf-leaf.new.leaves.items c.own_leaf-leaf.result (set c.index_mut.result.now (c.args.page % 512) c.args.place) in
-    place_in (record { directory = c.own_leaf-leaf.new.directory.items; leaves = after }) n
-    ≡ cond (nat_eq n c.args.page) c.args.place (place_in (record { directory = c.self.inside.directory.items; leaves = c.self.inside.leaves.items }) n)
+    place_in (record { directory = c.own_leaf-leaf.new.directory; leaves = after }) n
+    ≡ cond (nat_eq n c.args.page) c.args.place (place_in (record { directory = c.self.inside.directory; leaves = c.self.inside.leaves.items }) n)
 places c =
     let was = c.self.inside in
-    inserted-places was.directory.items c.own_leaf-leaf.new.directory.items was.leaves.items c.own_leaf-leaf.new.leaves.items
+    inserted-places was.directory c.own_leaf-leaf.new.directory was.leaves.items c.own_leaf-leaf.new.leaves.items
     (set c.own_leaf-leaf.new.leaves.items c.own_leaf-leaf.result (set c.index_mut.result.now (c.args.page % 512) c.args.place))
-    c.args.page c.own_leaf-leaf.result c.args.place (own c) (written c) (vec_capacity was.leaves) c.self.invariant.0 c.requires
+    (vec_capacity was.leaves) c.args.page c.own_leaf-leaf.result c.args.place (own c) (written c) c.self.invariant.0 c.requires
 
 pub own_leaf-leaf-requires-clause-room : goal.own_leaf-leaf-requires-clause-room
 own_leaf-leaf-requires-clause-room c bare =
     let was = c.self.inside in
     let kept = c.self.invariant.0 in
-    let room = has-room was.directory.items was.leaves.items (vec_capacity was.leaves) (c.args.page / 512) kept (omega arith) bare in
+    let room = has-room None 131072 was.directory was.leaves.items (vec_capacity was.leaves) (c.args.page / 512) kept (omega arith) bare in
     let enough = kept.room in
     omega arith
 
@@ -46,18 +47,18 @@ pub own_leaf-leaf-requires-clause-numbers : goal.own_leaf-leaf-requires-clause-n
 own_leaf-leaf-requires-clause-numbers c bare =
     let was = c.self.inside in
     let kept = c.self.invariant.0 in
-    let room = has-room was.directory.items was.leaves.items (vec_capacity was.leaves) (c.args.page / 512) kept (omega arith) bare in
+    let room = has-room None 131072 was.directory was.leaves.items (vec_capacity was.leaves) (c.args.page / 512) kept (omega arith) bare in
     omega arith
 
 pub invariant_of-self : goal.invariant_of-self
 invariant_of-self c =
     let was = c.self.inside in (
-      inserted-table was.directory.items c.own_leaf-leaf.new.directory.items was.leaves.items c.own_leaf-leaf.new.leaves.items
+      written-rows None 131072 was.directory c.own_leaf-leaf.new.directory was.leaves.items c.own_leaf-leaf.new.leaves.items
           (set c.own_leaf-leaf.new.leaves.items c.own_leaf-leaf.result (set c.index_mut.result.now (c.args.page % 512) c.args.place))
-          c.args.page c.own_leaf-leaf.result c.args.place (own c) (written c) (vec_capacity was.leaves) c.self.invariant.0 c.requires
+          c.args.page c.own_leaf-leaf.result c.args.place (own c) (written c) (vec_capacity was.leaves) c.self.invariant.0 (omega arith)
           (vec_capacity c.own_leaf-leaf.new.leaves) c.own_leaf-leaf.ensures.capacity,
       subst (IsFilled _) (sym c.filled_with-self-inside.ensures)
-          (filled-set (record { directory = was.directory.items; leaves = was.leaves.items }) _ was.filled_to c.args.page c.args.place
+          (filled-set (record { directory = was.directory; leaves = was.leaves.items }) _ was.filled_to c.args.page c.args.place
           c.self.invariant.1 (places c)),
     )
 
