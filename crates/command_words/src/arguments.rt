@@ -12,7 +12,7 @@ use clap::{Arg, ArgMatches, Command as Parser};
 use std::alloc::{AllocError, Global};
 
 /// The names that a command is given, in their order.
-#[derive(Clone, Copy, Debug, Drop)]
+#[derive(Clone, Copy, Drop)]
 pub(crate) enum FileNames<'a> {
     /// No name.
     Zero,
@@ -23,7 +23,7 @@ pub(crate) enum FileNames<'a> {
 }
 
 /// What a command is given: its names, and the value of each option that is given.
-#[derive(Clone, Copy, Debug, Drop)]
+#[derive(Clone, Copy, Drop)]
 pub(crate) struct Arguments<'a> {
     /// The names.
     pub(crate) names: FileNames<'a>,

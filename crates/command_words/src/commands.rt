@@ -17,7 +17,7 @@ use mach_types::Limits;
 use std::alloc::{AllocError, Global};
 
 /// How the log of a run comes about.
-#[derive(Clone, Copy, Debug, PartialEq, Eq, Drop)]
+#[derive(Clone, Copy, Drop)]
 pub enum Source<'a> {
     /// On one hart, by the fixed rule.
     Rule,
@@ -36,7 +36,7 @@ pub enum Source<'a> {
 }
 
 /// To run a program, and to show something of the run.
-#[derive(Clone, Copy, Debug, PartialEq, Eq, Drop)]
+#[derive(Clone, Copy, Drop)]
 pub struct Run<'a> {
     /// The name of the program's file.
     pub program: &'a str,
@@ -49,7 +49,7 @@ pub struct Run<'a> {
 }
 
 /// A guest of a size, which it needn't take.
-#[derive(Clone, Copy, Debug, PartialEq, Eq, Drop)]
+#[derive(Clone, Copy, Drop)]
 pub struct Guest {
     /// The guest's name.
     pub name: Name,
@@ -61,7 +61,7 @@ pub struct Guest {
 const TRIAL_FRAMES: u32 = 4_096;
 
 /// To make a guest, to run it by rounds, and to show its console and its acts.
-#[derive(Clone, Copy, Debug, PartialEq, Eq, Drop)]
+#[derive(Clone, Copy, Drop)]
 pub struct Trial {
     /// The guest.
     pub guest: Guest,
@@ -74,7 +74,7 @@ pub struct Trial {
 }
 
 /// What words ask for.
-#[derive(Clone, Copy, Debug, PartialEq, Eq, Drop)]
+#[derive(Clone, Copy, Drop)]
 pub enum Command<'a> {
     /// A run of a program.
     Runs(Run<'a>),

@@ -10,7 +10,7 @@ use crate::reader::Reader;
 use crate::takes::{Takes, takes_of};
 
 /// What is wrong with the words of a command line. Words are counted from 1, and the command's is the first.
-#[derive(Clone, Copy, Debug, PartialEq, Eq, Drop)]
+#[derive(Clone, Copy, Drop)]
 pub enum WordsFault {
     /// There is no word.
     NoCommand,

@@ -7,7 +7,7 @@ ghost use Rattle.command_words.specs.Kept.{named, range};
 ghost use Rattle.command_words.specs.Options.{chosen, number_of, option_named, range_of};
 
 /// The options that commands have.
-#[derive(Clone, Copy, Debug, PartialEq, Eq, Drop)]
+#[derive(Clone, Copy, Drop)]
 pub(crate) enum OptionName {
     /// How many harts there are.
     Harts,
@@ -20,7 +20,7 @@ pub(crate) enum OptionName {
 }
 
 /// The numbers that an option takes.
-#[derive(Clone, Copy, Debug, PartialEq, Eq, Drop)]
+#[derive(Clone, Copy, Drop)]
 pub(crate) struct Numbers {
     /// The least number.
     pub(crate) least: u64,

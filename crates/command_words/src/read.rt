@@ -12,7 +12,7 @@ use crate::theorems::words_are_wrong_or_name_a_command;
 use std::alloc::Global;
 
 /// Why words give no command.
-#[derive(Clone, Copy, Debug, PartialEq, Eq, Drop)]
+#[derive(Clone, Copy, Drop)]
 pub enum WordsError {
     /// They are no command: this is what is wrong with them.
     Wrong(WordsFault),

@@ -17,7 +17,7 @@ use crate::takes::{NameKind, OptionSet, Takes};
 use guest_names::Name;
 
 /// How the next word is read.
-#[derive(Clone, Copy, Debug, Drop)]
+#[derive(Clone, Copy, Drop)]
 enum Reading {
     /// As a name or as an option.
     Options,
@@ -28,7 +28,7 @@ enum Reading {
 }
 
 /// How far the words behind a command's are read, none of them wrong.
-#[derive(Debug, Drop)]
+#[derive(Drop)]
 pub(crate) struct Reader {
     takes: Takes,
     next: usize,

@@ -5,7 +5,7 @@ ghost use Rattle.std.specs.Prelude.{◌≡◌};
 ghost use Rattle.command_words.specs.Table.{command_kind};
 
 /// How the log of a run comes about.
-#[derive(Clone, Copy, Debug, PartialEq, Eq, Drop)]
+#[derive(Clone, Copy, Drop)]
 pub enum SourceKind {
     /// On one hart, by the fixed rule.
     ByRule,
@@ -30,7 +30,7 @@ impl SourceKind {
 }
 
 /// What is shown of a run.
-#[derive(Clone, Copy, Debug, PartialEq, Eq, Drop)]
+#[derive(Clone, Copy, Drop)]
 pub enum Shown {
     /// Its output: its console, its log and its end.
     Output,
@@ -58,7 +58,7 @@ impl Shown {
 }
 
 /// What a command is.
-#[derive(Clone, Copy, Debug, PartialEq, Eq, Drop)]
+#[derive(Clone, Copy, Drop)]
 pub enum CommandKind {
     /// It runs a program.
     Runs {

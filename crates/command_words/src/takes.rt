@@ -10,7 +10,7 @@ use crate::options::OptionName;
 use crate::table::{CommandKind, SourceKind, command_kind};
 
 /// Some of the options.
-#[derive(Clone, Copy, Debug, Drop)]
+#[derive(Clone, Copy, Drop)]
 pub(crate) struct OptionSet {
     harts: bool,
     frames: bool,
@@ -99,7 +99,7 @@ const BY_SEED: OptionSet = OptionSet {
 };
 
 /// What a name is.
-#[derive(Clone, Copy, Debug, Drop)]
+#[derive(Clone, Copy, Drop)]
 pub(crate) enum NameKind {
     /// That of a program's file.
     Program,
@@ -112,7 +112,7 @@ pub(crate) enum NameKind {
 }
 
 /// What a command takes behind its word.
-#[derive(Clone, Copy, Debug, Drop)]
+#[derive(Clone, Copy, Drop)]
 pub(crate) struct Takes {
     /// What its first name is.
     first: NameKind,

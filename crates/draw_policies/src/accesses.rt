@@ -7,7 +7,7 @@ use mach_types::Store;
 use rv_inst::{Effect, asks};
 
 /// An access of memory.
-#[derive(Clone, Copy, Debug, PartialEq, Eq, Drop)]
+#[derive(Clone, Copy, Drop)]
 pub struct Access {
     /// The address of the first byte.
     pub at: u64,

@@ -6,7 +6,7 @@ ghost use Rattle.draw_policies.specs.Aims as aims;
 use mach_types::{Choice, Sight};
 
 /// What a hart means to do once no store of it waits.
-#[derive(Clone, Copy, Debug, PartialEq, Eq, Drop)]
+#[derive(Clone, Copy, Drop)]
 pub enum Aim {
     /// Its thread leaves it.
     Preempt,

@@ -4,7 +4,7 @@ ghost use Rattle.std.specs.Prelude.{◌≡◌};
 ghost use Rattle.draw_policies.specs.Policies.{policy_of_seed, weights_of};
 
 /// How a run is drawn.
-#[derive(Clone, Copy, Debug, PartialEq, Eq, Drop)]
+#[derive(Clone, Copy, Drop)]
 pub enum Policy {
     /// All threads on one hart, unless their affinities forbid it.
     One,
@@ -21,7 +21,7 @@ pub enum Policy {
 }
 
 /// How often something is done that could be, in thousandths of the words that are drawn, 0 to 1000.
-#[derive(Clone, Copy, Debug, PartialEq, Eq, Drop)]
+#[derive(Clone, Copy, Drop)]
 pub struct Weights {
     /// The hart of the last event goes on.
     pub stay: u16,

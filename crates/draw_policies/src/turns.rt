@@ -11,7 +11,7 @@ use crate::words::Word;
 use mach_types::{Choice, Sight, Tid};
 
 /// What a hart does in its turn.
-#[derive(Clone, Copy, Debug, PartialEq, Eq, Drop)]
+#[derive(Clone, Copy, Drop)]
 pub struct Turn {
     /// The event.
     pub choice: Choice,

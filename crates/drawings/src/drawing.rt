@@ -9,7 +9,7 @@ use draw_policies::{Aim, Policy, Turn, Weights, Word, turn_of};
 use mach_types::{Choice, Hart, Tid};
 
 /// A drawn event.
-#[derive(Clone, Copy, Debug, PartialEq, Eq, Drop)]
+#[derive(Clone, Copy, Drop)]
 pub struct DrawnEvent {
     /// Its hart.
     pub hart: Hart,

@@ -6,7 +6,7 @@ ghost use Rattle.drawn_runs.specs.Manners.{manner_of};
 use draw_policies::Policy;
 
 /// In which manner the events of a run are drawn.
-#[derive(Clone, Copy, Debug, PartialEq, Eq, Drop)]
+#[derive(Clone, Copy, Drop)]
 pub struct Manner {
     /// The seed.
     pub seed: u64,

@@ -12,7 +12,7 @@ use elf_load::ElfFault;
 use std::alloc::AllocError;
 
 /// Why a call gives no output.
-#[derive(Clone, Copy, Debug, PartialEq, Eq, Drop)]
+#[derive(Clone, Copy, Drop)]
 pub enum Fault {
     /// The words aren't of the grammar.
     Usage,

@@ -18,7 +18,7 @@ const MOST_PROGRAM_BYTES: usize = 8_388_608;
 const MOST_SCRIPT_BYTES: usize = 67_108_864;
 
 /// What a file is to a command.
-#[derive(Clone, Copy, Debug, PartialEq, Eq, Drop)]
+#[derive(Clone, Copy, Drop)]
 pub enum FileRole {
     /// The program that it runs.
     Program,
@@ -39,7 +39,7 @@ impl FileRole {
 }
 
 /// What is wrong with a line of a script.
-#[derive(Clone, Copy, Debug, PartialEq, Eq, Drop)]
+#[derive(Clone, Copy, Drop)]
 pub enum LineFault {
     /// It can't be read.
     Malformed,
@@ -50,7 +50,7 @@ pub enum LineFault {
 }
 
 /// Some addresses, or some bytes of a file.
-#[derive(Clone, Copy, Debug, PartialEq, Eq, Drop)]
+#[derive(Clone, Copy, Drop)]
 pub struct Span {
     /// The first.
     pub from: u64,
@@ -59,7 +59,7 @@ pub struct Span {
 }
 
 /// What a fault of a program's file is about.
-#[derive(Clone, Copy, Debug, PartialEq, Eq, Drop)]
+#[derive(Clone, Copy, Drop)]
 pub enum ElfPlace {
     /// A segment.
     Segment {
@@ -80,7 +80,7 @@ pub enum ElfPlace {
 }
 
 /// Why a call gives no output.
-#[derive(Clone, Copy, Debug, PartialEq, Eq, Drop)]
+#[derive(Clone, Copy, Drop)]
 pub enum Reason {
     /// The words are no command: this is what is wrong with them.
     Words(WordsFault),
@@ -166,7 +166,7 @@ impl From<AllocError> for Reason {
 /// The exit status of a call, and the reason that goes with it: there is none exactly at status 0.
 ///
 /// At status 6 the reason is that the text couldn't be written; what that text was to tell stands beside it.
-#[derive(Clone, Copy, Debug, PartialEq, Eq, Drop)]
+#[derive(Clone, Copy, Drop)]
 pub struct Explained {
     /// The exit status.
     pub status: u8,
