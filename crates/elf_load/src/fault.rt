@@ -8,7 +8,7 @@ use thiserror::Error;
 
 /// Why a file is refused, in the order in which the faults are looked for. An index is that of the
 /// program header in its table.
-#[derive(Clone, Copy, Debug, PartialEq, Eq, Drop, Error)]
+#[derive(Clone, Copy, Debug, Drop, Error)]
 pub enum ElfFault {
     #[error("the file is shorter than a file header")]
     Short,
