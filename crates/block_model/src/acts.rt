@@ -1,7 +1,7 @@
 //! How a restartable sequence ended.
 
 /// How a restartable sequence of a log ended, the first of these that holds.
-#[derive(Clone, Copy, Debug, PartialEq, Eq, Drop)]
+#[derive(Clone, Copy, PartialEq, Eq, Drop)]
 pub enum SeqEnd {
     /// The process ended in it, or by its interruption.
     Dead,

@@ -3,7 +3,7 @@
 use mach_types::{End, Why};
 
 /// Why the machine refuses an event. A refused event changes nothing.
-#[derive(Clone, Copy, Debug, PartialEq, Eq, Drop)]
+#[derive(Clone, Copy, Drop)]
 pub enum Refused {
     /// The run has ended in this way.
     Ended(End),

@@ -7,7 +7,7 @@ use block_model::SeqEnd;
 use mach_types::{Hart, Tid};
 
 /// What an act is.
-#[derive(Clone, Copy, Debug, PartialEq, Eq, Drop)]
+#[derive(Clone, Copy, PartialEq, Eq, Drop)]
 pub enum Form {
     /// One instruction, or one store that enters memory, outside all sequences.
     Step,
@@ -33,7 +33,7 @@ pub fn form_word(form: Form) -> &'static [u8]
 }
 
 /// An act of a hart: an event, or a restartable sequence with all its events.
-#[derive(Clone, Copy, Debug, PartialEq, Eq, Drop)]
+#[derive(Clone, Copy, Drop)]
 pub struct Act {
     /// The hart.
     pub hart: Hart,
@@ -48,7 +48,7 @@ pub struct Act {
 }
 
 /// The acts of a log.
-#[derive(Debug, Drop)]
+#[derive(Drop)]
 pub struct Acts {
     /// The acts, in the order of their first entries.
     pub list: Vec<Act>,

@@ -11,7 +11,7 @@ use mach_types::{Hart, Tid};
 use std::alloc::{AllocError, Global};
 
 /// A sequence that goes on: the newest event of its hart is of it.
-#[derive(Clone, Copy, Debug, PartialEq, Eq, Drop)]
+#[derive(Clone, Copy, Drop)]
 pub(crate) struct Going {
     /// Where its act stands among the acts.
     pub(crate) place: usize,
@@ -79,7 +79,7 @@ impl Going {
 }
 
 /// A sequence that hangs: its thread was preempted inside, and hasn't begun to run since.
-#[derive(Clone, Copy, Debug, PartialEq, Eq, Drop)]
+#[derive(Clone, Copy, Drop)]
 pub(crate) struct Hanging {
     /// The thread.
     pub(crate) tid: Tid,
@@ -88,7 +88,7 @@ pub(crate) struct Hanging {
 }
 
 /// The acts so far. A sequence that has no end yet is listed as unended.
-#[derive(Debug, Drop)]
+#[derive(Drop)]
 pub(crate) struct Ledger {
     /// The acts, in the order of their first entries.
     pub(crate) list: Vec<Act>,

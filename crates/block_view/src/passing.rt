@@ -15,7 +15,7 @@ use mach_types::{End, Entry, Hart, Kind, Named, Seq};
 use machine_core::Machine;
 
 /// An entry that was made.
-#[derive(Clone, Copy, Debug, PartialEq, Eq, Drop)]
+#[derive(Clone, Copy, Drop)]
 pub struct Passed {
     /// Its number in the log, counted from 1.
     pub number: u32,

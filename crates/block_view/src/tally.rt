@@ -7,7 +7,7 @@ use crate::forms::Form;
 use block_model::SeqEnd;
 
 /// How many acts of each form a hart has.
-#[derive(Clone, Copy, Debug, PartialEq, Eq, Drop)]
+#[derive(Clone, Copy, Drop)]
 pub struct Counts {
     /// Steps: instructions and stores that entered memory, outside all sequences.
     pub step: u32,

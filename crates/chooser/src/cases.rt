@@ -10,7 +10,7 @@ use mach_types::{Choice, Sight};
 const LEAST_RUN: u32 = 16;
 
 /// What is known of a pick without a word of the generator.
-#[derive(Clone, Copy, Debug, PartialEq, Eq, Drop)]
+#[derive(Clone, Copy, Drop)]
 pub enum Case {
     /// This is done next, or nothing.
     Settled(Option<Pick>),

@@ -4,11 +4,12 @@ ghost use Rattle.std.specs.Prelude.{◌≡◌};
 ghost use Rattle.elf_load.specs.Numbers.{fault_detail, fault_number};
 
 use std::alloc::AllocError;
+use std::fmt;
 use thiserror::Error;
 
 /// Why a file is refused, in the order in which the faults are looked for. An index is that of the
 /// program header in its table.
-#[derive(Clone, Copy, Debug, PartialEq, Eq, Drop, Error)]
+#[derive(Clone, Copy, Drop, Error)]
 pub enum ElfFault {
     #[error("the file is shorter than a file header")]
     Short,
@@ -46,6 +47,13 @@ pub enum ElfFault {
     TooLarge(u64),
     #[error("out of memory")]
     NoMemory,
+}
+
+/// It shows the message.
+impl fmt::Debug for ElfFault {
+    fn fmt<W: fmt::Write>(&self, f: &mut fmt::Formatter<W>) -> fmt::Result {
+        fmt::Display::fmt(self, f)
+    }
 }
 
 impl ElfFault {

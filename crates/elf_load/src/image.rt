@@ -1,7 +1,7 @@
 //! A loaded image.
 
 /// A page of 4096 bytes.
-#[derive(Debug, Drop)]
+#[derive(Drop)]
 pub struct ImagePage {
     /// The page has the addresses from `4096 * number`.
     pub number: u64,
@@ -11,7 +11,7 @@ pub struct ImagePage {
 }
 
 /// The memory with which a program starts, and what it is told of its file.
-#[derive(Debug, Drop)]
+#[derive(Drop)]
 pub struct Image {
     /// The pages of the segments, in rising order of number.
     pub pages: Vec<ImagePage>,

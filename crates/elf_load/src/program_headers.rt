@@ -38,7 +38,7 @@ const ADDRESS_END: u64 = 0x20_0000_0000;
 
 /// An entry of the program header table, without its physical address and alignment, which nothing
 /// depends on.
-#[derive(Clone, Copy, Debug, PartialEq, Eq, Drop)]
+#[derive(Clone, Copy, Drop)]
 pub struct ProgramHeader {
     /// `p_type`
     pub kind: u32,

@@ -6,7 +6,7 @@ use std::alloc::AllocError;
 use thiserror::Error;
 
 /// A part of memory: a load segment.
-#[derive(Debug, Drop)]
+#[derive(Drop)]
 pub struct Part {
     /// Its address.
     pub at: u64,
@@ -19,7 +19,7 @@ pub struct Part {
 }
 
 /// A program.
-#[derive(Debug, Drop)]
+#[derive(Drop)]
 pub struct Parts {
     /// The address of the first instruction.
     pub entry: u64,
@@ -29,7 +29,7 @@ pub struct Parts {
 }
 
 /// Why no file is made.
-#[derive(Clone, Copy, Debug, PartialEq, Eq, Drop, Error)]
+#[derive(Clone, Copy, Debug, Drop, Error)]
 pub enum MakeFault {
     /// The first bad part, or the number of parts where the entry, the flags or that number are bad.
     #[error("part {0} is bad")]

@@ -4,7 +4,7 @@ ghost use Rattle.std.specs.Prelude.{◌≡◌};
 ghost use Rattle.guest_names.specs.Guests as guests;
 
 /// A guest: a program that is made for a size.
-#[derive(Clone, Copy, Debug, PartialEq, Eq, Drop)]
+#[derive(Clone, Copy, Drop)]
 pub enum Name {
     /// Four threads add to the counters of their processors.
     Counter,

@@ -1,2 +1,1 @@
 pub mod GrowthLemmas
-pub mod TallyLemmas

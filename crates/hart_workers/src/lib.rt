@@ -1,8 +1,6 @@
 //! Workers: one thread a hart drives a machine that lies in a turnstile.
 #![tactic(auto)]
 
-#[cfg(test)]
-mod tests;
 mod turns;
 mod workers;
 

@@ -9,7 +9,7 @@ use mach_types::Store;
 use rv_inst::Effect;
 
 /// Bytes of memory: so many from an address on.
-#[derive(Clone, Copy, Debug, PartialEq, Eq, Drop)]
+#[derive(Clone, Copy, PartialEq, Eq, Drop)]
 pub(crate) struct Range {
     pub(crate) at: u64,
     pub(crate) count: u8,
@@ -26,7 +26,7 @@ impl Range {
 }
 
 /// What the access of a plain event touches.
-#[derive(Clone, Copy, Debug, PartialEq, Eq, Drop)]
+#[derive(Clone, Copy, PartialEq, Eq, Drop)]
 pub(crate) struct Access {
     /// What it reads.
     pub(crate) reads: Option<Range>,

@@ -15,7 +15,7 @@ use std::alloc::{AllocError, Global};
 use std::collections::HashSet;
 
 /// The bytes from an address on, up to another one.
-#[derive(Clone, Copy, Debug, PartialEq, Eq, Drop)]
+#[derive(Clone, Copy, Drop)]
 pub(crate) struct Extent {
     pub(crate) at: u128,
     pub(crate) end: u128,

@@ -18,7 +18,7 @@ use std::alloc::{AllocError, Global};
 const MOST_NUMBER: usize = 4_294_967_295;
 
 /// What events have in common: each is kept once, or a few times, and has a number.
-#[derive(Debug, Drop)]
+#[derive(Drop)]
 pub(crate) struct Details {
     /// What accesses touch.
     pub(crate) accesses: Vec<Access>,
@@ -31,7 +31,7 @@ pub(crate) struct Details {
 }
 
 /// An event of a log.
-#[derive(Clone, Copy, Debug, PartialEq, Eq, Drop)]
+#[derive(Clone, Copy, Drop)]
 pub(crate) struct Mark {
     /// The pc of its entry.
     pub(crate) pc: u64,

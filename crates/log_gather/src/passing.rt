@@ -36,7 +36,7 @@ use rv_inst::Effect;
 use std::alloc::Global;
 
 /// What was seen of a log.
-#[derive(Debug, Drop)]
+#[derive(Drop)]
 pub(crate) struct Passage {
     /// Its events.
     pub(crate) marks: Vec<Mark>,
@@ -47,7 +47,7 @@ pub(crate) struct Passage {
 }
 
 /// What is read of a machine before an event.
-#[derive(Clone, Copy, Debug, PartialEq, Eq, Drop)]
+#[derive(Clone, Copy, Drop)]
 pub(crate) struct Before {
     /// Whether the event is plain.
     plain: bool,

@@ -9,7 +9,7 @@ use crate::marks::Mark;
 use mach_types::Hart;
 
 /// How far an act goes on from its first event.
-#[derive(Clone, Copy, Debug, PartialEq, Eq, Drop)]
+#[derive(Clone, Copy, Drop)]
 pub(crate) struct Reach {
     /// How many events there are from its first to its last.
     pub(crate) length: usize,

@@ -13,7 +13,7 @@ use rseq_area::Lookups;
 pub(crate) type Reservations = [Option<u64>; 8];
 
 /// An event of a log.
-#[derive(Clone, Copy, Debug, PartialEq, Eq, Drop)]
+#[derive(Clone, Copy, Drop)]
 pub(crate) struct Step {
     /// Its entry.
     pub(crate) entry: Entry,

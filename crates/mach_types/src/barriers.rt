@@ -2,7 +2,7 @@
 
 /// A command of membarrier(2) that is offered here: all of `enum membarrier_cmd` but those on the
 /// synchronization of cores (own).
-#[derive(Clone, Copy, Debug, PartialEq, Eq, Drop)]
+#[derive(Clone, Copy, PartialEq, Eq, Drop)]
 pub enum BarrierCommand {
     /// 0: which commands are offered.
     Query,
@@ -28,7 +28,7 @@ pub enum BarrierCommand {
 pub const MEMBARRIER_CMD_FLAG_CPU: u32 = 1;
 
 /// For which barriers a process is registered.
-#[derive(Clone, Copy, Debug, PartialEq, Eq, Drop)]
+#[derive(Clone, Copy, PartialEq, Eq, Drop)]
 pub struct Registered {
     /// For `GlobalExpedited`.
     pub global: bool,
@@ -39,7 +39,7 @@ pub struct Registered {
 }
 
 /// What a call of membarrier(2) comes to.
-#[derive(Clone, Copy, Debug, PartialEq, Eq, Drop)]
+#[derive(Clone, Copy, PartialEq, Eq, Drop)]
 pub enum Answer {
     /// The call is over with this value: 0 or more, or an error number of errno(3) with a minus sign.
     Value(i64),

@@ -1,7 +1,7 @@
 //! Error numbers of system calls (Linux, errno(3)).
 
 /// An error number of Linux, as a positive number: 14 for EFAULT.
-#[derive(Clone, Copy, Debug, PartialEq, Eq, Drop)]
+#[derive(Clone, Copy, PartialEq, Eq, Drop)]
 pub struct Errno(pub u16);
 
 /// Operation not permitted.

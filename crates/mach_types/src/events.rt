@@ -4,7 +4,7 @@ ghost use Rattle.std.specs.Prelude.{◌≡◌};
 ghost use Rattle.mach_types.specs.Events.{kind_of, choice_of};
 
 /// A hart, by its number from 0 on. The RISC-V manual's word for a hardware thread; a processor in rseq(2).
-#[derive(Clone, Copy, Debug, PartialEq, Eq, PartialOrd, Ord, Drop)]
+#[derive(Clone, Copy, PartialEq, Eq, Drop)]
 pub struct Hart(pub u8);
 
 impl Hart {
@@ -19,11 +19,11 @@ impl Hart {
 }
 
 /// A thread, by its number from 1 on. Numbers aren't used again.
-#[derive(Clone, Copy, Debug, PartialEq, Eq, PartialOrd, Ord, Drop)]
+#[derive(Clone, Copy, PartialEq, Eq, Drop)]
 pub struct Tid(pub u32);
 
 /// The kinds of event that a hart can make.
-#[derive(Clone, Copy, Debug, PartialEq, Eq, Drop)]
+#[derive(Clone, Copy, PartialEq, Eq, Drop)]
 pub enum Kind {
     /// One instruction, its fault, or one system call.
     Exec,
@@ -42,7 +42,7 @@ pub enum Kind {
 }
 
 /// What a hart is asked to do: a kind of event, and for `Run` the thread.
-#[derive(Clone, Copy, Debug, PartialEq, Eq, Drop)]
+#[derive(Clone, Copy, PartialEq, Eq, Drop)]
 pub enum Choice {
     /// See [`Kind::Exec`].
     Exec,
@@ -80,7 +80,7 @@ impl Choice {
 /// One line of the log: an event, the hart that made it, and the running thread and its pc before it.
 ///
 /// For `Run`, `tid` and `pc` are those of the thread that starts; on a hart without a thread they are 0.
-#[derive(Clone, Copy, Debug, PartialEq, Eq, Drop)]
+#[derive(Clone, Copy, PartialEq, Eq, Drop)]
 pub struct Entry {
     /// The hart that made the event.
     pub hart: Hart,
@@ -110,7 +110,7 @@ impl Entry {
 }
 
 /// The condition of an event that fails.
-#[derive(Clone, Copy, Debug, PartialEq, Eq, Drop)]
+#[derive(Clone, Copy, PartialEq, Eq, Drop)]
 pub enum Why {
     /// The machine has no such hart.
     NoHart,
@@ -143,7 +143,7 @@ pub enum Why {
 }
 
 /// What an attempt to go on came to.
-#[derive(Clone, Copy, Debug, PartialEq, Eq, Drop)]
+#[derive(Clone, Copy, PartialEq, Eq, Drop)]
 pub enum Advance {
     /// The hart made this event.
     Made(Entry),
@@ -154,7 +154,7 @@ pub enum Advance {
 }
 
 /// What a scheduler sees of one hart and of the threads that may run on it.
-#[derive(Clone, Copy, Debug, PartialEq, Eq, Drop)]
+#[derive(Clone, Copy, Drop)]
 pub struct Sight {
     /// No thread runs on the hart.
     pub idle: bool,

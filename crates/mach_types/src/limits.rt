@@ -4,7 +4,7 @@ ghost use Rattle.std.specs.Prelude.{◌↔◌, IsTrue};
 ghost use Rattle.mach_types.specs.Limits.{InRange};
 
 /// The limits of a run (own).
-#[derive(Clone, Copy, Debug, PartialEq, Eq, Drop)]
+#[derive(Clone, Copy, Drop)]
 pub struct Limits {
     /// How many harts there are, 1 to 8.
     pub harts: u8,
@@ -26,7 +26,7 @@ impl Limits {
 }
 
 /// How a run ends.
-#[derive(Clone, Copy, Debug, PartialEq, Eq, Drop)]
+#[derive(Clone, Copy, PartialEq, Eq, Drop)]
 pub enum End {
     /// The process exited with this status.
     Exit(u8),

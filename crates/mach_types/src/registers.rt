@@ -4,7 +4,7 @@ ghost use Rattle.std.specs.Prelude.{◌≡◌, slice_index, slice_set};
 ghost use Rattle.mach_types.specs.Registers.{register, with_register, no_registers};
 
 /// The integer registers x0 to x31. x0 is 0.
-#[derive(Clone, Copy, Debug, PartialEq, Eq, Drop)]
+#[derive(Clone, Copy, PartialEq, Eq, Drop)]
 pub struct Regs {
     /// Register n stands at index n.
     pub x: [u64; 32],

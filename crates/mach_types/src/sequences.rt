@@ -3,7 +3,7 @@
 ghost use Rattle.std.specs.Prelude.{◌≡◌};
 
 /// A registered rseq area: its address and the signature that it was registered with (rseq(2)).
-#[derive(Clone, Copy, Debug, PartialEq, Eq, Drop)]
+#[derive(Clone, Copy, PartialEq, Eq, Drop)]
 pub struct Area {
     /// The address of the `struct rseq`.
     pub at: u64,
@@ -37,7 +37,7 @@ pub const DESCRIPTOR_SIZE: u64 = 32;
 pub const RSEQ_FLAG_UNREGISTER: u32 = 1;
 
 /// A descriptor: the `struct rseq_cs` that an area's `rseq_cs` points to.
-#[derive(Clone, Copy, Debug, PartialEq, Eq, Drop)]
+#[derive(Clone, Copy, Drop)]
 pub struct Descriptor {
     /// `version`, at 0.
     pub version: u32,
@@ -52,7 +52,7 @@ pub struct Descriptor {
 }
 
 /// A restartable sequence.
-#[derive(Clone, Copy, Debug, PartialEq, Eq, Drop)]
+#[derive(Clone, Copy, PartialEq, Eq, Drop)]
 pub struct Seq {
     /// The address of its first instruction.
     pub start: u64,
@@ -74,7 +74,7 @@ impl Seq {
 }
 
 /// What is wrong with an area, or with the descriptor that it names.
-#[derive(Clone, Copy, Debug, PartialEq, Eq, Drop)]
+#[derive(Clone, Copy, PartialEq, Eq, Drop)]
 pub enum BadWhy {
     /// `rseq_cs` or `flags` of the area can't be read, or `rseq_cs` can't be written where it must be
     /// cleared.
@@ -96,7 +96,7 @@ pub enum BadWhy {
 }
 
 /// What an area names for a thread at a pc.
-#[derive(Clone, Copy, Debug, PartialEq, Eq, Drop)]
+#[derive(Clone, Copy, PartialEq, Eq, Drop)]
 pub enum Named {
     /// No sequence: the pointer is 0.
     Nothing,
@@ -107,7 +107,7 @@ pub enum Named {
 }
 
 /// What the interruption of a thread comes to.
-#[derive(Clone, Copy, Debug, PartialEq, Eq, Drop)]
+#[derive(Clone, Copy, PartialEq, Eq, Drop)]
 pub enum Outcome {
     /// Nothing happens: the thread has no area, or its area names nothing.
     Nothing,

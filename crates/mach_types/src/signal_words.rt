@@ -1,7 +1,7 @@
 //! Words of signals: what is done when one comes, and what a thread has of them.
 
 /// What is done when a signal comes (sigaction(2)).
-#[derive(Clone, Copy, Debug, PartialEq, Eq, Drop)]
+#[derive(Clone, Copy, Drop)]
 pub struct Action {
     /// The address of the handler, or 0 for the default, or 1 to ignore the signal.
     pub at: u64,
@@ -28,7 +28,7 @@ impl Default for Action {
 }
 
 /// What a live thread has of signals. In both sets bit s - 1 is signal s.
-#[derive(Clone, Copy, Debug, PartialEq, Eq, Drop)]
+#[derive(Clone, Copy, Drop)]
 pub struct ThreadSignals {
     /// The thread's number.
     pub tid: u32,

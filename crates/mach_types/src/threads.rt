@@ -4,7 +4,7 @@ use crate::events::Hart;
 use crate::registers::Regs;
 
 /// A thread's file: its integer registers, and the address of its next instruction.
-#[derive(Clone, Copy, Debug, PartialEq, Eq, Drop)]
+#[derive(Clone, Copy, PartialEq, Eq, Drop)]
 pub struct Saved {
     /// The integer registers.
     pub file: Regs,
@@ -13,7 +13,7 @@ pub struct Saved {
 }
 
 /// The state of a live thread.
-#[derive(Clone, Copy, Debug, PartialEq, Eq, Drop)]
+#[derive(Clone, Copy, PartialEq, Eq, Drop)]
 pub enum ThreadState {
     /// It may begin to run.
     Ready,

@@ -4,7 +4,7 @@ ghost use Rattle.std.specs.Prelude.{◌≡◌, ℕ, Bool, true, Option, Some, No
 ghost use Rattle.mach_types.specs.Bytes.{IsAccessSize, word_at, each_byte, after_write};
 
 /// A store of the low `size` bytes of `value`, the lowest first, from the address `at` on.
-#[derive(Clone, Copy, Debug, PartialEq, Eq, Drop)]
+#[derive(Clone, Copy, PartialEq, Eq, Drop)]
 pub struct Store {
     /// The address of the first byte.
     pub at: u64,
@@ -18,7 +18,7 @@ pub struct Store {
 pub const STORE_BUFFER_CAPACITY: u8 = 8;
 
 /// One write that enters memory.
-#[derive(Clone, Copy, Debug, PartialEq, Eq, Drop)]
+#[derive(Clone, Copy, PartialEq, Eq, Drop)]
 pub enum Write {
     /// The bytes of a store.
     Stored(Store),

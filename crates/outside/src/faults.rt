@@ -13,7 +13,7 @@ use thiserror::Error;
 pub struct Failed;
 
 /// Why a file wasn't started.
-#[derive(Clone, Copy, Debug, PartialEq, Eq, Error)]
+#[derive(Clone, Copy, Debug, Error)]
 pub enum StartFault {
     /// The device failed, and the count of faults of the name rose.
     #[error("the device failed")]

@@ -4,7 +4,7 @@ use crate::traits::Gate;
 use mach_types::Hart;
 
 /// A gate that lets every worker pass at once.
-#[derive(Clone, Copy, Debug, Default, PartialEq, Eq)]
+#[derive(Clone, Copy, Default)]
 pub struct OpenGate;
 
 impl Gate for OpenGate {

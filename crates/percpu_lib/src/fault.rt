@@ -7,7 +7,7 @@ use std::alloc::AllocError;
 use thiserror::Error;
 
 /// Why a block isn't emitted, or not wholly.
-#[derive(Clone, Copy, Debug, PartialEq, Eq, Drop, Error)]
+#[derive(Clone, Copy, Debug, Drop, Error)]
 pub enum EmitFault {
     /// One of the block's labels isn't there or is bound.
     #[error("a label of the block isn't free")]

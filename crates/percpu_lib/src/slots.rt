@@ -4,7 +4,7 @@
 ///
 /// The three registers are from 1 to 31, differ, and are none of 5, 6, 7 and 28 to 31, which a block may
 /// change.
-#[derive(Clone, Copy, Debug, PartialEq, Eq, Drop)]
+#[derive(Clone, Copy, Drop)]
 pub struct Slots {
     /// The register that holds the address of the thread's area (`struct rseq`).
     pub area: u8,

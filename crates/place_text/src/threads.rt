@@ -13,7 +13,7 @@ use signals::Signals;
 use std::alloc::{AllocError, Global};
 
 /// A live thread and its state.
-#[derive(Clone, Copy, Debug, PartialEq, Eq, Drop)]
+#[derive(Clone, Copy, Drop)]
 pub struct LiveThread {
     /// The thread.
     pub tid: Tid,

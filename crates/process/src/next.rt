@@ -18,7 +18,7 @@ use rv_exec::effect;
 use rv_inst::{Effect, asks};
 
 /// What the next instruction of a thread asks for, where it was fetched and has a row, and the signal of its fault.
-#[derive(Clone, Copy, Debug, Drop)]
+#[derive(Clone, Copy, Drop)]
 pub struct Next {
     /// What it asks for; None where it was not fetched, or has no row.
     pub effect: Option<Effect>,
@@ -27,7 +27,7 @@ pub struct Next {
 }
 
 /// The word at a pc, where it was fetched, and what it asks for, where it has a row.
-#[derive(Clone, Copy, Debug, Drop)]
+#[derive(Clone, Copy, Drop)]
 struct Instruction {
     word: Option<u32>,
     effect: Option<Effect>,

@@ -10,7 +10,7 @@ use mach_types::address_space::USER_END;
 use mach_types::{Area, Descriptor, UserMem};
 
 /// The bytes at which the check of an area looks: of the area the pointer and the flags, always.
-#[derive(Clone, Copy, Debug, PartialEq, Eq, Drop)]
+#[derive(Clone, Copy, PartialEq, Eq, Drop)]
 pub struct Lookups {
     /// The address of the area.
     pub area: u64,

@@ -7,7 +7,7 @@ use std::alloc::AllocError;
 use thiserror::Error;
 
 /// Why a branch isn't taken in, or the code isn't finished.
-#[derive(Clone, Copy, Debug, PartialEq, Eq, Drop, Error)]
+#[derive(Clone, Copy, Debug, Drop, Error)]
 pub enum AsmFault {
     /// There is no label of this number, or it is used and was never bound.
     #[error("label {0} is unbound")]

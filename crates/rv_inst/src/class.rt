@@ -1,7 +1,7 @@
 //! The class of an instruction: what it asks of its hart and of memory before it is executed.
 
 /// Bytes of memory that an instruction reads or writes.
-#[derive(Clone, Copy, Debug, PartialEq, Eq, Drop)]
+#[derive(Clone, Copy, Drop)]
 pub struct Access {
     /// The address of the first byte.
     pub at: u64,
@@ -16,7 +16,7 @@ pub struct Access {
 }
 
 /// What an instruction asks of its hart and of memory.
-#[derive(Clone, Copy, Debug, PartialEq, Eq, Drop)]
+#[derive(Clone, Copy, Drop)]
 pub struct Asks {
     /// The bytes that it reads or writes; None where it touches no memory.
     pub access: Option<Access>,

@@ -1,7 +1,7 @@
 //! What an instruction asks of its hart.
 
 /// The operation of an AMO: what it makes of the value in memory and that of `rs2`.
-#[derive(Clone, Copy, Debug, PartialEq, Eq, Drop)]
+#[derive(Clone, Copy, PartialEq, Eq, Drop)]
 pub enum AmoOp {
     /// The value of `rs2`.
     Swap,
@@ -27,7 +27,7 @@ pub enum AmoOp {
 ///
 /// Sizes are 1, 2, 4 or 8 bytes; a value to be written is the low `size` bytes of its register. Where an
 /// effect has no pc of its own and doesn't stop the hart, the next instruction is 4 bytes further.
-#[derive(Clone, Copy, Debug, PartialEq, Eq, Drop)]
+#[derive(Clone, Copy, PartialEq, Eq, Drop)]
 pub enum Effect {
     /// `rd` becomes `value`, and the hart goes on at `pc`. A branch has `rd` 0 and `value` 0.
     Next {

@@ -3,7 +3,7 @@
 use mach_types::{Choice, Hart, Tid};
 
 /// What a line of a script asks for.
-#[derive(Clone, Copy, Debug, PartialEq, Eq, Drop)]
+#[derive(Clone, Copy, PartialEq, Eq, Drop)]
 pub struct Line {
     /// The hart that is to make the event.
     pub hart: Hart,

@@ -9,7 +9,7 @@ use crate::parsing;
 use std::marker::Model;
 
 /// The line of this number, counted from 1, is malformed.
-#[derive(Clone, Copy, Debug, PartialEq, Eq, Drop)]
+#[derive(Clone, Copy, PartialEq, Eq, Drop)]
 pub struct BadLine(pub u64);
 
 /// Reads the lines of a script in order.

@@ -59,7 +59,7 @@ pub struct Caller {
 }
 
 /// What a call comes to.
-#[derive(Clone, Copy, Debug, PartialEq, Eq, Drop)]
+#[derive(Clone, Copy, PartialEq, Eq, Drop)]
 pub enum CallEnd {
     /// The thread goes on with this answer.
     Return(i64),

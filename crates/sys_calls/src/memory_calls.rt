@@ -43,7 +43,7 @@ const MAP_STACK: u64 = 0x2_0000;
 const IGNORED_FLAGS: u64 = MAP_NORESERVE + MAP_POPULATE + MAP_STACK;
 
 /// Pages one behind the other: so many from a first one on.
-#[derive(Clone, Copy, Debug, PartialEq, Eq, Drop)]
+#[derive(Clone, Copy, Drop)]
 pub struct PageSpan {
     /// The number of the first page.
     pub first: u64,

@@ -13,7 +13,7 @@ use mach_types::{Area, MOST_THREADS, Tid};
 pub const MOST_AREAS: usize = MOST_THREADS as usize;
 
 /// A registered area, with its thread.
-#[derive(Clone, Copy, Debug, PartialEq, Eq, Drop)]
+#[derive(Clone, Copy, Drop)]
 pub struct RegisteredArea {
     /// The thread.
     pub tid: Tid,

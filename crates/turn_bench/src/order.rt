@@ -3,7 +3,7 @@ ghost use Rattle.std.specs.Prelude.{◌≡◌, ◌≤◌, ◌^◌, ◌<◌, [], 
 ghost use Rattle.turn_bench.specs.Orders.{IsNumber, IsOrder, texts, value};
 
 /// So many workers, of which each makes so many entries.
-#[derive(Clone, Copy, Debug, Drop)]
+#[derive(Clone, Copy, Drop)]
 pub struct Order {
     /// From 1 to 8.
     pub workers: u8,

@@ -93,7 +93,7 @@ fn keeps_labels(rt: HostRuntime) -> Result<(), Fail> {
     for (label, place) in &PLACES {
         assert!(rt; asm.place(*label) == *place, "label {label}");
     }
-    assert!(rt; asm.branch(BEQ, 3) == Err(AsmFault::UnboundLabel(3)));
+    assert!(rt; matches!(asm.branch(BEQ, 3), Err(AsmFault::UnboundLabel(3))));
     let bytes = asm.finish(rt.alloc())?;
     assert!(rt; bytes.len() == 12);
     Ok(())

@@ -70,7 +70,7 @@ impl Tally {
 
 impl Meaning for Tally {
     ghost use Rattle.std.specs.Prelude.{ℕ};
-    ghost use Rattle.hart_workers.specs.Tallies.{next_of, ended_of};
+    ghost use Rattle.worker_tests.specs.Tallies.{next_of, ended_of};
 
     ghost Setting = { ℕ × ℕ };
 

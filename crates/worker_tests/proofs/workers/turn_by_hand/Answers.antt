@@ -1,10 +1,10 @@
 use Rattle.std.proofs.Common.{◌≡◌, List, sym, ap, ◌∙◌, subst, arith}
 use Rattle.mach_types.specs.declared.events.Entry.{Entry}
 use Rattle.machine_lock.specs.Logs.{Follows}
-use Rattle.hart_workers.specs.Tallies.{next_of}
+use Rattle.worker_tests.specs.Tallies.{next_of}
 use Rattle.machine_lock.proofs.Laws.{follows_self}
 use Rattle.std.proofs.lemmas.List.{take_all}
-use Rattle.hart_workers.proofs.tests.turn_by_hand.Goals as goal
+use Rattle.worker_tests.proofs.workers.turn_by_hand.Goals as goal
 
 pub give_turn-requires-clause-legal : goal.give_turn-requires-clause-legal
 give_turn-requires-clause-legal g c =

@@ -1,17 +1,18 @@
+//! Tests of `hart_workers`: a tally that workers drive.
+
 ghost use Rattle.std.specs.Prelude.{◌≡◌, ◌≤◌, false};
 ghost use Rattle.machine_lock.specs.Turnstiles.{IsOf};
 
-use super::*;
-use mach_types::Hart;
+use crate::tally::Tally;
+use hart_workers::drive;
+use mach_types::Entry;
 use machine_lock::{Pass, Turnstile};
 use outside::OpenGate;
 use std::alloc::{AllocError, Global};
+use std::process::Abort;
 use std::sync::Wait;
-use std::test::*;
+use std::test::Fail;
 use std::thread::Threads;
-use tally::Tally;
-
-mod tally;
 
 /// A tally of so many entries, after workers for so many harts drove it to its end.
 fn driven<R: Threads + Wait + Sync>(
@@ -46,19 +47,23 @@ fn a_turn_is_taken_and_given_by_hand(rt: HostRuntime) -> Result<(), Fail> {
     Ok(())
 }
 
-#[test]
-fn eight_workers_make_each_entry_once_and_in_order(rt: HostRuntime) -> Result<(), Fail> {
-    let tally = driven(rt.alloc(), &rt, 100_000, 8)?;
-    let entries = tally.entries();
-    assert_eq!(rt; entries.len(), 100_000);
+/// How many entries are of each hart. The entries must come in order.
+fn counts_of(rt: &impl Abort, entries: &[Entry]) -> [usize; 8] {
     let mut own = [0usize; 8];
     for i in 0..entries.len() {
         let hart = usize::from(entries[i].hart.0);
         assert!(rt; hart < 8 && entries[i].pc == i as u64);
         own[hart] = own[hart].wrapping_add(1);
     }
-    for count in own {
-        assert_eq!(rt; count, 12_500);
+    own
+}
+
+#[test]
+fn eight_workers_make_each_entry_once_and_in_order(rt: HostRuntime) -> Result<(), Fail> {
+    let tally = driven(rt.alloc(), &rt, 100_000, 8)?;
+    assert!(rt; tally.entries().len() == 100_000);
+    for count in &counts_of(&rt, tally.entries()) {
+        assert!(rt; *count == 12_500);
     }
     Ok(())
 }

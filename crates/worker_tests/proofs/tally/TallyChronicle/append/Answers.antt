@@ -1,9 +1,9 @@
 use Rattle.std.proofs.Common.{subst}
 use Rattle.machine_lock.specs.Logs.{Advances}
-use Rattle.hart_workers.specs.Tallies.{next_of, ended_of}
+use Rattle.worker_tests.specs.Tallies.{next_of, ended_of}
 use Rattle.machine_lock.proofs.Laws.{adds_none}
-use Rattle.hart_workers.proofs.TallyLemmas.{adds_made, adds_now_none, adds_ended}
-use Rattle.hart_workers.proofs.tests.tally.TallyChronicle.append.Goals as goal
+use Rattle.worker_tests.proofs.TallyLemmas.{adds_made, adds_now_none, adds_ended}
+use Rattle.worker_tests.proofs.tally.TallyChronicle.append.Goals as goal
 
 pub returns-then-not-stretch-clause-appended : goal.returns-then-not-stretch-clause-appended
 returns-then-not-stretch-clause-appended c = adds_none (next_of c.args.self.now.total c.args.self.now.harts) c.args.hart c.args.self.now.entries.items
