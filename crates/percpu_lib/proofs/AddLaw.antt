@@ -1,5 +1,5 @@
 -- A sequence of an add block is one run of its thread alone, and so adds once or not at all.
-use Rattle.std.proofs.Common.{◌≡◌, ◌≢◌, ℕ, ◌+◌, ◌*◌, ◌<◌, ◌≤◌, ◌%◌, ◌^◌, List, [], ◌∷◌, ◌++◌, refl, sym, ap, ◌∙◌}
+use Rattle.std.proofs.Common.{◌≡◌, ◌≢◌, ℕ, ◌+◌, ◌<◌, ◌≤◌, ◌%◌, ◌^◌, List, [], ◌∷◌, ◌++◌, refl, sym, ap, ◌∙◌}
 use Rattle.std.proofs.Common.{arith, Bool, true, false, ◌&&◌, ◌||◌, eqb, ltb, Option, Some, inl, inr, ◌⊎◌}
 use Rattle.std.proofs.Common.{append-nil, pos, negsuc}
 use Rattle.std.proofs.lemmas.Bool.{false≢true, le-leb, lt-ltb}

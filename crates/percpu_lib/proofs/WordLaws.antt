@@ -1,5 +1,5 @@
 -- What the instructions of blocks do to the pc and to registers, and how a word of a block leads on.
-use Rattle.std.proofs.Common.{◌≡◌, ◌≢◌, ℕ, ◌+◌, ◌*◌, ◌-◌, ◌%◌, ◌^◌, ◌<◌, ◌⊎◌, inl, inr}
+use Rattle.std.proofs.Common.{◌≡◌, ◌≢◌, ℕ, ◌+◌, ◌*◌, ◌%◌, ◌^◌, ◌<◌, ◌⊎◌, inl, inr}
 use Rattle.std.proofs.Common.{refl, sym, ap, ◌∙◌, subst, arith, Bool, true, false, not, cond, eqb}
 use Rattle.std.proofs.Common.{length, Option, ℤ, pos, negsuc}
 use Rattle.std.proofs.lemmas.Bool.{false≢true}
