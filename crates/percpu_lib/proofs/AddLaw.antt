@@ -1,5 +1,5 @@
 -- A sequence of an add block is one run of its thread alone, and so adds once or not at all.
-use Rattle.std.proofs.Common.{◌≡◌, ◌≢◌, ℕ, ◌+◌, ◌*◌, ◌<◌, ◌≤◌, ◌%◌, ◌^◌, List, [], ◌∷◌, ◌++◌, refl, sym, ap, ◌∙◌}
+use Rattle.std.proofs.Common.{◌≡◌, ◌≢◌, ℕ, ◌+◌, ◌<◌, ◌≤◌, ◌%◌, ◌^◌, List, [], ◌∷◌, ◌++◌, refl, sym, ap, ◌∙◌}
 use Rattle.std.proofs.Common.{arith, Bool, true, false, ◌&&◌, ◌||◌, eqb, ltb, Option, Some, inl, inr, ◌⊎◌}
 use Rattle.std.proofs.Common.{append-nil, pos, negsuc}
 use Rattle.std.proofs.lemmas.Bool.{false≢true, le-leb, lt-ltb}
@@ -27,10 +27,14 @@ use Rattle.block_model.specs.Run.{IsRunHistory}
 use Rattle.block_model.specs.Setting.{Setting}
 use Rattle.percpu_lib.specs.Adds.{IsAddPlace, IsNoAdd, IsWholeAdd, add_block, add_of, add_range, cell_at}
 use Rattle.percpu_lib.specs.Adds.{cell_seen, cell_store}
+use Rattle.percpu_lib.specs.Forms.{IsBlockPlace}
+use Rattle.percpu_lib.specs.Uses.{add_form, cells_of}
 use Rattle.percpu_lib.specs.Words.{AreHeld, AreSlots}
 use Rattle.percpu_lib.specs.declared.slots.Slots.{Slots}
 use Rattle.alone_laws.proofs.StoredWords.{among_low, beside_word, some_word, stored_word}
+use Rattle.percpu_lib.proofs.AddCode.{add_formed}
 use Rattle.percpu_lib.proofs.BlockWords.{end_outside, or_true}
+use Rattle.percpu_lib.proofs.Courses.{HasCourse}
 use Rattle.percpu_lib.proofs.CellPath.{IsCellStart, in_range, to_cell}
 
 module _ (s : Setting) (p : Slots) (at : ℕ) (area : Area) (cells h t : ℕ) (begun : History)
@@ -222,7 +226,7 @@ module _ (s : Setting) (p : Slots) (at : ℕ) (area : Area) (cells h t : ℕ) (b
         gone (inl back) = not_yet back.1
         gone (inr both) = absurd (other (same_pc ∙ both.0))
 
-  pub adds_once : (before : History) (q : Sequence) → IsRunHistory s before
+  adds_once : (before : History) (q : Sequence) → IsRunHistory s before
       → IsFairSince s block h t begun before → sequence_on s h before ≡ Some q → q.begun ≡ begun
       → ((file s t q.reached).pc ≡ at + 44 → IsWholeAdd s p cells h t begun q.reached)
       × ((file s t q.reached).pc ≢ at + 44 → IsNoAdd s cells h t begun q.reached)
@@ -232,11 +236,11 @@ module _ (s : Setting) (p : Slots) (at : ℕ) (area : Area) (cells h t : ℕ) (b
       (whole q.reached x.0 x.1 x.2, by_place q.reached x.0 x.1 x.2 (is_inside (add_range at) x.2.at) refl)
 
   -- it is one run of its thread alone
-  pub add_sole : IsSole (code_of s.program.pages) seen (alone_from s h t begun 0) block
+  add_sole : IsSole (code_of s.program.pages) seen (alone_from s h t begun 0) block
   add_sole = sole s block h t begun is_scratch Inside Left keeps in_bytes points_in points_out
 
   -- out of the range its thread is at the post-commit address, or at the retry label
-  pub out_at : (before : History) (q : Sequence) → IsRunHistory s before
+  out_at : (before : History) (q : Sequence) → IsRunHistory s before
       → IsFairSince s block h t begun before → sequence_on s h before ≡ Some q → q.begun ≡ begun
       → is_inside (add_range at) (file s t q.reached).pc ≡ false
       → ((file s t q.reached).pc ≡ at + 44) ⊎ ((file s t q.reached).pc ≡ at)
@@ -252,9 +256,9 @@ module _ (s : Setting) (p : Slots) (at : ℕ) (area : Area) (cells h t : ℕ) (b
       by_left to temps es same (inr both) = inl (same ∙ both.0)
 
   -- a thread that was on the chosen processor is inside after so many instructions, or at the post-commit address
-  pub gone_on : eqb h (register (file s t begun).file 5) ≡ true → (n : ℕ)
+  gone_on : eqb h (register (file s t begun).file 5) ≡ true → (n : ℕ)
       → StaysInside (code_of s.program.pages) seen (alone_from s h t begun 0) (add_range at) n
-      → ((is_inside (add_range at) (alone_from s h t begun n).file.pc ≡ true) × (4 * n < 28))
+      → ((is_inside (add_range at) (alone_from s h t begun n).file.pc ≡ true) × (n < 7))
       ⊎ ((alone_from s h t begun n).file.pc ≡ at + 44)
   gone_on chosen n begin = by_place (is_inside (add_range at) on.at) refl
     where
@@ -267,10 +271,48 @@ module _ (s : Setting) (p : Slots) (at : ℕ) (area : Area) (cells h t : ℕ) (b
       by_left to temps es same (inr both) = same ∙ both.0
 
       by_place : (c : Bool) → is_inside (add_range at) on.at ≡ c
-          → ((is_inside (add_range at) (alone_from s h t begun n).file.pc ≡ true) × (4 * n < 28))
+          → ((is_inside (add_range at) (alone_from s h t begun n).file.pc ≡ true) × (n < 7))
           ⊎ ((alone_from s h t begun n).file.pc ≡ at + 44)
       by_place true here =
           let low = place.begins.apart.low in
           let inside = ap (is_inside (add_range at)) on.stands.pc ∙ here in
-          inl (inside, few_inside w (alone_from s h t begun 0) keeps place.pc (omega arith) n begin inside)
+          let few = few_inside w (alone_from s h t begun 0) keeps place.pc (omega arith) n begin inside in
+          inl (inside, omega arith)
       by_place false out = inr (by_left on.at on.temps on.stores on.stands.pc (on.left out))
+
+-- what it needs at a place where it is about to begin
+add_place : (s : Setting) (p : Slots) (at : ℕ) (area : Area) (h t : ℕ) (begun : History)
+    → IsBlockPlace s (add_form p) at area h t begun → IsAddPlace s p at area (cells_of s p t begun) h t begun
+add_place s p at area h t begun place = record {
+  runs = place.runs;
+  pc = place.pc;
+  begins = record {
+    apart = record {
+      aligned = place.aligned;
+      low = place.low;
+      low_area = place.low_area;
+      few = place.few;
+      cell = place.apart;
+    };
+    area_is = place.area_is;
+    cells_is = refl;
+  };
+  many = place.many;
+  points = place.points;
+  on_cpu = place.on_cpu;
+}
+
+-- the course of an add block
+pub add_course : (p : Slots) → HasCourse (add_form p)
+add_course p = record {
+  formed = add_formed p;
+  course = λ s at area h t begun held slots place.
+      let cells = cells_of s p t begun in
+      let there = add_place s p at area h t begun place in
+      record {
+        sole = add_sole s p at area cells h t begun held slots there;
+        once = adds_once s p at area cells h t begun held slots there;
+        out = out_at s p at area cells h t begun held slots there;
+        gone_on = gone_on s p at area cells h t begun held slots there;
+      };
+}

@@ -23,7 +23,7 @@ use Rattle.percpu_lib.specs.Pushes.{push_steps}
 use Rattle.percpu_lib.specs.Words.{AreHeld, lower, upper}
 use Rattle.percpu_lib.specs.declared.lines.Line.{Line}
 use Rattle.percpu_lib.specs.declared.slots.Slots.{Slots}
-use Rattle.percpu_lib.proofs.BlockWords.{block_aligned, held_aligned}
+use Rattle.percpu_lib.proofs.BlockWords.{held_aligned}
 
 -- an instruction that no sequence has; and one with which a sequence begins
 abbrev is_early : Inst → Bool
@@ -129,7 +129,10 @@ module _ (pages : List ImagePage) (p : Slots) (at : ℕ) (area : Area) (x : Plac
   by_word (suc (suc (suc (suc j)))) k lt same within = absurd (omega arith)
 
   aligned : at % 4 ≡ 0
-  aligned = block_aligned pages p at held
+  aligned =
+      let i : Inst = inst.Lw 5 p.area (pos 0) in
+      let first = held_aligned pages (at + 4 * 0) i (held.holds 0 i refl) in
+      omega (arith, first)
 
   start_aligned : start % 4 ≡ 0
   start_aligned =

@@ -36,7 +36,8 @@ use Rattle.alone_laws.proofs.OpenSequences.{still_open}
 use Rattle.alone_laws.proofs.Sequences.{exec_kind}
 use Rattle.alone_laws.proofs.StoredWords.{among_low}
 use Rattle.percpu_lib.specs.Adds.{IsCellApart, add_of, add_range, cell_at, placed_add}
-use Rattle.percpu_lib.specs.Uses.{AreAddUsed, IsAddUsed, IsAtStart, cells_of}
+use Rattle.percpu_lib.specs.Forms.{IsAtStart}
+use Rattle.percpu_lib.specs.Uses.{AreAddUsed, IsAddUsed, cells_of}
 use Rattle.percpu_lib.specs.declared.slots.Slots.{Slots}
 
 -- BOOLS
@@ -569,10 +570,10 @@ module _ (s : Setting) (p : Slots) (at : ℕ) (area : Area) (t : ℕ) where
     abbrev Fair : ℕ → History → Type 0
     Fair h begun = IsFair s (add_of p at area (cells_of s p t begun) h) h t e before
 
-    fair_first : (h : ℕ) (begun : History) → IsAtStart s at h t begun → before ≡ begun → Fair h begun
+    fair_first : (h : ℕ) (begun : History) → IsAtStart s (at + 16) h t begun → before ≡ begun → Fair h begun
     fair_first h begun start here =
-        let there_now : IsAtStart s at h t before =
-        subst (λ (x : History). IsAtStart s at h t x) (sym here) start in
+        let there_now : IsAtStart s (at + 16) h t before =
+        subst (λ (x : History). IsAtStart s (at + 16) h t x) (sym here) start in
         let test = (begun_is there_now.pc).0 in
         let runs = (and_parts (runs_there before) _ test).0 in
         subst (λ (x : History). Fair h x) here

@@ -12,11 +12,11 @@ use Rattle.alone_laws.specs.Blocks.{Block, among}
 use Rattle.alone_laws.specs.Spans.{seen_at}
 use Rattle.alone_laws.specs.Uses.{Placed}
 use Rattle.block_model.specs.declared.acts.SeqEnd.{SeqEnd}
-use Rattle.block_model.specs.declared.acts.SeqEnd.TheVariants as ends
 use Rattle.block_model.specs.History.{History, file, running, stores}
 use Rattle.block_model.specs.Setting.{Setting}
 use Rattle.mach_types.specs.declared.sequences.Area.{Area}
 use Rattle.percpu_lib.specs.BlockLines.{block_lines}
+use Rattle.percpu_lib.specs.Forms.{IsLeftFrom}
 use Rattle.percpu_lib.specs.Words.{lower, upper}
 use Rattle.percpu_lib.specs.declared.lines.Line.{Line}
 use Rattle.percpu_lib.specs.declared.lines.Line.TheVariants as line
@@ -139,8 +139,6 @@ pub record IsAddPlace (s : Setting) (p : Slots) (at : ℕ) (area : Area) (cells 
   pub points : word_at (seen_at s h begun) (area.at + 8) 8 ≡ Some p.table
   pub on_cpu : word_at (seen_at s h begun) (area.at + 4) 4 ≡ Some h
 
--- how a sequence of an add block ends whose thread is at this pc after its last event: 'left' where that is
--- the post-commit address; and where it ends 'left' its thread is there, or back at the retry label
-pub record IsLeftAt (at last : ℕ) (end : SeqEnd) : Type 0 where
-  pub committed : last ≡ at + 44 → end ≡ ends.Left
-  pub left : end ≡ ends.Left → (last ≡ at + 44) ⊎ (last ≡ at)
+-- how a sequence of an add block ends whose thread is at this pc after its last event
+abbrev pub IsLeftAt : ℕ → ℕ → SeqEnd → Type 0
+IsLeftAt at last end = IsLeftFrom (at + 44) at last end

@@ -3,6 +3,7 @@ pub mod Allocs
 pub mod Beside
 pub mod BlockLines
 pub mod Files
+pub mod Forms
 pub mod Frees
 pub mod Lines
 pub mod Pops

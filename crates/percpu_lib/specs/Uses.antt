@@ -1,70 +1,48 @@
--- How a program uses an add block: what is asked of a setting and a log, one condition at each event, read
--- back from it.
-use Rattle.std.specs.Prelude.{ℕ, ◌≡◌, ◌≢◌, ◌+◌, ◌^◌, ◌<◌, ◌≤◌, List, [], ◌∷◌, Some}
-use Rattle.std.specs.Prelude.{Contains}
+-- How a program uses an add block.
+use Rattle.std.specs.Prelude.{ℕ, ◌≡◌, ◌+◌, List, Some}
 use Rattle.mach_types.specs.Registers.{register}
 use Rattle.mach_types.specs.declared.sequences.Area.{Area}
-use Rattle.block_model.specs.Acts.{Sequence, sequence_on}
-use Rattle.block_model.specs.History.{Event, History, file, running}
-use Rattle.block_model.specs.Setting.{Setting}
-use Rattle.alone_laws.specs.Areas.{ProcessorKept}
-use Rattle.alone_laws.specs.Blocks.{IsFair, IsOpen}
+use Rattle.alone.specs.Temps.{is_scratch}
 use Rattle.alone_laws.specs.Entering.{IsIn}
-use Rattle.alone_laws.specs.Spans.{code_of}
-use Rattle.alone_laws.specs.Pointers.{AlwaysDescribed, LiesBeside, PointerKept}
-use Rattle.alone_laws.specs.Uses.{AreUsed, Placed}
-use Rattle.percpu_lib.specs.Adds.{IsCellApart, IsWholeAdd, add_block, add_of, add_range, placed_add}
-use Rattle.percpu_lib.specs.Words.{AreHeld, AreSlots}
+use Rattle.alone_laws.specs.Uses.{Placed}
+use Rattle.block_model.specs.Acts.{Sequence, sequence_on}
+use Rattle.block_model.specs.History.{Event, History, file}
+use Rattle.block_model.specs.Setting.{Setting}
+use Rattle.percpu_lib.specs.Adds.{IsCellApart, IsNoAdd, IsWholeAdd, add_block, add_bytes, add_range, placed_add}
+use Rattle.percpu_lib.specs.Forms.{AreBlockUsed, Form, HoldsBlock, IsBlockUsed, SharesAreaWith}
 use Rattle.percpu_lib.specs.declared.slots.Slots.{Slots}
-
--- thread t stands at the start of the sequence of an add block, on hart h
-pub record IsAtStart (s : Setting) (at h t : ℕ) (begun : History) : Type 0 where
-  pub runs : running s h begun ≡ Some t
-  pub pc : (file s t begun).pc ≡ at + 16
 
 -- the address of the data of processor 0, as thread t has it in its register
 abbrev pub cells_of : Setting → Slots → ℕ → History → ℕ
 cells_of s p t before = register (file s t before).file p.cells
 
--- an event: as long as a sequence of the block is open, or about to begin, on some hart, its area is the
--- thread's, its descriptor stands, its bytes can be used, and nobody else writes them; and where one is about
--- to begin the cell of the hart lies apart from the area
-pub record IsAddUsed (s : Setting) (p : Slots) (at : ℕ) (area : Area) (t : ℕ) (e : Event) (before : History)
-    : Type 0 where
-  pub fair : (h : ℕ) (begun : History) → IsAtStart s at h t begun → IsOpen s h begun before
-      → IsFair s (add_of p at area (cells_of s p t begun) h) h t e before
-  pub begins : (h : ℕ) → IsAtStart s at h t before → IsCellApart area.at (cells_of s p t before) h
+-- the add block: it uses the area and the cell of the hart, which lies apart from the area
+abbrev pub add_form : Slots → Form
+add_form p = record {
+  slots = p;
+  words = add_block p;
+  first = 4;
+  inside = 7;
+  may = is_scratch;
+  bytes = λ s area h t begun. add_bytes area.at (cells_of s p t begun) h;
+  Apart = λ s area h t begun. IsCellApart area.at (cells_of s p t begun) h;
+  Whole = λ s h t begun reached. IsWholeAdd s p (cells_of s p t begun) h t begun reached;
+  Partial = λ s h t begun reached. IsNoAdd s (cells_of s p t begun) h t begun reached;
+}
 
--- every event of a history
+-- an add block at an event, at every event of a history, and as it stands in a program and is used so
+abbrev pub IsAddUsed : Setting → Slots → ℕ → Area → ℕ → Event → History → Type 0
+IsAddUsed s p at area t e before = IsBlockUsed s (add_form p) at area t e before
+
 abbrev pub AreAddUsed : Setting → Slots → ℕ → Area → ℕ → History → Type 0
-AreAddUsed s p at area t [] = Unit {0}
-AreAddUsed s p at area t (e ∷ before) = AreAddUsed s p at area t before × IsAddUsed s p at area t e before
+AreAddUsed s p at area t history = AreBlockUsed s (add_form p) at area t history
 
--- an add block that stands in the program of a setting, at addresses of users, and is used so in a log: by
--- its thread (AreUsed), with its data (AreAddUsed), and with the processor's words of its area
--- (ProcessorKept)
-pub record HoldsAdd (s : Setting) (history : History) (p : Slots) (at : ℕ) (area : Area) (t : ℕ) : Type 0
-  where
-    pub stands : AreHeld (code_of s.program.pages) at (add_block p)
-    pub slots : AreSlots p
-    pub some_table : p.table ≢ 0
-    pub low_table : p.table < 0x7FFFF800
-    pub low : at < 2 ^ 37
-    pub low_area : area.at + 32 ≤ 2 ^ 38
-    pub used : AreAddUsed s p at area t history
-    pub processor : ProcessorKept s t area history
-    pub few : s.limits.harts ≤ 8
-    pub uses : AreUsed s (placed_add p at area) t history
+abbrev pub HoldsAdd : Setting → History → Slots → ℕ → Area → ℕ → Type 0
+HoldsAdd s history p at area t = HoldsBlock s history (add_form p) at area t
 
--- thread t uses its area for an add block and for others: from its first registration on nobody writes the area's
--- pointer but the thread's instructions just before the starts of these blocks, and the kernel as that of the
--- thread; wherever the thread runs in the add block before its sequence their descriptors stand; and no sequence
--- of the others has a word there
-pub record SharesArea (s : Setting) (history : History) (p : Slots) (at : ℕ) (area : Area) (t : ℕ)
-    (others : List Placed) : Type 0 where
-  pub beside : (other : Placed) → Contains others other → LiesBeside (placed_add p at area) other
-  pub kept : PointerKept s (placed_add p at area ∷ others) t area.at history
-  pub described : AlwaysDescribed s (placed_add p at area) (placed_add p at area ∷ others) t history
+-- thread t uses its area for an add block and for others
+abbrev pub SharesArea : Setting → History → Slots → ℕ → Area → ℕ → List Placed → Type 0
+SharesArea s history p at area t others = SharesAreaWith s history (placed_add p at area) t others
 
 -- thread t of hart h has come to the post-commit address just now, by a sequence of the block that is whole
 pub record IsAdded (s : Setting) (p : Slots) (at h t : ℕ) (now : History) : Type 0 where

@@ -14,6 +14,7 @@ mod fault;
 mod frees;
 mod lines;
 mod pops;
+mod push_theorems;
 mod pushes;
 mod room;
 mod slots;
@@ -25,6 +26,10 @@ pub use fault::EmitFault;
 pub use frees::emit_free;
 pub use lines::{Line, emit_lines};
 pub use pops::emit_pop;
+pub use push_theorems::{
+    push_keeps_registers, pushes_are_done, pushes_begin_outside, pushes_once_or_not_at_all,
+    pushes_that_commit_are_left, retries_of_push_keep_its_value,
+};
 pub use pushes::emit_push;
 pub use slots::Slots;
 pub use theorems::{

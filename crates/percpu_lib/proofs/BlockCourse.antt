@@ -1,8 +1,8 @@
--- A thread at the retry label of an add block, whose hart is left undisturbed, is at the post-commit address after
--- eleven instructions, by a sequence that is whole.
+-- A thread at the retry label of a block, whose hart is left undisturbed, is at the post-commit address after as many
+-- instructions as stand before it, by a sequence that is whole.
 use Rattle.std.proofs.Common.{◌≡◌, ℕ, zero, suc, ◌+◌, ◌*◌, ◌-◌, ◌%◌, ◌^◌, ◌<◌, ◌≤◌, ◌⊎◌, inl, inr, List, ◌++◌}
-use Rattle.std.proofs.Common.{◌∷◌, refl, sym, ap, ◌∙◌, arith, subst, Bool, true, false, eqb, ltb}
-use Rattle.std.proofs.Common.{Option, Some, None, pos}
+use Rattle.std.proofs.Common.{[], ◌∷◌, refl, sym, ap, ◌∙◌, arith, subst, Bool, true, false, eqb, ltb}
+use Rattle.std.proofs.Common.{Option, Some, None, pos, length, slice_get}
 use Rattle.std.proofs.lemmas.Bool.{lt-ltb}
 use Rattle.mach_types.proofs.Laws.{eqb_same}
 use Rattle.mach_types.specs.Events.{choice_with}
@@ -30,47 +30,58 @@ use Rattle.block_model.specs.History.{Event, History, file, file_among, here_in_
 use Rattle.block_model.specs.Record.{Kernel}
 use Rattle.block_model.specs.Run.{IsBlockRun, IsRunHistory}
 use Rattle.block_model.specs.Setting.{Setting}
-use Rattle.block_model.proofs.Laws.{IsStep, file_apart, has_registers, runs_apart, step_of}
+use Rattle.block_model.proofs.Laws.{IsStep, file_apart, runs_apart, step_of}
 use Rattle.alone_laws.specs.Blocks.{IsFairSince, IsSoFar, among}
 use Rattle.alone_laws.specs.Entering.{IsIn}
 use Rattle.alone_laws.specs.Spans.{alone_from, code_of}
 use Rattle.alone_laws.specs.Undisturbed.{Brings, IsUndisturbed, executed_on}
 use Rattle.alone_laws.specs.Uses.{AlwaysOutside, CanAlwaysBegin, CanBegin, IsWellPlaced, Placed, is_before}
 use Rattle.alone_laws.proofs.Arrivals.{IsCode}
-use Rattle.alone_laws.proofs.Entered.{entered, points}
-use Rattle.alone_laws.proofs.Entering.{goes_there, inside_there}
+use Rattle.alone_laws.proofs.Entered.{entered}
+use Rattle.alone_laws.proofs.Entering.{inside_there}
 use Rattle.alone_laws.proofs.OneStep.{step_load, step_next, step_store}
 use Rattle.alone_laws.proofs.OpenSequences.{its_thread, none_drained, none_open, one_begun, one_drained}
 use Rattle.alone_laws.proofs.OpenSequences.{one_executed, still_open}
-use Rattle.alone_laws.proofs.Processors.{tells, tells_first}
+use Rattle.alone_laws.proofs.Processors.{tells_first}
 use Rattle.alone_laws.proofs.Sequences.{apart_step, each_among, exec_step, so_far, starts}
 use Rattle.alone_laws.proofs.Steps.{IsIdle, drain_idle, standing_drain}
 use Rattle.alone_laws.proofs.Undisturbed.{brought}
-use Rattle.percpu_lib.specs.Adds.{IsAddPlace, IsWholeAdd, add_of, add_range, placed_add}
-use Rattle.percpu_lib.specs.Uses.{HoldsAdd, IsAdded, IsAtStart, cells_of}
+use Rattle.percpu_lib.specs.Forms.{Form, HoldsBlock, IsAtStart, IsBlockPlace, IsCommitted, block_of, committed}
+use Rattle.percpu_lib.specs.Forms.{placed_of, range_of}
 use Rattle.percpu_lib.specs.Words.{lower, upper}
 use Rattle.percpu_lib.specs.declared.slots.Slots.{Slots}
-use Rattle.percpu_lib.proofs.BlockWords.{block_aligned}
-use Rattle.percpu_lib.proofs.AddCode.{KnowsTable, add_code, add_placed, within_range}
-use Rattle.percpu_lib.proofs.AddLaw.{add_sole, adds_once, gone_on}
-use Rattle.percpu_lib.proofs.UsesLaw.{add_begin, fair_since, held_before}
+use Rattle.percpu_lib.proofs.BlockCode.{KnowsTable}
+use Rattle.percpu_lib.proofs.Courses.{HasCourse, IsCourse}
+use Rattle.percpu_lib.proofs.UsesLaw.{fair_since, held_before, inside_start, is_code, is_placed, place_there}
 
-module _ (s : Setting) (p : Slots) (at : ℕ) (area : Area) (h t : ℕ) where
+-- the words before the sequence, where these four are all
+pub record AsksFirst (form : Form) : Type 0 where
+  pub four : form.first ≡ 4
+  pub lw : slice_get form.words 0 ≡ Some (Some (inst.Lw 5 form.slots.area (pos 0)))
+  pub lui : slice_get form.words 1 ≡ Some (Some (inst.Lui 6 (upper form.slots.table)))
+  pub addi : slice_get form.words 2 ≡ Some (Some (inst.Addi 6 6 (lower form.slots.table)))
+  pub store : slice_get form.words 3 ≡ Some (Some (inst.Sd form.slots.area 6 (pos 8)))
+
+module _ (s : Setting) (form : Form) (at : ℕ) (area : Area) (h t : ℕ) (law : HasCourse form)
+    (asks : AsksFirst form) where
   abbrev b : Placed
-  b = placed_add p at area
+  b = placed_of form at area
+
+  abbrev p : Slots
+  p = form.slots
 
   abbrev pages : ℕ → Option Inst
   pages = code_of s.program.pages
 
   -- what is asked
   record IsAsked (history : History) : Type 0 where
-    held : HoldsAdd s history p at area t
+    held : HoldsBlock s history form at area t
     begins : CanAlwaysBegin s b t history
     outside : AlwaysOutside s b t history
 
   fewer : (e : Event) (before : History) → IsAsked (e ∷ before) → IsAsked before
   fewer e before asked = record {
-    held = held_before s e before p at area t asked.held;
+    held = held_before s e before form at area t asked.held;
     begins = asked.begins.0;
     outside = asked.outside.0;
   }
@@ -85,43 +96,45 @@ module _ (s : Setting) (p : Slots) (at : ℕ) (area : Area) (h t : ℕ) where
   -- in the sequence: so many instructions of it
   record IsGoing (n : ℕ) (before : History) : Type 0 where
     sequence : Sequence
-    begun : IsAtStart s at h t sequence.begun
+    begun : IsAtStart s (at + 4 * form.first) h t sequence.begun
     chosen : eqb h (register (file s t sequence.begun).file 5) ≡ true
     thread : sequence.thread ≡ t
     is : sequence_on s h before ≡ Some sequence
-    place : IsAddPlace s p at area (cells_of s p t sequence.begun) h t sequence.begun
-    so : IsSoFar s (add_of p at area (cells_of s p t sequence.begun) h) h t sequence.begun sequence.reached before n
-    inside : is_inside (add_range at) (alone_from s h t sequence.begun n).file.pc ≡ true
+    place : IsBlockPlace s form at area h t sequence.begun
+    so : IsSoFar s (block_of s form at area h t sequence.begun) h t sequence.begun sequence.reached before n
+    inside : is_inside (range_of form at) (alone_from s h t sequence.begun n).file.pc ≡ true
 
   -- so many instructions may be left behind the next
   data IsLeft (m : ℕ) (before : History) : Type 0 where
-    coming : (n : ℕ) → n + m ≡ 10 → n ≤ 4 → IsComing n before → IsLeft m before
-    going : (n : ℕ) → n + m ≡ 6 → IsGoing n before → IsLeft m before
+    coming : (n : ℕ) → n + m + 1 ≡ committed form → n ≤ 4 → IsComing n before → IsLeft m before
+    going : (n : ℕ) → n + m + 1 ≡ form.inside → IsGoing n before → IsLeft m before
 
   -- AN EVENT
   module _ (e : Event) (before : History) (run : IsRunHistory s (e ∷ before)) (asked : IsAsked (e ∷ before)) where
     step : IsStep s e before
     step = step_of s e before run
 
-    held : HoldsAdd s (e ∷ before) p at area t
+    held : HoldsBlock s (e ∷ before) form at area t
     held = asked.held
 
     placed : IsWellPlaced b
-    placed = add_placed s p at area held.stands held.slots held.low_table held.low (block_aligned s.program.pages p at held.stands) held.low_area
-        held.some_table
+    placed = is_placed s form at area t law (e ∷ before) held
 
-    code : IsCode s b (KnowsTable p)
-    code = add_code s p at area held.stands held.slots held.low_table held.low (block_aligned s.program.pages p at held.stands) held.low_area
+    code : IsCode s b (KnowsTable form)
+    code = is_code s form at area t law (e ∷ before) held
 
-    fair_at : (begun : History) → IsAtStart s at h t begun → IsFairSince s
-        (add_of p at area (cells_of s p t begun) h) h t begun (e ∷ before)
-    fair_at begun start = fair_since s p at area h t begun start held.low placed code (e ∷ before) held.used
+    course_at : (begun : History) → IsBlockPlace s form at area h t begun → IsCourse s form at area h t begun
+    course_at begun place = law.course s at area h t begun held.stands held.slots place
+
+    fair_at : (begun : History) → IsAtStart s (at + 4 * form.first) h t begun → IsFairSince s
+        (block_of s form at area h t begun) h t begun (e ∷ before)
+    fair_at begun start = fair_since s form at area t law h begun start (e ∷ before) held.used
 
     -- inside its range the thread is inside what its area names
-    named_in : running s h before ≡ Some t → IsIn s (add_range at) t before → is_inside_at s h before ≡ true
+    named_in : running s h before ≡ Some t → IsIn s (range_of form at) t before → is_inside_at s h before ≡ true
     named_in runs inside =
-        inside_there s (add_range at) t h before runs inside
-        ((entered s b t (KnowsTable p) placed code (e ∷ before) run held.uses).1.names h runs inside)
+        inside_there s (range_of form at) t h before runs inside
+        ((entered s b t (KnowsTable form) placed code (e ∷ before) run held.uses).1.names h runs inside)
 
     -- an event of another hart
     apart_coming : (n : ℕ) → eqb e.entry.hart.0 h ≡ false → IsComing n before → IsComing n (e ∷ before)
@@ -137,7 +150,6 @@ module _ (s : Setting) (p : Slots) (at : ℕ) (area : Area) (h t : ℕ) where
     apart_going : (n : ℕ) → eqb e.entry.hart.0 h ≡ false → IsGoing n before → IsGoing n (e ∷ before)
     apart_going n apart was =
         let q = was.sequence in
-        let cells = cells_of s p t q.begun in
         record {
           sequence = q;
           begun = was.begun;
@@ -145,8 +157,7 @@ module _ (s : Setting) (p : Slots) (at : ℕ) (area : Area) (h t : ℕ) where
           thread = was.thread;
           is = still_open s h e before apart ∙ was.is;
           place = was.place;
-          so = apart_step s (add_of p at area cells h) h t q.begun
-              (add_sole s p at area cells h t q.begun held.stands held.slots was.place) e before q.reached n step
+          so = apart_step s (block_of s form at area h t q.begun) h t q.begun (course_at q.begun was.place).sole e before q.reached n step
               (held.used.1.fair h q.begun was.begun (inr (q, was.is, refl))) apart was.so;
           inside = was.inside;
         }
@@ -176,14 +187,13 @@ module _ (s : Setting) (p : Slots) (at : ℕ) (area : Area) (h t : ℕ) where
       -- where a sequence goes on the thread is inside
       in_range_now : (n : ℕ) (was : IsGoing n before) → is_inside_at s h before ≡ true
       in_range_now n was =
-          named_in was.so.now.runs (ap (λ (f : Saved). is_inside (add_range at) f.pc) was.so.now.file ∙ was.inside)
+          named_in was.so.now.runs (ap (λ (f : Saved). is_inside (range_of form at) f.pc) was.so.now.file ∙ was.inside)
 
       drained_going : (n : ℕ) → e.entry.kind ≡ kind.Drain → IsGoing n before → IsGoing n (e ∷ before)
       drained_going n is was =
           let q = was.sequence in
-          let cells = cells_of s p t q.begun in
-          let block = add_of p at area cells h in
-          let sole = add_sole s p at area cells h t q.begun held.stands held.slots was.place in
+          let block = block_of s form at area h t q.begun in
+          let sole = (course_at q.begun was.place).sole in
           record {
             sequence = with_event e before q;
             begun = was.begun;
@@ -201,23 +211,24 @@ module _ (s : Setting) (p : Slots) (at : ℕ) (area : Area) (h t : ℕ) where
       module _ (executes : e.entry.kind ≡ kind.Exec) where
         -- the next stage, or the end
         abbrev Next : ℕ → Type 0
-        Next m = IsAdded s p at h t (e ∷ before) ⊎ ((k : ℕ) × (k < m) × IsLeft k (e ∷ before))
+        Next m = IsCommitted s form at h t (e ∷ before) ⊎ ((k : ℕ) × (k < m) × IsLeft k (e ∷ before))
 
-        advanced : (n m : ℕ) (q : Sequence) → n + m ≡ 6 → IsAtStart s at h t q.begun
+        advanced : (n m : ℕ) (q : Sequence) → n + m + 1 ≡ form.inside → IsAtStart s (at + 4 * form.first) h t q.begun
             → eqb h (register (file s t q.begun).file 5) ≡ true → q.thread ≡ t
             → sequence_on s h (e ∷ before) ≡ Some q → q.reached ≡ e ∷ before
-            → IsAddPlace s p at area (cells_of s p t q.begun) h t q.begun
-            → IsSoFar s (add_of p at area (cells_of s p t q.begun) h) h t q.begun q.reached (e ∷ before) (suc n)
+            → IsBlockPlace s form at area h t q.begun
+            → IsSoFar s (block_of s form at area h t q.begun) h t q.begun q.reached (e ∷ before) (suc n)
             → Next m
         advanced n m q sum start chosen thread is reached place so =
-            by_place (gone_on s p at area (cells_of s p t q.begun) h t q.begun held.stands held.slots place chosen (suc n) so.below)
+            by_place ((course_at q.begun place).gone_on chosen (suc n) so.below)
           where
-            by_place : ((is_inside (add_range at) (alone_from s h t q.begun (suc n)).file.pc ≡ true)
-                × (4 * suc n < 28)) ⊎ ((alone_from s h t q.begun (suc n)).file.pc ≡ at + 44) → Next m
+            by_place : ((is_inside (range_of form at) (alone_from s h t q.begun (suc n)).file.pc ≡ true)
+                × (suc n < form.inside))
+                ⊎ ((alone_from s h t q.begun (suc n)).file.pc ≡ at + 4 * committed form) → Next m
             by_place (inl inside) =
                 let few = inside.1 in
                 inr (
-                  6 - suc n,
+                  form.inside - 1 - suc n,
                   omega arith,
                   going (suc n) (omega arith) (record {
                     sequence = q;
@@ -231,27 +242,25 @@ module _ (s : Setting) (p : Slots) (at : ℕ) (area : Area) (h t : ℕ) where
                   }),
                 )
             by_place (inr done) =
-                let pc : (file s t q.reached).pc ≡ at + 44 = ap (λ (f : Saved). f.pc) so.reached.file ∙ done in
+                let pc : (file s t q.reached).pc ≡ at + 4 * committed form =
+                ap (λ (f : Saved). f.pc) so.reached.file ∙ done in
                 inl (record {
                   sequence = q;
                   is = is;
                   thread = thread;
-                  begins = ap (is_inside (add_range at)) start.pc
-                      ∙ within_range at 16 held.low (omega arith) (omega arith);
+                  begins = ap (is_inside (range_of form at)) start.pc ∙ inside_start s form at area t law held.low;
                   reached = reached;
                   pc = ap (λ (x : History). (file s t x).pc) (sym reached) ∙ pc;
-                  adds = subst (λ (x : History). IsWholeAdd s p (cells_of s p t q.begun) h t q.begun x) reached
-                      ((adds_once s p at area (cells_of s p t q.begun) h t q.begun held.stands held.slots place (e ∷ before) q run
-                      (fair_at q.begun start) is refl).0 pc);
+                  does = subst (λ (x : History). form.Whole s h t q.begun x) reached
+                      (((course_at q.begun place).once (e ∷ before) q run (fair_at q.begun start) is refl).0 pc);
                 })
 
         -- one more in the sequence
-        executed_going : (n m : ℕ) → n + m ≡ 6 → IsGoing n before → Next m
+        executed_going : (n m : ℕ) → n + m + 1 ≡ form.inside → IsGoing n before → Next m
         executed_going n m sum was =
             let q = was.sequence in
-            let cells = cells_of s p t q.begun in
-            let block = add_of p at area cells h in
-            let sole = add_sole s p at area cells h t q.begun held.stands held.slots was.place in
+            let block = block_of s form at area h t q.begun in
+            let sole = (course_at q.begun was.place).sole in
             let inside = in_range_now n was in
             advanced n m (with_event e before q) sum was.begun was.chosen was.thread
             (one_executed s h e before own inside q executes was.is)
@@ -260,29 +269,20 @@ module _ (s : Setting) (p : Slots) (at : ℕ) (area : Area) (h t : ℕ) where
             (held.used.1.fair h q.begun was.begun (inr (q, was.is, refl))) own executes inside was.so)
 
         -- the first one
-        executed_first : (m : ℕ) → m ≡ 6 → IsComing 4 before → Next m
+        executed_first : (m : ℕ) → m + 1 ≡ form.inside → IsComing 4 before → Next m
         executed_first m sum was =
-            let cells = cells_of s p t before in
-            let block = add_of p at area cells h in
+            let block = block_of s form at area h t before in
             let lt = step.good.lt in
             let few = held.few in
-            let start : IsAtStart s at h t before =
+            let four = asks.four in
+            let start : IsAtStart s (at + 4 * form.first) h t before =
             record { runs = was.runs; pc = was.pc ∙ omega arith } in
-            let in_it : IsIn s (add_range at) t before =
-            ap (is_inside (add_range at)) start.pc ∙ within_range at 16 held.low (omega arith) (omega arith) in
+            let in_it : IsIn s (range_of form at) t before =
+            ap (is_inside (range_of form at)) start.pc ∙ inside_start s form at area t law held.low in
             let inside = named_in was.runs in_it in
             let fair = held.used.1.fair h before start (inl refl) in
-            let went = goes_there s (add_range at) t h e before run in
-            let place : IsAddPlace s p at area cells h t before = record {
-              runs = was.runs;
-              pc = start.pc;
-              begins = add_begin s e before p at area h t (block_aligned s.program.pages p at held.stands) held.low
-                  held.low_area (omega (arith, own)) held.used.1 held.uses.1 start;
-              many = has_registers s before run.0 t;
-              points = points s b t (KnowsTable p) placed code before h run.0 held.uses.0 went was.runs in_it;
-              on_cpu = tells s t area held.few before h run.0 held.processor.0 was.runs fair.place.registered;
-            } in
-            let sole = add_sole s p at area cells h t before held.stands held.slots place in
+            let place = place_there s form at area t law h e before run held (omega (arith, own)) start in
+            let sole = (course_at before place).sole in
             advanced 0 m (begun_with h e before) (omega (arith, sum)) start
             (ap (λ n. eqb h n) (was.chosen (omega arith)) ∙ eqb_same h) (its_thread s h e before own t step executes was.runs)
             (one_begun s h e before own inside executes (was.closed (omega arith)))
@@ -295,8 +295,9 @@ module _ (s : Setting) (p : Slots) (at : ℕ) (area : Area) (h t : ℕ) where
           before_start : is_before b (file s t before).pc ≡ true
           before_start =
               let low = held.low in
-              ap (λ x. ltb ((x + (2 ^ 64 - at)) % 2 ^ 64) ((at + 16 + (2 ^ 64 - at)) % 2 ^ 64)) was.pc
-              ∙ lt-ltb ((at + 4 * n + (2 ^ 64 - at)) % 2 ^ 64) ((at + 16 + (2 ^ 64 - at)) % 2 ^ 64) (omega arith)
+              let four = asks.four in
+              ap (λ x. ltb ((x + (2 ^ 64 - at)) % 2 ^ 64) ((at + 4 * form.first + (2 ^ 64 - at)) % 2 ^ 64)) was.pc
+              ∙ lt-ltb ((at + 4 * n + (2 ^ 64 - at)) % 2 ^ 64) ((at + 4 * form.first + (2 ^ 64 - at)) % 2 ^ 64) (omega arith)
 
           can : CanBegin s b h t before
           can = asked.begins.1 h was.runs before_start
@@ -307,14 +308,17 @@ module _ (s : Setting) (p : Slots) (at : ℕ) (area : Area) (h t : ℕ) where
           area_is : register (file s t before).file p.area ≡ area.at
           area_is =
               let low = held.low in
+              let four = asks.four in
+              let within = law.formed.within in
+              let all = law.formed.short in
               held.uses.1.registers h was.runs
-              (ap (λ x. ltb ((x + (2 ^ 64 - at)) % 2 ^ 64) 56) was.pc
-              ∙ lt-ltb ((at + 4 * n + (2 ^ 64 - at)) % 2 ^ 64) 56 (omega arith))
+              (ap (λ x. ltb ((x + (2 ^ 64 - at)) % 2 ^ 64) (4 * length form.words)) was.pc
+              ∙ lt-ltb ((at + 4 * n + (2 ^ 64 - at)) % 2 ^ 64) (4 * length form.words) (omega arith))
 
-          came : (m : ℕ) → n + m ≡ 10 → running s h (e ∷ before) ≡ Some t
+          came : (m : ℕ) → n + m + 1 ≡ committed form → running s h (e ∷ before) ≡ Some t
               → (file s t (e ∷ before)).pc ≡ at + 4 * suc n → register (file s t (e ∷ before)).file 5 ≡ h → Next m
-          came m sum runs pc five = inr (
-            9 - n,
+          came m sum runs pc five = let four = asks.four in let inside = law.formed.inside in inr (
+            committed form - 2 - n,
             omega arith,
             coming (suc n) (omega arith) (omega arith) (record {
               runs = runs;
@@ -327,7 +331,7 @@ module _ (s : Setting) (p : Slots) (at : ℕ) (area : Area) (h t : ℕ) where
         abbrev bytes : ℕ → Bool
         bytes = among area.at 32
 
-        read_chosen : (m : ℕ) → 0 + m ≡ 10 → IsComing 0 before → Next m
+        read_chosen : (m : ℕ) → 0 + m + 1 ≡ committed form → IsComing 0 before → Next m
         read_chosen m sum was =
             let low = held.low in
             let low_area = held.low_area in
@@ -337,7 +341,7 @@ module _ (s : Setting) (p : Slots) (at : ℕ) (area : Area) (h t : ℕ) where
             let few = held.few in
             let low_cpu : h < 8 = omega (arith, own) in
             let next = step_load s h t e before run own executes was.runs bytes may.usable is_scratch (at + 4 * 0)
-            was.pc i (held.stands.holds 0 i refl) area.at 4 5 h (at + 4 * 1) true
+            was.pc i (held.stands.holds 0 i asks.lw) area.at 4 5 h (at + 4 * 1) true
             (λ f like. means_lw f (at + 4 * 0) 5 p.area (pos 0) area.at area.at
             (like.rest p.area held.slots.area ∙ area_is 0 (omega arith) was) (omega arith))
             (each_among area.at 32 area.at 4 (omega arith) (omega arith))
@@ -345,32 +349,32 @@ module _ (s : Setting) (p : Slots) (at : ℕ) (area : Area) (h t : ℕ) where
             (omega arith) (omega arith) in
             came 0 (omega arith) was m sum next.runs_on next.goes_to (next.like.temp 5 refl ∙ loaded_small h low_cpu)
 
-        upper_set : (m : ℕ) → 1 + m ≡ 10 → IsComing 1 before → Next m
+        upper_set : (m : ℕ) → 1 + m + 1 ≡ committed form → IsComing 1 before → Next m
         upper_set m sum was =
             let low = held.low in
             let may = can 1 (omega arith) was in
             let i : Inst = inst.Lui 6 (upper p.table) in
             let next = step_next s h t e before run own executes was.runs bytes may.usable is_scratch (at + 4 * 1)
-            was.pc i (held.stands.holds 1 i refl) 6 (word (upper p.table)) (at + 4 * 2)
+            was.pc i (held.stands.holds 1 i asks.lui) 6 (word (upper p.table)) (at + 4 * 2)
             (λ f like. means_lui f (at + 4 * 1) (at + 4 * 2) (omega arith) 6 (upper p.table) (word (upper p.table))
             refl) refl refl (omega arith) in
             came 1 (omega arith) was m sum next.runs_on next.goes_to
             (next.like.temp 5 refl ∙ was.chosen (omega arith))
 
-        lower_set : (m : ℕ) → 2 + m ≡ 10 → IsComing 2 before → Next m
+        lower_set : (m : ℕ) → 2 + m + 1 ≡ committed form → IsComing 2 before → Next m
         lower_set m sum was =
             let low = held.low in
             let may = can 2 (omega arith) was in
             let i : Inst = inst.Addi 6 6 (lower p.table) in
             let six = register (file s t before).file 6 in
             let next = step_next s h t e before run own executes was.runs bytes may.usable is_scratch (at + 4 * 2)
-            was.pc i (held.stands.holds 2 i refl) 6 (sum_64 six (word (lower p.table))) (at + 4 * 3)
+            was.pc i (held.stands.holds 2 i asks.addi) 6 (sum_64 six (word (lower p.table))) (at + 4 * 3)
             (λ f like. means_addi f (at + 4 * 2) (at + 4 * 3) (omega arith) 6 6 (lower p.table) six
             (sum_64 six (word (lower p.table))) (like.temp 6 refl) refl) refl refl (omega arith) in
             came 2 (omega arith) was m sum next.runs_on next.goes_to
             (next.like.temp 5 refl ∙ was.chosen (omega arith))
 
-        pointer_stored : (m : ℕ) → 3 + m ≡ 10 → IsComing 3 before → Next m
+        pointer_stored : (m : ℕ) → 3 + m + 1 ≡ committed form → IsComing 3 before → Next m
         pointer_stored m sum was =
             let low = held.low in
             let low_area = held.low_area in
@@ -378,19 +382,19 @@ module _ (s : Setting) (p : Slots) (at : ℕ) (area : Area) (h t : ℕ) where
             let i : Inst = inst.Sd p.area 6 (pos 8) in
             let six = register (file s t before).file 6 in
             let next = step_store s h t e before run own executes was.runs bytes may.usable is_scratch (at + 4 * 3)
-            was.pc i (held.stands.holds 3 i refl) (area.at + 8) 8 (low_bytes 8 six) (at + 4 * 4)
+            was.pc i (held.stands.holds 3 i asks.store) (area.at + 8) 8 (low_bytes 8 six) (at + 4 * 4)
             (λ f like. means_sd f (at + 4 * 3) p.area 6 (pos 8) area.at (area.at + 8) six (low_bytes 8 six)
             (like.rest p.area held.slots.area ∙ area_is 3 (omega arith) was) (omega arith) (like.temp 6 refl) refl)
             (each_among area.at 32 (area.at + 8) 8 (omega arith) (omega arith)) (omega arith) in
             came 3 (omega arith) was m sum next.runs_on next.goes_to
             (next.like.temp 5 refl ∙ was.chosen (omega arith))
 
-        executed_coming : (n m : ℕ) → n + m ≡ 10 → n ≤ 4 → IsComing n before → Next m
+        executed_coming : (n m : ℕ) → n + m + 1 ≡ committed form → n ≤ 4 → IsComing n before → Next m
         executed_coming zero m sum few was = read_chosen m sum was
         executed_coming (suc zero) m sum few was = upper_set m sum was
         executed_coming (suc (suc zero)) m sum few was = lower_set m sum was
         executed_coming (suc (suc (suc zero))) m sum few was = pointer_stored m sum was
-        executed_coming (suc (suc (suc (suc zero)))) m sum few was = executed_first m (omega arith) was
+        executed_coming (suc (suc (suc (suc zero)))) m sum few was = (let four = asks.four in executed_first m (omega arith) was)
         executed_coming (suc (suc (suc (suc (suc n))))) m sum few was = absurd (omega arith)
 
   -- each event
@@ -409,18 +413,18 @@ module _ (s : Setting) (p : Slots) (at : ℕ) (area : Area) (h t : ℕ) where
 
   executed : (m : ℕ) (e : Event) (before : History) → IsRunHistory s (e ∷ before) → IsAsked (e ∷ before)
       → e.entry.hart.0 ≡ h → e.entry.kind ≡ kind.Exec → IsLeft m before
-      → IsAdded s p at h t (e ∷ before) ⊎ ((k : ℕ) × (k < m) × IsLeft k (e ∷ before))
+      → IsCommitted s form at h t (e ∷ before) ⊎ ((k : ℕ) × (k < m) × IsLeft k (e ∷ before))
   executed m e before run asked own is (coming n sum few was) =
       executed_coming e before run asked own is n m sum few was
   executed m e before run asked own is (going n sum was) = executed_going e before run asked own is n m sum was
 
-  pub comes_to_add : (log rest : List Entry) → IsBlockRun s (log ++ rest)
-      → HoldsAdd s (history s (log ++ rest)) p at area t → CanAlwaysBegin s b t (history s (log ++ rest))
+  pub comes_to_commit : (m : ℕ) → suc m ≡ committed form → (log rest : List Entry) → IsBlockRun s (log ++ rest)
+      → HoldsBlock s (history s (log ++ rest)) form at area t → CanAlwaysBegin s b t (history s (log ++ rest))
       → AlwaysOutside s b t (history s (log ++ rest))
       → running s h (history s log) ≡ Some t → (file s t (history s log)).pc ≡ at → IsUndisturbed h rest
-      → 11 ≤ executed_on h rest → Brings s h 11 (IsAdded s p at h t) log rest
-  comes_to_add log rest run held begins outside runs pc calm many =
-      brought s h IsAsked fewer IsLeft (IsAdded s p at h t) apart drained executed rest log 10 run
+      → suc m ≤ executed_on h rest → Brings s h (suc m) (IsCommitted s form at h t) log rest
+  comes_to_commit m all log rest run held begins outside runs pc calm many =
+      brought s h IsAsked fewer IsLeft (IsCommitted s form at h t) apart drained executed rest log m run
       (record { held = held; begins = begins; outside = outside }) calm
       (coming 0 (omega arith) (omega arith) (record {
         runs = runs;
@@ -428,3 +432,17 @@ module _ (s : Setting) (p : Slots) (at : ℕ) (area : Area) (h t : ℕ) where
         chosen = λ some. absurd (omega arith);
         closed = λ some. absurd (omega arith);
       })) many
+
+-- where each place like this is one like that
+pub is_brought : (s : Setting) (h n : ℕ) (log rest : List Entry) (This That : History → Type 0)
+    → ((now : History) → This now → That now) → Brings s h n This log rest → Brings s h n That log rest
+is_brought s h n log rest This That so it = record {
+  earlier = it.earlier;
+  entry = it.entry;
+  later = it.later;
+  stretch_is = it.stretch_is;
+  own = it.own;
+  executed = it.executed;
+  soon = it.soon;
+  there = so (history s (log ++ it.earlier ++ it.entry ∷ [])) it.there;
+}

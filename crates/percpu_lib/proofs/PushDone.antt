@@ -1,0 +1,41 @@
+-- A thread at the retry label of a push block, whose hart is left undisturbed, has pushed after eleven instructions.
+use Rattle.std.proofs.Common.{◌≡◌, ℕ, ◌≤◌, List, ◌++◌, refl, Some}
+use Rattle.mach_types.specs.declared.events.Entry.{Entry}
+use Rattle.mach_types.specs.declared.sequences.Area.{Area}
+use Rattle.block_model.specs.Deciding.{history}
+use Rattle.block_model.specs.History.{History, file, running}
+use Rattle.block_model.specs.Run.{IsBlockRun}
+use Rattle.block_model.specs.Setting.{Setting}
+use Rattle.alone_laws.specs.Undisturbed.{Brings, IsUndisturbed, executed_on}
+use Rattle.alone_laws.specs.Uses.{AlwaysOutside, CanAlwaysBegin}
+use Rattle.percpu_lib.specs.Forms.{IsCommitted}
+use Rattle.percpu_lib.specs.Pushes.{HoldsPush, IsPushed, placed_push, push_form}
+use Rattle.percpu_lib.specs.declared.slots.Slots.{Slots}
+use Rattle.percpu_lib.proofs.PushLaw.{push_course}
+use Rattle.percpu_lib.proofs.BlockCourse.{AsksFirst, comes_to_commit, is_brought}
+
+asks_first : (p : Slots) → AsksFirst (push_form p)
+asks_first p = record { four = refl; lw = refl; lui = refl; addi = refl; store = refl }
+
+is_pushed : (s : Setting) (p : Slots) (at h t : ℕ) (now : History) → IsCommitted s (push_form p) at h t now
+    → IsPushed s p at h t now
+is_pushed s p at h t now is = record {
+  sequence = is.sequence;
+  is = is.is;
+  thread = is.thread;
+  begins = is.begins;
+  reached = is.reached;
+  pc = is.pc;
+  pushes = is.does;
+}
+
+pub comes_to_push : (s : Setting) (p : Slots) (at : ℕ) (area : Area) (h t : ℕ) (log rest : List Entry)
+    → IsBlockRun s (log ++ rest) → HoldsPush s (history s (log ++ rest)) p at area t
+    → CanAlwaysBegin s (placed_push p at area) t (history s (log ++ rest))
+    → AlwaysOutside s (placed_push p at area) t (history s (log ++ rest))
+    → running s h (history s log) ≡ Some t → (file s t (history s log)).pc ≡ at → IsUndisturbed h rest
+    → 11 ≤ executed_on h rest → Brings s h 11 (IsPushed s p at h t) log rest
+comes_to_push s p at area h t log rest run held begins outside runs pc calm many =
+    is_brought s h 11 log rest (IsCommitted s (push_form p) at h t) (IsPushed s p at h t) (is_pushed s p at h t)
+    (comes_to_commit s (push_form p) at area h t (push_course p) (asks_first p) 10 refl log rest run held begins outside
+    runs pc calm many)
