@@ -4,6 +4,7 @@ pub mod Laws
 mod Lines
 mod Meanings
 mod Numbers
+mod HexDigits
 mod Printed
 mod Splits
 mod Texts
