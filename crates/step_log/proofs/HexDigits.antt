@@ -1,5 +1,5 @@
 -- Hexadecimal digits by pairs.
-use Rattle.std.proofs.Common.{◌≡◌, ℕ, zero, suc, ◌+◌, ◌-◌, ◌*◌, ◌/◌, ◌%◌, ◌^◌, ◌<◌, Bool, true, ◌&&◌, T, eqb, List, [], ◌∷◌, ◌++◌, length, drop, get_or, refl, ap, sym, ◌∙◌, inl, inr, arith, eq-zero-or-pos, eqb→eq, append_assoc, append-nil, drop-cons, add-one, add-suc}
+use Rattle.std.proofs.Common.{◌≡◌, ℕ, zero, suc, ◌+◌, ◌-◌, ◌*◌, ◌/◌, ◌%◌, ◌^◌, ◌<◌, ◌≤◌, Bool, true, ◌&&◌, T, eqb, List, [], ◌∷◌, ◌++◌, length, drop, get_or, refl, ap, sym, ◌∙◌, inl, inr, arith, eq-zero-or-pos, eqb→eq, append_assoc, append-nil, drop-cons, add-one, add-suc}
 use Rattle.std.specs.Fmt.{decimal}
 use Rattle.std.proofs.lemmas.Fmt.{decimal_digit}
 use Rattle.std.proofs.lemmas.List.{drop_all}
@@ -74,15 +74,21 @@ abbrev pub elements : ℕ → ℕ → List ℕ → List ℕ
 elements zero i ds = []
 elements (suc n) i ds = get_or ds i 0 ∷ elements n (i + 1) ds
 
-pub elements_are : (n i : ℕ) (ds : List ℕ) → i + n ≡ length ds → elements n i ds ≡ drop i ds
-elements_are zero i ds long = sym (drop_all i ds (omega arith))
-elements_are (suc n) i ds long =
-    rw (elements_are n (i + 1) ds (omega arith), add-one) (sym (drop-cons ds i 0 (omega arith)))
+pub elements_first : (n i : ℕ) (ds : List ℕ) → i + n ≤ length ds → elements n i ds ++ drop (i + n) ds ≡ drop i ds
+elements_first zero i ds within = let same : i + 0 ≡ i = omega arith in rw same refl
+elements_first (suc n) i ds within =
+    let next : i + suc n ≡ i + 1 + n = omega arith in
+    rw (next, elements_first n (i + 1) ds (omega arith), add-one) (sym (drop-cons ds i 0 (omega arith)))
+
+elements_are : (n : ℕ) (ds : List ℕ) → length ds ≡ n → elements n 0 ds ≡ ds
+elements_are n ds long =
+    let none : drop (0 + n) ds ≡ [] = drop_all (0 + n) ds (omega arith) in
+    sym (append-nil (elements n 0 ds)) ∙ ap (λ xs. elements n 0 ds ++ xs) (sym none) ∙ elements_first n 0 ds (omega arith)
 
 pub exec_text : (hart : Hart) (tid : Tid) (pc : ℕ) (digits : List ℕ) → tid.0 < 10 → digits ≡ hex_text 16 pc
     → (48 + hart.0) ∷ 32 ∷ 101 ∷ 120 ∷ 101 ∷ 99 ∷ 32 ∷ (48 + tid.0) ∷ 32 ∷ (elements 16 0 digits ++ 10 ∷ [])
     ≡ entry_text (record { hart = hart; kind = Exec; tid = tid; pc = pc })
 exec_text hart tid pc digits small is =
-    let whole : elements 16 0 digits ≡ digits = elements_are 16 0 digits (omega (arith, ap length is, length-hex_text 16 pc)) in
+    let whole : elements 16 0 digits ≡ digits = elements_are 16 digits (omega (arith, ap length is, length-hex_text 16 pc)) in
     rw (decimal_digit tid.0 small)
     (ap (λ (ds : List ℕ). (48 + hart.0) ∷ 32 ∷ 101 ∷ 120 ∷ 101 ∷ 99 ∷ 32 ∷ (48 + tid.0) ∷ 32 ∷ (ds ++ 10 ∷ [])) (whole ∙ is))
