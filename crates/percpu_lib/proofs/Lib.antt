@@ -10,6 +10,7 @@ pub mod BlockRegisters
 pub mod BlockRetries
 pub mod BlockWords
 pub mod CellPath
+pub mod CourseLaw
 pub mod Courses
 pub mod Emittable
 pub mod Emitting
