@@ -10,13 +10,16 @@ pub mod BlockRegisters
 pub mod BlockRetries
 pub mod BlockWords
 pub mod CellPath
+pub mod Changes
 pub mod CourseLaw
 pub mod Courses
 pub mod Emittable
 pub mod Emitting
 pub mod FileCode
+pub mod FormedWords
 pub mod HeldWords
 pub mod Labels
+pub mod PopLaw
 pub mod PushCode
 pub mod PushDone
 pub mod PushLaw
