@@ -3,6 +3,7 @@ pub mod AddDone
 pub mod AddExample
 pub mod AddLaw
 pub mod AddWords
+pub mod AllocLaw
 pub mod BesideLaw
 pub mod BlockCode
 pub mod BlockCourse

@@ -6,6 +6,7 @@ pub mod Files
 pub mod Forms
 pub mod Frees
 pub mod Lines
+pub mod Pools
 pub mod Pops
 pub mod Pushes
 pub mod Uses
