@@ -18,6 +18,7 @@ pub mod Emittable
 pub mod Emitting
 pub mod FileCode
 pub mod FormedWords
+pub mod FreeLaw
 pub mod HeldWords
 pub mod Labels
 pub mod PopLaw

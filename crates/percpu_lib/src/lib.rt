@@ -27,7 +27,7 @@ pub use allocs::emit_alloc;
 pub use fault::EmitFault;
 pub use frees::emit_free;
 pub use lines::{Line, emit_lines};
-pub use pool_theorems::allocs_once_or_not_at_all;
+pub use pool_theorems::{allocs_once_or_not_at_all, frees_once_or_not_at_all};
 pub use pop_theorems::pops_once_or_not_at_all;
 pub use pops::emit_pop;
 pub use push_theorems::{
