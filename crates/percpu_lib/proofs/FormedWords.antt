@@ -1,12 +1,13 @@
 -- Words of a block that lead on in it, by a test of each word.
-use Rattle.std.proofs.Common.{◌≡◌, ℕ, ◌+◌, ◌*◌, ◌<◌, ◌^◌, false, true, arith, eqb, List, [], ◌∷◌, length, Option, Some, None, subst, sym}
+use Rattle.std.proofs.Common.{◌≡◌, ℕ, zero, suc, ◌+◌, ◌*◌, ◌<◌, ◌^◌, Bool, false, true, arith, eqb, List, [], ◌∷◌, length}
+use Rattle.std.proofs.Common.{Option, Some, None, slice_get, subst, sym, ap, ◌∙◌}
 use Rattle.std.proofs.Common.{pos, negsuc}
-use Rattle.std.proofs.lemmas.Bool.{eqb-false}
+use Rattle.std.proofs.lemmas.Bool.{eqb-false, false≢true}
 use Rattle.rv_inst.specs.declared.instruction.Inst.{Inst}
 use Rattle.rv_inst.specs.declared.instruction.Inst.TheVariants as inst
 use Rattle.percpu_lib.specs.Forms.{Form, committed}
 use Rattle.percpu_lib.proofs.BlockCode.{AreWords}
-use Rattle.percpu_lib.proofs.WordLaws.{IsStraight, IsWord, beq_out, bne_anew, jal_anew, jal_out, straight_add, straight_addi}
+use Rattle.percpu_lib.proofs.WordLaws.{IsStraight, IsTame, IsWord, beq_out, bne_anew, jal_anew, jal_out, straight_add, straight_addi}
 use Rattle.percpu_lib.proofs.WordLaws.{straight_ld, straight_lui, straight_lw, straight_sd, straight_slli}
 use Rattle.percpu_lib.proofs.WordLaws.{straight_word}
 
@@ -35,6 +36,36 @@ abbrev pub AreFit : Form → ℕ → List (Option Inst) → Type 0
 AreFit form k [] = Unit {0}
 AreFit form k (None ∷ rest) = (k ≡ committed form + 1) × AreFit form (k + 1) rest
 AreFit form k (Some i ∷ rest) = Fits form k i × AreFit form (k + 1) rest
+
+-- the same, but for some of them
+abbrev pub Unless : Bool → Type 0 → Type 0
+Unless true P = Unit {0}
+Unless false P = P
+
+abbrev pub AreFitBut : (ℕ → Bool) → Form → ℕ → List (Option Inst) → Type 0
+AreFitBut but form k [] = Unit {0}
+AreFitBut but form k (None ∷ rest) = AreFitBut but form (k + 1) rest
+AreFitBut but form k (Some i ∷ rest) = Unless (but k) (Fits form k i) × AreFitBut but form (k + 1) rest
+
+unless_not : (b : Bool) (P : Type 0) → b ≡ false → Unless b P → P
+unless_not true P not is = absurd (false≢true (sym not))
+unless_not false P not is = is
+
+fit_at : (but : ℕ → Bool) (form : Form) (k : ℕ) (xs : List (Option Inst)) (n : ℕ) (i : Inst)
+    → AreFitBut but form k xs → slice_get xs n ≡ Some (Some i) → but (k + n) ≡ false → Fits form (k + n) i
+fit_at but form k [] n i are at not = absurd cc
+fit_at but form k (None ∷ rest) zero i are at not = absurd cc
+fit_at but form k (Some j ∷ rest) zero i are at not =
+    let same : j ≡ i = cc in
+    let here : k + zero ≡ k = omega arith in
+    subst (λ m. Fits form m i) (sym here)
+    (subst (Fits form k) same (unless_not (but k) (Fits form k j) (ap but (sym here) ∙ not) are.0))
+fit_at but form k (None ∷ rest) (suc n) i are at not =
+    let next : k + 1 + n ≡ k + suc n = omega arith in
+    subst (λ m. Fits form m i) next (fit_at but form (k + 1) rest n i are at (ap but next ∙ not))
+fit_at but form k (Some j ∷ rest) (suc n) i are at not =
+    let next : k + 1 + n ≡ k + suc n = omega arith in
+    subst (λ m. Fits form m i) next (fit_at but form (k + 1) rest n i are.1 at (ap but next ∙ not))
 
 module _ (form : Form) (all : length form.words < 2 ^ 8) (within : committed form < 2 ^ 8) where
   straight : (k : ℕ) → k < 2 ^ 8 → (i : Inst) → IsInner form k → IsStraight form.may i → IsWord form k i
@@ -66,3 +97,10 @@ module _ (form : Form) (all : length form.words < 2 ^ 8) (within : committed for
   words_fit k (None ∷ rest) few are = (are.0, words_fit (k + 1) rest (omega arith) are.1)
   words_fit k (Some i ∷ rest) few are =
       (word_fits k (omega arith) i are.0, words_fit (k + 1) rest (omega arith) are.1)
+
+  -- a word that isn't one of those changes no register but those that may change
+  pub tame_at : (but : ℕ → Bool) (xs : List (Option Inst)) (n : ℕ) (i : Inst) → n < 2 ^ 8 → AreFitBut but form 0 xs
+      → slice_get xs n ≡ Some (Some i) → but n ≡ false → IsTame form.may i
+  tame_at but xs n i few are at not =
+      let same : 0 + n ≡ n = omega arith in
+      (word_fits n few i (subst (λ m. Fits form m i) same (fit_at but form 0 xs n i are at (ap but same ∙ not)))).tame

@@ -19,7 +19,9 @@ pub mod Emitting
 pub mod FileCode
 pub mod FormedWords
 pub mod FreeLaw
+pub mod FreeRetries
 pub mod HeldWords
+pub mod KindLaws
 pub mod Labels
 pub mod PopLaw
 pub mod PushCode

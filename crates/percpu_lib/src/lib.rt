@@ -10,6 +10,7 @@
 mod adds;
 mod allocs;
 mod block_lines;
+mod block_theorems;
 mod fault;
 mod frees;
 mod lines;
@@ -24,6 +25,10 @@ mod theorems;
 
 pub use adds::emit_add;
 pub use allocs::emit_alloc;
+pub use block_theorems::{
+    blocks_are_done, blocks_begin_outside, blocks_keep_registers, blocks_that_commit_are_left,
+    blocks_work_once_or_not_at_all, retries_work_on_the_value,
+};
 pub use fault::EmitFault;
 pub use frees::emit_free;
 pub use lines::{Line, emit_lines};
