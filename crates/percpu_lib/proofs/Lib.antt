@@ -2,7 +2,6 @@ pub mod AddCode
 pub mod AddDone
 pub mod AddExample
 pub mod AddLaw
-pub mod AddWords
 pub mod AllocLaw
 pub mod BesideLaw
 pub mod BlockCode
@@ -20,8 +19,10 @@ pub mod FileCode
 pub mod FormedWords
 pub mod FreeLaw
 pub mod FreeRetries
+pub mod HeldBlocks
 pub mod HeldWords
 pub mod KindLaws
+pub mod KindWords
 pub mod Labels
 pub mod PopLaw
 pub mod PushCode

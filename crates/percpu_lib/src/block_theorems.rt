@@ -1,10 +1,10 @@
 //! Laws of all blocks of the library in runs, each as the contract of a function that does nothing.
 
-ghost use Rattle.std.specs.Prelude.{ℕ, List, [], ◌∷◌, ◌++◌, Some, false, true};
+ghost use Rattle.std.specs.Prelude.{ℕ, List, [], ◌∷◌, ◌++◌, Some, false, true, length, slice_get};
 ghost use Rattle.std.specs.Prelude.{◌+◌, ◌*◌, ◌^◌, ◌<◌, ◌≡◌, ◌≢◌, ◌≤◌, ◌⊎◌};
 ghost use Rattle.mach_types.specs.Registers.{register};
 ghost use Rattle.mach_types.specs.declared.events.Entry.{Entry};
-ghost use Rattle.mach_types.specs.declared.events.Kind.TheVariants as kind;
+ghost use Rattle.mach_types.specs.declared.events.Kind.TheVariants as event_kind;
 ghost use Rattle.mach_types.specs.declared.sequences.Area.{Area};
 ghost use Rattle.block_model.specs.Acts.{Sequence, end_before, end_so_far, sequence_on};
 ghost use Rattle.block_model.specs.Deciding.{event, history};
@@ -16,9 +16,18 @@ ghost use Rattle.alone_laws.specs.Entering.{IsIn};
 ghost use Rattle.alone_laws.specs.Retries.{Retries};
 ghost use Rattle.alone_laws.specs.Undisturbed.{Brings, IsUndisturbed, executed_on};
 ghost use Rattle.alone_laws.specs.Uses.{AlwaysOutside, CanAlwaysBegin, Placed, in_block};
+ghost use Rattle.alone_laws.specs.Spans.{code_of};
+ghost use Rattle.elf_load.specs.Images.{IsImage};
+ghost use Rattle.elf_load.specs.declared.image.Image.{Image};
+ghost use Rattle.rv_asm.specs.Assembly.{AreAssembled, Assembly};
+ghost use Rattle.rv_inst.specs.Table.{row_of};
+ghost use Rattle.rv_inst.specs.declared.instruction.Inst.{Inst};
+ghost use Rattle.percpu_lib.specs.Files.{HoldsCode};
 ghost use Rattle.percpu_lib.specs.Forms.{HoldsBlock, IsCommitted, IsLeftFrom, SharesAreaWith, block_of, committed};
 ghost use Rattle.percpu_lib.specs.Forms.{placed_of, range_of};
-ghost use Rattle.percpu_lib.specs.Kinds.{Kind, form_of, takes_in};
+ghost use Rattle.percpu_lib.specs.Kinds.{Kind, form_of, lines_of, takes_in};
+ghost use Rattle.percpu_lib.specs.Lines.{AreEmitted, HasRoom, IsContinued};
+ghost use Rattle.percpu_lib.specs.Words.{AreHeld};
 ghost use Rattle.percpu_lib.specs.declared.slots.Slots.{Slots};
 
 /// In a block run a restartable sequence of a block of the library has the effect of its kind once, where its thread is
@@ -62,7 +71,7 @@ pub fn blocks_that_commit_are_left()
 pub fn blocks_keep_registers()
     ensures { (k : Kind) (s : Setting) (log : List Entry) (entry : Entry) (p : Slots) (at : ℕ) (area : Area) (t r : ℕ)
         → IsBlockRun s (log ++ entry ∷ []) → HoldsBlock s (history s (log ++ entry ∷ [])) (form_of k p) at area t
-        → entry.kind ≡ kind.Exec → running s entry.hart.0 (history s log) ≡ Some t
+        → entry.kind ≡ event_kind.Exec → running s entry.hart.0 (history s log) ≡ Some t
         → in_block (placed_of (form_of k p) at area) (file s t (history s log)).pc ≡ true → (form_of k p).may r ≡ false
         → register (file s t (history s (log ++ entry ∷ []))).file r ≡ register (file s t (history s log)).file r }
 {}
@@ -115,4 +124,21 @@ pub fn retries_work_on_the_value()
         → register (file s t (history s first)).file p.value < 2 ^ 64
         → ((file s t (history s log)).pc ≡ at) ⊎ ((file s t (history s log)).pc ≡ at + 4 * (form_of k p).first)
         → register (file s t (history s log)).file p.value ≡ register (file s t (history s first)).file p.value }
+{}
+
+/// Finished code holds a block of the library where its lines were appended, whatever was appended behind them: word k of
+/// it is of instruction k of the words on which the laws of runs stand.
+pub fn finished_code_holds_block()
+    ensures { (kind : Kind) (p : Slots) (base k w : ℕ) (a b c : Assembly) (bytes : List ℕ) (i : Inst)
+        → HasRoom a.labels base → AreEmitted (lines_of kind p base) a b → IsContinued b c
+        → (code : AreAssembled c.labels c.items bytes) → slice_get (form_of kind p).words k ≡ Some (Some i)
+        → slice_get code.words (length a.items + k) ≡ Some w → row_of w ≡ Some i }
+{}
+
+/// So the program of a file holds a block of the library where finished code stands to which its lines were appended.
+pub fn files_hold_block()
+    ensures { (kind : Kind) (p : Slots) (base at : ℕ) (a b c : Assembly) (bytes file : List ℕ) (image : Image)
+        → HasRoom a.labels base → AreEmitted (lines_of kind p base) a b → IsContinued b c
+        → AreAssembled c.labels c.items bytes → IsImage file image → HoldsCode file at bytes
+        → AreHeld (code_of image.pages.items) (at + 4 * length a.items) (form_of kind p).words }
 {}
