@@ -45,9 +45,47 @@ use Rattle.percpu_lib.proofs.FormedWords.{AreFit, words_fit}
 
 fit : (p : Slots) → AreFit (alloc_form p) 0 (alloc_block p)
 fit p = (
-  (refl, refl), ((refl, refl), ((refl, refl), (refl, ((refl, refl), ((refl, refl), ((refl, refl), ((refl, refl),
-  ((refl, refl), ((refl, value_changed p), ((refl, refl), ((refl, refl), ((refl, refl), ((refl, refl),
-  ((refl, value_changed p), (refl, ((refl, refl), (refl, ((refl, refl), tt))))))))))))))))))
+  (refl, refl),
+  (
+    (refl, refl),
+    (
+      (refl, refl),
+      (
+        refl,
+        (
+          (refl, refl),
+          (
+            (refl, refl),
+            (
+              (refl, refl),
+              (
+                (refl, refl),
+                (
+                  (refl, refl),
+                  (
+                    (refl, value_changed p),
+                    (
+                      (refl, refl),
+                      (
+                        (refl, refl),
+                        (
+                          (refl, refl),
+                          (
+                            (refl, refl),
+                            ((refl, value_changed p), (refl, ((refl, refl), (refl, ((refl, refl), tt))))),
+                          ),
+                        ),
+                      ),
+                    ),
+                  ),
+                ),
+              ),
+            ),
+          ),
+        ),
+      ),
+    ),
+  ),
 )
 
 pub alloc_formed : (p : Slots) → IsFormed (alloc_form p)

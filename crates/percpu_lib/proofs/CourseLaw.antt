@@ -153,8 +153,7 @@ module _ (s : Setting) (form : Form) (at : ℕ) (area : Area) (h t : ℕ) (begun
         × ((file s t q.reached).pc ≢ at + 4 * committed form → form.Partial s h t begun q.reached)
     once before q run fair is from =
         let x = path_law s block h t begun form.may Inside Left path.keeps in_bytes points_in points_out place.runs
-        before q run fair is from in
-        (
+        before q run fair is from in (
           whole_there q.reached x.0 x.1 x.2,
           by_place q.reached x.0 x.1 x.2 (is_inside (range_of form at) x.2.at) refl,
         )

@@ -44,10 +44,64 @@ use Rattle.percpu_lib.proofs.FormedWords.{AreFit, words_fit}
 fit : (p : Slots) → AreFit (free_form p) 0 (free_block p)
 fit p = (
   (refl, refl),
-  ((refl, refl), ((refl, refl), ((refl, refl), (refl, ((refl, refl), ((refl, refl), ((refl, refl), ((refl, refl),
-  ((refl, refl), ((refl, refl), ((refl, refl), ((refl, refl), ((refl, refl), (refl, ((refl, refl),
-  ((refl, value_changed p), (refl, ((refl, refl), (refl,
-  ((refl, value_changed p), ((refl, refl), tt)))))))))))))))))))))
+  (
+    (refl, refl),
+    (
+      (refl, refl),
+      (
+        (refl, refl),
+        (
+          refl,
+          (
+            (refl, refl),
+            (
+              (refl, refl),
+              (
+                (refl, refl),
+                (
+                  (refl, refl),
+                  (
+                    (refl, refl),
+                    (
+                      (refl, refl),
+                      (
+                        (refl, refl),
+                        (
+                          (refl, refl),
+                          (
+                            (refl, refl),
+                            (
+                              refl,
+                              (
+                                (refl, refl),
+                                (
+                                  (refl, value_changed p),
+                                  (
+                                    refl,
+                                    (
+                                      (refl, refl),
+                                      (
+                                        refl,
+                                        ((refl, value_changed p), ((refl, refl), tt)),
+                                      ),
+                                    ),
+                                  ),
+                                ),
+                              ),
+                            ),
+                          ),
+                        ),
+                      ),
+                    ),
+                  ),
+                ),
+              ),
+            ),
+          ),
+        ),
+      ),
+    ),
+  ),
 )
 
 pub free_formed : (p : Slots) → IsFormed (free_form p)

@@ -60,10 +60,61 @@ module _ (p : Slots) (slots : AreSlots p) where
   copy_kept : AreFitBut but_copy (keeping p 28) 0 (free_block p)
   copy_kept = (
     tt,
-    ((refl, refl), ((refl, refl), ((refl, refl), (refl, ((refl, refl), ((refl, refl), ((refl, refl), ((refl, refl),
-    ((refl, refl), ((refl, refl), ((refl, refl), ((refl, refl), ((refl, refl), (refl, ((refl, refl),
-    ((refl, not_28), (refl, ((refl, refl),
-    ((refl, not_28), ((refl, refl), tt))))))))))))))))))))
+    (
+      (refl, refl),
+      (
+        (refl, refl),
+        (
+          (refl, refl),
+          (
+            refl,
+            (
+              (refl, refl),
+              (
+                (refl, refl),
+                (
+                  (refl, refl),
+                  (
+                    (refl, refl),
+                    (
+                      (refl, refl),
+                      (
+                        (refl, refl),
+                        (
+                          (refl, refl),
+                          (
+                            (refl, refl),
+                            (
+                              (refl, refl),
+                              (
+                                refl,
+                                (
+                                  (refl, refl),
+                                  (
+                                    (refl, not_28),
+                                    (
+                                      refl,
+                                      (
+                                        (refl, refl),
+                                        ((refl, not_28), ((refl, refl), tt)),
+                                      ),
+                                    ),
+                                  ),
+                                ),
+                              ),
+                            ),
+                          ),
+                        ),
+                      ),
+                    ),
+                  ),
+                ),
+              ),
+            ),
+          ),
+        ),
+      ),
+    ),
   )
 
   five : not (eqb 5 p.value) ≡ true
@@ -81,10 +132,61 @@ module _ (p : Slots) (slots : AreSlots p) where
   value_kept : AreFitBut but_value (keeping p p.value) 0 (free_block p)
   value_kept = (
     (refl, copied),
-    ((refl, five), ((refl, six), ((refl, six), (refl, ((refl, six), ((refl, refl), ((refl, five), ((refl, five),
-    ((refl, six), ((refl, seven), ((refl, refl), ((refl, seven), ((refl, seven), (refl, ((refl, six),
-    (tt, (refl, ((refl, refl),
-    (tt, ((refl, refl), tt))))))))))))))))))))
+    (
+      (refl, five),
+      (
+        (refl, six),
+        (
+          (refl, six),
+          (
+            refl,
+            (
+              (refl, six),
+              (
+                (refl, refl),
+                (
+                  (refl, five),
+                  (
+                    (refl, five),
+                    (
+                      (refl, six),
+                      (
+                        (refl, seven),
+                        (
+                          (refl, refl),
+                          (
+                            (refl, seven),
+                            (
+                              (refl, seven),
+                              (
+                                refl,
+                                (
+                                  (refl, six),
+                                  (
+                                    tt,
+                                    (
+                                      refl,
+                                      (
+                                        (refl, refl),
+                                        (tt, ((refl, refl), tt)),
+                                      ),
+                                    ),
+                                  ),
+                                ),
+                              ),
+                            ),
+                          ),
+                        ),
+                      ),
+                    ),
+                  ),
+                ),
+              ),
+            ),
+          ),
+        ),
+      ),
+    ),
   )
 
 -- WHAT IS KNOWN

@@ -8,17 +8,23 @@ use Rattle.block_model.specs.Deciding.{history}
 use Rattle.block_model.specs.History.{History, file, running}
 use Rattle.block_model.specs.Run.{IsBlockRun}
 use Rattle.block_model.specs.Setting.{Setting}
+use Rattle.elf_load.specs.declared.image.ImagePage.{ImagePage}
+use Rattle.alone_laws.specs.Pointers.{LiesBeside}
 use Rattle.alone_laws.specs.Retries.{Retries}
+use Rattle.alone_laws.specs.Spans.{code_of}
 use Rattle.alone_laws.specs.Undisturbed.{Brings, IsUndisturbed, executed_on}
-use Rattle.alone_laws.specs.Uses.{AlwaysOutside, CanAlwaysBegin}
+use Rattle.alone_laws.specs.Uses.{AlwaysOutside, CanAlwaysBegin, Placed}
+use Rattle.percpu_lib.specs.Beside.{IsOfLibrary}
 use Rattle.percpu_lib.specs.Forms.{Form, HoldsBlock, IsCommitted, committed, placed_of}
 use Rattle.percpu_lib.specs.Frees.{free_form}
 use Rattle.percpu_lib.specs.Kinds.{Kind, adds, allocs, form_of, frees, pops, pushes, takes_in}
 use Rattle.percpu_lib.specs.Pushes.{push_form}
 use Rattle.percpu_lib.specs.Uses.{add_form}
+use Rattle.percpu_lib.specs.Words.{AreHeld}
 use Rattle.percpu_lib.specs.declared.slots.Slots.{Slots}
 use Rattle.percpu_lib.proofs.AddLaw.{add_course}
 use Rattle.percpu_lib.proofs.AllocLaw.{alloc_course}
+use Rattle.percpu_lib.proofs.BesideLaw.{beside}
 use Rattle.percpu_lib.proofs.BlockCourse.{AsksFirst, IsCopy, comes_to_commit}
 use Rattle.percpu_lib.proofs.BlockRetries.{value_stays}
 use Rattle.percpu_lib.proofs.Courses.{HasCourse}
@@ -35,7 +41,7 @@ course_of_kind allocs p = alloc_course p
 course_of_kind frees p = free_course p
 
 -- so many words copy before the area is asked for the processor
-abbrev lead_of : Kind → ℕ
+abbrev pub lead_of : Kind → ℕ
 lead_of adds = 0
 lead_of pushes = 0
 lead_of pops = 0
@@ -54,7 +60,7 @@ free_copies p zero lt = record {
 }
 free_copies p (suc k) lt = absurd (omega arith)
 
-asks_first : (k : Kind) (p : Slots) → AsksFirst (form_of k p) (lead_of k)
+pub asks_first : (k : Kind) (p : Slots) → AsksFirst (form_of k p) (lead_of k)
 asks_first adds p = record { all = refl; copies = λ n lt. absurd (omega arith); lw = refl; lui = refl; addi = refl; store = refl }
 asks_first pushes p = record { all = refl; copies = λ n lt. absurd (omega arith); lw = refl; lui = refl; addi = refl; store = refl }
 asks_first pops p = record { all = refl; copies = λ n lt. absurd (omega arith); lw = refl; lui = refl; addi = refl; store = refl }
@@ -110,3 +116,17 @@ value_comes_in pops s first log later p at area t takes run held retries small t
 value_comes_in allocs s first log later p at area t takes run held retries small there = absurd (false≢true takes)
 value_comes_in frees s first log later p at area t takes run held retries small there =
     freed_value_stays s p at area t first log later run held retries small there
+
+-- no sequence of a block of the library has a word of another before its sequence
+few_copies : (k : Kind) → lead_of k ≤ 1
+few_copies adds = omega arith
+few_copies pushes = omega arith
+few_copies pops = omega arith
+few_copies allocs = omega arith
+few_copies frees = omega arith
+
+pub lies_beside : (k : Kind) (pages : List ImagePage) (p : Slots) (at : ℕ) (area : Area) (other : Placed)
+    → AreHeld (code_of pages) at (form_of k p).words → at < 2 ^ 37 → IsOfLibrary (code_of pages) other
+    → LiesBeside (placed_of (form_of k p) at area) other
+lies_beside k pages p at area other held low its =
+    beside pages (form_of k p) (lead_of k) (asks_first k p) (few_copies k) at area other held low its

@@ -45,9 +45,41 @@ use Rattle.percpu_lib.proofs.FormedWords.{AreFit, words_fit}
 
 fit : (p : Slots) → AreFit (pop_form p) 0 (pop_block p)
 fit p = (
-  (refl, refl), ((refl, refl), ((refl, refl), (refl, ((refl, refl), ((refl, refl), ((refl, refl), ((refl, refl),
-  ((refl, value_changed p), ((refl, refl), ((refl, refl), (refl,
-  ((refl, refl), (refl, ((refl, refl), tt))))))))))))))
+  (refl, refl),
+  (
+    (refl, refl),
+    (
+      (refl, refl),
+      (
+        refl,
+        (
+          (refl, refl),
+          (
+            (refl, refl),
+            (
+              (refl, refl),
+              (
+                (refl, refl),
+                (
+                  (refl, value_changed p),
+                  (
+                    (refl, refl),
+                    (
+                      (refl, refl),
+                      (
+                        refl,
+                        ((refl, refl), (refl, ((refl, refl), tt))),
+                      ),
+                    ),
+                  ),
+                ),
+              ),
+            ),
+          ),
+        ),
+      ),
+    ),
+  ),
 )
 
 pub pop_formed : (p : Slots) → IsFormed (pop_form p)

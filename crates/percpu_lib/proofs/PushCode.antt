@@ -8,8 +8,29 @@ use Rattle.percpu_lib.proofs.FormedWords.{AreFit, words_fit}
 
 fit : (p : Slots) → AreFit (push_form p) 0 (push_block p)
 fit p = (
-  (refl, refl), ((refl, refl), ((refl, refl), (refl, ((refl, refl), ((refl, refl), ((refl, refl), ((refl, refl),
-  ((refl, refl), (refl, (refl, ((refl, refl), (refl, ((refl, refl), tt)))))))))))))
+  (refl, refl),
+  (
+    (refl, refl),
+    (
+      (refl, refl),
+      (
+        refl,
+        (
+          (refl, refl),
+          (
+            (refl, refl),
+            (
+              (refl, refl),
+              (
+                (refl, refl),
+                ((refl, refl), (refl, (refl, ((refl, refl), (refl, ((refl, refl), tt)))))),
+              ),
+            ),
+          ),
+        ),
+      ),
+    ),
+  ),
 )
 
 pub push_formed : (p : Slots) → IsFormed (push_form p)

@@ -13,15 +13,18 @@ ghost use Rattle.block_model.specs.Run.{IsBlockRun};
 ghost use Rattle.block_model.specs.Setting.{Setting};
 ghost use Rattle.alone_laws.specs.Blocks.{IsPlaceOf};
 ghost use Rattle.alone_laws.specs.Entering.{IsIn};
+ghost use Rattle.alone_laws.specs.Pointers.{LiesBeside};
 ghost use Rattle.alone_laws.specs.Retries.{Retries};
 ghost use Rattle.alone_laws.specs.Undisturbed.{Brings, IsUndisturbed, executed_on};
 ghost use Rattle.alone_laws.specs.Uses.{AlwaysOutside, CanAlwaysBegin, Placed, in_block};
 ghost use Rattle.alone_laws.specs.Spans.{code_of};
 ghost use Rattle.elf_load.specs.Images.{IsImage};
 ghost use Rattle.elf_load.specs.declared.image.Image.{Image};
+ghost use Rattle.elf_load.specs.declared.image.ImagePage.{ImagePage};
 ghost use Rattle.rv_asm.specs.Assembly.{AreAssembled, Assembly};
 ghost use Rattle.rv_inst.specs.Table.{row_of};
 ghost use Rattle.rv_inst.specs.declared.instruction.Inst.{Inst};
+ghost use Rattle.percpu_lib.specs.Beside.{IsOfLibrary};
 ghost use Rattle.percpu_lib.specs.Files.{HoldsCode};
 ghost use Rattle.percpu_lib.specs.Forms.{HoldsBlock, IsCommitted, IsLeftFrom, SharesAreaWith, block_of, committed};
 ghost use Rattle.percpu_lib.specs.Forms.{placed_of, range_of};
@@ -141,4 +144,12 @@ pub fn files_hold_block()
         → HasRoom a.labels base → AreEmitted (lines_of kind p base) a b → IsContinued b c
         → AreAssembled c.labels c.items bytes → IsImage file image → HoldsCode file at bytes
         → AreHeld (code_of image.pages.items) (at + 4 * length a.items) (form_of kind p).words }
+{}
+
+/// No sequence of a block of the library has a word of a block of the library before that one's sequence, wherever both
+/// stand in a program.
+pub fn all_blocks_lie_beside()
+    ensures { (k : Kind) (pages : List ImagePage) (p : Slots) (at : ℕ) (area : Area) (other : Placed)
+        → AreHeld (code_of pages) at (form_of k p).words → at < 2 ^ 37 → IsOfLibrary (code_of pages) other
+        → LiesBeside (placed_of (form_of k p) at area) other }
 {}
