@@ -6,7 +6,7 @@ use Rattle.mach_types.specs.declared.user_memory.Store.{Store}
 use Rattle.mach_types.specs.declared.user_memory.Write.{Write}
 use Rattle.alone_laws.specs.Blocks.{among}
 use Rattle.alone_laws.specs.Spans.{seen_at, sees}
-use Rattle.alone_laws.proofs.Events.{IsStep, step_of, waits_apart}
+use Rattle.block_model.proofs.Laws.{IsStep, step_of, waits_apart}
 use Rattle.alone_laws.proofs.Sequences.{each_among}
 use Rattle.alone_laws.proofs.Steps.{sees_own, word_same}
 use Rattle.alone_laws.proofs.StoredWords.{stored_word}

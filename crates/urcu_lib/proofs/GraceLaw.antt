@@ -12,14 +12,16 @@ use Rattle.rv_inst.specs.declared.instruction.Inst.TheVariants as inst
 use Rattle.alone.proofs.Laws.{loaded_word, written_same}
 use Rattle.alone.proofs.Means.{means_ld, means_sd}
 use Rattle.alone_laws.specs.Spans.{code_of, seen_at}
-use Rattle.alone_laws.proofs.Processors.{one_hart}
+use Rattle.block_model.proofs.Laws.{one_hart}
 use Rattle.mach_types.specs.Bytes.{word_at}
-use Rattle.alone_laws.proofs.Events.{step_of}
+use Rattle.block_model.proofs.Laws.{step_of}
 use Rattle.block_model.specs.History.{Event, History, file, running, waiting}
 use Rattle.block_model.specs.Run.{IsRunHistory}
 use Rattle.block_model.specs.Setting.{Setting}
 use Rattle.block_model.specs.Walks.{is_exec}
-use Rattle.urcu_lib.specs.Blocks.{AreBlocks, ReadRegs, SyncRegs, Urcu, counter_bytes, slot_at, slot_bytes}
+use Rattle.urcu_lib.specs.Blocks.{AreBlocks, Urcu, counter_bytes, slot_at, slot_bytes}
+use Rattle.urcu_lib.specs.declared.regs.ReadRegs.{ReadRegs}
+use Rattle.urcu_lib.specs.declared.regs.SyncRegs.{SyncRegs}
 use Rattle.fence_laws.specs.Entered.{HaveEntered}
 use Rattle.fence_laws.specs.Kept.{AreBeside, AreQuiet, IsQuiet}
 use Rattle.urcu_lib.specs.Sections.{HaveEnded, IsGrace, IsGraceEnd, IsSyncStore}
@@ -460,5 +462,5 @@ module _ (s : Setting) (u : Urcu) (first : ℕ) (blocks : AreBlocks (code_of s.p
         where
           beside : (h : ℕ) → (h ≡ c.hart) ⊎ (h ≢ c.hart) → AreBeside (counter_bytes u) (waiting h before)
           beside h (inl same) =
-              p.apart h (λ its. other (sym same ∙ one_hart s e before (step_of s e before run) h e.entry.hart.0 t its runs_it))
+              p.apart h (λ its. other (sym same ∙ one_hart s e before (step_of s e before run) h t its e.entry.hart.0 runs_it))
           beside h (inr apart_it) = c.others h apart_it

@@ -8,8 +8,8 @@ use Rattle.mach_types.specs.declared.user_memory.Store.{Store}
 use Rattle.rv_inst.specs.declared.instruction.Inst.TheVariants as inst
 use Rattle.alone.proofs.Means.{means_sd}
 use Rattle.alone_laws.specs.Spans.{code_of, seen_at, sees}
-use Rattle.alone_laws.proofs.Events.{IsStep, step_of, waits_apart}
-use Rattle.alone_laws.proofs.Processors.{one_hart}
+use Rattle.block_model.proofs.Laws.{IsStep, step_of, waits_apart}
+use Rattle.block_model.proofs.Laws.{one_hart}
 use Rattle.alone_laws.proofs.Sequences.{each_among}
 use Rattle.alone_laws.proofs.Steps.{sees_own, word_same}
 use Rattle.alone_laws.proofs.StoredWords.{stored_word}
@@ -154,7 +154,7 @@ module _ (s : Setting) (u : Urcu) (first : ℕ) (blocks : AreBlocks (code_of s.p
       λ j other.
       subst (AreBeside words) (sym (waits_apart j e begun (ne_eqb k j (λ same. other (sym same)))))
       (owned_waits words s (u.reader i) begun run_first.0 (stored_by begun run_first.0 use_first.0) j
-      (λ its. other (one_hart s e begun step j k (u.reader i) its (executes.runs ∙ ap Some (use_first.1.writer i lt (inl begins.locks)))))) in
+      (λ its. other (one_hart s e begun step j (u.reader i) its k (executes.runs ∙ ap Some (use_first.1.writer i lt (inl begins.locks)))))) in
       ap (λ (b : History). word_at (seen_at s h b) (slot_at u i) 8) begins.parts
       ∙ word_same words (seen_at s h (begins.since ++ x)) (seen_at s k x)
       (λ a has. ap Some (seen_by_all words s k x others begins.since run_there begins.quiet has_entered h a has)) (slot_at u i) 8 in_slot

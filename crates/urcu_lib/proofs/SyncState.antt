@@ -5,7 +5,8 @@ use Rattle.mach_types.specs.declared.registers.Regs.{Regs}
 use Rattle.block_model.specs.History.{Event, History, running, waiting}
 use Rattle.block_model.specs.Run.{IsRunHistory}
 use Rattle.block_model.specs.Setting.{Setting}
-use Rattle.urcu_lib.specs.Blocks.{SyncRegs, Urcu, counter_bytes, slot_at}
+use Rattle.urcu_lib.specs.Blocks.{Urcu, counter_bytes, slot_at}
+use Rattle.urcu_lib.specs.declared.regs.SyncRegs.{SyncRegs}
 use Rattle.fence_laws.specs.Entered.{HaveEntered, IsFence}
 use Rattle.fence_laws.specs.Kept.{AreBeside, AreQuiet, IsQuiet}
 use Rattle.urcu_lib.specs.Sections.{IsExecAt, IsGrace, IsGraceBegin, IsGraceEnd, IsSection, IsSyncStore, calls, enters, goes, waits}

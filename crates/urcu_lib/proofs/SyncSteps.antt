@@ -18,13 +18,14 @@ use Rattle.alone.proofs.Laws.{loaded_word, written_other, written_same}
 use Rattle.alone.proofs.Means.{means_addi, means_bne_not, means_bne_taken, means_ld, means_sd}
 use Rattle.alone_laws.specs.Blocks.{among}
 use Rattle.alone_laws.specs.Spans.{IsUsable, code_of, seen_at, sees}
-use Rattle.alone_laws.proofs.Events.{IsStep, step_of}
+use Rattle.block_model.proofs.Laws.{IsStep, step_of}
 use Rattle.alone_laws.proofs.Sequences.{each_among}
 use Rattle.alone_laws.proofs.StoredWords.{some_word}
 use Rattle.block_model.specs.History.{Event, History, drains, file, is_of_hart, stores, waiting}
 use Rattle.block_model.specs.Run.{IsRunHistory}
 use Rattle.block_model.specs.Setting.{Setting}
-use Rattle.urcu_lib.specs.Blocks.{AreBlocks, SyncRegs, Urcu, counter_bytes, slot_at, slot_bytes, sync_block}
+use Rattle.urcu_lib.specs.Blocks.{AreBlocks, Urcu, counter_bytes, slot_at, slot_bytes, sync_block}
+use Rattle.urcu_lib.specs.declared.regs.SyncRegs.{SyncRegs}
 use Rattle.fence_laws.specs.Entered.{HaveEntered}
 use Rattle.fence_laws.specs.Kept.{AreBeside, AreQuiet}
 use Rattle.urcu_lib.specs.Sections.{IsExecAt, IsGrace, IsGraceBegin, IsGraceEnd, IsSection, calls, waits}

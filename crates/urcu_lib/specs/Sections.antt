@@ -5,7 +5,9 @@ use Rattle.mach_types.specs.Registers.{register}
 use Rattle.mach_types.specs.declared.events.Choice.TheVariants as asked
 use Rattle.block_model.specs.History.{Event, History, file}
 use Rattle.block_model.specs.Setting.{Setting}
-use Rattle.urcu_lib.specs.Blocks.{ReadRegs, SyncRegs, Urcu, slot_at}
+use Rattle.urcu_lib.specs.Blocks.{Urcu, slot_at}
+use Rattle.urcu_lib.specs.declared.regs.ReadRegs.{ReadRegs}
+use Rattle.urcu_lib.specs.declared.regs.SyncRegs.{SyncRegs}
 
 -- an event executes the instruction at an address
 pub record IsExecAt (at : ℕ) (e : Event) : Type 0 where

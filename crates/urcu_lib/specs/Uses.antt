@@ -9,7 +9,9 @@ use Rattle.alone_laws.specs.Spans.{IsUsable, code_of}
 use Rattle.block_model.specs.Acts.{is_inside_at}
 use Rattle.block_model.specs.History.{Event, History, byte, file, kernel}
 use Rattle.block_model.specs.Setting.{Setting}
-use Rattle.urcu_lib.specs.Blocks.{AreBlocks, ReadRegs, SyncRegs, Urcu, counter_bytes, slot_at, slot_bytes}
+use Rattle.urcu_lib.specs.Blocks.{AreBlocks, Urcu, counter_bytes, slot_at, slot_bytes}
+use Rattle.urcu_lib.specs.declared.regs.ReadRegs.{ReadRegs}
+use Rattle.urcu_lib.specs.declared.regs.SyncRegs.{SyncRegs}
 use Rattle.fence_laws.specs.Kept.{IsQuiet}
 use Rattle.urcu_lib.specs.Sections.{IsExecAt, IsGrace, IsGraceBegin, IsLockStore, IsSection, IsSyncStore, IsUnlockStore}
 

@@ -1,0 +1,5 @@
+pub mod CounterLaw
+pub mod GraceLaw
+pub mod SlotLaw
+pub mod SyncState
+pub mod SyncSteps

@@ -1,0 +1,4 @@
+pub mod Blocks
+pub mod Sections
+pub mod Stretch
+pub mod Uses
