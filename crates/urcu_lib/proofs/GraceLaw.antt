@@ -207,10 +207,10 @@ module _ (s : Setting) (u : Urcu) (first : ℕ) (blocks : AreBlocks (code_of s.p
         let after = after_load s e before (step_of s e before run) executes (at + 4 * 0) (inst.Ld r.scratch r.gp (pos 0)) (pc ∙ omega arith) code (counter_bytes u) (uses.1.counter_usable executes)
         u.counter r.scratch w.0 (means_ld (file s t before).file (at + 4 * 0) r.scratch r.gp (pos 0) u.counter u.counter
         (uses.1.lock_gp at r block (record { executes = executes; pc = pc })) (omega arith)) (in_word u.counter) w.1 in
-        let scratch = blocks.scratch at r block in
+        let scratch = (blocks.lock_regs at r block).scratch in
         let value : register (file s t (e ∷ before)).file r.scratch ≡ loaded w.0 8 true =
         ap (λ (x : Saved). register x.file r.scratch) after
-        ∙ written_same (file s t before).file r.scratch (loaded w.0 8 true) (ne_eqb r.scratch 0 scratch.0) (subst (λ n. r.scratch < n) (sym (uses.1.many t)) scratch.1) in
+        ∙ written_same (file s t before).file r.scratch (loaded w.0 8 true) (ne_eqb r.scratch 0 scratch.some) (subst (λ n. r.scratch < n) (sym (uses.1.many t)) scratch.low) in
         let is = value ∙ loaded_word w.0 in
         let some = w.2 in
         let most = w.3 in

@@ -113,7 +113,7 @@ module _ (s : Setting) (u : Urcu) (first : ℕ) (blocks : AreBlocks (code_of s.p
   usable : IsUsable s no_words before
   usable = record { read = λ a is. absurd (false≢true is); write = λ a is. absurd (false≢true is) }
 
-  holds : (k : ℕ) (i : Inst) → slice_get (sync_block r u.readers) k ≡ Some i → code_of s.program.pages (at + 4 * k) ≡ Some i
+  holds : (k : ℕ) (i : Inst) → slice_get (sync_block r u.readers) k ≡ Some (Some i) → code_of s.program.pages (at + 4 * k) ≡ Some i
   holds k i is = (blocks.syncs at r block).holds k i is
 
   -- registers after a write
@@ -128,7 +128,7 @@ module _ (s : Setting) (u : Urcu) (first : ℕ) (blocks : AreBlocks (code_of s.p
   goes_to rd v to is = ap (λ (x : Saved). x.pc) is
 
   -- one that works on registers alone
-  nexts : (k : ℕ) (i : Inst) (rd v to : ℕ) → e.entry.pc ≡ at + 4 * k → slice_get (sync_block r u.readers) k ≡ Some i → meaning i f (at + 4 * k) ≡ effect.Next rd v to
+  nexts : (k : ℕ) (i : Inst) (rd v to : ℕ) → e.entry.pc ≡ at + 4 * k → slice_get (sync_block r u.readers) k ≡ Some (Some i) → meaning i f (at + 4 * k) ≡ effect.Next rd v to
       → now ≡ record { file = with_register f rd v; pc = to }
   nexts k i rd v to pc is means = after_next s e before step executes (at + 4 * k) i pc (holds k i is) no_words usable rd v to means
 

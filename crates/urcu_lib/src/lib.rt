@@ -6,8 +6,14 @@
 //! number that isn't below the new counter.
 #![tactic(auto)]
 
+mod fault;
+mod reads;
 mod regs;
+mod syncs;
 mod theorems;
 
+pub use fault::RcuFault;
+pub use reads::{emit_read_lock, emit_read_unlock};
 pub use regs::{ReadRegs, SyncRegs};
+pub use syncs::emit_sync;
 pub use theorems::{sections_end_before_grace_periods, sync_is_soon_over};
