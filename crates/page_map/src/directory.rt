@@ -54,7 +54,7 @@ impl Directory {
     }
 
     /// The number of a chunk.
-    pub(crate) fn get(&self, chunk: usize) -> u32
+    pub(crate) fn number(&self, chunk: usize) -> u32
         requires { chunk < CHUNKS }
         ensures { result ≡ slice_index self.now chunk }
     {

@@ -70,7 +70,7 @@ impl PageTable {
         if page >= PAGES {
             return None;
         }
-        let leaf = self.directory.get((page / CHUNK) as usize);
+        let leaf = self.directory.number((page / CHUNK) as usize);
         self.leaves[leaf as usize][(page % CHUNK) as usize]
     }
 
@@ -123,7 +123,7 @@ impl PageTable {
     {
         let mut page = from;
         while page < end {
-            if self.directory.get((page / CHUNK) as usize) == EMPTY_LEAF {
+            if self.directory.number((page / CHUNK) as usize) == EMPTY_LEAF {
                 page = (page / CHUNK + 1) * CHUNK;
             } else if self.get(page).is_some() {
                 return Some(page);
@@ -163,11 +163,11 @@ fn own_leaf(directory: &mut Directory, leaves: &mut Vec<Leaf>, chunk: usize) -> 
     ensures leaf { result ≡ slice_index directory.new chunk }
     ensures capacity { vec_capacity leaves.old ≤ vec_capacity leaves.new }
 {
-    if directory.get(chunk) == EMPTY_LEAF {
+    if directory.number(chunk) == EMPTY_LEAF {
         directory.set(chunk, leaves.len() as u32);
         let _ = leaves.push(empty_leaf());
     }
-    directory.get(chunk) as usize
+    directory.number(chunk) as usize
 }
 
 /// A leaf without entries.

@@ -1,7 +1,7 @@
 use Rattle.std.proofs.Common.{◌/◌, ◌%◌, ◌∙◌, List, [], ℕ, get_or, sym, ap, arith}
 use Rattle.page_map.proofs.Directories.{numbers-at}
 use Rattle.page_map.proofs.Rows.{read-at}
-use Rattle.page_map.proofs.directory.Directory.get.Goals as goal
+use Rattle.page_map.proofs.directory.Directory.number.Goals as goal
 
 pub returns : goal.returns
 returns c =
