@@ -13,6 +13,7 @@ use Rattle.mach_types.specs.declared.barriers.Answer.TheVariants.{Begin, Value}
 use Rattle.mach_types.specs.declared.errors.TheConstants.{EINVAL, EPERM}
 use Rattle.mach_types.specs.declared.events.Choice.TheVariants as asked_for
 use Rattle.mach_types.specs.declared.events.Why.{Why}
+use Rattle.mach_types.specs.declared.limits.End.{End}
 use Rattle.mach_types.specs.declared.events.Why.TheVariants.{FullBuffer, InBarrier, Waiting}
 use Rattle.mach_types.specs.declared.user_memory.TheConstants.{STORE_BUFFER_CAPACITY}
 use Rattle.mach_types.specs.declared.user_memory.Store.{Store}
@@ -22,13 +23,14 @@ use Rattle.rv_inst.specs.Words.{signed_32, sum_64, word}
 use Rattle.rv_inst.specs.declared.effects.Effect.TheVariants as effect
 use Rattle.rv_inst.specs.declared.instruction.Inst.{Inst}
 use Rattle.rv_inst.specs.declared.instruction.Inst.TheVariants as inst
+use Rattle.alone.proofs.Laws.{written_other}
 use Rattle.alone_laws.specs.Spans.{code_of}
 use Rattle.block_model.specs.Acts.{is_inside_at}
 use Rattle.block_model.specs.Calls.{call_of, called}
 use Rattle.block_model.specs.Calls.Answers.{argument, int_argument, killed_in_call, returned}
 use Rattle.block_model.specs.Calls.Barriers.{answers, running_harts}
 use Rattle.block_model.specs.Events.{done_of, refusal_of}
-use Rattle.block_model.specs.Events.Exec.{by_call, by_effect, done_exec_by, is_held, next_effect, next_fault, others_gate, refusal_exec_by}
+use Rattle.block_model.specs.Events.Exec.{by_call, by_effect, called_here, done_exec_by, is_held, next_effect, next_fault, others_gate, refusal_exec_by}
 use Rattle.block_model.specs.Events.Preempt.{unless_in_barrier}
 use Rattle.block_model.specs.Here.{Barrier, Done, Here, is_writable, memory, waiting_here}
 use Rattle.block_model.specs.History.{Event, History, file, file_among, here_in_history, kernel, running, waiting}
@@ -52,6 +54,9 @@ none_in k = has_hart-harts_that (λ h. false) 0 k
 
 eight : signed_32 8 ≡ pos 8
 eight = refl
+
+no_end : (x : End) → Some x ≡ None → ⊥
+no_end x is = cc
 
 no_why : (w : Why) → Some w ≡ None → ⊥
 no_why w is = cc
@@ -82,6 +87,33 @@ module _ (s : Setting) (e : Event) (before : History) (step : IsStep s e before)
 
   abbrev running_set : ℕ
   running_set = running_harts (kernel s before).threads harts
+
+  -- a call inside a restartable sequence ends the process
+  pub outside_of : code_of s.program.pages (file s t before).pc ≡ Some inst.Ecall → e.done.ended ≡ None
+      → is_inside_at s e.entry.hart.0 before ≡ false
+  outside_of code lives = ap (λ o. option_map_or (is_inside_here here) o false) runs_it ∙ by_inside (is_inside_here here t) refl
+    where
+      runs_it : running s e.entry.hart.0 before ≡ Some t
+      runs_it = (exec_of s e before step executes).runs
+
+      next : next_effect here t ≡ Some effect.Call
+      next =
+          ap (λ o. option_map (λ (i : Inst). meaning i (file s t before).file (file s t before).pc) o) code
+          ∙ ap Some (call_means (file s t before).pc s t before)
+
+      did : e.done ≡ by_call here (called_here here t)
+      did =
+          step.did ∙ ap (λ c. done_of c here) executes ∙ ap (λ r. done_exec_by here r) runs_it
+          ∙ ap (λ f. by_effect here t f (next_effect here t))
+          (ap (fault_by (memory here) (is_writable here) (file s t before).pc (fetched s.program.pages (file s t before).pc)) next)
+          ∙ ap (λ d. by_effect here t None d) next
+
+      by_inside : (b : Bool) → is_inside_here here t ≡ b → is_inside_here here t ≡ false
+      by_inside false is = is
+      by_inside true is =
+          absurd (no_end _
+          (sym (ap (λ (d : Done). d.ended) did ∙ ap (λ b. (by_call here (cond b (killed_in_call here) (called here t))).ended) is)
+          ∙ lives))
 
   pub record IsCall : Type 0 where
     pub code : code_of s.program.pages (file s t before).pc ≡ Some inst.Ecall
@@ -138,6 +170,20 @@ module _ (s : Setting) (e : Event) (before : History) (step : IsStep s e before)
         by_set : (b : Bool) → (file_among (answers here t (cond b (Value (pos 0)) (Begin about false))).files t (file s t before)).pc ≡ sum_64 (file s t before).pc 4
         by_set true = ap (λ b. (cond b (returned (word (pos 0)) (file s t before)) (file s t before)).pc) (eqb_same t)
         by_set false = ap (λ b. (cond b (record (file s t before) { pc = sum_64 (file s t before).pc 4 }) (file s t before)).pc) (eqb_same t)
+
+    -- and no register changes but a0
+    pub call_keeps : (j : ℕ) → j ≢ 10 → register (file s t (e ∷ before)).file j ≡ register (file s t before).file j
+    call_keeps j other =
+        ap (λ (d : Done). register (file_among d.files t (file s t before)).file j) did_call ∙ by_set (eqb about 0)
+      where
+        by_set : (b : Bool)
+            → register (file_among (answers here t (cond b (Value (pos 0)) (Begin about false))).files t (file s t before)).file j
+            ≡ register (file s t before).file j
+        by_set true =
+            ap (λ b. register (cond b (returned (word (pos 0)) (file s t before)) (file s t before)).file j) (eqb_same t)
+            ∙ written_other (file s t before).file 10 (word (pos 0)) j other
+        by_set false =
+            ap (λ b. register (cond b (record (file s t before) { pc = sum_64 (file s t before).pc 4 }) (file s t before)).file j) (eqb_same t)
 
     -- each other hart that runs a thread is a target
     is_meant : (k : ℕ) → k ≢ e.entry.hart.0 → running s k before ≢ None → has_hart about k ≡ true

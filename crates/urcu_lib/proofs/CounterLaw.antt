@@ -108,6 +108,17 @@ module _ (at : ℕ) where
       (λ a has. ap Some (beside_leaves words (waiting h now) (none h) a (byte s now a) has ∙ sym (beside_leaves words (waiting c.hart now) (none c.hart) a (byte s now a) has)))
       at 8 in_word ∙ c.seen
 
+  -- which is a number of 64 bits
+  pub counted_low : (s : Setting) (first : ℕ) (now : History) → IsCounter s first now → counted at first now < 2 ^ 64
+  counted_low s first now c =
+      let w = seen_word s first now c c.hart in
+      let same : w.0 ≡ counted at first now = same_number (sym w.1 ∙ c.seen) in
+      let low = w.4 in
+      omega arith
+    where
+      same_number : {a b : ℕ} → Some a ≡ Some b → a ≡ b
+      same_number is = cc
+
   -- at the start
   pub counter_start : (s : Setting) (first : ℕ) → word_at (λ a. Some (byte s [] a)) at 8 ≡ Some first → 1 ≤ first → first < 2 ^ 64 → IsCounter s first []
   counter_start s first is some low = record {

@@ -1,8 +1,8 @@
 -- Where a thread stands in a sync block, and what it has shown by then; what it doesn't execute leaves it so.
-use Rattle.std.proofs.Common.{◌≡◌, ◌≢◌, ℕ, suc, ◌+◌, ◌*◌, ◌-◌, ◌<◌, ◌≤◌, List, ◌∷◌, ◌++◌, ◌⊎◌, length, length-append, arith, refl, ap, ◌∙◌, Bool, true, false, cond, ltb, inl, inr, Some}
+use Rattle.std.proofs.Common.{◌≡◌, ◌≢◌, ℕ, suc, ◌+◌, ◌*◌, ◌-◌, ◌<◌, ◌≤◌, ◌%◌, ◌^◌, List, ◌∷◌, ◌++◌, ◌⊎◌, length, length-append, arith, refl, ap, ◌∙◌, Bool, true, false, cond, ltb, inl, inr, Some}
 use Rattle.mach_types.specs.Registers.{register}
 use Rattle.mach_types.specs.declared.registers.Regs.{Regs}
-use Rattle.block_model.specs.History.{Event, History, running, waiting}
+use Rattle.block_model.specs.History.{Event, History, file, running, waiting}
 use Rattle.block_model.specs.Run.{IsRunHistory}
 use Rattle.block_model.specs.Setting.{Setting}
 use Rattle.urcu_lib.specs.Blocks.{Urcu, counter_bytes, slot_at}
@@ -10,6 +10,7 @@ use Rattle.urcu_lib.specs.declared.regs.SyncRegs.{SyncRegs}
 use Rattle.fence_laws.specs.Entered.{HaveEntered, IsFence}
 use Rattle.fence_laws.specs.Kept.{AreBeside, AreQuiet, IsQuiet}
 use Rattle.urcu_lib.specs.Sections.{IsExecAt, IsGrace, IsGraceBegin, IsGraceEnd, IsSection, IsSyncStore, calls, enters, goes, waits}
+use Rattle.block_model.specs.Acts.{is_inside_at}
 use Rattle.urcu_lib.specs.Uses.{IsElsewhere, IsUse, counted}
 use Rattle.urcu_lib.proofs.CounterLaw.{beside_stores}
 use Rattle.fence_laws.proofs.Fences.{entered_next}
@@ -27,6 +28,17 @@ some_left u k seven = by_tests (ltb k 10) (ltb k 15) (ltb k 16)
     by_tests false true c = omega arith
     by_tests false false true = omega arith
     by_tests false false false = omega arith
+
+-- what is known of an event besides how the blocks are used: of a grace period that goes on nobody else stores in the
+-- counter, its thread doesn't begin it again or enter its block anew, and it calls inside no restartable sequence
+pub record IsOrderly (s : Setting) (u : Urcu) (first : ℕ) (e : Event) (before : History) : Type 0 where
+  pub used : IsUse s u first e before
+  pub one : (at t : ℕ) (r : SyncRegs) (grace : History) → u.syncs at ≡ Some r → IsGrace at t grace before → IsSyncStore u e → (e.entry.tid.0 ≡ t) × (e.entry.pc ≡ at + 28)
+  pub once : (at t : ℕ) (r : SyncRegs) (grace : History) → u.syncs at ≡ Some r → IsGrace at t grace before → IsGraceBegin at t e → ⊥
+  pub anew : (at t : ℕ) (r : SyncRegs) (grace : History) → u.syncs at ≡ Some r → IsGrace at t grace before → IsExecAt at e → ⊥
+  pub outside : (at t : ℕ) (r : SyncRegs) → u.syncs at ≡ Some r → IsGraceBegin at t e → is_inside_at s e.entry.hart.0 before ≡ false
+  pub many : (t : ℕ) → length (file s t before).file.x ≡ 32
+  pub low : counted u.counter first before < 2 ^ 64
 
 module _ (s : Setting) (u : Urcu) (first : ℕ) where
   -- a grace period of thread t in the sync block goes on, the newest one, since a call that is a barrier for each hart
@@ -62,15 +74,19 @@ module _ (s : Setting) (u : Urcu) (first : ℕ) where
     pub count : counted u.counter first now ≡ counted u.counter first opened.grace + 1
     pub apart : (h : ℕ) → running s h now ≢ Some t → AreBeside (counter_bytes u) (waiting h now)
 
+  -- no grace period of the thread in the block goes on
+  abbrev pub HasNone : (at t : ℕ) (now : History) → Type 0
+  HasNone at t now = (g : History) → IsGrace at t g now → ⊥
+
   -- the thread is at instruction k of the block
   pub data Stands (at t : ℕ) (f : Regs) (now : History) (k : ℕ) : Type 0 where
-    one_set : k ≡ 1 → register f 10 ≡ 8 → Stands at t f now k
-    two_set : k ≡ 2 → register f 10 ≡ 8 → register f 11 ≡ 0 → Stands at t f now k
-    three_set : k ≡ 3 → register f 10 ≡ 8 → register f 11 ≡ 0 → Stands at t f now k
-    all_set : k ≡ 4 → register f 10 ≡ 8 → register f 11 ≡ 0 → register f 17 ≡ 283 → Stands at t f now k
+    one_set : k ≡ 1 → register f 10 ≡ 8 → HasNone at t now → Stands at t f now k
+    two_set : k ≡ 2 → register f 10 ≡ 8 → register f 11 ≡ 0 → HasNone at t now → Stands at t f now k
+    three_set : k ≡ 3 → register f 10 ≡ 8 → register f 11 ≡ 0 → HasNone at t now → Stands at t f now k
+    all_set : k ≡ 4 → register f 10 ≡ 8 → register f 11 ≡ 0 → register f 17 ≡ 283 → HasNone at t now → Stands at t f now k
     has_called : k ≡ 5 → (o : IsOpen at t now) → AreQuiet (counter_bytes u) o.since → Stands at t f now k
     has_loaded : k ≡ 6 → (o : IsOpen at t now) → AreQuiet (counter_bytes u) o.since → HaveEntered o.grace now → register f 5 ≡ base at t now o → Stands at t f now k
-    has_grown : k ≡ 7 → (o : IsOpen at t now) → AreQuiet (counter_bytes u) o.since → HaveEntered o.grace now → register f 5 ≡ base at t now o + 1 → Stands at t f now k
+    has_grown : k ≡ 7 → (o : IsOpen at t now) → AreQuiet (counter_bytes u) o.since → HaveEntered o.grace now → register f 5 ≡ (base at t now o + 1) % 2 ^ 64 → Stands at t f now k
     has_stored : k ≡ 8 → IsPast at t f now → Stands at t f now k
     has_slots : k ≡ 9 → IsPast at t f now → register f 6 ≡ u.slots → Stands at t f now k
     looks : k ≡ 10 → (p : IsPast at t f now) → (i : ℕ) → i < u.readers → register f 6 ≡ slot_at u i → register f 7 + i ≡ u.readers
@@ -89,7 +105,12 @@ module _ (s : Setting) (u : Urcu) (first : ℕ) where
         → ArePassed p.opened.grace (suc i) now → Stands at t f now k
     is_over : k ≡ 16 → (p : IsPast at t f now) → ArePassed p.opened.grace u.readers now → Stands at t f now k
 
-  module _ (at t : ℕ) (e : Event) (before : History) (run : IsRunHistory s (e ∷ before)) (has : IsUse s u first e before) where
+  module _ (at t : ℕ) (e : Event) (before : History) (run : IsRunHistory s (e ∷ before)) (has : IsOrderly s u first e before) where
+    -- an event that doesn't begin a grace period of the thread in the block
+    pub none_next : (IsGraceBegin at t e → ⊥) → HasNone at t before → HasNone at t (e ∷ before)
+    none_next not_begun none g (calls x begins) = not_begun begins
+    none_next not_begun none g (waits x rest was still) = none g was
+
     pub newest_next : (o : IsOpen at t before) → (g : History) → IsGrace at t g (e ∷ before) → length g ≤ length o.grace
     newest_next o g (calls x begins) = absurd (has.once at t o.regs o.grace o.block o.on begins)
     newest_next o g (waits x rest was still) = o.newest g was
@@ -121,7 +142,7 @@ module _ (s : Setting) (u : Urcu) (first : ℕ) where
 
     -- and one that doesn't store in the counter for it
     pub is_quiet : (o : IsOpen at t before) → (e.entry.tid.0 ≡ t → IsExecAt (at + 28) e → ⊥) → IsQuiet (counter_bytes u) e
-    is_quiet o not_store = by_use has.counter
+    is_quiet o not_store = by_use has.used.counter
       where
         by_use : IsQuiet (counter_bytes u) e ⊎ IsSyncStore u e → IsQuiet (counter_bytes u) e
         by_use (inl quiet) = quiet
@@ -156,11 +177,14 @@ module _ (s : Setting) (u : Urcu) (first : ℕ) where
       abbrev p_next : IsPast at t f before → IsPast at t f (e ∷ before)
       p_next p = past_next f f not_end not_store refl p
 
+      not_begun : IsGraceBegin at t e → ⊥
+      not_begun begins = elsewhere begins.exec.executes begins.of (4, omega arith, begins.exec.pc)
+
       pub stands_next : (k : ℕ) → Stands at t f before k → Stands at t f (e ∷ before) k
-      stands_next k (one_set is a) = one_set is a
-      stands_next k (two_set is a b) = two_set is a b
-      stands_next k (three_set is a b) = three_set is a b
-      stands_next k (all_set is a b c) = all_set is a b c
+      stands_next k (one_set is a none) = one_set is a (none_next not_begun none)
+      stands_next k (two_set is a b none) = two_set is a b (none_next not_begun none)
+      stands_next k (three_set is a b none) = three_set is a b (none_next not_begun none)
+      stands_next k (all_set is a b c none) = all_set is a b c (none_next not_begun none)
       stands_next k (has_called is o quiet) = has_called is (o_next o) (quiet_next o not_store quiet)
       stands_next k (has_loaded is o quiet entered five) = has_loaded is (o_next o) (quiet_next o not_store quiet) (entered_next o.grace e before entered) five
       stands_next k (has_grown is o quiet entered five) = has_grown is (o_next o) (quiet_next o not_store quiet) (entered_next o.grace e before entered) five

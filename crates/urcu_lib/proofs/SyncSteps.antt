@@ -30,14 +30,15 @@ use Rattle.fence_laws.specs.Entered.{HaveEntered}
 use Rattle.fence_laws.specs.Kept.{AreBeside, AreQuiet}
 use Rattle.urcu_lib.specs.Sections.{IsExecAt, IsGrace, IsGraceBegin, IsGraceEnd, IsSection, calls, waits}
 use Rattle.urcu_lib.specs.Stretch.{IsPassing}
-use Rattle.urcu_lib.specs.Uses.{AreUses, IsUse, counted, stored_over}
-use Rattle.fence_laws.proofs.Calls.{IsCall, is_fence, past_call}
+use Rattle.urcu_lib.specs.Registers.{IsKept}
+use Rattle.urcu_lib.specs.Uses.{AreUses, counted, stored_over}
+use Rattle.fence_laws.proofs.Calls.{IsCall, call_keeps, is_fence, past_call}
 use Rattle.urcu_lib.proofs.CounterLaw.{IsCounter, beside_stores, own_store, seen_last}
 use Rattle.fence_laws.proofs.ExecLaw.{after_load, after_next, after_store, exec_of}
 use Rattle.fence_laws.proofs.Fences.{entered_at_exec, entered_next}
 use Rattle.fence_laws.proofs.OwnerLaw.{owned_next}
 use Rattle.urcu_lib.proofs.SlotLaw.{HasBegun, has_begun, lock_value, slot_holds}
-use Rattle.urcu_lib.proofs.SyncState.{ArePassed, HasEnded, IsOpen, IsPast, Stands, all_set, base, counts, ended_next, has_called, has_grown, has_loaded, has_looked, has_slots, has_stored, is_over, is_some, left_at, looks, moves, one_set, open_next, passed_next, passes, past_next, quiet_next, three_set, two_set}
+use Rattle.urcu_lib.proofs.SyncState.{ArePassed, HasEnded, HasNone, IsOrderly, IsOpen, IsPast, Stands, all_set, base, counts, ended_next, has_called, has_grown, has_loaded, has_looked, has_slots, has_stored, is_over, is_some, left_at, looks, moves, none_next, one_set, open_next, passed_next, passes, past_next, quiet_next, three_set, two_set}
 use Rattle.fence_laws.proofs.WordLaw.{entered_beside}
 
 module _ (f : Regs) (at to : ℕ) (on : sum_64 at 4 ≡ to) where
@@ -77,8 +78,16 @@ one_more_of P i all last j lt = by_last (cases_eq j i)
     by_last (inl same) = subst P (sym same) last
     by_last (inr other) = all j (omega arith)
 
+-- what sections that go on and began before a grace period stored is above 0, and not above the counter of then
+module _ (s : Setting) (u : Urcu) (first : ℕ) (blocks : AreBlocks (code_of s.program.pages) u) (now : History) where
+  abbrev pub AreBelow : History → Type 0
+  AreBelow grace =
+      (i : ℕ) (lt : i < u.readers) (begun : History) (b : HasBegun s u first blocks i lt begun now) → length begun < length grace
+      → (1 ≤ lock_value s u first blocks i lt b.event begun b.locks) × (lock_value s u first blocks i lt b.event begun b.locks ≤ counted u.counter first grace)
+
 module _ (s : Setting) (u : Urcu) (first : ℕ) (blocks : AreBlocks (code_of s.program.pages) u) (at : ℕ) (r : SyncRegs) (block : u.syncs at ≡ Some r)
-    (e : Event) (before : History) (run : IsRunHistory s (e ∷ before)) (has : IsUse s u first e before) (executes : choice_of e.entry ≡ asked.Exec) where
+    (e : Event) (before : History) (run : IsRunHistory s (e ∷ before)) (has : IsOrderly s u first e before) (executes : choice_of e.entry ≡ asked.Exec)
+    (gp : register (file s e.entry.tid.0 before).file r.gp ≡ u.counter) (slots : register (file s e.entry.tid.0 before).file r.slots ≡ u.slots) where
   abbrev t : ℕ
   t = e.entry.tid.0
 
@@ -104,6 +113,7 @@ module _ (s : Setting) (u : Urcu) (first : ℕ) (blocks : AreBlocks (code_of s.p
     pub looked : to ≡ 11 → (k ≡ 10 → IsPassing now.file) → IsPassing now.file
     pub tested : to ≡ 12 → (k ≡ 11 → IsPassing f) → IsPassing now.file × (register now.file 10 ≢ 0)
     pub falls : (k ≡ 12 → register f 5 ≤ register f 10) → to < 17 → left_at u to (register now.file 7) + 1 ≤ left_at u k (register f 7)
+    pub keeps : (j : ℕ) → j ≢ 0 → IsKept j → register now.file j ≡ register f j
     pub pc : now.pc ≡ at + 4 * to
     pub stands : to < 17 → Stands s u first at t now.file (e ∷ before) to
 
@@ -136,16 +146,20 @@ module _ (s : Setting) (u : Urcu) (first : ℕ) (blocks : AreBlocks (code_of s.p
   still_passing five ten (inl none) = inl (ten ∙ none)
   still_passing five ten (inr le) = inr (omega arith)
 
+  -- an instruction of another place doesn't begin a grace period
+  begins_not : (k : ℕ) → e.entry.pc ≡ at + 4 * k → k ≢ 4 → IsGraceBegin at t e → ⊥
+  begins_not k pc other begins = let p = begins.exec.pc in other (omega arith)
+
   -- THE CALL
 
   next_0 : e.entry.pc ≡ at + 4 * 0 → IsNext 0
   next_0 pc =
       let low = at_low in
       let after = nexts 0 (inst.Addi 10 0 (pos 8)) 10 8 (at + 4 * 1) pc refl (means_addi f (at + 4 * 0) (at + 4 * 1) (omega arith) 10 0 (pos 8) 0 8 refl refl) in
-      record { to = 1; looked = λ is_it had. let no : ⊥ = omega arith in absurd no; tested = λ is_it had. let no : ⊥ = omega arith in absurd no; inside = λ other. omega arith; falls = λ good le_17. omega arith; pc = goes_to 10 8 (at + 4 * 1) after; stands = λ lt. one_set refl (wrote 10 8 (at + 4 * 1) after refl (omega arith)) }
+      record { to = 1; looked = λ is_it had. let no : ⊥ = omega arith in absurd no; tested = λ is_it had. let no : ⊥ = omega arith in absurd no; inside = λ other. omega arith; falls = λ good le_17. omega arith; keeps = λ j some free. kept 10 8 (at + 4 * 1) j after free.not_10; pc = goes_to 10 8 (at + 4 * 1) after; stands = λ lt. one_set refl (wrote 10 8 (at + 4 * 1) after refl (omega arith)) (none_next s u first at t e before run has (begins_not 0 pc (omega arith)) (λ g on. has.anew at t r g block on (record { executes = executes; pc = pc ∙ omega arith }))) }
 
-  next_1 : e.entry.pc ≡ at + 4 * 1 → register f 10 ≡ 8 → IsNext 1
-  next_1 pc ten =
+  next_1 : e.entry.pc ≡ at + 4 * 1 → register f 10 ≡ 8 → HasNone s u first at t before → IsNext 1
+  next_1 pc ten none =
       let low = at_low in
       let after = nexts 1 (inst.Addi 11 0 (pos 0)) 11 0 (at + 4 * 2) pc refl (means_addi f (at + 4 * 1) (at + 4 * 2) (omega arith) 11 0 (pos 0) 0 0 refl refl) in
       record {
@@ -154,12 +168,14 @@ module _ (s : Setting) (u : Urcu) (first : ℕ) (blocks : AreBlocks (code_of s.p
         tested = λ is_it had. let no : ⊥ = omega arith in absurd no;
         inside = λ other. omega arith;
         falls = λ good le_17. omega arith;
+        keeps = λ j some free. kept 11 0 (at + 4 * 2) j after free.not_11;
         pc = goes_to 11 0 (at + 4 * 2) after;
-        stands = λ lt. two_set refl (kept 11 0 (at + 4 * 2) 10 after (omega arith) ∙ ten) (wrote 11 0 (at + 4 * 2) after refl (omega arith));
+        stands = λ lt. two_set refl (kept 11 0 (at + 4 * 2) 10 after (omega arith) ∙ ten) (wrote 11 0 (at + 4 * 2) after refl (omega arith))
+            (none_next s u first at t e before run has (begins_not 1 pc (omega arith)) none);
       }
 
-  next_2 : e.entry.pc ≡ at + 4 * 2 → register f 10 ≡ 8 → register f 11 ≡ 0 → IsNext 2
-  next_2 pc ten eleven =
+  next_2 : e.entry.pc ≡ at + 4 * 2 → register f 10 ≡ 8 → register f 11 ≡ 0 → HasNone s u first at t before → IsNext 2
+  next_2 pc ten eleven none =
       let low = at_low in
       let after = nexts 2 (inst.Addi 12 0 (pos 0)) 12 0 (at + 4 * 3) pc refl (means_addi f (at + 4 * 2) (at + 4 * 3) (omega arith) 12 0 (pos 0) 0 0 refl refl) in
       record {
@@ -168,12 +184,14 @@ module _ (s : Setting) (u : Urcu) (first : ℕ) (blocks : AreBlocks (code_of s.p
         tested = λ is_it had. let no : ⊥ = omega arith in absurd no;
         inside = λ other. omega arith;
         falls = λ good le_17. omega arith;
+        keeps = λ j some free. kept 12 0 (at + 4 * 3) j after free.not_12;
         pc = goes_to 12 0 (at + 4 * 3) after;
-        stands = λ lt. three_set refl (kept 12 0 (at + 4 * 3) 10 after (omega arith) ∙ ten) (kept 12 0 (at + 4 * 3) 11 after (omega arith) ∙ eleven);
+        stands = λ lt. three_set refl (kept 12 0 (at + 4 * 3) 10 after (omega arith) ∙ ten) (kept 12 0 (at + 4 * 3) 11 after (omega arith) ∙ eleven)
+            (none_next s u first at t e before run has (begins_not 2 pc (omega arith)) none);
       }
 
-  next_3 : e.entry.pc ≡ at + 4 * 3 → register f 10 ≡ 8 → register f 11 ≡ 0 → IsNext 3
-  next_3 pc ten eleven =
+  next_3 : e.entry.pc ≡ at + 4 * 3 → register f 10 ≡ 8 → register f 11 ≡ 0 → HasNone s u first at t before → IsNext 3
+  next_3 pc ten eleven none =
       let low = at_low in
       let after = nexts 3 (inst.Addi 17 0 (pos 283)) 17 283 (at + 4 * 4) pc refl (means_addi f (at + 4 * 3) (at + 4 * 4) (omega arith) 17 0 (pos 283) 0 283 refl refl) in
       record {
@@ -182,13 +200,15 @@ module _ (s : Setting) (u : Urcu) (first : ℕ) (blocks : AreBlocks (code_of s.p
         tested = λ is_it had. let no : ⊥ = omega arith in absurd no;
         inside = λ other. omega arith;
         falls = λ good le_17. omega arith;
+        keeps = λ j some free. kept 17 283 (at + 4 * 4) j after free.not_17;
         pc = goes_to 17 283 (at + 4 * 4) after;
         stands = λ lt. all_set refl (kept 17 283 (at + 4 * 4) 10 after (omega arith) ∙ ten) (kept 17 283 (at + 4 * 4) 11 after (omega arith) ∙ eleven)
-            (wrote 17 283 (at + 4 * 4) after refl (omega arith));
+            (wrote 17 283 (at + 4 * 4) after refl (omega arith))
+            (none_next s u first at t e before run has (begins_not 3 pc (omega arith)) none);
       }
 
-  next_4 : e.entry.pc ≡ at + 4 * 4 → register f 10 ≡ 8 → register f 11 ≡ 0 → register f 17 ≡ 283 → IsNext 4
-  next_4 pc ten eleven seventeen =
+  next_4 : e.entry.pc ≡ at + 4 * 4 → register f 10 ≡ 8 → register f 11 ≡ 0 → register f 17 ≡ 283 → HasNone s u first at t before → IsNext 4
+  next_4 pc ten eleven seventeen none =
       let low = at_low in
       let stands_at : (file s t before).pc ≡ at + 4 * 4 = (exec_of s e before step executes).pc ∙ pc in
       let begins : IsGraceBegin at t e = record { exec = record { executes = executes; pc = pc }; of = refl } in
@@ -197,7 +217,7 @@ module _ (s : Setting) (u : Urcu) (first : ℕ) (blocks : AreBlocks (code_of s.p
         number = seventeen;
         command = ten;
         flags = eleven;
-        private = has.registered at t r block begins;
+        private = has.used.registered at t r block begins;
         outside = has.outside at t r block begins;
       } in
       record {
@@ -206,6 +226,7 @@ module _ (s : Setting) (u : Urcu) (first : ℕ) (blocks : AreBlocks (code_of s.p
         tested = λ is_it had. let no : ⊥ = omega arith in absurd no;
         inside = λ other. omega arith;
         falls = λ good le_17. omega arith;
+        keeps = λ j some free. call_keeps s e before step executes call j free.not_10;
         pc = past_call s e before step executes call ∙ ap (λ n. sum_64 n 4) stands_at ∙ omega arith;
         stands = λ lt. has_called refl (record {
           regs = r;
@@ -223,7 +244,7 @@ module _ (s : Setting) (u : Urcu) (first : ℕ) (blocks : AreBlocks (code_of s.p
     where
       newest : IsGraceBegin at t e → (g : History) → IsGrace at t g (e ∷ before) → length g ≤ length before
       newest begins g (calls x b) = omega arith
-      newest begins g (waits x rest was still) = absurd (has.once at t r g block was begins)
+      newest begins g (waits x rest was still) = absurd (none g was)
 
   -- THE COUNTER
 
@@ -272,10 +293,10 @@ module _ (s : Setting) (u : Urcu) (first : ℕ) (blocks : AreBlocks (code_of s.p
       let low_counter = blocks.low_counter in
       let entered = entered_now o in
       let n = counted u.counter first before in
-      let small = has.small in
+      let small = has.low in
       let on : sum_64 (at + 4 * 5) 4 ≡ at + 4 * 6 = omega arith in
-      let after = after_load s e before step executes (at + 4 * 5) (inst.Ld 5 r.gp (pos 0)) pc (holds 5 (inst.Ld 5 r.gp (pos 0)) refl) (counter_bytes u) (has.counter_usable executes)
-      u.counter 5 n (means_ld f (at + 4 * 5) 5 r.gp (pos 0) u.counter u.counter (has.sync_gp at 5 r block (omega arith) (record { executes = executes; pc = pc })) (omega arith)) in_counter
+      let after = after_load s e before step executes (at + 4 * 5) (inst.Ld 5 r.gp (pos 0)) pc (holds 5 (inst.Ld 5 r.gp (pos 0)) refl) (counter_bytes u) (has.used.counter_usable executes)
+      u.counter 5 n (means_ld f (at + 4 * 5) 5 r.gp (pos 0) u.counter u.counter gp (omega arith)) in_counter
       (seen_last u.counter s first before counter (none_waits o quiet entered) e.entry.hart.0)
       ∙ ap (λ m. record { file = with_register f 5 (loaded n 8 true); pc = m }) on in
       let value : loaded n 8 true ≡ base s u first at t before o = loaded_word n ∙ omega arith ∙ base_is o quiet in
@@ -286,6 +307,7 @@ module _ (s : Setting) (u : Urcu) (first : ℕ) (blocks : AreBlocks (code_of s.p
         tested = λ is_it had. let no : ⊥ = omega arith in absurd no;
         inside = λ other. omega arith;
         falls = λ good le_17. omega arith;
+        keeps = λ j some free. kept 5 (loaded n 8 true) (at + 4 * 6) j after free.not_5;
         pc = goes_to 5 (loaded n 8 true) (at + 4 * 6) after;
         stands = λ lt. has_loaded refl (open_next s u first at t e before run has not_end o) (quiet_next s u first at t e before run has o (stores_not 5 pc (omega arith)) quiet)
             (entered_next o.grace e before entered) (wrote 5 (loaded n 8 true) (at + 4 * 6) after refl (omega arith) ∙ value);
@@ -296,37 +318,46 @@ module _ (s : Setting) (u : Urcu) (first : ℕ) (blocks : AreBlocks (code_of s.p
   next_6 pc o quiet entered five =
       let low = at_low in
       let n = base s u first at t before o in
-      let small = has.small in
+      let v = (n + 1) % 2 ^ 64 in
+      let small = has.low in
       let same = base_is o quiet in
-      let after = nexts 6 (inst.Addi 5 5 (pos 1)) 5 (n + 1) (at + 4 * 7) pc refl (means_addi f (at + 4 * 6) (at + 4 * 7) (omega arith) 5 5 (pos 1) n (n + 1) five (omega arith)) in
+      let after = nexts 6 (inst.Addi 5 5 (pos 1)) 5 v (at + 4 * 7) pc refl (means_addi f (at + 4 * 6) (at + 4 * 7) (omega arith) 5 5 (pos 1) n v five (omega arith)) in
       record {
         to = 7;
         looked = λ is_it had. let no : ⊥ = omega arith in absurd no;
         tested = λ is_it had. let no : ⊥ = omega arith in absurd no;
         inside = λ other. omega arith;
         falls = λ good le_17. omega arith;
-        pc = goes_to 5 (n + 1) (at + 4 * 7) after;
+        keeps = λ j some free. kept 5 v (at + 4 * 7) j after free.not_5;
+        pc = goes_to 5 v (at + 4 * 7) after;
         stands = λ lt. has_grown refl (open_next s u first at t e before run has (ends_not 6 pc (omega arith)) o)
-            (quiet_next s u first at t e before run has o (stores_not 6 pc (omega arith)) quiet) (entered_next o.grace e before entered) (wrote 5 (n + 1) (at + 4 * 7) after refl (omega arith));
+            (quiet_next s u first at t e before run has o (stores_not 6 pc (omega arith)) quiet) (entered_next o.grace e before entered) (wrote 5 v (at + 4 * 7) after refl (omega arith));
       }
 
+  -- where it is stored it doesn't wrap
+  small_at : e.entry.pc ≡ at + 4 * 7 → counted u.counter first before + 1 < 2 ^ 64
+  small_at pc = has.used.small (record { place = at; regs = r; block = block; exec = record { executes = executes; pc = pc ∙ omega arith } })
+
   -- the store, for the counter and for its thread
-  pub sync_stores : e.entry.pc ≡ at + 4 * 7 → (o : IsOpen s u first at t before) → AreQuiet (counter_bytes u) o.since → register f 5 ≡ base s u first at t before o + 1
+  pub sync_stores : e.entry.pc ≡ at + 4 * 7 → (o : IsOpen s u first at t before) → AreQuiet (counter_bytes u) o.since → register f 5 ≡ (base s u first at t before o + 1) % 2 ^ 64
       → (now ≡ record { file = with_register f 0 0; pc = sum_64 (at + 4 * 7) 4 })
       × (e.done.executed ≡ record { at = u.counter; size = 8; value = counted u.counter first before + 1 } ∷ []) × (e.done.entered ≡ [])
   sync_stores pc o quiet five =
       let low_counter = blocks.low_counter in
-      let small = has.small in
+      let small = small_at pc in
       let n = counted u.counter first before in
-      after_store s e before step executes (at + 4 * 7) (inst.Sd r.gp 5 (pos 0)) pc (holds 7 (inst.Sd r.gp 5 (pos 0)) refl) (counter_bytes u) (has.counter_usable executes)
+      after_store s e before step executes (at + 4 * 7) (inst.Sd r.gp 5 (pos 0)) pc (holds 7 (inst.Sd r.gp 5 (pos 0)) refl) (counter_bytes u) (has.used.counter_usable executes)
       u.counter (n + 1)
-      (means_sd f (at + 4 * 7) r.gp 5 (pos 0) u.counter u.counter (n + 1) (n + 1) (has.sync_gp at 7 r block (omega arith) (record { executes = executes; pc = pc })) (omega arith)
-      (five ∙ ap (λ m. m + 1) (sym (base_is o quiet))) (omega arith)) in_counter
+      (means_sd f (at + 4 * 7) r.gp 5 (pos 0) u.counter u.counter (n + 1) (n + 1) gp (omega arith)
+      (five ∙ ap (λ m. (m + 1) % 2 ^ 64) (sym (base_is o quiet)) ∙ omega arith) (omega arith)) in_counter
 
   next_7 : e.entry.pc ≡ at + 4 * 7 → (o : IsOpen s u first at t before) → AreQuiet (counter_bytes u) o.since → HaveEntered o.grace before
-      → register f 5 ≡ base s u first at t before o + 1 → IsNext 7
+      → register f 5 ≡ (base s u first at t before o + 1) % 2 ^ 64 → IsNext 7
   next_7 pc o quiet entered five =
       let low = at_low in
+      let small = small_at pc in
+      let same = base_is o quiet in
+      let new : (base s u first at t before o + 1) % 2 ^ 64 ≡ base s u first at t before o + 1 = omega arith in
       let after = (sync_stores pc o quiet five).0 in
       let on : sum_64 (at + 4 * 7) 4 ≡ at + 4 * 8 = omega arith in
       record {
@@ -335,11 +366,12 @@ module _ (s : Setting) (u : Urcu) (first : ℕ) (blocks : AreBlocks (code_of s.p
         tested = λ is_it had. let no : ⊥ = omega arith in absurd no;
         inside = λ other. omega arith;
         falls = λ good le_17. omega arith;
+        keeps = λ j some free. kept 0 0 (sum_64 (at + 4 * 7) 4) j after some;
         pc = goes_to 0 0 (sum_64 (at + 4 * 7) 4) after ∙ on;
         stands = λ lt. has_stored refl (record {
           opened = open_next s u first at t e before run has (ends_not 7 pc (omega arith)) o;
           entered = entered_next o.grace e before entered;
-          five = kept 0 0 (sum_64 (at + 4 * 7) 4) 5 after (omega arith) ∙ five;
+          five = kept 0 0 (sum_64 (at + 4 * 7) 4) 5 after (omega arith) ∙ five ∙ new;
           count = ap (λ (ws : List Store). stored_over u.counter ws (counted u.counter first before)) (sync_stores pc o quiet five).1
               ∙ own_store u.counter (counted u.counter first before + 1) (counted u.counter first before) ∙ ap (λ m. m + 1) (base_is o quiet);
           apart = owned_next (counter_bytes u) s t e before run (inr (exec_of s e before step executes).runs) (λ h other. none_waits o quiet entered h);
@@ -357,13 +389,14 @@ module _ (s : Setting) (u : Urcu) (first : ℕ) (blocks : AreBlocks (code_of s.p
       let slots_low = blocks.low_slots in
       let one = blocks.one in
       let after = nexts 8 (inst.Addi 6 r.slots (pos 0)) 6 u.slots (at + 4 * 9) pc refl
-      (means_addi f (at + 4 * 8) (at + 4 * 9) (omega arith) 6 r.slots (pos 0) u.slots u.slots (has.sync_slots at 8 r block (omega arith) (record { executes = executes; pc = pc })) (omega arith)) in
+      (means_addi f (at + 4 * 8) (at + 4 * 9) (omega arith) 6 r.slots (pos 0) u.slots u.slots slots (omega arith)) in
       record {
         to = 9;
         looked = λ is_it had. let no : ⊥ = omega arith in absurd no;
         tested = λ is_it had. let no : ⊥ = omega arith in absurd no;
         inside = λ other. omega arith;
         falls = λ good le_17. omega arith;
+        keeps = λ j some free. kept 6 u.slots (at + 4 * 9) j after free.not_6;
         pc = goes_to 6 u.slots (at + 4 * 9) after;
         stands = λ lt. has_slots refl (past 8 pc (omega arith) (omega arith) (kept 6 u.slots (at + 4 * 9) 5 after (omega arith)) p) (wrote 6 u.slots (at + 4 * 9) after refl (omega arith));
       }
@@ -382,6 +415,7 @@ module _ (s : Setting) (u : Urcu) (first : ℕ) (blocks : AreBlocks (code_of s.p
         tested = λ is_it had. let no : ⊥ = omega arith in absurd no;
         inside = λ other. omega arith;
         falls = λ good le_17. omega arith;
+        keeps = λ j some free. kept 7 u.readers (at + 4 * 10) j after free.not_7;
         pc = goes_to 7 u.readers (at + 4 * 10) after;
         stands = λ lt. looks refl (past 9 pc (omega arith) (omega arith) (kept 7 u.readers (at + 4 * 10) 5 after (omega arith)) p) 0 (omega arith)
             (kept 7 u.readers (at + 4 * 10) 6 after (omega arith) ∙ six ∙ omega arith) (omega arith) (λ j none. let no : ⊥ = omega arith in absurd no);
@@ -390,16 +424,10 @@ module _ (s : Setting) (u : Urcu) (first : ℕ) (blocks : AreBlocks (code_of s.p
   one_more : (grace : History) (i : ℕ) → ArePassed s u first grace i before → HasEnded s u first grace i before → ArePassed s u first grace (suc i) before
   one_more grace i all last = one_more_of (λ j. HasEnded s u first grace j before) i all last
 
-  -- what sections that began before the grace period stored is above 0, and not above the counter of then
-  abbrev pub AreBelow : History → Type 0
-  AreBelow grace =
-      (i : ℕ) (lt : i < u.readers) (begun : History) (b : HasBegun s u first blocks i lt begun before) → length begun < length grace
-      → (1 ≤ lock_value s u first blocks i lt b.event begun b.locks) × (lock_value s u first blocks i lt b.event begun b.locks ≤ counted u.counter first grace)
-
   same_word : {a b : ℕ} → Some a ≡ Some b → a ≡ b
   same_word is = cc
 
-  next_10 : e.entry.pc ≡ at + 4 * 10 → AreUses s u first before → (p : IsPast s u first at t f before) → AreBelow p.opened.grace → (i : ℕ) → (lt : i < u.readers)
+  next_10 : e.entry.pc ≡ at + 4 * 10 → AreUses s u first before → (p : IsPast s u first at t f before) → AreBelow s u first blocks before p.opened.grace → (i : ℕ) → (lt : i < u.readers)
       → register f 6 ≡ slot_at u i → register f 7 + i ≡ u.readers → ArePassed s u first p.opened.grace i before → IsNext 10
   next_10 pc uses p below i lt six seven passed =
       let low = at_low in
@@ -408,7 +436,7 @@ module _ (s : Setting) (u : Urcu) (first : ℕ) (blocks : AreBlocks (code_of s.p
       let w = some_word (sees s h before) (slot_at u i) 8 in
       let v = loaded w.0 8 true in
       let on : sum_64 (at + 4 * 10) 4 ≡ at + 4 * 11 = omega arith in
-      let after = after_load s e before step executes (at + 4 * 10) (inst.Ld 10 6 (pos 0)) pc (holds 10 (inst.Ld 10 6 (pos 0)) refl) (slot_bytes u i) (has.slot_usable i lt executes)
+      let after = after_load s e before step executes (at + 4 * 10) (inst.Ld 10 6 (pos 0)) pc (holds 10 (inst.Ld 10 6 (pos 0)) refl) (slot_bytes u i) (has.used.slot_usable i lt executes)
       (slot_at u i) 10 w.0 (means_ld f (at + 4 * 10) 10 6 (pos 0) (slot_at u i) (slot_at u i) six (omega arith)) (each_among (slot_at u i) 8 (slot_at u i) 8 (omega arith) (omega arith)) w.1
       ∙ ap (λ m. record { file = with_register f 10 v; pc = m }) on in
       let ten = wrote 10 v (at + 4 * 11) after refl (omega arith) in
@@ -419,6 +447,7 @@ module _ (s : Setting) (u : Urcu) (first : ℕ) (blocks : AreBlocks (code_of s.p
         tested = λ is_it had. let no : ⊥ = omega arith in absurd no;
         inside = λ other. omega arith;
         falls = λ good le_17. let r = kept 10 v (at + 4 * 11) 7 after (omega arith) in omega arith;
+        keeps = λ j some free. kept 10 v (at + 4 * 11) j after free.not_10;
         pc = goes_to 10 v (at + 4 * 11) after;
         stands = λ le. has_looked refl past_it i lt (kept 10 v (at + 4 * 11) 6 after (omega arith) ∙ six) (ap (λ m. m + i) (kept 10 v (at + 4 * 11) 7 after (omega arith)) ∙ seven)
             (passed_next s u first at t e before run has p.opened i passed)
@@ -461,6 +490,7 @@ module _ (s : Setting) (u : Urcu) (first : ℕ) (blocks : AreBlocks (code_of s.p
             tested = λ is_it had. let no : ⊥ = omega arith in absurd no;
             inside = λ other. omega arith;
             falls = λ good le_17. let r = kept 0 0 (at + 4 * 13) 7 after (omega arith) in omega arith;
+            keeps = λ j some free. kept 0 0 (at + 4 * 13) j after some;
             pc = goes_to 0 0 (at + 4 * 13) after;
             stands = λ le. passes refl past_it i lt (kept 0 0 (at + 4 * 13) 6 after (omega arith) ∙ six) (ap (λ m. m + i) (kept 0 0 (at + 4 * 13) 7 after (omega arith)) ∙ seven)
                 (passed_next s u first at t e before run has p.opened (suc i) (one_more p.opened.grace i passed (shows (inl (eqb-true (register f 10) 0 is)))));
@@ -476,6 +506,7 @@ module _ (s : Setting) (u : Urcu) (first : ℕ) (blocks : AreBlocks (code_of s.p
             tested = λ is_it had. (still_passing (kept 0 0 (at + 4 * 12) 5 after (omega arith)) ten (had refl), λ none. eqb-false (register f 10) 0 is (sym ten ∙ none));
             inside = λ other. omega arith;
             falls = λ good le_17. let r = kept 0 0 (at + 4 * 12) 7 after (omega arith) in omega arith;
+            keeps = λ j some free. kept 0 0 (at + 4 * 12) j after some;
             pc = goes_to 0 0 (at + 4 * 12) after;
             stands = λ le. is_some refl past_it i lt (kept 0 0 (at + 4 * 12) 6 after (omega arith) ∙ six) (ap (λ m. m + i) (kept 0 0 (at + 4 * 12) 7 after (omega arith)) ∙ seven)
                 (passed_next s u first at t e before run has p.opened i passed)
@@ -500,6 +531,7 @@ module _ (s : Setting) (u : Urcu) (first : ℕ) (blocks : AreBlocks (code_of s.p
             tested = λ is_it had. let no : ⊥ = omega arith in absurd no;
             inside = λ other. omega arith;
             falls = λ good le_17. let le : register f 5 ≤ register f 10 = good refl in let lower = ltb-true (register f 10) (register f 5) is in let no : ⊥ = omega arith in absurd no;
+            keeps = λ j some free. kept 0 0 (at + 4 * 10) j after some;
             pc = goes_to 0 0 (at + 4 * 10) after;
             stands = λ le. looks refl past_it i lt (kept 0 0 (at + 4 * 10) 6 after (omega arith) ∙ six) (ap (λ m. m + i) (kept 0 0 (at + 4 * 10) 7 after (omega arith)) ∙ seven)
                 (passed_next s u first at t e before run has p.opened i passed);
@@ -516,6 +548,7 @@ module _ (s : Setting) (u : Urcu) (first : ℕ) (blocks : AreBlocks (code_of s.p
             tested = λ is_it had. let no : ⊥ = omega arith in absurd no;
             inside = λ other. omega arith;
             falls = λ good le_17. let r = kept 0 0 (at + 4 * 13) 7 after (omega arith) in omega arith;
+            keeps = λ j some free. kept 0 0 (at + 4 * 13) j after some;
             pc = goes_to 0 0 (at + 4 * 13) after;
             stands = λ lt_17. passes refl past_it i lt (kept 0 0 (at + 4 * 13) 6 after (omega arith) ∙ six) (ap (λ m. m + i) (kept 0 0 (at + 4 * 13) 7 after (omega arith)) ∙ seven)
                 (passed_next s u first at t e before run has p.opened (suc i) (one_more p.opened.grace i passed (shows (inr (omega arith)))));
@@ -535,6 +568,7 @@ module _ (s : Setting) (u : Urcu) (first : ℕ) (blocks : AreBlocks (code_of s.p
         tested = λ is_it had. let no : ⊥ = omega arith in absurd no;
         inside = λ other. omega arith;
         falls = λ good le_17. let r = kept 6 v (at + 4 * 14) 7 after (omega arith) in omega arith;
+        keeps = λ j some free. kept 6 v (at + 4 * 14) j after free.not_6;
         pc = goes_to 6 v (at + 4 * 14) after;
         stands = λ le. moves refl past_it i lt (λ more. wrote 6 v (at + 4 * 14) after refl (omega arith) ∙ next_slot more) (ap (λ m. m + i) (kept 6 v (at + 4 * 14) 7 after (omega arith)) ∙ seven)
             (passed_next s u first at t e before run has p.opened (suc i) passed);
@@ -558,6 +592,7 @@ module _ (s : Setting) (u : Urcu) (first : ℕ) (blocks : AreBlocks (code_of s.p
         tested = λ is_it had. let no : ⊥ = omega arith in absurd no;
         inside = λ other. omega arith;
         falls = λ good le_17. omega arith;
+        keeps = λ j some free. kept 7 v (at + 4 * 15) j after free.not_7;
         pc = goes_to 7 v (at + 4 * 15) after;
         stands = λ le. counts refl past_it i lt (λ more. kept 7 v (at + 4 * 15) 6 after (omega arith) ∙ six more) (ap (λ m. m + suc i) value ∙ omega arith)
             (passed_next s u first at t e before run has p.opened (suc i) passed);
@@ -581,6 +616,7 @@ module _ (s : Setting) (u : Urcu) (first : ℕ) (blocks : AreBlocks (code_of s.p
             tested = λ is_it had. let no : ⊥ = omega arith in absurd no;
             inside = λ other. omega arith;
             falls = λ good le_17. let r = kept 0 0 (at + 4 * 16) 7 after (omega arith) in omega arith;
+            keeps = λ j some free. kept 0 0 (at + 4 * 16) j after some;
             pc = goes_to 0 0 (at + 4 * 16) after;
             stands = λ le. is_over refl past_it
                 (passed_next s u first at t e before run has p.opened u.readers (subst (λ n. ArePassed s u first p.opened.grace n before) all passed));
@@ -599,6 +635,7 @@ module _ (s : Setting) (u : Urcu) (first : ℕ) (blocks : AreBlocks (code_of s.p
             tested = λ is_it had. let no : ⊥ = omega arith in absurd no;
             inside = λ other. omega arith;
             falls = λ good le_17. let r = kept 0 0 (at + 4 * 10) 7 after (omega arith) in omega arith;
+            keeps = λ j some free. kept 0 0 (at + 4 * 10) j after some;
             pc = goes_to 0 0 (at + 4 * 10) after;
             stands = λ le. looks refl past_it (suc i) more (kept 0 0 (at + 4 * 10) 6 after (omega arith) ∙ six more)
                 (ap (λ m. m + suc i) (kept 0 0 (at + 4 * 10) 7 after (omega arith)) ∙ seven) (passed_next s u first at t e before run has p.opened (suc i) passed);
@@ -608,20 +645,27 @@ module _ (s : Setting) (u : Urcu) (first : ℕ) (blocks : AreBlocks (code_of s.p
   next_16 pc =
       let low = at_low in
       let after = nexts 16 (inst.Addi 10 0 (pos 0)) 10 0 (at + 4 * 17) pc refl (means_addi f (at + 4 * 16) (at + 4 * 17) (omega arith) 10 0 (pos 0) 0 0 refl refl) in
-      record { to = 17; looked = λ is_it had. let no : ⊥ = omega arith in absurd no; tested = λ is_it had. let no : ⊥ = omega arith in absurd no; inside = λ other. absurd (other refl); falls = λ good le_17. let no : ⊥ = omega arith in absurd no; pc = goes_to 10 0 (at + 4 * 17) after; stands = λ lt. let no : ⊥ = omega arith in absurd no }
+      record { to = 17; looked = λ is_it had. let no : ⊥ = omega arith in absurd no; tested = λ is_it had. let no : ⊥ = omega arith in absurd no; inside = λ other. absurd (other refl); falls = λ good le_17. let no : ⊥ = omega arith in absurd no; keeps = λ j some free. kept 10 0 (at + 4 * 17) j after free.not_10; pc = goes_to 10 0 (at + 4 * 17) after; stands = λ lt. let no : ⊥ = omega arith in absurd no }
+
+  -- the last instruction leaves the block
+  pub past_last : e.entry.pc ≡ at + 4 * 16 → now.pc ≡ at + 4 * 17
+  past_last pc =
+      let low = at_low in
+      goes_to 10 0 (at + 4 * 17)
+      (nexts 16 (inst.Addi 10 0 (pos 0)) 10 0 (at + 4 * 17) pc refl (means_addi f (at + 4 * 16) (at + 4 * 17) (omega arith) 10 0 (pos 0) 0 0 refl refl))
 
   -- ONE INSTRUCTION
 
   module _ (counter : IsCounter u.counter s first before) (uses : AreUses s u first before)
-      (below : (p : IsPast s u first at t f before) → AreBelow p.opened.grace) where
+      (below : (p : IsPast s u first at t f before) → AreBelow s u first blocks before p.opened.grace) where
     at_k : (k m : ℕ) → k ≡ m → e.entry.pc ≡ at + 4 * k → e.entry.pc ≡ at + 4 * m
     at_k k m same pc = pc ∙ ap (λ n. at + 4 * n) same
 
     pub next_of : (k : ℕ) → e.entry.pc ≡ at + 4 * k → Stands s u first at t f before k → IsNext k
-    next_of k pc (one_set is a) = subst IsNext (sym is) (next_1 (at_k k 1 is pc) a)
-    next_of k pc (two_set is a b) = subst IsNext (sym is) (next_2 (at_k k 2 is pc) a b)
-    next_of k pc (three_set is a b) = subst IsNext (sym is) (next_3 (at_k k 3 is pc) a b)
-    next_of k pc (all_set is a b c) = subst IsNext (sym is) (next_4 (at_k k 4 is pc) a b c)
+    next_of k pc (one_set is a none) = subst IsNext (sym is) (next_1 (at_k k 1 is pc) a none)
+    next_of k pc (two_set is a b none) = subst IsNext (sym is) (next_2 (at_k k 2 is pc) a b none)
+    next_of k pc (three_set is a b none) = subst IsNext (sym is) (next_3 (at_k k 3 is pc) a b none)
+    next_of k pc (all_set is a b c none) = subst IsNext (sym is) (next_4 (at_k k 4 is pc) a b c none)
     next_of k pc (has_called is o quiet) = subst IsNext (sym is) (next_5 (at_k k 5 is pc) counter o quiet)
     next_of k pc (has_loaded is o quiet entered five) = subst IsNext (sym is) (next_6 (at_k k 6 is pc) o quiet entered five)
     next_of k pc (has_grown is o quiet entered five) = subst IsNext (sym is) (next_7 (at_k k 7 is pc) o quiet entered five)

@@ -59,3 +59,18 @@ pub data IsGrace (at t : ℕ) (begun : History) : History → Type 0 where
 abbrev pub HaveEnded : Setting → Urcu → ℕ → ℕ → History → Type 0
 HaveEnded s u at t before =
     (i : ℕ) (section grace : History) → i < u.readers → IsGrace at t grace before → IsSection s u i section before → length section < length grace → ⊥
+
+-- WHO IS IN A SYNC BLOCK
+
+-- an event executes the first instruction of some sync block
+pub record IsSyncEntry (u : Urcu) (e : Event) : Type 0 where
+  pub place : ℕ
+  pub regs : SyncRegs
+  pub block : u.syncs place ≡ Some regs
+  pub exec : IsExecAt place e
+
+-- thread t is in the sync block at an address, which it entered by the event after `begun`: it has executed the
+-- block's first instruction, and its last not yet
+pub data IsSyncing (at t : ℕ) (begun : History) : History → Type 0 where
+  comes_in : (e : Event) → IsExecAt at e → e.entry.tid.0 ≡ t → IsSyncing at t begun (e ∷ begun)
+  is_in : (e : Event) (before : History) → IsSyncing at t begun before → (IsGraceEnd at t e → ⊥) → IsSyncing at t begun (e ∷ before)

@@ -6,14 +6,13 @@ use Rattle.mach_types.specs.Registers.{register}
 use Rattle.mach_types.specs.declared.events.Choice.TheVariants as asked
 use Rattle.mach_types.specs.declared.user_memory.Store.{Store}
 use Rattle.alone_laws.specs.Spans.{IsUsable, code_of}
-use Rattle.block_model.specs.Acts.{is_inside_at}
 use Rattle.block_model.specs.History.{Event, History, byte, file, kernel}
 use Rattle.block_model.specs.Setting.{Setting}
 use Rattle.urcu_lib.specs.Blocks.{AreBlocks, Urcu, counter_bytes, slot_at, slot_bytes}
 use Rattle.urcu_lib.specs.declared.regs.ReadRegs.{ReadRegs}
 use Rattle.urcu_lib.specs.declared.regs.SyncRegs.{SyncRegs}
 use Rattle.fence_laws.specs.Kept.{IsQuiet}
-use Rattle.urcu_lib.specs.Sections.{IsExecAt, IsGrace, IsGraceBegin, IsLockStore, IsSection, IsSyncStore, IsUnlockStore}
+use Rattle.urcu_lib.specs.Sections.{IsExecAt, IsGraceBegin, IsLockStore, IsSection, IsSyncEntry, IsSyncStore, IsSyncing, IsUnlockStore}
 
 -- what was stored last at an address, by whichever hart; before, a number
 abbrev pub stored_over : ℕ → List Store → ℕ → ℕ
@@ -23,6 +22,8 @@ stored_over at (w ∷ ws) old = stored_over at ws (if covers w at then w.value e
 abbrev pub counted : ℕ → ℕ → History → ℕ
 counted at first [] = first
 counted at first (e ∷ before) = stored_over at e.done.executed (counted at first before)
+
+-- HOW A THREAD COMES TO STAND IN A BLOCK
 
 -- an address is that of one of so many instructions of a block
 abbrev pub IsIn : ℕ → ℕ → ℕ → Type 0
@@ -36,9 +37,10 @@ abbrev pub AreElsewhere : ℕ → ℕ → ℕ → List Event → Type 0
 AreElsewhere at count t [] = Unit {0}
 AreElsewhere at count t (e ∷ since) = AreElsewhere at count t since × IsElsewhere at count t e
 
--- how a thread comes to stand in a block by an event, past the block's first instruction: it executed an instruction of the block; its
--- barrier returned there; or it stands as at an earlier place, since which it has executed none of so
--- many of the block's instructions, but maybe a signal's handler
+-- how a thread comes by an event to stand in a block behind the block's first instruction: it executed an
+-- instruction of the block; its barrier returned there; or it goes on as it stood at an earlier place, since which it
+-- has executed none of so many of the block's instructions. With no event since, the event left it as it was; else a
+-- handler of a signal came between and has returned (rt_sigreturn)
 pub data HasCome (s : Setting) (at count kept t : ℕ) (e : Event) (before : History) : Type 0 where
   acts : e.entry.tid.0 ≡ t → choice_of e.entry ≡ asked.Exec → IsIn at count e.entry.pc → HasCome s at count kept t e before
   returns : choice_of e.entry ≡ asked.Done → (file s t before).pc ≡ at + 20 → (file s t (e ∷ before)).pc ≡ at + 20 → HasCome s at count kept t e before
@@ -49,7 +51,8 @@ pub data HasCome (s : Setting) (at count kept t : ℕ) (e : Event) (before : His
 abbrev pub register_of : Setting → Event → History → ℕ → ℕ
 register_of s e before r = register (file s e.entry.tid.0 before).file r
 
--- an event, and the place before it
+-- EACH EVENT
+
 pub record IsUse (s : Setting) (u : Urcu) (first : ℕ) (e : Event) (before : History) : Type 0 where
   -- the words can be read and written where an instruction is executed
   pub counter_usable : choice_of e.entry ≡ asked.Exec → IsUsable s (counter_bytes u) before
@@ -61,23 +64,20 @@ pub record IsUse (s : Setting) (u : Urcu) (first : ℕ) (e : Event) (before : Hi
   pub writer : (i : ℕ) → i < u.readers → IsLockStore s u i e before ⊎ IsUnlockStore s u i e before → e.entry.tid.0 ≡ u.reader i
   pub turns : (i : ℕ) (section : History) → i < u.readers → IsLockStore s u i e before → IsSection s u i section before → ⊥
   -- the counter doesn't pass 2^64 - 1
-  pub small : counted u.counter first before + 1 < 2 ^ 64
-  -- one thread at a time is in a sync block, and it enters none again before that block's last instruction
-  pub one : (at t : ℕ) (r : SyncRegs) (grace : History) → u.syncs at ≡ Some r → IsGrace at t grace before → IsSyncStore u e → (e.entry.tid.0 ≡ t) × (e.entry.pc ≡ at + 28)
-  pub once : (at t : ℕ) (r : SyncRegs) (grace : History) → u.syncs at ≡ Some r → IsGrace at t grace before → IsGraceBegin at t e → ⊥
-  -- the process registered command 16 before, and no thread is inside a restartable sequence there
+  pub small : IsSyncStore u e → counted u.counter first before + 1 < 2 ^ 64
+  -- one thread at a time is in a sync block, and before that block's last instruction it enters none again
+  pub alone : (at t : ℕ) (r : SyncRegs) (begun : History) → u.syncs at ≡ Some r → IsSyncing at t begun before → IsSyncEntry u e → ⊥
+  -- the process has registered for membarrier's private command
   pub registered : (at t : ℕ) (r : SyncRegs) → u.syncs at ≡ Some r → IsGraceBegin at t e → (kernel s before).barriers.private ≡ true
-  pub outside : (at t : ℕ) (r : SyncRegs) → u.syncs at ≡ Some r → IsGraceBegin at t e → is_inside_at s e.entry.hart.0 before ≡ false
-  -- each block is entered at its first instruction alone, and nobody writes into a signal frame
+  -- each block is entered at its first instruction alone; and a thread that comes back into one by a handler's return
+  -- goes on as it was: in a lock block as at some time in it, in a sync block as when it last left it
   pub locking : (at t : ℕ) (r : ReadRegs) → u.locks at ≡ Some r → (file s t (e ∷ before)).pc ≡ at + 4 → HasCome s at 2 0 t e before
   pub syncing : (at t k : ℕ) (r : SyncRegs) → u.syncs at ≡ Some r → 0 < k → k < 17 → (file s t (e ∷ before)).pc ≡ at + 4 * k → HasCome s at 17 17 t e before
-  -- lock and sync work on the counter and the slots
+  -- where a thread executes a block's first instruction, its registers hold the addresses of the counter and of a slot
   pub lock_gp : (at : ℕ) (r : ReadRegs) → u.locks at ≡ Some r → IsExecAt at e → register_of s e before r.gp ≡ u.counter
-  pub lock_slot : (at : ℕ) (r : ReadRegs) → u.locks at ≡ Some r → IsExecAt (at + 4) e → (i : ℕ) × (i < u.readers) × (register_of s e before r.slot ≡ slot_at u i)
-  pub sync_gp : (at k : ℕ) (r : SyncRegs) → u.syncs at ≡ Some r → k < 17 → IsExecAt (at + 4 * k) e → register_of s e before r.gp ≡ u.counter
-  pub sync_slots : (at k : ℕ) (r : SyncRegs) → u.syncs at ≡ Some r → k < 17 → IsExecAt (at + 4 * k) e → register_of s e before r.slots ≡ u.slots
-  -- a file has 32 registers
-  pub many : (t : ℕ) → length (file s t before).file.x ≡ 32
+  pub lock_slot : (at : ℕ) (r : ReadRegs) → u.locks at ≡ Some r → IsExecAt at e → (i : ℕ) × (i < u.readers) × (register_of s e before r.slot ≡ slot_at u i)
+  pub sync_gp : (at : ℕ) (r : SyncRegs) → u.syncs at ≡ Some r → IsExecAt at e → register_of s e before r.gp ≡ u.counter
+  pub sync_slots : (at : ℕ) (r : SyncRegs) → u.syncs at ≡ Some r → IsExecAt at e → register_of s e before r.slots ≡ u.slots
 
 abbrev pub AreUses : Setting → Urcu → ℕ → History → Type 0
 AreUses s u first [] = Unit {0}
