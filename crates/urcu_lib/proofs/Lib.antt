@@ -3,3 +3,4 @@ pub mod GraceLaw
 pub mod SlotLaw
 pub mod SyncState
 pub mod SyncSteps
+pub mod UseTests
