@@ -3,4 +3,5 @@ pub mod GraceLaw
 pub mod SlotLaw
 pub mod SyncState
 pub mod SyncSteps
+pub mod UseExample
 pub mod UseTests

@@ -237,7 +237,7 @@ module _ (s : Setting) (x : Layout) (first : ℕ) where
   usable e before = implies (is_exec (choice_of e.entry)) (are_usable before x.counter && all_below x.readers (λ i. are_usable before (slot_of i)))
 
   -- the stores of the blocks
-  abbrev is_lock_store : ℕ → Event → History → Bool
+  abbrev pub is_lock_store : ℕ → Event → History → Bool
   is_lock_store i e before = executes (x.lock_at + 4) e && eqb (value e before x.lock.slot) (slot_of i)
 
   abbrev is_unlock_store : ℕ → Event → History → Bool
@@ -326,7 +326,7 @@ module _ (s : Setting) (x : Layout) (first : ℕ) where
       (executes_it (x.lock_at + 4) e (subst (λ n. IsExecAt (n + 4) e) its.0 it.exec))
       (eq-eqb (value e before x.lock.slot) (slot_of i) (ap (λ (r : ReadRegs). value e before r.slot) its.1 ∙ it.to))
 
-  lock_store_is : (i : ℕ) (e : Event) (before : History) → is_lock_store i e before ≡ true → IsLockStore s u i e before
+  pub lock_store_is : (i : ℕ) (e : Event) (before : History) → is_lock_store i e before ≡ true → IsLockStore s u i e before
   lock_store_is i e before is =
       let parts = and_parts (executes (x.lock_at + 4) e) (eqb (value e before x.lock.slot) (slot_of i)) is in
       record {
