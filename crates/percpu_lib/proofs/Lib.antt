@@ -16,6 +16,7 @@ pub mod Courses
 pub mod Emittable
 pub mod Emitting
 pub mod FileCode
+pub mod FormTests
 pub mod FormedWords
 pub mod FreeLaw
 pub mod FreeRetries
