@@ -27,10 +27,11 @@ use Rattle.alone_laws.specs.Spans.{code_of}
 use Rattle.alone_laws.specs.Undisturbed.{IsUndisturbed}
 use Rattle.alone_laws.specs.Uses.{CanAlwaysBegin}
 use Rattle.percpu_lib.specs.Adds.{add_block, add_range, cell_seen, placed_add}
-use Rattle.percpu_lib.specs.Uses.{HoldsAdd, SharesArea, cells_of}
+use Rattle.percpu_lib.specs.Uses.{HoldsAdd, SharesArea, add_form, cells_of}
 use Rattle.percpu_lib.specs.declared.slots.Slots.{Slots}
+use Rattle.percpu_lib.proofs.FormTests.{add_tested}
 use Rattle.percpu_lib.proofs.RetryTests.{registers_are, same_registers, walk_found, walks_at_work}
-use Rattle.percpu_lib.proofs.ShareTests.{all_shares, shares_alone}
+use Rattle.percpu_lib.proofs.ShareTests.{all_shares, none_other, shares_so}
 use Rattle.percpu_lib.proofs.UseTests.{all_can_begin, all_used, always_begins_freely, are_fine}
 
 -- `lui x8, 0x20`, `addi x10, x8, 0`, `addi x11, x0, 32`, `lui x13, 0xF1401`, `addi x13, x13, 0x73`,
@@ -174,7 +175,7 @@ unfolding row_of rows lui_rows auipc_rows jal_rows jalr_rows branch_rows load_ro
 there =
     (refl, (refl, (refl, (refl, (refl, (refl, (refl, (refl, (refl, (refl, (refl, (refl, (refl, (refl, tt))))))))))))))
 
-fine : are_fine adding slots at area 1 (history adding log) ≡ true
+fine : are_fine adding (add_form slots) (add_tested slots) at area 1 (history adding log) ≡ true
 unfolding decide history done meaning row_of rows lui_rows auipc_rows jal_rows jalr_rows branch_rows load_rows store_rows op_imm_rows op_imm_32_rows op_rows op_32_rows misc_mem_rows amo_rows system_rows are_readable number_at
 fine = refl
 
@@ -186,7 +187,7 @@ low_area = leb-true (area.at + 32) (2 ^ 38) refl
 
 pub holds : HoldsAdd adding (history adding log) slots at area 1
 holds =
-    let used = all_used adding slots at area 1 (history adding log) is_run.allowed fine in
+    let used = all_used adding (add_form slots) (add_tested slots) at area 1 (history adding log) is_run.allowed fine in
     record {
       stands = record { holds = word_is (code_of adding.program.pages) (add_block slots) at there };
       slots = record {
@@ -214,12 +215,12 @@ holds =
     }
 
 -- it can always begin, and from the retry label on, once it was aborted, its hart is left undisturbed
-begins_fine : always_begins_freely adding slots at area 1 (history adding log) ≡ true
+begins_fine : always_begins_freely adding (add_form slots) (add_tested slots) at area 1 (history adding log) ≡ true
 unfolding decide history done meaning row_of rows lui_rows auipc_rows jal_rows jalr_rows branch_rows load_rows store_rows op_imm_rows op_imm_32_rows op_rows op_32_rows misc_mem_rows amo_rows system_rows are_readable number_at
 begins_fine = refl
 
 pub can_begin : CanAlwaysBegin adding (placed_add slots at area) 1 (history adding log)
-can_begin = all_can_begin adding slots at area 1 (history adding log) is_run.allowed begins_fine
+can_begin = all_can_begin adding (add_form slots) (add_tested slots) at area 1 (history adding log) is_run.allowed begins_fine
 
 abbrev pub earlier : List Entry
 earlier = take 19 log
@@ -238,13 +239,13 @@ begins_anew = refl
 instruction : (h : ℕ) → h ≡ 0 → (kind.Exec ≡ kind.Exec) ⊎ (kind.Exec ≡ kind.Drain)
 instruction h own = inl refl
 
-shares_fine : shares_alone adding slots at area 1 (history adding log) ≡ true
+shares_fine : shares_so adding (add_form slots) (add_tested slots) at area 1 [] (history adding log) ≡ true
 unfolding decide history done meaning row_of rows lui_rows auipc_rows jal_rows jalr_rows branch_rows load_rows store_rows op_imm_rows op_imm_32_rows op_rows op_32_rows misc_mem_rows amo_rows system_rows are_readable number_at
 shares_fine = refl
 
 -- it uses its area for this block alone
 pub shares : SharesArea adding (history adding log) slots at area 1 []
-shares = all_shares adding slots at area 1 (history adding log) is_run.allowed fine shares_fine
+shares = all_shares adding (add_form slots) (add_tested slots) at area 1 [] (history adding log) is_run.allowed fine shares_fine (λ other has. absurd (none_other other has))
 
 pub undisturbed : IsUndisturbed 0 rest
 undisturbed = (

@@ -15,7 +15,9 @@ pub mod CourseLaw
 pub mod Courses
 pub mod Emittable
 pub mod Emitting
+pub mod ExampleParts
 pub mod FileCode
+pub mod FormTests
 pub mod FormedWords
 pub mod FreeLaw
 pub mod FreeRetries
@@ -24,6 +26,8 @@ pub mod HeldWords
 pub mod KindLaws
 pub mod KindWords
 pub mod Labels
+pub mod ListExample
+pub mod PoolExample
 pub mod PopLaw
 pub mod PushCode
 pub mod PushDone

@@ -1,13 +1,14 @@
--- Tests of each event of a run on hart 0 that find from its history that a thread uses its area for an add block
--- alone: what SharesArea asks of each event, by computation. They ask for more than it does.
+-- Tests of each event of a run on hart 0 that find from its history that a thread uses its area for a block and for
+-- others: what SharesAreaWith asks of each event, by computation. They ask for more than it does.
 use Rattle.std.proofs.Common.{◌≡◌, ◌≢◌, ℕ, zero, suc, ◌+◌, List, [], ◌∷◌, refl, sym, ap, ◌∙◌, arith, subst, Bool, true}
-use Rattle.std.proofs.Common.{false, not, ◌&&◌, ◌||◌, ◌⊎◌, inl, inr, eqb, Some}
+use Rattle.std.proofs.Common.{false, not, ◌&&◌, ◌||◌, ◌⊎◌, inl, inr, eqb, Option, Some}
 use Rattle.std.specs.Prelude.{Contains}
 use Rattle.std.proofs.lemmas.Bool.{and_from, and_parts, eqb-true, false≢true}
 use Rattle.mach_types.specs.Bytes.{overlay, word_at}
 use Rattle.mach_types.specs.Kernel.Areas.{descriptor_at, sequence_of}
 use Rattle.mach_types.specs.declared.events.Kind.TheVariants as kind
 use Rattle.mach_types.specs.declared.sequences.Area.{Area}
+use Rattle.mach_types.specs.declared.sequences.Seq.{Seq}
 use Rattle.mach_types.specs.declared.sequences.TheConstants.{RSEQ_CS}
 use Rattle.mach_types.specs.declared.user_memory.Store.{Store}
 use Rattle.block_model.specs.Acts.{is_instruction}
@@ -16,17 +17,15 @@ use Rattle.block_model.specs.History.{Event, History, file, here_in_history, ker
 use Rattle.block_model.specs.Run.{IsRunHistory}
 use Rattle.block_model.specs.Setting.{Setting}
 use Rattle.block_model.proofs.Laws.{IsStep, runs_apart, step_of}
-use Rattle.alone_laws.specs.Pointers.{AlwaysDescribed, AreDescribed, KeepsPointer, PointerIs, PointerKept}
+use Rattle.alone_laws.specs.Pointers.{AlwaysDescribed, AreDescribed, KeepsPointer, LiesBeside, PointerIs, PointerKept}
 use Rattle.alone_laws.specs.Pointers.{StoresTable, WritesPointer, has_area, has_had, pointer_at}
 use Rattle.alone_laws.specs.Spans.{seen_at}
 use Rattle.alone_laws.specs.Uses.{Placed, is_before}
 use Rattle.alone_laws.proofs.EventKinds.{is_kind}
-use Rattle.percpu_lib.specs.Adds.{add_range, placed_add}
-use Rattle.percpu_lib.specs.Uses.{SharesArea}
-use Rattle.percpu_lib.specs.declared.slots.Slots.{Slots}
-use Rattle.percpu_lib.proofs.UseTests.{are_beside, are_fine, begins_to_run, either, follows, implies, is_empty}
-use Rattle.percpu_lib.proofs.UseTests.{is_fine, is_just, is_range, just_is, leaves_all, not_both, not_named, on_own}
-use Rattle.percpu_lib.proofs.UseTests.{only_hart, overlay_beside, own_hart, range_is, runs_there}
+use Rattle.percpu_lib.specs.Forms.{Form, SharesAreaWith, placed_of}
+use Rattle.percpu_lib.proofs.UseTests.{IsTested, are_beside, are_fine, begins_to_run, either, follows, implies, is_empty}
+use Rattle.percpu_lib.proofs.UseTests.{is_fine, is_just, just_is, leaves_all, not_both, not_named, on_own}
+use Rattle.percpu_lib.proofs.UseTests.{only_hart, overlay_beside, own_hart, runs_there}
 
 -- the stores of an event are this one
 abbrev is_store : ℕ → ℕ → List Store → Bool
@@ -46,15 +45,80 @@ store_is at value (w ∷ []) is =
     λ i. record { at = place i; size = size i; value = number i } ∷ []
 store_is at value (w ∷ v ∷ ws) is = absurd (false≢true is)
 
-module _ (s : Setting) (p : Slots) (at : ℕ) (area : Area) (t : ℕ) where
+-- a store of the descriptor's address just before the start of a block
+abbrev stores_table : Setting → ℕ → ℕ → Event → History → Placed → Bool
+stores_table s t area e before other =
+    eqb ((file s t before).pc + 4) other.range.start && is_store (area + RSEQ_CS) other.table e.done.executed
+
+abbrev stores_one : Setting → ℕ → ℕ → Event → History → List Placed → Bool
+stores_one s t area e before [] = false
+stores_one s t area e before (other ∷ rest) = stores_table s t area e before other || stores_one s t area e before rest
+
+one_stored : (s : Setting) (t area : ℕ) (e : Event) (before : History) (all : List Placed)
+    → stores_one s t area e before all ≡ true
+    → (other : Placed) × Contains all other × StoresTable s other t area e before
+one_stored s t area e before [] is = absurd (false≢true is)
+one_stored s t area e before (first ∷ rest) is =
+    by_way (λ later. one_stored s t area e before rest later) (either (stores_table s t area e before first) _ is)
+  where
+    by_way : (stores_one s t area e before rest ≡ true
+        → (other : Placed) × Contains rest other × StoresTable s other t area e before)
+        → (stores_table s t area e before first ≡ true) ⊎ (stores_one s t area e before rest ≡ true)
+        → (other : Placed) × Contains (first ∷ rest) other × StoresTable s other t area e before
+    by_way more (inl here) =
+        let one = and_parts (eqb ((file s t before).pc + 4) first.range.start) _ here in (
+          first,
+          (0, omega arith, refl),
+          record {
+            pc = eqb-true ((file s t before).pc + 4) first.range.start one.0;
+            executed = store_is (area + RSEQ_CS) first.table e.done.executed one.1;
+          },
+        )
+    by_way more (inr later) =
+        let found = more later in
+        (found.0, (suc found.1.0, let within = found.1.1 in omega arith, found.1.2), found.2)
+
+pub none_other : (other : Placed) → Contains [] other → ⊥
+none_other other (k, lt, is) = omega arith
+
+-- the descriptors of all of them name their sequences
+abbrev is_same_range : Seq → Seq → Bool
+is_same_range f g = eqb f.start g.start && (eqb f.length g.length && eqb f.abort g.abort)
+
+same_range : (f g : Seq) → is_same_range f g ≡ true → f ≡ g
+same_range f g is =
+    let one = and_parts (eqb f.start g.start) _ is in
+    let two = and_parts (eqb f.length g.length) _ one.1 in
+    let start : f.start ≡ g.start = eqb-true f.start g.start one.0 in
+    let long : f.length ≡ g.length = eqb-true f.length g.length two.0 in
+    let handler : f.abort ≡ g.abort = eqb-true f.abort g.abort two.1 in
+    λ i. record { start = start i; length = long i; abort = handler i }
+
+abbrev all_described : (ℕ → Option ℕ) → List Placed → Bool
+all_described byte [] = true
+all_described byte (other ∷ rest) =
+    is_same_range (sequence_of (descriptor_at byte other.table)) other.range && all_described byte rest
+
+each_described : (byte : ℕ → Option ℕ) (all : List Placed) → all_described byte all ≡ true → (other : Placed)
+    → Contains all other → sequence_of (descriptor_at byte other.table) ≡ other.range
+each_described byte [] is other (k, lt, at) = absurd (omega arith)
+each_described byte (first ∷ rest) is other (zero, lt, at) =
+    let parts = and_parts (is_same_range (sequence_of (descriptor_at byte first.table)) first.range) _ is in
+    subst (λ (x : Placed). sequence_of (descriptor_at byte x.table) ≡ x.range) at
+    (same_range (sequence_of (descriptor_at byte first.table)) first.range parts.0)
+each_described byte (first ∷ rest) is other (suc k, lt, at) =
+    let parts = and_parts (is_same_range (sequence_of (descriptor_at byte first.table)) first.range) _ is in
+    each_described byte rest parts.1 other (k, omega arith, at)
+
+module _ (s : Setting) (form : Form) (tested : IsTested form) (at : ℕ) (area : Area) (t : ℕ) (others : List Placed) where
   abbrev b : Placed
-  b = placed_add p at area
+  b = placed_of form at area
 
   abbrev runs_here : History → Bool
-  runs_here before = runs_there s p at area t before
+  runs_here before = runs_there s form tested at area t before
 
   abbrev starts_running : Event → History → Bool
-  starts_running e before = begins_to_run s p at area t e before
+  starts_running e before = begins_to_run s form tested at area t e before
 
   -- the pointer is 0 where the thread runs on hart 0
   abbrev is_zero : History → Bool
@@ -65,7 +129,7 @@ module _ (s : Setting) (p : Slots) (at : ℕ) (area : Area) (t : ℕ) where
   abbrev stores_well : Event → History → Bool
   stores_well e before =
       are_beside (area.at + 8) 8 e.done.executed
-      || (eqb ((file s t before).pc + 4) (at + 16) && is_store (area.at + RSEQ_CS) p.table e.done.executed)
+      || stores_one s t area.at e before (b ∷ others)
 
   abbrev runs_well : Event → History → Bool
   runs_well e before =
@@ -83,7 +147,7 @@ module _ (s : Setting) (p : Slots) (at : ℕ) (area : Area) (t : ℕ) where
   abbrev stands_well : History → Bool
   stands_well before =
       runs_here before
-      && is_range s p at area t (sequence_of (descriptor_at (view (here_in_history s before 0)) p.table))
+      && all_described (view (here_in_history s before 0)) (b ∷ others)
 
   abbrev is_shared : Event → History → Bool
   is_shared e before =
@@ -91,20 +155,13 @@ module _ (s : Setting) (p : Slots) (at : ℕ) (area : Area) (t : ℕ) where
       && (implies (has_had s t area.at before) (writes_well e before)
       && implies (is_before b (file s t before).pc) (stands_well before))
 
-  abbrev pub shares_alone : History → Bool
-  shares_alone [] = true
-  shares_alone (e ∷ before) = shares_alone before && is_shared e before
+  abbrev pub shares_so : History → Bool
+  shares_so [] = true
+  shares_so (e ∷ before) = shares_so before && is_shared e before
 
   -- WHAT THEY FIND
 
-  alone : (other : Placed) → Contains (b ∷ []) other → b ≡ other
-  alone other (zero, lt, is) = is
-  alone other (suc k, lt, is) = absurd (omega arith)
-
-  none_other : (other : Placed) → Contains [] other → ⊥
-  none_other other (k, lt, is) = omega arith
-
-  module _ (e : Event) (before : History) (step : IsStep s e before) (fine : is_fine s p at area t e before ≡ true)
+  module _ (e : Event) (before : History) (step : IsStep s e before) (fine : is_fine s form tested at area t e before ≡ true)
       (shared : is_shared e before ≡ true) where
     parts : (implies (is_new e before) (runs_here before && is_zero (e ∷ before)) ≡ true)
         × (implies (has_had s t area.at before) (writes_well e before)
@@ -116,7 +173,7 @@ module _ (s : Setting) (p : Slots) (at : ℕ) (area : Area) (t : ℕ) where
     more = and_parts (implies (has_had s t area.at before) (writes_well e before)) _ parts.1
 
     on_0 : e.entry.hart.0 ≡ 0
-    on_0 = own_hart s p at area t e before step fine
+    on_0 = own_hart s form tested at area t e before step fine
 
     -- at the first registration
     first_zero : has_had s t area.at before ≡ false → has_area t area.at e.done.kernel.areas ≡ true
@@ -137,7 +194,7 @@ module _ (s : Setting) (p : Slots) (at : ℕ) (area : Area) (t : ℕ) where
             → eqb e.entry.hart.0 h ≡ c → 0 ≡ h
         by_hart runs h now true own = sym on_0 ∙ eqb-true e.entry.hart.0 h own
         by_hart runs h now false apart =
-            only_hart s p at area t e before step fine runs h (sym (runs_apart s h e before step apart) ∙ now)
+            only_hart s form tested at area t e before step fine runs h (sym (runs_apart s h e before step apart) ∙ now)
 
     -- later
     abbrev How : Type 0
@@ -151,14 +208,14 @@ module _ (s : Setting) (p : Slots) (at : ℕ) (area : Area) (t : ℕ) where
 
     no_other : How → running s e.entry.hart.0 before ≢ Some t → (e.entry.kind ≡ kind.Run → e.entry.tid.0 ≢ t) → ⊥
     no_other (inl runs) apart begins =
-        apart (on_own s p at area t e before step fine (and_parts (runs_here before) _ runs).0)
-    no_other (inr starts) apart begins = not_named s p at area t e before step fine starts begins
+        apart (on_own s form tested at area t e before step fine (and_parts (runs_here before) _ runs).0)
+    no_other (inr starts) apart begins = not_named s form tested at area t e before step fine starts begins
 
     runs_so : How → running s e.entry.hart.0 before ≡ Some t
         → (not (is_kind e.entry.kind kind.Signal) ≡ true)
         × (implies (is_instruction e.entry.kind) (is_empty e.done.entered) ≡ true) × (stores_well e before ≡ true)
     runs_so (inr starts) at_own =
-        absurd (not_both s p at area t e before step fine starts e.entry.hart.0 at_own)
+        absurd (not_both s form tested at area t e before step fine starts e.entry.hart.0 at_own)
     runs_so (inl runs) at_own =
         let one = and_parts (runs_here before) _ runs in
         let two = and_parts (not (is_kind e.entry.kind kind.Signal)) _ one.1 in
@@ -167,28 +224,17 @@ module _ (s : Setting) (p : Slots) (at : ℕ) (area : Area) (t : ℕ) where
 
     by_stores : stores_well e before ≡ true
         → ((a c : ℕ) → pointer_at area.at a ≡ true → overlay e.done.executed a c ≡ c)
-        ⊎ ((other : Placed) × Contains (b ∷ []) other × StoresTable s other t area.at e before)
+        ⊎ ((other : Placed) × Contains (b ∷ others) other × StoresTable s other t area.at e before)
     by_stores is =
         by_way (either (are_beside (area.at + 8) 8 e.done.executed) _ is)
       where
-        by_way : (are_beside (area.at + 8) 8 e.done.executed ≡ true)
-            ⊎ (eqb ((file s t before).pc + 4) (at + 16) && is_store (area.at + RSEQ_CS) p.table e.done.executed
-            ≡ true)
+        by_way : (are_beside (area.at + 8) 8 e.done.executed ≡ true) ⊎ (stores_one s t area.at e before (b ∷ others) ≡ true)
             → ((a c : ℕ) → pointer_at area.at a ≡ true → overlay e.done.executed a c ≡ c)
-            ⊎ ((other : Placed) × Contains (b ∷ []) other × StoresTable s other t area.at e before)
+            ⊎ ((other : Placed) × Contains (b ∷ others) other × StoresTable s other t area.at e before)
         by_way (inl beside) = inl (λ a c has. overlay_beside (area.at + 8) 8 e.done.executed beside a c has)
-        by_way (inr stores) =
-            let one = and_parts (eqb ((file s t before).pc + 4) (at + 16)) _ stores in
-            inr (
-              b,
-              (0, omega arith, refl),
-              record {
-                pc = eqb-true ((file s t before).pc + 4) (at + 16) one.0;
-                executed = store_is (area.at + RSEQ_CS) p.table e.done.executed one.1;
-              },
-            )
+        by_way (inr stores) = inr (one_stored s t area.at e before (b ∷ others) stores)
 
-    writes : has_had s t area.at before ≡ true → WritesPointer s (b ∷ []) t area.at e before
+    writes : has_had s t area.at before ≡ true → WritesPointer s (b ∷ others) t area.at e before
     writes had =
         let how = (well had).1 in
         record {
@@ -203,43 +249,41 @@ module _ (s : Setting) (p : Slots) (at : ℕ) (area : Area) (t : ℕ) where
           elsewhere = λ its none other. absurd (false≢true (sym none ∙ (well had).0));
         }
 
-    pub keeps_it : KeepsPointer s (b ∷ []) t area.at e before
+    pub keeps_it : KeepsPointer s (b ∷ others) t area.at e before
     keeps_it = record { first = first_zero; later = writes }
 
     pub stand : (h : ℕ) → running s h before ≡ Some t → is_before b (file s t before).pc ≡ true
-        → AreDescribed s (b ∷ []) h before
+        → AreDescribed s (b ∷ others) h before
     stand h runs here =
         let one = and_parts (runs_here before) _
         (follows (is_before b (file s t before).pc) (stands_well before) more.1 here) in
-        let range = range_is s p at area t
-        (sequence_of (descriptor_at (view (here_in_history s before 0)) p.table)) one.1 in
         record {
           described = λ other has.
-              subst (λ (x : Placed). sequence_of (descriptor_at (view (here_in_history s before h)) x.table) ≡ x.range)
-              (alone other has)
-              (subst (λ n. sequence_of (descriptor_at (view (here_in_history s before n)) p.table) ≡ add_range at)
-              (only_hart s p at area t e before step fine one.0 h runs) range);
+              subst (λ n. sequence_of (descriptor_at (view (here_in_history s before n)) other.table) ≡ other.range)
+              (only_hart s form tested at area t e before step fine one.0 h runs)
+              (each_described (view (here_in_history s before 0)) (b ∷ others) one.1 other has);
         }
 
-  all_kept : (history : History) → IsRunHistory s history → are_fine s p at area t history ≡ true
-      → shares_alone history ≡ true
-      → PointerKept s (b ∷ []) t area.at history × AlwaysDescribed s b (b ∷ []) t history
+  all_kept : (history : History) → IsRunHistory s history → are_fine s form tested at area t history ≡ true
+      → shares_so history ≡ true
+      → PointerKept s (b ∷ others) t area.at history × AlwaysDescribed s b (b ∷ others) t history
   all_kept [] run fine shared = (tt, tt)
   all_kept (e ∷ before) run fine shared =
-      let fines = and_parts (are_fine s p at area t before) (is_fine s p at area t e before) fine in
-      let shares = and_parts (shares_alone before) (is_shared e before) shared in
+      let fines = and_parts (are_fine s form tested at area t before) (is_fine s form tested at area t e before) fine in
+      let shares = and_parts (shares_so before) (is_shared e before) shared in
       let earlier = all_kept before run.0 fines.0 shares.0 in
       let step = step_of s e before run in (
         (earlier.0, keeps_it e before step fines.1 shares.1),
         (earlier.1, stand e before step fines.1 shares.1),
       )
 
-  pub all_shares : (history : History) → IsRunHistory s history → are_fine s p at area t history ≡ true
-      → shares_alone history ≡ true → SharesArea s history p at area t []
-  all_shares history run fine shared =
+  pub all_shares : (history : History) → IsRunHistory s history → are_fine s form tested at area t history ≡ true
+      → shares_so history ≡ true → ((other : Placed) → Contains others other → LiesBeside b other)
+      → SharesAreaWith s history b t others
+  all_shares history run fine shared beside =
       let all = all_kept history run fine shared in
       record {
-        beside = λ other has. absurd (none_other other has);
+        beside = beside;
         kept = all.0;
         described = all.1;
       }

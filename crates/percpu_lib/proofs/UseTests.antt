@@ -1,6 +1,6 @@
--- Tests of each event of a run on hart 0 that find from its history that a thread uses an add block as it
--- should: what HoldsAdd asks of each event, by computation. They ask for more than it does.
-use Rattle.std.proofs.Common.{◌≡◌, ◌≢◌, ℕ, zero, suc, ◌+◌, ◌<◌, ◌≤◌, ◌^◌, List, [], ◌∷◌, refl, sym, ap}
+-- Tests of each event of a run on hart 0 that find from its history that a thread uses a block as it should: what
+-- HoldsBlock asks of each event, by computation. They ask for more than it does.
+use Rattle.std.proofs.Common.{◌≡◌, ◌≢◌, ℕ, zero, suc, ◌+◌, ◌*◌, ◌<◌, ◌≤◌, ◌^◌, List, [], ◌∷◌, refl, sym, ap}
 use Rattle.std.proofs.Common.{◌∙◌, arith, subst, Bool, true, false, not, ◌&&◌, ◌||◌, ◌⊎◌, inl, inr, ⊎_elim, cond}
 use Rattle.std.proofs.Common.{eqb, leb, Option, Some, None}
 use Rattle.std.specs.Option.{option_map_or}
@@ -35,9 +35,7 @@ use Rattle.alone_laws.proofs.EventKinds.{is_kind, kind_is}
 use Rattle.alone_laws.proofs.OpenSequences.{still_open}
 use Rattle.alone_laws.proofs.Sequences.{exec_kind}
 use Rattle.alone_laws.proofs.StoredWords.{among_low}
-use Rattle.percpu_lib.specs.Adds.{IsCellApart, add_of, add_range, cell_at, placed_add}
-use Rattle.percpu_lib.specs.Forms.{IsAtStart}
-use Rattle.percpu_lib.specs.Uses.{AreAddUsed, IsAddUsed, cells_of}
+use Rattle.percpu_lib.specs.Forms.{AreBlockUsed, Form, IsAtStart, IsBlockUsed, block_of, placed_of, range_of}
 use Rattle.percpu_lib.specs.declared.slots.Slots.{Slots}
 
 -- BOOLS
@@ -125,14 +123,32 @@ overlay_beside at n (w ∷ ws) is a c has =
     let parts = and_parts (is_beside at n w) (are_beside at n ws) is in
     ap (overlay ws a) (beside_one at n w parts.0 a c has) ∙ overlay_beside at n ws parts.1 a c has
 
+-- an address in one of some spans
+abbrev pub is_among : List (ℕ × ℕ) → ℕ → Bool
+is_among [] a = false
+is_among (x ∷ xs) a = among x.0 x.1 a || is_among xs a
+
 -- THE TESTS
 
-module _ (s : Setting) (p : Slots) (at : ℕ) (area : Area) (t : ℕ) where
+-- what is tested of a block of a form on hart 0: spans of bytes, which are those that its sequence uses beside the area's;
+-- and a test of what is asked of its data
+pub record IsTested (form : Form) : Type 0 where
+  pub spans : Setting → ℕ → History → List (ℕ × ℕ)
+  pub covers : (s : Setting) (area : Area) (t : ℕ) (begun : History) (a : ℕ) → form.bytes s area 0 t begun a ≡ true
+      → among area.at 32 a || is_among (spans s t begun) a ≡ true
+  pub is_apart : Setting → Area → ℕ → History → Bool
+  pub apart : (s : Setting) (area : Area) (t : ℕ) (begun : History) → is_apart s area t begun ≡ true
+      → form.Apart s area 0 t begun
+
+module _ (s : Setting) (form : Form) (tested : IsTested form) (at : ℕ) (area : Area) (t : ℕ) where
+  abbrev p : Slots
+  p = form.slots
+
   abbrev in_words : ℕ → Bool
-  in_words pc = in_block (placed_add p at area) pc
+  in_words pc = in_block (placed_of form at area) pc
 
   abbrev in_sequence : ℕ → Bool
-  in_sequence pc = is_inside (add_range at) pc
+  in_sequence pc = is_inside (range_of form at) pc
 
   -- the thread runs on hart 0, and has the area
   abbrev pub runs_there : History → Bool
@@ -145,7 +161,7 @@ module _ (s : Setting) (p : Slots) (at : ℕ) (area : Area) (t : ℕ) where
   has_area before = option_map_or is_area (area_of t (kernel s before).areas) false
 
   abbrev pub is_range : Seq → Bool
-  is_range g = eqb g.start (add_range at).start && (eqb g.length 28 && eqb g.abort (add_range at).abort)
+  is_range g = eqb g.start (range_of form at).start && (eqb g.length (4 * form.inside) && eqb g.abort (range_of form at).abort)
 
   -- bytes can be read and written
   abbrev reads : History → ℕ → Bool
@@ -165,21 +181,22 @@ module _ (s : Setting) (p : Slots) (at : ℕ) (area : Area) (t : ℕ) where
       && (can_read_descriptor byte p.table
       && (eqb d.version 0
       && (is_range (sequence_of d)
-      && (is_signed byte area (add_range at)
+      && (is_signed byte area (range_of form at)
       && not (has_flags byte area d)))))
 
-  -- the data of processor 0 lies beside the area and can be used, and the descriptor stands
-  abbrev is_fair : ℕ → History → Bool
-  is_fair cells before =
+  -- bytes of spans can be used
+  abbrev all_usable : History → List (ℕ × ℕ) → Bool
+  all_usable before [] = true
+  all_usable before (x ∷ xs) = are_usable before x.0 x.1 && all_usable before xs
+
+  -- the area and the data of processor 0 can be used, and the descriptor stands
+  abbrev is_fair : List (ℕ × ℕ) → History → Bool
+  is_fair ranges before =
       runs_there before
       && (has_area before
       && (are_usable before area.at 32
-      && (are_usable before (cell_at cells 0) 8
+      && (all_usable before ranges
       && is_range (sequence_of (descriptor_at (view (here_in_history s before 0)) p.table)))))
-
-  abbrev is_apart : ℕ → Bool
-  is_apart cells = leb (cell_at cells 0 + 8) (2 ^ 64)
-      && (leb (cell_at cells 0 + 8) area.at || leb (area.at + 32) (cell_at cells 0))
 
   -- the thread comes to a word of the block at its first, by another word that it executes, or, where no signal is
   -- delivered, by staying or by an interruption inside
@@ -240,14 +257,14 @@ module _ (s : Setting) (p : Slots) (at : ℕ) (area : Area) (t : ℕ) where
   -- where a sequence begins, and as long as it is open
   abbrev starts : History → Bool
   starts before =
-      is_fair (cells_of s p t before) before && is_apart (cells_of s p t before)
+      is_fair (tested.spans s t before) before && tested.is_apart s area t before
 
   abbrev is_begun : History → Bool
-  is_begun before = implies (eqb (file s t before).pc (at + 16)) (starts before)
+  is_begun before = implies (eqb (file s t before).pc (at + 4 * form.first)) (starts before)
 
   abbrev is_open : History → Bool
   is_open before =
-      option_map_or (λ q. is_fair (cells_of s p t q.begun) before) (sequence_on s 0 before) true
+      option_map_or (λ q. is_fair (tested.spans s t q.begun) before) (sequence_on s 0 before) true
 
   abbrev pub is_fine : Event → History → Bool
   is_fine e before =
@@ -262,7 +279,7 @@ module _ (s : Setting) (p : Slots) (at : ℕ) (area : Area) (t : ℕ) where
   -- before the sequence the thread runs on hart 0, and the area is its own and can be used
   abbrev begins_freely : History → Bool
   begins_freely before =
-      implies (is_before (placed_add p at area) (file s t before).pc)
+      implies (is_before (placed_of form at area) (file s t before).pc)
       (runs_there before && (has_area before && are_usable before area.at 32))
 
   abbrev pub always_begins_freely : History → Bool
@@ -279,14 +296,14 @@ module _ (s : Setting) (p : Slots) (at : ℕ) (area : Area) (t : ℕ) where
       let signature : a.sig ≡ area.sig = eqb-true a.sig area.sig parts.1 in
       λ i. Some (record { at = place i; sig = signature i })
 
-  pub range_is : (g : Seq) → is_range g ≡ true → g ≡ add_range at
+  pub range_is : (g : Seq) → is_range g ≡ true → g ≡ range_of form at
   range_is g is =
-      let parts = and_parts (eqb g.start (add_range at).start)
-      (eqb g.length 28 && eqb g.abort (add_range at).abort) is in
-      let more = and_parts (eqb g.length 28) (eqb g.abort (add_range at).abort) parts.1 in
-      let start : g.start ≡ (add_range at).start = eqb-true g.start (add_range at).start parts.0 in
-      let long : g.length ≡ 28 = eqb-true g.length 28 more.0 in
-      let handler : g.abort ≡ (add_range at).abort = eqb-true g.abort (add_range at).abort more.1 in
+      let parts = and_parts (eqb g.start (range_of form at).start)
+      (eqb g.length (4 * form.inside) && eqb g.abort (range_of form at).abort) is in
+      let more = and_parts (eqb g.length (4 * form.inside)) (eqb g.abort (range_of form at).abort) parts.1 in
+      let start : g.start ≡ (range_of form at).start = eqb-true g.start (range_of form at).start parts.0 in
+      let long : g.length ≡ 4 * form.inside = eqb-true g.length (4 * form.inside) more.0 in
+      let handler : g.abort ≡ (range_of form at).abort = eqb-true g.abort (range_of form at).abort more.1 in
       λ i. record { start = start i; length = long i; abort = handler i }
 
   reads_are : (before : History) (from n : ℕ) → are_usable before from n ≡ true → (a : ℕ)
@@ -301,14 +318,23 @@ module _ (s : Setting) (p : Slots) (at : ℕ) (area : Area) (t : ℕ) where
       each_among (writes before) from n
       (and_parts (each_byte (reads before) from n) (each_byte (writes before) from n) is).1
 
-  described : (byte : ℕ → Option ℕ) → is_described byte ≡ true → IsDescribed byte (placed_add p at area)
+  all_are : (before : History) (ranges : List (ℕ × ℕ)) → all_usable before ranges ≡ true → (a : ℕ)
+      → is_among ranges a ≡ true → (reads before a ≡ true) × (writes before a ≡ true)
+  all_are before [] is a has = absurd (false≢true has)
+  all_are before (x ∷ xs) is a has =
+      let parts = and_parts (are_usable before x.0 x.1) (all_usable before xs) is in
+      ⊎_elim (λ (here : among x.0 x.1 a ≡ true). (reads_are before x.0 x.1 parts.0 a here, writes_are before x.0 x.1 parts.0 a here))
+      (λ (later : is_among xs a ≡ true). all_are before xs parts.1 a later)
+      (either (among x.0 x.1 a) (is_among xs a) has)
+
+  described : (byte : ℕ → Option ℕ) → is_described byte ≡ true → IsDescribed byte (placed_of form at area)
   described byte is =
       let d = descriptor_at byte p.table in
       let one = and_parts (can_read_area byte area) _ is in
       let two = and_parts (can_read_descriptor byte p.table) _ one.1 in
       let three = and_parts (eqb d.version 0) _ two.1 in
       let four = and_parts (is_range (sequence_of d)) _ three.1 in
-      let five = and_parts (is_signed byte area (add_range at)) (not (has_flags byte area d)) four.1 in
+      let five = and_parts (is_signed byte area (range_of form at)) (not (has_flags byte area d)) four.1 in
       record {
         area_read = one.0;
         descriptor_read = two.0;
@@ -356,7 +382,7 @@ module _ (s : Setting) (p : Slots) (at : ℕ) (area : Area) (t : ℕ) where
 
     -- HOW THE BLOCK IS USED
 
-    arrives : in_words (file s t (e ∷ before)).pc ≡ true → Arrives s (placed_add p at area) t e before
+    arrives : in_words (file s t (e ∷ before)).pc ≡ true → Arrives s (placed_of form at area) t e before
     arrives here =
         by_way (either (eqb (file s t (e ∷ before)).pc at) (by_word e before || by_staying e before)
         (follows (in_words (file s t (e ∷ before)).pc) (comes e before) entered_is here))
@@ -366,13 +392,13 @@ module _ (s : Setting) (p : Slots) (at : ℕ) (area : Area) (t : ℕ) where
 
         by_place : is_live t (kernel s before).threads ≡ true → DeliversNone s t e before
             → (eqb (file s t (e ∷ before)).pc (file s t before).pc ≡ true)
-            ⊎ (in_sequence (file s t before).pc ≡ true) → Arrives s (placed_add p at area) t e before
+            ⊎ (in_sequence (file s t before).pc ≡ true) → Arrives s (placed_of form at area) t e before
         by_place live none (inl same) =
             stayed live none (eqb-true (file s t (e ∷ before)).pc (file s t before).pc same)
         by_place live none (inr inside) = interrupted live none inside
 
         by_event : (by_word e before ≡ true) ⊎ (by_staying e before ≡ true)
-            → Arrives s (placed_add p at area) t e before
+            → Arrives s (placed_of form at area) t e before
         by_event (inl word) =
             let one = and_parts (runs_there before) _ word in
             let two = and_parts (is_instruction e.entry.kind) (in_words (file s t before).pc) one.1 in
@@ -386,7 +412,7 @@ module _ (s : Setting) (p : Slots) (at : ℕ) (area : Area) (t : ℕ) where
             two.1)
 
         by_way : (eqb (file s t (e ∷ before)).pc at ≡ true) ⊎ (by_word e before || by_staying e before ≡ true)
-            → Arrives s (placed_add p at area) t e before
+            → Arrives s (placed_of form at area) t e before
         by_way (inl first) = at_first (eqb-true (file s t (e ∷ before)).pc at first)
         by_way (inr moved) = by_event (either (by_word e before) (by_staying e before) moved)
 
@@ -418,15 +444,15 @@ module _ (s : Setting) (p : Slots) (at : ℕ) (area : Area) (t : ℕ) where
         (either (on_hart_0 before) (off_harts e before) one.0, two.0, three.0, four.0, four.1)
 
     described_on : Stands → (h : ℕ) → running s h before ≡ Some t
-        → IsDescribed (view (here_in_history s before h)) (placed_add p at area)
+        → IsDescribed (view (here_in_history s before h)) (placed_of form at area)
     described_on (inl on) h runs =
         let parts = and_parts (runs_there before) _ on in
-        subst (λ n. IsDescribed (view (here_in_history s before n)) (placed_add p at area))
+        subst (λ n. IsDescribed (view (here_in_history s before n)) (placed_of form at area))
         (only_hart parts.0 h runs) (described (view (here_in_history s before 0)) parts.1)
     described_on (inr off) h runs = absurd (not_both (and_parts (begins_to_run e before) _ off).0 h runs)
 
     described_off : Stands → ((h : ℕ) → running s h before ≢ Some t) → (h : ℕ)
-        → IsDescribed (memory (here_in_history s before h)) (placed_add p at area)
+        → IsDescribed (memory (here_in_history s before h)) (placed_of form at area)
     described_off (inl on) never h = absurd (never 0 (there (and_parts (runs_there before) _ on).0))
     described_off (inr off) never h =
         described (memory (here_in_history s before 0)) (and_parts (begins_to_run e before) _ off).1
@@ -436,7 +462,7 @@ module _ (s : Setting) (p : Slots) (at : ℕ) (area : Area) (t : ℕ) where
     no_other (inl on) elsewhere begins = elsewhere (on_own (and_parts (runs_there before) _ on).0)
     no_other (inr off) elsewhere begins = not_named (and_parts (begins_to_run e before) _ off).0 begins
 
-    used : IsUsed s (placed_add p at area) t e before
+    used : IsUsed s (placed_of form at area) t e before
     used = record {
       enters = arrives;
       registers = λ h runs inside.
@@ -515,22 +541,24 @@ module _ (s : Setting) (p : Slots) (at : ℕ) (area : Area) (t : ℕ) where
 
     -- THE DATA
 
-    fair : (cells : ℕ) → is_fair cells before ≡ true → IsFair s (add_of p at area cells 0) 0 t e before
-    fair cells is =
+    fair : (begun : History) → is_fair (tested.spans s t begun) before ≡ true
+        → IsFair s (block_of s form at area 0 t begun) 0 t e before
+    fair begun is =
+        let ranges = tested.spans s t begun in
         let one = and_parts (runs_there before) _ is in
         let two = and_parts (has_area before) _ one.1 in
         let three = and_parts (are_usable before area.at 32) _ two.1 in
-        let four = and_parts (are_usable before (cell_at cells 0) 8) _ three.1 in
+        let four = and_parts (all_usable before ranges) _ three.1 in
         let view_here = view (here_in_history s before 0) in
         record {
           place = record {
             usable = record {
               read = λ a has.
-                  in_either (reads before a) (among area.at 32 a) (among (cell_at cells 0) 8 a) has
-                  (reads_are before area.at 32 three.0 a) (reads_are before (cell_at cells 0) 8 four.0 a);
+                  in_either (reads before a) (among area.at 32 a) (is_among ranges a) (tested.covers s area t begun a has)
+                  (reads_are before area.at 32 three.0 a) (λ there. (all_are before ranges four.0 a there).0);
               write = λ a has.
-                  in_either (writes before a) (among area.at 32 a) (among (cell_at cells 0) 8 a) has
-                  (writes_are before area.at 32 three.0 a) (writes_are before (cell_at cells 0) 8 four.0 a);
+                  in_either (writes before a) (among area.at 32 a) (is_among ranges a) (tested.covers s area t begun a has)
+                  (writes_are before area.at 32 three.0 a) (λ there. (all_are before ranges four.0 a there).1);
             };
             registered = area_is (area_of t (kernel s before).areas) two.0;
             described = range_is (sequence_of (descriptor_at view_here p.table)) four.1;
@@ -541,51 +569,40 @@ module _ (s : Setting) (p : Slots) (at : ℕ) (area : Area) (t : ℕ) where
           };
         }
 
-    apart_is : (cells : ℕ) → is_apart cells ≡ true → IsCellApart area.at cells 0
-    apart_is cells is =
-        let one = and_parts (leb (cell_at cells 0 + 8) (2 ^ 64)) _ is in
-        record {
-          low_cells = leb-true (cell_at cells 0 + 8) (2 ^ 64) one.0;
-          beside =
-              ⊎_elim (λ (under : leb (cell_at cells 0 + 8) area.at ≡ true). inl (leb-true (cell_at cells 0 + 8) area.at under))
-              (λ (over : leb (area.at + 32) (cell_at cells 0) ≡ true). inr (leb-true (area.at + 32) (cell_at cells 0) over))
-              (either (leb (cell_at cells 0 + 8) area.at) (leb (area.at + 32) (cell_at cells 0)) one.1);
-        }
-
     -- where a sequence begins
-    begun_is : (file s t before).pc ≡ at + 16 → (is_fair (cells_of s p t before) before ≡ true)
-        × (is_apart (cells_of s p t before) ≡ true)
+    begun_is : (file s t before).pc ≡ at + 4 * form.first → (is_fair (tested.spans s t before) before ≡ true)
+        × (tested.is_apart s area t before ≡ true)
     begun_is here =
-        let test = follows (eqb (file s t before).pc (at + 16)) (starts before)
+        let test = follows (eqb (file s t before).pc (at + 4 * form.first)) (starts before)
         (and_parts (is_begun before) (is_open before) last).0
-        (ap (λ n. eqb n (at + 16)) here ∙ eqb_same (at + 16)) in
-        and_parts (is_fair (cells_of s p t before) before) (is_apart (cells_of s p t before)) test
+        (ap (λ n. eqb n (at + 4 * form.first)) here ∙ eqb_same (at + 4 * form.first)) in
+        and_parts (is_fair (tested.spans s t before) before) (tested.is_apart s area t before) test
 
     -- and as long as it is open
-    open_is : (q : Sequence) → sequence_on s 0 before ≡ Some q → is_fair (cells_of s p t q.begun) before ≡ true
+    open_is : (q : Sequence) → sequence_on s 0 before ≡ Some q → is_fair (tested.spans s t q.begun) before ≡ true
     open_is q is =
-        sym (ap (λ (o : Option Sequence). option_map_or (λ (r : Sequence). is_fair (cells_of s p t r.begun) before) o true) is)
+        sym (ap (λ (o : Option Sequence). option_map_or (λ (r : Sequence). is_fair (tested.spans s t r.begun) before) o true) is)
         ∙ (and_parts (is_begun before) (is_open before) last).1
 
     abbrev Fair : ℕ → History → Type 0
-    Fair h begun = IsFair s (add_of p at area (cells_of s p t begun) h) h t e before
+    Fair h begun = IsFair s (block_of s form at area h t begun) h t e before
 
-    fair_first : (h : ℕ) (begun : History) → IsAtStart s (at + 16) h t begun → before ≡ begun → Fair h begun
+    fair_first : (h : ℕ) (begun : History) → IsAtStart s (at + 4 * form.first) h t begun → before ≡ begun → Fair h begun
     fair_first h begun start here =
-        let there_now : IsAtStart s (at + 16) h t before =
-        subst (λ (x : History). IsAtStart s (at + 16) h t x) (sym here) start in
+        let there_now : IsAtStart s (at + 4 * form.first) h t before =
+        subst (λ (x : History). IsAtStart s (at + 4 * form.first) h t x) (sym here) start in
         let test = (begun_is there_now.pc).0 in
         let runs = (and_parts (runs_there before) _ test).0 in
         subst (λ (x : History). Fair h x) here
-        (subst (λ n. Fair n before) (only_hart runs h there_now.runs) (fair (cells_of s p t before) test))
+        (subst (λ n. Fair n before) (only_hart runs h there_now.runs) (fair before test))
 
     fair_later : (begun : History) (q : Sequence) → sequence_on s 0 before ≡ Some q → q.begun ≡ begun
         → Fair 0 begun
     fair_later begun q is from =
-        subst (λ (x : History). Fair 0 x) from (fair (cells_of s p t q.begun) (open_is q is))
+        subst (λ (x : History). Fair 0 x) from (fair q.begun (open_is q is))
 
-    add_used : ((h : ℕ) (q : Sequence) → sequence_on s h before ≡ Some q → 0 ≡ h) → IsAddUsed s p at area t e before
-    add_used sole = record {
+    block_used : ((h : ℕ) (q : Sequence) → sequence_on s h before ≡ Some q → 0 ≡ h) → IsBlockUsed s form at area t e before
+    block_used sole = record {
       fair = λ h begun start opened.
           ⊎_elim (λ (here : before ≡ begun). fair_first h begun start here)
           (λ (that : (q : Sequence) × (sequence_on s h before ≡ Some q) × (q.begun ≡ begun)).
@@ -595,8 +612,7 @@ module _ (s : Setting) (p : Slots) (at : ℕ) (area : Area) (t : ℕ) where
       begins = λ h start.
           let test = begun_is start.pc in
           let runs = (and_parts (runs_there before) _ test.0).0 in
-          subst (λ n. IsCellApart area.at (cells_of s p t before) n) (only_hart runs h start.runs)
-          (apart_is (cells_of s p t before) test.1);
+          subst (λ n. form.Apart s area n t before) (only_hart runs h start.runs) (tested.apart s area t before test.1);
     }
 
   -- ALL EVENTS
@@ -618,8 +634,8 @@ module _ (s : Setting) (p : Slots) (at : ℕ) (area : Area) (t : ℕ) where
           (sym (still_open s h e before apart) ∙ is)
 
   pub all_used : (history : History) → IsRunHistory s history → are_fine history ≡ true
-      → AreAddUsed s p at area t history × ProcessorKept s t area history
-      × AreUsed s (placed_add p at area) t history
+      → AreBlockUsed s form at area t history × ProcessorKept s t area history
+      × AreUsed s (placed_of form at area) t history
   all_used [] run fine = (
     tt,
     tt,
@@ -630,25 +646,25 @@ module _ (s : Setting) (p : Slots) (at : ℕ) (area : Area) (t : ℕ) where
       let parts = and_parts (are_fine before) (is_fine e before) fine in
       let earlier = all_used before run.0 parts.0 in
       let step = step_of s e before run in (
-        (earlier.0, add_used e before step parts.1 (sole before parts.0)),
+        (earlier.0, block_used e before step parts.1 (sole before parts.0)),
         (earlier.1, processor_kept e before step parts.1),
         (earlier.2, used e before step parts.1),
       )
 
   pub all_can_begin : (history : History) → IsRunHistory s history → always_begins_freely history ≡ true
-      → CanAlwaysBegin s (placed_add p at area) t history
+      → CanAlwaysBegin s (placed_of form at area) t history
   all_can_begin [] run fine = tt
   all_can_begin (e ∷ before) run fine =
       let parts = and_parts (always_begins_freely before) (begins_freely before) fine in
       (all_can_begin before run.0 parts.0, can_begin parts.1)
     where
       can_begin : begins_freely before ≡ true → (h : ℕ) → running s h before ≡ Some t
-          → is_before (placed_add p at area) (file s t before).pc ≡ true → CanBegin s (placed_add p at area) h t before
+          → is_before (placed_of form at area) (file s t before).pc ≡ true → CanBegin s (placed_of form at area) h t before
       can_begin test h runs here =
           let one = and_parts (runs_there before) _
-          (follows (is_before (placed_add p at area) (file s t before).pc) _ test here) in
+          (follows (is_before (placed_of form at area) (file s t before).pc) _ test here) in
           let two = and_parts (has_area before) (are_usable before area.at 32) one.1 in
-          subst (λ n. CanBegin s (placed_add p at area) n t before)
+          subst (λ n. CanBegin s (placed_of form at area) n t before)
           (one_hart s e before (step_of s e before run) 0 t (just_is (running s 0 before) t one.0) h runs)
           (record {
             registered = area_is (area_of t (kernel s before).areas) two.0;

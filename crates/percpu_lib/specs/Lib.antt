@@ -10,5 +10,6 @@ pub mod Lines
 pub mod Pools
 pub mod Pops
 pub mod Pushes
+pub mod Used
 pub mod Uses
 pub mod Words

@@ -33,8 +33,10 @@ pub use block_theorems::{
 pub use fault::EmitFault;
 pub use frees::emit_free;
 pub use lines::{Line, emit_lines};
-pub use pool_theorems::{allocs_once_or_not_at_all, frees_once_or_not_at_all};
-pub use pop_theorems::pops_once_or_not_at_all;
+pub use pool_theorems::{
+    allocs_once_or_not_at_all, frees_once_or_not_at_all, pool_blocks_are_used,
+};
+pub use pop_theorems::{list_blocks_are_used, pops_once_or_not_at_all};
 pub use pops::emit_pop;
 pub use push_theorems::{
     push_keeps_registers, pushes_are_done, pushes_begin_outside, pushes_once_or_not_at_all,

@@ -2,6 +2,7 @@
 
 ghost use Rattle.std.specs.Prelude.{ℕ, List, Some};
 ghost use Rattle.std.specs.Prelude.{◌+◌, ◌≡◌, ◌≢◌};
+ghost use Rattle.mach_types.specs.Registers.{register};
 ghost use Rattle.mach_types.specs.declared.events.Entry.{Entry};
 ghost use Rattle.mach_types.specs.declared.sequences.Area.{Area};
 ghost use Rattle.block_model.specs.Acts.{Sequence, sequence_on};
@@ -10,9 +11,13 @@ ghost use Rattle.block_model.specs.History.{file};
 ghost use Rattle.block_model.specs.Run.{IsBlockRun};
 ghost use Rattle.block_model.specs.Setting.{Setting};
 ghost use Rattle.alone_laws.specs.Entering.{IsIn};
+ghost use Rattle.alone_laws.specs.Uses.{Placed};
 ghost use Rattle.percpu_lib.specs.Allocs.{IsNoAlloc, IsWholeAlloc, alloc_form, alloc_range};
 ghost use Rattle.percpu_lib.specs.Forms.{HoldsBlock};
 ghost use Rattle.percpu_lib.specs.Frees.{IsNoFree, IsWholeFree, free_form, free_range};
+ghost use Rattle.percpu_lib.specs.Pools.{pool_at, slot_at};
+ghost use Rattle.percpu_lib.specs.Pushes.{word_seen};
+ghost use Rattle.percpu_lib.specs.Used.{IsWellUsed};
 ghost use Rattle.percpu_lib.specs.Uses.{cells_of};
 ghost use Rattle.percpu_lib.specs.declared.slots.Slots.{Slots};
 
@@ -46,4 +51,22 @@ pub fn frees_once_or_not_at_all()
         → sequence_on s h (history s log) ≡ Some q → IsIn s (free_range at) q.thread q.begun
         → (file s q.thread q.reached).pc ≢ at + 72
         → IsNoFree s p (cells_of s p q.thread q.begun) h q.thread q.begun q.reached }
+{}
+
+/// What the laws of runs ask of alloc and free can be met: there is a block run in which a thread uses both with one area. It
+/// is preempted in a free once its value is 0, begins anew, and puts 42 into the pool; it takes it out; and it finds the
+/// pool empty.
+pub fn pool_blocks_are_used()
+    // the first slot is 42
+    ensures free { (s : Setting) × (log : List Entry) × (p : Slots) × (at : ℕ) × (area : Area) × (others : List Placed)
+        × (q : Sequence) × IsWellUsed s log (free_form p) at area others q
+        × (word_seen s 0 (slot_at (pool_at (cells_of s p q.thread q.begun) 0) 0) q.reached ≡ Some 42) }
+    // the value is 42
+    ensures alloc { (s : Setting) × (log : List Entry) × (p : Slots) × (at : ℕ) × (area : Area) × (others : List Placed)
+        × (q : Sequence) × IsWellUsed s log (alloc_form p) at area others q
+        × (register (file s q.thread q.reached).file p.value ≡ 42) }
+    // the value is 0
+    ensures none { (s : Setting) × (log : List Entry) × (p : Slots) × (at : ℕ) × (area : Area) × (others : List Placed)
+        × (q : Sequence) × IsWellUsed s log (alloc_form p) at area others q
+        × (register (file s q.thread q.reached).file p.value ≡ 0) }
 {}

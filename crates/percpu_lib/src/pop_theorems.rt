@@ -1,7 +1,9 @@
-//! What a pop block does in runs, as the contract of a function that does nothing.
+//! What a pop block does in runs, and that the blocks of a list can be used, each as the contract of a function that does
+//! nothing.
 
 ghost use Rattle.std.specs.Prelude.{ℕ, List, Some};
 ghost use Rattle.std.specs.Prelude.{◌+◌, ◌≡◌, ◌≢◌};
+ghost use Rattle.mach_types.specs.Registers.{register};
 ghost use Rattle.mach_types.specs.declared.events.Entry.{Entry};
 ghost use Rattle.mach_types.specs.declared.sequences.Area.{Area};
 ghost use Rattle.block_model.specs.Acts.{Sequence, sequence_on};
@@ -10,8 +12,12 @@ ghost use Rattle.block_model.specs.History.{file};
 ghost use Rattle.block_model.specs.Run.{IsBlockRun};
 ghost use Rattle.block_model.specs.Setting.{Setting};
 ghost use Rattle.alone_laws.specs.Entering.{IsIn};
+ghost use Rattle.alone_laws.specs.Uses.{Placed};
+ghost use Rattle.percpu_lib.specs.Adds.{cell_seen};
 ghost use Rattle.percpu_lib.specs.Forms.{HoldsBlock};
 ghost use Rattle.percpu_lib.specs.Pops.{IsNoPop, IsWholePop, pop_form, pop_range};
+ghost use Rattle.percpu_lib.specs.Pushes.{push_form};
+ghost use Rattle.percpu_lib.specs.Used.{IsWellUsed};
 ghost use Rattle.percpu_lib.specs.Uses.{cells_of};
 ghost use Rattle.percpu_lib.specs.declared.slots.Slots.{Slots};
 
@@ -29,4 +35,21 @@ pub fn pops_once_or_not_at_all()
         → sequence_on s h (history s log) ≡ Some q → IsIn s (pop_range at) q.thread q.begun
         → (file s q.thread q.reached).pc ≢ at + 48
         → IsNoPop s p (cells_of s p q.thread q.begun) h q.thread q.begun q.reached }
+{}
+
+/// What the laws of runs ask of push and pop can be met: there is a block run in which a thread uses both with one area. It
+/// is preempted in a push, begins anew, and pushes a node; it pops that node; and it finds the list empty.
+pub fn list_blocks_are_used()
+    // the cell of the processor is the node
+    ensures push { (s : Setting) × (log : List Entry) × (p : Slots) × (at : ℕ) × (area : Area) × (others : List Placed)
+        × (q : Sequence) × IsWellUsed s log (push_form p) at area others q
+        × (cell_seen s 0 (cells_of s p q.thread q.begun) q.reached ≡ Some 0x20100) }
+    // the value is the node
+    ensures pop { (s : Setting) × (log : List Entry) × (p : Slots) × (at : ℕ) × (area : Area) × (others : List Placed)
+        × (q : Sequence) × IsWellUsed s log (pop_form p) at area others q
+        × (register (file s q.thread q.reached).file p.value ≡ 0x20100) }
+    // the value is 0
+    ensures empty { (s : Setting) × (log : List Entry) × (p : Slots) × (at : ℕ) × (area : Area) × (others : List Placed)
+        × (q : Sequence) × IsWellUsed s log (pop_form p) at area others q
+        × (register (file s q.thread q.reached).file p.value ≡ 0) }
 {}

@@ -1,0 +1,258 @@
+-- What worked logs have in common: lines and entries of hart 0, words that stand in a program, and a block that is used as
+-- it should be where tests find so.
+use Rattle.std.proofs.Common.{◌≡◌, ◌≢◌, ℕ, suc, zero, ◌+◌, ◌*◌, ◌-◌, ◌%◌, ◌^◌, ◌<◌, ◌≤◌, List, [], ◌∷◌, refl, sym, ap, ◌∙◌, subst, arith}
+use Rattle.std.proofs.Common.{Bool, true, false, not, ◌&&◌, ◌||◌, ◌⊎◌, inl, inr, eqb, leb, ltb, Option, Some, None, slice_get}
+use Rattle.std.proofs.Common.{unwrap_or}
+use Rattle.std.specs.Option.{option_map_or}
+use Rattle.std.specs.Prelude.{Contains}
+use Rattle.std.proofs.lemmas.Bool.{and_parts, eqb-false, eqb-true, false≢true, le-ltb, leb-true, ltb-true, not-true}
+use Rattle.mach_types.specs.Kernel.Areas.{is_inside}
+use Rattle.mach_types.specs.declared.events.Choice.{Choice}
+use Rattle.mach_types.specs.declared.events.Entry.{Entry}
+use Rattle.mach_types.specs.declared.events.Kind.{Kind}
+use Rattle.mach_types.specs.declared.sequences.Area.{Area}
+use Rattle.rv_inst.specs.declared.instruction.Inst.{Inst}
+use Rattle.block_model.specs.Acts.{Sequence, sequence_on}
+use Rattle.block_model.specs.Deciding.{history}
+use Rattle.block_model.specs.History.{History, file}
+use Rattle.block_model.specs.Replay.{Ask}
+use Rattle.block_model.specs.Run.{IsBlockRun, IsRunHistory}
+use Rattle.block_model.specs.Setting.{Setting}
+use Rattle.alone.specs.Temps.{is_scratch}
+use Rattle.alone_laws.specs.Entering.{IsIn}
+use Rattle.alone_laws.specs.Pointers.{LiesBeside}
+use Rattle.alone_laws.specs.Spans.{code_of}
+use Rattle.alone_laws.specs.Uses.{CanAlwaysBegin, Placed}
+use Rattle.percpu_lib.specs.Forms.{Form, HoldsBlock, SharesAreaWith, committed, placed_of, range_of}
+use Rattle.percpu_lib.specs.Used.{IsWellUsed}
+use Rattle.percpu_lib.specs.Words.{AreHeld, AreSlots}
+use Rattle.percpu_lib.specs.declared.slots.Slots.{Slots}
+use Rattle.percpu_lib.proofs.ShareTests.{all_shares, shares_so}
+use Rattle.percpu_lib.proofs.UseTests.{IsTested, all_can_begin, all_used, always_begins_freely, are_fine, either}
+
+-- a line of a script, and an entry of a log
+abbrev pub line : Choice → Ask
+line choice = record { hart = record { 0 = 0 }; choice = choice; check = None }
+
+abbrev pub entry : Kind → ℕ → ℕ → Entry
+entry k t pc = record { hart = record { 0 = 0 }; kind = k; tid = record { 0 = t }; pc = pc }
+
+-- the words of a block stand there
+abbrev pub AreThere : (ℕ → Option Inst) → ℕ → List (Option Inst) → Type 0
+AreThere reads from [] = Unit {0}
+AreThere reads from (o ∷ rest) = (reads from ≡ o) × AreThere reads (from + 4) rest
+
+word_is : (reads : ℕ → Option Inst) (block : List (Option Inst)) (from : ℕ) → AreThere reads from block
+    → (k : ℕ) (i : Inst) → slice_get block k ≡ Some (Some i) → reads (from + 4 * k) ≡ Some i
+word_is reads [] from there k i is = absurd cc
+word_is reads (o ∷ rest) from there zero i is =
+    let same : from ≡ from + 4 * zero = omega arith in
+    subst (λ n. reads n ≡ Some i) same (there.0 ∙ ap (λ (x : Option (Option Inst)). unwrap_or x None) is)
+word_is reads (o ∷ rest) from there (suc k) i is =
+    let same : (from + 4) + 4 * k ≡ from + 4 * suc k = omega arith in
+    subst (λ n. reads n ≡ Some i) same (word_is reads rest (from + 4) there.1 k i is)
+
+pub words_held : (s : Setting) (at : ℕ) (block : List (Option Inst)) → AreThere (code_of s.program.pages) at block
+    → AreHeld (code_of s.program.pages) at block
+words_held s at block there = record { holds = word_is (code_of s.program.pages) block at there }
+
+-- three registers that a block can work with
+abbrev is_slot : ℕ → Bool
+is_slot r = not (is_scratch r) && (not (eqb r 0) && ltb r 32)
+
+abbrev pub are_slots : Slots → Bool
+are_slots p =
+    is_slot p.area && (is_slot p.cells && (is_slot p.value
+    && (not (eqb p.area p.cells) && (not (eqb p.area p.value) && not (eqb p.cells p.value)))))
+
+record IsSlot (r : ℕ) : Type 0 where
+  kept : is_scratch r ≡ false
+  some : r ≢ 0
+  low : r < 32
+
+slot_found : (r : ℕ) → is_slot r ≡ true → IsSlot r
+slot_found r is =
+    let one = and_parts (not (is_scratch r)) _ is in
+    let two = and_parts (not (eqb r 0)) (ltb r 32) one.1 in
+    record {
+      kept = not-true (is_scratch r) one.0;
+      some = eqb-false r 0 (not-true (eqb r 0) two.0);
+      low = ltb-true r 32 two.1;
+    }
+
+differ : (a b : ℕ) → not (eqb a b) ≡ true → a ≢ b
+differ a b is = eqb-false a b (not-true (eqb a b) is)
+
+slots_found : (p : Slots) → are_slots p ≡ true → AreSlots p
+slots_found p is =
+    let one = and_parts (is_slot p.area) _ is in
+    let two = and_parts (is_slot p.cells) _ one.1 in
+    let three = and_parts (is_slot p.value) _ two.1 in
+    let four = and_parts (not (eqb p.area p.cells)) _ three.1 in
+    let five = and_parts (not (eqb p.area p.value)) _ four.1 in
+    let area = slot_found p.area one.0 in
+    let cells = slot_found p.cells two.0 in
+    let value = slot_found p.value three.0 in
+    record {
+      area = area.kept;
+      cells = cells.kept;
+      value = value.kept;
+      some_area = area.some;
+      some_cells = cells.some;
+      some_value = value.some;
+      low_area = area.low;
+      low_cells = cells.low;
+      low_value = value.low;
+      area_cells = differ p.area p.cells four.0;
+      area_value = differ p.area p.value five.0;
+      cells_value = differ p.cells p.value five.1;
+    }
+
+-- its registers are such, and its addresses are low
+abbrev pub is_low : Setting → Form → ℕ → Area → Bool
+is_low s form at area =
+    are_slots form.slots
+    && (not (eqb form.slots.table 0) && (ltb form.slots.table 0x7FFFF800
+    && (ltb at (2 ^ 37) && (leb (area.at + 32) (2 ^ 38) && leb s.limits.harts 8))))
+
+pub holds_so : (s : Setting) (form : Form) (tested : IsTested form) (at : ℕ) (area : Area) (t : ℕ) (history : History)
+    → IsRunHistory s history → are_fine s form tested at area t history ≡ true → is_low s form at area ≡ true
+    → AreThere (code_of s.program.pages) at form.words → HoldsBlock s history form at area t
+holds_so s form tested at area t history run fine low there =
+    let used = all_used s form tested at area t history run fine in
+    let one = and_parts (are_slots form.slots) _ low in
+    let two = and_parts (not (eqb form.slots.table 0)) _ one.1 in
+    let three = and_parts (ltb form.slots.table 0x7FFFF800) _ two.1 in
+    let four = and_parts (ltb at (2 ^ 37)) _ three.1 in
+    let five = and_parts (leb (area.at + 32) (2 ^ 38)) (leb s.limits.harts 8) four.1 in
+    record {
+      stands = words_held s at form.words there;
+      slots = slots_found form.slots one.0;
+      some_table = differ form.slots.table 0 two.0;
+      low_table = ltb-true form.slots.table 0x7FFFF800 three.0;
+      low = ltb-true at (2 ^ 37) four.0;
+      low_area = leb-true (area.at + 32) (2 ^ 38) five.0;
+      used = used.0;
+      processor = used.1;
+      few = leb-true s.limits.harts 8 five.1;
+      uses = used.2;
+    }
+
+-- ONE SEQUENCE
+
+-- a block lies beside another by where both stand
+abbrev pub stands_apart : Placed → Placed → Bool
+stands_apart b x =
+    ltb x.table (2 ^ 64)
+    && (ltb b.at (2 ^ 37) && (ltb x.range.start (2 ^ 37) && (ltb x.range.length (2 ^ 10)
+    && (leb b.at b.range.start && (leb b.range.start (b.at + 1024)
+    && (leb b.range.start x.range.start || leb (x.range.start + x.range.length) b.at))))))
+
+lies_so : (b x : Placed) → stands_apart b x ≡ true → LiesBeside b x
+lies_so b x is =
+    let one = and_parts (ltb x.table (2 ^ 64)) _ is in
+    let two = and_parts (ltb b.at (2 ^ 37)) _ one.1 in
+    let three = and_parts (ltb x.range.start (2 ^ 37)) _ two.1 in
+    let four = and_parts (ltb x.range.length (2 ^ 10)) _ three.1 in
+    let five = and_parts (leb b.at b.range.start) _ four.1 in
+    let six = and_parts (leb b.range.start (b.at + 1024)) _ five.1 in
+    record {
+      low_table = ltb-true x.table (2 ^ 64) one.0;
+      apart = λ pc here.
+          outside pc (ltb-true b.at (2 ^ 37) two.0) (ltb-true x.range.start (2 ^ 37) three.0)
+          (ltb-true x.range.length (2 ^ 10) four.0) (leb-true b.at b.range.start five.0)
+          (leb-true b.range.start (b.at + 1024) six.0)
+          (either (leb b.range.start x.range.start) (leb (x.range.start + x.range.length) b.at) six.1)
+          (ltb-true ((pc + (2 ^ 64 - b.at)) % 2 ^ 64) ((b.range.start + (2 ^ 64 - b.at)) % 2 ^ 64) here);
+    }
+  where
+    outside : (pc : ℕ) → b.at < 2 ^ 37 → x.range.start < 2 ^ 37 → x.range.length < 2 ^ 10 → b.at ≤ b.range.start
+        → b.range.start ≤ b.at + 1024
+        → (leb b.range.start x.range.start ≡ true) ⊎ (leb (x.range.start + x.range.length) b.at ≡ true)
+        → (pc + (2 ^ 64 - b.at)) % 2 ^ 64 < (b.range.start + (2 ^ 64 - b.at)) % 2 ^ 64
+        → is_inside x.range pc ≡ false
+    outside pc low low_start short forth near (inl behind) here =
+        let past = leb-true b.range.start x.range.start behind in
+        le-ltb ((pc + (2 ^ 64 - x.range.start)) % 2 ^ 64) x.range.length (omega arith)
+    outside pc low low_start short forth near (inr before) here =
+        let past = leb-true (x.range.start + x.range.length) b.at before in
+        le-ltb ((pc + (2 ^ 64 - x.range.start)) % 2 ^ 64) x.range.length (omega arith)
+
+one_beside : (b x : Placed) → stands_apart b x ≡ true → (other : Placed) → Contains (x ∷ []) other → LiesBeside b other
+one_beside b x is other (zero, lt, at) = subst (LiesBeside b) at (lies_so b x is)
+one_beside b x is other (suc k, lt, at) = absurd (omega arith)
+
+-- what is found of a log at once: the thread uses the block well, beside one other, and its last sequence on hart 0 has
+-- come to the post-commit address, and passes a test
+abbrev pub commits_so : Setting → Form → ℕ → ℕ → (Sequence → Bool) → Sequence → Bool
+commits_so s form at t fits q =
+    eqb q.thread t
+    && (is_inside (range_of form at) (file s t q.begun).pc
+    && (eqb (file s t q.reached).pc (at + 4 * committed form) && fits q))
+
+abbrev pub is_good : (s : Setting) (form : Form) → IsTested form → ℕ → Area → ℕ → Placed → (Sequence → Bool) → History
+    → Bool
+is_good s form tested at area t x fits before =
+    are_fine s form tested at area t before
+    && (always_begins_freely s form tested at area t before
+    && (shares_so s form tested at area t (x ∷ []) before
+    && option_map_or (commits_so s form at t fits) (sequence_on s 0 before) false))
+
+pub record IsGood (s : Setting) (log : List Entry) (form : Form) (at : ℕ) (area : Area) (x : Placed)
+    (fits : Sequence → Bool) : Type 0 where
+  pub sequence : Sequence
+  pub used : IsWellUsed s log form at area (x ∷ []) sequence
+  pub passes : fits sequence ≡ true
+
+module _ (s : Setting) (log : List Entry) (form : Form) (tested : IsTested form) (at : ℕ) (area : Area) (t : ℕ)
+    (x : Placed) (fits : Sequence → Bool) (run : IsBlockRun s log)
+    (good : is_good s form tested at area t x fits (history s log) ≡ true) (low : is_low s form at area ≡ true)
+    (there : AreThere (code_of s.program.pages) at form.words) (apart : stands_apart (placed_of form at area) x ≡ true)
+  where
+    abbrev past : History
+    past = history s log
+
+    one : (are_fine s form tested at area t past ≡ true)
+        × (always_begins_freely s form tested at area t past
+        && (shares_so s form tested at area t (x ∷ []) past
+        && option_map_or (commits_so s form at t fits) (sequence_on s 0 past) false) ≡ true)
+    one = and_parts (are_fine s form tested at area t past) _ good
+
+    two : (always_begins_freely s form tested at area t past ≡ true)
+        × (shares_so s form tested at area t (x ∷ []) past
+        && option_map_or (commits_so s form at t fits) (sequence_on s 0 past) false ≡ true)
+    two = and_parts (always_begins_freely s form tested at area t past) _ one.1
+
+    three : (shares_so s form tested at area t (x ∷ []) past ≡ true)
+        × (option_map_or (commits_so s form at t fits) (sequence_on s 0 past) false ≡ true)
+    three = and_parts (shares_so s form tested at area t (x ∷ []) past) _ two.1
+
+    found : (o : Option Sequence) → sequence_on s 0 past ≡ o → option_map_or (commits_so s form at t fits) o false ≡ true
+        → IsGood s log form at area x fits
+    found None is test = absurd (false≢true test)
+    found (Some q) is test =
+        let first = and_parts (eqb q.thread t) _ test in
+        let second = and_parts (is_inside (range_of form at) (file s t q.begun).pc) _ first.1 in
+        let third = and_parts (eqb (file s t q.reached).pc (at + 4 * committed form)) (fits q) second.1 in
+        let same : t ≡ q.thread = sym (eqb-true q.thread t first.0) in
+        record {
+          sequence = q;
+          used = record {
+            run = run;
+            holds = subst (λ n. HoldsBlock s past form at area n) same
+                (holds_so s form tested at area t past run.allowed one.0 low there);
+            begins = subst (λ n. CanAlwaysBegin s (placed_of form at area) n past) same
+                (all_can_begin s form tested at area t past run.allowed two.0);
+            shares = subst (λ n. SharesAreaWith s past (placed_of form at area) n (x ∷ [])) same
+                (all_shares s form tested at area t (x ∷ []) past run.allowed one.0 three.0
+                (one_beside (placed_of form at area) x apart));
+            is = is;
+            inside = subst (λ n. IsIn s (range_of form at) n q.begun) same second.0;
+            commits = subst (λ n. (file s n q.reached).pc ≡ at + 4 * committed form) same
+                (eqb-true (file s t q.reached).pc (at + 4 * committed form) third.0);
+          };
+          passes = third.1;
+        }
+
+    pub found_good : IsGood s log form at area x fits
+    found_good = found (sequence_on s 0 past) refl three.1

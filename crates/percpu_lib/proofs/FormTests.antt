@@ -1,0 +1,177 @@
+-- What is tested of each block on hart 0, by computation.
+use Rattle.std.proofs.Common.{◌≡◌, ◌≢◌, ℕ, ◌+◌, ◌-◌, ◌*◌, ◌≤◌, ◌^◌, List, [], ◌∷◌, ◌++◌, refl, sym, ap, ◌∙◌, arith, Bool, true, false, not, cond}
+use Rattle.std.proofs.Common.{◌&&◌, ◌||◌, ◌⊎◌, inl, inr, ⊎_elim, eqb, leb, Some}
+use Rattle.std.proofs.lemmas.Bool.{and_from, and_parts, false≢true, leb-true, ne_eqb}
+use Rattle.mach_types.specs.declared.sequences.Area.{Area}
+use Rattle.alone_laws.specs.Blocks.{among}
+use Rattle.block_model.specs.History.{History}
+use Rattle.block_model.specs.Setting.{Setting}
+use Rattle.percpu_lib.specs.Adds.{IsCellApart, cell_at}
+use Rattle.percpu_lib.specs.Allocs.{alloc_form}
+use Rattle.percpu_lib.specs.Frees.{IsFreeApart, free_form}
+use Rattle.percpu_lib.specs.Pools.{IsPool, count_of, pool_at, slot_at}
+use Rattle.percpu_lib.specs.Pops.{head_of, pop_form}
+use Rattle.percpu_lib.specs.Pushes.{IsNodeApart, LieBeside, node_of, push_form}
+use Rattle.percpu_lib.specs.Uses.{add_form, cells_of}
+use Rattle.percpu_lib.specs.declared.slots.Slots.{Slots}
+use Rattle.percpu_lib.proofs.BlockWords.{or_true}
+use Rattle.percpu_lib.proofs.UseTests.{IsTested, either, implies, follows, is_among}
+
+-- so many bytes lie beside others
+abbrev lie_beside : ℕ → ℕ → ℕ → ℕ → Bool
+lie_beside a m b n = leb (a + m) b || leb (b + n) a
+
+they_lie : (a m b n : ℕ) → lie_beside a m b n ≡ true → LieBeside a m b n
+they_lie a m b n is =
+    ⊎_elim (λ (under : leb (a + m) b ≡ true). inl (leb-true (a + m) b under))
+    (λ (over : leb (b + n) a ≡ true). inr (leb-true (b + n) a over)) (either (leb (a + m) b) (leb (b + n) a) is)
+
+-- a last span, and one that counts where a test fails
+pub last : (x y : Bool) → x || y ≡ true → x || (y || false) ≡ true
+last true y is = refl
+last false true is = refl
+last false false is = is
+
+pub last_two : (x y z : Bool) → x || (y || z) ≡ true → x || (y || (z || false)) ≡ true
+last_two true y z is = refl
+last_two false true z is = refl
+last_two false false true is = refl
+last_two false false false is = is
+
+abbrev unless : Bool → ℕ → ℕ → List (ℕ × ℕ)
+unless none at n = cond none [] ((at, n) ∷ [])
+
+pub spanned : (x y none : Bool) (at n a : ℕ) → x || (y || (not none && among at n a)) ≡ true
+    → x || (y || is_among (unless none at n) a) ≡ true
+spanned true y none at n a is = refl
+spanned false true none at n a is = refl
+spanned false false true at n a is = is
+spanned false false false at n a is = last false (among at n a) is
+
+-- THE CELL
+
+abbrev is_cell_apart : ℕ → ℕ → Bool
+is_cell_apart area cells = leb (cell_at cells 0 + 8) (2 ^ 64) && lie_beside (cell_at cells 0) 8 area 32
+
+pub cell_apart : (area cells : ℕ) → is_cell_apart area cells ≡ true → IsCellApart area cells 0
+cell_apart area cells is =
+    let one = and_parts (leb (cell_at cells 0 + 8) (2 ^ 64)) _ is in
+    record {
+      low_cells = leb-true (cell_at cells 0 + 8) (2 ^ 64) one.0;
+      beside = they_lie (cell_at cells 0) 8 area 32 one.1;
+    }
+
+abbrev pub add_tested : (p : Slots) → IsTested (add_form p)
+add_tested p = record {
+  spans = λ s t begun. (cell_at (cells_of s p t begun) 0, 8) ∷ [];
+  covers = λ s area t begun a has. last (among area.at 32 a) (among (cell_at (cells_of s p t begun) 0) 8 a) has;
+  is_apart = λ s area t begun. is_cell_apart area.at (cells_of s p t begun);
+  apart = λ s area t begun is. cell_apart area.at (cells_of s p t begun) is;
+}
+
+-- THE LIST
+
+abbrev is_node_apart : ℕ → ℕ → ℕ → Bool
+is_node_apart area cells node =
+    is_cell_apart area cells
+    && (leb (node + 8) (2 ^ 64) && (lie_beside node 8 area 32 && lie_beside node 8 (cell_at cells 0) 8))
+
+pub node_apart : (area cells node : ℕ) → is_node_apart area cells node ≡ true → IsNodeApart area cells 0 node
+node_apart area cells node is =
+    let one = and_parts (is_cell_apart area cells) _ is in
+    let two = and_parts (leb (node + 8) (2 ^ 64)) _ one.1 in
+    let three = and_parts (lie_beside node 8 area 32) _ two.1 in
+    record {
+      cell = cell_apart area cells one.0;
+      low_node = leb-true (node + 8) (2 ^ 64) two.0;
+      node_area = they_lie node 8 area 32 three.0;
+      node_cell = they_lie node 8 (cell_at cells 0) 8 three.1;
+    }
+
+abbrev pub push_tested : (p : Slots) → IsTested (push_form p)
+push_tested p = record {
+  spans = λ s t begun. (cell_at (cells_of s p t begun) 0, 8) ∷ (node_of s p t begun, 8) ∷ [];
+  covers = λ s area t begun a has.
+      last_two (among area.at 32 a) (among (cell_at (cells_of s p t begun) 0) 8 a) (among (node_of s p t begun) 8 a) has;
+  is_apart = λ s area t begun. is_node_apart area.at (cells_of s p t begun) (node_of s p t begun);
+  apart = λ s area t begun is. node_apart area.at (cells_of s p t begun) (node_of s p t begun) is;
+}
+
+abbrev pub pop_tested : (p : Slots) → IsTested (pop_form p)
+pop_tested p = record {
+  spans = λ s t begun.
+      (cell_at (cells_of s p t begun) 0, 8)
+      ∷ unless (eqb (head_of s 0 (cells_of s p t begun) begun) 0) (head_of s 0 (cells_of s p t begun) begun) 8;
+  covers = λ s area t begun a has.
+      spanned (among area.at 32 a) (among (cell_at (cells_of s p t begun) 0) 8 a)
+      (eqb (head_of s 0 (cells_of s p t begun) begun) 0) (head_of s 0 (cells_of s p t begun) begun) 8 a has;
+  is_apart = λ s area t begun. is_cell_apart area.at (cells_of s p t begun);
+  apart = λ s area t begun is. cell_apart area.at (cells_of s p t begun) is;
+}
+
+-- THE POOL
+
+abbrev is_pool : Setting → ℕ → ℕ → History → Bool
+is_pool s area pools begun =
+    leb (pool_at pools 0 + 4160) (2 ^ 64)
+    && (leb (count_of s 0 pools begun) 512 && lie_beside (pool_at pools 0) 8 area 32)
+
+pub pool_is : (s : Setting) (area pools : ℕ) (begun : History) → is_pool s area pools begun ≡ true
+    → IsPool s area pools 0 begun
+pool_is s area pools begun is =
+    let one = and_parts (leb (pool_at pools 0 + 4160) (2 ^ 64)) _ is in
+    let two = and_parts (leb (count_of s 0 pools begun) 512) _ one.1 in
+    record {
+      low_pool = leb-true (pool_at pools 0 + 4160) (2 ^ 64) one.0;
+      at_most = leb-true (count_of s 0 pools begun) 512 two.0;
+      beside = they_lie (pool_at pools 0) 8 area 32 two.1;
+    }
+
+abbrev pub alloc_tested : (p : Slots) → IsTested (alloc_form p)
+alloc_tested p = record {
+  spans = λ s t begun.
+      (pool_at (cells_of s p t begun) 0, 8)
+      ∷ unless (eqb (count_of s 0 (cells_of s p t begun) begun) 0)
+      (slot_at (pool_at (cells_of s p t begun) 0) (count_of s 0 (cells_of s p t begun) begun - 1)) 8;
+  covers = λ s area t begun a has.
+      spanned (among area.at 32 a) (among (pool_at (cells_of s p t begun) 0) 8 a)
+      (eqb (count_of s 0 (cells_of s p t begun) begun) 0)
+      (slot_at (pool_at (cells_of s p t begun) 0) (count_of s 0 (cells_of s p t begun) begun - 1)) 8 a has;
+  is_apart = λ s area t begun. is_pool s area.at (cells_of s p t begun) begun;
+  apart = λ s area t begun is. pool_is s area.at (cells_of s p t begun) begun is;
+}
+
+abbrev slot_behind : Setting → ℕ → History → ℕ
+slot_behind s pools begun = slot_at (pool_at pools 0) (count_of s 0 pools begun)
+
+abbrev is_free_apart : Setting → ℕ → ℕ → History → Bool
+is_free_apart s area pools begun =
+    is_pool s area pools begun
+    && (eqb (count_of s 0 pools begun) 512 || lie_beside (slot_behind s pools begun) 8 area 32)
+
+pub free_apart : (s : Setting) (area pools : ℕ) (begun : History) → is_free_apart s area pools begun ≡ true
+    → IsFreeApart s area pools 0 begun
+free_apart s area pools begun is =
+    let one = and_parts (is_pool s area pools begun) _ is in
+    record {
+      is_pool = pool_is s area pools begun one.0;
+      slot = λ room. by_way room (either (eqb (count_of s 0 pools begun) 512) _ one.1);
+    }
+  where
+    by_way : count_of s 0 pools begun ≢ 512
+        → (eqb (count_of s 0 pools begun) 512 ≡ true) ⊎ (lie_beside (slot_behind s pools begun) 8 area 32 ≡ true)
+        → LieBeside (slot_behind s pools begun) 8 area 32
+    by_way room (inl full) = absurd (false≢true (sym (ne_eqb (count_of s 0 pools begun) 512 room) ∙ full))
+    by_way room (inr beside) = they_lie (slot_behind s pools begun) 8 area 32 beside
+
+abbrev pub free_tested : (p : Slots) → IsTested (free_form p)
+free_tested p = record {
+  spans = λ s t begun.
+      (pool_at (cells_of s p t begun) 0, 8)
+      ∷ unless (eqb (count_of s 0 (cells_of s p t begun) begun) 512) (slot_behind s (cells_of s p t begun) begun) 8;
+  covers = λ s area t begun a has.
+      spanned (among area.at 32 a) (among (pool_at (cells_of s p t begun) 0) 8 a)
+      (eqb (count_of s 0 (cells_of s p t begun) begun) 512) (slot_behind s (cells_of s p t begun) begun) 8 a has;
+  is_apart = λ s area t begun. is_free_apart s area.at (cells_of s p t begun) begun;
+  apart = λ s area t begun is. free_apart s area.at (cells_of s p t begun) begun is;
+}

@@ -1,0 +1,53 @@
+use Rattle.std.proofs.Common.{[], ◌∷◌}
+use Rattle.std.proofs.lemmas.Bool.{eqb-true}
+use Rattle.mach_types.specs.Registers.{register}
+use Rattle.block_model.specs.History.{file}
+use Rattle.percpu_lib.specs.Pools.{pool_at, slot_at}
+use Rattle.percpu_lib.specs.Pushes.{word_seen}
+use Rattle.percpu_lib.specs.Uses.{cells_of}
+use Rattle.percpu_lib.proofs.PoolExample as example
+use Rattle.percpu_lib.proofs.UseTests.{just_is}
+use Rattle.percpu_lib.proofs.pool_theorems.pool_blocks_are_used.Goals as goal
+
+pub returns : goal.returns
+returns c = record {
+  free = (
+    example.setting,
+    example.free_log,
+    example.free_slots,
+    example.free_at,
+    example.area,
+    example.the_alloc ∷ [],
+    example.free_used.sequence,
+    example.free_used.used,
+    just_is (word_seen example.setting 0
+        (slot_at (pool_at
+        (cells_of example.setting example.free_slots example.free_used.sequence.thread example.free_used.sequence.begun) 0) 0)
+        example.free_used.sequence.reached) 42 example.free_used.passes,
+  );
+  alloc = (
+    example.setting,
+    example.alloc_log,
+    example.alloc_slots,
+    example.alloc_at,
+    example.area,
+    example.the_free ∷ [],
+    example.alloc_used.sequence,
+    example.alloc_used.used,
+    eqb-true (register (file example.setting example.alloc_used.sequence.thread example.alloc_used.sequence.reached).file 19)
+        42 example.alloc_used.passes,
+  );
+  none = (
+    example.setting,
+    example.none_log,
+    example.alloc_slots,
+    example.alloc_at,
+    example.area,
+    example.the_free ∷ [],
+    example.none_used.sequence,
+    example.none_used.used,
+    eqb-true
+        (register (file example.setting example.none_used.sequence.thread example.none_used.sequence.reached).file 19)
+        0 example.none_used.passes,
+  );
+}
