@@ -16,12 +16,13 @@ use Rattle.std.specs.List.{list_all}
 use Rattle.std.proofs.lemmas.Bool.{and_parts, ltb-true}
 use Rattle.percpu_lib.specs.Pops.{pop_lines}
 use Rattle.percpu_lib.specs.Pushes.{push_lines}
+use Rattle.percpu_lib.specs.Rings.{ring_get_lines, ring_put_lines}
 use Rattle.percpu_lib.specs.declared.lines.Line.{Line}
 use Rattle.percpu_lib.specs.declared.lines.Line.TheVariants as line
 use Rattle.percpu_lib.specs.declared.slots.Slots.{Slots}
 use Rattle.percpu_lib.proofs.HeldWords.{labelled_items}
 use Rattle.guest_names.specs.declared.names.Name.{Name}
-use Rattle.guest_names.specs.declared.names.Name.TheVariants.{Counter, List as Lists, Pool, Dekker, Signals, Migrate}
+use Rattle.guest_names.specs.declared.names.Name.TheVariants.{Counter, List as Lists, Pool, Dekker, Signals, Migrate, Ring}
 use Rattle.guest_programs.specs.Blocks.{HoldsBlock, block_alone, bound_by, descriptor_of, start_word}
 use Rattle.guest_programs.specs.Programs.{data_words}
 use Rattle.guest_programs.specs.Guests.{HoldsBlocks}
@@ -175,6 +176,7 @@ few_lines Pool = omega arith
 few_lines Dekker = omega arith
 few_lines Signals = omega arith
 few_lines Migrate = omega arith
+few_lines Ring = omega arith
 
 pub few_words : (name : Name) (asm : Assembly) → AreEmitted (guest_lines name) (empty CODE LABELS) asm
     → length asm.items ≤ 1024

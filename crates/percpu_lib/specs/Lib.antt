@@ -8,5 +8,6 @@ pub mod Frees
 pub mod Lines
 pub mod Pops
 pub mod Pushes
+pub mod Rings
 pub mod Uses
 pub mod Words
