@@ -19,6 +19,7 @@ pub mod Labels
 pub mod PushCode
 pub mod PushDone
 pub mod PushLaw
+pub mod RingLines
 pub mod RetryTests
 pub mod ShareLaw
 pub mod ShareTests
