@@ -20,12 +20,7 @@ use std::alloc::{AllocError, Global};
 const BEFORE: usize = 11;
 
 /// What a block does inside that puts so many words.
-fn steps_of_put(
-    alloc: Global,
-    base: u32,
-    slots: Slots,
-    count: u8,
-) -> Result<Vec<Line>, AllocError>
+fn steps_of_put(alloc: Global, base: u32, slots: Slots, count: u8) -> Result<Vec<Line>, AllocError>
     requires few { count ≤ 4 }
     requires fits { base + 8 < 2 ^ 32 }
     ensures { IfOk result (λ lines. lines.items ≡ put_steps slots base count) }
@@ -37,7 +32,14 @@ fn steps_of_put(
         inst!(Sub rd = 7, rs1 = 6, rs2 = 7),
         inst!(Sltiu rd = 7, rs1 = 7, imm = 513 - count as i64),
         inst!(Addi rd = slots.value, rs1 = 0, imm = 0),
-        Line::Branch(Inst::Beq { rs1: 7, rs2: 0, imm: 0 }, base + 2),
+        Line::Branch(
+            Inst::Beq {
+                rs1: 7,
+                rs2: 0,
+                imm: 0,
+            },
+            base + 2,
+        ),
         inst!(Addi rd = slots.value, rs1 = 28, imm = 0),
     ])?;
     for k in 0..count {
@@ -55,12 +57,7 @@ fn steps_of_put(
 }
 
 /// What a block does inside that gets so many words.
-fn steps_of_get(
-    alloc: Global,
-    base: u32,
-    slots: Slots,
-    count: u8,
-) -> Result<Vec<Line>, AllocError>
+fn steps_of_get(alloc: Global, base: u32, slots: Slots, count: u8) -> Result<Vec<Line>, AllocError>
     requires few { count ≤ 4 }
     requires fits { base + 8 < 2 ^ 32 }
     ensures { IfOk result (λ lines. lines.items ≡ get_steps slots base count) }
@@ -72,7 +69,14 @@ fn steps_of_get(
         inst!(Sub rd = 7, rs1 = 7, rs2 = 6),
         inst!(Sltiu rd = 7, rs1 = 7, imm = count as i64),
         inst!(Addi rd = slots.value, rs1 = 0, imm = 0),
-        Line::Branch(Inst::Bne { rs1: 7, rs2: 0, imm: 0 }, base + 2),
+        Line::Branch(
+            Inst::Bne {
+                rs1: 7,
+                rs2: 0,
+                imm: 0,
+            },
+            base + 2,
+        ),
         inst!(Addi rd = slots.value, rs1 = 28, imm = 0),
     ])?;
     for k in 0..count {
