@@ -18,6 +18,8 @@ pub enum Name {
     Signals,
     /// Threads that add to counters and go from processor to processor.
     Migrate,
+    /// Four threads put words into the rings of their processors, and get words where a ring is full.
+    Ring,
 }
 
 impl Name {
@@ -32,6 +34,7 @@ impl Name {
             "dekker" => Some(Name::Dekker),
             "signals" => Some(Name::Signals),
             "migrate" => Some(Name::Migrate),
+            "ring" => Some(Name::Ring),
             _ => None,
         }
     }
@@ -47,6 +50,7 @@ impl Name {
             Name::Dekker => "dekker",
             Name::Signals => "signals",
             Name::Migrate => "migrate",
+            Name::Ring => "ring",
         }
     }
 
@@ -58,6 +62,7 @@ impl Name {
             Name::Counter => 10_000,
             Name::List | Name::Pool | Name::Dekker | Name::Signals => 1_000,
             Name::Migrate => 63,
+            Name::Ring => 1_000,
         }
     }
 

@@ -16,12 +16,13 @@ use Rattle.std.specs.List.{list_all}
 use Rattle.std.proofs.lemmas.Bool.{and_parts, ltb-true}
 use Rattle.percpu_lib.specs.Pops.{pop_lines}
 use Rattle.percpu_lib.specs.Pushes.{push_lines}
+use Rattle.percpu_lib.specs.Rings.{ring_get_lines, ring_put_lines}
 use Rattle.percpu_lib.specs.declared.lines.Line.{Line}
 use Rattle.percpu_lib.specs.declared.lines.Line.TheVariants as line
 use Rattle.percpu_lib.specs.declared.slots.Slots.{Slots}
 use Rattle.percpu_lib.proofs.HeldWords.{labelled_items}
 use Rattle.guest_names.specs.declared.names.Name.{Name}
-use Rattle.guest_names.specs.declared.names.Name.TheVariants.{Counter, List as Lists, Pool, Dekker, Signals, Migrate}
+use Rattle.guest_names.specs.declared.names.Name.TheVariants.{Counter, List as Lists, Pool, Dekker, Signals, Migrate, Ring}
 use Rattle.guest_programs.specs.Blocks.{HoldsBlock, block_alone, bound_by, descriptor_of, start_word}
 use Rattle.guest_programs.specs.Programs.{data_words}
 use Rattle.guest_programs.specs.Guests.{HoldsBlocks}
@@ -111,6 +112,14 @@ holds Signals n pages stand read =
 holds Migrate n pages stand read =
     holds_block add_lines FIRST_TABLE 92 14 4 pages (guest_instructions Migrate) (data_words (model Migrate) n)
     (omega arith) (λ e. omega arith) (omega arith) (omega arith) stand read refl refl refl
+holds Ring n pages stand read = (
+  holds_block (λ p base. ring_put_lines p base 4) FIRST_TABLE 114 45 4 pages (guest_instructions Ring)
+      (data_words (model Ring) n) (omega arith) (λ e. omega arith) (omega arith) (omega arith) stand read refl refl
+      refl,
+  holds_block (λ p base. ring_get_lines p base 4) SECOND_TABLE 166 45 8 pages (guest_instructions Ring)
+      (data_words (model Ring) n) (omega arith) (λ e. omega arith) (omega arith) (omega arith) stand read refl refl
+      refl,
+)
 
 -- the first address stays
 labelled_at : (a : Assembly) (l : ℕ) (b : Bool)
@@ -175,6 +184,7 @@ few_lines Pool = omega arith
 few_lines Dekker = omega arith
 few_lines Signals = omega arith
 few_lines Migrate = omega arith
+few_lines Ring = omega arith
 
 pub few_words : (name : Name) (asm : Assembly) → AreEmitted (guest_lines name) (empty CODE LABELS) asm
     → length asm.items ≤ 1024

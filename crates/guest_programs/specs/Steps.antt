@@ -2,13 +2,14 @@
 use Rattle.std.specs.Prelude.{ℕ, ◌&&◌, ◌++◌, Bool, true, List, [], ◌∷◌, nat_lt, ◌+◌, Option, slice_get}
 use Rattle.std.specs.List.{flat_map, list_all}
 use Rattle.guest_names.specs.declared.names.Name.{Name}
-use Rattle.guest_names.specs.declared.names.Name.TheVariants.{Counter, List as Lists, Pool, Dekker, Signals, Migrate}
+use Rattle.guest_names.specs.declared.names.Name.TheVariants.{Counter, List as Lists, Pool, Dekker, Signals, Migrate, Ring}
 use Rattle.percpu_lib.specs.Adds.{add_lines}
 use Rattle.percpu_lib.specs.Allocs.{alloc_lines}
 use Rattle.percpu_lib.specs.Frees.{free_lines}
 use Rattle.percpu_lib.specs.Lines.{is_free}
 use Rattle.percpu_lib.specs.Pops.{pop_lines}
 use Rattle.percpu_lib.specs.Pushes.{push_lines}
+use Rattle.percpu_lib.specs.Rings.{ring_get_lines, ring_put_lines}
 use Rattle.percpu_lib.specs.declared.lines.Line.{Line}
 use Rattle.percpu_lib.specs.declared.lines.Line.TheVariants as line
 use Rattle.percpu_lib.specs.declared.slots.Slots.{Slots}
@@ -20,6 +21,7 @@ use Rattle.guest_programs.specs.declared.dekker.TheConstants.{DEKKER}
 use Rattle.guest_programs.specs.declared.list.TheConstants.{LIST}
 use Rattle.guest_programs.specs.declared.migrate.TheConstants.{MIGRATE}
 use Rattle.guest_programs.specs.declared.pool.TheConstants.{POOL}
+use Rattle.guest_programs.specs.declared.ring.TheConstants.{RING}
 use Rattle.guest_programs.specs.declared.shared.TheConstants.{AREA, CELLS_AT, VALUE, BEGINNING, ENDING, PINNING, PRINTING, STARTING}
 use Rattle.guest_programs.specs.declared.signals.TheConstants.{SIGNALS}
 use Rattle.guest_programs.specs.declared.steps.BlockKind.{BlockKind}
@@ -38,6 +40,8 @@ lines_of_block kind.Push = push_lines
 lines_of_block kind.Pop = pop_lines
 lines_of_block kind.Alloc = alloc_lines
 lines_of_block kind.Free = free_lines
+lines_of_block kind.RingPut = λ p base. ring_put_lines p base 4
+lines_of_block kind.RingGet = λ p base. ring_get_lines p base 4
 
 -- the lines of a step, and of steps
 abbrev pub lines_of_step : Step → List Line
@@ -55,6 +59,7 @@ own_steps Pool = POOL
 own_steps Dekker = DEKKER
 own_steps Signals = SIGNALS
 own_steps Migrate = MIGRATE
+own_steps Ring = RING
 
 -- all lines of a guest: those that all guests have, and its own
 abbrev pub guest_lines : Name → List Line

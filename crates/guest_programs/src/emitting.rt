@@ -12,6 +12,7 @@ use crate::layout::CODE;
 use crate::list::LIST;
 use crate::migrate::MIGRATE;
 use crate::pool::POOL;
+use crate::ring::RING;
 use crate::shared::{
     AREA, BEGINNING, CELLS_AT, ENDING, LABELS, PINNING, PRINTING, STARTING, VALUE,
 };
@@ -20,6 +21,7 @@ use crate::steps::{BlockKind, Step};
 use guest_names::Name;
 use percpu_lib::{
     EmitFault, Slots, emit_add, emit_alloc, emit_free, emit_lines, emit_pop, emit_push,
+    emit_ring_get, emit_ring_put,
 };
 use rv_asm::Asm;
 use std::alloc::{AllocError, Global};
@@ -36,6 +38,7 @@ fn own_steps(name: Name) -> &'static [Step]
         Name::Dekker => &DEKKER,
         Name::Signals => &SIGNALS,
         Name::Migrate => &MIGRATE,
+        Name::Ring => &RING,
     }
 }
 
@@ -64,6 +67,8 @@ fn emit_block(
         BlockKind::Pop => emit_pop(alloc, asm, base, &slots),
         BlockKind::Alloc => emit_alloc(alloc, asm, base, &slots),
         BlockKind::Free => emit_free(alloc, asm, base, &slots),
+        BlockKind::RingPut => emit_ring_put(alloc, asm, base, &slots, 4),
+        BlockKind::RingGet => emit_ring_get(alloc, asm, base, &slots, 4),
     }
 }
 

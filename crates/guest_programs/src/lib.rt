@@ -15,6 +15,7 @@ mod making;
 mod migrate;
 mod parts;
 mod pool;
+mod ring;
 mod shared;
 mod signals;
 mod steps;

@@ -10,6 +10,10 @@ pub enum BlockKind {
     Pop,
     Alloc,
     Free,
+    /// Of four words.
+    RingPut,
+    /// Of four words.
+    RingGet,
 }
 
 /// A step of a guest's code.

@@ -21,7 +21,7 @@ all_of P [] all k d lt = absurd (omega arith)
 all_of P (x ∷ xs) all zero d lt = all.0
 all_of P (x ∷ xs) all (suc k) d lt = all_of P xs all.1 k d (omega arith)
 
-all_joined : (P : Line → Type 0) (xs ys : List Line) → AllByRecursion P xs → AllByRecursion P ys
+pub all_joined : (P : Line → Type 0) (xs ys : List Line) → AllByRecursion P xs → AllByRecursion P ys
     → AllByRecursion P (xs ++ ys)
 all_joined P [] ys first rest = rest
 all_joined P (x ∷ xs) ys first rest = (first.0, all_joined P xs ys first.1 rest)
@@ -30,13 +30,13 @@ low_fits : (z : ℤ) (n : ℕ) → z ≡ pos n -ℤ pos ((n + 2048) / 4096 * 409
 low_fits (pos k) n is = lt-ltb k 2048 (omega (arith, ints))
 low_fits (negsuc k) n is = lt-ltb k 2048 (omega (arith, ints))
 
-both_true : (a b : Bool) → a ≡ true → b ≡ true → (a && b) ≡ true
+pub both_true : (a b : Bool) → a ≡ true → b ≡ true → (a && b) ≡ true
 both_true true b p q = q
 both_true false b p q = p
 
 module _ (p : Slots) (base labels : ℕ) (slots : AreSlots p) (low : p.table < 0x7FFFF800)
     (room : base + 8 ≤ labels) where
-  abbrev AreEmittable : List Line → Type 0
+  abbrev pub AreEmittable : List Line → Type 0
   AreEmittable xs = AllByRecursion (IsEmittable labels) xs
 
   area : ltb p.area 32 ≡ true
@@ -72,7 +72,7 @@ module _ (p : Slots) (base labels : ℕ) (slots : AreSlots p) (low : p.table < 0
         ),
       )
 
-  block_emittable : (shift : ℕ) (first inside aborted : List Line) → ltb shift 64 ≡ true → AreEmittable first
+  pub block_emittable : (shift : ℕ) (first inside aborted : List Line) → ltb shift 64 ≡ true → AreEmittable first
       → AreEmittable inside → AreEmittable aborted
       → All (IsEmittable labels) (block_lines p base shift first inside aborted)
   block_emittable shift first inside aborted short one two three =
@@ -91,10 +91,10 @@ module _ (p : Slots) (base labels : ℕ) (slots : AreSlots p) (low : p.table < 0
       block_emittable 6 [] (add_steps p) [] refl tt steps tt
 
   -- the value is a register that is written or comes first, and one that comes second
-  written : (ltb p.value 32 && true && true) ≡ true
+  pub written : (ltb p.value 32 && true && true) ≡ true
   written = both_true (ltb p.value 32 && true) true (both_true (ltb p.value 32) true value refl) refl
 
-  second : (ltb p.value 32 && true) ≡ true
+  pub second : (ltb p.value 32 && true) ≡ true
   second = both_true (ltb p.value 32) true value refl
 
   pub push_emittable : All (IsEmittable labels) (push_lines p base)

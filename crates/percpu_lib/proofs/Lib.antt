@@ -32,6 +32,7 @@ pub mod PopLaw
 pub mod PushCode
 pub mod PushDone
 pub mod PushLaw
+pub mod RingLines
 pub mod RetryTests
 pub mod ShareLaw
 pub mod ShareTests

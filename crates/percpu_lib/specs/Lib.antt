@@ -10,6 +10,7 @@ pub mod Lines
 pub mod Pools
 pub mod Pops
 pub mod Pushes
+pub mod Rings
 pub mod Used
 pub mod Uses
 pub mod Words

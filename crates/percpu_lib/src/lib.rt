@@ -19,6 +19,7 @@ mod pop_theorems;
 mod pops;
 mod push_theorems;
 mod pushes;
+mod rings;
 mod room;
 mod slots;
 mod theorems;
@@ -43,6 +44,7 @@ pub use push_theorems::{
     pushes_that_commit_are_left, retries_of_push_keep_its_value,
 };
 pub use pushes::emit_push;
+pub use rings::{emit_ring_get, emit_ring_put};
 pub use slots::Slots;
 pub use theorems::{
     aborted_adds_begin_anew, add_blocks_are_used, add_keeps_registers, adds_are_done,

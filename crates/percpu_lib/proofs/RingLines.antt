@@ -1,0 +1,112 @@
+-- Each line of a ring block has a word or is aimed at a label that is there, and none of them inside is a label.
+use Rattle.std.proofs.Common.{◌≡◌, ℕ, zero, suc, ◌+◌, ◌-◌, ◌*◌, ◌<◌, ◌≤◌, List, [], ◌∷◌, ◌++◌, refl, arith}
+use Rattle.std.proofs.Common.{true, ◌&&◌, ltb, All, pos}
+use Rattle.std.proofs.lemmas.Bool.{lt-ltb}
+use Rattle.rv_asm.specs.Fields.{has_signed_bits}
+use Rattle.percpu_lib.specs.BlockLines.{HasNoLabel}
+use Rattle.percpu_lib.specs.Lines.{IsEmittable}
+use Rattle.percpu_lib.specs.Rings.{get_steps, get_test, get_word, get_words, put_steps, put_test, put_word}
+use Rattle.percpu_lib.specs.Rings.{put_words, ring_aborted, ring_first, ring_get_lines, ring_put_lines}
+use Rattle.percpu_lib.specs.Words.{AreSlots}
+use Rattle.percpu_lib.specs.declared.lines.Line.{Line}
+use Rattle.percpu_lib.specs.declared.lines.Line.TheVariants as line
+use Rattle.percpu_lib.specs.declared.slots.Slots.{Slots}
+use Rattle.percpu_lib.proofs.Emittable.{AreEmittable, all_joined, block_emittable, both_true, second, written}
+
+-- LABELS
+
+none_joined : (xs ys : List Line) → HasNoLabel xs → HasNoLabel ys → HasNoLabel (xs ++ ys)
+none_joined [] ys first rest = rest
+none_joined (line.Label n ∷ xs) ys first rest = first
+none_joined (line.Plain i ∷ xs) ys first rest = none_joined xs ys first rest
+none_joined (line.Branch i n ∷ xs) ys first rest = none_joined xs ys first rest
+none_joined (line.Data w ∷ xs) ys first rest = none_joined xs ys first rest
+
+put_words_none : (p : Slots) (k : ℕ) → HasNoLabel (put_words p k)
+put_words_none p zero = tt
+put_words_none p (suc k) = none_joined (put_words p k) (put_word p k) (put_words_none p k) tt
+
+get_words_none : (p : Slots) (k : ℕ) → HasNoLabel (get_words p k)
+get_words_none p zero = tt
+get_words_none p (suc k) = none_joined (get_words p k) (get_word p k) (get_words_none p k) tt
+
+pub put_none : (p : Slots) (base count : ℕ) → HasNoLabel (put_steps p base count)
+put_none p base count = none_joined (put_words p count) _ (put_words_none p count) tt
+
+pub get_none : (p : Slots) (base count : ℕ) → HasNoLabel (get_steps p base count)
+get_none p base count = none_joined (get_words p count) _ (get_words_none p count) tt
+
+-- WORDS
+
+-- immediates that are small enough
+room_fits : (count : ℕ) → has_signed_bits 12 (pos (513 - count)) ≡ true
+room_fits count = lt-ltb (513 - count) 2048 (omega arith)
+
+count_fits : (count : ℕ) → count ≤ 4 → has_signed_bits 12 (pos count) ≡ true
+count_fits count few = lt-ltb count 2048 (omega arith)
+
+place_fits : (k : ℕ) → k < 4 → has_signed_bits 12 (pos (8 * k)) ≡ true
+place_fits k few = lt-ltb (8 * k) 2048 (omega arith)
+
+module _ (p : Slots) (base labels : ℕ) (slots : AreSlots p) (low : p.table < 0x7FFFF800)
+    (room : base + 8 ≤ labels) where
+  abbrev Emittable : List Line → Type 0
+  Emittable xs = AreEmittable p base labels slots low room xs
+
+  value : ltb p.value 32 ≡ true
+  value = lt-ltb p.value 32 slots.low_value
+
+  -- the value comes first, then another register
+  is_written : (ltb p.value 32 && true && true) ≡ true
+  is_written = written p base labels slots low room
+
+  put_word_emittable : (k : ℕ) → k < 4 → Emittable (put_word p k)
+  put_word_emittable k few =
+      let load = both_true (ltb p.value 32) (has_signed_bits 12 (pos (8 * k))) value (place_fits k few) in
+      (refl, (refl, (refl, (load, (refl, (refl, tt))))))
+
+  put_words_emittable : (k : ℕ) → k ≤ 4 → Emittable (put_words p k)
+  put_words_emittable zero few = tt
+  put_words_emittable (suc k) few =
+      all_joined (IsEmittable labels) (put_words p k) (put_word p k) (put_words_emittable k (omega arith))
+      (put_word_emittable k (omega arith))
+
+  get_word_emittable : (k : ℕ) → k < 4 → Emittable (get_word p k)
+  get_word_emittable k few =
+      let store = both_true (ltb p.value 32 && true) (has_signed_bits 12 (pos (8 * k)))
+      (second p base labels slots low room) (place_fits k few) in
+      (refl, (refl, (refl, (refl, (store, (refl, tt))))))
+
+  get_words_emittable : (k : ℕ) → k ≤ 4 → Emittable (get_words p k)
+  get_words_emittable zero few = tt
+  get_words_emittable (suc k) few =
+      all_joined (IsEmittable labels) (get_words p k) (get_word p k) (get_words_emittable k (omega arith))
+      (get_word_emittable k (omega arith))
+
+  first_emittable : Emittable (ring_first p)
+  first_emittable = (second p base labels slots low room, tt)
+
+  aborted_emittable : Emittable (ring_aborted p)
+  aborted_emittable = (is_written, tt)
+
+  put_test_emittable : (count : ℕ) → Emittable (put_test p base count)
+  put_test_emittable count =
+      (refl, (refl, (refl, (room_fits count, (is_written, ((refl, omega arith), (is_written, tt)))))))
+
+  get_test_emittable : (count : ℕ) → count ≤ 4 → Emittable (get_test p base count)
+  get_test_emittable count few =
+      (refl, (refl, (refl, (count_fits count few, (is_written, ((refl, omega arith), (is_written, tt)))))))
+
+  pub ring_put_emittable : (count : ℕ) → count ≤ 4 → All (IsEmittable labels) (ring_put_lines p base count)
+  ring_put_emittable count few =
+      let behind = all_joined (IsEmittable labels) (put_words p count) _ (put_words_emittable count few) (refl, tt) in
+      block_emittable p base labels slots low room 13 (ring_first p) (put_steps p base count) (ring_aborted p) refl
+      first_emittable (all_joined (IsEmittable labels) (put_test p base count) _ (put_test_emittable count) behind)
+      aborted_emittable
+
+  pub ring_get_emittable : (count : ℕ) → count ≤ 4 → All (IsEmittable labels) (ring_get_lines p base count)
+  ring_get_emittable count few =
+      let behind = all_joined (IsEmittable labels) (get_words p count) _ (get_words_emittable count few) (refl, tt) in
+      block_emittable p base labels slots low room 13 (ring_first p) (get_steps p base count) (ring_aborted p) refl
+      first_emittable (all_joined (IsEmittable labels) (get_test p base count) _ (get_test_emittable count few) behind)
+      aborted_emittable

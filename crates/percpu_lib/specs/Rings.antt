@@ -1,0 +1,94 @@
+-- The blocks that put words into the ring of their processor and get them out of it (own). A ring has a head at
+-- byte 0, a tail at byte 8 and 512 slots of 8 bytes from byte 64 on; rings lie 8,192 bytes apart. Head and tail
+-- count the words that were ever got and put, modulo 2^64, and word n stands in slot n modulo 512.
+use Rattle.std.specs.Prelude.{ℕ, zero, suc, ◌*◌, ◌-◌, ◌+◌, List, [], ◌∷◌, ◌++◌, pos}
+use Rattle.rv_inst.specs.declared.instruction.Inst.TheVariants as inst
+use Rattle.percpu_lib.specs.BlockLines.{block_lines}
+use Rattle.percpu_lib.specs.declared.lines.Line.{Line}
+use Rattle.percpu_lib.specs.declared.lines.Line.TheVariants as line
+use Rattle.percpu_lib.specs.declared.slots.Slots.{Slots}
+
+-- the address of the words is kept in x28, and brought back where the block was aborted
+abbrev pub ring_first : Slots → List Line
+ring_first p = line.Plain (inst.Addi 28 p.value (pos 0)) ∷ []
+
+abbrev pub ring_aborted : Slots → List Line
+ring_aborted p = line.Plain (inst.Addi p.value 28 (pos 0)) ∷ []
+
+-- x6 is the tail, x7 how many words the ring holds, and then 1 where there is room for so many more. The value is
+-- 0, and where there is no room that is all; else it is what came in
+abbrev pub put_test : Slots → ℕ → ℕ → List Line
+put_test p base count =
+    line.Plain (inst.Ld 6 5 (pos 8))
+    ∷ line.Plain (inst.Ld 7 5 (pos 0))
+    ∷ line.Plain (inst.Sub 7 6 7)
+    ∷ line.Plain (inst.Sltiu 7 7 (pos (513 - count)))
+    ∷ line.Plain (inst.Addi p.value 0 (pos 0))
+    ∷ line.Branch (inst.Beq 7 0 (pos 0)) (base + 2)
+    ∷ line.Plain (inst.Addi p.value 28 (pos 0))
+    ∷ []
+
+-- x7 is 64 bytes before the slot of x6, which becomes word k, and x6 grows by 1
+abbrev pub put_word : Slots → ℕ → List Line
+put_word p k =
+    line.Plain (inst.Andi 7 6 (pos 511))
+    ∷ line.Plain (inst.Slli 7 7 3)
+    ∷ line.Plain (inst.Add 7 7 5)
+    ∷ line.Plain (inst.Ld 29 p.value (pos (8 * k)))
+    ∷ line.Plain (inst.Sd 7 29 (pos 64))
+    ∷ line.Plain (inst.Addi 6 6 (pos 1))
+    ∷ []
+
+-- the first words
+abbrev pub put_words : Slots → ℕ → List Line
+put_words p zero = []
+put_words p (suc k) = put_words p k ++ put_word p k
+
+-- where there is room, the words go into their slots, and then x6 becomes the tail
+abbrev pub put_steps : Slots → ℕ → ℕ → List Line
+put_steps p base count =
+    put_test p base count ++ (put_words p count ++ line.Plain (inst.Sd 5 6 (pos 8)) ∷ [])
+
+-- the lines of a block that puts so many words
+abbrev pub ring_put_lines : Slots → ℕ → ℕ → List Line
+ring_put_lines p base count =
+    block_lines p base 13 (ring_first p) (put_steps p base count) (ring_aborted p)
+
+-- x6 is the head, x7 how many words the ring holds, and then 1 where those are fewer. The value is 0, and where
+-- they are fewer that is all; else it is what came in
+abbrev pub get_test : Slots → ℕ → ℕ → List Line
+get_test p base count =
+    line.Plain (inst.Ld 6 5 (pos 0))
+    ∷ line.Plain (inst.Ld 7 5 (pos 8))
+    ∷ line.Plain (inst.Sub 7 7 6)
+    ∷ line.Plain (inst.Sltiu 7 7 (pos count))
+    ∷ line.Plain (inst.Addi p.value 0 (pos 0))
+    ∷ line.Branch (inst.Bne 7 0 (pos 0)) (base + 2)
+    ∷ line.Plain (inst.Addi p.value 28 (pos 0))
+    ∷ []
+
+-- x7 is 64 bytes before the slot of x6, word k becomes what is in it, and x6 grows by 1
+abbrev pub get_word : Slots → ℕ → List Line
+get_word p k =
+    line.Plain (inst.Andi 7 6 (pos 511))
+    ∷ line.Plain (inst.Slli 7 7 3)
+    ∷ line.Plain (inst.Add 7 7 5)
+    ∷ line.Plain (inst.Ld 29 7 (pos 64))
+    ∷ line.Plain (inst.Sd p.value 29 (pos (8 * k)))
+    ∷ line.Plain (inst.Addi 6 6 (pos 1))
+    ∷ []
+
+-- the first words
+abbrev pub get_words : Slots → ℕ → List Line
+get_words p zero = []
+get_words p (suc k) = get_words p k ++ get_word p k
+
+-- where the ring holds enough, the words come out of their slots, and then x6 becomes the head
+abbrev pub get_steps : Slots → ℕ → ℕ → List Line
+get_steps p base count =
+    get_test p base count ++ (get_words p count ++ line.Plain (inst.Sd 5 6 (pos 0)) ∷ [])
+
+-- the lines of a block that gets so many words
+abbrev pub ring_get_lines : Slots → ℕ → ℕ → List Line
+ring_get_lines p base count =
+    block_lines p base 13 (ring_first p) (get_steps p base count) (ring_aborted p)
