@@ -24,17 +24,18 @@ use Rattle.urcu_lib.specs.declared.regs.SyncRegs.{SyncRegs}
 use Rattle.fence_laws.specs.Entered.{HaveEntered}
 use Rattle.fence_laws.specs.Kept.{AreBeside, AreQuiet, IsQuiet}
 use Rattle.urcu_lib.specs.Sections.{HaveEnded, IsGrace, IsGraceBegin, IsExecAt, IsGraceEnd, IsSyncStore, IsSyncing, calls, comes_in, is_in, waits}
-use Rattle.urcu_lib.specs.Stretch.{HasFinished, HasReturned, IsPassing, Runs, it_rests, it_runs, none_run}
+use Rattle.urcu_lib.specs.Stretch.{HasFinished, HasReturned, IsCounterGrown, IsPassing, Runs, it_rests, it_runs, none_run}
 use Rattle.urcu_lib.specs.Registers.{AreSyncRegs}
 use Rattle.urcu_lib.specs.Uses.{AreElsewhere, AreUses, HasCome, IsStart, acts, counted, goes_on, returns}
 use Rattle.urcu_lib.proofs.CounterLaw.{IsCounter, counted_low, counter_quiet, counter_start, counter_stored, in_word, new_count, same_count, seen_last, seen_word}
 use Rattle.fence_laws.proofs.ExecLaw.{after_load, after_store, exec_of}
 use Rattle.urcu_lib.proofs.SlotLaw.{in_slot, is_later}
 use Rattle.urcu_lib.proofs.SyncState.{ArePassed, HasNone, IsOpen, IsOrderly, IsPast, Stands, all_set, base, counts, has_called, has_grown, has_loaded, has_looked, has_slots, has_stored, is_over, is_some, left_at, looks, moves, one_set, open_next, passes, quiet_next, some_left, stands_next, three_set, two_set}
-use Rattle.urcu_lib.proofs.SyncSteps.{AreBelow, IsNext, next_first, next_of, none_waits, past_last, sync_stores}
+use Rattle.urcu_lib.proofs.SyncSteps.{AreBelow, IsNext, base_is, entered_now, next_first, next_of, none_waits, past_last, sync_stores}
 use Rattle.fence_laws.proofs.Calls.{outside_of}
 use Rattle.fence_laws.proofs.GoingOn.{HasGoneOn, has_gone_on, return_keeps}
-use Rattle.fence_laws.proofs.WordLaw.{exec_drained}
+use Rattle.alone_laws.proofs.Steps.{word_same}
+use Rattle.fence_laws.proofs.WordLaw.{exec_drained, quiet_own}
 
 first_uses : (s : Setting) (u : Urcu) (first : ℕ) (since : List Event) (x : History) → AreUses s u first (since ++ x) → AreUses s u first x
 first_uses s u first [] x uses = uses
@@ -655,16 +656,76 @@ module _ (s : Setting) (u : Urcu) (first : ℕ) (blocks : AreBlocks (code_of s.p
     is_soon_over now n run uses (it_runs e before m executes_it of good was) le =
         at_end e before m run uses executes_it of was le (goes before m run.0 uses.0 (has_gone_on s e before run) was)
 
-  -- and where the last one is executed the thread's hart sees the new counter
+  -- THE COUNTER
+
+  -- one grace period of the thread in the block goes on
+  one_grace : (at t : ℕ) (r : SyncRegs) (grace other : History) → u.syncs at ≡ Some r → (now : History) → IsRunHistory s now → AreUses s u first now
+      → Always now → HasGoneOn now → IsGrace at t grace now → IsGrace at t other now → grace ≡ other
+  one_grace at t r grace other block now run uses all gone (calls e begins) (calls x again) = refl
+  one_grace at t r grace other block now run uses all gone (calls e begins) (waits x before was still) =
+      absurd ((orderly e before run uses all.0 (λ place thread its. gone.1)).once at t r other block was begins)
+  one_grace at t r grace other block now run uses all gone (waits e before was still) (calls x begins) =
+      absurd ((orderly e before run uses all.0 (λ place thread its. gone.1)).once at t r grace block was begins)
+  one_grace at t r grace other block now run uses all gone (waits e before was still) (waits x rest there goes) =
+      one_grace at t r grace other block before run.0 uses.0 all.0 gone.0 was there
+
+  -- where the call has returned the thread's hart sees what was stored last before it
+  seen_at_return : (at t : ℕ) (r : SyncRegs) → u.syncs at ≡ Some r → (e : Event) (before : History) → IsRunHistory s (e ∷ before) → AreUses s u first (e ∷ before)
+      → HasGoneOn (e ∷ before) → IsExecAt (at + 20) e → e.entry.tid.0 ≡ t → (grace : History) → IsGrace at t grace before
+      → word_at (seen_at s e.entry.hart.0 before) u.counter 8 ≡ Some (counted u.counter first grace)
+  seen_at_return at t r block e before run uses gone exec of grace on =
+      let all = always before run.0 uses.0 gone.0 in
+      let has = orderly e before run uses all (λ place thread its. gone.1) in
+      let acts_it = exec_of s e before (step_of s e before run) exec.executes in
+      let there : (file s e.entry.tid.0 before).pc ≡ at + 4 * 5 = acts_it.pc ∙ exec.pc in
+      let its = (sound before all).syncs at e.entry.tid.0 5 r block (omega arith) (omega arith) there in
+      let c = called_at s u first at e.entry.tid.0 (file s e.entry.tid.0 before).file before 5 refl its.stands in
+      let entered = entered_now s u first blocks at r block e before run has exec.executes its.gp its.slots c.0 in
+      let same = one_grace at t r grace c.0.grace block before run.0 uses.0 all gone.0 on (subst (λ n. IsGrace at n c.0.grace before) of c.0.on) in
+      seen_last u.counter s first before (sound before all).counter
+      (none_waits s u first blocks at r block e before run has exec.executes its.gp its.slots c.0 c.1 entered) e.entry.hart.0
+      ∙ ap Some (base_is s u first blocks at r block e before run has exec.executes its.gp its.slots c.0 c.1 ∙ ap (counted u.counter first) (sym same))
+
+  -- and where the last instruction is executed, the number above it
   pub counter_grown : (e : Event) (before : History) → IsRunHistory s (e ∷ before) → AreUses s u first (e ∷ before)
-      → (at t : ℕ) (r : SyncRegs) → u.syncs at ≡ Some r → IsGraceEnd at t e
-      → (grace : History) × IsGrace at t grace before × (word_at (seen_at s e.entry.hart.0 before) u.counter 8 ≡ Some (counted u.counter first grace + 1))
-  counter_grown e before run uses at t r block ends =
+      → (at t : ℕ) (r : SyncRegs) → u.syncs at ≡ Some r → IsGraceEnd at t e → IsCounterGrown s u at t e before
+  counter_grown e before run uses at t r block ends grace back next later n on began parts exec of saw =
       let acts_it = exec_of s e before (step_of s e before run) ends.exec.executes in
+      let gone = has_gone_on s e before run in
+      let all = always before run.0 uses.0 gone in
       let over = over_at s u first at t (file s t before).file before 16 refl (at_last e before run uses at t r block ends).stands in
-      let c = (sound before (sound_before e before run uses.0)).counter in
-      (over.0.opened.grace, over.0.opened.on, by_hart c over.0 (acts_it.runs ∙ ap Some ends.of) (cases_eq c.hart e.entry.hart.0) ∙ ap Some over.0.count)
+      let c = (sound before all).counter in
+      let same = one_grace at t r grace over.0.opened.grace block before run.0 uses.0 all gone on over.0.opened.on in
+      let run_next = first_run s later (next ∷ back) (subst (IsRunHistory s) parts run.0) in
+      let uses_next = first_uses s u first later (next ∷ back) (subst (AreUses s u first) parts uses.0) in
+      let gone_next = first_gone later (next ∷ back) (subst HasGoneOn parts gone) in
+      let value : n ≡ counted u.counter first grace = same_number (sym saw ∙ seen_at_return at t r block next back run_next uses_next gone_next exec of grace began) in
+      let quiet = is_quiet_last uses.1.counter all in
+      word_same (counter_bytes u) (seen_at s e.entry.hart.0 (e ∷ before)) (seen_at s e.entry.hart.0 before)
+      (λ a has. ap Some (quiet_own (counter_bytes u) s e before run quiet a has)) u.counter 8 (in_word u.counter)
+      ∙ by_hart c over.0 (acts_it.runs ∙ ap Some ends.of) (cases_eq c.hart e.entry.hart.0) ∙ ap Some over.0.count
+      ∙ ap (λ m. Some (m + 1)) (ap (counted u.counter first) (sym same) ∙ sym value)
     where
+      same_number : {a b : ℕ} → Some a ≡ Some b → a ≡ b
+      same_number is = cc
+
+      first_gone : (since : List Event) (x : History) → HasGoneOn (since ++ x) → HasGoneOn x
+      first_gone [] x gone = gone
+      first_gone (y ∷ since) x gone = first_gone since x gone.0
+
+      is_quiet_last : IsQuiet (counter_bytes u) e ⊎ IsSyncStore u e → Always before → IsQuiet (counter_bytes u) e
+      is_quiet_last (inl quiet) all = quiet
+      is_quiet_last (inr x) all =
+          let of = exec_of s e before (step_of s e before run) x.exec.executes in
+          let place : (file s e.entry.tid.0 before).pc ≡ x.place + 4 * 7 = of.pc ∙ x.exec.pc in
+          let its = (sound before all).syncs x.place e.entry.tid.0 7 x.regs x.block (omega arith) (omega arith) place in
+          let last = at_last e before run uses at t r block ends in
+          let same = (one_syncs s u first at t x.place e.entry.tid.0 r x.regs last.begun its.begun block x.block before uses.0 last.on its.on).0 in
+          let first_pc = x.exec.pc in
+          let last_pc = ends.exec.pc in
+          let no : ⊥ = omega arith in
+          absurd no
+
       by_hart : (c : IsCounter u.counter s first before) (p : IsPast s u first at t (file s t before).file before) → running s e.entry.hart.0 before ≡ Some t
           → (c.hart ≡ e.entry.hart.0) ⊎ (c.hart ≢ e.entry.hart.0) → word_at (seen_at s e.entry.hart.0 before) u.counter 8 ≡ Some (counted u.counter first before)
       by_hart c p runs_it (inl same) = ap (λ h. word_at (seen_at s h before) u.counter 8) (sym same) ∙ c.seen

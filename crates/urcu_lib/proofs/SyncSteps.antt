@@ -256,7 +256,7 @@ module _ (s : Setting) (u : Urcu) (first : ℕ) (blocks : AreBlocks (code_of s.p
   stores_not k pc other same exec = let p = exec.pc in other (omega arith)
 
   -- what was executed before the call has entered memory
-  entered_now : (o : IsOpen s u first at t before) → HaveEntered o.grace before
+  pub entered_now : (o : IsOpen s u first at t before) → HaveEntered o.grace before
   entered_now o =
       let run_there : IsRunHistory s (e ∷ o.since ++ o.call ∷ o.grace) = subst (λ (b : History). IsRunHistory s (e ∷ b)) o.parts run in
       let run_call = first_run s o.since (o.call ∷ o.grace) run_there.0 in

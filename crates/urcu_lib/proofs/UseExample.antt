@@ -75,6 +75,9 @@ layout = record {
   sync = sync_regs;
 }
 
+abbrev pub urcu : Urcu
+urcu = urcu_of layout
+
 abbrev line : ℕ → Choice → Ask
 line h choice = record { hart = record { 0 = h }; choice = choice; check = None }
 

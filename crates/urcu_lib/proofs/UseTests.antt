@@ -496,8 +496,8 @@ module _ (s : Setting) (x : Layout) (first : ℕ) where
       where
         by_pair : comes e before p.0 p.1.pc ≡ true → (file_among ps t g ≡ g) ⊎ (comes e before t (file_among ps t g).pc ≡ true) → (b : Bool) → eqb p.0 t ≡ b
             → (cond b p.1 (file_among ps t g) ≡ g) ⊎ (comes e before t (cond b p.1 (file_among ps t g)).pc ≡ true)
-        by_pair one rest true same = inr (subst (λ n. comes e before n p.1.pc ≡ true) (eqb-true p.0 t same) one)
-        by_pair one rest false other = rest
+        by_pair its rest true same = inr (subst (λ n. comes e before n p.1.pc ≡ true) (eqb-true p.0 t same) its)
+        by_pair its rest false other = rest
 
     acts_it : (count at t kept : ℕ) → acts_in count at e t ≡ true → HasCome s at count kept t e before
     acts_it count at t kept is =

@@ -9,8 +9,7 @@ use Rattle.block_model.specs.History.{Event, History, file}
 use Rattle.block_model.specs.Setting.{Setting}
 use Rattle.alone_laws.specs.Spans.{seen_at}
 use Rattle.urcu_lib.specs.Blocks.{Urcu}
-use Rattle.urcu_lib.specs.Sections.{IsGrace, IsGraceEnd}
-use Rattle.urcu_lib.specs.Uses.{counted}
+use Rattle.urcu_lib.specs.Sections.{IsExecAt, IsGrace, IsGraceEnd}
 
 -- its barrier returns
 pub record HasReturned (s : Setting) (at t : ℕ) (e : Event) (before : History) : Type 0 where
@@ -42,8 +41,11 @@ pub record HasFinished (s : Setting) (at t most : ℕ) (begun now : History) : T
   pub run : Runs s at t begun rest executed
   pub few : executed < most
 
--- the hart of an event sees the counter 1 above what it was where a grace period began that goes on
-pub record IsCounterGrown (s : Setting) (u : Urcu) (first at t : ℕ) (e : Event) (before : History) : Type 0 where
-  pub grace : History
-  pub on : IsGrace at t grace before
-  pub grown : word_at (seen_at s e.entry.hart.0 before) u.counter 8 ≡ Some (counted u.counter first grace + 1)
+-- after an event its hart sees the counter 1 above what the thread's hart saw where the call of the grace period that goes
+-- on had returned: before the thread executed the instruction behind the call
+abbrev pub IsCounterGrown : Setting → Urcu → ℕ → ℕ → Event → History → Type 0
+IsCounterGrown s u at t e before =
+    (grace back : History) (next : Event) (later : List Event) (n : ℕ) → IsGrace at t grace before → IsGrace at t grace back
+    → before ≡ later ++ next ∷ back → IsExecAt (at + 20) next → next.entry.tid.0 ≡ t
+    → word_at (seen_at s next.entry.hart.0 back) u.counter 8 ≡ Some n
+    → word_at (seen_at s e.entry.hart.0 (e ∷ before)) u.counter 8 ≡ Some (n + 1)

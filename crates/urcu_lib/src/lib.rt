@@ -16,4 +16,4 @@ pub use fault::RcuFault;
 pub use reads::{emit_read_lock, emit_read_unlock};
 pub use regs::{ReadRegs, SyncRegs};
 pub use syncs::emit_sync;
-pub use theorems::{sections_end_before_grace_periods, sync_is_soon_over};
+pub use theorems::{sections_end_before_grace_periods, sync_blocks_are_used, sync_is_soon_over};
