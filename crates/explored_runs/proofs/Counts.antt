@@ -11,7 +11,12 @@ use Rattle.explored_runs.specs.declared.explored.Others.{Others}
 use Rattle.explored_runs.specs.declared.made.Made.{Made}
 use Rattle.explored_runs.specs.declared.tallies.Tally.{Tally}
 use Rattle.explored_runs.specs.Accounts.{Account, IsWithin, came_to, counted, first_of, found_after, is_full, is_known, told, with_other}
-use Rattle.explored_runs.specs.Tallies.{IsShort, harts_in, is_preempt, ran_on, switches_from, switches_in, tally_of}
+use Rattle.block_model.specs.Deciding.{history}
+use Rattle.block_model.specs.History.{History}
+use Rattle.block_model.specs.Setting.{Setting}
+use Rattle.block_model.proofs.Laws.{length-history}
+use Rattle.drawn_machine.specs.Preemptions.{is_preempt, leaves_inside, left_inside}
+use Rattle.explored_runs.specs.Tallies.{IsShort, harts_in, ran_on, switches_from, switches_in, tally_of}
 use Rattle.explored_runs.proofs.Outcomes.{once_more}
 
 -- of one run
@@ -37,12 +42,24 @@ few_switches : (log : List Entry) → switches_in log ≤ length log
 few_switches [] = omega arith
 few_switches (e ∷ log) = let rest = few_switches_from e.hart.0 log in omega arith
 
-pub short_tally : (harts : ℕ) (log : List Entry) (t : Tally) → t ≡ tally_of harts log → harts ≤ 8 → length log ≤ 1000000 → IsShort t
-short_tally harts log t is few short =
-    let tally : IsShort (tally_of harts log) = record {
-      harts = (let h = few_harts log harts in omega arith);
+few_inside : (s : Setting) (before : History) → left_inside s before ≤ length before
+few_inside s [] = omega arith
+few_inside s (e ∷ before) =
+    let rest = few_inside s before in
+    let one = one_more (leaves_inside s before e.entry.hart.0 e.entry.kind) in
+    omega arith
+
+pub short_inside : (s : Setting) (log : List Entry) → length log ≤ 1000000 → left_inside s (history s log) ≤ 1000000
+short_inside s log short = omega (arith, short, few_inside s (history s log), length-history s log)
+
+pub short_tally : (s : Setting) (log : List Entry) (t : Tally) → t ≡ tally_of s log → s.limits.harts ≤ 8 → length log ≤ 1000000
+    → IsShort t
+short_tally s log t is few short =
+    let tally : IsShort (tally_of s log) = record {
+      harts = (let h = few_harts log s.limits.harts in omega arith);
       switches = (let n = few_switches log in omega arith);
       preemptions = omega (arith, count_by-le-length (λ (e : Entry). is_preempt e.kind) log);
+      inside = short_inside s log short;
     } in
     subst IsShort (sym is) tally
 
@@ -109,4 +126,5 @@ within_told a m within short = record {
   harts = few_runs a.runs a.tried.harts m.tally.harts within.harts;
   switches = omega (arith, within.switches, short.switches);
   preemptions = omega (arith, within.preemptions, short.preemptions);
+  inside = omega (arith, within.inside, short.inside);
 }

@@ -23,7 +23,7 @@ run seed console end = record {
   steps = 100;
   console = console;
   end = end;
-  tally = record { harts = 2; switches = 5; preemptions = 1 };
+  tally = record { harts = 2; switches = 5; preemptions = 1; inside = 1 };
 }
 
 abbrev three : Account
@@ -32,13 +32,13 @@ three = fold told nothing (run 7 (codes "ab") (Exit 0) ∷ run 8 (codes "ab") St
 text_of_three : explored_text ByText three
     ≡ codes "outcomes 2\nruns 2 seed 7 policy short steps 100\nconsole 2\nab\nend exit 0\n"
     ++ codes "runs 1 seed 8 policy short steps 100\nconsole 2\nab\nend stuck\n"
-    ++ codes "runs 3\nharts 2 3\nswitches 15\npreemptions 3\n"
+    ++ codes "runs 3\nharts 2 3\nswitches 15\npreemptions 3 inside 3\n"
 unfolding explored_text digits
 text_of_three = refl
 
 -- by their ends alone, and with others
 text_with_others : explored_text ByEnd (record three { others = Some (record { runs = 4; seed = 10 }) })
     ≡ codes "outcomes 2\nruns 2 seed 7 policy short steps 100\nend exit 0\nruns 1 seed 8 policy short steps 100\nend stuck\n"
-    ++ codes "others 4 seed 10\nruns 3\nharts 2 3\nswitches 15\npreemptions 3\n"
+    ++ codes "others 4 seed 10\nruns 3\nharts 2 3\nswitches 15\npreemptions 3 inside 3\n"
 unfolding explored_text digits
 text_with_others = refl

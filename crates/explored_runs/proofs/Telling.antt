@@ -21,7 +21,7 @@ short_log s m seen limits whole =
 
 pub short_run : (s : Setting) (x : Exploration) (place : ℕ) (m : Made) → InRange s.limits → IsMadeAt s x place m → IsShort m.tally
 short_run s x place m limits made =
-    short_tally s.limits.harts made.log m.tally (ap (λ (n : Made). n.tally) made.made) limits.eight_harts
+    short_tally s made.log m.tally (ap (λ (n : Made). n.tally) made.made) limits.eight_harts
     (let steps = within_limit s made.log made.run.block_run in omega (arith, limits.most_steps))
 
 -- an exploration goes on by the run of the next place

@@ -25,7 +25,7 @@ nothing = record {
   found = [];
   others = None;
   runs = 0;
-  tried = record { harts = replicate 9 0; switches = 0; preemptions = 0 };
+  tried = record { harts = replicate 9 0; switches = 0; preemptions = 0; inside = 0 };
 }
 
 -- whether two ends are one
@@ -71,12 +71,14 @@ with_other m (Some others) = record others { runs = others.runs + 1 }
 abbrev pub others_after : Made → List Found → Option Others → Option Others
 others_after m found others = if is_known m found then others else if is_full found then Some (with_other m others) else others
 
--- how many runs had threads on exactly so many harts, with one run more; and the sums of the switches and of the preemptions
+-- how many runs had threads on exactly so many harts, with one run more; and the sums of the switches, of the preemptions, and of
+-- those inside sequences
 abbrev pub tried_after : Tally → Tried → Tried
 tried_after t tried = record {
   harts = slice_set tried.harts t.harts (slice_index tried.harts t.harts + 1);
   switches = tried.switches + t.switches;
   preemptions = tried.preemptions + t.preemptions;
+  inside = tried.inside + t.inside;
 }
 
 -- what is told after one run more
@@ -95,6 +97,7 @@ pub record IsWithin (a : Account) : Type 0 where
   pub harts : All (λ (runs : ℕ). runs ≤ a.runs) a.tried.harts
   pub switches : a.tried.switches ≤ 1000000 * a.runs
   pub preemptions : a.tried.preemptions ≤ 1000000 * a.runs
+  pub inside : a.tried.inside ≤ 1000000 * a.runs
 
 -- whether as many outcomes were found as were asked for
 abbrev pub has_enough : Option ℕ → Account → Bool

@@ -26,7 +26,7 @@ made_by apart manner s log = record {
   steps = length log;
   console = kept apart (console s (history s log));
   end = end_of s (history s log);
-  tally = tally_of s.limits.harts log;
+  tally = tally_of s log;
 }
 
 -- a run was drawn as that of its place, and this is what it came to

@@ -1,9 +1,13 @@
--- What was tried in a run (own): on how many harts threads ran, how often another hart went on, and how often a thread was preempted.
+-- What was tried in a run (own): on how many harts threads ran, how often another hart went on, and how often a thread was preempted,
+-- and inside a restartable sequence.
 use Rattle.std.specs.Prelude.{ℕ, zero, suc, ◌≤◌, ◌+◌, ◌==◌, ◌&&◌, Bool, true, false, List, [], ◌∷◌, count_by, if◌then◌else◌}
 use Rattle.std.specs.List.{list_any}
 use Rattle.mach_types.specs.declared.events.Entry.{Entry}
 use Rattle.mach_types.specs.declared.events.Kind.{Kind}
 use Rattle.mach_types.specs.declared.events.Kind.TheVariants as kind
+use Rattle.block_model.specs.Deciding.{history}
+use Rattle.block_model.specs.Setting.{Setting}
+use Rattle.drawn_machine.specs.Preemptions.{is_preempt, left_inside}
 use Rattle.explored_runs.specs.declared.tallies.Tally.{Tally}
 
 -- whether a thread begins to run by an event of this kind
@@ -15,16 +19,6 @@ is_run kind.Done = false
 is_run kind.Preempt = false
 is_run kind.Run = true
 is_run kind.Signal = false
-
--- whether a thread leaves its hart by one
-abbrev pub is_preempt : Kind → Bool
-is_preempt kind.Exec = false
-is_preempt kind.Drain = false
-is_preempt kind.Take = false
-is_preempt kind.Done = false
-is_preempt kind.Preempt = true
-is_preempt kind.Run = false
-is_preempt kind.Signal = false
 
 -- whether a thread began to run on hart h
 abbrev pub ran_on : ℕ → List Entry → Bool
@@ -53,11 +47,17 @@ pub record IsShort (t : Tally) : Type 0 where
   pub harts : t.harts ≤ 8
   pub switches : t.switches ≤ 1000000
   pub preemptions : t.preemptions ≤ 1000000
+  pub inside : t.inside ≤ 1000000
 
--- what was tried in a run on so many harts
-abbrev pub tally_of : ℕ → List Entry → Tally
-tally_of harts log = record {
+-- what was tried in a run on so many harts, where so often a thread left its hart inside a sequence
+abbrev pub tally_with : ℕ → List Entry → ℕ → Tally
+tally_with harts log inside = record {
   harts = harts_in log harts;
   switches = switches_in log;
   preemptions = preemptions_in log;
+  inside = inside;
 }
+
+-- what was tried in a run
+abbrev pub tally_of : Setting → List Entry → Tally
+tally_of s log = tally_with s.limits.harts log (left_inside s (history s log))

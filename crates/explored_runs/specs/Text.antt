@@ -39,9 +39,14 @@ harts_fields h [] = []
 harts_fields h (runs ∷ more) =
     if runs == 0 then harts_fields (h + 1) more else decimal h ∷ decimal runs ∷ harts_fields (h + 1) more
 
+-- `preemptions N inside M`: how often a thread left its hart, and how often inside a restartable sequence
+abbrev pub preemptions_line : ℕ → ℕ → List ℕ
+preemptions_line preemptions inside =
+    line (codes "preemptions") (decimal preemptions ∷ codes "inside" ∷ decimal inside ∷ [])
+
 -- the whole text
 unfoldable pub explored_text : Apart → Account → List ℕ
 explored_text apart a =
     number_line (codes "outcomes") (length a.found) ++ flat_map (found_text apart) a.found ++ others_text a.others
     ++ number_line (codes "runs") a.runs ++ line (codes "harts") (harts_fields 0 a.tried.harts)
-    ++ number_line (codes "switches") a.tried.switches ++ number_line (codes "preemptions") a.tried.preemptions
+    ++ number_line (codes "switches") a.tried.switches ++ preemptions_line a.tried.preemptions a.tried.inside

@@ -4,17 +4,17 @@ ghost use Rattle.std.specs.Prelude.{◌≡◌, ◌≤◌, length, IfOk};
 ghost use Rattle.mach_types.specs.Limits.{InRange};
 ghost use Rattle.elf_load.specs.Images.{IsBootable};
 ghost use Rattle.block_model.specs.Setting.{setting_of};
+ghost use Rattle.drawn_machine.specs.Preemptions.{left_inside_in};
 ghost use Rattle.explored_runs.specs.Made.{IsMadeAt, kept, made_by};
 
 use crate::exploration::{Apart, Exploration};
 use crate::printed::Printed;
 use crate::tallies::Tally;
 use draw_policies::Policy;
-use drawn_machine::run_drawn;
+use drawn_machine::{DrawnRun, run_drawn};
 use drawn_runs::Manner;
 use elf_load::Image;
 use mach_types::{End, Limits};
-use machine_core::Machine;
 use std::alloc::{AllocError, Global};
 
 /// What one run came to.
@@ -47,22 +47,25 @@ pub(crate) fn make_run(
     ensures { IfOk result (IsMadeAt (setting_of image.now limits) exploration.now place) }
 {
     let manner = exploration.manner(place, limits.steps);
-    let machine = run_drawn(alloc, image, limits, &manner)?;
-    made_by(alloc, exploration.apart, &manner, &machine)
+    let run = run_drawn(alloc, image, limits, &manner)?;
+    made_by(alloc, exploration.apart, &manner, &run)
 }
 
-/// What a run in this manner came to, at whose end a machine is.
+/// What a run in this manner came to.
 fn made_by(
     alloc: Global,
     apart: Apart,
     manner: &Manner,
-    machine: &Machine,
+    run: &DrawnRun,
 ) -> Result<Made, AllocError>
-    requires harts { machine.now.setting.limits.harts ≤ 8 }
-    requires log { length machine.now.log ≤ 1000000 }
+    requires harts { run.now.machine.setting.limits.harts ≤ 8 }
+    requires log { length run.now.machine.log ≤ 1000000 }
+    requires inside { run.now.left_inside ≡ left_inside_in run.now.machine }
+    requires few { run.now.left_inside ≤ 1000000 }
     ensures { IfOk result
-        (λ made. made ≡ made_by apart manner.now machine.now.setting machine.now.log) }
+        (λ made. made ≡ made_by apart manner.now run.now.machine.setting run.now.machine.log) }
 {
+    let machine = &run.machine;
     let log = machine.log();
     Ok(Made {
         seed: manner.seed,
@@ -70,7 +73,7 @@ fn made_by(
         steps: log.len() as u32,
         console: Printed::copied(alloc, kept(apart, machine.console()))?,
         end: machine.end(),
-        tally: Tally::of(machine.harts(), log),
+        tally: Tally::of(machine.harts(), log, run.left_inside),
     })
 }
 

@@ -9,6 +9,8 @@ pub(crate) struct Tally {
     pub(crate) switches: u64,
     /// How often a thread was preempted.
     pub(crate) preemptions: u64,
+    /// How often inside a restartable sequence.
+    pub(crate) inside: u64,
 }
 
 /// What was tried in all runs.
@@ -20,4 +22,6 @@ pub struct Tried {
     pub switches: u64,
     /// How often a thread was preempted.
     pub preemptions: u64,
+    /// How often inside a restartable sequence.
+    pub inside: u64,
 }

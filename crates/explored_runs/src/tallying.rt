@@ -2,23 +2,25 @@
 
 ghost use Rattle.std.specs.Prelude.{◌≡◌, ◌≤◌, ◌<◌, ◌^◌, length, All};
 ghost use Rattle.explored_runs.specs.Accounts.{nothing, tried_after};
-ghost use Rattle.explored_runs.specs.Tallies.{IsShort, harts_in, preemptions_in, ran_on, switches_from, switches_in, tally_of};
+ghost use Rattle.explored_runs.specs.Tallies.{IsShort, harts_in, preemptions_in, ran_on, switches_from, switches_in, tally_with};
 
 use crate::tallies::{Tally, Tried};
 use mach_types::{Entry, Hart, Kind};
 
 impl Tally {
-    /// What was tried in the run of a log, on so many harts.
-    pub(crate) fn of(harts: u8, log: &[Entry]) -> Tally
+    /// What was tried in the run of a log, on so many harts, where so often a thread was preempted inside a sequence.
+    pub(crate) fn of(harts: u8, log: &[Entry], inside: u32) -> Tally
         requires harts { harts ≤ 8 }
         requires log { length log.now ≤ 1000000 }
-        ensures is { result ≡ tally_of harts log.now }
+        requires inside { inside ≤ 1000000 }
+        ensures is { result ≡ tally_with harts log.now inside }
         ensures short { IsShort result }
     {
         Tally {
             harts: harts_of(harts, log),
             switches: switches(log) as u64,
             preemptions: preemptions(log) as u64,
+            inside: u64::from(inside),
         }
     }
 }
@@ -87,6 +89,7 @@ impl Tried {
             harts: [0; 9],
             switches: 0,
             preemptions: 0,
+            inside: 0,
         }
     }
 
@@ -96,10 +99,12 @@ impl Tried {
         requires harts { All (λ runs. runs < 2 ^ 63) self.old.harts }
         requires switches { self.old.switches < 2 ^ 63 }
         requires preemptions { self.old.preemptions < 2 ^ 63 }
+        requires inside { self.old.inside < 2 ^ 63 }
         ensures { self.new ≡ tried_after tally self.old }
     {
         self.harts[tally.harts as usize] += 1;
         self.switches += tally.switches;
         self.preemptions += tally.preemptions;
+        self.inside += tally.inside;
     }
 }

@@ -5,10 +5,11 @@ ghost use Rattle.std.specs.List.{flat_map};
 ghost use Rattle.place_text.specs.Ends.{number_line};
 ghost use Rattle.place_text.specs.Fields.{behind, line};
 ghost use Rattle.explored_runs.specs.Accounts.{account_of};
-ghost use Rattle.explored_runs.specs.Text.{console_part, explored_text, found_line, found_text, harts_fields, others_text};
+ghost use Rattle.explored_runs.specs.Text.{console_part, explored_text, found_line, found_text, harts_fields, others_text, preemptions_line};
 
 use crate::exploration::Apart;
 use crate::explored::{Explored, Found, Others};
+use crate::tallies::Tried;
 use place_text::fields::{begin_line, push_named_number, push_number, push_word};
 use place_text::push_end;
 use std::alloc::{AllocError, Global};
@@ -31,7 +32,7 @@ pub fn explored_text(
     push_count(&mut text, b"runs", explored.runs)?;
     push_harts(&mut text, &explored.tried.harts)?;
     push_count(&mut text, b"switches", explored.tried.switches)?;
-    push_count(&mut text, b"preemptions", explored.tried.preemptions)?;
+    push_preemptions(&mut text, explored.tried)?;
     Ok(text)
 }
 
@@ -40,6 +41,17 @@ fn push_count(text: &mut Vec<u8>, word: &[u8], count: u64) -> Result<(), AllocEr
     ensures { OnOk result (text.new.items ≡ text.old.items ++ number_line word.now count) }
 {
     begin_line(text, word, count)?;
+    text.push(b'\n')?;
+    Ok(())
+}
+
+/// Appends how often a thread left its hart, and how often inside a restartable sequence.
+fn push_preemptions(text: &mut Vec<u8>, tried: Tried) -> Result<(), AllocError>
+    ensures { OnOk result
+        (text.new.items ≡ text.old.items ++ preemptions_line tried.preemptions tried.inside) }
+{
+    begin_line(text, b"preemptions", tried.preemptions)?;
+    push_named_number(text, b"inside", tried.inside)?;
     text.push(b'\n')?;
     Ok(())
 }

@@ -20,6 +20,7 @@ needs_by program words.Rule limits = Program program limits
 needs_by program (words.Script name) limits = Script program name limits
 needs_by program (words.Workers seed) limits = Program program limits
 needs_by program (words.Drawn seed draws) limits = Program program limits
+needs_by program (words.DrawnAfter name seed draws) limits = Script program name limits
 
 -- what a command needs
 abbrev pub needs_of : Option words.Command → Needs

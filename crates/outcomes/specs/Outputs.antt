@@ -1,6 +1,6 @@
 -- The output of a command: what it shows of a whole run of its program, the file of its guest, the text of its trial, or that
 -- of its exploration.
-use Rattle.std.specs.Prelude.{ℕ, ◌≡◌, List, Option, Some, None, Ok, map}
+use Rattle.std.specs.Prelude.{ℕ, ◌≡◌, ◌++◌, List, Option, Some, None, Ok, length, map}
 use Rattle.std.specs.List.{flat_map}
 use Rattle.mach_types.specs.declared.events.Entry.{Entry}
 use Rattle.mach_types.specs.declared.limits.End.{End}
@@ -11,14 +11,15 @@ use Rattle.block_model.specs.History.{console}
 use Rattle.block_model.specs.Deciding.{history, end_of}
 use Rattle.block_model.specs.Plain.{PlainRun, plain_end, plain_run, plain_solo}
 use Rattle.block_model.specs.Replay.{Ask, script_of}
-use Rattle.drawn_runs.specs.Manners.{manner_for}
+use Rattle.drawn_runs.specs.Manners.{manner_behind, manner_for}
 use Rattle.drawn_runs.specs.WholeRuns.{IsDrawnRun}
 use Rattle.block_view.specs.Acts.{acts_of}
 use Rattle.log_gather.specs.Gathered.{gathered}
 use Rattle.place_text.specs.Place.{place_text}
+use Rattle.command_words.specs.declared.commands.Draws.{Draws}
 use Rattle.command_words.specs.declared.table.Shown.{Shown}
 use Rattle.command_words.specs.declared.table.Shown.TheVariants as shows
-use Rattle.command_words.specs.Commands.{Command, Run, Runs, Makes, Tries, Explores, Source, Rule, Script, Workers, Drawn}
+use Rattle.command_words.specs.Commands.{Command, Run, Runs, Makes, Tries, Explores, Source, Rule, Script, Workers, Drawn, DrawnAfter}
 use Rattle.command_words.specs.Words.{command_of}
 use Rattle.outcomes.specs.Explorations.{IsExploreOutput}
 use Rattle.outcomes.specs.Guests.{IsGuestOutput, IsPlainTrialOutput, IsTrialOutput}
@@ -57,12 +58,23 @@ pub record IsScriptRun (files : Files) (name : List ℕ) (s : Setting) (log : Li
   pub read : IsScript files name lines
   pub run : IsPlayedRun s lines log
 
+-- a run by the lines of the script of this name made the first entries of a log, and those behind them are drawn
+pub record IsDrawnAfter
+    (files : Files) (name : List ℕ) (seed : ℕ) (draws : Draws) (s : Setting) (log : List Entry) : Type 0 where
+  pub first : List Entry
+  pub script : IsScriptRun files name s first
+  pub more : List Entry
+  pub whole : log ≡ first ++ more
+  pub drawn : IsDrawnRun s
+      (manner_behind (length first) (manner_for draws.policies draws.calm seed s.limits.steps)) log
+
 -- a log came about in this way
 abbrev pub IsLogOf : Files → Source → Setting → List Entry → Type 0
 IsLogOf files Rule s log = IsSoloRun s log
 IsLogOf files (Script name) s log = IsScriptRun files name s log
 IsLogOf files (Workers seed) s log = IsChosenRun s seed log
 IsLogOf files (Drawn seed draws) s log = IsDrawnRun s (manner_for draws.policies draws.calm seed s.limits.steps) log
+IsLogOf files (DrawnAfter name seed draws) s log = IsDrawnAfter files name seed draws s log
 
 -- the program of this name was taken, and a machine is at the end of a run of this image, whose log came about in
 -- this way
@@ -126,6 +138,7 @@ IsPlainRunOf files Rule s run = run ≡ plain_solo s s.limits.steps
 IsPlainRunOf files (Script name) s run = IsPlainScriptRun files name s run
 IsPlainRunOf files (Workers seed) s run = IsPlainRunOver s (IsChosenRun s seed) run
 IsPlainRunOf files (Drawn seed draws) s run = IsPlainRunOver s (IsDrawnRun s (manner_for draws.policies draws.calm seed s.limits.steps)) run
+IsPlainRunOf files (DrawnAfter name seed draws) s run = IsPlainRunOver s (IsDrawnAfter files name seed draws s) run
 
 -- what the plain machine prints of a run that is asked for
 pub record IsPlainRunOutput (files : Files) (asked : Run) (written : List ℕ) : Type 0 where

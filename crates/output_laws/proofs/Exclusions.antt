@@ -109,6 +109,8 @@ used_by_run files program limits (words.Script name) image log taken made =
     (image, made.lines, log, taken, made.read, made.run)
 used_by_run files program limits (words.Workers seed) image log taken made = (image, taken)
 used_by_run files program limits (words.Drawn seed draws) image log taken made = (image, taken)
+used_by_run files program limits (words.DrawnAfter name seed draws) image log taken made =
+    (image, made.script.lines, made.first, taken, made.script.read, made.script.run)
 
 pub used_by_output : (files : Files) (command : Option words.Command) (written : List ℕ)
     → IsOutputOf files command written → AreUsed files (needs_of command)

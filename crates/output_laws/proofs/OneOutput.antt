@@ -1,23 +1,28 @@
 -- Told files have one output.
-use Rattle.std.proofs.Common.{◌≡◌, ℕ, List, [], ◌∷◌, refl, sym, ap, ◌∙◌, subst, ap₂, Option, Some, None, Ok}
+use Rattle.std.proofs.Common.{◌≡◌, ℕ, List, [], ◌∷◌, ◌++◌, length, refl, sym, ap, ◌∙◌, subst, ap₂, Option, Some, None, Ok}
 use Rattle.std.proofs.Common.{arith, false, map}
 use Rattle.std.specs.Prelude.{IsSome, IfSome}
+use Rattle.mach_types.specs.declared.events.Entry.{Entry}
 use Rattle.mach_types.specs.declared.limits.Limits.{Limits}
 use Rattle.elf_load.specs.declared.image.Image.{Image}
 use Rattle.elf_load.specs.Images.{IsImage}
 use Rattle.block_model.specs.Plain.{PlainRun, plain_run}
-use Rattle.block_model.specs.Replay.{Ask, script_of}
+use Rattle.block_model.specs.Replay.{Ask, played_read, script_of}
 use Rattle.block_model.specs.Setting.{Setting, setting_of}
-use Rattle.block_model.proofs.Laws.{one_setting}
-use Rattle.drawn_runs.specs.Manners.{manner_for}
+use Rattle.block_model.proofs.Laws.{one_setting, played_read-all, run_is_played}
+use Rattle.drawn_runs.specs.Manners.{manner_behind, manner_for}
+use Rattle.drawn_runs.specs.WholeRuns.{IsDrawnRun}
+use Rattle.drawn_runs.specs.declared.manner.Manner.{Manner}
 use Rattle.drawn_runs.proofs.Laws.{goes_on_alike}
+use Rattle.command_words.specs.declared.commands.Draws.{Draws}
 use Rattle.command_words.specs.Commands as words
 use Rattle.explored_runs.specs.Explored.{IsExploredAs}
 use Rattle.explored_runs.specs.Text.{explored_text}
 use Rattle.outcomes.specs.Explorations.{apart_of, exploration_of}
 use Rattle.outcomes.specs.Needs.{Needs, Nothing, Program, Script, Guest, needs_by, needs_of}
-use Rattle.outcomes.specs.Outputs.{IsOutputOf, IsPlainOutputOf, IsPlainRunOf, plain_text, setting_for}
+use Rattle.outcomes.specs.Outputs.{IsDrawnAfter, IsOutputOf, IsPlainOutputOf, IsPlainRunOf, plain_text, setting_for}
 use Rattle.outcomes.specs.Programs.{Files, IsProgram, asks_of}
+use Rattle.outcomes.specs.Runs.{IsPlayedRun}
 use Rattle.outcomes.specs.Told.{AreTold, TellsGoodFiles}
 use Rattle.output_laws.proofs.Exclusions.{AreUsed, used_by_output}
 use Rattle.output_laws.proofs.OneExploration.{one_account}
@@ -55,6 +60,40 @@ program_told files program words.Rule limits told = told
 program_told files program (words.Script name) limits told = told.0
 program_told files program (words.Workers seed) limits told = told
 program_told files program (words.Drawn seed draws) limits told = told
+program_told files program (words.DrawnAfter name seed draws) limits told = told.0
+
+-- a script makes one log
+played_to : (s : Setting) (text : List ℕ) (log : List Entry) → IsPlayedRun s text log → played_read s (asks_of text) ≡ Ok log
+played_to s text log run =
+    ap (played_read s) run.readable ∙ played_read-all s run.lines
+    ∙ run_is_played s run.lines log run.block_run run.answers
+
+one_played : (s : Setting) (text : List ℕ) (a b : List Entry) → IsPlayedRun s text a → IsPlayedRun s text b → a ≡ b
+one_played s text a b one other =
+    let first = played_to s text a one in
+    let second = played_to s text b other in
+    cc
+
+-- behind which one is drawn
+abbrev behind : Draws → ℕ → Setting → List Entry → Manner
+behind draws seed s first = manner_behind (length first) (manner_for draws.policies draws.calm seed s.limits.steps)
+
+one_drawn_after : (files : Files) (name : List ℕ) (seed : ℕ) (draws : Draws) (s : Setting) (a b : List Entry)
+    → IsSome (files name) → IsDrawnAfter files name seed draws s a → IsDrawnAfter files name seed draws s b → a ≡ b
+one_drawn_after files name seed draws s a b told one other =
+    let text = one_reading (files name) one.script.lines other.script.lines told one.script.read.read other.script.read.read in
+    let begun : one.first ≡ other.first =
+    one_played s other.script.lines one.first other.first
+    (subst (λ (t : List ℕ). IsPlayedRun s t one.first) text one.script.run) other.script.run in
+    let whole : IsDrawnRun s (behind draws seed s one.first) (one.first ++ one.more) =
+    subst (λ (l : List Entry). IsDrawnRun s (behind draws seed s one.first) l) one.whole one.drawn in
+    let moved : IsDrawnRun s (behind draws seed s other.first) (other.first ++ one.more) =
+    subst (λ (l : List Entry). IsDrawnRun s (behind draws seed s l) (l ++ one.more)) begun whole in
+    let beside : IsDrawnRun s (behind draws seed s other.first) (other.first ++ other.more) =
+    subst (λ (l : List Entry). IsDrawnRun s (behind draws seed s other.first) l) other.whole other.drawn in
+    let rest : one.more ≡ other.more =
+    goes_on_alike s (behind draws seed s other.first) other.first one.more other.more (omega arith) moved beside in
+    one.whole ∙ ap₂ (λ (x y : List Entry). x ++ y) begun rest ∙ sym other.whole
 
 -- without workers it is run in one way
 one_run : (files : Files) (program : List ℕ) (source : words.Source) (limits : Limits) (s : Setting)
@@ -71,6 +110,12 @@ one_run files program (words.Workers seed) limits s run other quiet told first s
 one_run files program (words.Drawn seed draws) limits s run other quiet told first second =
     let same : first.log ≡ second.log =
     goes_on_alike s (manner_for draws.policies draws.calm seed s.limits.steps) [] first.log second.log (omega arith) first.kind second.kind in
+    let made : plain_run s (script_of second.log) ≡ Ok run = ap (λ l. plain_run s (script_of l)) (sym same) ∙ first.made in
+    let is = second.made in
+    cc
+one_run files program (words.DrawnAfter name seed draws) limits s run other quiet told first second =
+    let same : first.log ≡ second.log =
+    one_drawn_after files name seed draws s first.log second.log told.1 first.kind second.kind in
     let made : plain_run s (script_of second.log) ≡ Ok run = ap (λ l. plain_run s (script_of l)) (sym same) ∙ first.made in
     let is = second.made in
     cc
@@ -140,6 +185,7 @@ some_need program words.Rule limits none = absurd cc
 some_need program (words.Script name) limits none = absurd cc
 some_need program (words.Workers seed) limits none = absurd cc
 some_need program (words.Drawn seed draws) limits none = absurd cc
+some_need program (words.DrawnAfter name seed draws) limits none = absurd cc
 
 needs_some : (files : Files) (command : Option words.Command) (written : List ℕ) → IsOutputOf files command written
     → ¬ (needs_of command ≡ Nothing)

@@ -10,8 +10,8 @@ use Rattle.block_model.proofs.Laws.{answers_itself, plain_makes, plain_solo_log,
 use Rattle.drawn_runs.specs.Manners.{manner_for}
 use Rattle.drawn_runs.specs.WholeRuns.{IsDrawnRun}
 use Rattle.command_words.specs.declared.table.Shown.{Shown}
-use Rattle.command_words.specs.Commands.{Command, Runs, Makes, Tries, Explores, Source, Rule, Script, Workers, Drawn}
-use Rattle.outcomes.specs.Outputs.{IsLogOf, IsOutputOf, IsPlainOutputOf, IsPlainRunOf, IsPlainRunOver, plain_text}
+use Rattle.command_words.specs.Commands.{Command, Runs, Makes, Tries, Explores, Source, Rule, Script, Workers, Drawn, DrawnAfter}
+use Rattle.outcomes.specs.Outputs.{IsDrawnAfter, IsLogOf, IsOutputOf, IsPlainOutputOf, IsPlainRunOf, IsPlainRunOver, plain_text}
 use Rattle.outcomes.specs.Outputs.{setting_for, shown_text, text_of}
 use Rattle.outcomes.specs.Guests.{setting_tried, trial_text, tried_text}
 use Rattle.outcomes.specs.Programs.{Files}
@@ -72,6 +72,8 @@ run_alike files (Script name) s log played =
     }
 run_alike files (Workers seed) s log run = over_log s (IsChosenRun s seed) log run.block_run run
 run_alike files (Drawn seed draws) s log run = over_log s (IsDrawnRun s (manner_for draws.policies draws.calm seed s.limits.steps)) log run.block_run run
+run_alike files (DrawnAfter name seed draws) s log run =
+    over_log s (IsDrawnAfter files name seed draws s) log run.drawn.block_run run
 
 pub plain_output_of : (files : Files) (command : Option Command) (written : List ℕ)
     → IsOutputOf files command written → IsPlainOutputOf files command written

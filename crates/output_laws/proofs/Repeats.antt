@@ -25,7 +25,7 @@ use Rattle.block_model.specs.Setting.{Setting, setting_of}
 use Rattle.block_model.proofs.Laws.{HaveBytes, all_addresses, all_harts, all_threads, answers_itself, image_bytes, within_limit}
 use Rattle.command_words.specs.declared.table.Shown.{Shown}
 use Rattle.command_words.specs.declared.table.Shown.TheVariants.{Output}
-use Rattle.command_words.specs.Commands.{Run, Source, Rule, Script, Workers, Drawn}
+use Rattle.command_words.specs.Commands.{Run, Source, Rule, Script, Workers, Drawn, DrawnAfter}
 use Rattle.outcomes.specs.Outputs.{IsLogOf, IsPlayOutput, IsRunOutput, log_output, setting_for, shown_text}
 use Rattle.outcomes.specs.Programs.{Files, IsProgram, IsReadAs, ask_in, ask_of, asks_of, most_script_bytes}
 use Rattle.outcomes.specs.Runs.{IsPlayedRun}
@@ -171,6 +171,7 @@ block_run_of files Rule s log made = made.block_run
 block_run_of files (Script name) s log made = made.run.block_run
 block_run_of files (Workers seed) s log made = made.block_run
 block_run_of files (Drawn seed draws) s log made = made.block_run
+block_run_of files (DrawnAfter name seed draws) s log made = made.drawn.block_run
 
 -- so it is played again to the same text
 pub printed_again : (files later : Files) (run : Run) (script written : List ℕ)

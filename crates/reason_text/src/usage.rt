@@ -9,8 +9,9 @@ const OPTIONS: &str = "  --harts N   how many harts there are: 1 to 8; 2 where i
   --frames N  how many frames of memory there are: 128 to 16384; 4096
   --steps N   how many lines the log may have: 1 to 1000000; 200000
   --seed N    where the generators begin: 0 to 18446744073709551615; 1
-  --policy P  which policy draws: one, long, short, pos, spread, or all in turn by the seed; all
+  --policy P  which policy draws: one, long, short, pos, spread, all of these in turn by the seed, or rule; all
   --calm N    from how many events on the run goes on fairly: 0 to 1000000; a quarter of the steps
+  --after S   the script whose events come before those that are drawn; none
   --runs N    how many runs are explored: 1 to 1000000000; 10000
   --until K   how many different outcomes are enough: 1 to 64; all runs are made
   --by B      by what outcomes are told apart: text or end; text
@@ -38,7 +39,7 @@ fn words_of_run(source: SourceKind) -> &'static str {
         SourceKind::ByScript => "FILE SCRIPT [--harts N] [--frames N] [--steps N]",
         SourceKind::ByWorkers => "FILE [--harts N] [--frames N] [--steps N] [--seed N]",
         SourceKind::ByDraws => {
-            "FILE [--harts N] [--frames N] [--steps N] [--seed N] [--policy P] [--calm N]"
+            "FILE [--harts N] [--frames N] [--steps N] [--seed N] [--policy P] [--calm N] [--after S]"
         }
     }
 }

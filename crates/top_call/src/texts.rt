@@ -5,7 +5,7 @@ ghost use Rattle.std.specs.Prelude.{◌≡◌, IfErr, IfOk, Some, false, true};
 ghost use Rattle.mach_types.specs.Limits.{InRange};
 ghost use Rattle.elf_load.specs.Images.{IsBootable};
 ghost use Rattle.outside.specs.Counts.{NoneFalls};
-ghost use Rattle.command_words.specs.Commands.{Drawn, HasHartsOf, HasItsHarts, HasLimits, Rule, Script};
+ghost use Rattle.command_words.specs.Commands.{Drawn, DrawnAfter, HasHartsOf, HasItsHarts, HasLimits, Rule, Script};
 ghost use Rattle.command_words.specs.Commands.{Workers, is_by_workers, needs_workers, trial_limits};
 ghost use Rattle.command_words.specs.Kept.{run_said, said, source_said};
 ghost use Rattle.outcomes.specs.declared.reasons.Reason.TheVariants.{NoMemory};
@@ -19,7 +19,7 @@ use crate::exploring::{explored_alone, explored_together};
 use crate::fetching::{read_file, taken};
 use command_runs::{play, run_rounds, run_solo, run_workers, shown_text, trial_text};
 use command_words::{Command, Draws, Guest, Run, Source, Trial};
-use drawn_machine::run_drawn;
+use drawn_machine::{DrawnRun, draw_on, run_drawn};
 use drawn_runs::Manner;
 use elf_load::{ElfFault, Image, load};
 use guest_programs::{GuestFault, make};
@@ -191,6 +191,11 @@ fn quiet_run<S: Shelf>(alloc: Global, run: &Run, shelf: &mut S) -> Result<Progra
         Source::Drawn { seed, draws } => {
             drawn_run(alloc, run.program, run.limits, seed, draws, shelf)
         }
+        Source::DrawnAfter {
+            script,
+            seed,
+            draws,
+        } => drawn_after_run(alloc, run.program, script, run.limits, seed, draws, shelf),
         Source::Workers { .. } => unreachable!(),
     }
 }
@@ -218,7 +223,10 @@ fn waiting_run<R: Threads + Wait + Sync, S: Shelf, G: Gate + Sync>(
         Source::Workers { seed } => {
             workers_run(alloc, rt, run.program, run.limits, seed, shelf, gate)
         }
-        Source::Rule | Source::Script(_) | Source::Drawn { .. } => unreachable!(),
+        Source::Rule
+        | Source::Script(_)
+        | Source::Drawn { .. }
+        | Source::DrawnAfter { .. } => unreachable!(),
     }
 }
 
@@ -290,7 +298,34 @@ fn drawn_run<S: Shelf>(
 {
     let image = taken(alloc, program, &limits, shelf)?;
     let manner = Manner::of(draws.policies, draws.calm, seed, limits.steps);
-    let machine = run_drawn(alloc, &image, limits, &manner)?;
+    let DrawnRun { machine, .. } = run_drawn(alloc, &image, limits, &manner)?;
+    Ok(ProgramRun { image, machine })
+}
+
+/// Runs the program of the first name on the events of the script of the second, and on those that the seed draws behind them.
+fn drawn_after_run<S: Shelf>(
+    alloc: Global,
+    program: &str,
+    script: &str,
+    limits: Limits,
+    seed: u64,
+    draws: Draws,
+    shelf: &mut S,
+) -> Result<ProgramRun, Reason>
+    requires { InRange limits }
+    ensures run { IfOk result (λ run. HasRun (S.file shelf.old) program.now (DrawnAfter script.now seed draws) limits
+        run.image run.machine) }
+    ensures bootable { IfOk result (λ run. IsBootable limits.frames run.image) }
+    ensures cause { let needs = needs_by program.now (DrawnAfter script.now seed draws) limits in
+        IfErr result (IsReasonFor (S.file shelf.old) needs (S.faults shelf.old) (S.faults shelf.new)
+        (S.last_trouble shelf.new)) }
+    ensures files { S.file shelf.new ≡ S.file shelf.old }
+    ensures counts { NoneFalls (S.faults shelf.old) (S.faults shelf.new) }
+{
+    let ProgramRun { image, mut machine } = script_run(alloc, program, script, limits, shelf)?;
+    let scripted = machine.log().len() as u32;
+    let manner = Manner::of(draws.policies, draws.calm, seed, limits.steps).behind(scripted);
+    draw_on(&mut machine, &manner);
     Ok(ProgramRun { image, machine })
 }
 

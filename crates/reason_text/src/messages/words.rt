@@ -10,7 +10,7 @@ use std::fmt::Write;
 const GUESTS: &str = "counter, list, pool, dekker, signals and migrate";
 
 /// The names of policies.
-const POLICIES: &str = "all, one, long, short, pos and spread";
+const POLICIES: &str = "all, one, long, short, pos, spread and rule";
 
 /// Appends what is wrong with the words, and the usage.
 pub(crate) fn push_words_fault(
