@@ -1,5 +1,5 @@
-/* Barriers by membarrier(2), for the C examples, with the names of linux/membarrier.h. It stands behind threads.h, or rseq.h. */
-
+#pragma once /* Barriers by membarrier(2), for the C examples, with the names of linux/membarrier.h. */
+#include "threads.h"
 enum { CALL_MEMBARRIER = 283 };
 
 enum { MEMBARRIER_CMD_PRIVATE_EXPEDITED = 8, MEMBARRIER_CMD_REGISTER_PRIVATE_EXPEDITED = 16 };

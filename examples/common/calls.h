@@ -1,7 +1,7 @@
 /* The one system call that the C examples make by themselves, and numbers as text. */
+#pragma once
 #include <stddef.h>
 #include <stdint.h>
-
 enum { CALL_WRITE = 64, STANDARD_OUTPUT = 1 };
 
 /* write(2): the number of bytes written, or a negative error number. */

@@ -1,5 +1,5 @@
-# The entry of a C example that is linked with a C library: as start.S, with tp on room for the library's own variables of a
-# thread (errno), which is zero at the start.
+# The entry of a C example that is linked with a C library: as start.S, with tp on room for the variables of the thread (errno, and
+# those of hosted.h), which are zero at the start. What main answers goes to _exit.
     .file   "hosted.S"
     .globl  _start
 _start:
@@ -10,10 +10,9 @@ _start:
     la      tp, thread_variables
     andi    sp, sp, -16
     call    main
-    li      a7, 93              # exit
-    ecall
+    call    _exit
 
     .bss
     .balign 16
 thread_variables:
-    .zero   256
+    .zero   1024                # OWN_VARIABLES of stacks.h

@@ -1,7 +1,7 @@
 /* Restartable sequences by rseq(2), for the C examples: what the kernel reads and writes, with the names of linux/rseq.h (Linux 6.3),
  * and the assembler of a sequence, with the names of librseq. */
+#pragma once
 #include "threads.h"
-
 enum { CALL_RSEQ = 293 };
 
 enum { RSEQ_FLAG_UNREGISTER = 1 };

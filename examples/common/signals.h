@@ -1,5 +1,5 @@
-/* Signals, for the C examples: the calls, an action, and the frame that a handler finds. It stands behind threads.h, or rseq.h. */
-
+#pragma once /* Signals, for the C examples: the calls, an action, and the frame that a handler finds. */
+#include "threads.h"
 enum { CALL_TGKILL = 131, CALL_RT_SIGACTION = 134, CALL_RT_SIGPROCMASK = 135 };
 
 enum { SIGUSR1 = 10, SIGSEGV = 11 };

@@ -1,6 +1,6 @@
 /* Threads by clone(2), and futex(2), for the C examples. */
+#pragma once
 #include "calls.h"
-
 enum { CALL_EXIT = 93, CALL_EXIT_GROUP = 94, CALL_FUTEX = 98, CALL_SCHED_YIELD = 124, CALL_CLONE = 220 };
 
 enum { FUTEX_WAIT = 0, FUTEX_WAKE = 1, FUTEX_PRIVATE = 128 };
