@@ -21,8 +21,16 @@ pub fn emit_read_lock(_alloc: Global, asm: &mut Asm, regs: &ReadRegs) -> Result<
     ensures memory { OnErr result ((n : ℕ) × AreEmitted (take n (lock_lines regs.now)) asm.old asm.new) }
 {
     let lines = [
-        Line::Plain(Inst::Ld { rd: regs.scratch, rs1: regs.gp, imm: 0 }),
-        Line::Plain(Inst::Sd { rs1: regs.slot, rs2: regs.scratch, imm: 0 }),
+        Line::Plain(Inst::Ld {
+            rd: regs.scratch,
+            rs1: regs.gp,
+            imm: 0,
+        }),
+        Line::Plain(Inst::Sd {
+            rs1: regs.slot,
+            rs2: regs.scratch,
+            imm: 0,
+        }),
     ];
     emit_lines(asm, &lines)
 }
@@ -35,6 +43,10 @@ pub fn emit_read_unlock(_alloc: Global, asm: &mut Asm, regs: &ReadRegs) -> Resul
     ensures ok { OnOk result (AreEmitted (unlock_lines regs.now) asm.old asm.new) }
     ensures memory { OnErr result ((n : ℕ) × AreEmitted (take n (unlock_lines regs.now)) asm.old asm.new) }
 {
-    let lines = [Line::Plain(Inst::Sd { rs1: regs.slot, rs2: 0, imm: 0 })];
+    let lines = [Line::Plain(Inst::Sd {
+        rs1: regs.slot,
+        rs2: 0,
+        imm: 0,
+    })];
     emit_lines(asm, &lines)
 }

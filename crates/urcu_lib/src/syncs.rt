@@ -31,25 +31,98 @@ fn lines_of_sync(base: u32, regs: SyncRegs, readers: u8) -> [Line; 19]
     ensures { result ≡ sync_lines regs base readers }
 {
     [
-        Line::Plain(Inst::Addi { rd: 10, rs1: 0, imm: 8 }),
-        Line::Plain(Inst::Addi { rd: 11, rs1: 0, imm: 0 }),
-        Line::Plain(Inst::Addi { rd: 12, rs1: 0, imm: 0 }),
-        Line::Plain(Inst::Addi { rd: 17, rs1: 0, imm: 283 }),
+        Line::Plain(Inst::Addi {
+            rd: 10,
+            rs1: 0,
+            imm: 8,
+        }),
+        Line::Plain(Inst::Addi {
+            rd: 11,
+            rs1: 0,
+            imm: 0,
+        }),
+        Line::Plain(Inst::Addi {
+            rd: 12,
+            rs1: 0,
+            imm: 0,
+        }),
+        Line::Plain(Inst::Addi {
+            rd: 17,
+            rs1: 0,
+            imm: 283,
+        }),
         Line::Plain(Inst::Ecall),
-        Line::Plain(Inst::Ld { rd: 5, rs1: regs.gp, imm: 0 }),
-        Line::Plain(Inst::Addi { rd: 5, rs1: 5, imm: 1 }),
-        Line::Plain(Inst::Sd { rs1: regs.gp, rs2: 5, imm: 0 }),
-        Line::Plain(Inst::Addi { rd: 6, rs1: regs.slots, imm: 0 }),
-        Line::Plain(Inst::Addi { rd: 7, rs1: 0, imm: readers as i64 }),
+        Line::Plain(Inst::Ld {
+            rd: 5,
+            rs1: regs.gp,
+            imm: 0,
+        }),
+        Line::Plain(Inst::Addi {
+            rd: 5,
+            rs1: 5,
+            imm: 1,
+        }),
+        Line::Plain(Inst::Sd {
+            rs1: regs.gp,
+            rs2: 5,
+            imm: 0,
+        }),
+        Line::Plain(Inst::Addi {
+            rd: 6,
+            rs1: regs.slots,
+            imm: 0,
+        }),
+        Line::Plain(Inst::Addi {
+            rd: 7,
+            rs1: 0,
+            imm: readers as i64,
+        }),
         Line::Label(base),
-        Line::Plain(Inst::Ld { rd: 10, rs1: 6, imm: 0 }),
-        Line::Branch(Inst::Beq { rs1: 10, rs2: 0, imm: 0 }, base + 1),
-        Line::Branch(Inst::Bltu { rs1: 10, rs2: 5, imm: 0 }, base),
+        Line::Plain(Inst::Ld {
+            rd: 10,
+            rs1: 6,
+            imm: 0,
+        }),
+        Line::Branch(
+            Inst::Beq {
+                rs1: 10,
+                rs2: 0,
+                imm: 0,
+            },
+            base + 1,
+        ),
+        Line::Branch(
+            Inst::Bltu {
+                rs1: 10,
+                rs2: 5,
+                imm: 0,
+            },
+            base,
+        ),
         Line::Label(base + 1),
-        Line::Plain(Inst::Addi { rd: 6, rs1: 6, imm: 64 }),
-        Line::Plain(Inst::Addi { rd: 7, rs1: 7, imm: -1 }),
-        Line::Branch(Inst::Bne { rs1: 7, rs2: 0, imm: 0 }, base),
-        Line::Plain(Inst::Addi { rd: 10, rs1: 0, imm: 0 }),
+        Line::Plain(Inst::Addi {
+            rd: 6,
+            rs1: 6,
+            imm: 64,
+        }),
+        Line::Plain(Inst::Addi {
+            rd: 7,
+            rs1: 7,
+            imm: -1,
+        }),
+        Line::Branch(
+            Inst::Bne {
+                rs1: 7,
+                rs2: 0,
+                imm: 0,
+            },
+            base,
+        ),
+        Line::Plain(Inst::Addi {
+            rd: 10,
+            rs1: 0,
+            imm: 0,
+        }),
     ]
 }
 
