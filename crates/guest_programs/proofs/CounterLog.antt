@@ -26,10 +26,11 @@ use Rattle.alone_laws.specs.Entering.{IsIn}
 use Rattle.alone_laws.specs.Spans.{code_of}
 use Rattle.alone_laws.specs.Uses.{CanAlwaysBegin}
 use Rattle.percpu_lib.specs.Adds.{add_block, add_range, cell_seen, placed_add}
-use Rattle.percpu_lib.specs.Uses.{HoldsAdd, SharesArea, cells_of}
+use Rattle.percpu_lib.specs.Uses.{HoldsAdd, SharesArea, add_form, cells_of}
 use Rattle.percpu_lib.specs.Words.{AreSlots}
 use Rattle.percpu_lib.specs.declared.slots.Slots.{Slots}
-use Rattle.percpu_lib.proofs.ShareTests.{all_shares, shares_alone}
+use Rattle.percpu_lib.proofs.FormTests.{add_tested}
+use Rattle.percpu_lib.proofs.ShareTests.{all_shares, none_other, shares_so}
 use Rattle.percpu_lib.proofs.UseTests.{all_can_begin, all_used, always_begins_freely, are_fine, is_just, just_is}
 use Rattle.guest_programs.specs.Programs.{data_bytes, guest_program}
 use Rattle.guest_programs.specs.Steps.{slots_of}
@@ -120,27 +121,27 @@ is_added q =
 
 abbrev is_good : History → Bool
 is_good before =
-    are_fine counting slots at area 2 before
-    && (always_begins_freely counting slots at area 2 before
-    && (shares_alone counting slots at area 2 before && option_map_or is_added (sequence_on counting 0 before) false))
+    are_fine counting (add_form slots) (add_tested slots) at area 2 before
+    && (always_begins_freely counting (add_form slots) (add_tested slots) at area 2 before
+    && (shares_so counting (add_form slots) (add_tested slots) at area 2 [] before && option_map_or is_added (sequence_on counting 0 before) false))
 
 good : is_good (history counting log) ≡ true
 unfolding decide history done meaning row_of rows lui_rows auipc_rows jal_rows jalr_rows branch_rows load_rows store_rows op_imm_rows op_imm_32_rows op_rows op_32_rows misc_mem_rows amo_rows system_rows are_readable number_at
 good = refl
 
-uses_well : are_fine counting slots at area 2 (history counting log) ≡ true
-uses_well = (and_parts (are_fine counting slots at area 2 (history counting log)) _ good).0
+uses_well : are_fine counting (add_form slots) (add_tested slots) at area 2 (history counting log) ≡ true
+uses_well = (and_parts (are_fine counting (add_form slots) (add_tested slots) at area 2 (history counting log)) _ good).0
 
-more : always_begins_freely counting slots at area 2 (history counting log)
-    && (shares_alone counting slots at area 2 (history counting log)
+more : always_begins_freely counting (add_form slots) (add_tested slots) at area 2 (history counting log)
+    && (shares_so counting (add_form slots) (add_tested slots) at area 2 [] (history counting log)
     && option_map_or is_added (sequence_on counting 0 (history counting log)) false) ≡ true
-more = (and_parts (are_fine counting slots at area 2 (history counting log)) _ good).1
+more = (and_parts (are_fine counting (add_form slots) (add_tested slots) at area 2 (history counting log)) _ good).1
 
-last : (shares_alone counting slots at area 2 (history counting log) ≡ true)
+last : (shares_so counting (add_form slots) (add_tested slots) at area 2 [] (history counting log) ≡ true)
     × (option_map_or is_added (sequence_on counting 0 (history counting log)) false ≡ true)
 last =
-    and_parts (shares_alone counting slots at area 2 (history counting log)) _
-    (and_parts (always_begins_freely counting slots at area 2 (history counting log)) _ more).1
+    and_parts (shares_so counting (add_form slots) (add_tested slots) at area 2 [] (history counting log)) _
+    (and_parts (always_begins_freely counting (add_form slots) (add_tested slots) at area 2 (history counting log)) _ more).1
 
 -- its sequence, and what it did
 pub record HasAdded : Type 0 where
@@ -208,7 +209,7 @@ are_slots = record {
 
 pub holds : HoldsAdd counting (history counting log) slots at area 2
 holds =
-    let used = all_used counting slots at area 2 (history counting log) is_run.allowed uses_well in
+    let used = all_used counting (add_form slots) (add_tested slots) at area 2 (history counting log) is_run.allowed uses_well in
     record {
       stands = record { holds = word_is (code_of counting.program.pages) (add_block slots) at there };
       slots = are_slots;
@@ -224,11 +225,12 @@ holds =
 
 pub can_begin : CanAlwaysBegin counting (placed_add slots at area) 2 (history counting log)
 can_begin =
-    all_can_begin counting slots at area 2 (history counting log) is_run.allowed
-    (and_parts (always_begins_freely counting slots at area 2 (history counting log)) _ more).0
+    all_can_begin counting (add_form slots) (add_tested slots) at area 2 (history counting log) is_run.allowed
+    (and_parts (always_begins_freely counting (add_form slots) (add_tested slots) at area 2 (history counting log)) _ more).0
 
 pub shares : SharesArea counting (history counting log) slots at area 2 []
-shares = all_shares counting slots at area 2 (history counting log) is_run.allowed uses_well last.0
+shares = all_shares counting (add_form slots) (add_tested slots) at area 2 [] (history counting log) is_run.allowed uses_well last.0
+    (λ other has. absurd (none_other other has))
 
 -- the same of the thread of the sequence
 abbrev pub sequence : Sequence

@@ -1,7 +1,7 @@
 -- A worked log, by computation: a thread registers its area and pushes a node on the list of its processor by a push
 -- block. It is preempted inside, once the node is linked, begins anew at the abort handler, and pushes once. Then it pops
 -- the node off by a pop block, and finds the list empty by another sequence of that.
-use Rattle.std.proofs.Common.{◌≡◌, ℕ, ◌+◌, ◌*◌, ◌^◌, List, [], ◌∷◌, ◌++◌, replicate, take, drop, refl}
+use Rattle.std.proofs.Common.{◌≡◌, ℕ, List, [], ◌∷◌, ◌++◌, replicate, take, drop, refl}
 use Rattle.std.proofs.Common.{Bool, true, eqb, Ok}
 use Rattle.mach_types.specs.Kernel.Areas.{are_readable, number_at}
 use Rattle.mach_types.specs.Registers.{register}

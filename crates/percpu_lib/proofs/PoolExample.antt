@@ -1,7 +1,7 @@
 -- A worked log, by computation: a thread registers its area and puts 42 into the pool of its processor by a free block. It
 -- is preempted inside, once its value is 0, begins anew at the abort handler, which brings the value back, and puts it in
 -- once. Then it takes it out by an alloc block, and finds the pool empty by another sequence of that.
-use Rattle.std.proofs.Common.{◌≡◌, ℕ, ◌+◌, ◌*◌, ◌^◌, List, [], ◌∷◌, ◌++◌, replicate, take, drop, refl}
+use Rattle.std.proofs.Common.{◌≡◌, ℕ, List, [], ◌∷◌, ◌++◌, replicate, take, drop, refl}
 use Rattle.std.proofs.Common.{Bool, true, eqb, Ok}
 use Rattle.mach_types.specs.Kernel.Areas.{are_readable, number_at}
 use Rattle.mach_types.specs.Registers.{register}
