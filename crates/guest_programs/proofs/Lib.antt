@@ -1,3 +1,4 @@
+pub mod AssembledCode
 pub mod Blocks
 pub mod CounterCode
 pub mod CounterLog
@@ -7,6 +8,8 @@ pub mod Fetched
 pub mod Files
 pub mod Finished
 pub mod Held
+pub mod ListCode
+pub mod ListLog
 pub mod Pages
 pub mod Rooms
 pub mod Started

@@ -13,12 +13,14 @@ ghost use Rattle.block_model.specs.History.{file};
 ghost use Rattle.block_model.specs.Run.{IsBlockRun};
 ghost use Rattle.block_model.specs.Setting.{Setting, setting_of};
 ghost use Rattle.alone_laws.specs.Entering.{IsIn};
-ghost use Rattle.alone_laws.specs.Uses.{CanAlwaysBegin};
+ghost use Rattle.alone_laws.specs.Uses.{CanAlwaysBegin, Placed};
 ghost use Rattle.percpu_lib.specs.Adds.{add_range, cell_seen, placed_add};
 ghost use Rattle.percpu_lib.specs.Lines.{AreEmitted};
+ghost use Rattle.percpu_lib.specs.Pushes.{node_of, push_form};
+ghost use Rattle.percpu_lib.specs.Used.{IsWellUsed};
 ghost use Rattle.percpu_lib.specs.Uses.{HoldsAdd, SharesArea, cells_of};
 ghost use Rattle.percpu_lib.specs.declared.slots.Slots.{Slots};
-ghost use Rattle.guest_names.specs.declared.names.Name.TheVariants.{Counter};
+ghost use Rattle.guest_names.specs.declared.names.Name.TheVariants.{Counter, List as Lists};
 ghost use Rattle.guest_names.specs.declared.names.Name.{Name};
 ghost use Rattle.guest_programs.specs.Programs.{IsGuestElf, data_bytes, guest_program};
 ghost use Rattle.guest_programs.specs.Steps.{guest_lines};
@@ -55,4 +57,15 @@ pub fn counters_use_their_block()
         × (sequence_on s h (history s log) ≡ Some q) × IsIn s (add_range at) q.thread q.begun
         × ((file s q.thread q.reached).pc ≡ at + 44)
         × (cell_seen s h (cells_of s p q.thread q.begun) q.reached ≡ Some 1) }
+{}
+
+/// What `HoldsPush` asks is met by a made guest: there are a block run of the list guest for the size 1 and a thread of it
+/// that uses its push block so, beside the pop block, and comes to the post-commit address by a sequence of the block. The
+/// cell of its processor is then its node.
+pub fn lists_use_their_block()
+    ensures { (asm : Assembly) × (code : List ℕ) × (s : Setting) × (log : List Entry) × (p : Slots) × (at : ℕ)
+        × (area : Area) × (others : List Placed) × (q : Sequence)
+        × AreEmitted (guest_lines Lists) (empty CODE LABELS) asm × AreAssembled asm.labels asm.items code
+        × (s.program ≡ guest_program code (data_bytes asm 1)) × IsWellUsed s log (push_form p) at area others q
+        × (cell_seen s 0 (cells_of s p q.thread q.begun) q.reached ≡ Some (node_of s p q.thread q.begun)) }
 {}

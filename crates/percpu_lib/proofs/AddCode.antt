@@ -1,5 +1,5 @@
 -- The words of an add block.
-use Rattle.std.proofs.Common.{◌<◌, ◌^◌, refl, arith, pos}
+use Rattle.std.proofs.Common.{refl, arith, pos}
 use Rattle.rv_inst.specs.declared.instruction.Inst.TheVariants as inst
 use Rattle.percpu_lib.specs.Adds.{add_block}
 use Rattle.percpu_lib.specs.Uses.{add_form}

@@ -10,13 +10,11 @@ use Rattle.alone_laws.specs.Undisturbed.{Brings, IsUndisturbed, executed_on}
 use Rattle.alone_laws.specs.Uses.{AlwaysOutside, CanAlwaysBegin}
 use Rattle.percpu_lib.specs.Adds.{placed_add}
 use Rattle.percpu_lib.specs.Forms.{IsCommitted}
+use Rattle.percpu_lib.specs.Kinds.{adds}
 use Rattle.percpu_lib.specs.Uses.{HoldsAdd, IsAdded, add_form}
 use Rattle.percpu_lib.specs.declared.slots.Slots.{Slots}
-use Rattle.percpu_lib.proofs.AddLaw.{add_course}
-use Rattle.percpu_lib.proofs.BlockCourse.{AsksFirst, comes_to_commit, is_brought}
-
-asks_first : (p : Slots) → AsksFirst (add_form p) 0
-asks_first p = record { all = refl; copies = λ k lt. absurd (omega arith); lw = refl; lui = refl; addi = refl; store = refl }
+use Rattle.percpu_lib.proofs.BlockCourse.{is_brought}
+use Rattle.percpu_lib.proofs.KindLaws.{comes_to_end}
 
 is_added : (s : Setting) (p : Slots) (at h t : ℕ) (now : History) → IsCommitted s (add_form p) at h t now
     → IsAdded s p at h t now
@@ -38,5 +36,4 @@ pub comes_to_add : (s : Setting) (p : Slots) (at : ℕ) (area : Area) (h t : ℕ
     → 11 ≤ executed_on h rest → Brings s h 11 (IsAdded s p at h t) log rest
 comes_to_add s p at area h t log rest run held begins outside runs pc calm many =
     is_brought s h 11 log rest (IsCommitted s (add_form p) at h t) (IsAdded s p at h t) (is_added s p at h t)
-    (comes_to_commit s (add_form p) at area h t (add_course p) 0 (asks_first p) 10 refl log rest run held begins outside
-    runs pc calm many)
+    (comes_to_end adds s p at area h t log rest run held begins outside runs pc calm many)

@@ -29,6 +29,7 @@ use Rattle.alone_laws.specs.Uses.{CanAlwaysBegin}
 use Rattle.percpu_lib.specs.Adds.{add_block, add_range, cell_seen, placed_add}
 use Rattle.percpu_lib.specs.Uses.{HoldsAdd, SharesArea, add_form, cells_of}
 use Rattle.percpu_lib.specs.declared.slots.Slots.{Slots}
+use Rattle.percpu_lib.proofs.ExampleParts.{AreThere, entry, holds_so, line}
 use Rattle.percpu_lib.proofs.FormTests.{add_tested}
 use Rattle.percpu_lib.proofs.RetryTests.{registers_are, same_registers, walk_found, walks_at_work}
 use Rattle.percpu_lib.proofs.ShareTests.{all_shares, none_other, shares_so}
@@ -72,9 +73,6 @@ area = record { at = 0x20000; sig = 0xF1401073 }
 -- the thread runs, and executes the first eight instructions and the first six words of the block, whose store
 -- then enters memory. It is preempted and runs again; it executes the jump at the abort handler, the first six
 -- words once more, whose store enters memory, and five more words
-abbrev line : Choice → Ask
-line choice = record { hart = record { 0 = 0 }; choice = choice; check = None }
-
 abbrev lines : List Ask
 lines =
     line (asked.Run (record { 0 = 1 }))
@@ -84,42 +82,39 @@ lines =
     ∷ line (asked.Run (record { 0 = 1 }))
     ∷ (replicate 7 (line asked.Exec) ++ (line asked.Drain ∷ replicate 5 (line asked.Exec)))))
 
-abbrev entry : Kind → ℕ → Entry
-entry k pc = record { hart = record { 0 = 0 }; kind = k; tid = record { 0 = 1 }; pc = pc }
-
 abbrev pub log : List Entry
 log =
-    entry kind.Run 0x100B0
-    ∷ entry kind.Exec 0x100B0
-    ∷ entry kind.Exec 0x100B4
-    ∷ entry kind.Exec 0x100B8
-    ∷ entry kind.Exec 0x100BC
-    ∷ entry kind.Exec 0x100C0
-    ∷ entry kind.Exec 0x100C4
-    ∷ entry kind.Exec 0x100C8
-    ∷ entry kind.Exec 0x100CC
-    ∷ entry kind.Exec 0x100D0
-    ∷ entry kind.Exec 0x100D4
-    ∷ entry kind.Exec 0x100D8
-    ∷ entry kind.Exec 0x100DC
-    ∷ entry kind.Exec 0x100E0
-    ∷ entry kind.Exec 0x100E4
-    ∷ entry kind.Drain 0x100E8
-    ∷ entry kind.Preempt 0x100E8
-    ∷ entry kind.Run 0x100E8
-    ∷ entry kind.Exec 0x10104
-    ∷ entry kind.Exec 0x100D0
-    ∷ entry kind.Exec 0x100D4
-    ∷ entry kind.Exec 0x100D8
-    ∷ entry kind.Exec 0x100DC
-    ∷ entry kind.Exec 0x100E0
-    ∷ entry kind.Exec 0x100E4
-    ∷ entry kind.Drain 0x100E8
-    ∷ entry kind.Exec 0x100E8
-    ∷ entry kind.Exec 0x100EC
-    ∷ entry kind.Exec 0x100F0
-    ∷ entry kind.Exec 0x100F4
-    ∷ entry kind.Exec 0x100F8 ∷ []
+    entry kind.Run 1 0x100B0
+    ∷ entry kind.Exec 1 0x100B0
+    ∷ entry kind.Exec 1 0x100B4
+    ∷ entry kind.Exec 1 0x100B8
+    ∷ entry kind.Exec 1 0x100BC
+    ∷ entry kind.Exec 1 0x100C0
+    ∷ entry kind.Exec 1 0x100C4
+    ∷ entry kind.Exec 1 0x100C8
+    ∷ entry kind.Exec 1 0x100CC
+    ∷ entry kind.Exec 1 0x100D0
+    ∷ entry kind.Exec 1 0x100D4
+    ∷ entry kind.Exec 1 0x100D8
+    ∷ entry kind.Exec 1 0x100DC
+    ∷ entry kind.Exec 1 0x100E0
+    ∷ entry kind.Exec 1 0x100E4
+    ∷ entry kind.Drain 1 0x100E8
+    ∷ entry kind.Preempt 1 0x100E8
+    ∷ entry kind.Run 1 0x100E8
+    ∷ entry kind.Exec 1 0x10104
+    ∷ entry kind.Exec 1 0x100D0
+    ∷ entry kind.Exec 1 0x100D4
+    ∷ entry kind.Exec 1 0x100D8
+    ∷ entry kind.Exec 1 0x100DC
+    ∷ entry kind.Exec 1 0x100E0
+    ∷ entry kind.Exec 1 0x100E4
+    ∷ entry kind.Drain 1 0x100E8
+    ∷ entry kind.Exec 1 0x100E8
+    ∷ entry kind.Exec 1 0x100EC
+    ∷ entry kind.Exec 1 0x100F0
+    ∷ entry kind.Exec 1 0x100F4
+    ∷ entry kind.Exec 1 0x100F8 ∷ []
 
 is_played : played adding lines ≡ Ok log
 unfolding played decide history done meaning row_of rows lui_rows auipc_rows jal_rows jalr_rows branch_rows load_rows store_rows op_imm_rows op_imm_32_rows op_rows op_32_rows misc_mem_rows amo_rows system_rows are_readable number_at
@@ -156,20 +151,6 @@ unfolding decide history done meaning row_of rows lui_rows auipc_rows jal_rows j
 adds = refl
 
 -- the words of the block stand there
-abbrev AreThere : (ℕ → Option Inst) → ℕ → List (Option Inst) → Type 0
-AreThere reads from [] = Unit {0}
-AreThere reads from (o ∷ rest) = (reads from ≡ o) × AreThere reads (from + 4) rest
-
-word_is : (reads : ℕ → Option Inst) (block : List (Option Inst)) (from : ℕ) → AreThere reads from block
-    → (k : ℕ) (i : Inst) → slice_get block k ≡ Some (Some i) → reads (from + 4 * k) ≡ Some i
-word_is reads [] from there k i is = absurd cc
-word_is reads (o ∷ rest) from there zero i is =
-    let same : from ≡ from + 4 * zero = omega arith in
-    subst (λ n. reads n ≡ Some i) same (there.0 ∙ ap (λ (x : Option (Option Inst)). unwrap_or x None) is)
-word_is reads (o ∷ rest) from there (suc k) i is =
-    let same : (from + 4) + 4 * k ≡ from + 4 * suc k = omega arith in
-    subst (λ n. reads n ≡ Some i) same (word_is reads rest (from + 4) there.1 k i is)
-
 there : AreThere (code_of adding.program.pages) at (add_block slots)
 unfolding row_of rows lui_rows auipc_rows jal_rows jalr_rows branch_rows load_rows store_rows op_imm_rows op_imm_32_rows op_rows op_32_rows misc_mem_rows amo_rows system_rows
 there =
@@ -179,40 +160,9 @@ fine : are_fine adding (add_form slots) (add_tested slots) at area 1 (history ad
 unfolding decide history done meaning row_of rows lui_rows auipc_rows jal_rows jalr_rows branch_rows load_rows store_rows op_imm_rows op_imm_32_rows op_rows op_32_rows misc_mem_rows amo_rows system_rows are_readable number_at
 fine = refl
 
-low : at < 2 ^ 37
-low = ltb-true at (2 ^ 37) refl
-
-low_area : area.at + 32 ≤ 2 ^ 38
-low_area = leb-true (area.at + 32) (2 ^ 38) refl
-
 pub holds : HoldsAdd adding (history adding log) slots at area 1
 holds =
-    let used = all_used adding (add_form slots) (add_tested slots) at area 1 (history adding log) is_run.allowed fine in
-    record {
-      stands = record { holds = word_is (code_of adding.program.pages) (add_block slots) at there };
-      slots = record {
-        area = refl;
-        cells = refl;
-        value = refl;
-        some_area = eqb-false 8 0 refl;
-        some_cells = eqb-false 9 0 refl;
-        some_value = eqb-false 11 0 refl;
-        low_area = ltb-true 8 32 refl;
-        low_cells = ltb-true 9 32 refl;
-        low_value = ltb-true 11 32 refl;
-        area_cells = eqb-false 8 9 refl;
-        area_value = eqb-false 8 11 refl;
-        cells_value = eqb-false 9 11 refl;
-      };
-      some_table = eqb-false 0x10120 0 refl;
-      low_table = ltb-true 0x10120 0x7FFFF800 refl;
-      low = low;
-      low_area = low_area;
-      used = used.0;
-      processor = used.1;
-      few = leb-true 1 8 refl;
-      uses = used.2;
-    }
+    holds_so adding (add_form slots) (add_tested slots) at area 1 (history adding log) is_run.allowed fine refl there
 
 -- it can always begin, and from the retry label on, once it was aborted, its hart is left undisturbed
 begins_fine : always_begins_freely adding (add_form slots) (add_tested slots) at area 1 (history adding log) ≡ true

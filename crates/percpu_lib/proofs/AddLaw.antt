@@ -1,6 +1,6 @@
 -- A sequence of an add block is one run of its thread alone, and so adds once or not at all.
 use Rattle.std.proofs.Common.{◌≡◌, ℕ, ◌+◌, ◌*◌, ◌<◌, ◌≤◌, ◌%◌, ◌^◌, List, [], ◌∷◌, ◌++◌, refl, ap, ◌∙◌}
-use Rattle.std.proofs.Common.{arith, Bool, true, ◌||◌, Option, Some, inl, inr, ◌⊎◌, append-nil, pos}
+use Rattle.std.proofs.Common.{arith, Bool, true, ◌||◌, Option, Some, inr, append-nil, pos}
 use Rattle.mach_types.specs.Bytes.{each_byte, word_at}
 use Rattle.mach_types.specs.Kernel.Areas.{is_inside}
 use Rattle.mach_types.specs.Registers.{register}
@@ -8,9 +8,7 @@ use Rattle.mach_types.specs.declared.sequences.Area.{Area}
 use Rattle.mach_types.specs.declared.user_memory.Store.{Store}
 use Rattle.rv_inst.specs.Execution.{seen_byte}
 use Rattle.rv_inst.specs.declared.instruction.Inst.TheVariants as inst
-use Rattle.alone.specs.Alone.{Stand}
 use Rattle.alone.specs.Paths.{KeepsOn, Path}
-use Rattle.alone.specs.Temps.{IsAt}
 use Rattle.alone.proofs.Laws.{loaded_word, word_unchanged}
 use Rattle.alone.proofs.Means.{means_add, means_ld, means_sd}
 use Rattle.alone.proofs.Paths.{leaves, then_load, then_next, then_store}
@@ -21,7 +19,7 @@ use Rattle.alone_laws.proofs.Steps.{each_implies}
 use Rattle.alone_laws.proofs.StoredWords.{beside_word, some_word, stored_word}
 use Rattle.block_model.specs.History.{History, file, stores}
 use Rattle.block_model.specs.Setting.{Setting}
-use Rattle.percpu_lib.specs.Adds.{IsNoAdd, IsWholeAdd, add_block, add_bytes, add_range, cell_at, cell_seen, cell_store}
+use Rattle.percpu_lib.specs.Adds.{add_block, add_bytes, add_range, cell_at, cell_seen, cell_store}
 use Rattle.percpu_lib.specs.Forms.{IsBlockPlace}
 use Rattle.percpu_lib.specs.Uses.{add_form, cells_of}
 use Rattle.percpu_lib.specs.Words.{AreHeld, AreSlots}
@@ -30,7 +28,7 @@ use Rattle.percpu_lib.proofs.AddCode.{add_formed}
 use Rattle.percpu_lib.proofs.BlockCode.{behind_range}
 use Rattle.percpu_lib.proofs.BlockWords.{beside_pointer, or_true}
 use Rattle.percpu_lib.proofs.CellPath.{BeginsSo, inside_at, to_cell}
-use Rattle.percpu_lib.proofs.CourseLaw.{HasPath, IsAfter, course_of, way}
+use Rattle.percpu_lib.proofs.CourseLaw.{HasPath, course_of, way}
 use Rattle.percpu_lib.proofs.Courses.{HasCourse}
 
 begins_so : (p : Slots) → AreSlots p → BeginsSo (add_form p) 6 64

@@ -1,9 +1,8 @@
 -- A sequence of an alloc block is one run of its thread alone, and so takes one item or none.
-use Rattle.std.proofs.Common.{◌≡◌, ◌≢◌, ℕ, ◌+◌, ◌-◌, ◌*◌, ◌<◌, ◌≤◌, ◌%◌, ◌^◌, List, [], ◌∷◌, ◌++◌, refl, sym, ap, ◌∙◌, subst}
+use Rattle.std.proofs.Common.{◌≡◌, ◌≢◌, ℕ, ◌+◌, ◌-◌, ◌*◌, ◌<◌, ◌≤◌, ◌%◌, ◌^◌, List, [], ◌∷◌, ◌++◌, refl, ap, ◌∙◌, subst}
 use Rattle.std.proofs.Common.{arith, Bool, true, false, not, ◌&&◌, ◌||◌, eqb, Option, Some, inl, inr, ◌⊎◌, append-nil, pos}
 use Rattle.std.proofs.Common.{negsuc, unwrap_or}
 use Rattle.std.proofs.lemmas.Bool.{eqb-false, eqb-true}
-use Rattle.std.proofs.lemmas.Int.{ints}
 use Rattle.mach_types.specs.Bytes.{each_byte, word_at}
 use Rattle.mach_types.specs.Kernel.Areas.{is_inside}
 use Rattle.mach_types.specs.Registers.{register}
@@ -26,7 +25,7 @@ use Rattle.alone_laws.proofs.Steps.{each_implies}
 use Rattle.alone_laws.proofs.StoredWords.{beside_word, some_word, stored_word}
 use Rattle.block_model.specs.History.{History, file, stores}
 use Rattle.block_model.specs.Setting.{Setting}
-use Rattle.percpu_lib.specs.Allocs.{Allocs, IsNoAlloc, IsWholeAlloc, alloc_block, alloc_bytes, alloc_form, alloc_range}
+use Rattle.percpu_lib.specs.Allocs.{Allocs, alloc_block, alloc_bytes, alloc_form, alloc_range}
 use Rattle.percpu_lib.specs.Allocs.{allocs_last, allocs_none}
 use Rattle.percpu_lib.specs.Forms.{IsBlockPlace}
 use Rattle.percpu_lib.specs.Pools.{count_of, count_seen, count_store, pool_at, slot_at}

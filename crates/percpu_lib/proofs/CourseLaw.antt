@@ -10,7 +10,6 @@ use Rattle.mach_types.specs.declared.threads.Saved.{Saved}
 use Rattle.mach_types.specs.declared.user_memory.Store.{Store}
 use Rattle.rv_inst.specs.Execution.{seen_byte}
 use Rattle.alone.specs.Paths.{IsOn, KeepsOn, Path}
-use Rattle.alone.proofs.Laws.{word_unchanged}
 use Rattle.alone.proofs.Paths.{few_inside}
 use Rattle.alone_laws.specs.Blocks.{Block, IsFairSince, IsSole, StaysInside, among, pointer_bytes}
 use Rattle.alone_laws.specs.Spans.{IsStanding, alone_from, code_of, seen_at, sees}

@@ -178,11 +178,19 @@ lies_so b x is =
         let past = leb-true (x.range.start + x.range.length) b.at before in
         le-ltb ((pc + (2 ^ 64 - x.range.start)) % 2 ^ 64) x.range.length (omega arith)
 
-one_beside : (b x : Placed) → stands_apart b x ≡ true → (other : Placed) → Contains (x ∷ []) other → LiesBeside b other
-one_beside b x is other (zero, lt, at) = subst (LiesBeside b) at (lies_so b x is)
-one_beside b x is other (suc k, lt, at) = absurd (omega arith)
+abbrev pub stand_apart : Placed → List Placed → Bool
+stand_apart b [] = true
+stand_apart b (x ∷ rest) = stands_apart b x && stand_apart b rest
 
--- what is found of a log at once: the thread uses the block well, beside one other, and its last sequence on hart 0 has
+each_beside : (b : Placed) (others : List Placed) → stand_apart b others ≡ true → (other : Placed)
+    → Contains others other → LiesBeside b other
+each_beside b [] is other (k, lt, at) = absurd (omega arith)
+each_beside b (x ∷ rest) is other (zero, lt, at) =
+    subst (LiesBeside b) at (lies_so b x (and_parts (stands_apart b x) (stand_apart b rest) is).0)
+each_beside b (x ∷ rest) is other (suc k, lt, at) =
+    each_beside b rest (and_parts (stands_apart b x) (stand_apart b rest) is).1 other (k, omega arith, at)
+
+-- what is found of a log at once: the thread uses the block well, beside others, and its last sequence on hart 0 has
 -- come to the post-commit address, and passes a test
 abbrev pub commits_so : Setting → Form → ℕ → ℕ → (Sequence → Bool) → Sequence → Bool
 commits_so s form at t fits q =
@@ -190,45 +198,45 @@ commits_so s form at t fits q =
     && (is_inside (range_of form at) (file s t q.begun).pc
     && (eqb (file s t q.reached).pc (at + 4 * committed form) && fits q))
 
-abbrev pub is_good : (s : Setting) (form : Form) → IsTested form → ℕ → Area → ℕ → Placed → (Sequence → Bool) → History
+abbrev pub is_good : (s : Setting) (form : Form) → IsTested form → ℕ → Area → ℕ → List Placed → (Sequence → Bool) → History
     → Bool
-is_good s form tested at area t x fits before =
+is_good s form tested at area t others fits before =
     are_fine s form tested at area t before
     && (always_begins_freely s form tested at area t before
-    && (shares_so s form tested at area t (x ∷ []) before
+    && (shares_so s form tested at area t others before
     && option_map_or (commits_so s form at t fits) (sequence_on s 0 before) false))
 
-pub record IsGood (s : Setting) (log : List Entry) (form : Form) (at : ℕ) (area : Area) (x : Placed)
+pub record IsGood (s : Setting) (log : List Entry) (form : Form) (at : ℕ) (area : Area) (others : List Placed)
     (fits : Sequence → Bool) : Type 0 where
   pub sequence : Sequence
-  pub used : IsWellUsed s log form at area (x ∷ []) sequence
+  pub used : IsWellUsed s log form at area others sequence
   pub passes : fits sequence ≡ true
 
 module _ (s : Setting) (log : List Entry) (form : Form) (tested : IsTested form) (at : ℕ) (area : Area) (t : ℕ)
-    (x : Placed) (fits : Sequence → Bool) (run : IsBlockRun s log)
-    (good : is_good s form tested at area t x fits (history s log) ≡ true) (low : is_low s form at area ≡ true)
-    (there : AreThere (code_of s.program.pages) at form.words) (apart : stands_apart (placed_of form at area) x ≡ true)
+    (others : List Placed) (fits : Sequence → Bool) (run : IsBlockRun s log)
+    (good : is_good s form tested at area t others fits (history s log) ≡ true) (low : is_low s form at area ≡ true)
+    (there : AreThere (code_of s.program.pages) at form.words) (apart : stand_apart (placed_of form at area) others ≡ true)
   where
     abbrev past : History
     past = history s log
 
     one : (are_fine s form tested at area t past ≡ true)
         × (always_begins_freely s form tested at area t past
-        && (shares_so s form tested at area t (x ∷ []) past
+        && (shares_so s form tested at area t others past
         && option_map_or (commits_so s form at t fits) (sequence_on s 0 past) false) ≡ true)
     one = and_parts (are_fine s form tested at area t past) _ good
 
     two : (always_begins_freely s form tested at area t past ≡ true)
-        × (shares_so s form tested at area t (x ∷ []) past
+        × (shares_so s form tested at area t others past
         && option_map_or (commits_so s form at t fits) (sequence_on s 0 past) false ≡ true)
     two = and_parts (always_begins_freely s form tested at area t past) _ one.1
 
-    three : (shares_so s form tested at area t (x ∷ []) past ≡ true)
+    three : (shares_so s form tested at area t others past ≡ true)
         × (option_map_or (commits_so s form at t fits) (sequence_on s 0 past) false ≡ true)
-    three = and_parts (shares_so s form tested at area t (x ∷ []) past) _ two.1
+    three = and_parts (shares_so s form tested at area t others past) _ two.1
 
     found : (o : Option Sequence) → sequence_on s 0 past ≡ o → option_map_or (commits_so s form at t fits) o false ≡ true
-        → IsGood s log form at area x fits
+        → IsGood s log form at area others fits
     found None is test = absurd (false≢true test)
     found (Some q) is test =
         let first = and_parts (eqb q.thread t) _ test in
@@ -243,9 +251,9 @@ module _ (s : Setting) (log : List Entry) (form : Form) (tested : IsTested form)
                 (holds_so s form tested at area t past run.allowed one.0 low there);
             begins = subst (λ n. CanAlwaysBegin s (placed_of form at area) n past) same
                 (all_can_begin s form tested at area t past run.allowed two.0);
-            shares = subst (λ n. SharesAreaWith s past (placed_of form at area) n (x ∷ [])) same
-                (all_shares s form tested at area t (x ∷ []) past run.allowed one.0 three.0
-                (one_beside (placed_of form at area) x apart));
+            shares = subst (λ n. SharesAreaWith s past (placed_of form at area) n others) same
+                (all_shares s form tested at area t others past run.allowed one.0 three.0
+                (each_beside (placed_of form at area) others apart));
             is = is;
             inside = subst (λ n. IsIn s (range_of form at) n q.begun) same second.0;
             commits = subst (λ n. (file s n q.reached).pc ≡ at + 4 * committed form) same
@@ -254,5 +262,5 @@ module _ (s : Setting) (log : List Entry) (form : Form) (tested : IsTested form)
           passes = third.1;
         }
 
-    pub found_good : IsGood s log form at area x fits
+    pub found_good : IsGood s log form at area others fits
     found_good = found (sequence_on s 0 past) refl three.1

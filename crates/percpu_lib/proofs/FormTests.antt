@@ -1,8 +1,7 @@
 -- What is tested of each block on hart 0, by computation.
-use Rattle.std.proofs.Common.{◌≡◌, ◌≢◌, ℕ, ◌+◌, ◌-◌, ◌*◌, ◌≤◌, ◌^◌, List, [], ◌∷◌, ◌++◌, refl, sym, ap, ◌∙◌, arith, Bool, true, false, not, cond}
-use Rattle.std.proofs.Common.{◌&&◌, ◌||◌, ◌⊎◌, inl, inr, ⊎_elim, eqb, leb, Some}
-use Rattle.std.proofs.lemmas.Bool.{and_from, and_parts, false≢true, leb-true, ne_eqb}
-use Rattle.mach_types.specs.declared.sequences.Area.{Area}
+use Rattle.std.proofs.Common.{◌≡◌, ◌≢◌, ℕ, ◌+◌, ◌-◌, ◌^◌, List, [], ◌∷◌, refl, sym, ◌∙◌, Bool, true, false, not, cond}
+use Rattle.std.proofs.Common.{◌&&◌, ◌||◌, ◌⊎◌, inl, inr, ⊎_elim, eqb, leb}
+use Rattle.std.proofs.lemmas.Bool.{and_parts, false≢true, leb-true, ne_eqb}
 use Rattle.alone_laws.specs.Blocks.{among}
 use Rattle.block_model.specs.History.{History}
 use Rattle.block_model.specs.Setting.{Setting}
@@ -14,8 +13,7 @@ use Rattle.percpu_lib.specs.Pops.{head_of, pop_form}
 use Rattle.percpu_lib.specs.Pushes.{IsNodeApart, LieBeside, node_of, push_form}
 use Rattle.percpu_lib.specs.Uses.{add_form, cells_of}
 use Rattle.percpu_lib.specs.declared.slots.Slots.{Slots}
-use Rattle.percpu_lib.proofs.BlockWords.{or_true}
-use Rattle.percpu_lib.proofs.UseTests.{IsTested, either, implies, follows, is_among}
+use Rattle.percpu_lib.proofs.UseTests.{IsTested, either, is_among}
 
 -- so many bytes lie beside others
 abbrev lie_beside : ℕ → ℕ → ℕ → ℕ → Bool

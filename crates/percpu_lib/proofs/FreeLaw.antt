@@ -1,7 +1,7 @@
 -- A sequence of a free block is one run of its thread alone, and so puts its value into the pool once or not at all.
-use Rattle.std.proofs.Common.{◌≡◌, ◌≢◌, ℕ, ◌+◌, ◌-◌, ◌*◌, ◌<◌, ◌≤◌, ◌%◌, ◌^◌, List, [], ◌∷◌, ◌++◌, refl, sym, ap, ◌∙◌, subst}
+use Rattle.std.proofs.Common.{◌≡◌, ◌≢◌, ℕ, ◌+◌, ◌*◌, ◌<◌, ◌≤◌, ◌%◌, ◌^◌, List, [], ◌∷◌, ◌++◌, refl, sym, ap, ◌∙◌, subst}
 use Rattle.std.proofs.Common.{arith, Bool, true, false, not, ◌&&◌, ◌||◌, eqb, Option, Some, inl, inr, ◌⊎◌, append-nil, pos}
-use Rattle.std.proofs.Common.{negsuc, unwrap_or}
+use Rattle.std.proofs.Common.{unwrap_or}
 use Rattle.std.proofs.lemmas.Bool.{eqb-false, eqb-true}
 use Rattle.mach_types.specs.Bytes.{byte_over, each_byte, word_at}
 use Rattle.mach_types.specs.Kernel.Areas.{is_inside}

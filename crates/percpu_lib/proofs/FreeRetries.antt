@@ -1,7 +1,7 @@
 -- Each retry of a free block works on the value that came in: it is copied into x28 at the retry label, and an abort brings
 -- it back from there.
-use Rattle.std.proofs.Common.{◌≡◌, ◌≢◌, ℕ, ◌+◌, ◌*◌, ◌<◌, ◌≤◌, ◌^◌, ◌⊎◌, inl, inr, List, [], ◌∷◌, ◌++◌, refl, sym, ap, ◌∙◌}
-use Rattle.std.proofs.Common.{arith, Bool, true, false, not, ◌||◌, eqb, length, slice_get, subst, Option, Some, pos}
+use Rattle.std.proofs.Common.{◌≡◌, ◌≢◌, ℕ, ◌+◌, ◌*◌, ◌<◌, ◌≤◌, ◌^◌, ◌⊎◌, inl, inr, List, ◌++◌, refl, sym, ap, ◌∙◌}
+use Rattle.std.proofs.Common.{arith, Bool, true, not, ◌||◌, eqb, slice_get, subst, Option, Some, pos}
 use Rattle.std.proofs.lemmas.Bool.{cases_eq, cases_lt, false≢true, ne_eqb}
 use Rattle.mach_types.proofs.Laws.{eqb_same}
 use Rattle.mach_types.specs.Kernel.Areas.{is_inside}
@@ -14,7 +14,6 @@ use Rattle.rv_inst.specs.Execution.{Outcome, outcome}
 use Rattle.rv_inst.specs.Meaning.{meaning}
 use Rattle.rv_inst.specs.Words.{sum_64, word}
 use Rattle.rv_inst.specs.declared.effects.Effect.{Effect}
-use Rattle.rv_inst.specs.declared.effects.Effect.TheVariants as effect
 use Rattle.rv_inst.specs.declared.instruction.Inst.{Inst}
 use Rattle.rv_inst.specs.declared.instruction.Inst.TheVariants as inst
 use Rattle.alone.specs.Alone.{effect_at}
@@ -25,9 +24,9 @@ use Rattle.block_model.specs.History.{History, file}
 use Rattle.block_model.specs.Run.{IsBlockRun}
 use Rattle.block_model.specs.Setting.{Setting}
 use Rattle.block_model.proofs.Laws.{HasRegisters}
-use Rattle.alone_laws.specs.Retries.{Retries, post_commit}
+use Rattle.alone_laws.specs.Retries.{Retries}
 use Rattle.alone_laws.specs.Spans.{code_of}
-use Rattle.alone_laws.specs.Uses.{Placed, in_block}
+use Rattle.alone_laws.specs.Uses.{Placed}
 use Rattle.alone_laws.proofs.Arrivals.{IsCode, KnowsAt}
 use Rattle.alone_laws.proofs.Retrying.{IsKept, first_place, known_throughout}
 use Rattle.percpu_lib.specs.Forms.{Form, HoldsBlock, placed_of, range_of}

@@ -1,18 +1,14 @@
 -- Words that were assembled of lines are of the instructions of the lines.
-use Rattle.std.proofs.Common.{◌≡◌, ℕ, zero, suc, ◌+◌, ◌*◌, List, [], ◌∷◌, ◌++◌, length, slice_get, set, refl}
+use Rattle.std.proofs.Common.{◌≡◌, ℕ, zero, suc, ◌+◌, List, [], ◌∷◌, ◌++◌, length, slice_get, set, refl}
 use Rattle.std.proofs.Common.{sym, ap, ◌∙◌, arith, subst, Option, Some, None, cond, Bool, true, false}
-use Rattle.std.proofs.Common.{append_assoc, append-nil, length-append, pos, negsuc, ℤ, ◌-ℤ◌}
+use Rattle.std.proofs.Common.{append_assoc, append-nil, length-append}
 use Rattle.std.specs.Option.{option_map}
-use Rattle.std.proofs.lemmas.Int.{ints}
 use Rattle.rv_asm.specs.Assembly.{Assembly, IsWordOf, aimed, distance, index_of}
 use Rattle.rv_asm.specs.declared.item.Item.{Item}
 use Rattle.rv_asm.specs.declared.item.Item.TheVariants as item
 use Rattle.rv_inst.specs.Table.{row_of}
 use Rattle.rv_inst.specs.declared.instruction.Inst.{Inst}
-use Rattle.rv_inst.specs.declared.instruction.Inst.TheVariants as inst
-use Rattle.percpu_lib.specs.Adds.{add_block, add_lines}
 use Rattle.percpu_lib.specs.Lines.{IsEmitted, instructions, is_free, with_item, with_label}
-use Rattle.percpu_lib.specs.declared.slots.Slots.{Slots}
 use Rattle.percpu_lib.specs.declared.lines.Line.{Line}
 use Rattle.percpu_lib.specs.declared.lines.Line.TheVariants as line
 

@@ -1,11 +1,11 @@
 -- The courses of all blocks, when they are done, and on what their retries work.
-use Rattle.std.proofs.Common.{◌≡◌, ℕ, zero, suc, ◌+◌, ◌*◌, ◌<◌, ◌≤◌, ◌^◌, ◌⊎◌, List, ◌++◌, refl, arith, subst, true, false, Some, pos}
+use Rattle.std.proofs.Common.{◌≡◌, ℕ, zero, suc, ◌+◌, ◌*◌, ◌<◌, ◌≤◌, ◌^◌, ◌⊎◌, List, ◌++◌, refl, arith, subst, true, Some, pos}
 use Rattle.std.proofs.lemmas.Bool.{false≢true}
 use Rattle.mach_types.specs.Registers.{register}
 use Rattle.mach_types.specs.declared.events.Entry.{Entry}
 use Rattle.mach_types.specs.declared.sequences.Area.{Area}
 use Rattle.block_model.specs.Deciding.{history}
-use Rattle.block_model.specs.History.{History, file, running}
+use Rattle.block_model.specs.History.{file, running}
 use Rattle.block_model.specs.Run.{IsBlockRun}
 use Rattle.block_model.specs.Setting.{Setting}
 use Rattle.elf_load.specs.declared.image.ImagePage.{ImagePage}
@@ -15,7 +15,7 @@ use Rattle.alone_laws.specs.Spans.{code_of}
 use Rattle.alone_laws.specs.Undisturbed.{Brings, IsUndisturbed, executed_on}
 use Rattle.alone_laws.specs.Uses.{AlwaysOutside, CanAlwaysBegin, Placed}
 use Rattle.percpu_lib.specs.Beside.{IsOfLibrary}
-use Rattle.percpu_lib.specs.Forms.{Form, HoldsBlock, IsCommitted, committed, placed_of}
+use Rattle.percpu_lib.specs.Forms.{HoldsBlock, IsCommitted, committed, placed_of}
 use Rattle.percpu_lib.specs.Frees.{free_form}
 use Rattle.percpu_lib.specs.Kinds.{Kind, adds, allocs, form_of, frees, pops, pushes, takes_in}
 use Rattle.percpu_lib.specs.Pushes.{push_form}

@@ -1,7 +1,7 @@
 -- A worked log, by computation: a thread registers its area and pushes a node on the list of its processor by a push
 -- block. It is preempted inside, once the node is linked, begins anew at the abort handler, and pushes once. Then it pops
 -- the node off by a pop block, and finds the list empty by another sequence of that.
-use Rattle.std.proofs.Common.{◌≡◌, ℕ, ◌+◌, ◌*◌, ◌^◌, List, [], ◌∷◌, ◌++◌, replicate, take, drop, refl}
+use Rattle.std.proofs.Common.{◌≡◌, ℕ, List, [], ◌∷◌, ◌++◌, replicate, take, drop, refl}
 use Rattle.std.proofs.Common.{Bool, true, eqb, Ok}
 use Rattle.mach_types.specs.Kernel.Areas.{are_readable, number_at}
 use Rattle.mach_types.specs.Registers.{register}
@@ -184,14 +184,14 @@ push_log = take 36 log
 abbrev pub push_fits : Sequence → Bool
 push_fits q = is_just (cell_seen setting 0 (cells_of setting push_slots q.thread q.begun) q.reached) 0x20100
 
-push_good : is_good setting (push_form push_slots) (push_tested push_slots) push_at area 1 the_pop push_fits
+push_good : is_good setting (push_form push_slots) (push_tested push_slots) push_at area 1 (the_pop ∷ []) push_fits
     (history setting push_log) ≡ true
 unfolding decide history done meaning row_of rows lui_rows auipc_rows jal_rows jalr_rows branch_rows load_rows store_rows op_imm_rows op_imm_32_rows op_rows op_32_rows misc_mem_rows amo_rows system_rows are_readable number_at
 push_good = refl
 
-pub push_used : IsGood setting push_log (push_form push_slots) push_at area the_pop push_fits
+pub push_used : IsGood setting push_log (push_form push_slots) push_at area (the_pop ∷ []) push_fits
 push_used =
-    found_good setting push_log (push_form push_slots) (push_tested push_slots) push_at area 1 the_pop
+    found_good setting push_log (push_form push_slots) (push_tested push_slots) push_at area 1 (the_pop ∷ [])
     push_fits (run_before setting (take 36 log) (drop 36 log) is_run) push_good refl push_there refl
 
 -- the pop: the value is the node
@@ -201,14 +201,14 @@ pop_log = take 49 log
 abbrev pub pop_fits : Sequence → Bool
 pop_fits q = eqb (register (file setting q.thread q.reached).file 19) 0x20100
 
-pop_good : is_good setting (pop_form pop_slots) (pop_tested pop_slots) pop_at area 1 the_push pop_fits
+pop_good : is_good setting (pop_form pop_slots) (pop_tested pop_slots) pop_at area 1 (the_push ∷ []) pop_fits
     (history setting pop_log) ≡ true
 unfolding decide history done meaning row_of rows lui_rows auipc_rows jal_rows jalr_rows branch_rows load_rows store_rows op_imm_rows op_imm_32_rows op_rows op_32_rows misc_mem_rows amo_rows system_rows are_readable number_at
 pop_good = refl
 
-pub pop_used : IsGood setting pop_log (pop_form pop_slots) pop_at area the_push pop_fits
+pub pop_used : IsGood setting pop_log (pop_form pop_slots) pop_at area (the_push ∷ []) pop_fits
 pop_used =
-    found_good setting pop_log (pop_form pop_slots) (pop_tested pop_slots) pop_at area 1 the_push
+    found_good setting pop_log (pop_form pop_slots) (pop_tested pop_slots) pop_at area 1 (the_push ∷ [])
     pop_fits (run_before setting (take 49 log) (drop 49 log) is_run) pop_good refl pop_there refl
 
 -- the pop of an empty list: the value is 0
@@ -218,12 +218,12 @@ empty_log = log
 abbrev pub empty_fits : Sequence → Bool
 empty_fits q = eqb (register (file setting q.thread q.reached).file 19) 0
 
-empty_good : is_good setting (pop_form pop_slots) (pop_tested pop_slots) pop_at area 1 the_push empty_fits
+empty_good : is_good setting (pop_form pop_slots) (pop_tested pop_slots) pop_at area 1 (the_push ∷ []) empty_fits
     (history setting empty_log) ≡ true
 unfolding decide history done meaning row_of rows lui_rows auipc_rows jal_rows jalr_rows branch_rows load_rows store_rows op_imm_rows op_imm_32_rows op_rows op_32_rows misc_mem_rows amo_rows system_rows are_readable number_at
 empty_good = refl
 
-pub empty_used : IsGood setting empty_log (pop_form pop_slots) pop_at area the_push empty_fits
+pub empty_used : IsGood setting empty_log (pop_form pop_slots) pop_at area (the_push ∷ []) empty_fits
 empty_used =
-    found_good setting empty_log (pop_form pop_slots) (pop_tested pop_slots) pop_at area 1 the_push
+    found_good setting empty_log (pop_form pop_slots) (pop_tested pop_slots) pop_at area 1 (the_push ∷ [])
     empty_fits is_run empty_good refl pop_there refl

@@ -1,7 +1,7 @@
 -- A worked log, by computation: a thread registers its area and puts 42 into the pool of its processor by a free block. It
 -- is preempted inside, once its value is 0, begins anew at the abort handler, which brings the value back, and puts it in
 -- once. Then it takes it out by an alloc block, and finds the pool empty by another sequence of that.
-use Rattle.std.proofs.Common.{◌≡◌, ℕ, ◌+◌, ◌*◌, ◌^◌, List, [], ◌∷◌, ◌++◌, replicate, take, drop, refl}
+use Rattle.std.proofs.Common.{◌≡◌, ℕ, List, [], ◌∷◌, ◌++◌, replicate, take, drop, refl}
 use Rattle.std.proofs.Common.{Bool, true, eqb, Ok}
 use Rattle.mach_types.specs.Kernel.Areas.{are_readable, number_at}
 use Rattle.mach_types.specs.Registers.{register}
@@ -207,14 +207,14 @@ free_log = take 51 log
 abbrev pub free_fits : Sequence → Bool
 free_fits q = is_just (word_seen setting 0 (slot_at (pool_at (cells_of setting free_slots q.thread q.begun) 0) 0) q.reached) 42
 
-free_good : is_good setting (free_form free_slots) (free_tested free_slots) free_at area 1 the_alloc free_fits
+free_good : is_good setting (free_form free_slots) (free_tested free_slots) free_at area 1 (the_alloc ∷ []) free_fits
     (history setting free_log) ≡ true
 unfolding decide history done meaning row_of rows lui_rows auipc_rows jal_rows jalr_rows branch_rows load_rows store_rows op_imm_rows op_imm_32_rows op_rows op_32_rows misc_mem_rows amo_rows system_rows are_readable number_at
 free_good = refl
 
-pub free_used : IsGood setting free_log (free_form free_slots) free_at area the_alloc free_fits
+pub free_used : IsGood setting free_log (free_form free_slots) free_at area (the_alloc ∷ []) free_fits
 free_used =
-    found_good setting free_log (free_form free_slots) (free_tested free_slots) free_at area 1 the_alloc
+    found_good setting free_log (free_form free_slots) (free_tested free_slots) free_at area 1 (the_alloc ∷ [])
     free_fits (run_before setting (take 51 log) (drop 51 log) is_run) free_good refl free_there refl
 
 -- the alloc: the value is 42
@@ -224,14 +224,14 @@ alloc_log = take 68 log
 abbrev pub alloc_fits : Sequence → Bool
 alloc_fits q = eqb (register (file setting q.thread q.reached).file 19) 42
 
-alloc_good : is_good setting (alloc_form alloc_slots) (alloc_tested alloc_slots) alloc_at area 1 the_free alloc_fits
+alloc_good : is_good setting (alloc_form alloc_slots) (alloc_tested alloc_slots) alloc_at area 1 (the_free ∷ []) alloc_fits
     (history setting alloc_log) ≡ true
 unfolding decide history done meaning row_of rows lui_rows auipc_rows jal_rows jalr_rows branch_rows load_rows store_rows op_imm_rows op_imm_32_rows op_rows op_32_rows misc_mem_rows amo_rows system_rows are_readable number_at
 alloc_good = refl
 
-pub alloc_used : IsGood setting alloc_log (alloc_form alloc_slots) alloc_at area the_free alloc_fits
+pub alloc_used : IsGood setting alloc_log (alloc_form alloc_slots) alloc_at area (the_free ∷ []) alloc_fits
 alloc_used =
-    found_good setting alloc_log (alloc_form alloc_slots) (alloc_tested alloc_slots) alloc_at area 1 the_free
+    found_good setting alloc_log (alloc_form alloc_slots) (alloc_tested alloc_slots) alloc_at area 1 (the_free ∷ [])
     alloc_fits (run_before setting (take 68 log) (drop 68 log) is_run) alloc_good refl alloc_there refl
 
 -- the alloc of an empty pool: the value is 0
@@ -241,12 +241,12 @@ none_log = log
 abbrev pub none_fits : Sequence → Bool
 none_fits q = eqb (register (file setting q.thread q.reached).file 19) 0
 
-none_good : is_good setting (alloc_form alloc_slots) (alloc_tested alloc_slots) alloc_at area 1 the_free none_fits
+none_good : is_good setting (alloc_form alloc_slots) (alloc_tested alloc_slots) alloc_at area 1 (the_free ∷ []) none_fits
     (history setting none_log) ≡ true
 unfolding decide history done meaning row_of rows lui_rows auipc_rows jal_rows jalr_rows branch_rows load_rows store_rows op_imm_rows op_imm_32_rows op_rows op_32_rows misc_mem_rows amo_rows system_rows are_readable number_at
 none_good = refl
 
-pub none_used : IsGood setting none_log (alloc_form alloc_slots) alloc_at area the_free none_fits
+pub none_used : IsGood setting none_log (alloc_form alloc_slots) alloc_at area (the_free ∷ []) none_fits
 none_used =
-    found_good setting none_log (alloc_form alloc_slots) (alloc_tested alloc_slots) alloc_at area 1 the_free
+    found_good setting none_log (alloc_form alloc_slots) (alloc_tested alloc_slots) alloc_at area 1 (the_free ∷ [])
     none_fits is_run none_good refl alloc_there refl

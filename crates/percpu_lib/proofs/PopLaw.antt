@@ -1,9 +1,8 @@
 -- A sequence of a pop block is one run of its thread alone, and so pops once or not at all.
 use Rattle.std.proofs.Common.{◌≡◌, ◌≢◌, ℕ, ◌+◌, ◌*◌, ◌<◌, ◌≤◌, ◌%◌, ◌^◌, List, [], ◌∷◌, ◌++◌, refl, sym, ap, ◌∙◌, subst}
 use Rattle.std.proofs.Common.{arith, Bool, true, false, not, ◌&&◌, ◌||◌, eqb, Option, Some, inl, inr, ◌⊎◌, append-nil, pos}
-use Rattle.std.proofs.Common.{negsuc, unwrap_or}
+use Rattle.std.proofs.Common.{unwrap_or}
 use Rattle.std.proofs.lemmas.Bool.{eqb-false, eqb-true}
-use Rattle.std.proofs.lemmas.Int.{ints}
 use Rattle.mach_types.specs.Bytes.{each_byte, word_at}
 use Rattle.mach_types.specs.Kernel.Areas.{is_inside}
 use Rattle.mach_types.specs.Registers.{register}
@@ -28,7 +27,7 @@ use Rattle.block_model.specs.History.{History, file, stores}
 use Rattle.block_model.specs.Setting.{Setting}
 use Rattle.percpu_lib.specs.Adds.{cell_at, cell_seen, cell_store}
 use Rattle.percpu_lib.specs.Forms.{IsBlockPlace}
-use Rattle.percpu_lib.specs.Pops.{IsNoPop, IsWholePop, Pops, head_of, pop_block, pop_bytes, pop_form, pop_range}
+use Rattle.percpu_lib.specs.Pops.{Pops, head_of, pop_block, pop_bytes, pop_form, pop_range}
 use Rattle.percpu_lib.specs.Pops.{pops_first, pops_none}
 use Rattle.percpu_lib.specs.Pushes.{word_seen}
 use Rattle.percpu_lib.specs.Uses.{cells_of}
@@ -38,7 +37,7 @@ use Rattle.percpu_lib.proofs.BlockCode.{IsFormed, behind_range}
 use Rattle.percpu_lib.proofs.BlockWords.{beside_pointer, or_true}
 use Rattle.percpu_lib.proofs.CellPath.{BeginsSo, inside_at, to_cell}
 use Rattle.percpu_lib.proofs.Changes.{area_not_changed, cells_not_changed, means_beq_not, means_beq_taken, put_other}
-use Rattle.percpu_lib.proofs.Changes.{put_same, scratch_not, some_value, value_changed, zero_not_changed}
+use Rattle.percpu_lib.proofs.Changes.{put_same, scratch_not, some_value, value_changed}
 use Rattle.percpu_lib.proofs.CourseLaw.{HasPath, IsAfter, course_of, way}
 use Rattle.percpu_lib.proofs.Courses.{HasCourse}
 use Rattle.percpu_lib.proofs.FormedWords.{AreFit, words_fit}

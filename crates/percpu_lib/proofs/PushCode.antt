@@ -1,5 +1,5 @@
 -- The words of a push block.
-use Rattle.std.proofs.Common.{◌<◌, ◌^◌, refl, arith, pos}
+use Rattle.std.proofs.Common.{refl, arith, pos}
 use Rattle.rv_inst.specs.declared.instruction.Inst.TheVariants as inst
 use Rattle.percpu_lib.specs.Pushes.{push_block, push_form}
 use Rattle.percpu_lib.specs.declared.slots.Slots.{Slots}

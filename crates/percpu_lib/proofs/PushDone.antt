@@ -9,13 +9,11 @@ use Rattle.block_model.specs.Setting.{Setting}
 use Rattle.alone_laws.specs.Undisturbed.{Brings, IsUndisturbed, executed_on}
 use Rattle.alone_laws.specs.Uses.{AlwaysOutside, CanAlwaysBegin}
 use Rattle.percpu_lib.specs.Forms.{IsCommitted}
+use Rattle.percpu_lib.specs.Kinds.{pushes}
 use Rattle.percpu_lib.specs.Pushes.{HoldsPush, IsPushed, placed_push, push_form}
 use Rattle.percpu_lib.specs.declared.slots.Slots.{Slots}
-use Rattle.percpu_lib.proofs.PushLaw.{push_course}
-use Rattle.percpu_lib.proofs.BlockCourse.{AsksFirst, comes_to_commit, is_brought}
-
-asks_first : (p : Slots) → AsksFirst (push_form p) 0
-asks_first p = record { all = refl; copies = λ k lt. absurd (omega arith); lw = refl; lui = refl; addi = refl; store = refl }
+use Rattle.percpu_lib.proofs.BlockCourse.{is_brought}
+use Rattle.percpu_lib.proofs.KindLaws.{comes_to_end}
 
 is_pushed : (s : Setting) (p : Slots) (at h t : ℕ) (now : History) → IsCommitted s (push_form p) at h t now
     → IsPushed s p at h t now
@@ -37,5 +35,4 @@ pub comes_to_push : (s : Setting) (p : Slots) (at : ℕ) (area : Area) (h t : �
     → 11 ≤ executed_on h rest → Brings s h 11 (IsPushed s p at h t) log rest
 comes_to_push s p at area h t log rest run held begins outside runs pc calm many =
     is_brought s h 11 log rest (IsCommitted s (push_form p) at h t) (IsPushed s p at h t) (is_pushed s p at h t)
-    (comes_to_commit s (push_form p) at area h t (push_course p) 0 (asks_first p) 10 refl log rest run held begins outside
-    runs pc calm many)
+    (comes_to_end pushes s p at area h t log rest run held begins outside runs pc calm many)

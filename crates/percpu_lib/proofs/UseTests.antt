@@ -1,6 +1,6 @@
 -- Tests of each event of a run on hart 0 that find from its history that a thread uses a block as it should: what
 -- HoldsBlock asks of each event, by computation. They ask for more than it does.
-use Rattle.std.proofs.Common.{◌≡◌, ◌≢◌, ℕ, zero, suc, ◌+◌, ◌*◌, ◌<◌, ◌≤◌, ◌^◌, List, [], ◌∷◌, refl, sym, ap}
+use Rattle.std.proofs.Common.{◌≡◌, ◌≢◌, ℕ, zero, suc, ◌+◌, ◌*◌, ◌<◌, ◌≤◌, List, [], ◌∷◌, refl, sym, ap}
 use Rattle.std.proofs.Common.{◌∙◌, arith, subst, Bool, true, false, not, ◌&&◌, ◌||◌, ◌⊎◌, inl, inr, ⊎_elim, cond}
 use Rattle.std.proofs.Common.{eqb, leb, Option, Some, None}
 use Rattle.std.specs.Option.{option_map_or}

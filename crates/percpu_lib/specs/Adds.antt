@@ -1,6 +1,6 @@
 -- The block that adds to the cell of its processor (librseq, rseq_addv).
-use Rattle.std.specs.Prelude.{ℕ, ◌≡◌, ◌+◌, ◌*◌, ◌<◌, ◌≤◌, ◌%◌, ◌^◌, ◌||◌, ◌⊎◌, Bool, false, List, [], ◌∷◌}
-use Rattle.std.specs.Prelude.{◌++◌, length, Option, Some, None, pos, negsuc}
+use Rattle.std.specs.Prelude.{ℕ, ◌≡◌, ◌+◌, ◌*◌, ◌≤◌, ◌%◌, ◌^◌, ◌||◌, ◌⊎◌, Bool, false, List, [], ◌∷◌}
+use Rattle.std.specs.Prelude.{◌++◌, Option, Some, None, pos, negsuc}
 use Rattle.mach_types.specs.Bytes.{word_at}
 use Rattle.mach_types.specs.Registers.{register}
 use Rattle.mach_types.specs.declared.sequences.Seq.{Seq}
@@ -12,7 +12,7 @@ use Rattle.alone_laws.specs.Blocks.{Block, among}
 use Rattle.alone_laws.specs.Spans.{seen_at}
 use Rattle.alone_laws.specs.Uses.{Placed}
 use Rattle.block_model.specs.declared.acts.SeqEnd.{SeqEnd}
-use Rattle.block_model.specs.History.{History, file, running, stores}
+use Rattle.block_model.specs.History.{History, file, stores}
 use Rattle.block_model.specs.Setting.{Setting}
 use Rattle.mach_types.specs.declared.sequences.Area.{Area}
 use Rattle.percpu_lib.specs.BlockLines.{block_lines}
@@ -71,14 +71,6 @@ pub record IsCellApart (area cells cpu : ℕ) : Type 0 where
   pub low_cells : cell_at cells cpu + 8 ≤ 2 ^ 64
   pub beside : (cell_at cells cpu + 8 ≤ area) ⊎ (area + 32 ≤ cell_at cells cpu)
 
--- where a block stands, and on what it works: no address wraps, and the cell doesn't lie on the area
-pub record AreApart (at area cells cpu : ℕ) : Type 0 where
-  pub aligned : at % 4 ≡ 0
-  pub low : at < 2 ^ 37
-  pub low_area : area + 32 ≤ 2 ^ 38
-  pub few : cpu < 8
-  pub cell : IsCellApart area cells cpu
-
 -- the block of the sequence, where it is of this area
 abbrev pub add_of : Slots → ℕ → Area → ℕ → ℕ → Block
 add_of p at area cells cpu = record {
@@ -120,24 +112,6 @@ pub record IsNoAdd (s : Setting) (cells h t : ℕ) (begun reached : History) : T
   pub stored : stores h reached ≡ stores h begun
   pub kept : (r : ℕ) → is_scratch r ≡ false
       → register (file s t reached).file r ≡ register (file s t begun).file r
-
--- a place at which thread t is about to begin the sequence of an add block on hart h: its registers, and its
--- data
-pub record IsAddBegin (s : Setting) (p : Slots) (at : ℕ) (area : Area) (cells h t : ℕ) (begun : History)
-    : Type 0 where
-  pub apart : AreApart at area.at cells h
-  pub area_is : register (file s t begun).file p.area ≡ area.at
-  pub cells_is : register (file s t begun).file p.cells ≡ cells
-
--- and there a file has 32 registers, and the area names the block and tells the processor
-pub record IsAddPlace (s : Setting) (p : Slots) (at : ℕ) (area : Area) (cells h t : ℕ) (begun : History)
-    : Type 0 where
-  pub runs : running s h begun ≡ Some t
-  pub pc : (file s t begun).pc ≡ at + 16
-  pub begins : IsAddBegin s p at area cells h t begun
-  pub many : length (file s t begun).file.x ≡ 32
-  pub points : word_at (seen_at s h begun) (area.at + 8) 8 ≡ Some p.table
-  pub on_cpu : word_at (seen_at s h begun) (area.at + 4) 4 ≡ Some h
 
 -- how a sequence of an add block ends whose thread is at this pc after its last event
 abbrev pub IsLeftAt : ℕ → ℕ → SeqEnd → Type 0

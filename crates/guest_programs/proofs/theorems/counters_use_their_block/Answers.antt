@@ -1,28 +1,33 @@
 use Rattle.std.proofs.Common.{refl}
+use Rattle.percpu_lib.specs.Adds.{cell_seen}
+use Rattle.percpu_lib.specs.Uses.{cells_of}
+use Rattle.percpu_lib.proofs.UseTests.{just_is}
 use Rattle.guest_programs.proofs.CounterCode.{assembled, assembler, code, emitted}
 use Rattle.guest_programs.proofs.CounterLog as example
 use Rattle.guest_programs.proofs.theorems.counters_use_their_block.Goals as goal
 
 pub returns : goal.returns
-returns c = (
-  assembler,
-  code,
-  example.counting,
-  example.log,
-  example.slots,
-  example.at,
-  example.area,
-  0,
-  example.sequence,
-  emitted,
-  assembled,
-  refl,
-  example.is_run,
-  example.thread_holds,
-  example.thread_begins,
-  example.thread_shares,
-  example.has_added.is,
-  example.inside,
-  example.leaves,
-  example.adds,
-)
+returns c =
+    let its = example.adds_well in (
+      assembler,
+      code,
+      example.counting,
+      example.log,
+      example.slots,
+      example.at,
+      example.area,
+      0,
+      its.sequence,
+      emitted,
+      assembled,
+      refl,
+      its.used.run,
+      its.used.holds,
+      its.used.begins,
+      its.used.shares,
+      its.used.is,
+      its.used.inside,
+      its.used.commits,
+      just_is (cell_seen example.counting 0 (cells_of example.counting example.slots its.sequence.thread its.sequence.begun)
+          its.sequence.reached) 1 its.passes,
+    )
