@@ -1,4 +1,4 @@
-use Rattle.std.proofs.Common.{◌≡◌, length, All, List, subst, sym, ap, ◌∙◌, arith}
+use Rattle.std.proofs.Common.{◌≡◌, length, All, List, subst, sym, ap, ◌∙◌}
 use Rattle.percpu_lib.specs.BlockLines.{block_lines}
 use Rattle.percpu_lib.specs.Lines.{AreEmitted, IsEmittable}
 use Rattle.percpu_lib.specs.Rings.{put_steps, ring_aborted, ring_first, ring_put_lines}
