@@ -287,16 +287,22 @@ blocks : AreBlocks (code_of reading.program.pages) (urcu_of layout)
 blocks = record {
   locks = λ at r is.
       let its = only at 0x10074 read_regs r is in
-      record { holds = λ k i there. ap (λ n. code_of reading.program.pages (n + 4 * k)) its.0
-          ∙ word_is (code_of reading.program.pages) (lock_block read_regs) 0x10074 lock_there k i (ap (λ q. slice_get (lock_block q) k) its.1 ∙ there) };
+      record {
+        holds = λ k i there. ap (λ n. code_of reading.program.pages (n + 4 * k)) its.0
+            ∙ word_is (code_of reading.program.pages) (lock_block read_regs) 0x10074 lock_there k i (ap (λ q. slice_get (lock_block q) k) its.1 ∙ there);
+      };
   unlocks = λ at r is.
       let its = only at 0x1007C read_regs r is in
-      record { holds = λ k i there. ap (λ n. code_of reading.program.pages (n + 4 * k)) its.0
-          ∙ word_is (code_of reading.program.pages) (unlock_block read_regs) 0x1007C unlock_there k i (ap (λ q. slice_get (unlock_block q) k) its.1 ∙ there) };
+      record {
+        holds = λ k i there. ap (λ n. code_of reading.program.pages (n + 4 * k)) its.0
+            ∙ word_is (code_of reading.program.pages) (unlock_block read_regs) 0x1007C unlock_there k i (ap (λ q. slice_get (unlock_block q) k) its.1 ∙ there);
+      };
   syncs = λ at r is.
       let its = only at 0x10030 sync_regs r is in
-      record { holds = λ k i there. ap (λ n. code_of reading.program.pages (n + 4 * k)) its.0
-          ∙ word_is (code_of reading.program.pages) (sync_block sync_regs 1) 0x10030 sync_there k i (ap (λ q. slice_get (sync_block q 1) k) its.1 ∙ there) };
+      record {
+        holds = λ k i there. ap (λ n. code_of reading.program.pages (n + 4 * k)) its.0
+            ∙ word_is (code_of reading.program.pages) (sync_block sync_regs 1) 0x10030 sync_there k i (ap (λ q. slice_get (sync_block q 1) k) its.1 ∙ there);
+      };
   low = λ at r is. let its = (only at 0x10030 sync_regs r is).0 in (omega arith, omega arith);
   low_locks = λ at r is. let its = (only at 0x10074 read_regs r is).0 in omega arith;
   lock_regs = λ at r is. subst AreReadRegs (only at 0x10074 read_regs r is).1 are_read;

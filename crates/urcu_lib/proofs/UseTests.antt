@@ -512,12 +512,14 @@ module _ (s : Setting) (x : Layout) (first : ℕ) where
         by_acts : (b : Bool) → acts_in count at e t ≡ b → HasCome s at count kept t e before
         by_acts true is = acts_it count at t kept is
         by_acts false isnt =
-            goes_on before [] refl
-            (tt, λ executes of within.
-            false≢true (sym isnt
-            ∙ and_from (is_exec (choice_of e.entry)) (eqb e.entry.tid.0 t && is_in_block count at e.entry.pc) (ap is_exec executes)
-            (and_from (eqb e.entry.tid.0 t) (is_in_block count at e.entry.pc) (eq-eqb e.entry.tid.0 t of)
-            (is_in_of count at e.entry.pc (within.0, let lt = within.1 in omega arith, within.2)))))
+            goes_on before [] refl (
+              tt,
+              λ executes of within.
+                  false≢true (sym isnt
+                  ∙ and_from (is_exec (choice_of e.entry)) (eqb e.entry.tid.0 t && is_in_block count at e.entry.pc) (ap is_exec executes)
+                  (and_from (eqb e.entry.tid.0 t) (is_in_block count at e.entry.pc) (eq-eqb e.entry.tid.0 t of)
+                  (is_in_of count at e.entry.pc (within.0, let lt = within.1 in omega arith, within.2)))),
+            )
             same
 
     locking_is : (at t : ℕ) (r : ReadRegs) → u.locks at ≡ Some r → (file s t (e ∷ before)).pc ≡ at + 4 → HasCome s at 2 0 t e before

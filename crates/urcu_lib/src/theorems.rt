@@ -1,12 +1,21 @@
 //! Laws of the blocks in runs, each as the contract of a function that does nothing.
 
-ghost use Rattle.std.specs.Prelude.{ℕ, List, [], ◌∷◌, ◌++◌, Some, ◌≡◌, ◌≤◌, ◌+◌, ◌*◌};
+ghost use Rattle.std.specs.Prelude.{ℕ, List, [], ◌∷◌, ◌++◌, Some, length, ◌≡◌, ◌≤◌, ◌+◌, ◌*◌};
 ghost use Rattle.mach_types.specs.declared.events.Entry.{Entry};
 ghost use Rattle.block_model.specs.Deciding.{event, history};
 ghost use Rattle.block_model.specs.History.{Event, History, file};
 ghost use Rattle.block_model.specs.Run.{IsBlockRun};
 ghost use Rattle.block_model.specs.Setting.{Setting};
-ghost use Rattle.urcu_lib.specs.Blocks.{Urcu};
+ghost use Rattle.elf_load.specs.Images.{IsImage};
+ghost use Rattle.elf_load.specs.declared.image.Image.{Image};
+ghost use Rattle.rv_asm.specs.Assembly.{AreAssembled, Assembly};
+ghost use Rattle.alone_laws.specs.Spans.{code_of};
+ghost use Rattle.percpu_lib.specs.Files.{HoldsCode};
+ghost use Rattle.percpu_lib.specs.Lines.{AreEmitted, IsContinued};
+ghost use Rattle.percpu_lib.specs.Words.{AreHeld};
+ghost use Rattle.urcu_lib.specs.Blocks.{Urcu, lock_block, sync_block, unlock_block};
+ghost use Rattle.urcu_lib.specs.Lines.{AreFree, lock_lines, sync_lines, unlock_lines};
+ghost use Rattle.urcu_lib.specs.declared.regs.ReadRegs.{ReadRegs};
 ghost use Rattle.urcu_lib.specs.declared.regs.SyncRegs.{SyncRegs};
 ghost use Rattle.urcu_lib.specs.Sections.{HaveEnded, IsGraceBegin, IsGraceEnd, IsLockStore};
 ghost use Rattle.urcu_lib.specs.Stretch.{HasFinished, IsCounterGrown, Runs};
@@ -46,4 +55,20 @@ pub fn sync_blocks_are_used()
         × IsLockStore s u 0 (event s (history s first) lock) (history s first)
         × IsGraceBegin at t (event s (history s (first ++ lock ∷ second)) call)
         × IsGraceEnd at t (event s (history s (first ++ lock ∷ (second ++ call ∷ third))) last) }
+{}
+
+/// The program of a file holds the instructions of a block where finished code stands to which the block's lines were
+/// appended, whatever was appended behind them; those of a sync block where its labels were free.
+pub fn files_hold_rcu_blocks()
+    ensures lock { (r : ReadRegs) (at : ℕ) (a b c : Assembly) (bytes file : List ℕ) (image : Image)
+        → AreEmitted (lock_lines r) a b → IsContinued b c → AreAssembled c.labels c.items bytes → IsImage file image
+        → HoldsCode file at bytes → AreHeld (code_of image.pages.items) (at + 4 * length a.items) (lock_block r) }
+    ensures unlock { (r : ReadRegs) (at : ℕ) (a b c : Assembly) (bytes file : List ℕ) (image : Image)
+        → AreEmitted (unlock_lines r) a b → IsContinued b c → AreAssembled c.labels c.items bytes
+        → IsImage file image → HoldsCode file at bytes
+        → AreHeld (code_of image.pages.items) (at + 4 * length a.items) (unlock_block r) }
+    ensures sync { (r : SyncRegs) (base readers at : ℕ) (a b c : Assembly) (bytes file : List ℕ) (image : Image)
+        → AreFree a.labels base → AreEmitted (sync_lines r base readers) a b → IsContinued b c
+        → AreAssembled c.labels c.items bytes → IsImage file image → HoldsCode file at bytes
+        → AreHeld (code_of image.pages.items) (at + 4 * length a.items) (sync_block r readers) }
 {}
