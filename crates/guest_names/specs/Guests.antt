@@ -2,7 +2,7 @@
 use Rattle.std.specs.Prelude.{ℕ, Bool, List, Option, Some, None, if◌then◌else◌, codes, ◌&&◌, nat_le}
 use Rattle.std.specs.Str.{bytes_eq}
 use Rattle.guest_names.specs.declared.names.Name.{Name}
-use Rattle.guest_names.specs.declared.names.Name.TheVariants.{Counter, List as Lists, Pool, Dekker, Signals, Migrate}
+use Rattle.guest_names.specs.declared.names.Name.TheVariants.{Counter, List as Lists, Pool, Dekker, Signals, Migrate, Urcu}
 
 -- the word of a guest
 abbrev pub word_of : Name → List ℕ
@@ -12,6 +12,7 @@ word_of Pool = codes "pool"
 word_of Dekker = codes "dekker"
 word_of Signals = codes "signals"
 word_of Migrate = codes "migrate"
+word_of Urcu = codes "urcu"
 
 -- the guest that a word names, if one does
 abbrev pub name_of : List ℕ → Option Name
@@ -22,6 +23,7 @@ name_of word =
     else if bytes_eq word (codes "dekker") then Some Dekker
     else if bytes_eq word (codes "signals") then Some Signals
     else if bytes_eq word (codes "migrate") then Some Migrate
+    else if bytes_eq word (codes "urcu") then Some Urcu
     else None
 
 -- the greatest size that a guest takes
@@ -32,6 +34,7 @@ most_size Pool = 1000
 most_size Dekker = 1000
 most_size Signals = 1000
 most_size Migrate = 63
+most_size Urcu = 1000
 
 -- whether a guest takes a size: from 1 to the greatest
 abbrev pub is_size : Name → ℕ → Bool

@@ -18,6 +18,8 @@ pub enum Name {
     Signals,
     /// Threads that add to counters and go from processor to processor.
     Migrate,
+    /// A thread exchanges nodes that three others read, and waits for them by user-space RCU.
+    Urcu,
 }
 
 impl Name {
@@ -32,6 +34,7 @@ impl Name {
             "dekker" => Some(Name::Dekker),
             "signals" => Some(Name::Signals),
             "migrate" => Some(Name::Migrate),
+            "urcu" => Some(Name::Urcu),
             _ => None,
         }
     }
@@ -47,6 +50,7 @@ impl Name {
             Name::Dekker => "dekker",
             Name::Signals => "signals",
             Name::Migrate => "migrate",
+            Name::Urcu => "urcu",
         }
     }
 
@@ -56,7 +60,7 @@ impl Name {
     {
         match self {
             Name::Counter => 10_000,
-            Name::List | Name::Pool | Name::Dekker | Name::Signals => 1_000,
+            Name::List | Name::Pool | Name::Dekker | Name::Signals | Name::Urcu => 1_000,
             Name::Migrate => 63,
         }
     }

@@ -6,13 +6,13 @@ use Rattle.elf_load.specs.Faults.{first_fault}
 use Rattle.elf_load.specs.Images.{IsImage}
 use Rattle.guest_names.specs.Guests.{is_size}
 use Rattle.guest_names.specs.declared.names.Name.{Name}
-use Rattle.guest_names.specs.declared.names.Name.TheVariants.{Counter, List as Lists, Pool, Dekker, Signals, Migrate}
+use Rattle.guest_names.specs.declared.names.Name.TheVariants.{Counter, List as Lists, Pool, Dekker, Signals, Migrate, Urcu}
 use Rattle.percpu_lib.specs.Adds.{add_lines}
 use Rattle.percpu_lib.specs.Allocs.{alloc_lines}
 use Rattle.percpu_lib.specs.Frees.{free_lines}
 use Rattle.percpu_lib.specs.Pops.{pop_lines}
 use Rattle.percpu_lib.specs.Pushes.{push_lines}
-use Rattle.guest_programs.specs.Blocks.{HoldsBlock, start_word}
+use Rattle.guest_programs.specs.Blocks.{HoldsBlock, HoldsRcu, start_word}
 use Rattle.guest_programs.specs.Programs.{IsGuestElf}
 use Rattle.guest_programs.specs.declared.fault.GuestFault.{GuestFault}
 use Rattle.guest_programs.specs.declared.fault.GuestFault.TheVariants.{BadSize, NoMemory}
@@ -25,6 +25,7 @@ HoldsBlocks Pool pages = HoldsBlock alloc_lines pages × HoldsBlock free_lines p
 HoldsBlocks Dekker pages = Unit {0}
 HoldsBlocks Signals pages = HoldsBlock add_lines pages
 HoldsBlocks Migrate pages = HoldsBlock add_lines pages
+HoldsBlocks Urcu pages = HoldsRcu pages
 
 -- where the size stands in memory
 abbrev pub size_address : ℕ

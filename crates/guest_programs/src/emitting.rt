@@ -17,6 +17,7 @@ use crate::shared::{
 };
 use crate::signals::SIGNALS;
 use crate::steps::{BlockKind, Step};
+use crate::urcu::URCU;
 use guest_names::Name;
 use percpu_lib::{
     EmitFault, Slots, emit_add, emit_alloc, emit_free, emit_lines, emit_pop, emit_push,
@@ -36,6 +37,7 @@ fn own_steps(name: Name) -> &'static [Step]
         Name::Dekker => &DEKKER,
         Name::Signals => &SIGNALS,
         Name::Migrate => &MIGRATE,
+        Name::Urcu => &URCU,
     }
 }
 
