@@ -12,8 +12,8 @@ use rv_asm::Asm;
 use rv_inst::Inst;
 use std::alloc::{AllocError, Global};
 
-/// Appends the block before a reader's section: it loads the grace counter into `scratch` and stores it in the
-/// slot (`ld scratch, 0(gp)`, `sd scratch, 0(slot)`).
+/// Appends the block before a reader's section: it loads the grace counter into `scratch` and stores it in
+/// the slot (`ld scratch, 0(gp)`, `sd scratch, 0(slot)`).
 ///
 /// The error is want of memory alone, and leaves the words that were appended before.
 pub fn emit_read_lock(_alloc: Global, asm: &mut Asm, regs: &ReadRegs) -> Result<(), AllocError>

@@ -55,9 +55,9 @@ fn lines_of_sync(base: u32, regs: SyncRegs, readers: u8) -> [Line; 19]
     ]
 }
 
-/// Appends the block that waits for the sections of so many slots, from 1 to 63: it calls membarrier(8, 0, 0),
-/// adds 1 to the grace counter, and for each slot in turn loads it until it is 0 or not below the new counter,
-/// compared without sign.
+/// Appends the block that waits for the sections of so many slots, from 1 to 63: it calls membarrier(8, 0,
+/// 0), adds 1 to the grace counter, and for each slot in turn loads it until it is 0 or not below the new
+/// counter, compared without sign.
 ///
 /// Its last instruction stands behind the loop, so that a thread executes it once, when it leaves the block.
 /// Labels: `base` is the loop, `base + 1` the way to the next slot. `Room` exactly where one of the two isn't

@@ -11,5 +11,6 @@ returns c = record {
   unlock = λ r at a b d bytes file image is more code its holds.
       file_holds (unlock_lines r) (unlock_block r) a b d is more refl file image at bytes its code holds;
   sync = λ r base readers at a b d bytes file image free is more code its holds.
-      file_holds (sync_lines r base readers) (sync_block r readers) a b d is more (sync_same r base readers a b free is d more) file image at bytes its code holds;
+      file_holds (sync_lines r base readers) (sync_block r readers) a b d is more
+      (sync_same r base readers a b free is d more) file image at bytes its code holds;
 }
