@@ -1,6 +1,6 @@
 -- What an event does that executes an instruction whose effect is known.
 use Rattle.std.proofs.Common.{◌≡◌, ℕ, [], ◌∷◌, refl, sym, ap, ◌∙◌, Bool, true, cond, Option, Some, None}
-use Rattle.std.proofs.Common.{is_some, unwrap_or}
+use Rattle.std.proofs.Common.{unwrap_or}
 use Rattle.std.specs.Option.{option_map}
 use Rattle.mach_types.proofs.Laws.{eqb_same}
 use Rattle.mach_types.specs.Bytes.{each_byte, word_at}
@@ -20,13 +20,12 @@ use Rattle.alone_laws.specs.Spans.{IsUsable, alone_from, code_of, seen_at}
 use Rattle.block_model.proofs.Laws.{IsStep}
 use Rattle.alone_laws.proofs.Steps.{did_exec, standing_start, view_is, word_same}
 use Rattle.block_model.specs.Deciding.{entry_in, number_of, pc_in}
-use Rattle.block_model.specs.Events.{done_of, refusal_of}
-use Rattle.block_model.specs.Events.Exec.{by_call, by_effect, by_outcome, called_here, done_exec_by}
-use Rattle.block_model.specs.Events.Exec.{next_effect, next_fault, outcome_of, refusal_exec_by}
+use Rattle.block_model.specs.Events.{refusal_of}
+use Rattle.block_model.specs.Events.Exec.{by_outcome}
+use Rattle.block_model.specs.Events.Exec.{outcome_of, refusal_exec_by}
 use Rattle.block_model.specs.Events.Preempt.{unless_in_barrier}
-use Rattle.block_model.specs.Here.{Done, Here, is_writable, memory, runs, view}
+use Rattle.block_model.specs.Here.{Done, Here, runs, view}
 use Rattle.block_model.specs.History.{Event, History, awaits, file, file_among, here_in_history, running}
-use Rattle.block_model.specs.Instruction.{fault_by, fetched}
 use Rattle.block_model.specs.Setting.{Setting}
 use Rattle.mach_types.specs.declared.events.Entry.{Entry}
 use Rattle.mach_types.specs.declared.events.Why.{Why}

@@ -1,5 +1,5 @@
 -- A run goes on only where no event has ended the process; and what a barrier's return sets.
-use Rattle.std.proofs.Common.{◌≡◌, ◌≢◌, ℕ, [], ◌∷◌, sym, ap, ◌∙◌, refl, Bool, true, false, cond, eqb, Option}
+use Rattle.std.proofs.Common.{◌≡◌, ◌≢◌, ℕ, [], ◌∷◌, ap, ◌∙◌, refl, Bool, true, false, cond, eqb, Option}
 use Rattle.std.proofs.Common.{Some, None}
 use Rattle.std.specs.Option.{option_or}
 use Rattle.std.proofs.lemmas.Bool.{eqb-true}
@@ -11,7 +11,7 @@ use Rattle.alone.proofs.Laws.{written_other}
 use Rattle.block_model.specs.Deciding.{final}
 use Rattle.block_model.specs.Events.{done_of}
 use Rattle.block_model.specs.Events.Finish.{done_done_by}
-use Rattle.block_model.specs.Here.{Done, Here, runs}
+use Rattle.block_model.specs.Here.{Done, runs}
 use Rattle.block_model.specs.History.{Event, History, ended, file, file_among, here_in_history, kernel}
 use Rattle.block_model.specs.Record.{Kernel}
 use Rattle.block_model.specs.Run.{IsRunHistory}

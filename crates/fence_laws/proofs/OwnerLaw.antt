@@ -1,9 +1,8 @@
 -- Bytes in which one thread alone stores: no store to them waits on a hart that doesn't run the thread.
 use Rattle.std.proofs.Common.{◌≡◌, ◌≢◌, ℕ, List, [], ◌∷◌, ◌++◌, eqb, refl, sym, ap, ◌∙◌, subst, Bool, true}
 use Rattle.std.proofs.Common.{false, inl, inr, Option, Some, None}
-use Rattle.std.proofs.lemmas.Bool.{eqb-true, false≢true}
+use Rattle.std.proofs.lemmas.Bool.{eqb-true}
 use Rattle.mach_types.specs.Events.{choice_with}
-use Rattle.mach_types.specs.declared.events.Kind.{Kind}
 use Rattle.mach_types.specs.declared.events.Kind.TheVariants as kind
 use Rattle.mach_types.specs.declared.user_memory.Store.{Store}
 use Rattle.block_model.specs.Events.{done_of, refusal_of}

@@ -13,8 +13,8 @@ use Rattle.mach_types.specs.declared.events.Kind.TheVariants as kind
 use Rattle.mach_types.specs.declared.user_memory.Store.{Store}
 use Rattle.block_model.specs.Events.{done_of}
 use Rattle.block_model.specs.Events.Drain.{done_drain_of}
-use Rattle.block_model.specs.Events.Run.{done_killed, done_running, lives_on}
-use Rattle.block_model.specs.Here.{Done, Here, runs, waiting_here}
+use Rattle.block_model.specs.Events.Run.{done_killed, done_running}
+use Rattle.block_model.specs.Here.{Done, Here, waiting_here}
 use Rattle.block_model.specs.History.{Event, History, byte, drains, here_in_history, is_of_hart, stores}
 use Rattle.block_model.specs.History.{waiting}
 use Rattle.block_model.specs.Run.{IsRunHistory}

@@ -1,8 +1,8 @@
 -- Finished code holds the instructions of the blocks where their lines were appended, and a machine that runs
 -- the image of a file in which the code stands fetches them.
 use Rattle.std.proofs.Common.{◌≡◌, ◌≢◌, ℕ, zero, suc, ◌+◌, ◌*◌, List, [], ◌∷◌, ◌++◌, length, length-append}
-use Rattle.std.proofs.Common.{map, set, slice_get, refl, sym, ap, ◌∙◌}
-use Rattle.std.proofs.Common.{arith, subst, Bool, true, false, cond, Option, Some, None, get_or, ℤ, pos}
+use Rattle.std.proofs.Common.{set, slice_get, refl, ap, ◌∙◌}
+use Rattle.std.proofs.Common.{arith, Bool, true, false, cond, Option, Some, None, get_or, ℤ, pos}
 use Rattle.std.proofs.Common.{negsuc, ◌-ℤ◌}
 use Rattle.std.specs.Option.{option_map}
 use Rattle.std.proofs.lemmas.Int.{ints}

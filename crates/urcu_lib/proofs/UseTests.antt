@@ -5,7 +5,7 @@ use Rattle.std.proofs.Common.{refl, sym, ap, ◌∙◌, arith, subst}
 use Rattle.std.proofs.Common.{Bool, true, false, not, ◌&&◌, ◌||◌, ◌⊎◌, inl, inr, cond, eqb, leb, ltb, Option}
 use Rattle.std.proofs.Common.{Some, None, is_none}
 use Rattle.std.proofs.lemmas.Bool.Decides.{nat_tests}
-use Rattle.std.proofs.lemmas.Bool.{and_from, and_parts, cases_eq, eq-eqb, eqb-false, eqb-true, false≢true}
+use Rattle.std.proofs.lemmas.Bool.{and_from, and_parts, cases_eq, eq-eqb, eqb-true, false≢true}
 use Rattle.std.proofs.lemmas.Bool.{le-leb, leb-true, lt-ltb, ltb-true}
 use Rattle.mach_types.specs.Bytes.{covers, each_byte}
 use Rattle.mach_types.specs.Events.{choice_of}
@@ -24,7 +24,7 @@ use Rattle.alone_laws.proofs.StoredWords.{among_low}
 use Rattle.fence_laws.specs.Kept.{AreBeside, IsQuiet}
 use Rattle.percpu_lib.proofs.UseTests.{either, follows, implies, is_empty, is_just, leaves_all}
 use Rattle.urcu_lib.specs.Blocks.{Urcu}
-use Rattle.urcu_lib.specs.Sections.{IsExecAt, IsGraceBegin, IsGraceEnd, IsLockStore, IsSection, IsSyncEntry}
+use Rattle.urcu_lib.specs.Sections.{IsExecAt, IsGraceEnd, IsLockStore, IsSection}
 use Rattle.urcu_lib.specs.Sections.{IsSyncStore, IsSyncing, IsUnlockStore, comes_in, enters, goes, is_in}
 use Rattle.urcu_lib.specs.Uses.{AreUses, HasCome, IsIn, IsUse, acts, counted, goes_on, returns}
 use Rattle.urcu_lib.specs.declared.regs.ReadRegs.{ReadRegs}
