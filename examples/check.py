@@ -55,7 +55,7 @@ SEEDS = range(1, 11)
 DRAWN_SEEDS = range(5)
 HARTS = ('1', '2', '4', '8')
 GUESTS = {'counter': (100, 400), 'list': (50, 100), 'pool': (50, 512), 'dekker': (20, 0), 'signals': (20, 20), 'migrate': (8, 800),
-          'ring': (100, 4000)}
+          'ring': (100, 4000), 'urcu': (20, 0)}
 SECONDS = 120
 DONE, SCRIPT_REFUSED, UNREAD = 0, 4, 5
 TAKE_SCRIPT = r"sed -n '/^log /{h;d;};$!H;${g;s/^log [0-9]*\n//p;}'"

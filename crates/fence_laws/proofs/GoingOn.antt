@@ -1,5 +1,6 @@
 -- A run goes on only where no event has ended the process; and what a barrier's return sets.
-use Rattle.std.proofs.Common.{◌≡◌, ◌≢◌, ℕ, [], ◌∷◌, sym, ap, ◌∙◌, refl, Bool, true, false, cond, eqb, Option, Some, None}
+use Rattle.std.proofs.Common.{◌≡◌, ◌≢◌, ℕ, [], ◌∷◌, ap, ◌∙◌, refl, Bool, true, false, cond, eqb, Option}
+use Rattle.std.proofs.Common.{Some, None}
 use Rattle.std.specs.Option.{option_or}
 use Rattle.std.proofs.lemmas.Bool.{eqb-true}
 use Rattle.mach_types.specs.Events.{choice_of}
@@ -10,7 +11,7 @@ use Rattle.alone.proofs.Laws.{written_other}
 use Rattle.block_model.specs.Deciding.{final}
 use Rattle.block_model.specs.Events.{done_of}
 use Rattle.block_model.specs.Events.Finish.{done_done_by}
-use Rattle.block_model.specs.Here.{Done, Here, runs}
+use Rattle.block_model.specs.Here.{Done, runs}
 use Rattle.block_model.specs.History.{Event, History, ended, file, file_among, here_in_history, kernel}
 use Rattle.block_model.specs.Record.{Kernel}
 use Rattle.block_model.specs.Run.{IsRunHistory}
@@ -26,7 +27,8 @@ not_over : (x o : Option End) (k : Kernel) → final (option_or x o) k ≡ None 
 not_over None o k is = refl
 not_over (Some x) o k is = absurd cc
 
-pub has_gone_on : (s : Setting) (e : Event) (before : History) → IsRunHistory s (e ∷ before) → HasGoneOn before
+pub has_gone_on : (s : Setting) (e : Event) (before : History) → IsRunHistory s (e ∷ before)
+    → HasGoneOn before
 has_gone_on s e [] run = tt
 has_gone_on s e (x ∷ before) run =
     let free = (allowed_at s (x ∷ before) e.entry.hart.0 (choice_of e.entry) e.entry run.1).goes in (
@@ -35,7 +37,8 @@ has_gone_on s e (x ∷ before) run =
     )
 
 -- a barrier that returns sets a0 of its thread alone
-pub return_keeps : (s : Setting) (e : Event) (before : History) → IsStep s e before → choice_of e.entry ≡ asked.Done
+pub return_keeps : (s : Setting) (e : Event) (before : History) → IsStep s e before
+    → choice_of e.entry ≡ asked.Done
     → (t j : ℕ) → j ≢ 10 → register (file s t (e ∷ before)).file j ≡ register (file s t before).file j
 return_keeps s e before step is t j other =
     let here = here_in_history s before e.entry.hart.0 in
@@ -43,14 +46,19 @@ return_keeps s e before step is t j other =
     ap (λ (d : Done). register (file_among d.files t (file s t before)).file j) did ∙ by_runs (runs here)
   where
     by_same : (u : ℕ) (b : Bool) → eqb u t ≡ b
-        → register (cond b (record (file s u before) { file = with_register (file s u before).file 10 0 }) (file s t before)).file j
+        → register
+        (cond b (record (file s u before) { file = with_register (file s u before).file 10 0 })
+        (file s t before)).file j
         ≡ register (file s t before).file j
     by_same u false is = refl
     by_same u true is =
-        written_other (file s u before).file 10 0 j other ∙ ap (λ n. register (file s n before).file j) (eqb-true u t is)
+        written_other (file s u before).file 10 0 j other
+        ∙ ap (λ n. register (file s n before).file j) (eqb-true u t is)
 
     by_runs : (r : Option ℕ)
-        → register (file_among (done_done_by (here_in_history s before e.entry.hart.0) r).files t (file s t before)).file j
+        → register
+        (file_among (done_done_by (here_in_history s before e.entry.hart.0) r).files t
+        (file s t before)).file j
         ≡ register (file s t before).file j
     by_runs None = refl
     by_runs (Some u) = by_same u (eqb u t) refl

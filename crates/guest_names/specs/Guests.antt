@@ -2,7 +2,7 @@
 use Rattle.std.specs.Prelude.{ℕ, Bool, List, Option, Some, None, if◌then◌else◌, codes, ◌&&◌, nat_le}
 use Rattle.std.specs.Str.{bytes_eq}
 use Rattle.guest_names.specs.declared.names.Name.{Name}
-use Rattle.guest_names.specs.declared.names.Name.TheVariants.{Counter, List as Lists, Pool, Dekker, Signals, Migrate, Ring}
+use Rattle.guest_names.specs.declared.names.Name.TheVariants.{Counter, List as Lists, Pool, Dekker, Signals, Migrate, Ring, Urcu}
 
 -- the word of a guest
 abbrev pub word_of : Name → List ℕ
@@ -13,6 +13,7 @@ word_of Dekker = codes "dekker"
 word_of Signals = codes "signals"
 word_of Migrate = codes "migrate"
 word_of Ring = codes "ring"
+word_of Urcu = codes "urcu"
 
 -- the guest that a word names, if one does
 abbrev pub name_of : List ℕ → Option Name
@@ -24,6 +25,7 @@ name_of word =
     else if bytes_eq word (codes "signals") then Some Signals
     else if bytes_eq word (codes "migrate") then Some Migrate
     else if bytes_eq word (codes "ring") then Some Ring
+    else if bytes_eq word (codes "urcu") then Some Urcu
     else None
 
 -- the greatest size that a guest takes
@@ -35,6 +37,7 @@ most_size Dekker = 1000
 most_size Signals = 1000
 most_size Migrate = 63
 most_size Ring = 1000
+most_size Urcu = 1000
 
 -- whether a guest takes a size: from 1 to the greatest
 abbrev pub is_size : Name → ℕ → Bool

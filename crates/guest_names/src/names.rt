@@ -20,6 +20,8 @@ pub enum Name {
     Migrate,
     /// Four threads put words into the rings of their processors, and get words where a ring is full.
     Ring,
+    /// A thread exchanges nodes that three others read, and waits for them by user-space RCU.
+    Urcu,
 }
 
 impl Name {
@@ -35,6 +37,7 @@ impl Name {
             "signals" => Some(Name::Signals),
             "migrate" => Some(Name::Migrate),
             "ring" => Some(Name::Ring),
+            "urcu" => Some(Name::Urcu),
             _ => None,
         }
     }
@@ -51,6 +54,7 @@ impl Name {
             Name::Signals => "signals",
             Name::Migrate => "migrate",
             Name::Ring => "ring",
+            Name::Urcu => "urcu",
         }
     }
 
@@ -62,7 +66,7 @@ impl Name {
             Name::Counter => 10_000,
             Name::List | Name::Pool | Name::Dekker | Name::Signals => 1_000,
             Name::Migrate => 63,
-            Name::Ring => 1_000,
+            Name::Ring | Name::Urcu => 1_000,
         }
     }
 

@@ -1,6 +1,6 @@
 -- The blocks of each guest stand in its code.
 use Rattle.std.proofs.Common.{◌≡◌, ◌≢◌, ℕ, suc, ◌+◌, ◌*◌, ◌<◌, ◌≤◌, List, [], ◌∷◌, ◌++◌, length, replicate, slice_get}
-use Rattle.std.proofs.Common.{zero, ◌^◌, Bool, true, false, cond, nat_lt, subst, slice_set, refl, sym, ap, ◌∙◌, arith, Option, Some, None, take, drop, length-append}
+use Rattle.std.proofs.Common.{zero, ◌^◌, eqb, Bool, true, false, cond, nat_lt, subst, slice_set, refl, sym, ap, ◌∙◌, arith, Option, Some, None, take, drop, length-append}
 use Rattle.elf_load.specs.declared.image.ImagePage.{ImagePage}
 use Rattle.rv_asm.specs.Assembly.{AreAssembled, Assembly, empty}
 use Rattle.rv_asm.specs.declared.item.Item.{Item}
@@ -13,7 +13,7 @@ use Rattle.percpu_lib.specs.Allocs.{alloc_lines}
 use Rattle.percpu_lib.specs.Frees.{free_lines}
 use Rattle.percpu_lib.specs.Lines.{AreEmitted, IsEmitted, instructions, is_free, with_item, with_label}
 use Rattle.std.specs.List.{list_all}
-use Rattle.std.proofs.lemmas.Bool.{and_parts, ltb-true}
+use Rattle.std.proofs.lemmas.Bool.{and_parts, eqb-false, ltb-true}
 use Rattle.percpu_lib.specs.Pops.{pop_lines}
 use Rattle.percpu_lib.specs.Pushes.{push_lines}
 use Rattle.percpu_lib.specs.Rings.{ring_get_lines, ring_put_lines}
@@ -21,8 +21,14 @@ use Rattle.percpu_lib.specs.declared.lines.Line.{Line}
 use Rattle.percpu_lib.specs.declared.lines.Line.TheVariants as line
 use Rattle.percpu_lib.specs.declared.slots.Slots.{Slots}
 use Rattle.percpu_lib.proofs.HeldWords.{labelled_items}
+use Rattle.percpu_lib.specs.Words.{AreHeld}
+use Rattle.urcu_lib.specs.Blocks.{lock_block, sync_block, unlock_block}
+use Rattle.urcu_lib.specs.Registers.{AreReadRegs, AreSyncRegs, IsKept, IsRegister}
+use Rattle.urcu_lib.specs.declared.regs.ReadRegs.{ReadRegs}
+use Rattle.urcu_lib.specs.declared.regs.SyncRegs.{SyncRegs}
+use Rattle.guest_programs.specs.declared.urcu.TheConstants.{GP, SCRATCH, SLOT, SLOTS}
 use Rattle.guest_names.specs.declared.names.Name.{Name}
-use Rattle.guest_names.specs.declared.names.Name.TheVariants.{Counter, List as Lists, Pool, Dekker, Signals, Migrate, Ring}
+use Rattle.guest_names.specs.declared.names.Name.TheVariants.{Counter, List as Lists, Pool, Dekker, Signals, Migrate, Ring, Urcu}
 use Rattle.guest_programs.specs.Blocks.{HoldsBlock, block_alone, bound_by, descriptor_of, start_word}
 use Rattle.guest_programs.specs.Programs.{data_words}
 use Rattle.guest_programs.specs.Guests.{HoldsBlocks}
@@ -59,6 +65,16 @@ all_low (x ∷ xs) zero w all at =
     subst P same (ltb-true x (2 ^ 64) (and_parts (nat_lt x (2 ^ 64)) _ all).0)
 all_low (x ∷ xs) (suc k) w all at = all_low xs k w (and_parts (nat_lt x (2 ^ 64)) _ all).1 at
 
+-- instructions from word n on
+held_at : (n count : ℕ) (block : List (Option Inst)) (pages : List ImagePage) (held : List (Option Inst)) → Stand pages held
+    → block ≡ take count (drop n held) → AreHeld (code_of pages) (0x10000 + 4 * n) block
+held_at n count block pages held stand is = record {
+  holds = λ k i at.
+      let place : 0x10000 + 4 * n + 4 * k ≡ 0x10000 + 4 * (n + k) = omega arith in
+      ap (code_of pages) place
+      ∙ stand (n + k) i (within held n count k (Some i) (ap (λ xs. slice_get xs k) (sym is) ∙ at));
+}
+
 -- a block from word n on, whose descriptor stands from a word of the data on
 holds_block : (block : Slots → ℕ → List Line) (table n count first : ℕ) (pages : List ImagePage)
     (held : List (Option Inst)) (words : List ℕ)
@@ -75,17 +91,53 @@ holds_block block table n count first pages held words low some few placed stand
   low_table = low;
   aligned = omega arith;
   low = omega arith;
-  stands = record {
-    holds = λ k i at.
-        let place : 0x10000 + 4 * n + 4 * k ≡ 0x10000 + 4 * (n + k) = omega arith in
-        ap (code_of pages) place
-        ∙ stand (n + k) i (within held n count k (Some i) (ap (λ xs. slice_get xs k) (sym is) ∙ at));
-  };
+  stands = held_at n count (block_alone (block (slots_of table) 0)) pages held stand is;
   describes = λ k w at.
       let place : table + 8 * k ≡ 0x20000 + 8 * (first + k) = omega arith in
       ap (start_word pages) place
       ∙ read (first + k) w (within words first 4 k w (ap (λ xs. slice_get xs k) (sym described) ∙ at))
       (all_low (descriptor_of (block (slots_of table) 0) (0x10000 + 4 * n)) k w small at);
+}
+
+-- the registers of the blocks of user-space RCU
+abbrev pub reading : ReadRegs
+reading = record { gp = GP; slot = SLOT; scratch = SCRATCH }
+
+abbrev pub waiting : SyncRegs
+waiting = record { gp = GP; slots = SLOTS }
+
+is_register : (r : ℕ) → eqb r 0 ≡ false → r < 32 → IsRegister r
+is_register r some low = record { some = eqb-false r 0 some; low = low }
+
+is_kept : (r : ℕ) → eqb r 5 ≡ false → eqb r 6 ≡ false → eqb r 7 ≡ false → eqb r 10 ≡ false → eqb r 11 ≡ false → eqb r 12 ≡ false
+    → eqb r 17 ≡ false → IsKept r
+is_kept r a b c d e f g = record {
+  not_5 = eqb-false r 5 a;
+  not_6 = eqb-false r 6 b;
+  not_7 = eqb-false r 7 c;
+  not_10 = eqb-false r 10 d;
+  not_11 = eqb-false r 11 e;
+  not_12 = eqb-false r 12 f;
+  not_17 = eqb-false r 17 g;
+}
+
+pub are_reading : AreReadRegs reading
+are_reading = record {
+  gp = is_register GP refl (omega arith);
+  slot = is_register SLOT refl (omega arith);
+  scratch = is_register SCRATCH refl (omega arith);
+  gp_slot = eqb-false GP SLOT refl;
+  gp_scratch = eqb-false GP SCRATCH refl;
+  slot_scratch = eqb-false SLOT SCRATCH refl;
+}
+
+pub are_waiting : AreSyncRegs waiting
+are_waiting = record {
+  gp = is_register GP refl (omega arith);
+  slots = is_register SLOTS refl (omega arith);
+  gp_slots = eqb-false GP SLOTS refl;
+  gp_kept = is_kept GP refl refl refl refl refl refl refl;
+  slots_kept = is_kept SLOTS refl refl refl refl refl refl refl;
 }
 
 pub holds : (name : Name) (n : ℕ) (pages : List ImagePage) → Stand pages (guest_instructions name)
@@ -120,6 +172,20 @@ holds Ring n pages stand read = (
       (data_words (model Ring) n) (omega arith) (λ e. omega arith) (omega arith) (omega arith) stand read refl refl
       refl,
 )
+
+holds Urcu n pages stand read = record {
+  read = reading;
+  sync = waiting;
+  readers = 3;
+  are_read = are_reading;
+  are_sync = are_waiting;
+  lock_at = 0x10000 + 4 * 133;
+  unlock_at = 0x10000 + 4 * 137;
+  sync_at = 0x10000 + 4 * 103;
+  locks = held_at 133 2 (lock_block reading) pages (guest_instructions Urcu) stand refl;
+  unlocks = held_at 137 1 (unlock_block reading) pages (guest_instructions Urcu) stand refl;
+  syncs = held_at 103 17 (sync_block waiting 3) pages (guest_instructions Urcu) stand refl;
+}
 
 -- the first address stays
 labelled_at : (a : Assembly) (l : ℕ) (b : Bool)
@@ -185,6 +251,7 @@ few_lines Dekker = omega arith
 few_lines Signals = omega arith
 few_lines Migrate = omega arith
 few_lines Ring = omega arith
+few_lines Urcu = omega arith
 
 pub few_words : (name : Name) (asm : Assembly) → AreEmitted (guest_lines name) (empty CODE LABELS) asm
     → length asm.items ≤ 1024

@@ -11,7 +11,7 @@ use Rattle.percpu_lib.specs.declared.lines.Line.{Line}
 use Rattle.percpu_lib.specs.declared.lines.Line.TheVariants as line
 use Rattle.percpu_lib.proofs.HeldWords.{labelled_items}
 use Rattle.guest_names.specs.declared.names.Name.{Name}
-use Rattle.guest_names.specs.declared.names.Name.TheVariants.{Counter, List as Lists, Pool, Dekker, Signals, Migrate, Ring}
+use Rattle.guest_names.specs.declared.names.Name.TheVariants.{Counter, List as Lists, Pool, Dekker, Signals, Migrate, Ring, Urcu}
 use Rattle.guest_programs.specs.Steps.{guest_lines}
 use Rattle.guest_programs.specs.declared.layout.TheConstants.{CODE}
 use Rattle.guest_programs.specs.declared.shared.TheConstants.{LABELS}
@@ -113,6 +113,7 @@ near_lines Dekker = refl
 near_lines Signals = refl
 near_lines Migrate = refl
 near_lines Ring = refl
+near_lines Urcu = refl
 
 pub guest_finishable : (name : Name) (asm : Assembly) → AreEmitted (guest_lines name) (empty CODE LABELS) asm
     → IsFinishable asm.labels asm.items

@@ -11,7 +11,7 @@ use Rattle.percpu_lib.specs.declared.lines.Line.{Line}
 use Rattle.percpu_lib.specs.declared.lines.Line.TheVariants as line
 use Rattle.percpu_lib.proofs.HeldWords.{labelled_items}
 use Rattle.guest_names.specs.declared.names.Name.{Name}
-use Rattle.guest_names.specs.declared.names.Name.TheVariants.{Counter, List as Lists, Pool, Dekker, Signals, Migrate, Ring}
+use Rattle.guest_names.specs.declared.names.Name.TheVariants.{Counter, List as Lists, Pool, Dekker, Signals, Migrate, Ring, Urcu}
 use Rattle.guest_programs.specs.Blocks.{bound_by}
 use Rattle.guest_programs.specs.Steps.{are_free, has_step_room, have_room, index_behind, lines_of, lines_of_step, own_steps}
 use Rattle.guest_programs.specs.declared.layout.TheConstants.{CODE}
@@ -129,6 +129,7 @@ own_after Dekker = refl
 own_after Signals = refl
 own_after Migrate = refl
 own_after Ring = refl
+own_after Urcu = refl
 
 pub own_room : (name : Name) (own : List Step) (a b1 b2 b3 b4 b5 : Assembly) → a ≡ empty CODE LABELS → own ≡ own_steps name
     → AreEmitted (lines_of BEGINNING) a b1 → AreEmitted (lines_of STARTING) b1 b2 → AreEmitted (lines_of ENDING) b2 b3

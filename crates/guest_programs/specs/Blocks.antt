@@ -12,6 +12,10 @@ use Rattle.percpu_lib.specs.Words.{AreHeld, AreSlots}
 use Rattle.percpu_lib.specs.declared.lines.Line.{Line}
 use Rattle.percpu_lib.specs.declared.lines.Line.TheVariants as line
 use Rattle.percpu_lib.specs.declared.slots.Slots.{Slots}
+use Rattle.urcu_lib.specs.Blocks.{lock_block, sync_block, unlock_block}
+use Rattle.urcu_lib.specs.Registers.{AreReadRegs, AreSyncRegs}
+use Rattle.urcu_lib.specs.declared.regs.ReadRegs.{ReadRegs}
+use Rattle.urcu_lib.specs.declared.regs.SyncRegs.{SyncRegs}
 
 -- a label is bound to the word at an index, if it is free
 abbrev pub bind : List (Option ℕ) → ℕ → ℕ → List (Option ℕ)
@@ -42,6 +46,21 @@ descriptor_of lines at =
 -- the word of 8 bytes at an address when a program starts
 abbrev pub start_word : List ImagePage → ℕ → Option ℕ
 start_word pages at = word_at (λ a. Some (loaded_byte pages a)) at 8
+
+-- a program holds the three blocks of user-space RCU for so many readers: for some registers, word k of each block,
+-- from some address on, is its instruction k
+pub record HoldsRcu (pages : List ImagePage) : Type 0 where
+  pub read : ReadRegs
+  pub sync : SyncRegs
+  pub readers : ℕ
+  pub are_read : AreReadRegs read
+  pub are_sync : AreSyncRegs sync
+  pub lock_at : ℕ
+  pub unlock_at : ℕ
+  pub sync_at : ℕ
+  pub locks : AreHeld (code_of pages) lock_at (lock_block read)
+  pub unlocks : AreHeld (code_of pages) unlock_at (unlock_block read)
+  pub syncs : AreHeld (code_of pages) sync_at (sync_block sync readers)
 
 -- a program holds a block of some lines: for some registers and some descriptor, word k of the block, from some
 -- address on, is its instruction k, and the descriptor is that of the block

@@ -6,14 +6,14 @@ use Rattle.elf_load.specs.Faults.{first_fault}
 use Rattle.elf_load.specs.Images.{IsImage}
 use Rattle.guest_names.specs.Guests.{is_size}
 use Rattle.guest_names.specs.declared.names.Name.{Name}
-use Rattle.guest_names.specs.declared.names.Name.TheVariants.{Counter, List as Lists, Pool, Dekker, Signals, Migrate, Ring}
+use Rattle.guest_names.specs.declared.names.Name.TheVariants.{Counter, List as Lists, Pool, Dekker, Signals, Migrate, Ring, Urcu}
 use Rattle.percpu_lib.specs.Adds.{add_lines}
 use Rattle.percpu_lib.specs.Allocs.{alloc_lines}
 use Rattle.percpu_lib.specs.Frees.{free_lines}
 use Rattle.percpu_lib.specs.Pops.{pop_lines}
 use Rattle.percpu_lib.specs.Pushes.{push_lines}
 use Rattle.percpu_lib.specs.Rings.{ring_get_lines, ring_put_lines}
-use Rattle.guest_programs.specs.Blocks.{HoldsBlock, start_word}
+use Rattle.guest_programs.specs.Blocks.{HoldsBlock, HoldsRcu, start_word}
 use Rattle.guest_programs.specs.Programs.{IsGuestElf}
 use Rattle.guest_programs.specs.declared.fault.GuestFault.{GuestFault}
 use Rattle.guest_programs.specs.declared.fault.GuestFault.TheVariants.{BadSize, NoMemory}
@@ -28,6 +28,7 @@ HoldsBlocks Signals pages = HoldsBlock add_lines pages
 HoldsBlocks Migrate pages = HoldsBlock add_lines pages
 HoldsBlocks Ring pages = HoldsBlock (λ p base. ring_put_lines p base 4) pages
     × HoldsBlock (λ p base. ring_get_lines p base 4) pages
+HoldsBlocks Urcu pages = HoldsRcu pages
 
 -- where the size stands in memory
 abbrev pub size_address : ℕ

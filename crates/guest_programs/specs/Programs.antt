@@ -19,11 +19,11 @@ use Rattle.guest_programs.specs.declared.shared.TheConstants.{BASE, LABELS, SECO
 abbrev pub label_address : Assembly → ℕ → ℕ
 label_address asm label = unwrap_or (address_of asm.at (index_of asm.labels label)) 0
 
--- the first bytes of the data, as words of 8 bytes: the size, zeros, and the descriptors of two blocks (`struct
--- rseq_cs`), each with version and flags, the start, how long the sequence is, and the abort address
+-- the first bytes of the data, as words of 8 bytes: the size, the grace counter, zeros, and the descriptors of two
+-- blocks (`struct rseq_cs`), each with version and flags, the start, how long the sequence is, and the abort address
 abbrev pub data_words : Assembly → ℕ → List ℕ
 data_words asm n =
-    n ∷ 0 ∷ 0 ∷ 0
+    n ∷ 1 ∷ 0 ∷ 0
     ∷ 0
     ∷ label_address asm (BASE + 1)
     ∷ (label_address asm (BASE + 2) - label_address asm (BASE + 1))

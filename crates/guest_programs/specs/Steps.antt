@@ -2,7 +2,7 @@
 use Rattle.std.specs.Prelude.{ℕ, ◌&&◌, ◌++◌, Bool, true, List, [], ◌∷◌, nat_lt, ◌+◌, Option, slice_get}
 use Rattle.std.specs.List.{flat_map, list_all}
 use Rattle.guest_names.specs.declared.names.Name.{Name}
-use Rattle.guest_names.specs.declared.names.Name.TheVariants.{Counter, List as Lists, Pool, Dekker, Signals, Migrate, Ring}
+use Rattle.guest_names.specs.declared.names.Name.TheVariants.{Counter, List as Lists, Pool, Dekker, Signals, Migrate, Ring, Urcu}
 use Rattle.percpu_lib.specs.Adds.{add_lines}
 use Rattle.percpu_lib.specs.Allocs.{alloc_lines}
 use Rattle.percpu_lib.specs.Frees.{free_lines}
@@ -25,6 +25,7 @@ use Rattle.guest_programs.specs.declared.ring.TheConstants.{RING}
 use Rattle.guest_programs.specs.declared.shared.TheConstants.{AREA, CELLS_AT, VALUE, BEGINNING, ENDING, PINNING, PRINTING, STARTING}
 use Rattle.guest_programs.specs.declared.signals.TheConstants.{SIGNALS}
 use Rattle.guest_programs.specs.declared.steps.BlockKind.{BlockKind}
+use Rattle.guest_programs.specs.declared.urcu.TheConstants.{URCU}
 use Rattle.guest_programs.specs.declared.steps.BlockKind.TheVariants as kind
 use Rattle.guest_programs.specs.declared.steps.Step.{Step}
 use Rattle.guest_programs.specs.declared.steps.Step.TheVariants as step
@@ -60,6 +61,7 @@ own_steps Dekker = DEKKER
 own_steps Signals = SIGNALS
 own_steps Migrate = MIGRATE
 own_steps Ring = RING
+own_steps Urcu = URCU
 
 -- all lines of a guest: those that all guests have, and its own
 abbrev pub guest_lines : Name → List Line

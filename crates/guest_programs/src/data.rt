@@ -24,13 +24,13 @@ fn length_between(asm: &Asm, from: u32, to: u32) -> u64
     label_address(asm, to).saturating_sub(label_address(asm, from))
 }
 
-/// The words of the data: the size, and the descriptors of two blocks.
+/// The words of the data: the size, the grace counter, and the descriptors of two blocks.
 fn words_of(asm: &Asm, n: u64) -> [u64; 12]
     ensures { result ≡ data_words asm.now n }
 {
     [
         n,
-        0,
+        1,
         0,
         0,
         0,

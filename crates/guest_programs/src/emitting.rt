@@ -18,6 +18,7 @@ use crate::shared::{
 };
 use crate::signals::SIGNALS;
 use crate::steps::{BlockKind, Step};
+use crate::urcu::URCU;
 use guest_names::Name;
 use percpu_lib::{
     EmitFault, Slots, emit_add, emit_alloc, emit_free, emit_lines, emit_pop, emit_push,
@@ -39,6 +40,7 @@ fn own_steps(name: Name) -> &'static [Step]
         Name::Signals => &SIGNALS,
         Name::Migrate => &MIGRATE,
         Name::Ring => &RING,
+        Name::Urcu => &URCU,
     }
 }
 

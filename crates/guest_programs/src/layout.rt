@@ -9,6 +9,9 @@ pub(crate) const CODE_SIZE: u64 = 0x1000;
 /// The first byte of the data: the size.
 pub(crate) const DATA: i64 = 0x20000;
 
+/// The grace counter of user-space RCU, which is 1 at first, from the first byte of the data on.
+pub(crate) const GRACE: i64 = 8;
+
 /// Where a text that is written ends, from the first byte of the data on.
 pub(crate) const TEXT_END: i64 = 0xa0;
 

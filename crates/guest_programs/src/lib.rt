@@ -1,5 +1,6 @@
 //! Guests: programs that work on data of their processors by restartable sequences (rseq(2)), that try what a
-//! barrier promises (membarrier(2)), or that go from processor to processor, each made for a size.
+//! barrier promises (membarrier(2)), that read and wait by user-space RCU, or that go from processor to
+//! processor, each made for a size.
 //!
 //! The code of a guest is a list of steps. The size stands in memory, so the code is the same for all sizes.
 #![tactic(auto)]
@@ -20,6 +21,7 @@ mod shared;
 mod signals;
 mod steps;
 mod theorems;
+mod urcu;
 
 pub use fault::GuestFault;
 pub use guest_names::Name;

@@ -1,4 +1,5 @@
 pub mod CounterLaw
+pub mod EmittedWords
 pub mod GraceLaw
 pub mod SlotLaw
 pub mod SyncState

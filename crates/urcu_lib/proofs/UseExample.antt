@@ -1,10 +1,12 @@
--- A worked log, by computation: a thread registers for membarrier and starts another, which is a reader. The reader's
--- lock has stored the counter in its slot, but the store waits, when the first thread calls membarrier in a sync block.
--- The store enters memory before the call returns; the sync block finds it there twice, then finds 0, and ends. The
--- program uses the blocks as HoldsUrcu asks.
-use Rattle.std.proofs.Common.{◌≡◌, ℕ, suc, zero, ◌+◌, ◌*◌, ◌^◌, ◌<◌, ◌≤◌, List, [], ◌∷◌, ◌++◌, refl, sym, ap, ◌∙◌}
-use Rattle.std.proofs.Common.{subst, arith, Bool, true, false, eqb, Option, Some, None, Ok, slice_get, unwrap_or, ◌⊎◌, inl, inr}
-use Rattle.std.proofs.lemmas.Bool.{eqb-false, false≢true, leb-true, ltb-true}
+-- A worked log, by computation: a thread registers for membarrier and starts another, which is a reader. The
+-- reader's lock has stored the counter in its slot, but the store waits, when the first thread calls
+-- membarrier in a sync block. The store enters memory before the call returns; the sync block finds it there
+-- twice, then finds 0, and ends. The program uses the blocks as HoldsUrcu asks.
+use Rattle.std.proofs.Common.{◌≡◌, ℕ, suc, zero, ◌+◌, ◌*◌, ◌^◌, ◌<◌, List, [], ◌∷◌, ◌++◌, refl, ap}
+use Rattle.std.proofs.Common.{◌∙◌}
+use Rattle.std.proofs.Common.{subst, arith, true, false, eqb, Option, Some, None, Ok, slice_get}
+use Rattle.std.proofs.Common.{unwrap_or, inl}
+use Rattle.std.proofs.lemmas.Bool.{eqb-false, leb-true, ltb-true}
 use Rattle.mach_types.specs.Kernel.Areas.{are_readable, number_at}
 use Rattle.mach_types.specs.Kernel.Barriers.{asked as command_asked}
 use Rattle.mach_types.specs.declared.events.Choice.{Choice}
@@ -13,8 +15,10 @@ use Rattle.mach_types.specs.declared.events.Entry.{Entry}
 use Rattle.mach_types.specs.declared.events.Kind.{Kind}
 use Rattle.mach_types.specs.declared.events.Kind.TheVariants as kind
 use Rattle.rv_inst.specs.Meaning.{meaning}
-use Rattle.rv_inst.specs.Table.{row_of, rows, lui_rows, auipc_rows, jal_rows, jalr_rows, branch_rows, load_rows, store_rows}
-use Rattle.rv_inst.specs.Table.{op_imm_rows, op_imm_32_rows, op_rows, op_32_rows, misc_mem_rows, amo_rows, system_rows}
+use Rattle.rv_inst.specs.Table.{row_of, rows, lui_rows, auipc_rows, jal_rows, jalr_rows, branch_rows}
+use Rattle.rv_inst.specs.Table.{load_rows, store_rows}
+use Rattle.rv_inst.specs.Table.{op_imm_rows, op_imm_32_rows, op_rows, op_32_rows, misc_mem_rows, amo_rows}
+use Rattle.rv_inst.specs.Table.{system_rows}
 use Rattle.rv_inst.specs.declared.instruction.Inst.{Inst}
 use Rattle.block_model.specs.Deciding.{decide, done, event, history}
 use Rattle.block_model.specs.Replay.{Ask, played}
@@ -30,23 +34,33 @@ use Rattle.urcu_lib.specs.declared.regs.ReadRegs.{ReadRegs}
 use Rattle.urcu_lib.specs.declared.regs.SyncRegs.{SyncRegs}
 use Rattle.urcu_lib.proofs.UseTests.{Layout, all_used, are_fine, is_lock_store, lock_store_is, only, urcu_of}
 
--- `lui x8, 0x20`, `addi x9, x8, 64`; membarrier(16, 0); clone; the child goes to 0x10074. From 0x10030 on the sync
--- block; at 0x10074 the lock block, at 0x1007C the unlock block. The counter is at 0x20000, the slot at 0x20040
+-- `lui x8, 0x20`, `addi x9, x8, 64`; membarrier(16, 0); clone; the child goes to 0x10074. From 0x10030 on the
+-- sync block; at 0x10074 the lock block, at 0x1007C the unlock block. The counter is at 0x20000, the slot at
+-- 0x20040
 abbrev code : List ℕ
 code =
-    0x37 ∷ 0x04 ∷ 0x02 ∷ 0x00 ∷ 0x93 ∷ 0x04 ∷ 0x04 ∷ 0x04 ∷ 0x13 ∷ 0x05 ∷ 0x00 ∷ 0x01 ∷ 0x93 ∷ 0x05 ∷ 0x00 ∷ 0x00
-    ∷ 0x93 ∷ 0x08 ∷ 0xB0 ∷ 0x11 ∷ 0x73 ∷ 0x00 ∷ 0x00 ∷ 0x00 ∷ 0x37 ∷ 0x15 ∷ 0x01 ∷ 0x00 ∷ 0x13 ∷ 0x05 ∷ 0x05 ∷ 0xF0
-    ∷ 0x93 ∷ 0x05 ∷ 0x00 ∷ 0x00 ∷ 0x93 ∷ 0x08 ∷ 0xC0 ∷ 0x0D ∷ 0x73 ∷ 0x00 ∷ 0x00 ∷ 0x00 ∷ 0x63 ∷ 0x04 ∷ 0x05 ∷ 0x04
-    ∷ 0x13 ∷ 0x05 ∷ 0x80 ∷ 0x00 ∷ 0x93 ∷ 0x05 ∷ 0x00 ∷ 0x00 ∷ 0x13 ∷ 0x06 ∷ 0x00 ∷ 0x00 ∷ 0x93 ∷ 0x08 ∷ 0xB0 ∷ 0x11
-    ∷ 0x73 ∷ 0x00 ∷ 0x00 ∷ 0x00 ∷ 0x83 ∷ 0x32 ∷ 0x04 ∷ 0x00 ∷ 0x93 ∷ 0x82 ∷ 0x12 ∷ 0x00 ∷ 0x23 ∷ 0x30 ∷ 0x54 ∷ 0x00
-    ∷ 0x13 ∷ 0x83 ∷ 0x04 ∷ 0x00 ∷ 0x93 ∷ 0x03 ∷ 0x10 ∷ 0x00 ∷ 0x03 ∷ 0x35 ∷ 0x03 ∷ 0x00 ∷ 0x63 ∷ 0x04 ∷ 0x05 ∷ 0x00
-    ∷ 0xE3 ∷ 0x6C ∷ 0x55 ∷ 0xFE ∷ 0x13 ∷ 0x03 ∷ 0x03 ∷ 0x04 ∷ 0x93 ∷ 0x83 ∷ 0xF3 ∷ 0xFF ∷ 0xE3 ∷ 0x96 ∷ 0x03 ∷ 0xFE
-    ∷ 0x13 ∷ 0x05 ∷ 0x00 ∷ 0x00 ∷ 0x03 ∷ 0x39 ∷ 0x04 ∷ 0x00 ∷ 0x23 ∷ 0xB0 ∷ 0x24 ∷ 0x01 ∷ 0x23 ∷ 0xB0 ∷ 0x04 ∷ 0x00 ∷ []
+    0x37 ∷ 0x04 ∷ 0x02 ∷ 0x00 ∷ 0x93 ∷ 0x04 ∷ 0x04 ∷ 0x04 ∷ 0x13 ∷ 0x05 ∷ 0x00 ∷ 0x01 ∷ 0x93 ∷ 0x05 ∷ 0x00
+    ∷ 0x00
+    ∷ 0x93 ∷ 0x08 ∷ 0xB0 ∷ 0x11 ∷ 0x73 ∷ 0x00 ∷ 0x00 ∷ 0x00 ∷ 0x37 ∷ 0x15 ∷ 0x01 ∷ 0x00 ∷ 0x13 ∷ 0x05 ∷ 0x05
+    ∷ 0xF0
+    ∷ 0x93 ∷ 0x05 ∷ 0x00 ∷ 0x00 ∷ 0x93 ∷ 0x08 ∷ 0xC0 ∷ 0x0D ∷ 0x73 ∷ 0x00 ∷ 0x00 ∷ 0x00 ∷ 0x63 ∷ 0x04 ∷ 0x05
+    ∷ 0x04
+    ∷ 0x13 ∷ 0x05 ∷ 0x80 ∷ 0x00 ∷ 0x93 ∷ 0x05 ∷ 0x00 ∷ 0x00 ∷ 0x13 ∷ 0x06 ∷ 0x00 ∷ 0x00 ∷ 0x93 ∷ 0x08 ∷ 0xB0
+    ∷ 0x11
+    ∷ 0x73 ∷ 0x00 ∷ 0x00 ∷ 0x00 ∷ 0x83 ∷ 0x32 ∷ 0x04 ∷ 0x00 ∷ 0x93 ∷ 0x82 ∷ 0x12 ∷ 0x00 ∷ 0x23 ∷ 0x30 ∷ 0x54
+    ∷ 0x00
+    ∷ 0x13 ∷ 0x83 ∷ 0x04 ∷ 0x00 ∷ 0x93 ∷ 0x03 ∷ 0x10 ∷ 0x00 ∷ 0x03 ∷ 0x35 ∷ 0x03 ∷ 0x00 ∷ 0x63 ∷ 0x04 ∷ 0x05
+    ∷ 0x00
+    ∷ 0xE3 ∷ 0x6C ∷ 0x55 ∷ 0xFE ∷ 0x13 ∷ 0x03 ∷ 0x03 ∷ 0x04 ∷ 0x93 ∷ 0x83 ∷ 0xF3 ∷ 0xFF ∷ 0xE3 ∷ 0x96 ∷ 0x03
+    ∷ 0xFE
+    ∷ 0x13 ∷ 0x05 ∷ 0x00 ∷ 0x00 ∷ 0x03 ∷ 0x39 ∷ 0x04 ∷ 0x00 ∷ 0x23 ∷ 0xB0 ∷ 0x24 ∷ 0x01 ∷ 0x23 ∷ 0xB0 ∷ 0x04
+    ∷ 0x00 ∷ []
 
 abbrev pub reading : Setting
 reading = record {
   program = record {
-    pages = record { number = 0x10; perm = 5; bytes = code } ∷ record { number = 0x20; perm = 6; bytes = 1 ∷ [] } ∷ [];
+    pages = record { number = 0x10; perm = 5; bytes = code }
+        ∷ record { number = 0x20; perm = 6; bytes = 1 ∷ [] } ∷ [];
     entry = 0x10000;
     phdr = 0;
     phnum = 2;
@@ -205,12 +219,15 @@ fine : are_fine reading layout 1 (history reading log) ≡ true
 unfolding played decide history done meaning row_of rows lui_rows auipc_rows jal_rows jalr_rows branch_rows load_rows store_rows op_imm_rows op_imm_32_rows op_rows op_32_rows misc_mem_rows amo_rows system_rows are_readable number_at command_asked
 fine = refl
 
-locks_it : is_lock_store reading layout 1 0 (event reading (history reading first) lock_entry) (history reading first) ≡ true
+locks_it : is_lock_store reading layout 1 0 (event reading (history reading first) lock_entry)
+    (history reading first) ≡ true
 unfolding played decide history done meaning row_of rows lui_rows auipc_rows jal_rows jalr_rows branch_rows load_rows store_rows op_imm_rows op_imm_32_rows op_rows op_32_rows misc_mem_rows amo_rows system_rows are_readable number_at command_asked
 locks_it = refl
 
-pub locks : IsLockStore reading (urcu_of layout) 0 (event reading (history reading first) lock_entry) (history reading first)
-locks = lock_store_is reading layout 1 0 (event reading (history reading first) lock_entry) (history reading first) locks_it
+pub locks : IsLockStore reading (urcu_of layout) 0 (event reading (history reading first) lock_entry)
+    (history reading first)
+locks = lock_store_is reading layout 1 0 (event reading (history reading first) lock_entry)
+    (history reading first) locks_it
 
 -- the words of the blocks stand there
 abbrev AreThere : (ℕ → Option Inst) → ℕ → List (Option Inst) → Type 0
@@ -237,7 +254,22 @@ unlock_there = (refl, tt)
 
 sync_there : AreThere (code_of reading.program.pages) 0x10030 (sync_block sync_regs 1)
 unfolding row_of rows lui_rows auipc_rows jal_rows jalr_rows branch_rows load_rows store_rows op_imm_rows op_imm_32_rows op_rows op_32_rows misc_mem_rows amo_rows system_rows
-sync_there = (refl, (refl, (refl, (refl, (refl, (refl, (refl, (refl, (refl, (refl, (refl, (refl, (refl, (refl, (refl, (refl, (refl, tt)))))))))))))))))
+sync_there = (
+  refl,
+  (
+    refl,
+    (
+      refl,
+      (
+        refl,
+        (
+          refl,
+          (refl, (refl, (refl, (refl, (refl, (refl, (refl, (refl, (refl, (refl, (refl, (refl, tt)))))))))))),
+        ),
+      ),
+    ),
+  ),
+)
 
 is_register : (r : ℕ) → eqb r 0 ≡ false → r < 32 → IsRegister r
 is_register r some low = record { some = eqb-false r 0 some; low = low }
@@ -289,19 +321,22 @@ blocks = record {
       let its = only at 0x10074 read_regs r is in
       record {
         holds = λ k i there. ap (λ n. code_of reading.program.pages (n + 4 * k)) its.0
-            ∙ word_is (code_of reading.program.pages) (lock_block read_regs) 0x10074 lock_there k i (ap (λ q. slice_get (lock_block q) k) its.1 ∙ there);
+            ∙ word_is (code_of reading.program.pages) (lock_block read_regs) 0x10074 lock_there k i
+            (ap (λ q. slice_get (lock_block q) k) its.1 ∙ there);
       };
   unlocks = λ at r is.
       let its = only at 0x1007C read_regs r is in
       record {
         holds = λ k i there. ap (λ n. code_of reading.program.pages (n + 4 * k)) its.0
-            ∙ word_is (code_of reading.program.pages) (unlock_block read_regs) 0x1007C unlock_there k i (ap (λ q. slice_get (unlock_block q) k) its.1 ∙ there);
+            ∙ word_is (code_of reading.program.pages) (unlock_block read_regs) 0x1007C unlock_there k i
+            (ap (λ q. slice_get (unlock_block q) k) its.1 ∙ there);
       };
   syncs = λ at r is.
       let its = only at 0x10030 sync_regs r is in
       record {
         holds = λ k i there. ap (λ n. code_of reading.program.pages (n + 4 * k)) its.0
-            ∙ word_is (code_of reading.program.pages) (sync_block sync_regs 1) 0x10030 sync_there k i (ap (λ q. slice_get (sync_block q 1) k) its.1 ∙ there);
+            ∙ word_is (code_of reading.program.pages) (sync_block sync_regs 1) 0x10030 sync_there k i
+            (ap (λ q. slice_get (sync_block q 1) k) its.1 ∙ there);
       };
   low = λ at r is. let its = (only at 0x10030 sync_regs r is).0 in (omega arith, omega arith);
   low_locks = λ at r is. let its = (only at 0x10074 read_regs r is).0 in omega arith;
@@ -321,8 +356,10 @@ start = record {
   some = leb-true 1 1 refl;
   fits = ltb-true 1 (2 ^ 64) refl;
   locking = λ at r is same. let its = (only at 0x10074 read_regs r is).0 in let no : ⊥ = omega arith in no;
-  syncing = λ at k r is some lt same. let its = (only at 0x10030 sync_regs r is).0 in let no : ⊥ = omega arith in no;
+  syncing = λ at k r is some lt same. let its =
+      (only at 0x10030 sync_regs r is).0 in let no : ⊥ = omega arith in no;
 }
 
 pub holds : HoldsUrcu reading (urcu_of layout) (history reading log)
-holds = record { first = 1; blocks = blocks; start = start; uses = all_used reading layout 1 (history reading log) fine }
+holds = record
+    { first = 1; blocks = blocks; start = start; uses = all_used reading layout 1 (history reading log) fine }

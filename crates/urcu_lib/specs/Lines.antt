@@ -15,8 +15,8 @@ lock_lines r =
 abbrev pub unlock_lines : ReadRegs → List Line
 unlock_lines r = line.Plain (inst.Sd r.slot 0 (pos 0)) ∷ []
 
--- membarrier(8, 0, 0); the counter grows; then the loop over the slots: x6 is the address of one, of which x7 are
--- left, and it is loaded until it is 0 or not below the counter. The last line stands behind the loop
+-- membarrier(8, 0, 0); the counter grows; then the loop over the slots: x6 is the address of one, of which x7
+-- are left, and it is loaded until it is 0 or not below the counter. The last line stands behind the loop
 abbrev pub sync_lines : SyncRegs → ℕ → ℕ → List Line
 sync_lines r base readers =
     line.Plain (inst.Addi 10 0 (pos 8))

@@ -36,10 +36,12 @@ pub record IsSyncStore (u : Urcu) (e : Event) : Type 0 where
   pub block : u.syncs place ≡ Some regs
   pub exec : IsExecAt (place + 28) e
 
--- a section of slot i that began by the event after `begun` goes on: no event since was the store of an unlock block to the slot
+-- a section of slot i that began by the event after `begun` goes on: no event since was the store of an
+-- unlock block to the slot
 pub data IsSection (s : Setting) (u : Urcu) (i : ℕ) (begun : History) : History → Type 0 where
   enters : (e : Event) → IsLockStore s u i e begun → IsSection s u i begun (e ∷ begun)
-  goes : (e : Event) (before : History) → IsSection s u i begun before → (IsUnlockStore s u i e before → ⊥) → IsSection s u i begun (e ∷ before)
+  goes : (e : Event) (before : History) → IsSection s u i begun before → (IsUnlockStore s u i e before → ⊥)
+      → IsSection s u i begun (e ∷ before)
 
 -- thread t executes the `ecall` of the sync block at an address, and its last instruction
 pub record IsGraceBegin (at t : ℕ) (e : Event) : Type 0 where
@@ -53,12 +55,14 @@ pub record IsGraceEnd (at t : ℕ) (e : Event) : Type 0 where
 -- a grace period of the thread in that block that began by the event after `begun` goes on
 pub data IsGrace (at t : ℕ) (begun : History) : History → Type 0 where
   calls : (e : Event) → IsGraceBegin at t e → IsGrace at t begun (e ∷ begun)
-  waits : (e : Event) (before : History) → IsGrace at t begun before → (IsGraceEnd at t e → ⊥) → IsGrace at t begun (e ∷ before)
+  waits : (e : Event) (before : History) → IsGrace at t begun before → (IsGraceEnd at t e → ⊥)
+      → IsGrace at t begun (e ∷ before)
 
 -- where a grace period ends, no section of a slot goes on that began before the grace period began
 abbrev pub HaveEnded : Setting → Urcu → ℕ → ℕ → History → Type 0
 HaveEnded s u at t before =
-    (i : ℕ) (section grace : History) → i < u.readers → IsGrace at t grace before → IsSection s u i section before → length section < length grace → ⊥
+    (i : ℕ) (section grace : History) → i < u.readers → IsGrace at t grace before
+    → IsSection s u i section before → length section < length grace → ⊥
 
 -- WHO IS IN A SYNC BLOCK
 
@@ -69,8 +73,9 @@ pub record IsSyncEntry (u : Urcu) (e : Event) : Type 0 where
   pub block : u.syncs place ≡ Some regs
   pub exec : IsExecAt place e
 
--- thread t is in the sync block at an address, which it entered by the event after `begun`: it has executed the
--- block's first instruction, and its last not yet
+-- thread t is in the sync block at an address, which it entered by the event after `begun`: it has executed
+-- the block's first instruction, and its last not yet
 pub data IsSyncing (at t : ℕ) (begun : History) : History → Type 0 where
   comes_in : (e : Event) → IsExecAt at e → e.entry.tid.0 ≡ t → IsSyncing at t begun (e ∷ begun)
-  is_in : (e : Event) (before : History) → IsSyncing at t begun before → (IsGraceEnd at t e → ⊥) → IsSyncing at t begun (e ∷ before)
+  is_in : (e : Event) (before : History) → IsSyncing at t begun before → (IsGraceEnd at t e → ⊥)
+      → IsSyncing at t begun (e ∷ before)

@@ -20,12 +20,13 @@ pub record HasReturned (s : Setting) (at t : ℕ) (e : Event) (before : History)
 abbrev pub IsPassing : Regs → Type 0
 IsPassing f = (register f 10 ≡ 0) ⊎ (register f 5 ≤ register f 10)
 
--- since a place thread t executed so many instructions. No other event changed its file, but that its barrier returned, so no signal was
--- delivered to it; and each load of a slot by the sync block gave such a number
+-- since a place thread t executed so many instructions. No other event changed its file, but that its barrier
+-- returned, so no signal was delivered to it; and each load of a slot by the sync block gave such a number
 pub data Runs (s : Setting) (at t : ℕ) (begun : History) : History → ℕ → Type 0 where
   none_run : Runs s at t begun begun 0
   it_rests : (e : Event) (before : History) (n : ℕ) → (choice_of e.entry ≡ asked.Exec → e.entry.tid.0 ≡ t → ⊥)
-      → (file s t (e ∷ before) ≡ file s t before) ⊎ HasReturned s at t e before → Runs s at t begun before n → Runs s at t begun (e ∷ before) n
+      → (file s t (e ∷ before) ≡ file s t before) ⊎ HasReturned s at t e before → Runs s at t begun before n
+      → Runs s at t begun (e ∷ before) n
   it_runs : (e : Event) (before : History) (n : ℕ) → choice_of e.entry ≡ asked.Exec → e.entry.tid.0 ≡ t
       → (e.entry.pc ≡ at + 40 → IsPassing (file s t (e ∷ before)).file) → Runs s at t begun before n
       → Runs s at t begun (e ∷ before) (suc n)
@@ -41,11 +42,12 @@ pub record HasFinished (s : Setting) (at t most : ℕ) (begun now : History) : T
   pub run : Runs s at t begun rest executed
   pub few : executed < most
 
--- after an event its hart sees the counter 1 above what the thread's hart saw where the call of the grace period that goes
--- on had returned: before the thread executed the instruction behind the call
+-- after an event its hart sees the counter 1 above what the thread's hart saw where the call of the grace
+-- period that goes on had returned: before the thread executed the instruction behind the call
 abbrev pub IsCounterGrown : Setting → Urcu → ℕ → ℕ → Event → History → Type 0
 IsCounterGrown s u at t e before =
-    (grace back : History) (next : Event) (later : List Event) (n : ℕ) → IsGrace at t grace before → IsGrace at t grace back
+    (grace back : History) (next : Event) (later : List Event) (n : ℕ) → IsGrace at t grace before
+    → IsGrace at t grace back
     → before ≡ later ++ next ∷ back → IsExecAt (at + 20) next → next.entry.tid.0 ≡ t
     → word_at (seen_at s next.entry.hart.0 back) u.counter 8 ≡ Some n
     → word_at (seen_at s e.entry.hart.0 (e ∷ before)) u.counter 8 ≡ Some (n + 1)

@@ -5,14 +5,15 @@ ghost use Rattle.percpu_lib.specs.Lines.{AreEmitted};
 ghost use Rattle.urcu_lib.specs.Lines.{lock_lines, unlock_lines};
 ghost use Rattle.urcu_lib.specs.Registers.{AreReadRegs};
 
+use crate::lines::inst;
 use crate::regs::ReadRegs;
 use percpu_lib::{Line, emit_lines};
 use rv_asm::Asm;
 use rv_inst::Inst;
 use std::alloc::{AllocError, Global};
 
-/// Appends the block before a reader's section: it loads the grace counter into `scratch` and stores it in the
-/// slot (`ld scratch, 0(gp)`, `sd scratch, 0(slot)`).
+/// Appends the block before a reader's section: it loads the grace counter into `scratch` and stores it in
+/// the slot (`ld scratch, 0(gp)`, `sd scratch, 0(slot)`).
 ///
 /// The error is want of memory alone, and leaves the words that were appended before.
 pub fn emit_read_lock(_alloc: Global, asm: &mut Asm, regs: &ReadRegs) -> Result<(), AllocError>
@@ -21,32 +22,21 @@ pub fn emit_read_lock(_alloc: Global, asm: &mut Asm, regs: &ReadRegs) -> Result<
     ensures memory { OnErr result ((n : ℕ) × AreEmitted (take n (lock_lines regs.now)) asm.old asm.new) }
 {
     let lines = [
-        Line::Plain(Inst::Ld {
-            rd: regs.scratch,
-            rs1: regs.gp,
-            imm: 0,
-        }),
-        Line::Plain(Inst::Sd {
-            rs1: regs.slot,
-            rs2: regs.scratch,
-            imm: 0,
-        }),
+        inst!(Ld rd = regs.scratch, rs1 = regs.gp, imm = 0),
+        inst!(Sd rs1 = regs.slot, rs2 = regs.scratch, imm = 0),
     ];
     emit_lines(asm, &lines)
 }
 
 /// Appends the block behind a reader's section: it stores 0 in the slot (`sd x0, 0(slot)`).
 ///
-/// The error is want of memory alone, and the assembler is then as it was.
+/// The error is want of memory alone, and leaves the words that were appended before.
 pub fn emit_read_unlock(_alloc: Global, asm: &mut Asm, regs: &ReadRegs) -> Result<(), AllocError>
     requires { AreReadRegs regs.now }
     ensures ok { OnOk result (AreEmitted (unlock_lines regs.now) asm.old asm.new) }
-    ensures memory { OnErr result ((n : ℕ) × AreEmitted (take n (unlock_lines regs.now)) asm.old asm.new) }
+    ensures memory { OnErr result
+        ((n : ℕ) × AreEmitted (take n (unlock_lines regs.now)) asm.old asm.new) }
 {
-    let lines = [Line::Plain(Inst::Sd {
-        rs1: regs.slot,
-        rs2: 0,
-        imm: 0,
-    })];
+    let lines = [inst!(Sd rs1 = regs.slot, rs2 = 0, imm = 0)];
     emit_lines(asm, &lines)
 }

@@ -11,8 +11,8 @@ pub struct ReadRegs {
     pub scratch: u8,
 }
 
-/// The registers of a sync block: from 1 to 31, different, and none of 5, 6, 7, 10, 11, 12 and 17, which the block
-/// may change.
+/// The registers of a sync block: from 1 to 31, different, and none of 5, 6, 7, 10, 11, 12 and 17, which the
+/// block may change.
 #[derive(Clone, Copy, Drop)]
 pub struct SyncRegs {
     /// The register that holds the address of the grace counter.

@@ -1,49 +1,78 @@
 //! Laws of the blocks in runs, each as the contract of a function that does nothing.
 
-ghost use Rattle.std.specs.Prelude.{ℕ, List, [], ◌∷◌, ◌++◌, Some, ◌≡◌, ◌≤◌, ◌+◌, ◌*◌};
+ghost use Rattle.std.specs.Prelude.{ℕ, List, [], ◌∷◌, ◌++◌, Some, length, ◌≡◌, ◌≤◌, ◌+◌, ◌*◌};
 ghost use Rattle.mach_types.specs.declared.events.Entry.{Entry};
 ghost use Rattle.block_model.specs.Deciding.{event, history};
 ghost use Rattle.block_model.specs.History.{Event, History, file};
 ghost use Rattle.block_model.specs.Run.{IsBlockRun};
 ghost use Rattle.block_model.specs.Setting.{Setting};
-ghost use Rattle.urcu_lib.specs.Blocks.{Urcu};
+ghost use Rattle.elf_load.specs.Images.{IsImage};
+ghost use Rattle.elf_load.specs.declared.image.Image.{Image};
+ghost use Rattle.rv_asm.specs.Assembly.{AreAssembled, Assembly};
+ghost use Rattle.alone_laws.specs.Spans.{code_of};
+ghost use Rattle.percpu_lib.specs.Files.{HoldsCode};
+ghost use Rattle.percpu_lib.specs.Lines.{AreEmitted, IsContinued};
+ghost use Rattle.percpu_lib.specs.Words.{AreHeld};
+ghost use Rattle.urcu_lib.specs.Blocks.{Urcu, lock_block, sync_block, unlock_block};
+ghost use Rattle.urcu_lib.specs.Lines.{AreFree, lock_lines, sync_lines, unlock_lines};
+ghost use Rattle.urcu_lib.specs.declared.regs.ReadRegs.{ReadRegs};
 ghost use Rattle.urcu_lib.specs.declared.regs.SyncRegs.{SyncRegs};
 ghost use Rattle.urcu_lib.specs.Sections.{HaveEnded, IsGraceBegin, IsGraceEnd, IsLockStore};
 ghost use Rattle.urcu_lib.specs.Stretch.{HasFinished, IsCounterGrown, Runs};
 ghost use Rattle.urcu_lib.specs.Uses.{HoldsUrcu};
 
-/// In a block run each section of a slot that began before a grace period began has ended before that grace period ended:
-/// where a thread executes a sync block's last instruction, no section of a slot goes on that began before the thread
-/// executed the block's call.
+/// In a block run each section of a slot that began before a grace period began has ended before that grace
+/// period ended: where a thread executes a sync block's last instruction, no section of a slot goes on that
+/// began before the thread executed the block's call.
 pub fn sections_end_before_grace_periods()
-    ensures { (s : Setting) (log : List Entry) (u : Urcu) (at t : ℕ) (r : SyncRegs) (e : Event) (before : History)
+    ensures { (s : Setting) (log : List Entry) (u : Urcu) (at t : ℕ) (r : SyncRegs) (e : Event)
+        (before : History)
         → IsBlockRun s log → history s log ≡ e ∷ before → HoldsUrcu s u (e ∷ before) → u.syncs at ≡ Some r
         → IsGraceEnd at t e → HaveEnded s u at t before }
 {}
 
-/// Where a thread executes the instructions of a sync block from its first on, no signal is delivered to it, and each
-/// load of a slot gives 0 or a number not below the new counter, the block's last instruction is soon executed: it is
-/// among the thread's first 11 + 6 * readers instructions, where the log has so many.
+/// Where a thread executes the instructions of a sync block from its first on, no signal is delivered to it,
+/// and each load of a slot gives 0 or a number not below the new counter, the block's last instruction is
+/// soon executed: it is among the thread's first 11 + 6 * readers instructions, where the log has so many.
 pub fn sync_is_soon_over()
     ensures soon { (s : Setting) (log : List Entry) (u : Urcu) (at t n : ℕ) (r : SyncRegs) (begun : History)
         → IsBlockRun s log → HoldsUrcu s u (history s log) → u.syncs at ≡ Some r → (file s t begun).pc ≡ at
         → Runs s at t begun (history s log) n → 11 + 6 * u.readers ≤ n
         → HasFinished s at t (11 + 6 * u.readers) begun (history s log) }
     // And after it the thread's hart sees the counter 1 above what it saw where the call had returned.
-    ensures grown { (s : Setting) (log : List Entry) (u : Urcu) (at t : ℕ) (r : SyncRegs) (e : Event) (before : History)
+    ensures grown { (s : Setting) (log : List Entry) (u : Urcu) (at t : ℕ) (r : SyncRegs) (e : Event)
+        (before : History)
         → IsBlockRun s log → history s log ≡ e ∷ before → HoldsUrcu s u (e ∷ before) → u.syncs at ≡ Some r
         → IsGraceEnd at t e → IsCounterGrown s u at t e before }
 {}
 
-/// What `HoldsUrcu` asks can be met: there is a block run in which a program uses the blocks so, the store of a lock
-/// block comes before the call of a sync block, and the sync block's last instruction is executed.
+/// What `HoldsUrcu` asks can be met: there is a block run in which a program uses the blocks so, the store of
+/// a lock block comes before the call of a sync block, and the sync block's last instruction is executed.
 pub fn sync_blocks_are_used()
-    ensures { (s : Setting) × (first second third : List Entry) × (lock call last : Entry) × (u : Urcu) × (at t : ℕ)
-        × (r : SyncRegs)
+    ensures { (s : Setting) × (first second third : List Entry) × (lock call last : Entry) × (u : Urcu)
+        × (at t : ℕ) × (r : SyncRegs)
         × IsBlockRun s (first ++ lock ∷ (second ++ call ∷ (third ++ last ∷ [])))
         × HoldsUrcu s u (history s (first ++ lock ∷ (second ++ call ∷ (third ++ last ∷ []))))
         × (u.syncs at ≡ Some r)
         × IsLockStore s u 0 (event s (history s first) lock) (history s first)
         × IsGraceBegin at t (event s (history s (first ++ lock ∷ second)) call)
         × IsGraceEnd at t (event s (history s (first ++ lock ∷ (second ++ call ∷ third))) last) }
+{}
+
+/// The program of a file holds the instructions of a block where finished code stands to which the block's
+/// lines were appended, whatever was appended behind them; those of a sync block where its labels were free.
+pub fn files_hold_rcu_blocks()
+    ensures lock { (r : ReadRegs) (at : ℕ) (a b c : Assembly) (bytes file : List ℕ) (image : Image)
+        → AreEmitted (lock_lines r) a b → IsContinued b c → AreAssembled c.labels c.items bytes
+        → IsImage file image → HoldsCode file at bytes
+        → AreHeld (code_of image.pages.items) (at + 4 * length a.items) (lock_block r) }
+    ensures unlock { (r : ReadRegs) (at : ℕ) (a b c : Assembly) (bytes file : List ℕ) (image : Image)
+        → AreEmitted (unlock_lines r) a b → IsContinued b c → AreAssembled c.labels c.items bytes
+        → IsImage file image → HoldsCode file at bytes
+        → AreHeld (code_of image.pages.items) (at + 4 * length a.items) (unlock_block r) }
+    ensures sync { (r : SyncRegs) (base readers at : ℕ) (a b c : Assembly) (bytes file : List ℕ)
+        (image : Image)
+        → AreFree a.labels base → AreEmitted (sync_lines r base readers) a b → IsContinued b c
+        → AreAssembled c.labels c.items bytes → IsImage file image → HoldsCode file at bytes
+        → AreHeld (code_of image.pages.items) (at + 4 * length a.items) (sync_block r readers) }
 {}

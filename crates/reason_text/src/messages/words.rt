@@ -7,7 +7,7 @@ use std::alloc::AllocError;
 use std::fmt::Write;
 
 /// The guests.
-const GUESTS: &str = "counter, list, pool, dekker, signals, migrate and ring";
+const GUESTS: &str = "counter, list, pool, dekker, signals, migrate, ring and urcu";
 
 /// The names of policies.
 const POLICIES: &str = "all, one, long, short, pos, spread and rule";

@@ -5,4 +5,5 @@ use Rattle.urcu_lib.proofs.theorems.sections_end_before_grace_periods.Goals as g
 
 pub returns : goal.returns
 returns c = λ s log u at t r e before run is holds block ends.
-    grace_ends s u holds.first holds.blocks holds.start e before (subst (IsRunHistory s) is run.allowed) holds.uses at t r block ends
+    grace_ends s u holds.first holds.blocks holds.start e before
+    (subst (IsRunHistory s) is run.allowed) holds.uses at t r block ends

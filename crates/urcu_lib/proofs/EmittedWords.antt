@@ -1,0 +1,265 @@
+-- Finished code holds the instructions of the blocks where their lines were appended, and a machine that runs
+-- the image of a file in which the code stands fetches them.
+use Rattle.std.proofs.Common.{◌≡◌, ◌≢◌, ℕ, zero, suc, ◌+◌, ◌*◌, List, [], ◌∷◌, ◌++◌, length, length-append}
+use Rattle.std.proofs.Common.{set, slice_get, refl, ap, ◌∙◌}
+use Rattle.std.proofs.Common.{arith, Bool, true, false, cond, Option, Some, None, get_or, ℤ, pos}
+use Rattle.std.proofs.Common.{negsuc, ◌-ℤ◌}
+use Rattle.std.specs.Option.{option_map}
+use Rattle.std.proofs.lemmas.Int.{ints}
+use Rattle.std.proofs.lemmas.Option.{slice_get-get_or, slice_get_within}
+use Rattle.elf_load.specs.Images.{IsImage}
+use Rattle.elf_load.specs.declared.image.Image.{Image}
+use Rattle.rv_asm.specs.Assembly.{AreAssembled, Assembly, aimed, distance, index_of}
+use Rattle.rv_asm.specs.declared.item.Item.{Item}
+use Rattle.rv_asm.specs.declared.item.Item.TheVariants as item
+use Rattle.rv_inst.specs.Table.{row_of}
+use Rattle.rv_inst.specs.declared.instruction.Inst.{Inst}
+use Rattle.rv_inst.specs.declared.instruction.Inst.TheVariants as inst
+use Rattle.block_model.specs.Instruction.{instruction_of}
+use Rattle.alone_laws.specs.Spans.{code_of}
+use Rattle.percpu_lib.specs.Files.{HoldsCode}
+use Rattle.percpu_lib.specs.Lines.{AreEmitted, IsContinued, IsEmitted, instructions, is_free, with_item}
+use Rattle.percpu_lib.specs.Lines.{with_label}
+use Rattle.percpu_lib.specs.Words.{AreHeld}
+use Rattle.percpu_lib.specs.declared.lines.Line.{Line}
+use Rattle.percpu_lib.specs.declared.lines.Line.TheVariants as line
+use Rattle.percpu_lib.proofs.FileCode.{word_fetched}
+use Rattle.percpu_lib.proofs.HeldWords.{FindsItem, items_held, labelled_items}
+use Rattle.percpu_lib.proofs.Labels.{index_is, keeps, label_own}
+use Rattle.urcu_lib.specs.Blocks.{sync_block}
+use Rattle.urcu_lib.specs.Lines.{AreFree, sync_lines}
+use Rattle.urcu_lib.specs.declared.regs.SyncRegs.{SyncRegs}
+
+-- LINES WHOSE INSTRUCTIONS ARE KNOWN
+
+-- an item stays where it is when others are appended
+still_there : (xs ys : List Item) (n : ℕ) (x : Item) → slice_get xs n ≡ Some x
+    → slice_get (xs ++ ys) n ≡ Some x
+still_there [] ys n x is = absurd cc
+still_there (y ∷ xs) ys zero x is = is
+still_there (y ∷ xs) ys (suc n) x is = still_there xs ys n x is
+
+module _ (lines : List Line) (block : List (Option Inst)) (a b c : Assembly) (is : AreEmitted lines a b)
+    (more : IsContinued b c)
+    (same : instructions c.labels (length a.items) lines ≡ block) where
+  module _ (bytes : List ℕ) (code : AreAssembled c.labels c.items bytes) (k : ℕ) (i : Inst)
+      (at : slice_get block k ≡ Some (Some i)) where
+    found : FindsItem c.labels b.items (length a.items + k) i
+    found = items_held c.labels lines a b k i is.are
+        (ap (λ (xs : List (Option Inst)). slice_get xs k) same ∙ at)
+
+    entry_there : slice_get c.items (length a.items + k) ≡ Some found.entry
+    entry_there =
+        ap (λ (ys : List Item). slice_get ys (length a.items + k)) more.items
+        ∙ still_there b.items more.later (length a.items + k) found.entry found.there
+
+    held : (w : ℕ) → slice_get code.words (length a.items + k) ≡ Some w → row_of w ≡ Some i
+    held w word = found.is w (code.each (length a.items + k) found.entry w entry_there word)
+
+    some_word : (w : ℕ) × (slice_get code.words (length a.items + k) ≡ Some w)
+    some_word =
+        let within = slice_get_within c.items (length a.items + k) found.entry entry_there in
+        let many = code.count in (
+          get_or code.words (length a.items + k) 0,
+          slice_get-get_or code.words (length a.items + k) 0 (omega (arith, many)),
+        )
+
+  pub file_holds : (file : List ℕ) (image : Image) (from : ℕ) (bytes : List ℕ) → IsImage file image
+      → AreAssembled c.labels c.items bytes
+      → HoldsCode file from bytes → AreHeld (code_of image.pages.items) (from + 4 * length a.items) block
+  file_holds file image from bytes its code holds = record {
+    holds = λ k i at.
+        let some = some_word bytes code k i at in
+        let place : from + 4 * length a.items + 4 * k ≡ from + 4 * (length a.items + k) = omega arith in
+        ap (code_of image.pages.items) place
+        ∙ ap instruction_of
+        (word_fetched file image its from bytes holds c.labels c.items code
+        (length a.items + k) some.0 some.1)
+        ∙ held bytes code k i at some.0 some.1;
+  }
+
+-- LABELS OF THE SYNC BLOCK
+
+get_other : (xs : List (Option ℕ)) (n l : ℕ) (v : Option ℕ) → l ≢ n
+    → slice_get (set xs n v) l ≡ slice_get xs l
+get_other [] n l v other = refl
+get_other (x ∷ xs) zero zero v other = absurd (other refl)
+get_other (x ∷ xs) zero (suc l) v other = refl
+get_other (x ∷ xs) (suc n) zero v other = refl
+get_other (x ∷ xs) (suc n) (suc l) v other = get_other xs n l v (λ same. other (ap suc same))
+
+label_other : (a : Assembly) (n l : ℕ) → l ≢ n → slice_get (with_label a n).labels l ≡ slice_get a.labels l
+label_other a n l other = by_free (is_free (slice_get a.labels n))
+  where
+    by_free : (c : Bool) → slice_get
+        (cond c (record a {
+          labels = set a.labels n (Some
+              (length a.items));
+        }) a).labels l ≡ slice_get a.labels l
+    by_free true = get_other a.labels n l (Some (length a.items)) other
+    by_free false = refl
+
+-- the assembler behind some words: its labels, and how many words it has
+record IsBehind (a between : Assembly) (n : ℕ) : Type 0 where
+  labels : between.labels ≡ a.labels
+  longer : length between.items ≡ length a.items + n
+
+one_longer : (xs : List Item) (x : Item) → length (xs ++ x ∷ []) ≡ length xs + 1
+one_longer xs x = length-append xs (x ∷ []) ∙ refl
+
+record Behind (xs : List Inst) (ys : List Line) (a c : Assembly) : Type 0 where
+  between : Assembly
+  is : IsBehind a between (length xs)
+  rest : IsEmitted ys between c
+
+abbrev plain : List Inst → List Line → List Line
+plain [] ys = ys
+plain (i ∷ xs) ys = line.Plain i ∷ plain xs ys
+
+behind : (xs : List Inst) (ys : List Line) (a c : Assembly) → IsEmitted (plain xs ys) a c → Behind xs ys a c
+behind [] ys a c is = record { between = a; is = record { labels = refl; longer = omega arith }; rest = is }
+behind (i ∷ xs) ys a c is =
+    let old = behind xs ys (with_item a (item.Word is.0)) c is.2 in
+    let one = one_longer a.items (item.Word is.0) in
+    let more = old.is.longer in
+    record {
+      between = old.between;
+      is = record
+          { labels = old.is.labels; longer = omega arith };
+      rest = old.rest;
+    }
+
+-- DISTANCES
+
+forth_8 : (m k : ℕ) → k ≡ m + 2 → pos (4 * k) -ℤ pos (4 * m) ≡ pos 8
+forth_8 m k far = by_sign (pos (4 * k) -ℤ pos (4 * m)) refl
+  where
+    by_sign : (z : ℤ) → z ≡ pos (4 * k) -ℤ pos (4 * m) → z ≡ pos 8
+    by_sign (pos j) is = ap pos (omega (arith, ints))
+    by_sign (negsuc j) is = absurd (omega (arith, ints))
+
+back : (n m j : ℕ) → 4 * m ≡ 4 * n + (j + 1) → pos (4 * n) -ℤ pos (4 * m) ≡ negsuc j
+back n m j from = by_sign (pos (4 * n) -ℤ pos (4 * m)) refl
+  where
+    by_sign : (z : ℤ) → z ≡ pos (4 * n) -ℤ pos (4 * m) → z ≡ negsuc j
+    by_sign (pos i) is = absurd (omega (arith, ints))
+    by_sign (negsuc i) is = ap negsuc (omega (arith, ints))
+
+branch_is : (labels : List (Option ℕ)) (j i : Inst) (m l to : ℕ) (z : ℤ) → index_of labels l ≡ Some to
+    → distance m to ≡ z → aimed j z ≡ i
+    → option_map (λ n. aimed j (distance m n)) (index_of labels l) ≡ Some i
+branch_is labels j i m l to z bound far is =
+    ap (option_map (λ n. aimed j (distance m n))) bound ∙ ap (λ d. Some (aimed j d)) far ∙ ap Some is
+
+module _ (r : SyncRegs) (base readers : ℕ) where
+  pub sync_instructions : (n : ℕ) (labels : List (Option ℕ)) → index_of labels base ≡ Some (n + 10)
+      → index_of labels (base + 1) ≡ Some (n + 13)
+      → instructions labels n (sync_lines r base readers) ≡ sync_block r readers
+  sync_instructions n labels loop next =
+      let ten = n + 1 + 1 + 1 + 1 + 1 + 1 + 1 + 1 + 1 + 1 in
+      let eleven = ten + 1 in
+      let twelve = eleven + 1 in
+      let fifteen = twelve + 1 + 1 + 1 in
+      let one = branch_is labels (inst.Beq 10 0 (pos 0)) (inst.Beq 10 0 (pos 8)) eleven (base + 1) (n + 13)
+      (pos 8) next (forth_8 eleven (n + 13) (omega arith)) refl in
+      let two = branch_is labels (inst.Bltu 10 5 (pos 0)) (inst.Bltu 10 5 (negsuc 7)) twelve base (n + 10)
+      (negsuc 7) loop (back (n + 10) twelve 7 (omega arith)) refl in
+      let three = branch_is labels (inst.Bne 7 0 (pos 0)) (inst.Bne 7 0 (negsuc 19)) fifteen base (n + 10)
+      (negsuc 19) loop (back (n + 10) fifteen 19 (omega arith)) refl in
+      cc
+
+  abbrev before_loop : List Inst
+  before_loop =
+      inst.Addi 10 0 (pos 8)
+      ∷ inst.Addi 11 0 (pos 0)
+      ∷ inst.Addi 12 0 (pos 0)
+      ∷ inst.Addi 17 0 (pos 283)
+      ∷ inst.Ecall
+      ∷ inst.Ld 5 r.gp (pos 0)
+      ∷ inst.Addi 5 5 (pos 1)
+      ∷ inst.Sd r.gp 5 (pos 0)
+      ∷ inst.Addi 6 r.slots (pos 0)
+      ∷ inst.Addi 7 0 (pos readers)
+      ∷ []
+
+  abbrev from_next : List Line
+  from_next =
+      line.Plain (inst.Addi 6 6 (pos 64))
+      ∷ line.Plain (inst.Addi 7 7 (negsuc 0))
+      ∷ line.Branch (inst.Bne 7 0 (pos 0)) base
+      ∷ line.Plain (inst.Addi 10 0 (pos 0))
+      ∷ []
+
+  abbrev from_loop : List Line
+  from_loop =
+      line.Plain (inst.Ld 10 6 (pos 0))
+      ∷ line.Branch (inst.Beq 10 0 (pos 0)) (base + 1)
+      ∷ line.Branch (inst.Bltu 10 5 (pos 0)) base
+      ∷ line.Label (base + 1)
+      ∷ from_next
+
+  module _ (a b : Assembly) (free : AreFree a.labels base)
+      (is : AreEmitted (sync_lines r base readers) a b) where
+    first : Behind before_loop (line.Label base ∷ from_loop) a b
+    first = behind before_loop (line.Label base ∷ from_loop) a b is.are
+
+    abbrev at_loop : Assembly
+    at_loop = first.between
+
+    free_loop : slice_get at_loop.labels base ≡ Some None
+    free_loop = ap (λ (ls : List (Option ℕ)). slice_get ls base) first.is.labels ∙ free.loop
+
+    -- where the loop is, and behind it the way to the next slot
+    loop_at : index_of b.labels base ≡ Some (length a.items + 10)
+    loop_at =
+        index_is b base (Some (length at_loop.items))
+        (keeps from_loop (with_label at_loop base) b base (length at_loop.items) first.rest
+        (label_own at_loop base free_loop))
+        ∙ ap Some first.is.longer
+
+    abbrev looping : Assembly
+    looping = with_label at_loop base
+
+    loaded : (w : ℕ) × (row_of w ≡ Some (inst.Ld 10 6 (pos 0)))
+        × IsEmitted
+        (line.Branch (inst.Beq 10 0 (pos 0)) (base + 1) ∷ line.Branch (inst.Bltu 10 5 (pos 0)) base
+        ∷ line.Label (base + 1) ∷ from_next)
+        (with_item looping (item.Word w)) b
+    loaded = first.rest
+
+    abbrev at_next : Assembly
+    at_next =
+        with_item
+        (with_item (with_item looping (item.Word loaded.0))
+        (item.Aimed (inst.Beq 10 0 (pos 0)) (base + 1)))
+        (item.Aimed (inst.Bltu 10 5 (pos 0)) base)
+
+    free_next : slice_get at_next.labels (base + 1) ≡ Some None
+    free_next =
+        label_other at_loop base (base + 1) (λ same. let no : ⊥ = omega arith in no)
+        ∙ ap (λ (ls : List (Option ℕ)). slice_get ls (base + 1)) first.is.labels ∙ free.next
+
+    next_longer : length at_next.items ≡ length a.items + 13
+    next_longer =
+        let same = ap (λ (ys : List Item). length ys) (labelled_items at_loop base) in
+        let ten = first.is.longer in
+        let one = one_longer looping.items (item.Word loaded.0) in
+        let two = one_longer (looping.items ++ item.Word loaded.0 ∷ [])
+        (item.Aimed (inst.Beq 10 0 (pos 0)) (base + 1)) in
+        let three = one_longer
+        ((looping.items ++ item.Word loaded.0 ∷ []) ++ item.Aimed (inst.Beq 10 0 (pos 0)) (base + 1) ∷ [])
+        (item.Aimed (inst.Bltu 10 5 (pos 0)) base) in
+        omega arith
+
+    next_at : index_of b.labels (base + 1) ≡ Some (length a.items + 13)
+    next_at =
+        index_is b (base + 1) (Some (length at_next.items))
+        (keeps from_next (with_label at_next (base + 1)) b (base + 1) (length at_next.items) loaded.2
+        (label_own at_next (base + 1) free_next))
+        ∙ ap Some next_longer
+
+    pub sync_same : (c : Assembly) → IsContinued b c
+        → instructions c.labels (length a.items) (sync_lines r base readers) ≡ sync_block r readers
+    sync_same c more =
+        sync_instructions (length a.items) c.labels (more.labels base (length a.items + 10) loop_at)
+        (more.labels (base + 1) (length a.items + 13) next_at)
