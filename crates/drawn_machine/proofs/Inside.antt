@@ -95,7 +95,7 @@ counted_next s first now inside e x b n same number so_far hart choice is =
     let leaves : leaves_inside now.setting before x.hart.0 x.kind ≡ b =
     ap₂ (λ (h : Hart) (k : Kind). leaves_inside now.setting before h.0 k) hart kind ∙ sym is in
     let next : left_inside now.setting (history now.setting (now.log ++ x ∷ []))
-        ≡ left_inside now.setting before + one_if (leaves_inside now.setting before x.hart.0 x.kind) =
+    ≡ left_inside now.setting before + one_if (leaves_inside now.setting before x.hart.0 x.kind) =
     ap (left_inside now.setting) (history-append now.setting now.log x) in
     let by_b : one_if (leaves_inside now.setting before x.hart.0 x.kind) ≡ one_if b = ap one_if leaves in
     let count = so_far.count in

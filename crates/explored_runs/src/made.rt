@@ -52,12 +52,7 @@ pub(crate) fn make_run(
 }
 
 /// What a run in this manner came to.
-fn made_by(
-    alloc: Global,
-    apart: Apart,
-    manner: &Manner,
-    run: &DrawnRun,
-) -> Result<Made, AllocError>
+fn made_by(alloc: Global, apart: Apart, manner: &Manner, run: &DrawnRun) -> Result<Made, AllocError>
     requires harts { run.now.machine.setting.limits.harts ≤ 8 }
     requires log { length run.now.machine.log ≤ 1000000 }
     requires inside { run.now.left_inside ≡ left_inside_in run.now.machine }

@@ -172,10 +172,8 @@ fn needs_workers(command: &Command) -> bool
     match command {
         Command::Runs(run) => match run.source {
             Source::Workers { .. } => true,
-            Source::Rule
-            | Source::Script(_)
-            | Source::Drawn { .. }
-            | Source::DrawnAfter { .. } => false,
+            Source::Rule | Source::Script(_) | Source::Drawn { .. } | Source::DrawnAfter { .. } =>
+                false,
         },
         Command::Makes(_) | Command::Tries(_) => false,
         Command::Explores(explore) => !is_alone(explore.settings.jobs),

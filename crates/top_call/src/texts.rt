@@ -223,10 +223,8 @@ fn waiting_run<R: Threads + Wait + Sync, S: Shelf, G: Gate + Sync>(
         Source::Workers { seed } => {
             workers_run(alloc, rt, run.program, run.limits, seed, shelf, gate)
         }
-        Source::Rule
-        | Source::Script(_)
-        | Source::Drawn { .. }
-        | Source::DrawnAfter { .. } => unreachable!(),
+        Source::Rule | Source::Script(_) | Source::Drawn { .. } | Source::DrawnAfter { .. } =>
+            unreachable!(),
     }
 }
 

@@ -9,10 +9,11 @@ use Rattle.drawn_machine.proofs.drawn_run.draw_on.Goals as goal
 
 pub events-init : goal.events-init
 events-init c =
-    let m = c.args.manner.now in
-    (so_far_first m c.args.machine.now c.new-drawing.result c.requires.block_run c.requires.scripted
-    (c.new-drawing.ensures.start ∙ ap (λ (harts : ℕ). start m.policy harts m.seed m.calm) c.harts.ensures),
-    counted_first c.args.machine.now)
+    let m = c.args.manner.now in (
+      so_far_first m c.args.machine.now c.new-drawing.result c.requires.block_run c.requires.scripted
+          (c.new-drawing.ensures.start ∙ ap (λ (harts : ℕ). start m.policy harts m.seed m.calm) c.harts.ensures),
+      counted_first c.args.machine.now,
+    )
 
 pub next-requires : goal.next-requires
 next-requires c = is_for _ _ _ c.events.machine c.events.drawing c.requires.limits c.events.invariant.0
@@ -62,8 +63,7 @@ overflow_add-inside c =
 
 pub events-preserved : goal.events-preserved
 events-preserved c =
-    let made : is_ok c.step.result ≡ true = c.if-is_err.ensures.negation in
-    (
+    let made : is_ok c.step.result ≡ true = c.if-is_err.ensures.negation in (
       (so_far_more _ _ _ c.events.machine c.step.new.self c.events.drawing c.next.new.self c.in-Some.event c.step.result
           c.requires.limits c.events.invariant.0 (c.goes_on.ensures.0 c.events-test.true) (sym c.in-Some.is ∙ c.next.ensures.event)
           c.next.ensures.kept c.step.ensures.answer c.step.ensures.ok).0,
