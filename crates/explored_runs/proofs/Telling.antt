@@ -5,6 +5,7 @@ use Rattle.mach_types.specs.Limits.{InRange}
 use Rattle.block_model.specs.Setting.{Seen, Setting}
 use Rattle.block_model.proofs.Laws.{within_limit}
 use Rattle.drawn_runs.specs.WholeRuns.{IsWholeDrawn}
+use Rattle.drawn_machine.specs.Preemptions.{left_inside_in}
 use Rattle.drawn_runs.specs.declared.manner.Manner.{Manner}
 use Rattle.explored_runs.specs.declared.exploration.Exploration.{Exploration}
 use Rattle.explored_runs.specs.declared.made.Made.{Made}
@@ -12,12 +13,17 @@ use Rattle.explored_runs.specs.Accounts.{Account, has_enough, told}
 use Rattle.explored_runs.specs.Explored.{AreMadeFrom, IsExploring, IsToldAfter, IsToldNext}
 use Rattle.explored_runs.specs.Made.{IsMadeAt}
 use Rattle.explored_runs.specs.Tallies.{IsShort}
-use Rattle.explored_runs.proofs.Counts.{short_tally, within_told}
+use Rattle.explored_runs.proofs.Counts.{short_inside, short_tally, within_told}
 
 -- a whole run within the limits is short
 pub short_log : (s : Setting) (m : Manner) (seen : Seen) → InRange s.limits → IsWholeDrawn s m seen → length seen.log ≤ 1000000
 short_log s m seen limits whole =
     let steps = within_limit s seen.log whole.run.block_run in omega (arith, limits.most_steps)
+
+pub short_left : (s : Setting) (m : Manner) (seen : Seen) (inside : ℕ) → InRange s.limits → IsWholeDrawn s m seen
+    → inside ≡ left_inside_in seen → inside ≤ 1000000
+short_left s m seen inside limits whole is =
+    let few = short_inside seen.setting seen.log (short_log s m seen limits whole) in omega (arith, few, is)
 
 pub short_run : (s : Setting) (x : Exploration) (place : ℕ) (m : Made) → InRange s.limits → IsMadeAt s x place m → IsShort m.tally
 short_run s x place m limits made =

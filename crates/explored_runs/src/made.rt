@@ -47,8 +47,8 @@ pub(crate) fn make_run(
     ensures { IfOk result (IsMadeAt (setting_of image.now limits) exploration.now place) }
 {
     let manner = exploration.manner(place, limits.steps);
-    let run = run_drawn(alloc, image, limits, &manner)?;
-    made_by(alloc, exploration.apart, &manner, &run)
+    let drawn = run_drawn(alloc, image, limits, &manner)?;
+    made_by(alloc, exploration.apart, &manner, &drawn)
 }
 
 /// What a run in this manner came to.

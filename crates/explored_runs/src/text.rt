@@ -1,11 +1,12 @@
 //! The text of an exploration.
 
-ghost use Rattle.std.specs.Prelude.{◌≡◌, ◌++◌, IfOk, OnOk, codes};
+ghost use Rattle.std.specs.Prelude.{◌≡◌, ◌++◌, ◌∷◌, [], IfOk, OnOk, codes};
+ghost use Rattle.std.specs.Fmt.{decimal};
 ghost use Rattle.std.specs.List.{flat_map};
 ghost use Rattle.place_text.specs.Ends.{number_line};
 ghost use Rattle.place_text.specs.Fields.{behind, line};
 ghost use Rattle.explored_runs.specs.Accounts.{account_of};
-ghost use Rattle.explored_runs.specs.Text.{console_part, explored_text, found_line, found_text, harts_fields, others_text, preemptions_line};
+ghost use Rattle.explored_runs.specs.Text.{console_part, explored_text, found_line, found_text, harts_fields, others_text};
 
 use crate::exploration::Apart;
 use crate::explored::{Explored, Found, Others};
@@ -32,7 +33,12 @@ pub fn explored_text(
     push_count(&mut text, b"runs", explored.runs)?;
     push_harts(&mut text, &explored.tried.harts)?;
     push_count(&mut text, b"switches", explored.tried.switches)?;
-    push_preemptions(&mut text, explored.tried)?;
+    let Tried {
+        preemptions,
+        inside,
+        ..
+    } = explored.tried;
+    push_two_counts(&mut text, b"preemptions", preemptions, b"inside", inside)?;
     Ok(text)
 }
 
@@ -45,13 +51,19 @@ fn push_count(text: &mut Vec<u8>, word: &[u8], count: u64) -> Result<(), AllocEr
     Ok(())
 }
 
-/// Appends how often a thread left its hart, and how often inside a restartable sequence.
-fn push_preemptions(text: &mut Vec<u8>, tried: Tried) -> Result<(), AllocError>
-    ensures { OnOk result
-        (text.new.items ≡ text.old.items ++ preemptions_line tried.preemptions tried.inside) }
+/// Appends a line of a word and a number, and another word and its number.
+fn push_two_counts(
+    text: &mut Vec<u8>,
+    word: &[u8],
+    count: u64,
+    other: &[u8],
+    of_these: u64,
+) -> Result<(), AllocError>
+    ensures { OnOk result (text.new.items
+        ≡ text.old.items ++ line word.now (decimal count ∷ other.now ∷ decimal of_these ∷ [])) }
 {
-    begin_line(text, b"preemptions", tried.preemptions)?;
-    push_named_number(text, b"inside", tried.inside)?;
+    begin_line(text, word, count)?;
+    push_named_number(text, other, of_these)?;
     text.push(b'\n')?;
     Ok(())
 }

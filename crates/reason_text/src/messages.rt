@@ -85,6 +85,7 @@ fn file_name(alloc: Global, words: &[String], role: FileRole) -> Result<&str, Al
     match (role, run.source) {
         (FileRole::Program, _) => Ok(run.program),
         (FileRole::Script, Source::Script(name)) => Ok(name),
+        (FileRole::Script, Source::DrawnAfter { script, .. }) => Ok(script),
         (FileRole::Script, _) => Ok("the file"),
     }
 }

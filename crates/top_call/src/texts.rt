@@ -19,7 +19,7 @@ use crate::exploring::{explored_alone, explored_together};
 use crate::fetching::{read_file, taken};
 use command_runs::{play, run_rounds, run_solo, run_workers, shown_text, trial_text};
 use command_words::{Command, Draws, Guest, Run, Source, Trial};
-use drawn_machine::{DrawnRun, draw_on, run_drawn};
+use drawn_machine::{draw_on, run_drawn};
 use drawn_runs::Manner;
 use elf_load::{ElfFault, Image, load};
 use guest_programs::{GuestFault, make};
@@ -296,8 +296,11 @@ fn drawn_run<S: Shelf>(
 {
     let image = taken(alloc, program, &limits, shelf)?;
     let manner = Manner::of(draws.policies, draws.calm, seed, limits.steps);
-    let DrawnRun { machine, .. } = run_drawn(alloc, &image, limits, &manner)?;
-    Ok(ProgramRun { image, machine })
+    let drawn = run_drawn(alloc, &image, limits, &manner)?;
+    Ok(ProgramRun {
+        image,
+        machine: drawn.machine,
+    })
 }
 
 /// Runs the program of the first name on the events of the script of the second, and on those that the seed draws behind them.
@@ -320,11 +323,11 @@ fn drawn_after_run<S: Shelf>(
     ensures files { S.file shelf.new ≡ S.file shelf.old }
     ensures counts { NoneFalls (S.faults shelf.old) (S.faults shelf.new) }
 {
-    let ProgramRun { image, mut machine } = script_run(alloc, program, script, limits, shelf)?;
-    let scripted = machine.log().len() as u32;
-    let manner = Manner::of(draws.policies, draws.calm, seed, limits.steps).behind(scripted);
-    draw_on(&mut machine, &manner);
-    Ok(ProgramRun { image, machine })
+    let mut made = script_run(alloc, program, script, limits, shelf)?;
+    let scripted = made.machine.log().len() as u32;
+    let manner = Manner::of(draws.policies, draws.calm, seed, limits.steps);
+    draw_on(&mut made.machine, &manner.behind(scripted));
+    Ok(made)
 }
 
 /// Runs the program of this name by workers that choose by the seed.

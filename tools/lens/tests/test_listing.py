@@ -96,6 +96,31 @@ class Drains(unittest.TestCase):
             self.assertEqual([store.number for store in history(run, elf).waiting], [2])
 
 
+class Seeds(unittest.TestCase):
+    """In place of a run `list` takes a seed: the run is what `draw` prints under the limits."""
+
+    def test_seed(self):
+        with tempfile.TemporaryDirectory() as folder:
+            program = Path(folder) / 'program'
+            program.write_text(
+                f'#!/bin/sh\n[ "$*" = "draw {PETERSON} --seed=57 --harts=2" ] && cat {FOUND} || exit 2\n'
+            )
+            program.chmod(0o755)
+            drawn = lens('list', '--seed', 57, PETERSON, '--harts', 2, '--program', program, '--hart', 1)
+            self.assertEqual((drawn.returncode, drawn.stderr), (0, b''))
+            self.assertEqual(drawn.stdout, lens('list', FOUND, PETERSON, '--hart', 1).stdout)
+            other = lens('list', PETERSON, '--seed', 58, '--program', program)
+            self.assertIn("can't draw", other.stderr.decode())
+
+    def test_a_run_or_a_seed(self):
+        for words in ([PETERSON], [FOUND, PETERSON, '--seed', 57]):
+            with self.subTest(words=words):
+                answer = lens('list', *words)
+                self.assertEqual(
+                    (answer.returncode, answer.stderr), (2, b'lens: either RUN or --seed is wanted\n')
+                )
+
+
 class Cutting(unittest.TestCase):
     def test_first_lines(self):
         log = FOUND.with_suffix('.script').read_bytes().splitlines(keepends=True)

@@ -1,8 +1,13 @@
 use Rattle.block_model.specs.Setting.{setting_of}
-use Rattle.explored_runs.proofs.Telling.{short_log}
+use Rattle.explored_runs.proofs.Telling.{short_left, short_log}
 use Rattle.explored_runs.proofs.made.make_run.Goals as goal
 
 pub made_by-requires-clause-log : goal.made_by-requires-clause-log
 made_by-requires-clause-log c =
-    short_log (setting_of c.args.image.now c.args.limits) c.manner-manner.result c.in_ok-machine.machine c.requires.limits
-    c.in_ok-machine.ensures
+    short_log (setting_of c.args.image.now c.args.limits) c.manner-manner.result c.in_ok-drawn.drawn.machine c.requires.limits
+    c.in_ok-drawn.ensures.run
+
+pub made_by-requires-clause-few : goal.made_by-requires-clause-few
+made_by-requires-clause-few c =
+    short_left (setting_of c.args.image.now c.args.limits) c.manner-manner.result c.in_ok-drawn.drawn.machine
+    c.in_ok-drawn.drawn.left_inside c.requires.limits c.in_ok-drawn.ensures.run c.in_ok-drawn.ensures.inside

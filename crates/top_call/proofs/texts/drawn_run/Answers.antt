@@ -11,6 +11,6 @@ run_drawn-requires-clause-unscripted g c = ap (λ (m : Manner). m.scripted) c.of
 pub returns-clause-run : goal.returns-clause-run
 returns-clause-run g c =
     run_by_draws (g.S.Shelf.file c.args.shelf.now) c.args.program.now c.args.limits c.args.seed c.args.draws c.in_ok-image.image
-    c.in_ok-machine.machine c.in_ok-image.ensures.taken
-    (subst (λ (m : Manner). IsWholeDrawn (setting_of c.in_ok-image.image c.args.limits) m c.in_ok-machine.machine)
-    c.of-manner.ensures c.in_ok-machine.ensures)
+    c.in_ok-drawn.drawn.machine c.in_ok-image.ensures.taken
+    (subst (λ (m : Manner). IsWholeDrawn (setting_of c.in_ok-image.image c.args.limits) m c.in_ok-drawn.drawn.machine)
+    c.of-manner.ensures c.in_ok-drawn.ensures.run)
