@@ -1,16 +1,19 @@
 """The system calls of Linux on RISC-V by number (include/uapi/asm-generic/unistd.h), those that rseq_run
 may answer."""
 
-RT_SIGRETURN = 139
-MEMBARRIER = 283
+from collections.abc import Callable
+
+WRITE, WRITEV, EXIT, EXIT_GROUP, FUTEX, RT_SIGRETURN, CLONE, MEMBARRIER = 64, 66, 93, 94, 98, 139, 220, 283
+WRITES = (WRITE, WRITEV)
+WITHOUT_ANSWER = (EXIT, EXIT_GROUP, RT_SIGRETURN)
 
 NAMES = {
-    64: 'write',
-    66: 'writev',
-    93: 'exit',
-    94: 'exit_group',
+    WRITE: 'write',
+    WRITEV: 'writev',
+    EXIT: 'exit',
+    EXIT_GROUP: 'exit_group',
     96: 'set_tid_address',
-    98: 'futex',
+    FUTEX: 'futex',
     122: 'sched_setaffinity',
     123: 'sched_getaffinity',
     124: 'sched_yield',
@@ -24,7 +27,7 @@ NAMES = {
     178: 'gettid',
     214: 'brk',
     215: 'munmap',
-    220: 'clone',
+    CLONE: 'clone',
     222: 'mmap',
     226: 'mprotect',
     MEMBARRIER: 'membarrier',
@@ -37,3 +40,104 @@ def name_of(number: int | None) -> str:
     if number is None:
         return '?'
     return NAMES.get(number, f'call {number}')
+
+
+def flags(named: dict[int, str]) -> Callable[[int], str]:
+    """Writes a value as the flags that it is the sum of, and what is left of it."""
+
+    def write(value: int) -> str:
+        found = [name for bit, name in named.items() if value & bit == bit and bit]
+        left = value & ~sum(bit for bit in named if value & bit == bit)
+        return '|'.join([*found, *([f'{left:#x}'] if left or not found else [])]) if value else named.get(0, '0')
+
+    return write
+
+
+def one_of(named: dict[int, str]) -> Callable[[int], str]:
+    """Writes a value of 32 bits by its name."""
+    return lambda value: named.get(value & 0xFFFF_FFFF, f'{value & 0xFFFF_FFFF:#x}')
+
+
+NAMES_OF: dict[str, Callable[[int], str]] = {
+    'clone': flags(
+        {
+            0x100: 'CLONE_VM',
+            0x200: 'CLONE_FS',
+            0x400: 'CLONE_FILES',
+            0x800: 'CLONE_SIGHAND',
+            0x10000: 'CLONE_THREAD',
+            0x40000: 'CLONE_SYSVSEM',
+            0x80000: 'CLONE_SETTLS',
+            0x100000: 'CLONE_PARENT_SETTID',
+            0x200000: 'CLONE_CHILD_CLEARTID',
+            0x1000000: 'CLONE_CHILD_SETTID',
+        }
+    ),
+    'futex': one_of({0: 'FUTEX_WAIT', 1: 'FUTEX_WAKE', 128: 'FUTEX_WAIT_PRIVATE', 129: 'FUTEX_WAKE_PRIVATE'}),
+    'prot': flags({0: 'PROT_NONE', 1: 'PROT_READ', 2: 'PROT_WRITE', 4: 'PROT_EXEC'}),
+    'map': flags({0x1: 'MAP_SHARED', 0x2: 'MAP_PRIVATE', 0x10: 'MAP_FIXED', 0x20: 'MAP_ANONYMOUS'}),
+    'how': one_of({0: 'SIG_BLOCK', 1: 'SIG_UNBLOCK', 2: 'SIG_SETMASK'}),
+    'rseq': flags({1: 'RSEQ_FLAG_UNREGISTER'}),
+    'signal': one_of(
+        dict(
+            enumerate(
+                'SIGHUP SIGINT SIGQUIT SIGILL SIGTRAP SIGABRT SIGBUS SIGFPE SIGKILL SIGUSR1 SIGSEGV SIGUSR2 SIGPIPE SIGALRM '
+                'SIGTERM SIGSTKFLT SIGCHLD SIGCONT SIGSTOP SIGTSTP SIGTTIN SIGTTOU SIGURG SIGXCPU SIGXFSZ SIGVTALRM SIGPROF '
+                'SIGWINCH SIGIO SIGPWR SIGSYS'.split(),
+                1,
+            )
+        )
+    ),
+    'barrier': one_of(
+        {
+            0: 'MEMBARRIER_CMD_QUERY',
+            1: 'MEMBARRIER_CMD_GLOBAL',
+            2: 'MEMBARRIER_CMD_GLOBAL_EXPEDITED',
+            4: 'MEMBARRIER_CMD_REGISTER_GLOBAL_EXPEDITED',
+            8: 'MEMBARRIER_CMD_PRIVATE_EXPEDITED',
+            16: 'MEMBARRIER_CMD_REGISTER_PRIVATE_EXPEDITED',
+            128: 'MEMBARRIER_CMD_PRIVATE_EXPEDITED_RSEQ',
+            256: 'MEMBARRIER_CMD_REGISTER_PRIVATE_EXPEDITED_RSEQ',
+            512: 'MEMBARRIER_CMD_GET_REGISTRATIONS',
+        }
+    ),
+}
+"""How an argument of a kind is written. (include/uapi of Linux: linux/sched.h, futex.h, membarrier.h, rseq.h, asm-generic/mman-common.h,
+signal.h)"""
+
+FORMS: dict[int, tuple[str, ...]] = {
+    WRITE: ('d', 'p', 'u'),
+    WRITEV: ('d', 'p', 'd'),
+    EXIT: ('d',),
+    EXIT_GROUP: ('d',),
+    96: ('p',),
+    FUTEX: ('p', 'futex', 'd'),
+    122: ('d', 'u', 'p'),
+    123: ('d', 'u', 'p'),
+    124: (),
+    130: ('d', 'signal'),
+    131: ('d', 'd', 'signal'),
+    134: ('signal', 'p', 'p', 'u'),
+    135: ('how', 'p', 'p', 'u'),
+    RT_SIGRETURN: (),
+    168: ('p', 'p', 'p'),
+    172: (),
+    178: (),
+    214: ('x',),
+    215: ('x', 'u'),
+    CLONE: ('clone', 'p', 'p', 'p', 'p'),
+    222: ('x', 'u', 'prot', 'map', 'd', 'u'),
+    226: ('x', 'u', 'prot'),
+    MEMBARRIER: ('barrier', 'u', 'd'),
+    293: ('p', 'u', 'rseq', 'x'),
+}
+"""The kinds of a call's arguments: `d` a number of 32 bits with a sign, `u` one without, `p` an address, `x` a number in hexadecimal, or
+a word of NAMES_OF."""
+
+ANSWERS = {214: 'x', 222: 'x', WRITE: 'u', WRITEV: 'u'}
+"""The kinds of answers that aren't `d`."""
+
+ERRORS = {
+    1: 'EPERM', 3: 'ESRCH', 4: 'EINTR', 9: 'EBADF', 11: 'EAGAIN', 12: 'ENOMEM', 13: 'EACCES', 14: 'EFAULT', 16: 'EBUSY', 22: 'EINVAL',
+    28: 'ENOSPC', 38: 'ENOSYS', 110: 'ETIMEDOUT',
+}

@@ -8,13 +8,16 @@ from collections.abc import Iterable
 from pathlib import Path
 
 from .arguments import add_program, limits_of, positive
+from .call_list import list_calls
 from .faults import LensFault
 from .history import History, make_history
 from .listing import CONTEXT, Selection, list_run
-from .machine import Machine
-from .output import Output, read_output
+from .machine import Answer, Machine
+from .output import RUN, Output
 from .picture import draw_run
 from .program import Program
+from .scripts import Lines, first_unreadable, read_lines
+from .shrinking import shrink
 from .steering import steer
 from .trace import make_trace
 
@@ -25,15 +28,19 @@ def make_parser() -> argparse.ArgumentParser:
     parser = argparse.ArgumentParser(
         prog='lens',
         description='Shows a run of rseq_run. RUN is an output text of '
-        'solo, play, run or draw in a file, or - for standard input; ELF is the file that ran, '
+        'solo, play, gather, run or draw in a file, or a script, which is played; or - for standard input. ELF is the file that ran, '
         'with its symbols. With --seed RUN is left out: it is the run that draw makes of ELF.',
     )
     commands = parser.add_subparsers(metavar='COMMAND', required=True)
     add_list(commands)
     add_trace(commands)
     add_svg(commands)
+    add_calls(commands)
     add_cut(commands)
+    add_play(commands)
+    add_inspect(commands)
     add_steer(commands)
+    add_shrink(commands)
     return parser
 
 
@@ -72,12 +79,39 @@ def add_svg(commands) -> None:
 def add_cut(commands) -> None:
     command = commands.add_parser('cut', help='the first lines of a run as a script, to go on from by hand')
     command.add_argument('run', metavar='RUN')
-    command.add_argument('--to', dest='last', type=int, required=True, metavar='N', help='how many lines')
+    command.add_argument('--to', dest='last', type=int, metavar='N', help='how many lines (all)')
     command.add_argument(
         '--short', action='store_true', help='without threads and pcs, which play would compare'
     )
     add_out(command, 'SCRIPT')
     command.set_defaults(action=cut_command)
+
+
+def add_calls(commands) -> None:
+    command = commands.add_parser('calls', help='the system calls, with arguments and answers, as strace prints them')
+    add_run_and_elf(command)
+    command.add_argument('--thread', type=int, metavar='T', help='only those of thread T')
+    command.set_defaults(action=calls_command)
+
+
+def add_play(commands) -> None:
+    command = commands.add_parser('play', help='what the program\'s play prints, of an output text too')
+    add_lines(command)
+    command.set_defaults(action=play_command)
+
+
+def add_inspect(commands) -> None:
+    command = commands.add_parser('inspect', help='what the program\'s inspect prints, of an output text too')
+    add_lines(command)
+    command.set_defaults(action=inspect_command)
+
+
+def add_shrink(commands) -> None:
+    command = commands.add_parser('shrink', help='a short steer whose run ends as this one does')
+    add_run_and_elf(command)
+    command.add_argument('--by', choices=('text', 'end'), default='text', help='the same console and end, or the same end alone (text)')
+    add_out(command, 'STEER')
+    command.set_defaults(action=shrink_command)
 
 
 def add_steer(commands) -> None:
@@ -101,6 +135,13 @@ def add_run_and_elf(command: argparse.ArgumentParser) -> None:
     add_program(command)
 
 
+def add_lines(command: argparse.ArgumentParser) -> None:
+    command.add_argument('run', metavar='RUN', help='a script, or an output text, whose log is one')
+    command.add_argument('elf', metavar='ELF')
+    command.add_argument('--to', dest='last', type=int, metavar='N', help='only the first N lines (all)')
+    add_program(command)
+
+
 def add_out(command: argparse.ArgumentParser, name: str) -> None:
     command.add_argument('-o', '--out', metavar=name, help='where it is written (standard output)')
 
@@ -109,13 +150,29 @@ def read_history(arguments: argparse.Namespace) -> History:
     return make_history(output_of(arguments), Program(arguments.elf))
 
 
+def machine_of(arguments: argparse.Namespace) -> Machine:
+    return Machine(arguments.program, arguments.elf, tuple(limits_of(arguments)))
+
+
 def output_of(arguments: argparse.Namespace) -> Output:
-    """The run that is shown: that of a file, or that of a seed."""
+    """The run that is shown: that of an output text, or of a script, which is played, or that of a seed."""
     if (arguments.run is None) == (arguments.seed is None):
         raise LensFault('either RUN or --seed is wanted')
-    if arguments.seed is None:
-        return read_output(arguments.run)
-    return Machine(arguments.program, arguments.elf, tuple(limits_of(arguments))).draw(arguments.seed)
+    if arguments.seed is not None:
+        return machine_of(arguments).draw(arguments.seed)
+    lines = read_lines(arguments.run)
+    return lines.output or played(lines, machine_of(arguments))
+
+
+def played(lines: Lines, machine: Machine) -> Output:
+    """The run of a script; a fault that says which of its lines is refused, and why."""
+    unreadable = first_unreadable(lines.lines)
+    if unreadable:
+        raise LensFault(f'{lines.name}, line {unreadable[0]}: {unreadable[1]}')
+    answer = machine.call('play', lines.text())
+    if answer.status:
+        raise LensFault(f'{lines.name}: {answer.words()}')
+    return machine.output_of(answer, lines.name)
 
 
 def write_out(path: str | None, parts: Iterable[str]) -> None:
@@ -153,18 +210,55 @@ def svg_command(arguments: argparse.Namespace) -> None:
 
 
 def cut_command(arguments: argparse.Namespace) -> None:
-    output = read_output(arguments.run)
-    if not 0 <= arguments.last <= len(output.steps):
-        raise LensFault(f'{output.name} has {len(output.steps)} lines, and {arguments.last} are wanted')
-    kept = output.steps[: arguments.last]
-    write_out(
-        arguments.out, (f'{step.short_line() if arguments.short else step.line()}\n' for step in kept)
-    )
+    kept = read_lines(arguments.run).first(arguments.last)
+    unreadable = first_unreadable(kept.lines)
+    if unreadable:
+        raise LensFault(f'{kept.name}, line {unreadable[0]}: {unreadable[1]}')
+    lines = (line.decode('ascii') for line in kept.lines)
+    write_out(arguments.out, (f'{short_line(line) if arguments.short else line}\n' for line in lines))
+
+
+def short_line(line: str) -> str:
+    """A line of a script without its pc, and without its thread but for `run`."""
+    fields = line.split(' ')
+    return ' '.join(fields[: 3 if fields[1] == RUN else 2])
+
+
+def play_command(arguments: argparse.Namespace) -> int:
+    return pass_on(arguments, 'play')
+
+
+def inspect_command(arguments: argparse.Namespace) -> int:
+    return pass_on(arguments, 'inspect')
+
+
+def pass_on(arguments: argparse.Namespace, command: str) -> int:
+    """Gives the program the lines of a script or of an output text, and passes on what it prints, what it says and its status."""
+    lines = read_lines(arguments.run).first(arguments.last)
+    answer: Answer = machine_of(arguments).call(command, lines.text(), lines.name)
+    sys.stdout.buffer.write(answer.text)
+    sys.stdout.flush()
+    unreadable = first_unreadable(lines.lines) if answer.refused_line() else None
+    said = answer.said
+    if unreadable and unreadable[0] == answer.refused_line():
+        said += f'lens: line {unreadable[0]} can\'t be read: {unreadable[1]}\n'
+    sys.stderr.write(said)
+    return answer.status
+
+
+def calls_command(arguments: argparse.Namespace) -> None:
+    history = read_history(arguments)
+    write_out(None, (f'{line}\n' for line in list_calls(history, machine_of(arguments), arguments.thread)))
+
+
+def shrink_command(arguments: argparse.Namespace) -> None:
+    shrunk = shrink(output_of(arguments), Program(arguments.elf), machine_of(arguments), arguments.by == 'end')
+    write_out(arguments.out, [shrunk.steer])
+    print(f'from {shrunk.before.words()}', f'to {shrunk.after.words()}, and `finish`', sep='\n', file=sys.stderr)
 
 
 def steer_command(arguments: argparse.Namespace) -> None:
-    machine = Machine(arguments.program, arguments.elf, tuple(limits_of(arguments)))
-    script = steer(arguments.steer, Program(arguments.elf), machine)
+    script = steer(arguments.steer, Program(arguments.elf), machine_of(arguments))
     path = Path(arguments.out) if arguments.out else Path(arguments.steer).with_suffix('.script')
     notes = path.with_suffix('.notes')
     write_out(str(path), [script.text()])
@@ -176,11 +270,10 @@ def main() -> int:
     """Does what the words ask; 2 and one line on standard error where it can't."""
     try:
         arguments = make_parser().parse_args()
-        arguments.action(arguments)
+        return arguments.action(arguments) or 0
     except LensFault as fault:
         print(f'lens: {fault}', file=sys.stderr)
         return FAULT_STATUS
     except BrokenPipeError:
         sys.stderr.close()
         return 0
-    return 0

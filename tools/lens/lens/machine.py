@@ -4,17 +4,37 @@ from __future__ import annotations
 import os
 import subprocess
 import tempfile
-from dataclasses import dataclass
+from dataclasses import dataclass, replace
 from pathlib import Path
 
 from .faults import LensFault
 from .output import Output, parse_output
+from .place import Place, parse_place
 
 REPOSITORY = Path(__file__).resolve().parents[3]
 BUILT = Path(os.environ.get('RSEQ_RUN', REPOSITORY / 'crates' / 'rseq_run' / 'out' / 'rseq_run'))
 """The program that is called where no other is named: that of the repository, or what RSEQ_RUN says."""
 DONE, SCRIPT_REFUSED = 0, 4
 SECONDS = 120
+
+
+@dataclass(frozen=True)
+class Answer:
+    """The status of a call, its text, and what it says on standard error."""
+
+    status: int
+    text: bytes
+    said: str
+
+    def refused_line(self) -> int | None:
+        """The number of the line of the script that is refused, where one is."""
+        words = self.text.decode('ascii', 'replace').split()
+        return int(words[2]) if self.status == SCRIPT_REFUSED and len(words) == 3 else None
+
+    def words(self) -> str:
+        """The status, the text and the first line on standard error, on one line."""
+        text = ' '.join(self.text.decode('ascii', 'replace').split())
+        return f'status {self.status}, "{text}"{said(self.said.encode())}'
 
 
 @dataclass(frozen=True)
@@ -27,33 +47,46 @@ class Machine:
 
     def play(self, lines: list[str]) -> Output | int:
         """The run of a script, or the number of the first of its lines that is refused."""
-        with tempfile.NamedTemporaryFile('w', suffix='.script') as script:
-            script.writelines(f'{line}\n' for line in lines)
-            script.flush()
-            status, text, reason = self.answer(['play', self.elf, script.name, *self.options])
-        if status == DONE:
-            return parse_output(self.elf, text)
-        words = text.decode('ascii', 'replace').split()
-        if status == SCRIPT_REFUSED and len(words) == 3:
-            return int(words[2])
-        raise self.fault('play', status, text, reason)
+        answer = self.call('play', text_of(lines))
+        if answer.status == DONE:
+            return parse_output(self.elf, answer.text)
+        refused = answer.refused_line()
+        if refused is not None:
+            return refused
+        raise self.fault('play', answer)
+
+    def call(self, command: str, script: bytes, name: str | None = None) -> Answer:
+        """What a command answers to a script. Where it is given a name, standard error has that in place of a file's."""
+        with tempfile.NamedTemporaryFile('wb', suffix='.script') as file:
+            file.write(script)
+            file.flush()
+            answer = self.answer([command, self.elf, file.name, *self.options])
+            return answer if name is None else replace(answer, said=answer.said.replace(file.name, name))
+
+    def output_of(self, answer: Answer, name: str) -> Output:
+        """The run that an answer of status 0 has."""
+        return parse_output(name, answer.text)
+
+    def inspect(self, lines: list[str]) -> Place:
+        """The place that a script comes to, each line of which is allowed."""
+        answer = self.call('inspect', text_of(lines))
+        if answer.status == DONE:
+            return parse_place(answer.text)
+        raise self.fault('inspect', answer)
 
     def draw(self, seed: int) -> Output:
         """The run that a seed draws."""
-        status, text, reason = self.answer(['draw', self.elf, f'--seed={seed}', *self.options])
-        if status == DONE:
-            return parse_output(f'the run of seed {seed}', text)
-        raise self.fault('draw', status, text, reason)
+        answer = self.answer(['draw', self.elf, f'--seed={seed}', *self.options])
+        if answer.status == DONE:
+            return parse_output(f'the run of seed {seed}', answer.text)
+        raise self.fault('draw', answer)
 
-    def fault(self, command: str, status: int, text: bytes, reason: bytes) -> LensFault:
+    def fault(self, command: str, answer: Answer) -> LensFault:
         """Why a command gave no output."""
-        words = ' '.join(text.decode('ascii', 'replace').split())
-        return LensFault(
-            f'{self.program} can\'t {command} {self.elf}: status {status}, "{words}"{said(reason)}'
-        )
+        return LensFault(f'{self.program} can\'t {command} {self.elf}: {answer.words()}')
 
-    def answer(self, words: list[str]) -> tuple[int, bytes, bytes]:
-        """The status of a call, its text, and what it says on standard error."""
+    def answer(self, words: list[str]) -> Answer:
+        """What the program answers to some words."""
         try:
             ran = subprocess.run(
                 [self.program, *words], stdin=subprocess.DEVNULL, capture_output=True, timeout=SECONDS
@@ -64,7 +97,11 @@ class Machine:
             ) from None
         except subprocess.TimeoutExpired:
             raise LensFault(f'{self.program} had not ended after {SECONDS} seconds') from None
-        return ran.returncode, ran.stdout, ran.stderr
+        return Answer(ran.returncode, ran.stdout, ran.stderr.decode('utf-8', 'replace'))
+
+
+def text_of(lines: list[str]) -> bytes:
+    return ''.join(f'{line}\n' for line in lines).encode('ascii')
 
 
 def said(reason: bytes) -> str:

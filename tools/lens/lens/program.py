@@ -41,6 +41,15 @@ class Symbol:
 
 
 @dataclass(frozen=True)
+class Variable:
+    """A variable of the program that has a place of its own."""
+
+    address: int
+    size: int
+    name: str
+
+
+@dataclass(frozen=True)
 class Code:
     """The bytes of a segment that may be executed."""
 
@@ -86,6 +95,7 @@ class Program:
                 f'{self.path}: it has no symbols: build it without -s (and with -g for its source lines)'
             )
         self.starts = [symbol.address for symbol in self.symbols]
+        self.variables = sorted(variables(elf), key=lambda variable: variable.address)
         self.lines = Lines(elf, self.path)
         # (a log comes by the same few addresses again and again)
         self.instruction = cache(self.find_instruction)
@@ -120,6 +130,14 @@ class Program:
             return f'{address:#x}'
         offset = address - symbol.address
         return f'{symbol.name}+{offset:#x}' if offset else symbol.name
+
+    def variable(self, address: int) -> str:
+        """An address as variable+offset, or in hexadecimal where no variable has it."""
+        index = bisect_right([variable.address for variable in self.variables], address)
+        found = self.variables[index - 1] if index else None
+        if found is None or address >= found.address + found.size:
+            return self.where(address)
+        return f'{found.name}+{address - found.address:#x}' if address > found.address else found.name
 
     def place(self, address: int) -> Place | None:
         """The source line of an address, where the file says it."""
@@ -187,3 +205,11 @@ def code_symbols(elf: ELFFile, code: list[Code]):
         )
         if kind in SYMBOL_KINDS and is_of_code and is_kept:
             yield Symbol(symbol['st_value'], symbol.name, kind == 'STT_FUNC')
+
+
+def variables(elf: ELFFile):
+    """The variables of the program."""
+    table = elf.get_section_by_name('.symtab')
+    for symbol in table.iter_symbols() if table else ():
+        if symbol['st_info']['type'] == 'STT_OBJECT' and symbol['st_size'] and symbol['st_shndx'] != 'SHN_UNDEF':
+            yield Variable(symbol['st_value'], symbol['st_size'], symbol.name)

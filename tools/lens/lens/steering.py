@@ -2,30 +2,42 @@
 
 A line of it is empty, a comment (`# ..`, also behind an event), an event as in any script, or one of
 
+    HART go until PLACE [#K]     instructions, and drains where they need it, until the thread on HART stands at PLACE for the
+                                 K-th time; the place where it stands already counts as the first
+    HART go                      the same until the thread has left the hart, or can't go on there, or the process is over
+    HART go preempt              that event (or `signal`, `take`, `done`), and before it a drain for each store that waits on HART
+    HART drain until PLACE       drains, up to that of the first store that waits there and stands at PLACE
+    HART drain all               each store that waits on HART
     HART exec xN                 N times this event (`drain` and other events too)
     HART exec until PLACE        instructions until the thread on HART stands at PLACE; none where it stands there
     HART exec all                instructions until one isn't allowed: stores wait and it is a call or a fence, or the
                                  thread has left the hart, or the process is over
-    HART drain all               each store that waits on HART
+    repeat K ORDER               that order K times
+    finish                       the rest of the run, by the rule of finishing.py
 
 PLACE is a function or label, function+0x10, file.c:21, or an address 0x10140.
 """
 from __future__ import annotations
 
 import re
-from dataclasses import dataclass, field
+from dataclasses import dataclass, field, replace
 from pathlib import Path
 
 from .faults import LensFault
+from .finishing import finish
 from .history import History, make_history
 from .instructions import Instruction
 from .listing import deed
 from .machine import Machine
-from .output import DRAIN, EXEC, HARTS, KINDS, PREEMPT, RUN, Step
+from .output import DONE, DRAIN, EXEC, HARTS, KINDS, PREEMPT, RUN, SIGNAL, TAKE, Step
+from .place import HartPlace
 from .program import Program
 
 TIMES = re.compile(r'x([1-9][0-9]*)')
-UNTIL, ALL = 'until', 'all'
+GO, FINISH = 'go', 'finish'
+COUNT = re.compile(r'#([1-9][0-9]*)')
+WITH_COUNT = re.compile(r'(?P<words>[^#]*\suntil\s+[^#\s]+\s+#[1-9][0-9]*)(?=\s|$)(?P<rest>.*)')
+NO_WAITING = (PREEMPT, SIGNAL, TAKE, DONE)
 TRIES = (64, 1_024, 16_384, 262_144, 1_048_576)
 STORES = 8
 OPEN, LIMIT = 'open', 'limit'
@@ -33,8 +45,7 @@ OPEN, LIMIT = 'open', 'limit'
 
 @dataclass(frozen=True)
 class Order:
-    """A line of a steer: which event, how often, or up to which place; and the comment before it or on
-    it."""
+    """A line of a steer: which event, how often, or up to which place."""
 
     number: int
     words: str
@@ -44,6 +55,11 @@ class Order:
     times: int = 1
     until: str | None = None
     is_all: bool = False
+    visit: int = 1
+    """Which visit of the place ends it."""
+    goes: bool = False
+    """Whether stores enter memory where the event needs it."""
+    repeats: int = 1
 
     @property
     def event(self) -> str:
@@ -91,35 +107,66 @@ def read_steer(path: str) -> list[Order | Remark]:
 
 
 def read_line(path: str, number: int, line: str) -> list[Order | Remark]:
-    words, mark, comment = line.partition('#')
+    words, mark, comment = split_comment(line)
     parts: list[Order | Remark] = [Remark(number, comment.strip())] if mark else []
     if words.strip():
         parts.append(read_order(path, number, ' '.join(words.split())))
     return parts
 
 
+def split_comment(line: str) -> tuple[str, str, str]:
+    """A line up to its comment, the mark that begins one, and the comment. The count of a visit (`until take #3`) is no comment."""
+    if found := WITH_COUNT.match(line):
+        space, mark, comment = found['rest'].partition('#')
+        return found['words'] + space, mark, comment
+    return line.partition('#')
+
+
 def read_order(path: str, number: int, words: str) -> Order:
     """The order of a line; a fault that names the line where it is none."""
     match words.split(' '):
-        case [hart, kind] if is_event(hart, kind) and kind != RUN:
-            return Order(number, words, int(hart), kind)
-        case [hart, 'run', thread] if is_event(hart, RUN) and thread.isdecimal():
-            return Order(number, words, int(hart), RUN, thread)
-        case [hart, kind, times] if is_event(hart, kind) and kind != RUN and TIMES.fullmatch(times):
-            return Order(number, words, int(hart), kind, times=int(times[1:]))
-        case [hart, 'exec', 'until', place] if is_event(hart, EXEC):
-            return Order(number, words, int(hart), EXEC, until=place)
-        case [hart, 'exec' | 'drain' as kind, 'all'] if is_event(hart, kind):
-            return Order(number, words, int(hart), kind, is_all=True)
+        case ['repeat', times, *rest] if times.isdecimal() and int(times) > 0 and rest[:1] not in ([], ['repeat']):
+            order = read_order(path, number, ' '.join(rest))
+            return replace(order, words=words, repeats=int(times))
+        case ['finish']:
+            return Order(number, words, 0, FINISH)
+        case [hart, *rest] if is_hart(hart):
+            order = order_of_hart(number, words, int(hart), rest)
+            if order is not None:
+                return order
     raise LensFault(
         f'{path}, line {number}: {words!r} is no order; orders are "0 run 1", "0 exec", "0 exec x8", '
         '"0 exec until main+0x10", "0 exec all", "0 drain", "0 drain all", "0 preempt", "0 signal", "0 take", '
-        '"0 done"'
+        '"0 done", "0 go", "0 go until main+0x10", "0 go until main #2", "0 go preempt", "0 drain until main.c:9", '
+        '"repeat 3 0 go until main #2", "finish"'
     )
 
 
-def is_event(hart: str, kind: str) -> bool:
-    return len(hart) == 1 and hart.isdecimal() and int(hart) < HARTS and kind in KINDS
+def order_of_hart(number: int, words: str, hart: int, rest: list[str]) -> Order | None:
+    """The order of a line that begins with a hart; None where it is none."""
+    match rest:
+        case [kind] if kind in KINDS and kind != RUN:
+            return Order(number, words, hart, kind)
+        case ['run', thread] if thread.isdecimal():
+            return Order(number, words, hart, RUN, thread)
+        case [kind, times] if kind in KINDS and kind != RUN and TIMES.fullmatch(times):
+            return Order(number, words, hart, kind, times=int(times[1:]))
+        case ['exec' | 'drain' as kind, 'until', place]:
+            return Order(number, words, hart, kind, until=place)
+        case ['exec' | 'drain' as kind, 'all']:
+            return Order(number, words, hart, kind, is_all=True)
+        case ['go', 'until', place, *count] if len(count) < 2 and all(map(COUNT.fullmatch, count)):
+            visit = int(count[0][1:]) if count else 1
+            return Order(number, words, hart, EXEC, until=place, visit=visit, goes=True)
+        case ['go']:
+            return Order(number, words, hart, EXEC, is_all=True, goes=True)
+        case ['go', kind] if kind in NO_WAITING:
+            return Order(number, words, hart, kind, goes=True)
+    return None
+
+
+def is_hart(word: str) -> bool:
+    return len(word) == 1 and word.isdecimal() and int(word) < HARTS
 
 
 class Steering:
@@ -141,10 +188,18 @@ class Steering:
         return self.script
 
     def obey(self, order: Order) -> None:
-        self.script.lines += [order.event] * self.times(order)
+        for _ in range(order.repeats):
+            if order.kind == FINISH:
+                self.script.lines = [step.short_line() for step in finish(self.machine, self.script.lines).steps]
+            elif order.goes:
+                self.go(order)
+            else:
+                self.script.lines += [order.event] * self.times(order)
 
     def times(self, order: Order) -> int:
         """How often the event of an order is made, each time allowed."""
+        if order.until is not None and order.kind == DRAIN:
+            return self.times_drained(order, set(self.program.addresses(order.until)))
         if order.until is not None:
             return self.times_until(order, set(self.program.addresses(order.until)))
         if order.is_all and order.kind == EXEC:
@@ -154,6 +209,76 @@ class Steering:
         if isinstance(answer, int):
             raise self.refusal(order, answer)
         return times
+
+    def times_drained(self, order: Order, places: set[int]) -> int:
+        """How many drains there are up to that of the first waiting store that stands at one of the places."""
+        stores = [store.pc for store in self.standing(order.hart).waiting]
+        found = next((count for count, pc in enumerate(stores, 1) if pc in places), None)
+        if found is None:
+            raise self.fault(order, f'no store of {order.until} waits on hart {order.hart}')
+        return found
+
+    # `go`: the instructions of a hart, or one event, with the drains that they need
+
+    def go(self, order: Order) -> None:
+        if order.kind != EXEC:
+            self.drain_all(order, self.here(order.hart))
+            self.script.lines += [order.event] * self.times(order)
+        elif order.until is not None:
+            self.go_until(order, set(self.program.addresses(order.until)))
+        else:
+            self.go_all(order)
+
+    def here(self, hart: int) -> HartPlace:
+        """What a hart is at behind the lines so far."""
+        return self.machine.inspect(self.script.lines).harts.get(hart, HartPlace())
+
+    def drain_all(self, order: Order, here: HartPlace) -> None:
+        self.script.lines += [f'{order.hart} {DRAIN}'] * here.waiting
+
+    def go_until(self, order: Order, places: set[int]) -> None:
+        """Goes on until the thread has stood so often at one of the places, where it stands now among these times."""
+        visits, size = 0, TRIES[0]
+        while True:
+            here = self.here(order.hart)
+            visits += here.pc in places
+            if visits >= order.visit:
+                return
+            pcs = self.advance(order, here, size)
+            for count, pc in enumerate(pcs[1:], 1):
+                visits += pc in places
+                if visits >= order.visit:
+                    del self.script.lines[len(self.script.lines) - len(pcs) + count :]
+                    return
+            size = min(4 * size, TRIES[-1])
+
+    def go_all(self, order: Order) -> None:
+        """Goes on for as long as the thread can; it makes one instruction at least."""
+        before = len(self.script.lines)
+        while True:
+            place = self.machine.inspect(self.script.lines)
+            here = place.harts.get(order.hart, HartPlace())
+            is_able = EXEC in here.may or here.drains_for(EXEC) > 0
+            if not is_able and place.end != LIMIT and len(self.script.lines) > before:
+                return
+            if not is_able:
+                raise self.refusal(order, len(self.script.lines) + 1)
+            self.advance(order, here, TRIES[1])
+
+    def advance(self, order: Order, here: HartPlace, size: int) -> list[int]:
+        """Makes the drains that the next instruction needs, and then as many instructions as are allowed, `size` at most: the pcs at
+        which these stand."""
+        drains = here.drains_for(EXEC)
+        if EXEC not in here.may and not drains:
+            raise self.refusal(order, len(self.script.lines) + 1)
+        self.script.lines += [f'{order.hart} {DRAIN}'] * drains
+        before = len(self.script.lines)
+        allowed = self.allowed_of(order, size)
+        if not allowed:
+            raise self.refusal(order, before + 1)
+        self.script.lines += [order.event] * allowed
+        answer = self.machine.play(self.script.lines)
+        return [] if isinstance(answer, int) else [step.pc for step in answer.steps[before:]]
 
     # What the machine says
 

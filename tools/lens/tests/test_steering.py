@@ -1,12 +1,13 @@
 """Steers: how they are read, the scripts that they make, and what is said where they can't go on."""
 import tempfile
 import unittest
+from dataclasses import replace
 from pathlib import Path
 
 from lens.faults import LensFault
 from lens.steering import Order, Remark, read_line
 
-from .common import EXAMPLES, FENCED, PETERSON, PROGRAM, assemble, lens, needs_program
+from .common import EXAMPLES, FENCED, PETERSON, PROGRAM, START, assemble, lens, needs_program
 
 BOTH_INSIDE = EXAMPLES / 'peterson' / 'both_inside.steer'
 IN_TURN = EXAMPLES / 'peterson_fenced' / 'in_turn.steer'
@@ -35,6 +36,25 @@ class Lines(unittest.TestCase):
         self.assertEqual(self.read('  # two  words'), [Remark(3, 'two  words')])
         self.assertEqual(self.read('0 exec # why'), [Remark(3, 'why'), Order(3, '0 exec', 0, 'exec')])
 
+    def test_orders_that_go(self):
+        cases = {
+            '0 go': Order(3, '0 go', 0, 'exec', is_all=True, goes=True),
+            '0 go until take': Order(3, '0 go until take', 0, 'exec', until='take', goes=True),
+            '0 go until take #3': Order(3, '0 go until take #3', 0, 'exec', until='take', visit=3, goes=True),
+            '0 go preempt': Order(3, '0 go preempt', 0, 'preempt', goes=True),
+            '0 drain until a.c:9': Order(3, '0 drain until a.c:9', 0, 'drain', until='a.c:9'),
+            'repeat 2 0 exec': Order(3, 'repeat 2 0 exec', 0, 'exec', repeats=2),
+            'finish': Order(3, 'finish', 0, 'finish'),
+        }
+        for line, order in cases.items():
+            with self.subTest(line=line):
+                self.assertEqual(self.read(line), [order])
+
+    def test_a_count_is_no_comment(self):
+        order = Order(3, '0 go until take #3', 0, 'exec', until='take', visit=3, goes=True)
+        self.assertEqual(self.read('0 go until take #3 # why #2'), [Remark(3, 'why #2'), order])
+        self.assertEqual(self.read('0 go until take # 3'), [Remark(3, '3'), replace(order, words='0 go until take', visit=1)])
+
     def test_no_orders(self):
         for line in (
             '0',
@@ -47,8 +67,12 @@ class Lines(unittest.TestCase):
             '0 exec until',
             '0 jump',
             '0 preempt all',
-            '0 drain until main',
             '00 exec',
+            '0 go run 1',
+            '0 go until',
+            'repeat 0 0 exec',
+            'repeat 2 repeat 2 0 exec',
+            'finish 0',
         ):
             with self.subTest(line=line), self.assertRaisesRegex(
                 LensFault, f'^it, line 3: \'{line}\' is no order'
@@ -117,6 +141,39 @@ class Scripts(unittest.TestCase):
         for text, said in cases.items():
             with self.subTest(text=text):
                 self.refusal(text, said)
+
+    def played(self, script, elf=PETERSON):
+        """The end of the run of a script."""
+        return lens('play', script, elf, '--program', PROGRAM).stdout.decode().splitlines()[-1]
+
+    def test_going_needs_no_counted_drains(self):
+        script, answer = self.steer_text('0 run 1\n0 go until give\n1 run 2\n1 go\n0 go\n')
+        self.assertEqual((answer.returncode, answer.stderr), (0, b''))
+        self.assertEqual(script.read_text(), BOTH_INSIDE.with_suffix('.script').read_text())
+
+    def test_visits_are_counted(self):
+        elf = assemble(self.folder, 'li a0, 3\nagain: addi a0, a0, -1\nbnez a0, again\nli a7, 93\necall')
+        for order, lines in (('0 go until again #3', 6), ('0 go until again', 2), ('repeat 2 0 go until again', 2)):
+            with self.subTest(order=order):
+                script, answer = self.steer_text(f'0 run 1\n{order}\n', elf)
+                self.assertEqual(answer.stderr, b'')
+                self.assertEqual(len(script.read_text().splitlines()), lines)
+        self.refusal('0 run 1\n0 go until again #4\n', 'the run is over: end exit 0', elf)
+
+    def test_the_drains_before_a_store(self):
+        elf = assemble(self.folder, '\n'.join(['sd a0, -8(sp)'] * 3))
+        script, _ = self.steer_text(f'0 run 1\n0 exec x3\n0 drain until {START + 4:#x}\n', elf)
+        self.assertEqual(script.read_text(), '0 run 1\n' + '0 exec\n' * 3 + '0 drain\n' * 2)
+        self.refusal(f'0 run 1\n0 exec x1\n0 drain until {START + 4:#x}\n', 'no store of 0x1007c waits on hart 0', elf)
+        script, _ = self.steer_text('0 run 1\n0 exec x3\n0 go preempt\n', elf)
+        self.assertEqual(script.read_text(), '0 run 1\n' + '0 exec\n' * 3 + '0 drain\n' * 3 + '0 preempt\n')
+
+    def test_the_rest_by_the_rule(self):
+        script, answer = self.steer_text('0 run 1\n0 go until give\n1 run 2\nfinish\n')
+        self.assertEqual((answer.returncode, answer.stderr), (0, b''))
+        self.assertEqual(self.played(script), 'end exit 1')
+        script, _ = self.steer_text('finish\n')
+        self.assertEqual(self.played(script), 'end exit 0')
 
     def test_a_ninth_store(self):
         elf = assemble(self.folder, '\n'.join(['sd a0, -8(sp)'] * 9))

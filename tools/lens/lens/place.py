@@ -1,0 +1,77 @@
+"""Reads what `inspect` prints: the place that a script comes to."""
+from __future__ import annotations
+
+from dataclasses import dataclass, field
+
+from .output import RUN, SIGNAL, TAKE
+
+OPEN, LIMIT = 'open', 'limit'
+WAITING, FULL_BUFFER = 'Waiting', 'FullBuffer'
+
+
+@dataclass
+class HartPlace:
+    """What a hart is at: its thread, pc and registers, where one runs; how many stores wait; which events may come next, and why not
+    the others; and which threads may begin to run."""
+
+    thread: int | None = None
+    pc: int | None = None
+    registers: list[int] = field(default_factory=list)
+    waiting: int = 0
+    may: set[str] = field(default_factory=set)
+    why_not: dict[str, str] = field(default_factory=dict)
+    ready: list[int] = field(default_factory=list)
+
+    @property
+    def is_awaited(self) -> bool:
+        """Whether a request of a barrier, or a signal, waits for the stores of the hart."""
+        return WAITING in (self.why_not.get(TAKE), self.why_not.get(SIGNAL))
+
+    def drains_for(self, kind: str) -> int:
+        """How many stores have to enter memory before an event; none where that isn't what it waits for."""
+        return {WAITING: self.waiting, FULL_BUFFER: 1}.get(self.why_not.get(kind, ''), 0)
+
+
+@dataclass
+class Place:
+    """Where the harts are behind the last line of a script, and how the run ends that stops there."""
+
+    end: str
+    harts: dict[int, HartPlace]
+
+    @property
+    def is_over(self) -> bool:
+        return self.end != OPEN
+
+
+def parse_place(text: bytes) -> Place:
+    """The place of a text of `inspect`; lines that aren't needed are passed over."""
+    place = Place(OPEN, {})
+    for line in text.decode('ascii', 'replace').splitlines():
+        match line.split(' '):
+            case ['end', *reason]:
+                place.end = ' '.join(reason)
+            case ['hart', hart, *rest]:
+                note_hart(place.harts.setdefault(int(hart), HartPlace()), rest)
+            case ['may', hart, kind, thread, _]:
+                note_may(place.harts[int(hart)], kind, int(thread))
+            case ['not', hart, kind, why]:
+                place.harts[int(hart)].why_not[kind] = why
+    return place
+
+
+def note_hart(hart: HartPlace, fields: list[str]) -> None:
+    match fields:
+        case ['thread', thread, 'pc', pc, *_]:
+            hart.thread, hart.pc = int(thread), int(pc, 16)
+        case [register, _, value] if register[0] == 'x' and register[1:].isdecimal():
+            hart.registers.append(int(value, 16))
+        case ['store', *_]:
+            hart.waiting += 1
+
+
+def note_may(hart: HartPlace, kind: str, thread: int) -> None:
+    if kind == RUN:
+        hart.ready.append(thread)
+    else:
+        hart.may.add(kind)
