@@ -172,7 +172,6 @@ holds Ring n pages stand read = (
       (data_words (model Ring) n) (omega arith) (λ e. omega arith) (omega arith) (omega arith) stand read refl refl
       refl,
 )
-
 holds Urcu n pages stand read = record {
   read = reading;
   sync = waiting;
