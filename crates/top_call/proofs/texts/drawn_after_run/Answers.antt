@@ -1,4 +1,4 @@
-use Rattle.std.proofs.Common.{◌≡◌, ◌≤◌, ◌∙◌, ap, ap₂, arith}
+use Rattle.std.proofs.Common.{◌≡◌, ◌≤◌, ◌∙◌, ap, ap₂, arith, length}
 use Rattle.command_words.specs.Commands.{Script}
 use Rattle.drawn_runs.specs.Manners.{manner_behind}
 use Rattle.drawn_runs.specs.declared.manner.Manner.{Manner}
@@ -25,5 +25,5 @@ pub returns-clause-run : goal.returns-clause-run
 returns-clause-run g c =
     run_behind_script (g.S.Shelf.file c.args.shelf.now) c.args.program.now c.args.script.now c.args.limits c.args.seed c.args.draws
     c.in_ok-made.made.image c.in_ok-made.made.machine c.draw_on.new.machine c.behind.result c.in_ok-made.ensures.run
-    (c.behind.ensures ∙ ap₂ manner_behind ? c.of-manner.ensures) c.draw_on.ensures.setting
+    (c.behind.ensures ∙ ap₂ manner_behind (c.len.ensures ∙ ap length c.log.ensures) c.of-manner.ensures) c.draw_on.ensures.setting
     c.draw_on.ensures.begins c.draw_on.ensures.drawn
