@@ -1,8 +1,9 @@
 -- A worked log, by computation: a thread registers its area and puts 42 into the pool of its processor by a free block. It
 -- is preempted inside, once its value is 0, begins anew at the abort handler, which brings the value back, and puts it in
--- once. Then it takes it out by an alloc block, and finds the pool empty by another sequence of that.
+-- once. Then it takes it out by an alloc block, and finds the pool empty by another sequence of that. And a log of a pool that
+-- is full.
 use Rattle.std.proofs.Common.{◌≡◌, ℕ, List, [], ◌∷◌, ◌++◌, replicate, take, drop, refl}
-use Rattle.std.proofs.Common.{Bool, true, eqb, Ok}
+use Rattle.std.proofs.Common.{Bool, true, ◌&&◌, eqb, Ok}
 use Rattle.mach_types.specs.Kernel.Areas.{are_readable, number_at}
 use Rattle.mach_types.specs.Registers.{register}
 use Rattle.mach_types.specs.declared.events.Choice.TheVariants as asked
@@ -24,7 +25,7 @@ use Rattle.alone_laws.specs.Uses.{Placed}
 use Rattle.percpu_lib.specs.Forms.{placed_of}
 use Rattle.percpu_lib.specs.Allocs.{alloc_block, alloc_form}
 use Rattle.percpu_lib.specs.Frees.{free_block, free_form}
-use Rattle.percpu_lib.specs.Pools.{pool_at, slot_at}
+use Rattle.percpu_lib.specs.Pools.{count_seen, pool_at, slot_at}
 use Rattle.percpu_lib.specs.Pushes.{word_seen}
 use Rattle.percpu_lib.specs.Uses.{cells_of}
 use Rattle.percpu_lib.specs.declared.slots.Slots.{Slots}
@@ -55,10 +56,12 @@ code =
     ∷ 0x00 ∷ 0x00 ∷ 0x00 ∷ 0x00 ∷ 0x00 ∷ 0x00 ∷ 0x00 ∷ 0x00 ∷ 0x3C ∷ 0x01 ∷ 0x01 ∷ 0x00 ∷ 0x00 ∷ 0x00 ∷ 0x00 ∷ 0x00
     ∷ 0x30 ∷ 0x00 ∷ 0x00 ∷ 0x00 ∷ 0x00 ∷ 0x00 ∷ 0x00 ∷ 0x00 ∷ 0x74 ∷ 0x01 ∷ 0x01 ∷ 0x00 ∷ 0x00 ∷ 0x00 ∷ 0x00 ∷ 0x00 ∷ []
 
-abbrev pub setting : Setting
-setting = record {
+-- such a program, with these bytes of data
+abbrev pub setting_with : List ℕ → Setting
+setting_with bytes = record {
   program = record {
-    pages = record { number = 0x10; perm = 5; bytes = replicate 0xB0 0 ++ code } ∷ record { number = 0x20; perm = 6; bytes = [] } ∷ [];
+    pages = record { number = 0x10; perm = 5; bytes = replicate 0xB0 0 ++ code }
+        ∷ record { number = 0x20; perm = 6; bytes = bytes } ∷ [];
     entry = 0x100B0;
     phdr = 0x10040;
     phnum = 2;
@@ -66,6 +69,9 @@ setting = record {
   };
   limits = record { harts = 1; frames = 128; steps = 200 };
 }
+
+abbrev pub setting : Setting
+setting = setting_with []
 
 abbrev pub area : Area
 area = record { at = 0x20000; sig = 0xF1401073 }
@@ -250,3 +256,46 @@ pub none_used : IsGood setting none_log (alloc_form alloc_slots) alloc_at area (
 none_used =
     found_good setting none_log (alloc_form alloc_slots) (alloc_tested alloc_slots) alloc_at area 1 (the_free ∷ [])
     none_fits is_run none_good refl alloc_there refl
+
+-- A FULL POOL
+
+-- the same program over a pool whose count is 512: the free finds it full, and the value stays 42
+abbrev pub full_setting : Setting
+full_setting = setting_with (replicate 0x40 0 ++ 0x00 ∷ 0x02 ∷ [])
+
+abbrev full_lines : List Ask
+full_lines = line (asked.Run (record { 0 = 1 })) ∷ replicate 21 (line asked.Exec)
+
+abbrev pub full_log : List Entry
+full_log =
+    entry kind.Run 1 0x100B0 ∷ entry kind.Exec 1 0x100B0 ∷ entry kind.Exec 1 0x100B4
+    ∷ entry kind.Exec 1 0x100B8 ∷ entry kind.Exec 1 0x100BC ∷ entry kind.Exec 1 0x100C0
+    ∷ entry kind.Exec 1 0x100C4 ∷ entry kind.Exec 1 0x100C8 ∷ entry kind.Exec 1 0x100CC
+    ∷ entry kind.Exec 1 0x100D0 ∷ entry kind.Exec 1 0x100D4 ∷ entry kind.Exec 1 0x100D8
+    ∷ entry kind.Exec 1 0x100DC ∷ entry kind.Exec 1 0x100E0 ∷ entry kind.Exec 1 0x100E4
+    ∷ entry kind.Exec 1 0x100E8 ∷ entry kind.Exec 1 0x100EC ∷ entry kind.Exec 1 0x100F0
+    ∷ entry kind.Exec 1 0x100F4 ∷ entry kind.Exec 1 0x100F8 ∷ entry kind.Exec 1 0x100FC
+    ∷ entry kind.Exec 1 0x10100 ∷ []
+
+full_played : played full_setting full_lines ≡ Ok full_log
+unfolding played decide history done meaning row_of rows lui_rows auipc_rows jal_rows jalr_rows branch_rows load_rows store_rows op_imm_rows op_imm_32_rows op_rows op_32_rows misc_mem_rows amo_rows system_rows are_readable number_at
+full_played = refl
+
+full_there : AreThere (code_of full_setting.program.pages) free_at (free_block free_slots)
+unfolding row_of rows lui_rows auipc_rows jal_rows jalr_rows branch_rows load_rows store_rows op_imm_rows op_imm_32_rows op_rows op_32_rows misc_mem_rows amo_rows system_rows
+full_there = (refl, (refl, (refl, (refl, (refl, (refl, (refl, (refl, (refl, (refl, (refl, (refl, (refl, (refl, (refl, (refl, (refl, (refl, (refl, (refl, (refl, (refl, tt))))))))))))))))))))))
+
+abbrev pub full_fits : Sequence → Bool
+full_fits q =
+    eqb (register (file full_setting q.thread q.reached).file 18) 42
+    && is_just (count_seen full_setting 0 (cells_of full_setting free_slots q.thread q.begun) q.reached) 512
+
+full_good : is_good full_setting (free_form free_slots) (free_tested free_slots) free_at area 1 (the_alloc ∷ []) full_fits
+    (history full_setting full_log) ≡ true
+unfolding decide history done meaning row_of rows lui_rows auipc_rows jal_rows jalr_rows branch_rows load_rows store_rows op_imm_rows op_imm_32_rows op_rows op_32_rows misc_mem_rows amo_rows system_rows are_readable number_at
+full_good = refl
+
+pub full_used : IsGood full_setting full_log (free_form free_slots) free_at area (the_alloc ∷ []) full_fits
+full_used =
+    found_good full_setting full_log (free_form free_slots) (free_tested free_slots) free_at area 1 (the_alloc ∷ [])
+    full_fits (played_is_run full_setting full_lines full_log full_played).0 full_good refl full_there refl
