@@ -67,4 +67,19 @@ returns c = record {
             (cells_of example.full_setting example.free_slots its.sequence.thread its.sequence.begun)
             its.sequence.reached) 512 both.1,
       );
+  retried = (
+    example.setting,
+    example.first_time,
+    example.anew,
+    example.rest,
+    example.free_slots,
+    example.free_at,
+    example.area,
+    1,
+    example.retry_run,
+    example.retry_holds,
+    example.retried,
+    example.small_value,
+    example.at_label,
+  );
 }
