@@ -1,5 +1,5 @@
 -- A thread at the retry label of an add block, whose hart is left undisturbed, has added after eleven instructions.
-use Rattle.std.proofs.Common.{◌≡◌, ℕ, ◌≤◌, List, ◌++◌, refl, Some, arith}
+use Rattle.std.proofs.Common.{◌≡◌, ℕ, ◌≤◌, List, ◌++◌, Some}
 use Rattle.mach_types.specs.declared.events.Entry.{Entry}
 use Rattle.mach_types.specs.declared.sequences.Area.{Area}
 use Rattle.block_model.specs.Deciding.{history}

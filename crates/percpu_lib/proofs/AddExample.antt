@@ -1,20 +1,16 @@
 -- A worked log, by computation: a thread registers its area and is to add 32 to the cell of its processor by an
 -- add block. It is preempted inside, begins anew at the abort handler, and adds once. It uses the block as
 -- HoldsAdd asks.
-use Rattle.std.proofs.Common.{◌≡◌, ℕ, suc, zero, ◌+◌, ◌*◌, ◌^◌, ◌<◌, ◌≤◌, List, [], ◌∷◌, ◌++◌, replicate, take, drop, refl, ap, ◌∙◌}
-use Rattle.std.proofs.Common.{subst, arith, true, Option, Some, None, Ok, slice_get, unwrap_or, ◌⊎◌, inl, inr}
-use Rattle.std.proofs.lemmas.Bool.{eqb-false, leb-true, ltb-true}
+use Rattle.std.proofs.Common.{◌≡◌, ℕ, ◌+◌, List, [], ◌∷◌, ◌++◌, replicate, take, drop, refl}
+use Rattle.std.proofs.Common.{true, Some, Ok, ◌⊎◌, inl, inr}
 use Rattle.mach_types.specs.Kernel.Areas.{are_readable, is_inside, number_at}
-use Rattle.mach_types.specs.declared.events.Choice.{Choice}
 use Rattle.mach_types.specs.declared.events.Choice.TheVariants as asked
 use Rattle.mach_types.specs.declared.events.Entry.{Entry}
-use Rattle.mach_types.specs.declared.events.Kind.{Kind}
 use Rattle.mach_types.specs.declared.events.Kind.TheVariants as kind
 use Rattle.mach_types.specs.declared.sequences.Area.{Area}
 use Rattle.rv_inst.specs.Meaning.{meaning}
 use Rattle.rv_inst.specs.Table.{row_of, rows, lui_rows, auipc_rows, jal_rows, jalr_rows, branch_rows, load_rows, store_rows}
 use Rattle.rv_inst.specs.Table.{op_imm_rows, op_imm_32_rows, op_rows, op_32_rows, misc_mem_rows, amo_rows, system_rows}
-use Rattle.rv_inst.specs.declared.instruction.Inst.{Inst}
 use Rattle.block_model.specs.Acts.{Sequence, sequence_on}
 use Rattle.block_model.specs.Deciding.{decide, done, history}
 use Rattle.block_model.specs.History.{file, running}
@@ -33,7 +29,7 @@ use Rattle.percpu_lib.proofs.ExampleParts.{AreThere, entry, holds_so, line}
 use Rattle.percpu_lib.proofs.FormTests.{add_tested}
 use Rattle.percpu_lib.proofs.RetryTests.{registers_are, same_registers, walk_found, walks_at_work}
 use Rattle.percpu_lib.proofs.ShareTests.{all_shares, none_other, shares_so}
-use Rattle.percpu_lib.proofs.UseTests.{all_can_begin, all_used, always_begins_freely, are_fine}
+use Rattle.percpu_lib.proofs.UseTests.{all_can_begin, always_begins_freely, are_fine}
 
 -- `lui x8, 0x20`, `addi x10, x8, 0`, `addi x11, x0, 32`, `lui x13, 0xF1401`, `addi x13, x13, 0x73`,
 -- `addi x17, x0, 293`, `ecall`, `addi x9, x8, 64`; from 0x100D0 on the block, and at 0x10120 its descriptor

@@ -1,9 +1,11 @@
 -- A worked log, by computation: a thread registers its area and puts 42 into the pool of its processor by a free block. It
 -- is preempted inside, once its value is 0, begins anew at the abort handler, which brings the value back, and puts it in
--- once. Then it takes it out by an alloc block, and finds the pool empty by another sequence of that.
-use Rattle.std.proofs.Common.{◌≡◌, ℕ, List, [], ◌∷◌, ◌++◌, replicate, take, drop, refl}
-use Rattle.std.proofs.Common.{Bool, true, eqb, Ok}
-use Rattle.mach_types.specs.Kernel.Areas.{are_readable, number_at}
+-- once. Then it takes it out by an alloc block, and finds the pool empty by another sequence of that. And a log of a pool that
+-- is full.
+use Rattle.std.proofs.Common.{◌≡◌, ℕ, ◌<◌, ◌^◌, List, [], ◌∷◌, ◌++◌, replicate, take, drop, refl, Some, inr, ltb}
+use Rattle.std.proofs.lemmas.Bool.{and_parts, ltb-true}
+use Rattle.std.proofs.Common.{Bool, true, ◌&&◌, eqb, Ok}
+use Rattle.mach_types.specs.Kernel.Areas.{are_readable, is_inside, number_at}
 use Rattle.mach_types.specs.Registers.{register}
 use Rattle.mach_types.specs.declared.events.Choice.TheVariants as asked
 use Rattle.mach_types.specs.declared.events.Entry.{Entry}
@@ -14,23 +16,25 @@ use Rattle.rv_inst.specs.Table.{row_of, rows, lui_rows, auipc_rows, jal_rows, ja
 use Rattle.rv_inst.specs.Table.{op_imm_rows, op_imm_32_rows, op_rows, op_32_rows, misc_mem_rows, amo_rows, system_rows}
 use Rattle.block_model.specs.Acts.{Sequence}
 use Rattle.block_model.specs.Deciding.{decide, done, history}
-use Rattle.block_model.specs.History.{file}
+use Rattle.block_model.specs.History.{file, running}
 use Rattle.block_model.specs.Replay.{Ask, played}
 use Rattle.block_model.specs.Run.{IsBlockRun}
 use Rattle.block_model.specs.Setting.{Setting}
 use Rattle.block_model.proofs.Laws.{played_is_run, run_before}
+use Rattle.alone_laws.specs.Retries.{Retries, begins, goes_on, walks}
 use Rattle.alone_laws.specs.Spans.{code_of}
 use Rattle.alone_laws.specs.Uses.{Placed}
-use Rattle.percpu_lib.specs.Forms.{placed_of}
+use Rattle.percpu_lib.specs.Forms.{HoldsBlock, placed_of}
 use Rattle.percpu_lib.specs.Allocs.{alloc_block, alloc_form}
 use Rattle.percpu_lib.specs.Frees.{free_block, free_form}
-use Rattle.percpu_lib.specs.Pools.{pool_at, slot_at}
+use Rattle.percpu_lib.specs.Pools.{count_seen, pool_at, slot_at}
 use Rattle.percpu_lib.specs.Pushes.{word_seen}
 use Rattle.percpu_lib.specs.Uses.{cells_of}
 use Rattle.percpu_lib.specs.declared.slots.Slots.{Slots}
-use Rattle.percpu_lib.proofs.ExampleParts.{AreThere, IsGood, entry, found_good, is_good, line}
+use Rattle.percpu_lib.proofs.ExampleParts.{AreThere, IsGood, entry, found_good, holds_so, is_good, line}
 use Rattle.percpu_lib.proofs.FormTests.{alloc_tested, free_tested}
-use Rattle.percpu_lib.proofs.UseTests.{is_just}
+use Rattle.percpu_lib.proofs.RetryTests.{registers_are, same_registers, walk_found, walks_at_work}
+use Rattle.percpu_lib.proofs.UseTests.{are_fine, is_just}
 
 -- `lui x8, 0x20`, `addi x10, x8, 0`, `addi x11, x0, 32`, `lui x13, 0xF1401`, `addi x13, x13, 0x73`, `addi x17, x0, 293`,
 -- `ecall`, `addi x9, x8, 64`, `addi x18, x0, 42`; from 0x100D4 on the free block, from 0x1012C on the alloc block, and
@@ -55,10 +59,12 @@ code =
     ∷ 0x00 ∷ 0x00 ∷ 0x00 ∷ 0x00 ∷ 0x00 ∷ 0x00 ∷ 0x00 ∷ 0x00 ∷ 0x3C ∷ 0x01 ∷ 0x01 ∷ 0x00 ∷ 0x00 ∷ 0x00 ∷ 0x00 ∷ 0x00
     ∷ 0x30 ∷ 0x00 ∷ 0x00 ∷ 0x00 ∷ 0x00 ∷ 0x00 ∷ 0x00 ∷ 0x00 ∷ 0x74 ∷ 0x01 ∷ 0x01 ∷ 0x00 ∷ 0x00 ∷ 0x00 ∷ 0x00 ∷ 0x00 ∷ []
 
-abbrev pub setting : Setting
-setting = record {
+-- such a program, with these bytes of data
+abbrev pub setting_with : List ℕ → Setting
+setting_with bytes = record {
   program = record {
-    pages = record { number = 0x10; perm = 5; bytes = replicate 0xB0 0 ++ code } ∷ record { number = 0x20; perm = 6; bytes = [] } ∷ [];
+    pages = record { number = 0x10; perm = 5; bytes = replicate 0xB0 0 ++ code }
+        ∷ record { number = 0x20; perm = 6; bytes = bytes } ∷ [];
     entry = 0x100B0;
     phdr = 0x10040;
     phnum = 2;
@@ -66,6 +72,9 @@ setting = record {
   };
   limits = record { harts = 1; frames = 128; steps = 200 };
 }
+
+abbrev pub setting : Setting
+setting = setting_with []
 
 abbrev pub area : Area
 area = record { at = 0x20000; sig = 0xF1401073 }
@@ -250,3 +259,135 @@ pub none_used : IsGood setting none_log (alloc_form alloc_slots) alloc_at area (
 none_used =
     found_good setting none_log (alloc_form alloc_slots) (alloc_tested alloc_slots) alloc_at area 1 (the_free ∷ [])
     none_fits is_run none_good refl alloc_there refl
+
+-- A RETRY
+
+-- the thread was at the retry label of the free block a first time. From there it walked to the last word of the sequence,
+-- and its value was 0; it was preempted there, and began to run again at the abort handler; and from there it walked back
+abbrev pub first_time : List Entry
+first_time = take 10 log
+
+abbrev to_last : List Entry
+to_last = take 19 (drop 10 log)
+
+abbrev interrupted : List Entry
+interrupted = take 2 (drop 29 log)
+
+abbrev back : List Entry
+back = take 2 (drop 31 log)
+
+abbrev pub anew : List Entry
+anew = take 33 log
+
+abbrev pub rest : List Entry
+rest = take 18 (drop 33 log)
+
+runs_first : running setting 0 (history setting first_time) ≡ Some 1
+unfolding decide history done meaning row_of rows lui_rows auipc_rows jal_rows jalr_rows branch_rows load_rows store_rows op_imm_rows op_imm_32_rows op_rows op_32_rows misc_mem_rows amo_rows system_rows are_readable number_at
+runs_first = refl
+
+at_first : (file setting 1 (history setting first_time)).pc ≡ free_at
+unfolding decide history done meaning row_of rows lui_rows auipc_rows jal_rows jalr_rows branch_rows load_rows store_rows op_imm_rows op_imm_32_rows op_rows op_32_rows misc_mem_rows amo_rows system_rows are_readable number_at
+at_first = refl
+
+walks_on : walks_at_work setting the_free 0 1 first_time to_last ≡ true
+unfolding decide history done meaning row_of rows lui_rows auipc_rows jal_rows jalr_rows branch_rows load_rows store_rows op_imm_rows op_imm_32_rows op_rows op_32_rows misc_mem_rows amo_rows system_rows are_readable number_at
+walks_on = refl
+
+registers_stay : same_registers (file setting 1 (history setting (first_time ++ to_last ++ interrupted))).file
+    (file setting 1 (history setting (first_time ++ to_last))).file ≡ true
+unfolding decide history done meaning row_of rows lui_rows auipc_rows jal_rows jalr_rows branch_rows load_rows store_rows op_imm_rows op_imm_32_rows op_rows op_32_rows misc_mem_rows amo_rows system_rows are_readable number_at
+registers_stay = refl
+
+in_sequence : is_inside the_free.range (file setting 1 (history setting (first_time ++ to_last))).pc ≡ true
+unfolding decide history done meaning row_of rows lui_rows auipc_rows jal_rows jalr_rows branch_rows load_rows store_rows op_imm_rows op_imm_32_rows op_rows op_32_rows misc_mem_rows amo_rows system_rows are_readable number_at
+in_sequence = refl
+
+at_handler : (file setting 1 (history setting (first_time ++ to_last ++ interrupted))).pc ≡ the_free.range.abort
+unfolding decide history done meaning row_of rows lui_rows auipc_rows jal_rows jalr_rows branch_rows load_rows store_rows op_imm_rows op_imm_32_rows op_rows op_32_rows misc_mem_rows amo_rows system_rows are_readable number_at
+at_handler = refl
+
+runs_again : running setting 0 (history setting (first_time ++ to_last ++ interrupted)) ≡ Some 1
+unfolding decide history done meaning row_of rows lui_rows auipc_rows jal_rows jalr_rows branch_rows load_rows store_rows op_imm_rows op_imm_32_rows op_rows op_32_rows misc_mem_rows amo_rows system_rows are_readable number_at
+runs_again = refl
+
+walks_back : walks_at_work setting the_free 0 1 (first_time ++ to_last ++ interrupted) back ≡ true
+unfolding decide history done meaning row_of rows lui_rows auipc_rows jal_rows jalr_rows branch_rows load_rows store_rows op_imm_rows op_imm_32_rows op_rows op_32_rows misc_mem_rows amo_rows system_rows are_readable number_at
+walks_back = refl
+
+pub retried : Retries setting the_free 1 first_time anew
+retried =
+    walks 0 (first_time ++ to_last ++ interrupted) back
+    (goes_on (first_time ++ to_last) interrupted
+    (walks 0 first_time to_last (begins at_first)
+    (walk_found setting the_free 0 1 to_last first_time runs_first walks_on))
+    (record {
+      registers = registers_are (file setting 1 (history setting (first_time ++ to_last ++ interrupted))).file
+          (file setting 1 (history setting (first_time ++ to_last))).file registers_stay;
+      pc = inr (in_sequence, at_handler);
+    }))
+    (walk_found setting the_free 0 1 back (first_time ++ to_last ++ interrupted) runs_again walks_back)
+
+pub retry_run : IsBlockRun setting free_log
+retry_run = run_before setting (take 51 log) (drop 51 log) is_run
+
+pub retry_holds : HoldsBlock setting (history setting free_log) (free_form free_slots) free_at area 1
+retry_holds =
+    holds_so setting (free_form free_slots) (free_tested free_slots) free_at area 1 (history setting free_log)
+    retry_run.allowed
+    (and_parts (are_fine setting (free_form free_slots) (free_tested free_slots) free_at area 1 (history setting free_log)) _
+    free_good).0 refl free_there
+
+small_there : ltb (register (file setting 1 (history setting first_time)).file 18) (2 ^ 64) ≡ true
+unfolding decide history done meaning row_of rows lui_rows auipc_rows jal_rows jalr_rows branch_rows load_rows store_rows op_imm_rows op_imm_32_rows op_rows op_32_rows misc_mem_rows amo_rows system_rows are_readable number_at
+small_there = refl
+
+pub small_value : register (file setting 1 (history setting first_time)).file 18 < 2 ^ 64
+small_value = ltb-true (register (file setting 1 (history setting first_time)).file 18) (2 ^ 64) small_there
+
+pub at_label : (file setting 1 (history setting anew)).pc ≡ free_at
+unfolding decide history done meaning row_of rows lui_rows auipc_rows jal_rows jalr_rows branch_rows load_rows store_rows op_imm_rows op_imm_32_rows op_rows op_32_rows misc_mem_rows amo_rows system_rows are_readable number_at
+at_label = refl
+
+-- A FULL POOL
+
+-- the same program over a pool whose count is 512: the free finds it full, and the value stays 42
+abbrev pub full_setting : Setting
+full_setting = setting_with (replicate 0x40 0 ++ 0x00 ∷ 0x02 ∷ [])
+
+abbrev full_lines : List Ask
+full_lines = line (asked.Run (record { 0 = 1 })) ∷ replicate 21 (line asked.Exec)
+
+abbrev pub full_log : List Entry
+full_log =
+    entry kind.Run 1 0x100B0 ∷ entry kind.Exec 1 0x100B0 ∷ entry kind.Exec 1 0x100B4
+    ∷ entry kind.Exec 1 0x100B8 ∷ entry kind.Exec 1 0x100BC ∷ entry kind.Exec 1 0x100C0
+    ∷ entry kind.Exec 1 0x100C4 ∷ entry kind.Exec 1 0x100C8 ∷ entry kind.Exec 1 0x100CC
+    ∷ entry kind.Exec 1 0x100D0 ∷ entry kind.Exec 1 0x100D4 ∷ entry kind.Exec 1 0x100D8
+    ∷ entry kind.Exec 1 0x100DC ∷ entry kind.Exec 1 0x100E0 ∷ entry kind.Exec 1 0x100E4
+    ∷ entry kind.Exec 1 0x100E8 ∷ entry kind.Exec 1 0x100EC ∷ entry kind.Exec 1 0x100F0
+    ∷ entry kind.Exec 1 0x100F4 ∷ entry kind.Exec 1 0x100F8 ∷ entry kind.Exec 1 0x100FC
+    ∷ entry kind.Exec 1 0x10100 ∷ []
+
+full_played : played full_setting full_lines ≡ Ok full_log
+unfolding played decide history done meaning row_of rows lui_rows auipc_rows jal_rows jalr_rows branch_rows load_rows store_rows op_imm_rows op_imm_32_rows op_rows op_32_rows misc_mem_rows amo_rows system_rows are_readable number_at
+full_played = refl
+
+full_there : AreThere (code_of full_setting.program.pages) free_at (free_block free_slots)
+unfolding row_of rows lui_rows auipc_rows jal_rows jalr_rows branch_rows load_rows store_rows op_imm_rows op_imm_32_rows op_rows op_32_rows misc_mem_rows amo_rows system_rows
+full_there = (refl, (refl, (refl, (refl, (refl, (refl, (refl, (refl, (refl, (refl, (refl, (refl, (refl, (refl, (refl, (refl, (refl, (refl, (refl, (refl, (refl, (refl, tt))))))))))))))))))))))
+
+abbrev pub full_fits : Sequence → Bool
+full_fits q =
+    eqb (register (file full_setting q.thread q.reached).file 18) 42
+    && is_just (count_seen full_setting 0 (cells_of full_setting free_slots q.thread q.begun) q.reached) 512
+
+full_good : is_good full_setting (free_form free_slots) (free_tested free_slots) free_at area 1 (the_alloc ∷ []) full_fits
+    (history full_setting full_log) ≡ true
+unfolding decide history done meaning row_of rows lui_rows auipc_rows jal_rows jalr_rows branch_rows load_rows store_rows op_imm_rows op_imm_32_rows op_rows op_32_rows misc_mem_rows amo_rows system_rows are_readable number_at
+full_good = refl
+
+pub full_used : IsGood full_setting full_log (free_form free_slots) free_at area (the_alloc ∷ []) full_fits
+full_used =
+    found_good full_setting full_log (free_form free_slots) (free_tested free_slots) free_at area 1 (the_alloc ∷ [])
+    full_fits (played_is_run full_setting full_lines full_log full_played).0 full_good refl full_there refl

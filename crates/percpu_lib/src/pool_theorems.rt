@@ -1,7 +1,7 @@
 //! What the blocks of a pool do in runs, each as the contract of a function that does nothing.
 
 ghost use Rattle.std.specs.Prelude.{ℕ, List, Some};
-ghost use Rattle.std.specs.Prelude.{◌+◌, ◌≡◌, ◌≢◌};
+ghost use Rattle.std.specs.Prelude.{◌+◌, ◌<◌, ◌^◌, ◌++◌, ◌≡◌, ◌≢◌};
 ghost use Rattle.mach_types.specs.Registers.{register};
 ghost use Rattle.mach_types.specs.declared.events.Entry.{Entry};
 ghost use Rattle.mach_types.specs.declared.sequences.Area.{Area};
@@ -11,11 +11,12 @@ ghost use Rattle.block_model.specs.History.{file};
 ghost use Rattle.block_model.specs.Run.{IsBlockRun};
 ghost use Rattle.block_model.specs.Setting.{Setting};
 ghost use Rattle.alone_laws.specs.Entering.{IsIn};
+ghost use Rattle.alone_laws.specs.Retries.{Retries};
 ghost use Rattle.alone_laws.specs.Uses.{Placed};
 ghost use Rattle.percpu_lib.specs.Allocs.{IsNoAlloc, IsWholeAlloc, alloc_form, alloc_range};
-ghost use Rattle.percpu_lib.specs.Forms.{HoldsBlock};
+ghost use Rattle.percpu_lib.specs.Forms.{HoldsBlock, placed_of};
 ghost use Rattle.percpu_lib.specs.Frees.{IsNoFree, IsWholeFree, free_form, free_range};
-ghost use Rattle.percpu_lib.specs.Pools.{pool_at, slot_at};
+ghost use Rattle.percpu_lib.specs.Pools.{count_seen, pool_at, slot_at};
 ghost use Rattle.percpu_lib.specs.Pushes.{word_seen};
 ghost use Rattle.percpu_lib.specs.Used.{IsWellUsed};
 ghost use Rattle.percpu_lib.specs.Uses.{cells_of};
@@ -55,7 +56,7 @@ pub fn frees_once_or_not_at_all()
 
 /// What the laws of runs ask of alloc and free can be met: there is a block run in which a thread uses both with one area. It
 /// is preempted in a free once its value is 0, begins anew, and puts 42 into the pool; it takes it out; and it finds the
-/// pool empty.
+/// pool empty. And there is one in which it finds the pool full.
 pub fn pool_blocks_are_used()
     // the first slot is 42
     ensures free { (s : Setting) × (log : List Entry) × (p : Slots) × (at : ℕ) × (area : Area) × (others : List Placed)
@@ -69,4 +70,14 @@ pub fn pool_blocks_are_used()
     ensures none { (s : Setting) × (log : List Entry) × (p : Slots) × (at : ℕ) × (area : Area) × (others : List Placed)
         × (q : Sequence) × IsWellUsed s log (alloc_form p) at area others q
         × (register (file s q.thread q.reached).file p.value ≡ 0) }
+    // the value and the count stay
+    ensures full { (s : Setting) × (log : List Entry) × (p : Slots) × (at : ℕ) × (area : Area) × (others : List Placed)
+        × (q : Sequence) × IsWellUsed s log (free_form p) at area others q
+        × (register (file s q.thread q.reached).file p.value ≡ 42)
+        × (count_seen s 0 (cells_of s p q.thread q.begun) q.reached ≡ Some 512) }
+    // and what `retries_work_on_the_value` asks of a free: it comes back to the retry label
+    ensures retried { (s : Setting) × (first log later : List Entry) × (p : Slots) × (at : ℕ) × (area : Area) × (t : ℕ)
+        × IsBlockRun s (log ++ later) × HoldsBlock s (history s (log ++ later)) (free_form p) at area t
+        × Retries s (placed_of (free_form p) at area) t first log
+        × (register (file s t (history s first)).file p.value < 2 ^ 64) × ((file s t (history s log)).pc ≡ at) }
 {}

@@ -1,8 +1,8 @@
-use Rattle.std.proofs.Common.{[], ◌∷◌}
-use Rattle.std.proofs.lemmas.Bool.{eqb-true}
+use Rattle.std.proofs.Common.{[], ◌∷◌, eqb}
+use Rattle.std.proofs.lemmas.Bool.{and_parts, eqb-true}
 use Rattle.mach_types.specs.Registers.{register}
 use Rattle.block_model.specs.History.{file}
-use Rattle.percpu_lib.specs.Pools.{pool_at, slot_at}
+use Rattle.percpu_lib.specs.Pools.{count_seen, pool_at, slot_at}
 use Rattle.percpu_lib.specs.Pushes.{word_seen}
 use Rattle.percpu_lib.specs.Uses.{cells_of}
 use Rattle.percpu_lib.proofs.PoolExample as example
@@ -49,5 +49,37 @@ returns c = record {
     eqb-true
         (register (file example.setting example.none_used.sequence.thread example.none_used.sequence.reached).file 19)
         0 example.none_used.passes,
+  );
+  full =
+      let its = example.full_used in
+      let both = and_parts (eqb (register (file example.full_setting its.sequence.thread its.sequence.reached).file 18) 42) _
+      its.passes in (
+        example.full_setting,
+        example.full_log,
+        example.free_slots,
+        example.free_at,
+        example.area,
+        example.the_alloc ∷ [],
+        its.sequence,
+        its.used,
+        eqb-true (register (file example.full_setting its.sequence.thread its.sequence.reached).file 18) 42 both.0,
+        just_is (count_seen example.full_setting 0
+            (cells_of example.full_setting example.free_slots its.sequence.thread its.sequence.begun)
+            its.sequence.reached) 512 both.1,
+      );
+  retried = (
+    example.setting,
+    example.first_time,
+    example.anew,
+    example.rest,
+    example.free_slots,
+    example.free_at,
+    example.area,
+    1,
+    example.retry_run,
+    example.retry_holds,
+    example.retried,
+    example.small_value,
+    example.at_label,
   );
 }
