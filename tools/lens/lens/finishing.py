@@ -1,8 +1,9 @@
 """Goes on behind a script until its run has ended, by a rule that draws nothing.
 
-The rule: the hart of the last event goes on for as long as it can, and then the first hart that can. Requests of barriers are taken and
-signals delivered at once; stores enter memory only where the next event needs it; an idle hart runs the ready thread with the least
-number. A hart that has gone on for TURN instructions gives the others a turn, since its thread may wait for them.
+The rule: the hart of the last event goes on for as long as it can, and then the first hart that can. Requests
+of barriers are taken and signals delivered at once; stores enter memory only where the next event needs it;
+an idle hart runs the ready thread with the least number. A hart that has gone on for TURN instructions gives
+the others a turn, since its thread may wait for them.
 """
 from __future__ import annotations
 
