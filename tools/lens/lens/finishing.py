@@ -47,8 +47,14 @@ class Finishing:
             later = [hart for hart in others if hart > self.hart]
             self.hart = later[0] if self.hart in able and later else others[0]
             self.turn = TURN
-        event = event_of(place.harts[self.hart])
-        self.lines += self.instructions() if event == EXEC else [f'{self.hart} {event}']
+        here = place.harts[self.hart]
+        event = event_of(here)
+        needed = 0 if here.is_awaited else here.drains_for(EXEC)
+        if event == EXEC or needed:
+            self.lines += [f'{self.hart} {DRAIN}'] * needed
+            self.lines += self.instructions()
+        else:
+            self.lines += [f'{self.hart} {event}']
         return True
 
     def instructions(self) -> list[str]:
