@@ -1,7 +1,8 @@
 """The system calls of a run, with their arguments and answers, as strace prints them.
 
-The log has neither. So the place before each call is asked for its arguments, and the place at which its thread goes on for its answer
-(`inspect`). What an address points to isn't known there, but for the bytes of `write`, which are those of the console.
+The log has neither. So the place before each call is asked for its arguments, and the place at which its
+thread goes on for its answer (`inspect`). What an address points to isn't known there, but for the bytes of
+`write`, which are those of the console.
 """
 from __future__ import annotations
 
@@ -13,7 +14,8 @@ from os import cpu_count
 from . import calls
 from .history import History
 from .machine import Machine
-from .output import SIGNAL, Step
+from .output import EXEC, PREEMPT, SIGNAL, Step
+from .place import OPEN
 
 A0, A7 = 10, 17
 ARGUMENTS = 6
@@ -23,7 +25,8 @@ TEXT_SHOWN = 32
 
 @dataclass(frozen=True)
 class Call:
-    """A call: its step, its number, its arguments, and what a0 had when its thread went on; None where it didn't."""
+    """A call: its step, its number, its arguments, and what a0 had when its thread went on; None where it
+    didn't."""
 
     step: Step
     number: int
@@ -37,7 +40,8 @@ class Call:
 
 def list_calls(history: History, machine: Machine, thread: int | None) -> Iterator[str]:
     """A line for each call of a thread, or of all."""
-    steps = [step for step in history.output.steps if step.number in history.calls and thread in (None, step.thread)]
+    made = (step for step in history.output.steps if step.number in history.calls)
+    steps = [step for step in made if thread in (None, step.thread)]
     with ThreadPoolExecutor(cpu_count()) as pool:
         found = list(pool.map(lambda step: read_call(history, machine, step), steps))
     yield f'{"step":>7}  {"thread":>6}  call'
@@ -60,15 +64,18 @@ def read_call(history: History, machine: Machine, step: Step) -> Call:
 
 
 def answer_of(history: History, machine: Machine, step: Step, number: int) -> int | None:
-    """What a0 has before the next event of the thread of a call, where that isn't the delivery of a signal."""
+    """What a0 has before the next event of the thread of a call, where that isn't the delivery of a signal.
+    """
     later = history.output.steps[step.number :]
     if number in calls.WITHOUT_ANSWER:
         return None
-    following = next((other for other in later if other.thread == step.thread and other.kind in ('exec', 'preempt', SIGNAL)), None)
+    own = (other for other in later if other.thread == step.thread)
+    following = next((other for other in own if other.kind in (EXEC, PREEMPT, SIGNAL)), None)
     if following is None:
         still = registers(history, machine, len(history.output.steps), step.hart)
         is_last = not any(other.hart == step.hart for other in later)
-        return still[A0] if still and is_last and history.output.end == 'open' and number != calls.MEMBARRIER else None
+        is_known = still and is_last and history.output.end == OPEN and number != calls.MEMBARRIER
+        return still[A0] if is_known else None
     return registers(history, machine, following.number - 1, following.hart)[A0]
 
 
@@ -84,7 +91,8 @@ def told(history: History, call: Call, text: bytes | None) -> str:
     words = [word(history, kind, value) for kind, value in zip(form or 'x' * ARGUMENTS, call.arguments)]
     if text is not None and form:
         words[1] = literal(text)
-    return f'{calls.name_of(call.number)}({", ".join(words)}) = {answer_word(history, call)}  ({spot(history, call.step.pc)})'
+    asked = f'{calls.name_of(call.number)}({", ".join(words)})'
+    return f'{asked} = {answer_word(history, call)}  ({spot(history, call.step.pc)})'
 
 
 def spot(history: History, pc: int) -> str:
@@ -119,6 +127,7 @@ def literal(text: bytes) -> str:
     """Bytes as C writes them, the first of them where there are many."""
     escapes = {0x0A: '\\n', 0x09: '\\t', 0x22: '\\"', 0x5C: '\\\\'}
     shown = ''.join(
-        escapes.get(byte) or (chr(byte) if 0x20 <= byte < 0x7F else f'\\{byte:03o}') for byte in text[:TEXT_SHOWN]
+        escapes.get(byte) or (chr(byte) if 0x20 <= byte < 0x7F else f'\\{byte:03o}')
+        for byte in text[:TEXT_SHOWN]
     )
     return f'"{shown}"' + ('...' if len(text) > TEXT_SHOWN else '')

@@ -48,7 +48,9 @@ def flags(named: dict[int, str]) -> Callable[[int], str]:
     def write(value: int) -> str:
         found = [name for bit, name in named.items() if value & bit == bit and bit]
         left = value & ~sum(bit for bit in named if value & bit == bit)
-        return '|'.join([*found, *([f'{left:#x}'] if left or not found else [])]) if value else named.get(0, '0')
+        if not value:
+            return named.get(0, '0')
+        return '|'.join([*found, f'{left:#x}'] if left else found)
 
     return write
 
@@ -81,9 +83,9 @@ NAMES_OF: dict[str, Callable[[int], str]] = {
     'signal': one_of(
         dict(
             enumerate(
-                'SIGHUP SIGINT SIGQUIT SIGILL SIGTRAP SIGABRT SIGBUS SIGFPE SIGKILL SIGUSR1 SIGSEGV SIGUSR2 SIGPIPE SIGALRM '
-                'SIGTERM SIGSTKFLT SIGCHLD SIGCONT SIGSTOP SIGTSTP SIGTTIN SIGTTOU SIGURG SIGXCPU SIGXFSZ SIGVTALRM SIGPROF '
-                'SIGWINCH SIGIO SIGPWR SIGSYS'.split(),
+                'SIGHUP SIGINT SIGQUIT SIGILL SIGTRAP SIGABRT SIGBUS SIGFPE SIGKILL SIGUSR1 SIGSEGV '
+                'SIGUSR2 SIGPIPE SIGALRM SIGTERM SIGSTKFLT SIGCHLD SIGCONT SIGSTOP SIGTSTP SIGTTIN '
+                'SIGTTOU SIGURG SIGXCPU SIGXFSZ SIGVTALRM SIGPROF SIGWINCH SIGIO SIGPWR SIGSYS'.split(),
                 1,
             )
         )
@@ -102,8 +104,8 @@ NAMES_OF: dict[str, Callable[[int], str]] = {
         }
     ),
 }
-"""How an argument of a kind is written. (include/uapi of Linux: linux/sched.h, futex.h, membarrier.h, rseq.h, asm-generic/mman-common.h,
-signal.h)"""
+"""How an argument of a kind is written. (include/uapi of Linux: linux/sched.h, futex.h, membarrier.h, rseq.h,
+asm-generic/mman-common.h, signal.h)"""
 
 FORMS: dict[int, tuple[str, ...]] = {
     WRITE: ('d', 'p', 'u'),
@@ -131,13 +133,24 @@ FORMS: dict[int, tuple[str, ...]] = {
     MEMBARRIER: ('barrier', 'u', 'd'),
     293: ('p', 'u', 'rseq', 'x'),
 }
-"""The kinds of a call's arguments: `d` a number of 32 bits with a sign, `u` one without, `p` an address, `x` a number in hexadecimal, or
-a word of NAMES_OF."""
+"""The kinds of a call's arguments: `d` a number of 32 bits with a sign, `u` one without, `p` an address, `x`
+a number in hexadecimal, or a word of NAMES_OF."""
 
 ANSWERS = {214: 'x', 222: 'x', WRITE: 'u', WRITEV: 'u'}
 """The kinds of answers that aren't `d`."""
 
 ERRORS = {
-    1: 'EPERM', 3: 'ESRCH', 4: 'EINTR', 9: 'EBADF', 11: 'EAGAIN', 12: 'ENOMEM', 13: 'EACCES', 14: 'EFAULT', 16: 'EBUSY', 22: 'EINVAL',
-    28: 'ENOSPC', 38: 'ENOSYS', 110: 'ETIMEDOUT',
+    1: 'EPERM',
+    3: 'ESRCH',
+    4: 'EINTR',
+    9: 'EBADF',
+    11: 'EAGAIN',
+    12: 'ENOMEM',
+    13: 'EACCES',
+    14: 'EFAULT',
+    16: 'EBUSY',
+    22: 'EINVAL',
+    28: 'ENOSPC',
+    38: 'ENOSYS',
+    110: 'ETIMEDOUT',
 }

@@ -28,8 +28,9 @@ def make_parser() -> argparse.ArgumentParser:
     parser = argparse.ArgumentParser(
         prog='lens',
         description='Shows a run of rseq_run. RUN is an output text of '
-        'solo, play, gather, run or draw in a file, or a script, which is played; or - for standard input. ELF is the file that ran, '
-        'with its symbols. With --seed RUN is left out: it is the run that draw makes of ELF.',
+        'solo, play, gather, run or draw in a file, or a script, which is played; or - for standard input. '
+        'ELF is the file that ran, with its symbols. With --seed RUN is left out: it is the run that draw '
+        'makes of ELF.',
     )
     commands = parser.add_subparsers(metavar='COMMAND', required=True)
     add_list(commands)
@@ -88,7 +89,7 @@ def add_cut(commands) -> None:
 
 
 def add_calls(commands) -> None:
-    command = commands.add_parser('calls', help='the system calls, with arguments and answers, as strace prints them')
+    command = commands.add_parser('calls', help='the system calls, with arguments and answers')
     add_run_and_elf(command)
     command.add_argument('--thread', type=int, metavar='T', help='only those of thread T')
     command.set_defaults(action=calls_command)
@@ -109,7 +110,9 @@ def add_inspect(commands) -> None:
 def add_shrink(commands) -> None:
     command = commands.add_parser('shrink', help='a short steer whose run ends as this one does')
     add_run_and_elf(command)
-    command.add_argument('--by', choices=('text', 'end'), default='text', help='the same console and end, or the same end alone (text)')
+    command.add_argument(
+        '--by', choices=('text', 'end'), default='text', help='the same console and end, or the end alone'
+    )
     add_out(command, 'STEER')
     command.set_defaults(action=shrink_command)
 
@@ -233,7 +236,8 @@ def inspect_command(arguments: argparse.Namespace) -> int:
 
 
 def pass_on(arguments: argparse.Namespace, command: str) -> int:
-    """Gives the program the lines of a script or of an output text, and passes on what it prints, what it says and its status."""
+    """Gives the program the lines of a script or of an output text, and passes on what it prints, what it
+    says and its status."""
     lines = read_lines(arguments.run).first(arguments.last)
     answer: Answer = machine_of(arguments).call(command, lines.text(), lines.name)
     sys.stdout.buffer.write(answer.text)
@@ -252,9 +256,11 @@ def calls_command(arguments: argparse.Namespace) -> None:
 
 
 def shrink_command(arguments: argparse.Namespace) -> None:
-    shrunk = shrink(output_of(arguments), Program(arguments.elf), machine_of(arguments), arguments.by == 'end')
+    output, program = output_of(arguments), Program(arguments.elf)
+    shrunk = shrink(output, program, machine_of(arguments), arguments.by == 'end')
     write_out(arguments.out, [shrunk.steer])
-    print(f'from {shrunk.before.words()}', f'to {shrunk.after.words()}, and `finish`', sep='\n', file=sys.stderr)
+    costs = f'from {shrunk.before.words()}\nto {shrunk.after.words()}, and `finish`'
+    print(costs, file=sys.stderr)
 
 
 def steer_command(arguments: argparse.Namespace) -> None:

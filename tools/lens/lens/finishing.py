@@ -1,8 +1,9 @@
 """Goes on behind a script until its run has ended, by a rule that draws nothing.
 
-The rule: the hart of the last event goes on for as long as it can, and then the first hart that can. Requests of barriers are taken and
-signals delivered at once; stores enter memory only where the next event needs it; an idle hart runs the ready thread with the least
-number. A hart that has gone on for TURN instructions gives the others a turn, since its thread may wait for them.
+The rule: the hart of the last event goes on for as long as it can, and then the first hart that can. Requests
+of barriers are taken and signals delivered at once; stores enter memory only where the next event needs it;
+an idle hart runs the ready thread with the least number. A hart that has gone on for TURN instructions gives
+the others a turn, since its thread may wait for them.
 """
 from __future__ import annotations
 
@@ -46,8 +47,14 @@ class Finishing:
             later = [hart for hart in others if hart > self.hart]
             self.hart = later[0] if self.hart in able and later else others[0]
             self.turn = TURN
-        event = event_of(place.harts[self.hart])
-        self.lines += self.instructions() if event == EXEC else [f'{self.hart} {event}']
+        here = place.harts[self.hart]
+        event = event_of(here)
+        needed = 0 if here.is_awaited else here.drains_for(EXEC)
+        if event == EXEC or needed:
+            self.lines += [f'{self.hart} {DRAIN}'] * needed
+            self.lines += self.instructions()
+        else:
+            self.lines += [f'{self.hart} {event}']
         return True
 
     def instructions(self) -> list[str]:

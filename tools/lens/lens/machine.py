@@ -56,7 +56,8 @@ class Machine:
         raise self.fault('play', answer)
 
     def call(self, command: str, script: bytes, name: str | None = None) -> Answer:
-        """What a command answers to a script. Where it is given a name, standard error has that in place of a file's."""
+        """What a command answers to a script. Where it is given a name, standard error has that in place of a
+        file's."""
         with tempfile.NamedTemporaryFile('wb', suffix='.script') as file:
             file.write(script)
             file.flush()
@@ -105,6 +106,7 @@ def text_of(lines: list[str]) -> bytes:
 
 
 def said(reason: bytes) -> str:
-    """The first line of what a program says on standard error, behind a colon; nothing where it says nothing."""
+    """The first line of what a program says on standard error, behind a colon; nothing where it says nothing.
+    """
     lines = reason.decode('utf-8', 'replace').splitlines()
     return f': {lines[0].removeprefix("rseq_run: ")}' if lines else ''

@@ -3,7 +3,7 @@ from __future__ import annotations
 
 import itertools
 import xml.etree.ElementTree as xml
-from collections.abc import Iterator
+from collections.abc import Callable, Iterator
 from dataclasses import dataclass
 
 from .calls import name_of
@@ -20,7 +20,7 @@ CELL, BLOCK = 18, 14
 MARGIN, LABELS = 16, 52
 ARCS, NAMES, CALLS, GAP = 34, 12, 11, 8
 LANE = ARCS + BLOCK + NAMES + CALLS + GAP
-AXIS, HEAD, FOOT = 22, 62, 24
+AXIS, HEAD, FOOT, LEGEND_LINE = 22, 62, 24, 20
 LETTER, FEWEST_LETTERS = 6.1, 4
 TICK = 10
 
@@ -95,7 +95,8 @@ class Picture:
         self.threads = history.output.threads
         self.steps = [step for step in history.output.steps if span.has(step.number)]
         self.width = 2 * MARGIN + LABELS + CELL * PER_ROW
-        self.height = HEAD + self.row_height * span.rows + FOOT
+        self.head_height = HEAD + LEGEND_LINE * max(line for _, line in self.legend_places())
+        self.height = self.head_height + self.row_height * span.rows + FOOT
         self.root = xml.Element(
             'svg',
             xmlns=NAMESPACE,
@@ -150,7 +151,7 @@ class Picture:
 
     def top(self, row: int, hart: int) -> float:
         """The upper edge of the blocks of a lane."""
-        return HEAD + row * self.row_height + self.harts.index(hart) * LANE + ARCS
+        return self.head_height + row * self.row_height + self.harts.index(hart) * LANE + ARCS
 
     def block_top(self, step: Step) -> float:
         return self.top(self.row_of(step.number), step.hart)
@@ -160,27 +161,38 @@ class Picture:
     def head(self) -> None:
         output = self.history.output
         self.add('text', f'{output.name}: {self.span.words()}', x=MARGIN, y=MARGIN + 6, kind='title')
-        across = float(MARGIN)
-        for thread in self.threads:
-            self.add('rect', x=across, y=HEAD - 32, width=12, height=12, fill=self.colour(thread))
-            words = f'thread {thread}'
-            self.add('text', words, x=across + 17, y=HEAD - 22)
-            across += 17 + LETTER * len(words) + 16
-        self.legend(across + 12, HEAD - 32)
+        for (shape, colour, words), (across, line) in zip(self.legend(), self.legend_places()):
+            top = HEAD - 32 + line * LEGEND_LINE
+            shape(across + CELL / 2, top, colour)
+            self.add('text', words, x=across + CELL + 4, y=top + 10)
 
-    def legend(self, across: float, down: float) -> None:
-        """What the shapes mean."""
-        for shape, words in (
+    def legend(self) -> list[tuple[Callable[[float, float, str], None], str, str]]:
+        """What the colours and the shapes mean: what draws each of them, its colour, and the words."""
+        threads = [(self.swatch, self.colour(thread), f'thread {thread}') for thread in self.threads]
+        shapes = (
             (self.store_block, 'store, which waits'),
             (self.triangle, 'it enters memory'),
             (self.fence_block, 'fence'),
             (self.atomic_block, 'AMO, LR, SC'),
             (self.call_block, 'call'),
+            (self.block, 'another instruction'),
             (self.bar, 'begins to run, or leaves'),
-        ):
-            shape(across + CELL / 2, down, '#999')
-            self.add('text', words, x=across + CELL + 4, y=down + 10)
-            across += CELL + 4 + LETTER * len(words) + 14
+            (self.other_block, 'take, done, signal'),
+        )
+        return threads + [(shape, '#999', words) for shape, words in shapes]
+
+    def legend_places(self) -> Iterator[tuple[float, int]]:
+        """Where each part of the legend begins, and in which line: a new one begins where it has no room."""
+        across, line = float(MARGIN), 0
+        for _, _, words in self.legend():
+            width = CELL + 4 + LETTER * len(words)
+            if across + width > self.width - MARGIN and across > MARGIN:
+                across, line = float(MARGIN), line + 1
+            yield across, line
+            across += width + 14
+
+    def swatch(self, middle: float, top: float, colour: str) -> None:
+        self.add('rect', x=middle - 6, y=top, width=12, height=12, fill=colour)
 
     def row(self, row: int) -> None:
         """The lanes of a row with their names, and the numbers of the steps below."""
@@ -190,7 +202,7 @@ class Picture:
             self.add('text', f'hart {hart}', x=MARGIN, y=top + 11, kind='hart')
             self.add('line', x1=MARGIN + LABELS, y1=top + BLOCK, x2=right, y2=top + BLOCK, kind='lane')
         first = self.span.first + row * PER_ROW
-        bottom = HEAD + row * self.row_height + LANE * len(self.harts)
+        bottom = self.head_height + row * self.row_height + LANE * len(self.harts)
         for step in range(first, min(first + PER_ROW, self.span.last + 1)):
             if step % TICK == 0 or step == first:
                 self.add(

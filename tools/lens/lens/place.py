@@ -11,8 +11,8 @@ WAITING, FULL_BUFFER = 'Waiting', 'FullBuffer'
 
 @dataclass
 class HartPlace:
-    """What a hart is at: its thread, pc and registers, where one runs; how many stores wait; which events may come next, and why not
-    the others; and which threads may begin to run."""
+    """What a hart is at: its thread, pc and registers, where one runs; how many stores wait; which events may
+    come next, and why not the others; and which threads may begin to run."""
 
     thread: int | None = None
     pc: int | None = None

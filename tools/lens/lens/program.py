@@ -211,5 +211,6 @@ def variables(elf: ELFFile):
     """The variables of the program."""
     table = elf.get_section_by_name('.symtab')
     for symbol in table.iter_symbols() if table else ():
-        if symbol['st_info']['type'] == 'STT_OBJECT' and symbol['st_size'] and symbol['st_shndx'] != 'SHN_UNDEF':
+        is_variable = symbol['st_info']['type'] == 'STT_OBJECT' and symbol['st_shndx'] != 'SHN_UNDEF'
+        if is_variable and symbol['st_size']:
             yield Variable(symbol['st_value'], symbol['st_size'], symbol.name)

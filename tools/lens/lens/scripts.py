@@ -1,5 +1,5 @@
-"""Reads what a person gives as a run: an output text, or a script, which is played; and says what is wrong with a line of a
-script that can't be read."""
+"""Reads what a person gives as a run: an output text, or a script, which is played; and says what is wrong
+with a line of a script that can't be read."""
 from __future__ import annotations
 
 import re
@@ -68,7 +68,8 @@ def first_unreadable(lines: list[bytes]) -> tuple[int, str] | None:
 
 
 def what_is_wrong(line: bytes) -> str | None:
-    """Why a line of a script can't be read; None where it can. The README has the form of a line under Scripts."""
+    """Why a line of a script can't be read; None where it can. The README has the form of a line under
+    Scripts."""
     try:
         text = line.decode('ascii')
     except UnicodeDecodeError as error:
@@ -110,7 +111,8 @@ def wrong_fields(fields: list[str]) -> str | None:
     if kind == RUN and not rest:
         return 'which thread runs isn\'t said: HART run THREAD'
     if kind != RUN and len(rest) == 1:
-        return f'behind `{kind}` stands either nothing, or both the thread and the pc{times_meant(kind, rest[0])}'
+        meant = times_meant(kind, rest[0])
+        return f'behind `{kind}` stands either nothing, or both the thread and the pc{meant}'
     return wrong_thread(rest[0]) or wrong_pc(rest[1:]) if rest else None
 
 

@@ -1,9 +1,10 @@
 """Makes a short steer from a run, with the same end (or the same console and end).
 
-The run is cut into stretches: instructions of one hart up to the next event of another kind, and those events. Stores enter memory where
-the next event of their hart needs it, as `go` of a steer has it, and a drain of the run counts only where it is kept. What is left of the
-run behind a script is finished by a rule. Then stretches are left out for as long as the run still ends so (delta debugging; Zeller and
-Hildebrandt, "Simplifying and isolating failure-inducing input", 2002).
+The run is cut into stretches: instructions of one hart up to the next event of another kind, and those
+events. Stores enter memory where the next event of their hart needs it, as `go` of a steer has it, and a
+drain of the run counts only where it is kept. What is left of the run behind a script is finished by a rule.
+Then stretches are left out for as long as the run still ends so (delta debugging; Zeller and Hildebrandt,
+"Simplifying and isolating failure-inducing input", 2002).
 """
 from __future__ import annotations
 
@@ -24,7 +25,8 @@ TRIES = 2_000
 
 @dataclass(frozen=True)
 class Event:
-    """An event of a thread. It is made on the hart where the thread runs by then, and on this one where it runs nowhere."""
+    """An event of a thread. It is made on the hart where the thread runs by then, and on this one where it
+    runs nowhere."""
 
     stretch: int
     """The number of the stretch for which it is made."""
@@ -91,7 +93,8 @@ def stretches_of(steps: list[Step]) -> Stretches:
     found: list[Stretch] = []
     for step in steps:
         last = found[-1] if found else None
-        if last and (last.hart, last.kind, last.thread) == (step.hart, step.kind, step.thread) and step.kind in (EXEC, DRAIN):
+        is_next = last and (last.hart, last.kind, last.thread) == (step.hart, step.kind, step.thread)
+        if last and is_next and step.kind in (EXEC, DRAIN):
             found[-1] = replace(last, count=last.count + 1)
         else:
             found.append(Stretch(step.hart, step.kind, step.thread, 1))
@@ -117,7 +120,8 @@ def cost_of(steps: list[Step]) -> Cost:
 
 
 class Shrinking:
-    """Plays stretches as far as they are allowed, and asks how the run ends that the rule makes behind them."""
+    """Plays stretches as far as they are allowed, and asks how the run ends that the rule makes behind them.
+    """
 
     def __init__(self, machine: Machine, wanted: Callable[[Output], bool]):
         self.machine = machine
@@ -126,7 +130,8 @@ class Shrinking:
         self.tries = 0
 
     def events(self, stretches: Stretches) -> list[Event]:
-        """The events of stretches, with the drains that they need. What isn't allowed is left out, and so is the rest of its stretch."""
+        """The events of stretches, with the drains that they need. What isn't allowed is left out, and so is
+        the rest of its stretch."""
         events = [event for number, stretch in enumerate(stretches) for event in stretch.events(number)]
         while True:
             answer = self.machine.play(script_of(events))
@@ -135,8 +140,8 @@ class Shrinking:
             events = self.mended(events, answer - 1)
 
     def mended(self, events: list[Event], bad: int) -> list[Event]:
-        """The same events, but that the one that is refused gets the drains that it needs before it, or is left out with what its
-        stretch has behind it."""
+        """The same events, but that the one that is refused gets the drains that it needs before it, or is
+        left out with what its stretch has behind it."""
         lines = script_of(events)
         place = self.machine.inspect(lines[:bad])
         if place.is_over:
@@ -209,7 +214,7 @@ def shrink(output: Output, program: Program, machine: Machine, by_end: bool) -> 
         return found.end == output.end and (by_end or found.console == output.console)
 
     if output.end == OPEN:
-        raise LensFault(f'{output.name} has no end (end open), so there is nothing that a shorter script could lead to')
+        raise LensFault(f'{output.name} has no end (end open), to which a shorter script could lead')
     shrinking = Shrinking(machine, wanted)
     whole = stretches_of(output.steps)
     kept = shrinking.shrink(whole if shrinking.holds(whole) else ())
@@ -226,7 +231,8 @@ def shrink(output: Output, program: Program, machine: Machine, by_end: bool) -> 
 
 
 class Telling:
-    """Writes a run as a steer: orders for its first steps, with comments that say what each part does, and `finish`."""
+    """Writes a run as a steer: orders for its first steps, with comments that say what each part does, and
+    `finish`."""
 
     def __init__(self, history: History, parts: list[int], by_end: bool):
         """`parts` has for each of the first steps the number of the part that it belongs to."""
@@ -254,7 +260,8 @@ class Telling:
         yield 'finish'
 
     def turns(self) -> Iterator[tuple[int, int]]:
-        """The first and the last step of each turn: instructions as `go` makes them, drains, or another event."""
+        """The first and the last step of each turn: instructions as `go` makes them, drains, or another
+        event."""
         first = 1
         for number in range(1, len(self.parts) + 1):
             if number == len(self.parts) or not self.is_one(number, number + 1):
@@ -262,7 +269,8 @@ class Telling:
                 first = number + 1
 
     def is_one(self, number: int, following: int) -> bool:
-        """Whether two steps are of one turn: instructions, or another event, with the drains that they need; or drains."""
+        """Whether two steps are of one turn: instructions, or another event, with the drains that they need;
+        or drains."""
         one, other = self.steps[number - 1], self.steps[following - 1]
         return self.parts[number - 1] == self.parts[following - 1] and one.hart == other.hart
 
@@ -275,20 +283,22 @@ class Telling:
         if kinds == {DRAIN}:
             times = last - first + 1
             stores = [self.history.drained[number] for number in range(first, last + 1)]
-            return f'{begin.hart} drain' + (f' x{times}' if times > 1 else ''), [f'It enters memory: {self.store(one)}' for one in stores]
+            order = f'{begin.hart} drain' + (f' x{times}' if times > 1 else '')
+            return order, [f'It enters memory: {self.store(one)}' for one in stores]
         event = self.steps[last - 1]
         return f'{begin.hart} go {event.kind}' if last > first else event.short_line(), [self.event(event)]
 
     def instructions(self, first: int, last: int) -> tuple[str, list[str]]:
         """A turn of a thread: where it leads, and which stores wait when it is over."""
         begin, place = self.steps[first - 1], self.pc_behind(last)
+        goes = f'Thread {begin.thread} goes on hart {begin.hart}'
         comments = [f'Its store waits: {self.store(store)}' for store in self.waiting(begin.hart, last)]
         if place is None:
-            return f'{begin.hart} go', [f'Thread {begin.thread} goes on hart {begin.hart}, for as long as it can.', *comments]
+            return f'{begin.hart} go', [f'{goes}, for as long as it can.', *comments]
         pcs = [step.pc for step in self.steps[first - 1 : last] if step.kind == EXEC]
         visit = pcs.count(place) + 1
         order = f'{begin.hart} go until {self.program.where(place)}' + (f' #{visit}' if visit > 1 else '')
-        return order, [f'Thread {begin.thread} goes on hart {begin.hart}, up to {self.spot(place)}.', *comments]
+        return order, [f'{goes}, up to {self.spot(place)}.', *comments]
 
     def pc_behind(self, last: int) -> int | None:
         """Where the thread of a step stands on its hart behind it; None where it has left the hart there."""
@@ -299,7 +309,8 @@ class Telling:
     def waiting(self, hart: int, last: int) -> list[Step]:
         """Which stores of a hart wait behind a step."""
         late = [store for drain, store in self.history.drained.items() if drain > last]
-        return [store for store in [*late, *self.history.waiting] if store.hart == hart and store.number <= last]
+        stores = [*late, *self.history.waiting]
+        return [store for store in stores if store.hart == hart and store.number <= last]
 
     def event(self, step: Step) -> str:
         """What an event that is no instruction does, in a sentence."""
@@ -318,4 +329,5 @@ class Telling:
 
     def store(self, step: Step) -> str:
         """The source line of a store, or the instruction where there is none."""
-        return source(self.history, step.pc) or f'{self.history.instructions[step.number].text} at {self.program.where(step.pc)}'
+        text = f'{self.history.instructions[step.number].text} at {self.program.where(step.pc)}'
+        return source(self.history, step.pc) or text

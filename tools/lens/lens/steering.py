@@ -2,16 +2,19 @@
 
 A line of it is empty, a comment (`# ..`, also behind an event), an event as in any script, or one of
 
-    HART go until PLACE [#K]     instructions, and drains where they need it, until the thread on HART stands at PLACE for the
-                                 K-th time; the place where it stands already counts as the first
-    HART go                      the same until the thread has left the hart, or can't go on there, or the process is over
-    HART go preempt              that event (or `signal`, `take`, `done`), and before it a drain for each store that waits on HART
+    HART go until PLACE [#K]     instructions, and drains where they need it, until the thread on HART stands
+                                 at PLACE for the K-th time; where it stands there already, that is the first
+    HART go                      the same until the thread has left the hart, or can't go on there, or the
+                                 process is over
+    HART go preempt              that event (or `signal`, `take`, `done`), and before it a drain for each store
+                                 that waits on HART
     HART drain until PLACE       drains, up to that of the first store that waits there and stands at PLACE
     HART drain all               each store that waits on HART
     HART exec xN                 N times this event (`drain` and other events too)
-    HART exec until PLACE        instructions until the thread on HART stands at PLACE; none where it stands there
-    HART exec all                instructions until one isn't allowed: stores wait and it is a call or a fence, or the
-                                 thread has left the hart, or the process is over
+    HART exec until PLACE        instructions until the thread on HART stands at PLACE; none where it stands
+                                 there already
+    HART exec all                instructions until one isn't allowed: stores wait and it is a call or a fence,
+                                 or the thread has left the hart, or the process is over
     repeat K ORDER               that order K times
     finish                       the rest of the run, by the rule of finishing.py
 
@@ -115,7 +118,8 @@ def read_line(path: str, number: int, line: str) -> list[Order | Remark]:
 
 
 def split_comment(line: str) -> tuple[str, str, str]:
-    """A line up to its comment, the mark that begins one, and the comment. The count of a visit (`until take #3`) is no comment."""
+    """A line up to its comment, the mark that begins one, and the comment. The count of a visit
+    (`until take #3`) is no comment."""
     if found := WITH_COUNT.match(line):
         space, mark, comment = found['rest'].partition('#')
         return found['words'] + space, mark, comment
@@ -125,8 +129,8 @@ def split_comment(line: str) -> tuple[str, str, str]:
 def read_order(path: str, number: int, words: str) -> Order:
     """The order of a line; a fault that names the line where it is none."""
     match words.split(' '):
-        case ['repeat', times, *rest] if times.isdecimal() and int(times) > 0 and rest[:1] not in ([], ['repeat']):
-            order = read_order(path, number, ' '.join(rest))
+        case ['repeat', times, first, *rest] if COUNT.fullmatch(f'#{times}') and first != 'repeat':
+            order = read_order(path, number, ' '.join([first, *rest]))
             return replace(order, words=words, repeats=int(times))
         case ['finish']:
             return Order(number, words, 0, FINISH)
@@ -137,8 +141,8 @@ def read_order(path: str, number: int, words: str) -> Order:
     raise LensFault(
         f'{path}, line {number}: {words!r} is no order; orders are "0 run 1", "0 exec", "0 exec x8", '
         '"0 exec until main+0x10", "0 exec all", "0 drain", "0 drain all", "0 preempt", "0 signal", "0 take", '
-        '"0 done", "0 go", "0 go until main+0x10", "0 go until main #2", "0 go preempt", "0 drain until main.c:9", '
-        '"repeat 3 0 go until main #2", "finish"'
+        '"0 done", "0 go", "0 go until main+0x10", "0 go until main #2", "0 go preempt", '
+        '"0 drain until main.c:9", "repeat 3 0 go until main #2", "finish"'
     )
 
 
@@ -190,7 +194,8 @@ class Steering:
     def obey(self, order: Order) -> None:
         for _ in range(order.repeats):
             if order.kind == FINISH:
-                self.script.lines = [step.short_line() for step in finish(self.machine, self.script.lines).steps]
+                steps = finish(self.machine, self.script.lines).steps
+                self.script.lines = [step.short_line() for step in steps]
             elif order.goes:
                 self.go(order)
             else:
@@ -237,7 +242,7 @@ class Steering:
         self.script.lines += [f'{order.hart} {DRAIN}'] * here.waiting
 
     def go_until(self, order: Order, places: set[int]) -> None:
-        """Goes on until the thread has stood so often at one of the places, where it stands now among these times."""
+        """Goes on until the thread has stood so often at one of the places; that it stands there now counts."""
         visits, size = 0, TRIES[0]
         while True:
             here = self.here(order.hart)
@@ -266,8 +271,8 @@ class Steering:
             self.advance(order, here, TRIES[1])
 
     def advance(self, order: Order, here: HartPlace, size: int) -> list[int]:
-        """Makes the drains that the next instruction needs, and then as many instructions as are allowed, `size` at most: the pcs at
-        which these stand."""
+        """Makes the drains that the next instruction needs, and then as many instructions as are allowed,
+        `size` at most: the pcs at which these stand."""
         drains = here.drains_for(EXEC)
         if EXEC not in here.may and not drains:
             raise self.refusal(order, len(self.script.lines) + 1)

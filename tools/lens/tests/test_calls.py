@@ -14,7 +14,8 @@ class Calls(unittest.TestCase):
         self.assertEqual(answer.stdout.decode(), (GOLDEN / 'preempted.calls').read_text())
 
     def test_those_of_a_thread_that_sleeps(self):
-        answer = lens('calls', EXAMPLES / 'threads' / 'sleeps.output', EXAMPLES / 'threads' / 'threads.elf', '--thread', 1)
+        folder = EXAMPLES / 'threads'
+        answer = lens('calls', folder / 'sleeps.output', folder / 'threads.elf', '--thread', 1)
         self.assertEqual(answer.returncode, 0)
         self.assertIn(b'futex(threads, FUTEX_WAIT, 2) = ?', answer.stdout)
         self.assertIn(b'5 calls; end open', answer.stdout)

@@ -11,7 +11,7 @@ from .common import PROGRAM, ROOT, needs_objdump, needs_program
 
 PAGE = ROOT / 'docs' / 'FINDING_A_BUG.md'
 BLOCK = re.compile(r'(?:^ {4}.*\n|^\n(?= {4}))+', re.MULTILINE)
-COMMANDS = ('tools/bin/lens ', 'crates/rseq_run/out/rseq_run ')
+COMMANDS = ('tools/bin/lens ', 'crates/rseq_run/out/rseq_run ', 'cat /tmp/')
 
 
 def blocks(text):

@@ -12,7 +12,9 @@ SCRIPT = FOUND.with_suffix('.script')
 
 class Lines(unittest.TestCase):
     def test_lines_that_can_be_read(self):
-        for line in (b'0 run 1', b'7 exec', b'0 done', b'0 run 1 0000000000010078', b'1 drain 0 0000000000000000', b'0 run 4294967295'):
+        pc = b'0000000000010078'
+        with_pcs = (b'0 run 1 ' + pc, b'1 drain 0 ' + pc)
+        for line in (b'0 run 1', b'7 exec', b'0 done', b'0 run 4294967295', *with_pcs):
             with self.subTest(line=line):
                 self.assertIsNone(what_is_wrong(line))
 

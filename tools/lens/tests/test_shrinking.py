@@ -13,7 +13,13 @@ BOTH_INSIDE = EXAMPLES / 'peterson' / 'both_inside.output'
 
 class Stretches(unittest.TestCase):
     def test_events_go_where_their_thread_runs(self):
-        events = [Event(0, 0, RUN, 1), Event(1, 0, EXEC, 1), Event(2, 1, RUN, 1), Event(3, 1, EXEC, 1), Event(4, 0, PREEMPT, 2)]
+        events = [
+            Event(0, 0, RUN, 1),
+            Event(1, 0, EXEC, 1),
+            Event(2, 1, RUN, 1),
+            Event(3, 1, EXEC, 1),
+            Event(4, 0, PREEMPT, 2),
+        ]
         self.assertEqual(script_of(events), ['0 run 1', '0 exec', '1 run 1', '1 exec', '0 preempt'])
         self.assertEqual(script_of(events[:2] + events[3:]), ['0 run 1', '0 exec', '0 exec', '0 preempt'])
 

@@ -53,7 +53,8 @@ class Lines(unittest.TestCase):
     def test_a_count_is_no_comment(self):
         order = Order(3, '0 go until take #3', 0, 'exec', until='take', visit=3, goes=True)
         self.assertEqual(self.read('0 go until take #3 # why #2'), [Remark(3, 'why #2'), order])
-        self.assertEqual(self.read('0 go until take # 3'), [Remark(3, '3'), replace(order, words='0 go until take', visit=1)])
+        uncounted = replace(order, words='0 go until take', visit=1)
+        self.assertEqual(self.read('0 go until take # 3'), [Remark(3, '3'), uncounted])
 
     def test_no_orders(self):
         for line in (
