@@ -9,7 +9,7 @@ pub overflow_cast-scripted : goal.overflow_cast-scripted
 overflow_cast-scripted g c =
     let short = short_at_end (g.S.Shelf.file c.args.shelf.now) c.args.program.now (Script c.args.script.now) c.args.limits
     c.in_ok-made.made.image c.in_ok-made.made.machine c.requires c.in_ok-made.ensures.run in
-    omega (arith, short, c.len.ensures, c.log.ensures)
+    omega (arith, short, ap length c.log.ensures)
 
 pub draw_on-requires-clause-limits : goal.draw_on-requires-clause-limits
 draw_on-requires-clause-limits g c =
@@ -25,5 +25,5 @@ pub returns-clause-run : goal.returns-clause-run
 returns-clause-run g c =
     run_behind_script (g.S.Shelf.file c.args.shelf.now) c.args.program.now c.args.script.now c.args.limits c.args.seed c.args.draws
     c.in_ok-made.made.image c.in_ok-made.made.machine c.draw_on.new.machine c.behind.result c.in_ok-made.ensures.run
-    (c.behind.ensures ∙ ap₂ manner_behind (c.len.ensures ∙ ap length c.log.ensures) c.of-manner.ensures) c.draw_on.ensures.setting
+    (c.behind.ensures ∙ ap₂ manner_behind (ap length c.log.ensures) c.of-manner.ensures) c.draw_on.ensures.setting
     c.draw_on.ensures.begins c.draw_on.ensures.drawn
