@@ -58,7 +58,7 @@ added (line.Branch i l ∷ rest) (w ∷ ws) = item.Aimed i l ∷ added rest ws
 added (line.Data d ∷ rest) [] = []
 added (line.Data d ∷ rest) (w ∷ ws) = item.Word d ∷ added rest ws
 
-emitted_so : (labels : List (Option ℕ)) (n : ℕ) (xs : List Line) (ws : List ℕ) (a : Assembly) → AreRows labels n xs ws
+pub emitted_so : (labels : List (Option ℕ)) (n : ℕ) (xs : List Line) (ws : List ℕ) (a : Assembly) → AreRows labels n xs ws
     → IsEmitted xs a (put xs ws a)
 emitted_so labels n [] ws a are = refl
 emitted_so labels n (line.Label l ∷ rest) ws a are = emitted_so labels n rest ws (with_label a l) are
@@ -72,7 +72,7 @@ emitted_so labels n (line.Data d ∷ rest) [] a are = absurd are
 emitted_so labels n (line.Data d ∷ rest) (w ∷ ws) a are =
     emitted_so labels (n + 1) rest ws (with_item a (item.Word d)) are.1
 
-put_items : (labels : List (Option ℕ)) (n : ℕ) (xs : List Line) (ws : List ℕ) (a : Assembly) → AreRows labels n xs ws
+pub put_items : (labels : List (Option ℕ)) (n : ℕ) (xs : List Line) (ws : List ℕ) (a : Assembly) → AreRows labels n xs ws
     → (put xs ws a).items ≡ a.items ++ added xs ws
 put_items labels n [] ws a are = sym (append-nil a.items)
 put_items labels n (line.Label l ∷ rest) ws a are =
@@ -147,7 +147,7 @@ small_all (w ∷ ws) fine zero d lt =
 small_all (w ∷ ws) fine (suc k) d lt =
     small_all ws (and_parts (nat_lt w (2 ^ 32)) (list_all (λ v. nat_lt v (2 ^ 32)) ws) fine).1 k d (omega arith)
 
-assembled_so : (labels ls : List (Option ℕ)) (xs : List Line) (ws : List ℕ) (items : List Item) (bytes : List ℕ)
+pub assembled_so : (labels ls : List (Option ℕ)) (xs : List Line) (ws : List ℕ) (items : List Item) (bytes : List ℕ)
     → AreRows labels 0 xs ws → items ≡ added xs ws → ls ≡ labels → bytes ≡ flat_map (λ w. to_le_bytes w32 w) ws
     → list_all (λ w. nat_lt w (2 ^ 32)) ws ≡ true → AreAssembled ls items bytes
 assembled_so labels ls xs ws items bytes are items_are labels_are bytes_are small = record {

@@ -10,4 +10,6 @@ pub mod Held
 pub mod Pages
 pub mod Rooms
 pub mod Started
+pub mod UrcuCode
+pub mod UrcuLog
 pub mod Words
