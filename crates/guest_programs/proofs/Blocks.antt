@@ -163,7 +163,6 @@ holds Signals n pages stand read =
 holds Migrate n pages stand read =
     holds_block add_lines FIRST_TABLE 92 14 4 pages (guest_instructions Migrate) (data_words (model Migrate) n)
     (omega arith) (λ e. omega arith) (omega arith) (omega arith) stand read refl refl refl
-
 holds Urcu n pages stand read = record {
   read = reading;
   sync = waiting;

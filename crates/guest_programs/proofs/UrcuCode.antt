@@ -3,8 +3,10 @@ use Rattle.std.proofs.Common.{◌≡◌, ℕ, ◌^◌, List, [], ◌∷◌, refl
 use Rattle.std.specs.List.{flat_map, list_all}
 use Rattle.std.specs.Int.{to_le_bytes, w32}
 use Rattle.rv_asm.specs.Assembly.{AreAssembled, Assembly, empty}
-use Rattle.rv_inst.specs.Table.{row_of, rows, lui_rows, auipc_rows, jal_rows, jalr_rows, branch_rows, load_rows, store_rows}
-use Rattle.rv_inst.specs.Table.{op_imm_rows, op_imm_32_rows, op_rows, op_32_rows, misc_mem_rows, amo_rows, system_rows}
+use Rattle.rv_inst.specs.Table.{row_of, rows, lui_rows, auipc_rows, jal_rows, jalr_rows, branch_rows}
+use Rattle.rv_inst.specs.Table.{load_rows, store_rows}
+use Rattle.rv_inst.specs.Table.{op_imm_rows, op_imm_32_rows, op_rows, op_32_rows, misc_mem_rows, amo_rows}
+use Rattle.rv_inst.specs.Table.{system_rows}
 use Rattle.percpu_lib.specs.Lines.{AreEmitted}
 use Rattle.guest_names.specs.declared.names.Name.TheVariants.{Urcu}
 use Rattle.guest_programs.specs.Steps.{guest_lines}
@@ -13,7 +15,6 @@ use Rattle.guest_programs.specs.declared.shared.TheConstants.{LABELS}
 use Rattle.guest_programs.proofs.Blocks.{guest_labels}
 use Rattle.guest_programs.proofs.CounterCode.{AreRows, added, assembled_so, emitted_so, put, put_items}
 use Rattle.guest_programs.proofs.Held.{labels_bound}
-use Rattle.rv_asm.specs.declared.item.Item.{Item}
 
 abbrev pub words : List ℕ
 words =

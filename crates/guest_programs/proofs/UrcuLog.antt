@@ -1,8 +1,9 @@
 -- A log of the guest urcu for the size 1, by computation: a reader has locked and is preempted in its section; the
 -- first thread lets the pointer lead to the other node, calls membarrier, and finds the reader's slot in use; the
 -- reader unlocks; and the sync block ends. The guest uses the blocks as HoldsUrcu asks.
-use Rattle.std.proofs.Common.{◌≡◌, ℕ, zero, suc, ◌+◌, ◌*◌, ◌^◌, ◌<◌, ◌≤◌, List, [], ◌∷◌, ◌++◌, refl, sym, ap, ◌∙◌, subst, arith}
-use Rattle.std.proofs.Common.{Bool, true, false, eqb, fold, Option, Some, None, Ok, Result, slice_get, inl, inr, ◌⊎◌}
+use Rattle.std.proofs.Common.{◌≡◌, ℕ, ◌+◌, ◌*◌, ◌^◌, List, [], ◌∷◌, ◌++◌, refl, ap}
+use Rattle.std.proofs.Common.{◌∙◌, subst, arith}
+use Rattle.std.proofs.Common.{true, fold, None, Ok, Result, slice_get, inl}
 use Rattle.std.proofs.lemmas.Bool.{leb-true, ltb-true}
 use Rattle.mach_types.specs.Kernel.Areas.{are_readable, number_at}
 use Rattle.mach_types.specs.Kernel.Barriers.{asked as command_asked}
@@ -12,16 +13,16 @@ use Rattle.mach_types.specs.declared.events.Entry.{Entry}
 use Rattle.mach_types.specs.declared.events.Kind.{Kind}
 use Rattle.mach_types.specs.declared.events.Kind.TheVariants as kind
 use Rattle.rv_inst.specs.Meaning.{meaning}
-use Rattle.rv_inst.specs.Table.{row_of, rows, lui_rows, auipc_rows, jal_rows, jalr_rows, branch_rows, load_rows, store_rows}
-use Rattle.rv_inst.specs.Table.{op_imm_rows, op_imm_32_rows, op_rows, op_32_rows, misc_mem_rows, amo_rows, system_rows}
+use Rattle.rv_inst.specs.Table.{row_of, rows, lui_rows, auipc_rows, jal_rows, jalr_rows, branch_rows}
+use Rattle.rv_inst.specs.Table.{load_rows, store_rows}
+use Rattle.rv_inst.specs.Table.{op_imm_rows, op_imm_32_rows, op_rows, op_32_rows, misc_mem_rows, amo_rows}
+use Rattle.rv_inst.specs.Table.{system_rows}
 use Rattle.block_model.specs.Deciding.{decide, done, event, history}
 use Rattle.block_model.specs.Replay.{Ask, play_line, played}
 use Rattle.block_model.specs.Run.{IsBlockRun}
 use Rattle.block_model.specs.Setting.{Setting}
 use Rattle.block_model.proofs.Laws.{played_is_run}
 use Rattle.alone_laws.specs.Spans.{code_of}
-use Rattle.rv_inst.specs.declared.instruction.Inst.{Inst}
-use Rattle.percpu_lib.specs.Words.{AreHeld}
 use Rattle.urcu_lib.specs.Blocks.{AreBlocks, Urcu, lock_block, sync_block, unlock_block}
 use Rattle.urcu_lib.specs.Registers.{AreReadRegs, AreSyncRegs}
 use Rattle.urcu_lib.specs.Sections.{IsLockStore}
