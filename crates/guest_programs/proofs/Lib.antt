@@ -13,4 +13,6 @@ pub mod ListLog
 pub mod Pages
 pub mod Rooms
 pub mod Started
+pub mod UrcuCode
+pub mod UrcuLog
 pub mod Words

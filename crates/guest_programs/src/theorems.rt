@@ -1,6 +1,6 @@
 //! Laws of made guests, each as the contract of a function that does nothing.
 
-ghost use Rattle.std.specs.Prelude.{ℕ, List, [], ◌≡◌, ◌+◌, Some};
+ghost use Rattle.std.specs.Prelude.{ℕ, List, [], ◌∷◌, ◌++◌, ◌≡◌, ◌+◌, Some};
 ghost use Rattle.mach_types.specs.declared.events.Entry.{Entry};
 ghost use Rattle.mach_types.specs.declared.limits.Limits.{Limits};
 ghost use Rattle.mach_types.specs.declared.sequences.Area.{Area};
@@ -8,7 +8,7 @@ ghost use Rattle.elf_load.specs.Images.{IsImage};
 ghost use Rattle.elf_load.specs.declared.image.Image.{Image};
 ghost use Rattle.rv_asm.specs.Assembly.{AreAssembled, Assembly, empty};
 ghost use Rattle.block_model.specs.Acts.{Sequence, sequence_on};
-ghost use Rattle.block_model.specs.Deciding.{history};
+ghost use Rattle.block_model.specs.Deciding.{event, history};
 ghost use Rattle.block_model.specs.History.{file};
 ghost use Rattle.block_model.specs.Run.{IsBlockRun};
 ghost use Rattle.block_model.specs.Setting.{Setting, setting_of};
@@ -20,7 +20,11 @@ ghost use Rattle.percpu_lib.specs.Pushes.{node_of, push_form};
 ghost use Rattle.percpu_lib.specs.Used.{IsWellUsed};
 ghost use Rattle.percpu_lib.specs.Uses.{HoldsAdd, SharesArea, cells_of};
 ghost use Rattle.percpu_lib.specs.declared.slots.Slots.{Slots};
-ghost use Rattle.guest_names.specs.declared.names.Name.TheVariants.{Counter, List as Lists};
+ghost use Rattle.urcu_lib.specs.Blocks.{Urcu};
+ghost use Rattle.urcu_lib.specs.Sections.{IsGraceBegin, IsGraceEnd, IsLockStore};
+ghost use Rattle.urcu_lib.specs.Uses.{HoldsUrcu};
+ghost use Rattle.urcu_lib.specs.declared.regs.SyncRegs.{SyncRegs};
+ghost use Rattle.guest_names.specs.declared.names.Name.TheVariants.{Counter, List as Lists, Urcu as UrcuGuest};
 ghost use Rattle.guest_names.specs.declared.names.Name.{Name};
 ghost use Rattle.guest_programs.specs.Programs.{IsGuestElf, data_bytes, guest_program};
 ghost use Rattle.guest_programs.specs.Steps.{guest_lines};
@@ -68,4 +72,19 @@ pub fn lists_use_their_block()
         × AreEmitted (guest_lines Lists) (empty CODE LABELS) asm × AreAssembled asm.labels asm.items code
         × (s.program ≡ guest_program code (data_bytes asm 1)) × IsWellUsed s log (push_form p) at area others q
         × (cell_seen s 0 (cells_of s p q.thread q.begun) q.reached ≡ Some (node_of s p q.thread q.begun)) }
+{}
+
+/// What `HoldsUrcu` asks is met by a made guest: there is a block run of the guest urcu for the size 1 that uses its
+/// blocks so, in which a reader has locked before the first thread calls membarrier in the sync block, and the
+/// sync block's last instruction is executed.
+pub fn readers_are_waited_for()
+    ensures { (asm : Assembly) × (code : List ℕ) × (s : Setting) × (first second third : List Entry)
+        × (lock call last : Entry) × (u : Urcu) × (at t : ℕ) × (r : SyncRegs)
+        × AreEmitted (guest_lines UrcuGuest) (empty CODE LABELS) asm × AreAssembled asm.labels asm.items code
+        × (s.program ≡ guest_program code (data_bytes asm 1))
+        × IsBlockRun s (first ++ lock ∷ (second ++ call ∷ (third ++ last ∷ [])))
+        × HoldsUrcu s u (history s (first ++ lock ∷ (second ++ call ∷ (third ++ last ∷ []))))
+        × (u.syncs at ≡ Some r) × IsLockStore s u 0 (event s (history s first) lock) (history s first)
+        × IsGraceBegin at t (event s (history s (first ++ lock ∷ second)) call)
+        × IsGraceEnd at t (event s (history s (first ++ lock ∷ (second ++ call ∷ third))) last) }
 {}

@@ -230,11 +230,11 @@ locks = lock_store_is reading layout 1 0 (event reading (history reading first) 
     (history reading first) locks_it
 
 -- the words of the blocks stand there
-abbrev AreThere : (ℕ → Option Inst) → ℕ → List (Option Inst) → Type 0
+abbrev pub AreThere : (ℕ → Option Inst) → ℕ → List (Option Inst) → Type 0
 AreThere reads from [] = Unit {0}
 AreThere reads from (o ∷ rest) = (reads from ≡ o) × AreThere reads (from + 4) rest
 
-word_is : (reads : ℕ → Option Inst) (block : List (Option Inst)) (from : ℕ) → AreThere reads from block
+pub word_is : (reads : ℕ → Option Inst) (block : List (Option Inst)) (from : ℕ) → AreThere reads from block
     → (k : ℕ) (i : Inst) → slice_get block k ≡ Some (Some i) → reads (from + 4 * k) ≡ Some i
 word_is reads [] from there k i is = absurd cc
 word_is reads (o ∷ rest) from there zero i is =

@@ -7,7 +7,7 @@ use Rattle.std.proofs.Common.{Some, None, is_none}
 use Rattle.std.proofs.lemmas.Bool.Decides.{nat_tests}
 use Rattle.std.proofs.lemmas.Bool.{and_from, and_parts, cases_eq, eq-eqb, eqb-true, false≢true}
 use Rattle.std.proofs.lemmas.Bool.{le-leb, leb-true, lt-ltb, ltb-true}
-use Rattle.mach_types.specs.Bytes.{covers, each_byte}
+use Rattle.mach_types.specs.Bytes.{byte_of, covers, each_byte, written}
 use Rattle.mach_types.specs.Events.{choice_of}
 use Rattle.mach_types.specs.Kernel.Pages.{can_read, can_write, permission_at}
 use Rattle.mach_types.specs.Registers.{register}
@@ -15,6 +15,8 @@ use Rattle.mach_types.specs.declared.events.Choice.{Choice}
 use Rattle.mach_types.specs.declared.events.Choice.TheVariants as asked
 use Rattle.mach_types.specs.declared.threads.Saved.{Saved}
 use Rattle.mach_types.specs.declared.user_memory.Store.{Store}
+use Rattle.mach_types.specs.declared.user_memory.Write.{Write}
+use Rattle.mach_types.specs.declared.user_memory.Write.TheVariants.{Stored, Zeroed}
 use Rattle.block_model.specs.History.{Event, History, file, file_among, kernel}
 use Rattle.block_model.specs.Setting.{Setting}
 use Rattle.block_model.specs.Walks.{is_exec}
@@ -22,7 +24,7 @@ use Rattle.alone_laws.specs.Blocks.{among}
 use Rattle.alone_laws.specs.Spans.{IsUsable, Leaves}
 use Rattle.alone_laws.proofs.StoredWords.{among_low}
 use Rattle.fence_laws.specs.Kept.{AreBeside, IsQuiet}
-use Rattle.percpu_lib.proofs.UseTests.{either, follows, implies, is_empty, is_just, leaves_all}
+use Rattle.percpu_lib.proofs.UseTests.{either, follows, implies, is_just}
 use Rattle.urcu_lib.specs.Blocks.{Urcu}
 use Rattle.urcu_lib.specs.Sections.{IsExecAt, IsGraceEnd, IsLockStore, IsSection}
 use Rattle.urcu_lib.specs.Sections.{IsSyncStore, IsSyncing, IsUnlockStore, comes_in, enters, goes, is_in}
@@ -175,25 +177,41 @@ beside_is at (w ∷ ws) is = (
         let over = leb-true (at + 8) w.at high in
         not_covered w a (inr (omega arith))
 
+-- writes beside them, of which none makes zeros of a range
+abbrev are_apart : ℕ → List Write → Bool
+are_apart at [] = true
+are_apart at (Stored w ∷ ws) = is_beside at w && are_apart at ws
+are_apart at (Zeroed from n ∷ ws) = false
+
+apart_leaves : (at : ℕ) (ws : List Write) → are_apart at ws ≡ true → Leaves (among at 8) ws
+apart_leaves at [] is a b has = refl
+apart_leaves at (Zeroed from n ∷ ws) is a b has = absurd (false≢true is)
+apart_leaves at (Stored w ∷ ws) is a b has =
+    let parts = and_parts (is_beside at w) (are_apart at ws) is in
+    let one = beside_is at (w ∷ []) (and_from (is_beside at w) true parts.0 refl) in
+    ap (λ c. written ws a (cond c (byte_of w.value (a - w.at)) b)) (one.0 a has)
+    ∙ apart_leaves at ws parts.1 a b has
+
 -- an event leaves eight bytes alone, but that a waiting store may enter them
 abbrev is_quiet : ℕ → Event → Bool
-is_quiet at e = are_beside at e.done.executed && (is_drain (choice_of e.entry) || is_empty e.done.entered)
+is_quiet at e =
+    are_beside at e.done.executed && (is_drain (choice_of e.entry) || are_apart at e.done.entered)
 
 quiet_is : (at : ℕ) (e : Event) → is_quiet at e ≡ true → IsQuiet (among at 8) e
 quiet_is at e is =
     let parts = and_parts (are_beside at e.done.executed)
-    (is_drain (choice_of e.entry) || is_empty e.done.entered) is in
+    (is_drain (choice_of e.entry) || are_apart at e.done.entered) is in
     record {
       executed = beside_is at e.done.executed parts.0;
       entered = λ other. by_drain other
-          (either (is_drain (choice_of e.entry)) (is_empty e.done.entered) parts.1);
+          (either (is_drain (choice_of e.entry)) (are_apart at e.done.entered) parts.1);
     }
   where
     by_drain : choice_of e.entry ≢ asked.Drain
-        → (is_drain (choice_of e.entry) ≡ true) ⊎ (is_empty e.done.entered ≡ true)
+        → (is_drain (choice_of e.entry) ≡ true) ⊎ (are_apart at e.done.entered ≡ true)
         → Leaves (among at 8) e.done.entered
     by_drain other (inl drains) = absurd (other (drain_is (choice_of e.entry) drains))
-    by_drain other (inr empty) = leaves_all (among at 8) e.done.entered empty
+    by_drain other (inr apart) = apart_leaves at e.done.entered apart
 
 -- ADDRESSES
 
