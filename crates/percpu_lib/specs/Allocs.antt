@@ -61,8 +61,8 @@ abbrev pub alloc_bytes : ℕ → ℕ → ℕ → ℕ → Bool
 alloc_bytes area pool count a =
     among area 32 a || (among pool 8 a || (not (count == 0) && among (slot_at pool (count - 1)) 8 a))
 
--- what became of the value and the pool: the value is 0 and the pool is as it was, where it had no item; else the value is
--- the last item and the count fell by 1, by one store
+-- what became of the value and the pool: the value is 0 and the pool is as it was, where it had no item; else
+-- the value is the last item and the count fell by 1, by one store
 pub data Allocs (s : Setting) (p : Slots) (pools h t count : ℕ) (begun reached : History) : Type 0 where
   allocs_none : count ≡ 0 → register (file s t reached).file p.value ≡ 0
       → count_seen s h pools reached ≡ count_seen s h pools begun
@@ -73,8 +73,8 @@ pub data Allocs (s : Setting) (p : Slots) (pools h t count : ℕ) (begun reached
       → stores h reached ≡ stores h begun ++ count_store (pool_at pools h) (count - 1) ∷ []
       → Allocs s p pools h t count begun reached
 
--- what a whole alloc did from the place before its first event to the place after its last: that, and no register
--- changed but that of the value and those that every block may change
+-- what a whole alloc did from the place before its first event to the place after its last: that, and no
+-- register changed but that of the value and those that every block may change
 pub record IsWholeAlloc (s : Setting) (p : Slots) (pools h t : ℕ) (begun reached : History) : Type 0 where
   pub allocs : Allocs s p pools h t (count_of s h pools begun) begun reached
   pub kept : (r : ℕ) → is_changed p r ≡ false

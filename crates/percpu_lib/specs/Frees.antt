@@ -1,4 +1,5 @@
--- The block that puts the value behind the items of the pool of its processor (own). A pool holds at most 512 items.
+-- The block that puts the value behind the items of the pool of its processor (own). A pool holds at most 512
+-- items.
 use Rattle.std.specs.Prelude.{ℕ, ◌≡◌, ◌≢◌, ◌+◌, ◌%◌, ◌^◌, ◌||◌, ◌&&◌, ◌==◌, not, Bool, false, List, [], ◌∷◌, ◌++◌}
 use Rattle.std.specs.Prelude.{Option, Some, None, pos, negsuc}
 use Rattle.mach_types.specs.Registers.{register}
@@ -44,8 +45,8 @@ free_aborted p = line.Plain (inst.Addi p.value 28 (pos 0)) ∷ []
 abbrev pub free_lines : Slots → ℕ → List Line
 free_lines p base = block_lines p base 13 (free_first p) (free_steps p base) (free_aborted p)
 
--- its words from the retry label on. Where the count is 512, a branch leads to the post-commit address; the abort handler
--- is the last but one
+-- its words from the retry label on. Where the count is 512, a branch leads to the post-commit address; the
+-- abort handler is the last but one
 abbrev pub free_block : Slots → List (Option Inst)
 free_block p =
     Some (inst.Addi 28 p.value (pos 0))
@@ -69,7 +70,8 @@ free_block p =
 abbrev pub free_range : ℕ → Seq
 free_range at = record { start = at + 20; length = 52; abort = at + 80 }
 
--- the bytes that its sequence uses: those of the area, the count, and the slot behind the items, where there is one
+-- the bytes that its sequence uses: those of the area, the count, and the slot behind the items, where there
+-- is one
 abbrev pub free_bytes : ℕ → ℕ → ℕ → ℕ → Bool
 free_bytes area pool count a =
     among area 32 a || (among pool 8 a || (not (count == 512) && among (slot_at pool count) 8 a))
@@ -78,14 +80,15 @@ free_bytes area pool count a =
 abbrev pub value_of : Setting → Slots → ℕ → History → ℕ
 value_of s p t before = register (file s t before).file p.value
 
--- what is asked of the data: the pool is one, and the slot behind the items, where there is one, lies beside the area
+-- what is asked of the data: the pool is one, and the slot behind the items, where there is one, lies beside
+-- the area
 pub record IsFreeApart (s : Setting) (area pools h : ℕ) (before : History) : Type 0 where
   pub is_pool : IsPool s area pools h before
   pub slot : count_of s h pools before ≢ 512
       → LieBeside (slot_at (pool_at pools h) (count_of s h pools before)) 8 area 32
 
--- what became of the value and the pool: both are as they were, where the pool was full; else the slot behind the items
--- is the value, the count grew by 1, by these two stores, and the value is 0
+-- what became of the value and the pool: both are as they were, where the pool was full; else the slot behind
+-- the items is the value, the count grew by 1, by these two stores, and the value is 0
 pub data Frees (s : Setting) (p : Slots) (pools h t count : ℕ) (begun reached : History) : Type 0 where
   frees_none : count ≡ 512 → value_of s p t reached ≡ value_of s p t begun
       → count_seen s h pools reached ≡ count_seen s h pools begun
@@ -97,22 +100,23 @@ pub data Frees (s : Setting) (p : Slots) (pools h t count : ℕ) (begun reached 
       ++ slot_store (pool_at pools h) count (value_of s p t begun % 2 ^ 64) ∷ count_store (pool_at pools h) (count + 1) ∷ []
       → Frees s p pools h t count begun reached
 
--- what a whole free did from the place before its first event to the place after its last: that, and no other register
--- changed but those that every block may change
+-- what a whole free did from the place before its first event to the place after its last: that, and no other
+-- register changed but those that every block may change
 pub record IsWholeFree (s : Setting) (p : Slots) (pools h t : ℕ) (begun reached : History) : Type 0 where
   pub frees : Frees s p pools h t (count_of s h pools begun) begun reached
   pub kept : (r : ℕ) → is_changed p r ≡ false
       → register (file s t reached).file r ≡ register (file s t begun).file r
 
--- a sequence that isn't whole executed no store, or the one to the slot behind the items, where the pool wasn't full
+-- a sequence that isn't whole executed no store, or the one to the slot behind the items, where the pool
+-- wasn't full
 pub data FreesNoMore (s : Setting) (p : Slots) (pools h t count : ℕ) (begun reached : History) : Type 0 where
   fills_none : stores h reached ≡ stores h begun → FreesNoMore s p pools h t count begun reached
   fills_slot : count ≢ 512 → stores h reached ≡ stores h begun
       ++ slot_store (pool_at pools h) count (value_of s p t begun % 2 ^ 64) ∷ []
       → FreesNoMore s p pools h t count begun reached
 
--- and what one did that isn't whole: nothing but to that slot, which is none of the items, to the value, and to registers
--- that every block may change
+-- and what one did that isn't whole: nothing but to that slot, which is none of the items, to the value, and
+-- to registers that every block may change
 pub record IsNoFree (s : Setting) (p : Slots) (pools h t : ℕ) (begun reached : History) : Type 0 where
   pub same : count_seen s h pools reached ≡ count_seen s h pools begun
   pub stored : FreesNoMore s p pools h t (count_of s h pools begun) begun reached

@@ -1,5 +1,5 @@
--- The pool of a processor (own): a count, and 64 bytes on its 512 slots of 8 bytes each. Pools lie 8,192 bytes apart. The
--- items of a pool are its slots below the count.
+-- The pool of a processor (own): a count, and 64 bytes on its 512 slots of 8 bytes each. Pools lie 8,192
+-- bytes apart. The items of a pool are its slots below the count.
 use Rattle.std.specs.Prelude.{ℕ, ◌+◌, ◌*◌, ◌^◌, ◌≤◌, Option, unwrap_or}
 use Rattle.mach_types.specs.declared.user_memory.Store.{Store}
 use Rattle.block_model.specs.History.{History}
@@ -27,8 +27,8 @@ count_store pool count = record { at = pool; size = 8; value = count }
 abbrev pub slot_store : ℕ → ℕ → ℕ → Store
 slot_store pool k item = record { at = slot_at pool k; size = 8; value = item }
 
--- what is asked of the pool of a hart: it doesn't pass 2^64, its count is at most 512, and the count's word lies beside
--- the area
+-- what is asked of the pool of a hart: it doesn't pass 2^64, its count is at most 512, and the count's word
+-- lies beside the area
 pub record IsPool (s : Setting) (area pools h : ℕ) (before : History) : Type 0 where
   pub low_pool : pool_at pools h + 4160 ≤ 2 ^ 64
   pub at_most : count_of s h pools before ≤ 512

@@ -50,18 +50,19 @@ pop_block p =
 abbrev pub pop_range : ℕ → Seq
 pop_range at = record { start = at + 16; length = 32; abort = at + 56 }
 
--- the head of the list of a processor, as hart h sees it: the word of the cell, which each byte has, so that there is
--- always one
+-- the head of the list of a processor, as hart h sees it: the word of the cell, which each byte has, so that
+-- there is always one
 abbrev pub head_of : Setting → ℕ → ℕ → History → ℕ
 head_of s h cells before = unwrap_or (cell_seen s h cells before) 0 % 2 ^ 64
 
--- the bytes that its sequence uses: those of the area, the cell of a processor, and the first word of the node, where
--- there is one
+-- the bytes that its sequence uses: those of the area, the cell of a processor, and the first word of the
+-- node, where there is one
 abbrev pub pop_bytes : ℕ → ℕ → ℕ → ℕ → ℕ → Bool
 pop_bytes area cells cpu head a =
     among area 32 a || (among (cell_at cells cpu) 8 a || (not (head == 0) && among head 8 a))
 
--- what became of the list: nothing, where it had no node; else the cell became the first word of the node, by one store
+-- what became of the list: nothing, where it had no node; else the cell became the first word of the node, by
+-- one store
 pub data Pops (s : Setting) (cells h head : ℕ) (begun reached : History) : Type 0 where
   pops_none : head ≡ 0 → cell_seen s h cells reached ≡ cell_seen s h cells begun
       → stores h reached ≡ stores h begun → Pops s cells h head begun reached
@@ -70,9 +71,9 @@ pub data Pops (s : Setting) (cells h head : ℕ) (begun reached : History) : Typ
       → stores h reached ≡ stores h begun ++ cell_store cells h (next % 2 ^ 64) ∷ []
       → Pops s cells h head begun reached
 
--- what a whole pop did from the place before its first event to the place after its last: the value became the head
--- of the list of its processor, the list lost that node, where there was one, and no other register changed but those
--- that every block may change
+-- what a whole pop did from the place before its first event to the place after its last: the value became
+-- the head of the list of its processor, the list lost that node, where there was one, and no other register
+-- changed but those that every block may change
 pub record IsWholePop (s : Setting) (p : Slots) (cells h t : ℕ) (begun reached : History) : Type 0 where
   pub popped : register (file s t reached).file p.value ≡ head_of s h cells begun
   pub pops : Pops s cells h (head_of s h cells begun) begun reached

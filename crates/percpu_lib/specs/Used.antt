@@ -1,4 +1,5 @@
--- A block that a thread uses well in a block run, and comes to the end of (own): what the laws of runs ask, all at once.
+-- A block that a thread uses well in a block run, and comes to the end of (own): what the laws of runs ask,
+-- all at once.
 use Rattle.std.specs.Prelude.{ℕ, ◌≡◌, ◌+◌, ◌*◌, List, Some}
 use Rattle.mach_types.specs.declared.events.Entry.{Entry}
 use Rattle.mach_types.specs.declared.sequences.Area.{Area}
@@ -11,8 +12,8 @@ use Rattle.block_model.specs.Run.{IsBlockRun}
 use Rattle.block_model.specs.Setting.{Setting}
 use Rattle.percpu_lib.specs.Forms.{Form, HoldsBlock, SharesAreaWith, committed, placed_of, range_of}
 
--- the thread of a sequence uses a block, and shares its area with others, as the laws ask; and the sequence, the last one on
--- hart 0, is the block's and has come to the post-commit address
+-- the thread of a sequence uses a block, and shares its area with others, as the laws ask; and the sequence,
+-- the last one on hart 0, is the block's and has come to the post-commit address
 pub record IsWellUsed (s : Setting) (log : List Entry) (form : Form) (at : ℕ) (area : Area) (others : List Placed)
     (q : Sequence) : Type 0 where
   pub run : IsBlockRun s log

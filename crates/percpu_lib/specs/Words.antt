@@ -32,13 +32,15 @@ upper n = pos ((n + 2048) / 4096 * 4096)
 abbrev pub lower : ℕ → ℤ
 lower n = pos n -ℤ upper n
 
--- the registers that a block may change which brings a value out: those that every block may, and that of the value
+-- the registers that a block may change which brings a value out: those that every block may, and that of the
+-- value
 abbrev pub is_changed : Slots → ℕ → Bool
 is_changed p r = is_scratch r || r == p.value
 
--- the words of a block from where it asks for the processor on. The area is read for the processor, and the address of
--- the descriptor is stored in it. Then the sequence starts: the area must still name that processor, else the block
--- begins anew, so many bytes back and one; and the processor's number, shifted so far, makes the address of its data
+-- the words of a block from where it asks for the processor on. The area is read for the processor, and the
+-- address of the descriptor is stored in it. Then the sequence starts: the area must still name that
+-- processor, else the block begins anew, so many bytes back and one; and the processor's number, shifted so
+-- far, makes the address of its data
 abbrev pub asking_words : Slots → ℕ → ℕ → List (Option Inst) → List (Option Inst)
 asking_words p back shift rest =
     Some (inst.Lw 5 p.area (pos 0))

@@ -33,8 +33,8 @@ ghost use Rattle.percpu_lib.specs.Lines.{AreEmitted, HasRoom, IsContinued};
 ghost use Rattle.percpu_lib.specs.Words.{AreHeld};
 ghost use Rattle.percpu_lib.specs.declared.slots.Slots.{Slots};
 
-/// In a block run a restartable sequence of a block of the library has the effect of its kind once, where its thread is
-/// at the post-commit address after it, and else that of one that isn't whole.
+/// In a block run a restartable sequence of a block of the library has the effect of its kind once, where its
+/// thread is at the post-commit address after it, and else that of one that isn't whole.
 pub fn blocks_work_once_or_not_at_all()
     ensures whole { (k : Kind) (s : Setting) (log : List Entry) (p : Slots) (at : ℕ) (area : Area) (h : ℕ) (q : Sequence)
         → IsBlockRun s log → HoldsBlock s (history s log) (form_of k p) at area q.thread
@@ -49,8 +49,8 @@ pub fn blocks_work_once_or_not_at_all()
         → (form_of k p).Partial s h q.thread q.begun q.reached }
 {}
 
-/// In a block run a restartable sequence of a block of the library ends 'left' where its thread is at the post-commit
-/// address after it; and one that ends 'left' leads there, or back to the retry label.
+/// In a block run a restartable sequence of a block of the library ends 'left' where its thread is at the
+/// post-commit address after it; and one that ends 'left' leads there, or back to the retry label.
 pub fn blocks_that_commit_are_left()
     // where an event of its hart comes behind it
     ensures followed { (k : Kind) (s : Setting) (log : List Entry) (entry : Entry) (p : Slots) (at : ℕ) (area : Area)
@@ -69,8 +69,8 @@ pub fn blocks_that_commit_are_left()
         (end_so_far s q (history s log)) }
 {}
 
-/// In a block run an instruction of a block of the library changes no register but those that the block may change,
-/// whether or not a sequence is open.
+/// In a block run an instruction of a block of the library changes no register but those that the block may
+/// change, whether or not a sequence is open.
 pub fn blocks_keep_registers()
     ensures { (k : Kind) (s : Setting) (log : List Entry) (entry : Entry) (p : Slots) (at : ℕ) (area : Area) (t r : ℕ)
         → IsBlockRun s (log ++ entry ∷ []) → HoldsBlock s (history s (log ++ entry ∷ [])) (form_of k p) at area t
@@ -79,9 +79,9 @@ pub fn blocks_keep_registers()
         → register (file s t (history s (log ++ entry ∷ []))).file r ≡ register (file s t (history s log)).file r }
 {}
 
-/// In a block run a thread is inside no sequence where it runs before the sequence of a block of the library and can
-/// begin it: where nobody writes the pointer of its area but its own instructions just before the starts of this block
-/// and of others beside it, and the kernel.
+/// In a block run a thread is inside no sequence where it runs before the sequence of a block of the library
+/// and can begin it: where nobody writes the pointer of its area but its own instructions just before the
+/// starts of this block and of others beside it, and the kernel.
 pub fn blocks_begin_outside()
     ensures { (k : Kind) (s : Setting) (log : List Entry) (p : Slots) (at : ℕ) (area : Area) (t : ℕ)
         (others : List Placed)
@@ -91,9 +91,10 @@ pub fn blocks_begin_outside()
         → AlwaysOutside s (placed_of (form_of k p) at area) t (history s log) }
 {}
 
-/// In a block run a thread that is at the retry label of a block of the library, and whose hart from there on executes
-/// instructions and lets stores enter memory and does nothing else, is at the post-commit address after one of its first
-/// instructions, of which there are as many as words stand before that address, by a sequence that is whole.
+/// In a block run a thread that is at the retry label of a block of the library, and whose hart from there on
+/// executes instructions and lets stores enter memory and does nothing else, is at the post-commit address
+/// after one of its first instructions, of which there are as many as words stand before that address, by a
+/// sequence that is whole.
 pub fn blocks_are_done()
     // at most 32
     ensures few { (k : Kind) (p : Slots) → committed (form_of k p) ≤ 32 }
@@ -116,9 +117,9 @@ pub fn blocks_are_done()
         → Brings s h (committed (form_of k p)) (IsCommitted s (form_of k p) at h t) log stretch }
 {}
 
-/// In a block run each retry of a block that takes a value in works on the value that came in: wherever the thread, in its
-/// walks in the block, one after another from its retry label on, is at the retry label or at the start, the value is what
-/// it was there, a number of 64 bits.
+/// In a block run each retry of a block that takes a value in works on the value that came in: wherever the
+/// thread, in its walks in the block, one after another from its retry label on, is at the retry label or at
+/// the start, the value is what it was there, a number of 64 bits.
 pub fn retries_work_on_the_value()
     ensures { (k : Kind) (s : Setting) (first log later : List Entry) (p : Slots) (at : ℕ) (area : Area) (t : ℕ)
         → takes_in k ≡ true → IsBlockRun s (log ++ later)
@@ -129,8 +130,8 @@ pub fn retries_work_on_the_value()
         → register (file s t (history s log)).file p.value ≡ register (file s t (history s first)).file p.value }
 {}
 
-/// Finished code holds a block of the library where its lines were appended, whatever was appended behind them: word k of
-/// it is of instruction k of the words on which the laws of runs stand.
+/// Finished code holds a block of the library where its lines were appended, whatever was appended behind
+/// them: word k of it is of instruction k of the words on which the laws of runs stand.
 pub fn finished_code_holds_block()
     ensures { (kind : Kind) (p : Slots) (base k w : ℕ) (a b c : Assembly) (bytes : List ℕ) (i : Inst)
         → HasRoom a.labels base → AreEmitted (lines_of kind p base) a b → IsContinued b c
@@ -138,7 +139,8 @@ pub fn finished_code_holds_block()
         → slice_get code.words (length a.items + k) ≡ Some w → row_of w ≡ Some i }
 {}
 
-/// So the program of a file holds a block of the library where finished code stands to which its lines were appended.
+/// So the program of a file holds a block of the library where finished code stands to which its lines were
+/// appended.
 pub fn files_hold_block()
     ensures { (kind : Kind) (p : Slots) (base at : ℕ) (a b c : Assembly) (bytes file : List ℕ) (image : Image)
         → HasRoom a.labels base → AreEmitted (lines_of kind p base) a b → IsContinued b c
@@ -146,8 +148,8 @@ pub fn files_hold_block()
         → AreHeld (code_of image.pages.items) (at + 4 * length a.items) (form_of kind p).words }
 {}
 
-/// No sequence of a block of the library has a word of a block of the library before that one's sequence, wherever both
-/// stand in a program.
+/// No sequence of a block of the library has a word of a block of the library before that one's sequence,
+/// wherever both stand in a program.
 pub fn all_blocks_lie_beside()
     ensures { (k : Kind) (pages : List ImagePage) (p : Slots) (at : ℕ) (area : Area) (other : Placed)
         → AreHeld (code_of pages) at (form_of k p).words → at < 2 ^ 37 → IsOfLibrary (code_of pages) other

@@ -22,9 +22,9 @@ ghost use Rattle.percpu_lib.specs.Used.{IsWellUsed};
 ghost use Rattle.percpu_lib.specs.Uses.{cells_of};
 ghost use Rattle.percpu_lib.specs.declared.slots.Slots.{Slots};
 
-/// In a block run a restartable sequence of an alloc block takes the last item out of the pool of its processor once,
-/// where its thread is at the post-commit address after it: the value is that item, or 0 where there was none. Else it
-/// changes nothing but registers that the block may change.
+/// In a block run a restartable sequence of an alloc block takes the last item out of the pool of its
+/// processor once, where its thread is at the post-commit address after it: the value is that item, or 0
+/// where there was none. Else it changes nothing but registers that the block may change.
 pub fn allocs_once_or_not_at_all()
     ensures whole { (s : Setting) (log : List Entry) (p : Slots) (at : ℕ) (area : Area) (h : ℕ) (q : Sequence)
         → IsBlockRun s log → HoldsBlock s (history s log) (alloc_form p) at area q.thread
@@ -38,9 +38,10 @@ pub fn allocs_once_or_not_at_all()
         → IsNoAlloc s p (cells_of s p q.thread q.begun) h q.thread q.begun q.reached }
 {}
 
-/// In a block run a restartable sequence of a free block puts its value behind the items of the pool of its processor
-/// once, where its thread is at the post-commit address after it: the value is 0 then; where the pool was full, nothing
-/// changed. Else it changes nothing but registers that the block may change, and at most the slot behind the items.
+/// In a block run a restartable sequence of a free block puts its value behind the items of the pool of its
+/// processor once, where its thread is at the post-commit address after it: the value is 0 then; where the
+/// pool was full, nothing changed. Else it changes nothing but registers that the block may change, and at
+/// most the slot behind the items.
 pub fn frees_once_or_not_at_all()
     ensures whole { (s : Setting) (log : List Entry) (p : Slots) (at : ℕ) (area : Area) (h : ℕ) (q : Sequence)
         → IsBlockRun s log → HoldsBlock s (history s log) (free_form p) at area q.thread
@@ -54,9 +55,9 @@ pub fn frees_once_or_not_at_all()
         → IsNoFree s p (cells_of s p q.thread q.begun) h q.thread q.begun q.reached }
 {}
 
-/// What the laws of runs ask of alloc and free can be met: there is a block run in which a thread uses both with one area. It
-/// is preempted in a free once its value is 0, begins anew, and puts 42 into the pool; it takes it out; and it finds the
-/// pool empty. And there is one in which it finds the pool full.
+/// What the laws of runs ask of alloc and free can be met: there is a block run in which a thread uses both
+/// with one area. It is preempted in a free once its value is 0, begins anew, and puts 42 into the pool; it
+/// takes it out; and it finds the pool empty. And there is one in which it finds the pool full.
 pub fn pool_blocks_are_used()
     // the first slot is 42
     ensures free { (s : Setting) × (log : List Entry) × (p : Slots) × (at : ℕ) × (area : Area) × (others : List Placed)

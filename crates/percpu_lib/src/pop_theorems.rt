@@ -1,5 +1,5 @@
-//! What a pop block does in runs, and that the blocks of a list can be used, each as the contract of a function that does
-//! nothing.
+//! What a pop block does in runs, and that the blocks of a list can be used, each as the contract of a
+//! function that does nothing.
 
 ghost use Rattle.std.specs.Prelude.{ℕ, List, Some};
 ghost use Rattle.std.specs.Prelude.{◌+◌, ◌≡◌, ◌≢◌};
@@ -21,9 +21,9 @@ ghost use Rattle.percpu_lib.specs.Used.{IsWellUsed};
 ghost use Rattle.percpu_lib.specs.Uses.{cells_of};
 ghost use Rattle.percpu_lib.specs.declared.slots.Slots.{Slots};
 
-/// In a block run a restartable sequence of a pop block pops once, where its thread is at the post-commit address
-/// after it: the value is the head of the list, and where there was a node the list has lost it. Else it changes
-/// nothing but registers that the block may change.
+/// In a block run a restartable sequence of a pop block pops once, where its thread is at the post-commit
+/// address after it: the value is the head of the list, and where there was a node the list has lost it. Else
+/// it changes nothing but registers that the block may change.
 pub fn pops_once_or_not_at_all()
     ensures whole { (s : Setting) (log : List Entry) (p : Slots) (at : ℕ) (area : Area) (h : ℕ) (q : Sequence)
         → IsBlockRun s log → HoldsBlock s (history s log) (pop_form p) at area q.thread
@@ -37,8 +37,9 @@ pub fn pops_once_or_not_at_all()
         → IsNoPop s p (cells_of s p q.thread q.begun) h q.thread q.begun q.reached }
 {}
 
-/// What the laws of runs ask of push and pop can be met: there is a block run in which a thread uses both with one area. It
-/// is preempted in a push, begins anew, and pushes a node; it pops that node; and it finds the list empty.
+/// What the laws of runs ask of push and pop can be met: there is a block run in which a thread uses both
+/// with one area. It is preempted in a push, begins anew, and pushes a node; it pops that node; and it finds
+/// the list empty.
 pub fn list_blocks_are_used()
     // the cell of the processor is the node
     ensures push { (s : Setting) × (log : List Entry) × (p : Slots) × (at : ℕ) × (area : Area) × (others : List Placed)
