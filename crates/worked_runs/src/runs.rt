@@ -9,7 +9,7 @@ use std::alloc::{AllocError, Global};
 use std::io::{self, ErrorKind};
 
 /// More bytes than the text of any row has.
-pub(crate) const ROOM: usize = 1_048_576;
+pub(crate) const ROOM: usize = 2_097_152;
 
 /// What words ask for, as far as it matters to what is due; nothing of this where they are no command.
 #[derive(Clone, Copy, Drop)]
