@@ -29,7 +29,8 @@ For each example NAME:
 - `draw`, with each of DRAWN_SEEDS on as many harts, does so too, and prints the same text at a second call.
 
 For each of GUESTS the file that `make` prints runs so by `run` and by `draw`, with its number on the console, and `trial` on so many
-harts has that console too, and prints the same text at a second call.
+harts has that console too, and prints the same text at a second call. The guest urcu has one outcome in many drawn runs, and more than
+one where its sync block makes no call.
 
 For each worked run crates/worked_runs/data/GROUP/NAME, each line of its file `words`, given to the program in that folder, gives its
 `status` and its `stdout` (or its `any-hart`, where that is there), or a text that begins with its `begins` and ends with its `ends`.
@@ -56,6 +57,9 @@ DRAWN_SEEDS = range(5)
 HARTS = ('1', '2', '4', '8')
 GUESTS = {'counter': (100, 400), 'list': (50, 100), 'pool': (50, 512), 'dekker': (20, 0), 'signals': (20, 20), 'migrate': (8, 800),
           'ring': (100, 4000), 'urcu': (20, 0)}
+URCU_SIZE, URCU_RUNS = '10', '4000'
+BARRIER = bytes.fromhex('1305800093050000130600009308b01173000000')  # a0 = 8, a1 = 0, a2 = 0, a7 = 283, ecall
+NO_CALL = BARRIER[:-4] + bytes.fromhex('13000000')
 SECONDS = 120
 DONE, SCRIPT_REFUSED, UNREAD = 0, 4, 5
 TAKE_SCRIPT = r"sed -n '/^log /{h;d;};$!H;${g;s/^log [0-9]*\n//p;}'"
@@ -432,6 +436,31 @@ def check_guest(program, guest):
             check_trial(program, guest, size, console, harts)
 
 
+def outcomes_of(program, file):
+    """How many different outcomes `explore` finds of a program."""
+    with tempfile.NamedTemporaryFile(suffix='.elf') as elf:
+        elf.write(file)
+        elf.flush()
+        status, text = run(program, 'explore', elf.name, '--runs', URCU_RUNS, '--steps', '100000')
+    want('the status of explore', status, DONE)
+    return int(re.match(rb'outcomes (\d+)\n', text)[1])
+
+
+def check_barrier(program):
+    """The guest urcu has one outcome, and more than one where its sync block calls no membarrier."""
+    status, file = run(program, 'make', 'urcu', URCU_SIZE)
+    want('the status of make', status, DONE)
+    want('how many sync blocks there are', file.count(BARRIER), 1)
+    want('the outcomes of urcu', outcomes_of(program, file), 1)
+    want('whether urcu without its call has more', outcomes_of(program, file.replace(BARRIER, NO_CALL)) > 1, True)
+
+
+def checks_of_guest(program, guest):
+    yield 'guest', lambda: check_guest(program, guest)
+    if guest == 'urcu':
+        yield 'barrier', lambda: check_barrier(program)
+
+
 def passes(name, checks):
     """Whether the checks of an example or a guest pass; says which doesn't."""
     is_well = True
@@ -457,7 +486,7 @@ def main():
     failed = sum(not passes(folder.name, checks(program, folder)) for folder in folders)
     print(f'{len(folders) - failed} examples passed' + (f', {failed} failed' if failed else ''))
     guests = [guest for guest in GUESTS if not names or guest in names]
-    broken = sum(not passes(guest, [('guest', lambda: check_guest(program, guest))]) for guest in guests)
+    broken = sum(not passes(guest, checks_of_guest(program, guest)) for guest in guests)
     print(f'{len(guests) - broken} guests passed' + (f', {broken} failed' if broken else ''))
     is_listed = are_listed()
     worked = list(rows(names))
