@@ -4,6 +4,7 @@ pub mod AddExample
 pub mod AddLaw
 pub mod AllocLaw
 pub mod BesideLaw
+pub mod BoundLabels
 pub mod BlockCode
 pub mod BlockCourse
 pub mod BlockRegisters

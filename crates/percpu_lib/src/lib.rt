@@ -27,9 +27,10 @@ mod theorems;
 pub use adds::emit_add;
 pub use allocs::emit_alloc;
 pub use block_theorems::{
-    all_blocks_lie_beside, blocks_are_done, blocks_begin_outside, blocks_keep_registers,
-    blocks_that_commit_are_left, blocks_work_once_or_not_at_all, files_hold_block,
-    finished_code_holds_block, retries_work_on_the_value,
+    all_blocks_lie_beside, blocks_are_done, blocks_are_signed, blocks_begin_outside,
+    blocks_keep_registers, blocks_that_commit_are_left, blocks_work_once_or_not_at_all,
+    files_hold_block, finished_code_holds_block, labels_of_blocks_are_those_of_their_sequences,
+    retries_work_on_the_value,
 };
 pub use fault::EmitFault;
 pub use frees::emit_free;
