@@ -29,7 +29,7 @@ ghost use Rattle.percpu_lib.specs.Bindings.{AreBound, AreLabelsOf, word_before_a
 ghost use Rattle.percpu_lib.specs.Files.{HoldsCode};
 ghost use Rattle.percpu_lib.specs.Forms.{HoldsBlock, IsCommitted, IsLeftFrom, SharesAreaWith, block_of, committed};
 ghost use Rattle.percpu_lib.specs.Forms.{placed_of, range_of};
-ghost use Rattle.percpu_lib.specs.Kinds.{Kind, form_of, lines_of, takes_in};
+ghost use Rattle.percpu_lib.specs.Kinds.{Kind, form_of, frees, lines_of, takes_in};
 ghost use Rattle.percpu_lib.specs.Lines.{AreEmitted, HasRoom, IsContinued};
 ghost use Rattle.percpu_lib.specs.Words.{AreHeld};
 ghost use Rattle.percpu_lib.specs.declared.slots.Slots.{Slots};
@@ -120,13 +120,14 @@ pub fn blocks_are_done()
 
 /// In a block run each retry of a block that takes a value in works on the value that came in: wherever the
 /// thread, in its walks in the block, one after another from its retry label on, is at the retry label or at
-/// the start, the value is what it was there, a number of 64 bits.
+/// the start, the value is what it was there. A free copies the 64 bits of its value, so there it is asked to be a
+/// number of 64 bits.
 pub fn retries_work_on_the_value()
     ensures { (k : Kind) (s : Setting) (first log later : List Entry) (p : Slots) (at : ℕ) (area : Area) (t : ℕ)
         → takes_in k ≡ true → IsBlockRun s (log ++ later)
         → HoldsBlock s (history s (log ++ later)) (form_of k p) at area t
         → Retries s (placed_of (form_of k p) at area) t first log
-        → register (file s t (history s first)).file p.value < 2 ^ 64
+        → (k ≡ frees → register (file s t (history s first)).file p.value < 2 ^ 64)
         → ((file s t (history s log)).pc ≡ at) ⊎ ((file s t (history s log)).pc ≡ at + 4 * (form_of k p).first)
         → register (file s t (history s log)).file p.value ≡ register (file s t (history s first)).file p.value }
 {}
@@ -182,4 +183,12 @@ pub fn all_blocks_lie_beside()
     ensures { (k : Kind) (pages : List ImagePage) (p : Slots) (at : ℕ) (area : Area) (other : Placed)
         → AreHeld (code_of pages) at (form_of k p).words → at < 2 ^ 37 → IsOfLibrary (code_of pages) other
         → LiesBeside (placed_of (form_of k p) at area) other }
+{}
+
+/// A block whose words stand in a program is of the library there, so that the laws of what lies beside one another
+/// speak of it.
+pub fn blocks_are_of_the_library()
+    ensures { (k : Kind) (pages : List ImagePage) (p : Slots) (at : ℕ) (area : Area)
+        → AreHeld (code_of pages) at (form_of k p).words → (range_of (form_of k p) at).start < 2 ^ 37
+        → p.table < 0x7FFFF800 → IsOfLibrary (code_of pages) (placed_of (form_of k p) at area) }
 {}
