@@ -1,6 +1,6 @@
 -- To which words the labels of a block are bound, and where its signature is.
-use Rattle.std.proofs.Common.{◌≡◌, ℕ, zero, suc, ◌+◌, ◌*◌, ◌-◌, ◌<◌, inl, inr, List, [], ◌∷◌, ◌++◌, length, slice_get, refl, sym, ap, ◌∙◌}
-use Rattle.std.proofs.Common.{arith, subst, Option, Some, None, append_assoc, append-nil, get_or, pos}
+use Rattle.std.proofs.Common.{◌≡◌, ℕ, ◌+◌, ◌*◌, ◌-◌, inl, inr, List, [], ◌∷◌, ◌++◌, length, slice_get, refl, sym, ap, ◌∙◌}
+use Rattle.std.proofs.Common.{arith, Option, Some, None, append_assoc, append-nil, get_or, pos}
 use Rattle.std.proofs.lemmas.Option.{slice_get-get_or, slice_get_within}
 use Rattle.mach_types.specs.Bytes.{word_at}
 use Rattle.elf_load.specs.Images.{IsImage}
@@ -28,7 +28,7 @@ use Rattle.percpu_lib.specs.declared.slots.Slots.{Slots}
 use Rattle.percpu_lib.proofs.FileCode.{word_loaded}
 use Rattle.percpu_lib.proofs.HeldBlocks.{behind_inside, emitted_length, end_at, leave_at, retry_at, still_there, words_of}
 use Rattle.percpu_lib.proofs.HeldWords.{emitted_behind, get_behind, labelled_items}
-use Rattle.percpu_lib.proofs.Labels.{Parts, Stands, at_leave, first_part, free_there, from_aborted, from_inside, index_is}
+use Rattle.percpu_lib.proofs.Labels.{Stands, at_leave, first_part, free_there, from_aborted, from_inside, index_is}
 use Rattle.percpu_lib.proofs.Labels.{inside_part, keeps, label_other, label_own, no_label, parts, stays}
 
 -- AMONG LINES

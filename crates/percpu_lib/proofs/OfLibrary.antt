@@ -1,6 +1,6 @@
 -- A block whose words stand in a program is one of the library there.
 use Rattle.std.proofs.Common.{◌≡◌, ℕ, zero, suc, ◌+◌, ◌*◌, ◌<◌, ◌^◌, List, [], ◌∷◌, ◌++◌, length, slice_get, take, drop, refl, sym}
-use Rattle.std.proofs.Common.{ap, ◌∙◌, arith, subst, Option, Some, None}
+use Rattle.std.proofs.Common.{ap, ◌∙◌, arith, Option, Some, None}
 use Rattle.mach_types.specs.declared.sequences.Area.{Area}
 use Rattle.rv_inst.specs.declared.instruction.Inst.{Inst}
 use Rattle.percpu_lib.specs.Adds.{add_steps}

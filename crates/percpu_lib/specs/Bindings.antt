@@ -1,5 +1,5 @@
 -- Where the labels and the signature of a block stand that was emitted (rseq(2)).
-use Rattle.std.specs.Prelude.{ℕ, ◌≡◌, ◌+◌, ◌-◌, List, length, slice_get, Option, Some}
+use Rattle.std.specs.Prelude.{ℕ, ◌≡◌, ◌+◌, ◌-◌, List, length, Option, Some}
 use Rattle.mach_types.specs.Bytes.{word_at}
 use Rattle.mach_types.specs.declared.sequences.Seq.{Seq}
 use Rattle.elf_load.specs.Start.{loaded_byte}

@@ -1,5 +1,5 @@
 -- How a program uses an add block.
-use Rattle.std.specs.Prelude.{ℕ, ◌≡◌, List}
+use Rattle.std.specs.Prelude.{ℕ, List}
 use Rattle.mach_types.specs.Registers.{register}
 use Rattle.mach_types.specs.declared.sequences.Area.{Area}
 use Rattle.alone.specs.Temps.{is_scratch}
