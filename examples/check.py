@@ -4,7 +4,7 @@
     examples/check.py [PROGRAM [NAME..]]
 
 PROGRAM is crates/rseq_run/out/rseq_run where it isn't given: `rt ci` leaves it there. Where names are given, those alone are run: a
-name of an example, or of a group of worked runs (barriers/), or of one of them (barriers/taken_by_an_idle_hart).
+name of an example, `blocks`, or of a group of worked runs (barriers/), or of one of them (barriers/taken_by_an_idle_hart).
 
 For each example NAME:
 - `solo` prints the console of console.expected and the end of end.expected;
@@ -31,6 +31,9 @@ For each example NAME:
 For each of GUESTS the file that `make` prints runs so by `run` and by `draw`, with its number on the console, and `trial` on so many
 harts has that console too, and prints the same text at a second call. The guest urcu has one outcome in many drawn runs, and more than
 one where its sync block makes no call.
+
+For each of BLOCKS the text of common/percpu_blocks.h, as GCC and its assembler make it with the registers of the guests, stands once, byte
+for byte, in the file that `make` prints of the guest. Where the toolchain of the Makefile lacks, this is left out, and said.
 
 For each worked run crates/worked_runs/data/GROUP/NAME, each line of its file `words`, given to the program in that folder, gives its
 `status` and its `stdout` (or its `any-hart`, where that is there), or a text that begins with its `begins` and ends with its `ends`.
@@ -60,6 +63,17 @@ GUESTS = {'counter': (100, 400), 'list': (50, 100), 'pool': (50, 512), 'dekker':
 URCU_SIZE, URCU_RUNS = '10', '4000'
 BARRIER = bytes.fromhex('1305800093050000130600009308b01173000000')  # a0 = 8, a1 = 0, a2 = 0, a7 = 283, ecall
 NO_CALL = BARRIER[:-4] + bytes.fromhex('13000000')
+# the blocks of percpu_blocks.h: the guest that has each, and the address of its descriptor there
+BLOCKS = {'ADD': ('counter', 0x20020), 'PUSH': ('list', 0x20020), 'POP': ('list', 0x20040), 'ALLOC': ('pool', 0x20020),
+          'FREE': ('pool', 0x20040)}
+CROSS = 'riscv64-unknown-elf-'
+BLOCK_SOURCE = '''#include "percpu_blocks.h"
+void block(void) {
+    register long area asm("x8"), cells asm("x9"), value asm("x18");
+    asm volatile(".pushsection .block, \\"ax\\"\\n" PERCPU_%s("%#x") ".popsection\\n"
+                 : [value] "=&r"(value) : [area] "r"(area), [cells] "r"(cells));
+}
+'''
 SECONDS = 120
 DONE, SCRIPT_REFUSED, UNREAD = 0, 4, 5
 TAKE_SCRIPT = r"sed -n '/^log /{h;d;};$!H;${g;s/^log [0-9]*\n//p;}'"
@@ -461,6 +475,37 @@ def checks_of_guest(program, guest):
         yield 'barrier', lambda: check_barrier(program)
 
 
+def assembled(block, table):
+    """The bytes that GCC and its assembler make of a block."""
+    with tempfile.TemporaryDirectory() as folder:
+        source, linked, bytes_of = (pathlib.Path(folder, name) for name in ('block.c', 'block.elf', 'block.bin'))
+        source.write_text(BLOCK_SOURCE % (block, table))
+        subprocess.run([CROSS + 'gcc', '-march=rv64ima', '-mabi=lp64', '-O2', '-std=gnu11', '-ffreestanding', '-nostdlib', '-static', '-w',
+                        '-Wl,-e,0', f'-I{HERE}/common', '-o', linked, source], check=True)
+        subprocess.run([CROSS + 'objcopy', '-O', 'binary', '--only-section=.block', linked, bytes_of], check=True)
+        return bytes_of.read_bytes()
+
+
+def check_block(program, block):
+    """A block's text is assembled to the bytes that its guest has."""
+    guest, table = BLOCKS[block]
+    status, file = run(program, 'make', guest, '1')
+    want('the status of make', status, DONE)
+    want(f'how often its bytes stand in {guest}', file.count(assembled(block, table)), 1)
+
+
+def check_blocks(program, names):
+    """How many blocks differ; says so where they can't be assembled."""
+    if names and 'blocks' not in names:
+        return 0
+    if not all(shutil.which(CROSS + tool) for tool in ('gcc', 'objcopy')):
+        print(f'blocks left out: there is no {CROSS}gcc with its binutils')
+        return 0
+    differ = sum(not passes(block, [('block', lambda: check_block(program, block))]) for block in BLOCKS)
+    print(f'{len(BLOCKS) - differ} blocks passed' + (f', {differ} failed' if differ else ''))
+    return differ
+
+
 def passes(name, checks):
     """Whether the checks of an example or a guest pass; says which doesn't."""
     is_well = True
@@ -488,12 +533,14 @@ def main():
     guests = [guest for guest in GUESTS if not names or guest in names]
     broken = sum(not passes(guest, checks_of_guest(program, guest)) for guest in guests)
     print(f'{len(guests) - broken} guests passed' + (f', {broken} failed' if broken else ''))
+    changed = check_blocks(program, names)
     is_listed = are_listed()
     worked = list(rows(names))
     with ThreadPoolExecutor(os.cpu_count()) as workers:
         differ = sum(not is_well for is_well in workers.map(lambda row: row_passes(program, row), worked))
     print(f'{len(worked) - differ} worked runs passed' + (f', {differ} failed' if differ else ''))
-    sys.exit(1 if failed or broken or differ or not is_listed or not (folders or guests or worked) or not (names or worked) else 0)
+    some = folders or guests or worked or 'blocks' in names
+    sys.exit(1 if failed or broken or changed or differ or not is_listed or not some or not (names or worked) else 0)
 
 
 main()

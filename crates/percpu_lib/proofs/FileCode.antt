@@ -11,7 +11,7 @@ use Rattle.std.proofs.lemmas.List.Elements.{All-head, All-tail}
 use Rattle.std.proofs.lemmas.List.Concat.{flat_map-cons}
 use Rattle.std.proofs.lemmas.Option.{slice_get_within}
 use Rattle.mach_types.proofs.Laws.{eqb_same}
-use Rattle.mach_types.specs.Bytes.{byte_of}
+use Rattle.mach_types.specs.Bytes.{byte_of, word_at}
 use Rattle.mach_types.specs.Kernel.Pages.{can_execute, is_in, permission_of}
 use Rattle.elf_load.specs.Fields.{has_page, program_headers}
 use Rattle.elf_load.specs.Images.{IsImage, IsPage, memory_byte, numbers, page_permission, permission}
@@ -216,18 +216,29 @@ module _ (file : List ℕ) (image : Image) (its : IsImage file image) (at : ℕ)
 
   -- WORDS
   module _ (labels : List (Option ℕ)) (items : List Item) (code : AreAssembled labels items bytes) where
-    pub word_fetched : (k w : ℕ) → slice_get code.words k ≡ Some w → fetched pages (at + 4 * k) ≡ Some w
-    word_fetched k w is =
-        let aligned = holds.aligned in
-        let even : (at + 4 * k) % 4 ≡ 0 = omega arith in
+    -- a word of bytes that are those of the code
+    word_from : (bytes_at : ℕ → Option ℕ) → ((j : ℕ) → j < length bytes → bytes_at (at + j) ≡ Some (slice_index bytes j))
+        → (k w : ℕ) → slice_get code.words k ≡ Some w → word_at bytes_at (at + 4 * k) 4 ≡ Some w
+    word_from bytes_at there k w is =
         let within : k < length code.words = slice_get_within code.words k w is in
         let long : length bytes ≡ 4 * length code.words =
         ap (λ (bs : List ℕ). length bs) code.bytes_are ∙ flat_length code.words in
         let small = has_32_bits code.words k w code.have_32_bits is in
-        ap (λ n. cond (eqb n 0) (code_word pages (at + 4 * k)) None) even
-        ∙ word_at-from (code_byte pages) (at + 4 * k) 4 w (omega arith)
+        word_at-from bytes_at (at + 4 * k) 4 w (omega arith)
         (λ j lt.
         let place : at + 4 * k + j ≡ at + (4 * k + j) = omega arith in
-        ap (code_byte pages) place ∙ byte_there (4 * k + j) (omega (arith, long))
+        ap bytes_at place ∙ there (4 * k + j) (omega (arith, long))
         ∙ ap (λ (bs : List ℕ). Some (slice_index bs (4 * k + j))) code.bytes_are
         ∙ ap Some (byte_in_word code.words k j w is lt))
+
+    pub word_fetched : (k w : ℕ) → slice_get code.words k ≡ Some w → fetched pages (at + 4 * k) ≡ Some w
+    word_fetched k w is =
+        let aligned = holds.aligned in
+        let even : (at + 4 * k) % 4 ≡ 0 = omega arith in
+        ap (λ n. cond (eqb n 0) (code_word pages (at + 4 * k)) None) even
+        ∙ word_from (code_byte pages) byte_there k w is
+
+    -- and they are in memory
+    pub word_loaded : (k w : ℕ) → slice_get code.words k ≡ Some w
+        → word_at (λ a. Some (loaded_byte pages a)) (at + 4 * k) 4 ≡ Some w
+    word_loaded = word_from (λ a. Some (loaded_byte pages a)) (λ k lt. ap Some (loaded_is k lt))

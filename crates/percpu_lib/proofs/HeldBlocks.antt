@@ -24,7 +24,7 @@ use Rattle.percpu_lib.proofs.Labels.{at_leave, first_part, from_start, index_is,
 use Rattle.percpu_lib.proofs.Labels.{post_commit_at, start_part}
 
 -- how many words lines have
-abbrev words_of : List Line → ℕ
+abbrev pub words_of : List Line → ℕ
 words_of [] = 0
 words_of (line.Label n ∷ xs) = words_of xs
 words_of (line.Plain i ∷ xs) = suc (words_of xs)
@@ -36,7 +36,7 @@ one_more a x n m is =
     let longer : length (a.items ++ x ∷ []) ≡ length a.items + 1 = length-append a.items (x ∷ []) ∙ refl in
     omega arith
 
-emitted_length : (xs : List Line) (a b : Assembly) → IsEmitted xs a b
+pub emitted_length : (xs : List Line) (a b : Assembly) → IsEmitted xs a b
     → length b.items ≡ length a.items + words_of xs
 emitted_length [] a b is =
     let same = ap (λ (x : Assembly). length x.items) is in
@@ -55,7 +55,7 @@ emitted_length (line.Data w ∷ xs) a b is =
     (emitted_length xs (with_item a (item.Word w)) b is)
 
 -- an item stays where it is when others are appended
-still_there : (xs ys : List Item) (n : ℕ) (x : Item) → slice_get xs n ≡ Some x → slice_get (xs ++ ys) n ≡ Some x
+pub still_there : (xs ys : List Item) (n : ℕ) (x : Item) → slice_get xs n ≡ Some x → slice_get (xs ++ ys) n ≡ Some x
 still_there [] ys n x is = absurd cc
 still_there (y ∷ xs) ys zero x is = is
 still_there (y ∷ xs) ys (suc n) x is = still_there xs ys n x is
@@ -77,7 +77,7 @@ module _ (p : Slots) (base shift : ℕ) (first inside aborted : List Line) (a b 
       (with_label a base) b base (length a.items) is.are
       (label_own a base (subst (λ n. slice_get a.labels n ≡ Some None) same (room 0 (omega arith))))))
 
-  behind_inside : length (at_leave p base shift first inside aborted a b is room none_first none_inside none_aborted).items
+  pub behind_inside : length (at_leave p base shift first inside aborted a b is room none_first none_inside none_aborted).items
       ≡ length a.items + (words_of first + 8 + words_of inside)
   behind_inside =
       let one = first_part p base shift first inside aborted a b is room none_first none_inside none_aborted in

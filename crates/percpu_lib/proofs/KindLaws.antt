@@ -105,7 +105,7 @@ comes_to_end k s p at area h t log rest run held begins outside runs pc calm =
 pub value_comes_in : (k : Kind) (s : Setting) (first log later : List Entry) (p : Slots) (at : ℕ) (area : Area) (t : ℕ)
     → takes_in k ≡ true → IsBlockRun s (log ++ later) → HoldsBlock s (history s (log ++ later)) (form_of k p) at area t
     → Retries s (placed_of (form_of k p) at area) t first log
-    → register (file s t (history s first)).file p.value < 2 ^ 64
+    → (k ≡ frees → register (file s t (history s first)).file p.value < 2 ^ 64)
     → ((file s t (history s log)).pc ≡ at) ⊎ ((file s t (history s log)).pc ≡ at + 4 * (form_of k p).first)
     → register (file s t (history s log)).file p.value ≡ register (file s t (history s first)).file p.value
 value_comes_in adds s first log later p at area t takes run held retries small there =
@@ -115,7 +115,7 @@ value_comes_in pushes s first log later p at area t takes run held retries small
 value_comes_in pops s first log later p at area t takes run held retries small there = absurd (false≢true takes)
 value_comes_in allocs s first log later p at area t takes run held retries small there = absurd (false≢true takes)
 value_comes_in frees s first log later p at area t takes run held retries small there =
-    freed_value_stays s p at area t first log later run held retries small there
+    freed_value_stays s p at area t first log later run held retries (small refl) there
 
 -- no sequence of a block of the library has a word of another before its sequence
 few_copies : (k : Kind) → lead_of k ≤ 1

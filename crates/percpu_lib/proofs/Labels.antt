@@ -36,7 +36,7 @@ get_other (x ∷ xs) (suc n) (suc l) v other = get_other xs n l v (λ same. othe
 -- ONE LABEL
 
 -- it stays bound; and another one changes nothing of it
-label_other : (a : Assembly) (n l : ℕ) → l ≢ n → slice_get (with_label a n).labels l ≡ slice_get a.labels l
+pub label_other : (a : Assembly) (n l : ℕ) → l ≢ n → slice_get (with_label a n).labels l ≡ slice_get a.labels l
 label_other a n l other = by_free (is_free (slice_get a.labels n))
   where
     by_free : (c : Bool) → slice_get (cond c (record a { labels = set a.labels n (Some (length a.items)) })
@@ -66,7 +66,7 @@ label_keeps a n l i is = by_same (eqb l n) refl
 -- LINES
 
 -- a label stands among lines
-abbrev Stands : ℕ → List Line → Type 0
+abbrev pub Stands : ℕ → List Line → Type 0
 Stands l [] = ⊥
 Stands l (line.Label n ∷ rest) = (l ≡ n) ⊎ Stands l rest
 Stands l (line.Plain i ∷ rest) = Stands l rest
@@ -80,7 +80,7 @@ stands_behind l (line.Plain i ∷ xs) ys is = stands_behind l xs ys is
 stands_behind l (line.Branch i n ∷ xs) ys is = stands_behind l xs ys is
 stands_behind l (line.Data w ∷ xs) ys is = stands_behind l xs ys is
 
-no_label : (l : ℕ) (xs : List Line) → HasNoLabel xs → Stands l xs → ⊥
+pub no_label : (l : ℕ) (xs : List Line) → HasNoLabel xs → Stands l xs → ⊥
 no_label l [] none is = is
 no_label l (line.Label n ∷ xs) none is = none
 no_label l (line.Plain i ∷ xs) none is = no_label l xs none is
@@ -96,7 +96,7 @@ keeps (line.Branch x n ∷ xs) a b l i is bound = keeps xs (with_item a (item.Ai
 keeps (line.Data w ∷ xs) a b l i is bound = keeps xs (with_item a (item.Word w)) b l i is bound
 
 -- a label that doesn't stand among them is as it was
-stays : (xs : List Line) (a b : Assembly) (l : ℕ) → IsEmitted xs a b → (Stands l xs → ⊥)
+pub stays : (xs : List Line) (a b : Assembly) (l : ℕ) → IsEmitted xs a b → (Stands l xs → ⊥)
     → slice_get b.labels l ≡ slice_get a.labels l
 stays [] a b l is none = ap (λ (x : Assembly). slice_get x.labels l) is
 stays (line.Label n ∷ xs) a b l is none =
@@ -136,7 +136,7 @@ pub record Parts (xs ys : List Line) (a c : Assembly) : Type 0 where
   pub first : IsEmitted xs a between
   pub rest : IsEmitted ys between c
 
-parts : (xs ys : List Line) (a c : Assembly) → IsEmitted (xs ++ ys) a c → Parts xs ys a c
+pub parts : (xs ys : List Line) (a c : Assembly) → IsEmitted (xs ++ ys) a c → Parts xs ys a c
 parts [] ys a c is = record { between = a; first = refl; rest = is }
 parts (line.Label n ∷ xs) ys a c is =
     let p = parts xs ys (with_label a n) c is in
@@ -205,7 +205,7 @@ module _ (p : Slots) (base shift : ℕ) (first inside aborted : List Line) (a b 
     inside_part = parts inside from_leave start_part.between b start_part.rest
 
     -- a later label is free up to there
-    free_there : (k : ℕ) → 2 ≤ k → k < 8 → slice_get inside_part.between.labels (base + k) ≡ Some None
+    pub free_there : (k : ℕ) → 2 ≤ k → k < 8 → slice_get inside_part.between.labels (base + k) ≡ Some None
     free_there k from lt =
         stays inside start_part.between inside_part.between (base + k) inside_part.first
         (no_label (base + k) inside none_inside)

@@ -1,9 +1,9 @@
 pub mod AddCode
-pub mod AddDone
 pub mod AddExample
 pub mod AddLaw
 pub mod AllocLaw
 pub mod BesideLaw
+pub mod BoundLabels
 pub mod BlockCode
 pub mod BlockCourse
 pub mod BlockRegisters
@@ -27,10 +27,10 @@ pub mod KindLaws
 pub mod KindWords
 pub mod Labels
 pub mod ListExample
+pub mod OfLibrary
 pub mod PoolExample
 pub mod PopLaw
 pub mod PushCode
-pub mod PushDone
 pub mod PushLaw
 pub mod RingLines
 pub mod RetryTests

@@ -116,7 +116,8 @@ pub data FreesNoMore (s : Setting) (p : Slots) (pools h t count : ℕ) (begun re
       → FreesNoMore s p pools h t count begun reached
 
 -- and what one did that isn't whole: nothing but to that slot, which is none of the items, to the value, and
--- to registers that every block may change
+-- to registers that every block may change. The count is the same as its hart sees it; of the slots it says
+-- what was stored, and no more
 pub record IsNoFree (s : Setting) (p : Slots) (pools h t : ℕ) (begun reached : History) : Type 0 where
   pub same : count_seen s h pools reached ≡ count_seen s h pools begun
   pub stored : FreesNoMore s p pools h t (count_of s h pools begun) begun reached

@@ -11,15 +11,13 @@ use Rattle.rv_inst.specs.declared.instruction.Inst.{Inst}
 use Rattle.rv_inst.specs.declared.instruction.Inst.TheVariants as inst
 use Rattle.alone.specs.Temps.{is_scratch}
 use Rattle.alone_laws.specs.Blocks.{among}
-use Rattle.alone_laws.specs.Entering.{IsIn}
 use Rattle.alone_laws.specs.Spans.{seen_at}
 use Rattle.alone_laws.specs.Uses.{Placed}
-use Rattle.block_model.specs.Acts.{Sequence, sequence_on}
 use Rattle.block_model.specs.History.{History, file, stores}
 use Rattle.block_model.specs.Setting.{Setting}
-use Rattle.percpu_lib.specs.Adds.{IsCellApart, add_range, cell_at, cell_seen, cell_store}
+use Rattle.percpu_lib.specs.Adds.{IsCellApart, cell_at, cell_seen, cell_store}
 use Rattle.percpu_lib.specs.BlockLines.{block_lines}
-use Rattle.percpu_lib.specs.Forms.{Form, HoldsBlock, placed_of}
+use Rattle.percpu_lib.specs.Forms.{Form, HoldsBlock, IsCommitted, placed_of}
 use Rattle.percpu_lib.specs.Uses.{cells_of}
 use Rattle.percpu_lib.specs.Words.{lower, upper}
 use Rattle.percpu_lib.specs.declared.lines.Line.{Line}
@@ -105,7 +103,7 @@ pub data StoresNoMore (h node : ℕ) (begun reached : History) : Type 0 where
       → StoresNoMore h node begun reached
 
 -- and what one did that isn't whole: nothing but to the first word of the node, and to registers that a block may
--- change
+-- change. The cell is the same as its hart sees it; of the node it says what was stored, and no more
 pub record IsNoPush (s : Setting) (cells node h t : ℕ) (begun reached : History) : Type 0 where
   pub same : cell_seen s h cells reached ≡ cell_seen s h cells begun
   pub stored : StoresNoMore h node begun reached
@@ -134,11 +132,5 @@ abbrev pub HoldsPush : Setting → History → Slots → ℕ → Area → ℕ �
 HoldsPush s history p at area t = HoldsBlock s history (push_form p) at area t
 
 -- thread t of hart h has come to the post-commit address just now, by a sequence of the block that is whole
-pub record IsPushed (s : Setting) (p : Slots) (at h t : ℕ) (now : History) : Type 0 where
-  pub sequence : Sequence
-  pub is : sequence_on s h now ≡ Some sequence
-  pub thread : sequence.thread ≡ t
-  pub begins : IsIn s (add_range at) t sequence.begun
-  pub reached : sequence.reached ≡ now
-  pub pc : (file s t now).pc ≡ at + 44
-  pub pushes : IsWholePush s (cells_of s p t sequence.begun) (node_of s p t sequence.begun) h t sequence.begun now
+abbrev pub IsPushed : Setting → Slots → ℕ → ℕ → ℕ → History → Type 0
+IsPushed s p at h t now = IsCommitted s (push_form p) at h t now

@@ -1,15 +1,13 @@
 -- How a program uses an add block.
-use Rattle.std.specs.Prelude.{ℕ, ◌≡◌, ◌+◌, List, Some}
+use Rattle.std.specs.Prelude.{ℕ, List}
 use Rattle.mach_types.specs.Registers.{register}
 use Rattle.mach_types.specs.declared.sequences.Area.{Area}
 use Rattle.alone.specs.Temps.{is_scratch}
-use Rattle.alone_laws.specs.Entering.{IsIn}
 use Rattle.alone_laws.specs.Uses.{Placed}
-use Rattle.block_model.specs.Acts.{Sequence, sequence_on}
 use Rattle.block_model.specs.History.{Event, History, file}
 use Rattle.block_model.specs.Setting.{Setting}
-use Rattle.percpu_lib.specs.Adds.{IsCellApart, IsNoAdd, IsWholeAdd, add_block, add_bytes, add_range, placed_add}
-use Rattle.percpu_lib.specs.Forms.{AreBlockUsed, Form, HoldsBlock, IsBlockUsed, SharesAreaWith}
+use Rattle.percpu_lib.specs.Adds.{IsCellApart, IsNoAdd, IsWholeAdd, add_block, add_bytes, placed_add}
+use Rattle.percpu_lib.specs.Forms.{AreBlockUsed, Form, HoldsBlock, IsBlockUsed, IsCommitted, SharesAreaWith}
 use Rattle.percpu_lib.specs.declared.slots.Slots.{Slots}
 
 -- the address of the data of processor 0, as thread t has it in its register
@@ -45,11 +43,5 @@ abbrev pub SharesArea : Setting → History → Slots → ℕ → Area → ℕ �
 SharesArea s history p at area t others = SharesAreaWith s history (placed_add p at area) t others
 
 -- thread t of hart h has come to the post-commit address just now, by a sequence of the block that is whole
-pub record IsAdded (s : Setting) (p : Slots) (at h t : ℕ) (now : History) : Type 0 where
-  pub sequence : Sequence
-  pub is : sequence_on s h now ≡ Some sequence
-  pub thread : sequence.thread ≡ t
-  pub begins : IsIn s (add_range at) t sequence.begun
-  pub reached : sequence.reached ≡ now
-  pub pc : (file s t now).pc ≡ at + 44
-  pub adds : IsWholeAdd s p (cells_of s p t sequence.begun) h t sequence.begun now
+abbrev pub IsAdded : Setting → Slots → ℕ → ℕ → ℕ → History → Type 0
+IsAdded s p at h t now = IsCommitted s (add_form p) at h t now

@@ -25,10 +25,11 @@ ghost use Rattle.rv_asm.specs.Assembly.{AreAssembled, Assembly};
 ghost use Rattle.rv_inst.specs.Table.{row_of};
 ghost use Rattle.rv_inst.specs.declared.instruction.Inst.{Inst};
 ghost use Rattle.percpu_lib.specs.Beside.{IsOfLibrary};
+ghost use Rattle.percpu_lib.specs.Bindings.{AreBound, AreLabelsOf, word_before_abort};
 ghost use Rattle.percpu_lib.specs.Files.{HoldsCode};
 ghost use Rattle.percpu_lib.specs.Forms.{HoldsBlock, IsCommitted, IsLeftFrom, SharesAreaWith, block_of, committed};
 ghost use Rattle.percpu_lib.specs.Forms.{placed_of, range_of};
-ghost use Rattle.percpu_lib.specs.Kinds.{Kind, form_of, lines_of, takes_in};
+ghost use Rattle.percpu_lib.specs.Kinds.{Kind, form_of, frees, lines_of, takes_in};
 ghost use Rattle.percpu_lib.specs.Lines.{AreEmitted, HasRoom, IsContinued};
 ghost use Rattle.percpu_lib.specs.Words.{AreHeld};
 ghost use Rattle.percpu_lib.specs.declared.slots.Slots.{Slots};
@@ -119,15 +120,43 @@ pub fn blocks_are_done()
 
 /// In a block run each retry of a block that takes a value in works on the value that came in: wherever the
 /// thread, in its walks in the block, one after another from its retry label on, is at the retry label or at
-/// the start, the value is what it was there, a number of 64 bits.
+/// the start, the value is what it was there. A free copies the 64 bits of its value, so there it is asked to be a
+/// number of 64 bits.
 pub fn retries_work_on_the_value()
     ensures { (k : Kind) (s : Setting) (first log later : List Entry) (p : Slots) (at : ℕ) (area : Area) (t : ℕ)
         → takes_in k ≡ true → IsBlockRun s (log ++ later)
         → HoldsBlock s (history s (log ++ later)) (form_of k p) at area t
         → Retries s (placed_of (form_of k p) at area) t first log
-        → register (file s t (history s first)).file p.value < 2 ^ 64
+        → (k ≡ frees → register (file s t (history s first)).file p.value < 2 ^ 64)
         → ((file s t (history s log)).pc ≡ at) ⊎ ((file s t (history s log)).pc ≡ at + 4 * (form_of k p).first)
         → register (file s t (history s log)).file p.value ≡ register (file s t (history s first)).file p.value }
+{}
+
+/// Once the lines of a block of the library were appended where its labels were free, and whatever was appended
+/// behind them, its labels are bound to these words and no others; and a descriptor that is written from their
+/// places names the sequence on which the laws of runs stand.
+pub fn labels_of_blocks_are_those_of_their_sequences()
+    ensures bound { (kind : Kind) (p : Slots) (base : ℕ) (a b c : Assembly) → HasRoom a.labels base
+        → AreEmitted (lines_of kind p base) a b → IsContinued b c
+        → AreBound (form_of kind p) base (length a.items) c.labels }
+    // in code whose first word is at an address
+    ensures placed { (kind : Kind) (p : Slots) (base at : ℕ) (a b c : Assembly) → HasRoom a.labels base
+        → AreEmitted (lines_of kind p base) a b → IsContinued b c
+        → AreLabelsOf (range_of (form_of kind p) (at + 4 * length a.items)) at base c.labels }
+{}
+
+/// The word before the abort address of a block of the library is the signature (rseq(2)): in finished code to
+/// which its lines were appended, and in memory where that code stands in a file.
+pub fn blocks_are_signed()
+    ensures code { (kind : Kind) (p : Slots) (base : ℕ) (a b c : Assembly) (bytes : List ℕ)
+        → HasRoom a.labels base → AreEmitted (lines_of kind p base) a b → IsContinued b c
+        → (code : AreAssembled c.labels c.items bytes)
+        → slice_get code.words (length a.items + (committed (form_of kind p) + 1)) ≡ Some 0xF1401073 }
+    ensures file { (kind : Kind) (p : Slots) (base at : ℕ) (a b c : Assembly) (bytes file : List ℕ) (image : Image)
+        → HasRoom a.labels base → AreEmitted (lines_of kind p base) a b → IsContinued b c
+        → AreAssembled c.labels c.items bytes → IsImage file image → HoldsCode file at bytes
+        → word_before_abort image.pages.items (range_of (form_of kind p) (at + 4 * length a.items))
+        ≡ Some 0xF1401073 }
 {}
 
 /// Finished code holds a block of the library where its lines were appended, whatever was appended behind
@@ -154,4 +183,12 @@ pub fn all_blocks_lie_beside()
     ensures { (k : Kind) (pages : List ImagePage) (p : Slots) (at : ℕ) (area : Area) (other : Placed)
         → AreHeld (code_of pages) at (form_of k p).words → at < 2 ^ 37 → IsOfLibrary (code_of pages) other
         → LiesBeside (placed_of (form_of k p) at area) other }
+{}
+
+/// A block whose words stand in a program is of the library there, so that the laws of what lies beside one another
+/// speak of it.
+pub fn blocks_are_of_the_library()
+    ensures { (k : Kind) (pages : List ImagePage) (p : Slots) (at : ℕ) (area : Area)
+        → AreHeld (code_of pages) at (form_of k p).words → (range_of (form_of k p) at).start < 2 ^ 37
+        → p.table < 0x7FFFF800 → IsOfLibrary (code_of pages) (placed_of (form_of k p) at area) }
 {}

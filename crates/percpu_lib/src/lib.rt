@@ -3,7 +3,8 @@
 //!
 //! A block asks the thread's area for the processor, stores the address of its descriptor in the area, and starts
 //! its sequence: it asks for the processor once more, and begins anew where that has changed. Its last
-//! instruction inside is the store that commits. An abort, or a change of the processor, leads back to its first
+//! instruction inside is the store that commits; where there is nothing to take or no room, a branch before it
+//! commits without a store. An abort, or a change of the processor, leads back to its first
 //! word.
 #![tactic(auto)]
 
@@ -27,9 +28,10 @@ mod theorems;
 pub use adds::emit_add;
 pub use allocs::emit_alloc;
 pub use block_theorems::{
-    all_blocks_lie_beside, blocks_are_done, blocks_begin_outside, blocks_keep_registers,
-    blocks_that_commit_are_left, blocks_work_once_or_not_at_all, files_hold_block,
-    finished_code_holds_block, retries_work_on_the_value,
+    all_blocks_lie_beside, blocks_are_done, blocks_are_of_the_library, blocks_are_signed,
+    blocks_begin_outside, blocks_keep_registers, blocks_that_commit_are_left,
+    blocks_work_once_or_not_at_all, files_hold_block, finished_code_holds_block,
+    labels_of_blocks_are_those_of_their_sequences, retries_work_on_the_value,
 };
 pub use fault::EmitFault;
 pub use frees::emit_free;

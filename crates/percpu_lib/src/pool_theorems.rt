@@ -39,9 +39,9 @@ pub fn allocs_once_or_not_at_all()
 {}
 
 /// In a block run a restartable sequence of a free block puts its value behind the items of the pool of its
-/// processor once, where its thread is at the post-commit address after it: the value is 0 then; where the
-/// pool was full, nothing changed. Else it changes nothing but registers that the block may change, and at
-/// most the slot behind the items.
+/// processor once, where its thread is at the post-commit address after it, and the value is then 0; where the
+/// pool was full, pool and value are as they were. Else it changes nothing but registers that the block may
+/// change, and at most the slot behind the items.
 pub fn frees_once_or_not_at_all()
     ensures whole { (s : Setting) (log : List Entry) (p : Slots) (at : ℕ) (area : Area) (h : ℕ) (q : Sequence)
         → IsBlockRun s log → HoldsBlock s (history s log) (free_form p) at area q.thread
