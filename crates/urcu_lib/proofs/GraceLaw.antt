@@ -122,37 +122,37 @@ module _ (s : Setting) (u : Urcu) (first at t : ℕ) (f : Regs) (now : History) 
   none_at k four (is_over is p passed) = let no : ⊥ = omega arith in absurd no
 
   -- at another instruction than the last at least two are left
-  two_left : (k : ℕ) → k ≢ 16 → Stands s u first at t f now k → 2 ≤ left_at u k (register f 7)
-  two_left k other (all_set is a b c none) = subst (λ n. 2 ≤ left_at u n (register f 7)) (sym is)
+  two_left : (k : ℕ) → k ≢ 16 → Stands s u first at t f now k → 2 ≤ left_at (u.readers at) k (register f 7)
+  two_left k other (all_set is a b c none) = subst (λ n. 2 ≤ left_at (u.readers at) n (register f 7)) (sym is)
       (omega arith)
-  two_left k other (one_set is a none) = subst (λ n. 2 ≤ left_at u n (register f 7)) (sym is) (omega arith)
-  two_left k other (two_set is a b none) = subst (λ n. 2 ≤ left_at u n (register f 7)) (sym is) (omega arith)
-  two_left k other (three_set is a b none) = subst (λ n. 2 ≤ left_at u n (register f 7)) (sym is)
+  two_left k other (one_set is a none) = subst (λ n. 2 ≤ left_at (u.readers at) n (register f 7)) (sym is) (omega arith)
+  two_left k other (two_set is a b none) = subst (λ n. 2 ≤ left_at (u.readers at) n (register f 7)) (sym is) (omega arith)
+  two_left k other (three_set is a b none) = subst (λ n. 2 ≤ left_at (u.readers at) n (register f 7)) (sym is)
       (omega arith)
-  two_left k other (has_called is o quiet) = subst (λ n. 2 ≤ left_at u n (register f 7)) (sym is)
+  two_left k other (has_called is o quiet) = subst (λ n. 2 ≤ left_at (u.readers at) n (register f 7)) (sym is)
       (omega arith)
-  two_left k other (has_grown is o quiet entered x) = subst (λ n. 2 ≤ left_at u n (register f 7)) (sym is)
+  two_left k other (has_grown is o quiet entered x) = subst (λ n. 2 ≤ left_at (u.readers at) n (register f 7)) (sym is)
       (omega arith)
-  two_left k other (has_loaded is o quiet entered x) = subst (λ n. 2 ≤ left_at u n (register f 7)) (sym is)
+  two_left k other (has_loaded is o quiet entered x) = subst (λ n. 2 ≤ left_at (u.readers at) n (register f 7)) (sym is)
       (omega arith)
-  two_left k other (has_stored is p) = subst (λ n. 2 ≤ left_at u n (register f 7)) (sym is) (omega arith)
-  two_left k other (has_slots is p six) = subst (λ n. 2 ≤ left_at u n (register f 7)) (sym is) (omega arith)
-  two_left k other (looks is p i lt six x passed) = subst (λ n. 2 ≤ left_at u n (register f 7)) (sym is)
+  two_left k other (has_stored is p) = subst (λ n. 2 ≤ left_at (u.readers at) n (register f 7)) (sym is) (omega arith)
+  two_left k other (has_slots is p six) = subst (λ n. 2 ≤ left_at (u.readers at) n (register f 7)) (sym is) (omega arith)
+  two_left k other (looks is p i lt six x passed) = subst (λ n. 2 ≤ left_at (u.readers at) n (register f 7)) (sym is)
       (omega arith)
-  two_left k other (has_looked is p i lt six x passed shows) = subst (λ n. 2 ≤ left_at u n (register f 7))
+  two_left k other (has_looked is p i lt six x passed shows) = subst (λ n. 2 ≤ left_at (u.readers at) n (register f 7))
       (sym is) (omega arith)
-  two_left k other (is_some is p i lt six x passed shows) = subst (λ n. 2 ≤ left_at u n (register f 7))
+  two_left k other (is_some is p i lt six x passed shows) = subst (λ n. 2 ≤ left_at (u.readers at) n (register f 7))
       (sym is) (omega arith)
-  two_left k other (passes is p i lt six x passed) = subst (λ n. 2 ≤ left_at u n (register f 7)) (sym is)
+  two_left k other (passes is p i lt six x passed) = subst (λ n. 2 ≤ left_at (u.readers at) n (register f 7)) (sym is)
       (omega arith)
-  two_left k other (moves is p i lt six x passed) = subst (λ n. 2 ≤ left_at u n (register f 7)) (sym is)
+  two_left k other (moves is p i lt six x passed) = subst (λ n. 2 ≤ left_at (u.readers at) n (register f 7)) (sym is)
       (omega arith)
-  two_left k other (counts is p i lt six x passed) = subst (λ n. 2 ≤ left_at u n (register f 7)) (sym is)
+  two_left k other (counts is p i lt six x passed) = subst (λ n. 2 ≤ left_at (u.readers at) n (register f 7)) (sym is)
       (omega arith)
   two_left k other (is_over is p passed) = absurd (other is)
 
   over_at : (k : ℕ) → k ≡ 16 → Stands s u first at t f now k
-      → (p : IsPast s u first at t f now) × ArePassed s u first p.opened.grace u.readers now
+      → (p : IsPast s u first at t f now) × ArePassed s u first p.opened.grace (u.readers at) now
   over_at k last (is_over is p passed) = (p, passed)
   over_at k last (has_called is o quiet) = let no : ⊥ = omega arith in absurd no
   over_at k last (has_grown is o quiet entered x) = let no : ⊥ = omega arith in absurd no
@@ -210,7 +210,7 @@ module _ (s : Setting) (u : Urcu) (first : ℕ) (blocks : AreBlocks (code_of s.p
     some : 1 ≤ register f r.scratch
     most : register f r.scratch ≤ counted u.counter first now
     index : ℕ
-    lt : index < u.readers
+    lt : index < u.slot_count
     slot : register f r.slot ≡ slot_at u index
 
   -- a thread at instruction k of a sync block, behind its first
@@ -609,10 +609,10 @@ module _ (s : Setting) (u : Urcu) (first : ℕ) (blocks : AreBlocks (code_of s.p
   module _ (at t : ℕ) (r : SyncRegs) (block : u.syncs at ≡ Some r) (begun : History)
       (there : (file s t begun).pc ≡ at) where
     abbrev most : ℕ
-    most = 11 + 6 * u.readers
+    most = 11 + 6 * u.readers at
 
     abbrev left_now : ℕ → History → ℕ
-    left_now k now = left_at u k (register (file s t now).file 7)
+    left_now k now = left_at (u.readers at) k (register (file s t now).file 7)
 
     -- what is known of the load
     record IsKnown (k : ℕ) (f : Regs) : Type 0 where
@@ -657,11 +657,11 @@ module _ (s : Setting) (u : Urcu) (first : ℕ) (blocks : AreBlocks (code_of s.p
         (subst (λ m. k ≡ 12 → register (file s m before).file 5 ≤ register (file s m before).file 10)
         (sym of) (λ is. not_less (file s t before).file (known.tested is))) inside in
         let falls_t = subst
-        (λ m. left_at u next.to (register (file s m (e ∷ before)).file 7) + 1 ≤ left_at u k
+        (λ m. left_at (u.readers at) next.to (register (file s m (e ∷ before)).file 7) + 1 ≤ left_at (u.readers at) k
         (register (file s m before).file 7)) of falls in
         stands_at next.to inside (sym (ap (λ m. (file s m (e ∷ before)).pc) of) ∙ next.pc)
-        (sums (left_at u next.to (register (file s t (e ∷ before)).file 7))
-        (left_at u k (register (file s t before).file 7)) falls_t left)
+        (sums (left_at (u.readers at) next.to (register (file s t (e ∷ before)).file 7))
+        (left_at (u.readers at) k (register (file s t before).file 7)) falls_t left)
         (record {
           looked = λ is.
               (subst
@@ -694,8 +694,8 @@ module _ (s : Setting) (u : Urcu) (first : ℕ) (blocks : AreBlocks (code_of s.p
           ends = record { exec = record { executes = executes_it; pc = pc }; of = of };
           executed = m;
           run = was;
-          few = fewer (left_at u k (register (file s t before).file 7))
-              (some_left u k (register (file s t before).file 7)) left;
+          few = fewer (left_at (u.readers at) k (register (file s t before).file 7))
+              (some_left (u.readers at) k (register (file s t before).file 7)) left;
         }
       where
         fewer : (a : ℕ) → 1 ≤ a → a + m ≤ most → m < most
@@ -716,13 +716,13 @@ module _ (s : Setting) (u : Urcu) (first : ℕ) (blocks : AreBlocks (code_of s.p
             → (file s t (e ∷ before) ≡ file s t before) ⊎ HasReturned s at t e before → Goes (e ∷ before) m
         by_file k lt place left known (inl same) =
             stands_at k lt (ap (λ (x : Saved). x.pc) same ∙ place)
-            (subst (λ (x : Saved). left_at u k (register x.file 7) + m ≤ most) (sym same) left)
+            (subst (λ (x : Saved). left_at (u.readers at) k (register x.file 7) + m ≤ most) (sym same) left)
             (subst (λ (x : Saved). IsKnown k x.file) (sym same) known)
         by_file k lt place left known (inr returned) =
             let was_at = returned.was in
             let five : k ≡ 5 = omega arith in
-            let old : left_at u 5 (register (file s t before).file 7) + m ≤ most = subst
-            (λ j. left_at u j (register (file s t before).file 7) + m ≤ most) five left in
+            let old : left_at (u.readers at) 5 (register (file s t before).file 7) + m ≤ most = subst
+            (λ j. left_at (u.readers at) j (register (file s t before).file 7) + m ≤ most) five left in
             stands_at 5 (omega arith) returned.stays old
             (record {
               looked = λ is. let no : ⊥ = omega arith in absurd no;
@@ -778,8 +778,8 @@ module _ (s : Setting) (u : Urcu) (first : ℕ) (blocks : AreBlocks (code_of s.p
     over_by : (now : History) (n : ℕ) → most ≤ n → Goes now n → HasFinished s at t most begun now
     over_by now n le (has_finished f) = f
     over_by now n le (stands_at k lt place left known) =
-        absurd (too_many (left_at u k (register (file s t now).file 7)) n
-        (some_left u k (register (file s t now).file 7)) left le)
+        absurd (too_many (left_at (u.readers at) k (register (file s t now).file 7)) n
+        (some_left (u.readers at) k (register (file s t now).file 7)) left le)
 
     -- the last event of a log may end the process
     at_end : (e : Event) (before : History) (m : ℕ) → IsRunHistory s (e ∷ before)
@@ -789,11 +789,11 @@ module _ (s : Setting) (u : Urcu) (first : ℕ) (blocks : AreBlocks (code_of s.p
     at_end e before m run uses executes_it of was le (has_finished f) = one_later e before f
     at_end e before m run uses executes_it of was le (stands_at k lt place left known) = by_k (cases_eq k 16)
       where
-        two : (k ≢ 16) → 2 ≤ left_at u k (register (file s t before).file 7)
+        two : (k ≢ 16) → 2 ≤ left_at (u.readers at) k (register (file s t before).file 7)
         two other = by_zero k refl
           where
-            by_zero : (j : ℕ) → k ≡ j → 2 ≤ left_at u k (register (file s t before).file 7)
-            by_zero zero is = subst (λ n. 2 ≤ left_at u n (register (file s t before).file 7)) (sym is)
+            by_zero : (j : ℕ) → k ≡ j → 2 ≤ left_at (u.readers at) k (register (file s t before).file 7)
+            by_zero zero is = subst (λ n. 2 ≤ left_at (u.readers at) n (register (file s t before).file 7)) (sym is)
                 (omega arith)
             by_zero (suc j) is =
                 two_left s u first at t (file s t before).file before k other
@@ -803,7 +803,7 @@ module _ (s : Setting) (u : Urcu) (first : ℕ) (blocks : AreBlocks (code_of s.p
         by_k : (k ≡ 16) ⊎ (k ≢ 16) → HasFinished s at t most begun (e ∷ before)
         by_k (inl last) = finished_by e before m k run executes_it of was place left last
         by_k (inr other) =
-            let no : ⊥ = few (left_at u k (register (file s t before).file 7)) (two other) left in
+            let no : ⊥ = few (left_at (u.readers at) k (register (file s t before).file 7)) (two other) left in
             absurd no
           where
             few : (a : ℕ) → 2 ≤ a → a + m ≤ most → ⊥

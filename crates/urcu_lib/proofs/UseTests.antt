@@ -49,11 +49,12 @@ abbrev pub urcu_of : Layout → Urcu
 urcu_of x = record {
   counter = x.counter;
   slots = x.slots;
-  readers = x.readers;
+  slot_count = x.readers;
   reader = x.reader;
   locks = λ at. cond (eqb at x.lock_at) (Some x.lock) None;
   unlocks = λ at. cond (eqb at x.unlock_at) (Some x.unlock) None;
   syncs = λ at. cond (eqb at x.sync_at) (Some x.sync) None;
+  readers = λ at. x.readers;
 }
 
 -- ANSWERS OF TESTS

@@ -61,16 +61,16 @@ register_of s e before r = register (file s e.entry.tid.0 before).file r
 pub record IsUse (s : Setting) (u : Urcu) (first : ℕ) (e : Event) (before : History) : Type 0 where
   -- the words can be read and written where an instruction is executed
   pub counter_usable : choice_of e.entry ≡ asked.Exec → IsUsable s (counter_bytes u) before
-  pub slot_usable : (i : ℕ) → i < u.readers → choice_of e.entry ≡ asked.Exec
+  pub slot_usable : (i : ℕ) → i < u.slot_count → choice_of e.entry ≡ asked.Exec
       → IsUsable s (slot_bytes u i) before
   -- only these blocks write the counter and the slots
   pub counter : IsQuiet (counter_bytes u) e ⊎ IsSyncStore u e
-  pub slot : (i : ℕ) → i < u.readers → IsQuiet (slot_bytes u i) e ⊎
+  pub slot : (i : ℕ) → i < u.slot_count → IsQuiet (slot_bytes u i) e ⊎
       (IsLockStore s u i e before ⊎ IsUnlockStore s u i e before)
   -- each slot is written by one thread, by lock and unlock in turn
-  pub writer : (i : ℕ) → i < u.readers → IsLockStore s u i e before ⊎ IsUnlockStore s u i e before
+  pub writer : (i : ℕ) → i < u.slot_count → IsLockStore s u i e before ⊎ IsUnlockStore s u i e before
       → e.entry.tid.0 ≡ u.reader i
-  pub turns : (i : ℕ) (section : History) → i < u.readers → IsLockStore s u i e before
+  pub turns : (i : ℕ) (section : History) → i < u.slot_count → IsLockStore s u i e before
       → IsSection s u i section before → ⊥
   -- the counter doesn't pass 2^64 - 1
   pub small : IsSyncStore u e → counted u.counter first before + 1 < 2 ^ 64
@@ -92,7 +92,7 @@ pub record IsUse (s : Setting) (u : Urcu) (first : ℕ) (e : Event) (before : Hi
   pub lock_gp : (at : ℕ) (r : ReadRegs) → u.locks at ≡ Some r → IsExecAt at e
       → register_of s e before r.gp ≡ u.counter
   pub lock_slot : (at : ℕ) (r : ReadRegs) → u.locks at ≡ Some r → IsExecAt at e
-      → (i : ℕ) × (i < u.readers) × (register_of s e before r.slot ≡ slot_at u i)
+      → (i : ℕ) × (i < u.slot_count) × (register_of s e before r.slot ≡ slot_at u i)
   pub sync_gp : (at : ℕ) (r : SyncRegs) → u.syncs at ≡ Some r → IsExecAt at e
       → register_of s e before r.gp ≡ u.counter
   pub sync_slots : (at : ℕ) (r : SyncRegs) → u.syncs at ≡ Some r → IsExecAt at e

@@ -21,9 +21,9 @@ ghost use Rattle.urcu_lib.specs.Sections.{HaveEnded, IsGraceBegin, IsGraceEnd, I
 ghost use Rattle.urcu_lib.specs.Stretch.{HasFinished, IsCounterGrown, Runs};
 ghost use Rattle.urcu_lib.specs.Uses.{HoldsUrcu};
 
-/// In a block run each section of a slot that began before a grace period began has ended before that grace
-/// period ended: where a thread executes a sync block's last instruction, no section of a slot goes on that
-/// began before the thread executed the block's call.
+/// In a block run each section of a slot for which a sync block waits, and which began before a grace period
+/// of that block began, has ended before that grace period ended: where a thread executes the block's last
+/// instruction, no section of such a slot goes on that began before the thread executed the block's call.
 pub fn sections_end_before_grace_periods()
     ensures { (s : Setting) (log : List Entry) (u : Urcu) (at t : ℕ) (r : SyncRegs) (e : Event)
         (before : History)
@@ -37,8 +37,8 @@ pub fn sections_end_before_grace_periods()
 pub fn sync_is_soon_over()
     ensures soon { (s : Setting) (log : List Entry) (u : Urcu) (at t n : ℕ) (r : SyncRegs) (begun : History)
         → IsBlockRun s log → HoldsUrcu s u (history s log) → u.syncs at ≡ Some r → (file s t begun).pc ≡ at
-        → Runs s at t begun (history s log) n → 11 + 6 * u.readers ≤ n
-        → HasFinished s at t (11 + 6 * u.readers) begun (history s log) }
+        → Runs s at t begun (history s log) n → 11 + 6 * u.readers at ≤ n
+        → HasFinished s at t (11 + 6 * u.readers at) begun (history s log) }
     // And after it the thread's hart sees the counter 1 above what it saw where the call had returned.
     ensures grown { (s : Setting) (log : List Entry) (u : Urcu) (at t : ℕ) (r : SyncRegs) (e : Event)
         (before : History)
