@@ -9,10 +9,9 @@ use Rattle.mach_types.specs.declared.events.Choice.TheVariants as asked
 use Rattle.mach_types.specs.declared.registers.Regs.{Regs}
 use Rattle.mach_types.specs.declared.threads.Saved.{Saved}
 use Rattle.rv_inst.specs.Memory.{loaded}
-use Rattle.rv_inst.specs.Words.{sum_64}
 use Rattle.rv_inst.specs.declared.instruction.Inst.TheVariants as inst
-use Rattle.alone.proofs.Laws.{loaded_word, written_other, written_same}
-use Rattle.alone.proofs.Means.{means_ld, means_sd}
+use Rattle.alone.proofs.Laws.{loaded_word, written_same}
+use Rattle.alone.proofs.Means.{means_ld}
 use Rattle.alone_laws.specs.Spans.{code_of, seen_at}
 use Rattle.block_model.proofs.Laws.{IsStep, has_registers, one_hart, step_of}
 use Rattle.mach_types.specs.Bytes.{word_at}
@@ -20,7 +19,7 @@ use Rattle.block_model.specs.History.{Event, History, file, running, waiting}
 use Rattle.block_model.specs.Run.{IsRunHistory}
 use Rattle.block_model.specs.Setting.{Setting}
 use Rattle.block_model.specs.Walks.{is_exec}
-use Rattle.urcu_lib.specs.Blocks.{AreBlocks, Urcu, counter_bytes, slot_at, slot_bytes}
+use Rattle.urcu_lib.specs.Blocks.{AreBlocks, Urcu, counter_bytes}
 use Rattle.urcu_lib.specs.declared.regs.ReadRegs.{ReadRegs}
 use Rattle.urcu_lib.specs.declared.regs.SyncRegs.{SyncRegs}
 use Rattle.fence_laws.specs.Entered.{HaveEntered}
@@ -33,8 +32,8 @@ use Rattle.urcu_lib.specs.Registers.{AreSyncRegs}
 use Rattle.urcu_lib.specs.Uses.{AreElsewhere, AreUses, HasCome, IsStart, acts, counted, goes_on, returns}
 use Rattle.urcu_lib.proofs.CounterLaw.{IsCounter, counted_low, counter_quiet, counter_start, counter_stored}
 use Rattle.urcu_lib.proofs.CounterLaw.{in_word, new_count, same_count, seen_last, seen_word}
-use Rattle.fence_laws.proofs.ExecLaw.{after_load, after_store, exec_of}
-use Rattle.urcu_lib.proofs.SlotLaw.{in_slot, is_later}
+use Rattle.fence_laws.proofs.ExecLaw.{after_load, exec_of}
+use Rattle.urcu_lib.proofs.SlotLaw.{is_later}
 use Rattle.urcu_lib.proofs.SyncState.{ArePassed, HasNone, IsOpen, IsOrderly, IsPast, Stands, all_set, base}
 use Rattle.urcu_lib.proofs.SyncState.{counts, has_called, has_grown, has_loaded, has_looked, has_slots}
 use Rattle.urcu_lib.proofs.SyncState.{has_stored, is_over, is_some, left_at, looks, moves, one_set}
@@ -205,13 +204,10 @@ module _ (s : Setting) (u : Urcu) (first : ℕ) (blocks : AreBlocks (code_of s.p
     (start : IsStart s u first) where
   -- WHAT HOLDS AT EACH PLACE
 
-  -- what a thread in a lock block is about to store, and where
+  -- what a thread in a lock block is about to store
   record IsInLock (r : ReadRegs) (f : Regs) (now : History) : Type 0 where
     some : 1 ≤ register f r.scratch
     most : register f r.scratch ≤ counted u.counter first now
-    index : ℕ
-    lt : index < u.slot_count
-    slot : register f r.slot ≡ slot_at u index
 
   -- a thread at instruction k of a sync block, behind its first
   record IsInSync (at t k : ℕ) (r : SyncRegs) (f : Regs) (now : History) : Type 0 where
@@ -403,45 +399,15 @@ module _ (s : Setting) (u : Urcu) (first : ℕ) (blocks : AreBlocks (code_of s.p
         let most = w.3 in
         let few = w.4 in
         let more = both.1 in
-        let to = uses.1.lock_slot at r block exec in
-        record {
-          some = omega arith;
-          most = omega arith;
-          index = to.0;
-          lt = to.1;
-          slot = ap (λ (x : Saved). register x.file r.slot) after
-              ∙ written_other (file s t before).file r.scratch (loaded w.0 8 true) r.slot regs.slot_scratch
-              ∙ to.2;
-        }
-
-    lock_stored : (at : ℕ) (r : ReadRegs) → u.locks at ≡ Some r → choice_of e.entry ≡ asked.Exec
-        → e.entry.pc ≡ at + 4 → (file s e.entry.tid.0 (e ∷ before)).pc ≡ at + 4 → ⊥
-    lock_stored at r block executes pc stays =
-        let t = e.entry.tid.0 in
-        let low = blocks.low_locks at r block in
-        let slots_low = blocks.low_slots in
-        let was = old.locks at t r block ((exec_of s e before step executes).pc ∙ pc) in
-        let lt = was.lt in
-        let f = (file s t before).file in
-        let after = after_store s e before step executes (at + 4) (inst.Sd r.slot r.scratch (pos 0)) pc
-        ((blocks.locks at r block).holds 1 (inst.Sd r.slot r.scratch (pos 0)) refl) (slot_bytes u was.index)
-        (uses.1.slot_usable was.index was.lt executes)
-        (slot_at u was.index) (register f r.scratch % 2 ^ 64)
-        (means_sd f (at + 4) r.slot r.scratch (pos 0) (slot_at u was.index) (slot_at u was.index)
-        (register f r.scratch) (register f r.scratch % 2 ^ 64) was.slot (omega arith) refl refl)
-        (in_slot s u first blocks was.index was.lt) in
-        let there : sum_64 (at + 4) 4 ≡ at + 4 = sym (ap (λ (x : Saved). x.pc) after.0) ∙ stays in
-        omega arith
+        record { some = omega arith; most = omega arith }
 
     locks_next : (at t : ℕ) (r : ReadRegs) → u.locks at ≡ Some r → (file s t (e ∷ before)).pc ≡ at + 4
-        → HasCome s at 2 0 t e before
+        → HasCome s at 1 0 t e before
         → IsInLock r (file s t (e ∷ before)).file (e ∷ before)
     locks_next at t r block there (acts of executes (zero, lt, pc)) =
         subst (λ n. IsInLock r (file s n (e ∷ before)).file (e ∷ before)) of
         (lock_load at r block executes (pc ∙ omega arith))
-    locks_next at t r block there (acts of executes (suc k, lt, pc)) =
-        absurd (lock_stored at r block executes (pc ∙ omega arith)
-        (ap (λ n. (file s n (e ∷ before)).pc) of ∙ there))
+    locks_next at t r block there (acts of executes (suc k, lt, pc)) = let no : ⊥ = omega arith in absurd no
     locks_next at t r block there (returns is was stays) = let no : ⊥ = omega arith in absurd no
     locks_next at t r block there (goes_on place since parts elsewhere same) =
         let all_place = always_at since place (subst Always parts all) in
@@ -454,14 +420,7 @@ module _ (s : Setting) (u : Urcu) (first : ℕ) (blocks : AreBlocks (code_of s.p
         (file s t place).file r.scratch = ap (λ (x : Saved). register x.file r.scratch) same in
         let some = was.some in
         let most = was.most in
-        record {
-          some = omega arith;
-          most = omega arith;
-          index = was.index;
-          lt = was.lt;
-          slot = ap
-              (λ (x : Saved). register x.file r.slot) same ∙ was.slot;
-        }
+        record { some = omega arith; most = omega arith }
 
     -- sync
     module _ (at t k : ℕ) (r : SyncRegs) (block : u.syncs at ≡ Some r) (lt : k < 17)

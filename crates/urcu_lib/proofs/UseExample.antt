@@ -339,7 +339,6 @@ blocks = record {
             (ap (λ q. slice_get (sync_block q 1) k) its.1 ∙ there);
       };
   low = λ at r is. let its = (only at 0x10030 sync_regs r is).0 in (omega arith, omega arith);
-  low_locks = λ at r is. let its = (only at 0x10074 read_regs r is).0 in omega arith;
   lock_regs = λ at r is. subst AreReadRegs (only at 0x10074 read_regs r is).1 are_read;
   unlock_regs = λ at r is. subst AreReadRegs (only at 0x1007C read_regs r is).1 are_read;
   sync_regs = λ at r is. subst AreSyncRegs (only at 0x10030 sync_regs r is).1 are_sync;

@@ -9,7 +9,7 @@ use Rattle.mach_types.specs.declared.user_memory.Store.{Store}
 use Rattle.alone_laws.specs.Spans.{IsUsable, code_of}
 use Rattle.block_model.specs.History.{Event, History, byte, file, kernel}
 use Rattle.block_model.specs.Setting.{Setting}
-use Rattle.urcu_lib.specs.Blocks.{AreBlocks, Urcu, counter_bytes, slot_at, slot_bytes}
+use Rattle.urcu_lib.specs.Blocks.{AreBlocks, Urcu, counter_bytes, slot_bytes}
 use Rattle.urcu_lib.specs.declared.regs.ReadRegs.{ReadRegs}
 use Rattle.urcu_lib.specs.declared.regs.SyncRegs.{SyncRegs}
 use Rattle.fence_laws.specs.Kept.{IsQuiet}
@@ -84,15 +84,13 @@ pub record IsUse (s : Setting) (u : Urcu) (first : ℕ) (e : Event) (before : Hi
   -- handler's return goes on as it was: in a lock block as at some time in it, in a sync block as when it
   -- last left it
   pub locking : (at t : ℕ) (r : ReadRegs) → u.locks at ≡ Some r → (file s t (e ∷ before)).pc ≡ at + 4
-      → HasCome s at 2 0 t e before
+      → HasCome s at 1 0 t e before
   pub syncing : (at t k : ℕ) (r : SyncRegs) → u.syncs at ≡ Some r → 0 < k → k < 17
       → (file s t (e ∷ before)).pc ≡ at + 4 * k → HasCome s at 17 17 t e before
-  -- where a thread executes a block's first instruction, its registers hold the addresses of the counter and
-  -- of a slot
+  -- where a thread executes a block's first instruction, its registers hold the addresses of the counter and,
+  -- for sync, of slot 0
   pub lock_gp : (at : ℕ) (r : ReadRegs) → u.locks at ≡ Some r → IsExecAt at e
       → register_of s e before r.gp ≡ u.counter
-  pub lock_slot : (at : ℕ) (r : ReadRegs) → u.locks at ≡ Some r → IsExecAt at e
-      → (i : ℕ) × (i < u.slot_count) × (register_of s e before r.slot ≡ slot_at u i)
   pub sync_gp : (at : ℕ) (r : SyncRegs) → u.syncs at ≡ Some r → IsExecAt at e
       → register_of s e before r.gp ≡ u.counter
   pub sync_slots : (at : ℕ) (r : SyncRegs) → u.syncs at ≡ Some r → IsExecAt at e
