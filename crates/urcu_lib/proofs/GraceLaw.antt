@@ -1,6 +1,6 @@
 -- A section that began before a grace period began has ended before it ended.
 use Rattle.std.proofs.Common.{◌≡◌, ◌≢◌, ℕ, zero, suc, ◌+◌, ◌*◌, ◌<◌, ◌≤◌, ◌%◌, ◌^◌, List, [], ◌∷◌, ◌++◌, ◌⊎◌}
-use Rattle.std.proofs.Common.{append_assoc, arith, refl, sym, ap, ◌∙◌, subst, true, inl, inr, Some, None}
+use Rattle.std.proofs.Common.{append_assoc, length, length-append, arith, refl, sym, ap, ◌∙◌, subst, true, inl, inr, Some, None}
 use Rattle.std.proofs.Common.{pos}
 use Rattle.std.proofs.lemmas.Bool.{cases_eq, ne_eqb, false≢true}
 use Rattle.mach_types.specs.Events.{choice_of}
@@ -19,15 +19,15 @@ use Rattle.block_model.specs.History.{Event, History, file, running, waiting}
 use Rattle.block_model.specs.Run.{IsRunHistory}
 use Rattle.block_model.specs.Setting.{Setting}
 use Rattle.block_model.specs.Walks.{is_exec}
-use Rattle.urcu_lib.specs.Blocks.{AreBlocks, Urcu, counter_bytes}
+use Rattle.urcu_lib.specs.Blocks.{AreBlocks, Urcu, counter_bytes, slot_at}
 use Rattle.urcu_lib.specs.declared.regs.ReadRegs.{ReadRegs}
 use Rattle.urcu_lib.specs.declared.regs.SyncRegs.{SyncRegs}
 use Rattle.fence_laws.specs.Entered.{HaveEntered}
 use Rattle.fence_laws.specs.Kept.{AreBeside, AreQuiet, IsQuiet}
 use Rattle.urcu_lib.specs.Sections.{HaveEnded, IsGrace, IsGraceBegin, IsExecAt, IsGraceEnd, IsSyncStore}
 use Rattle.urcu_lib.specs.Sections.{IsSyncing, calls, comes_in, is_in, waits}
-use Rattle.urcu_lib.specs.Stretch.{HasFinished, HasReturned, IsCounterGrown, IsPassing, Runs, it_rests}
-use Rattle.urcu_lib.specs.Stretch.{it_runs, none_run}
+use Rattle.urcu_lib.specs.Stretch.{HasFinished, HasReturned, IsCounterGrown, IsFirstLoad, IsLoaded}
+use Rattle.urcu_lib.specs.Stretch.{IsPassing, Runs, it_rests, it_runs, none_run}
 use Rattle.urcu_lib.specs.Registers.{AreSyncRegs}
 use Rattle.urcu_lib.specs.Uses.{AreElsewhere, AreUses, HasCome, IsStart, acts, counted, goes_on, returns}
 use Rattle.urcu_lib.proofs.CounterLaw.{IsCounter, counted_low, counter_quiet, counter_start, counter_stored}
@@ -120,6 +120,28 @@ module _ (s : Setting) (u : Urcu) (first at t : ℕ) (f : Regs) (now : History) 
   none_at k four (counts is p i lt six x passed) = let no : ⊥ = omega arith in absurd no
   none_at k four (is_over is p passed) = let no : ⊥ = omega arith in absurd no
 
+  -- at the load x6 is the address of the slot at which the thread looks, and x7 says how many are left
+  abbrev LooksAt : Type 0
+  LooksAt = (i : ℕ) × (register f 6 ≡ slot_at u i) × (register f 7 + i ≡ u.readers at)
+
+  looks_at : (k : ℕ) → k ≡ 10 → Stands s u first at t f now k → LooksAt
+  looks_at k ten (looks is p i lt six seven passed) = (i, six, seven)
+  looks_at k ten (all_set is a b c none) = let no : ⊥ = omega arith in absurd no
+  looks_at k ten (one_set is a none) = let no : ⊥ = omega arith in absurd no
+  looks_at k ten (two_set is a b none) = let no : ⊥ = omega arith in absurd no
+  looks_at k ten (three_set is a b none) = let no : ⊥ = omega arith in absurd no
+  looks_at k ten (has_called is o quiet) = let no : ⊥ = omega arith in absurd no
+  looks_at k ten (has_grown is o quiet entered x) = let no : ⊥ = omega arith in absurd no
+  looks_at k ten (has_loaded is o quiet entered x) = let no : ⊥ = omega arith in absurd no
+  looks_at k ten (has_stored is p) = let no : ⊥ = omega arith in absurd no
+  looks_at k ten (has_slots is p six) = let no : ⊥ = omega arith in absurd no
+  looks_at k ten (has_looked is p i lt six x passed shows) = let no : ⊥ = omega arith in absurd no
+  looks_at k ten (is_some is p i lt six x passed shows) = let no : ⊥ = omega arith in absurd no
+  looks_at k ten (passes is p i lt six x passed) = let no : ⊥ = omega arith in absurd no
+  looks_at k ten (moves is p i lt six x passed) = let no : ⊥ = omega arith in absurd no
+  looks_at k ten (counts is p i lt six x passed) = let no : ⊥ = omega arith in absurd no
+  looks_at k ten (is_over is p passed) = let no : ⊥ = omega arith in absurd no
+
   -- at another instruction than the last at least two are left
   two_left : (k : ℕ) → k ≢ 16 → Stands s u first at t f now k → 2 ≤ left_at (u.readers at) k (register f 7)
   two_left k other (all_set is a b c none) = subst (λ n. 2 ≤ left_at (u.readers at) n (register f 7)) (sym is)
@@ -168,6 +190,52 @@ module _ (s : Setting) (u : Urcu) (first at t : ℕ) (f : Regs) (now : History) 
   over_at k last (passes is p i lt six x passed) = let no : ⊥ = omega arith in absurd no
   over_at k last (moves is p i lt six x passed) = let no : ⊥ = omega arith in absurd no
   over_at k last (counts is p i lt six x passed) = let no : ⊥ = omega arith in absurd no
+
+same_event : (x y : Event) (xs ys : History) → x ∷ xs ≡ y ∷ ys → x ≡ y
+same_event x y xs ys is = cc
+
+same_rest : (x y : Event) (xs ys : History) → x ∷ xs ≡ y ∷ ys → xs ≡ ys
+same_rest x y xs ys is = cc
+
+-- LOADS SINCE A PLACE
+
+module _ (s : Setting) (at t : ℕ) (begun : History) where
+  none_loaded : (a : ℕ) → IsLoaded s at t a begun begun → ⊥
+  none_loaded a l =
+      let long : length begun ≡ length (l.since ++ l.event ∷ (l.earlier ++ begun)) = ap
+      (λ (b : History). length b) l.parts in
+      let one = length-append l.since (l.event ∷ (l.earlier ++ begun)) in
+      let two = length-append l.earlier begun in
+      let no : ⊥ = omega arith in
+      no
+
+  -- an event loads from an address
+  abbrev Loads : ℕ → Event → History → Type 0
+  Loads a e before = IsExecAt (at + 40) e × (e.entry.tid.0 ≡ t) × (register (file s t before).file 6 ≡ a)
+
+  loaded_next : (a : ℕ) (e : Event) (before : History) → IsLoaded s at t a begun (e ∷ before)
+      → IsLoaded s at t a begun before ⊎ Loads a e before
+  loaded_next a e before l = by_since l.since l.parts
+    where
+      by_since : (since : List Event) → e ∷ before ≡ since ++ l.event ∷ (l.earlier ++ begun)
+          → IsLoaded s at t a begun before ⊎ Loads a e before
+      by_since [] parts =
+          let same = same_event e l.event before (l.earlier ++ begun) parts in
+          let rest = same_rest e l.event before (l.earlier ++ begun) parts in
+          inr (
+            subst (IsExecAt (at + 40)) (sym same) l.exec,
+            ap (λ (x : Event). x.entry.tid.0) same ∙ l.of,
+            ap (λ (b : History). register (file s t b).file 6) rest ∙ l.from,
+          )
+      by_since (y ∷ ys) parts = inl (record {
+        event = l.event;
+        since = ys;
+        earlier = l.earlier;
+        parts = same_rest e y before (ys ++ l.event ∷ (l.earlier ++ begun)) parts;
+        exec = l.exec;
+        of = l.of;
+        from = l.from;
+      })
 
 -- WHO IS IN A SYNC BLOCK
 
@@ -578,10 +646,56 @@ module _ (s : Setting) (u : Urcu) (first : ℕ) (blocks : AreBlocks (code_of s.p
       looked : k ≡ 11 → IsPassing f
       tested : k ≡ 12 → IsPassing f × (register f 10 ≢ 0)
 
+    -- each slot that it has loaded is one of those that it has left behind, or the one at which it is
+    abbrev AreBehind : ℕ → History → Type 0
+    AreBehind k now =
+        (a : ℕ) → IsLoaded s at t a begun now
+        → (m : ℕ) × (a + 64 * m ≡ u.slots + 64 * u.readers at) × (left_now k now ≤ 6 * m)
+
     data Goes (now : History) (n : ℕ) : Type 0 where
       has_finished : HasFinished s at t most begun now → Goes now n
       stands_at : (k : ℕ) → k < 17 → (file s t now).pc ≡ at + 4 * k → left_now k now + n ≤ most
-          → IsKnown k (file s t now).file → Goes now n
+          → IsKnown k (file s t now).file → AreBehind k now → Goes now n
+
+    -- so that a load is the first one of its slot
+    first_load : (k : ℕ) (now : History) → k ≡ 10 → AreBehind k now
+        → LooksAt s u first at t (file s t now).file now → IsFirstLoad s at t begun now
+    first_load k now ten behind (i, six, seven) loaded =
+        let was = behind (register (file s t now).file 6) loaded in
+        by_left (register (file s t now).file 6) (register (file s t now).file 7) was.0 six seven was.1
+        (subst (λ j. left_at (u.readers at) j (register (file s t now).file 7) ≤ 6 * was.0) ten was.2)
+      where
+        by_left : (x y m : ℕ) → x ≡ slot_at u i → y + i ≡ u.readers at
+            → x + 64 * m ≡ u.slots + 64 * u.readers at → left_at (u.readers at) 10 y ≤ 6 * m → ⊥
+        by_left x y m is left same le = let no : ⊥ = omega arith in no
+
+    -- the slots that it has loaded after an instruction that isn't the load, or by which it loads the next one
+    behind_next : (e : Event) (before : History) (k to : ℕ) → e.entry.pc ≡ at + 4 * k
+        → (k ≡ 10 → LooksAt s u first at t (file s t before).file before)
+        → left_now to (e ∷ before) + 1 ≤ left_now k before → AreBehind k before → AreBehind to (e ∷ before)
+    behind_next e before k to pc ten falls behind a loaded = by_old
+        (loaded_next s at t begun a e before loaded)
+      where
+        less : (x y m : ℕ) → x + 1 ≤ y → y ≤ 6 * m → x ≤ 6 * m
+        less x y m falls le = omega arith
+
+        by_slot : (x b seven i : ℕ) → b ≡ slot_at u i → seven + i ≡ u.readers at → b ≡ a
+            → x + 1 ≤ left_at (u.readers at) 10 seven
+            → (m : ℕ) × (a + 64 * m ≡ u.slots + 64 * u.readers at) × (x ≤ 6 * m)
+        by_slot x b seven i six left same falls = (seven, omega arith, omega arith)
+
+        by_old : IsLoaded s at t a begun before ⊎ Loads s at t begun a e before
+            → (m : ℕ) × (a + 64 * m ≡ u.slots + 64 * u.readers at) × (left_now to (e ∷ before) ≤ 6 * m)
+        by_old (inl was) =
+            let old = behind a was in
+            (old.0, old.1, less (left_now to (e ∷ before)) (left_now k before) old.0 falls old.2)
+        by_old (inr (exec, of, from)) =
+            let place = exec.pc in
+            let is : k ≡ 10 = omega arith in
+            let at_slot = ten is in
+            by_slot (left_now to (e ∷ before)) (register (file s t before).file 6)
+            (register (file s t before).file 7) at_slot.0 at_slot.1 at_slot.2 from
+            (subst (λ j. left_now to (e ∷ before) + 1 ≤ left_now j before) is falls)
 
     one_later : (e : Event) (before : History) → HasFinished s at t most begun before
         → HasFinished s at t most begun (e ∷ before)
@@ -607,10 +721,11 @@ module _ (s : Setting) (u : Urcu) (first : ℕ) (blocks : AreBlocks (code_of s.p
         (slots : register (file s e.entry.tid.0 before).file r.slots ≡ u.slots)
         → e.entry.tid.0 ≡ t → k < 17 → k ≢ 16 → IsKnown k (file s t before).file
         → (k ≡ 10 → IsPassing (file s t (e ∷ before)).file)
-        → left_now k before + n ≤ most
+        → left_now k before + n ≤ most → e.entry.pc ≡ at + 4 * k
+        → (k ≡ 10 → LooksAt s u first at t (file s t before).file before) → AreBehind k before
         → IsNext s u first blocks at r block e before run has executes_it gp slots k
         → Goes (e ∷ before) (suc n)
-    after_next e before n k run has executes_it gp slots of lt other known loads left next =
+    after_next e before n k run has executes_it gp slots of lt other known loads left pc ten behind next =
         let inside = next.inside other in
         let falls = next.falls
         (subst (λ m. k ≡ 12 → register (file s m before).file 5 ≤ register (file s m before).file 10)
@@ -632,6 +747,7 @@ module _ (s : Setting) (u : Urcu) (first : ℕ) (blocks : AreBlocks (code_of s.p
               → IsPassing (file s m (e ∷ before)).file × (register (file s m (e
               ∷ before)).file 10 ≢ 0)) of next.tested) is known.looked;
         })
+        (behind_next e before k next.to pc ten falls_t behind)
       where
         sums : (a b : ℕ) → a + 1 ≤ b → b + n ≤ most → a + suc n ≤ most
         sums a b falls left = omega arith
@@ -667,17 +783,32 @@ module _ (s : Setting) (u : Urcu) (first : ℕ) (blocks : AreBlocks (code_of s.p
           looked = λ is. let no : ⊥ = omega arith in absurd no;
           tested = λ is. let no : ⊥ = omega arith in absurd no;
         })
+        (λ a loaded. absurd (none_loaded s at t begun a loaded))
     goes now n run uses gone (it_rests e before m other keeps was) = by_was
         (goes before m run.0 uses.0 gone.0 was)
       where
+        not_loaded : (a : ℕ) → IsLoaded s at t a begun (e ∷ before) → IsLoaded s at t a begun before
+        not_loaded a loaded = by_old (loaded_next s at t begun a e before loaded)
+          where
+            by_old : IsLoaded s at t a begun before ⊎ Loads s at t begun a e before
+                → IsLoaded s at t a begun before
+            by_old (inl old) = old
+            by_old (inr loads) = absurd (other loads.0.executes loads.1)
+
         by_file : (k : ℕ) → k < 17 → (file s t before).pc ≡ at + 4 * k → left_now k before + m ≤ most
-            → IsKnown k (file s t before).file
+            → IsKnown k (file s t before).file → AreBehind k before
             → (file s t (e ∷ before) ≡ file s t before) ⊎ HasReturned s at t e before → Goes (e ∷ before) m
-        by_file k lt place left known (inl same) =
+        by_file k lt place left known behind (inl same) =
             stands_at k lt (ap (λ (x : Saved). x.pc) same ∙ place)
             (subst (λ (x : Saved). left_at (u.readers at) k (register x.file 7) + m ≤ most) (sym same) left)
             (subst (λ (x : Saved). IsKnown k x.file) (sym same) known)
-        by_file k lt place left known (inr returned) =
+            (λ a loaded.
+            let was = behind a (not_loaded a loaded) in (
+              was.0,
+              was.1,
+              subst (λ (x : Saved). left_at (u.readers at) k (register x.file 7) ≤ 6 * was.0) (sym same) was.2,
+            ))
+        by_file k lt place left known behind (inr returned) =
             let was_at = returned.was in
             let five : k ≡ 5 = omega arith in
             let old : left_at (u.readers at) 5 (register (file s t before).file 7) + m ≤ most = subst
@@ -687,18 +818,25 @@ module _ (s : Setting) (u : Urcu) (first : ℕ) (blocks : AreBlocks (code_of s.p
               looked = λ is. let no : ⊥ = omega arith in absurd no;
               tested = λ is. let no : ⊥ = omega arith in absurd no;
             })
+            (λ a loaded.
+            let was = behind a (not_loaded a loaded) in (
+              was.0,
+              was.1,
+              subst (λ j. left_at (u.readers at) j (register (file s t before).file 7) ≤ 6 * was.0) five was.2,
+            ))
 
         by_was : Goes before m → Goes (e ∷ before) m
         by_was (has_finished f) = has_finished (one_later e before f)
-        by_was (stands_at k lt place left known) = by_file k lt place left known keeps
+        by_was (stands_at k lt place left known behind) = by_file k lt place left known behind keeps
     goes now n run uses gone (it_runs e before m executes_it of good was) = by_was
         (goes before m run.0 uses.0 gone.0 was)
       where
         by_k : (k : ℕ) → k < 17 → (file s t before).pc ≡ at + 4 * k → left_now k before + m ≤ most
-            → IsKnown k (file s t before).file → (k ≡ 16) ⊎ (k ≢ 16) → Goes (e ∷ before) (suc m)
-        by_k k lt place left known (inl last) = has_finished
+            → IsKnown k (file s t before).file → AreBehind k before → (k ≡ 16) ⊎ (k ≢ 16)
+            → Goes (e ∷ before) (suc m)
+        by_k k lt place left known behind (inl last) = has_finished
             (finished_by e before m k run executes_it of was place left last)
-        by_k zero lt place left known (inr other) =
+        by_k zero lt place left known behind (inr other) =
             let all = always before run.0 uses.0 gone.0 in
             let has = orderly e before run uses all (λ at t begins. gone.1) in
             let acts_it = exec_of s e before (step_of s e before run) executes_it in
@@ -708,11 +846,12 @@ module _ (s : Setting) (u : Urcu) (first : ℕ) (blocks : AreBlocks (code_of s.p
             let gp = uses.1.sync_gp at r block exec in
             let slots = uses.1.sync_slots at r block exec in
             after_next e before m 0 run has executes_it gp slots of lt other known
-            (λ is. let no : ⊥ = omega arith in absurd no) left
+            (λ is. let no : ⊥ = omega arith in absurd no) left (pc ∙ omega arith)
+            (λ is. let no : ⊥ = omega arith in absurd no) behind
             (next_first s u first blocks at r block e before run has executes_it gp slots
             (sound before all).counter uses.0
             (are_below before run.0 uses.0 all at e.entry.tid.0) pc)
-        by_k (suc j) lt place left known (inr other) =
+        by_k (suc j) lt place left known behind (inr other) =
             let all = always before run.0 uses.0 gone.0 in
             let has = orderly e before run uses all (λ at t begins. gone.1) in
             let acts_it = exec_of s e before (step_of s e before run) executes_it in
@@ -720,15 +859,20 @@ module _ (s : Setting) (u : Urcu) (first : ℕ) (blocks : AreBlocks (code_of s.p
             ∙ place in
             let pc : e.entry.pc ≡ at + 4 * suc j = sym acts_it.pc ∙ here in
             let its = (sound before all).syncs at e.entry.tid.0 (suc j) r block (omega arith) lt here in
+            let its_t : Stands s u first at t (file s t before).file before (suc j) =
+            subst (λ i. Stands s u first at i (file s i before).file before (suc j)) of its.stands in
+            let ten : suc j ≡ 10 → LooksAt s u first at t (file s t before).file before =
+            λ is. looks_at s u first at t (file s t before).file before (suc j) is its_t in
             after_next e before m (suc j) run has executes_it its.gp its.slots of lt other known
-            (λ is. good (pc ∙ ap (λ i. at + 4 * i) is)) left
+            (λ is. good (pc ∙ ap (λ i. at + 4 * i) is) (first_load (suc j) before is behind (ten is))) left
+            pc ten behind
             (next_of s u first blocks at r block e before run has executes_it its.gp its.slots
             (sound before all).counter uses.0
             (are_below before run.0 uses.0 all at e.entry.tid.0) (suc j) pc its.stands)
 
         by_was : Goes before m → Goes (e ∷ before) (suc m)
         by_was (has_finished f) = has_finished (one_later e before f)
-        by_was (stands_at k lt place left known) = by_k k lt place left known (cases_eq k 16)
+        by_was (stands_at k lt place left known behind) = by_k k lt place left known behind (cases_eq k 16)
 
     -- where so many instructions were executed, one of them was the last
     too_many : (a n : ℕ) → 1 ≤ a → a + n ≤ most → most ≤ n → ⊥
@@ -736,7 +880,7 @@ module _ (s : Setting) (u : Urcu) (first : ℕ) (blocks : AreBlocks (code_of s.p
 
     over_by : (now : History) (n : ℕ) → most ≤ n → Goes now n → HasFinished s at t most begun now
     over_by now n le (has_finished f) = f
-    over_by now n le (stands_at k lt place left known) =
+    over_by now n le (stands_at k lt place left known behind) =
         absurd (too_many (left_at (u.readers at) k (register (file s t now).file 7)) n
         (some_left (u.readers at) k (register (file s t now).file 7)) left le)
 
@@ -746,7 +890,7 @@ module _ (s : Setting) (u : Urcu) (first : ℕ) (blocks : AreBlocks (code_of s.p
         → e.entry.tid.0 ≡ t → Runs s at t begun before m → most ≤ suc m → Goes before m
         → HasFinished s at t most begun (e ∷ before)
     at_end e before m run uses executes_it of was le (has_finished f) = one_later e before f
-    at_end e before m run uses executes_it of was le (stands_at k lt place left known) = by_k (cases_eq k 16)
+    at_end e before m run uses executes_it of was le (stands_at k lt place left known behind) = by_k (cases_eq k 16)
       where
         two : (k ≢ 16) → 2 ≤ left_at (u.readers at) k (register (file s t before).file 7)
         two other = by_zero k refl

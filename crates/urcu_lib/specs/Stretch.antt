@@ -20,15 +20,31 @@ pub record HasReturned (s : Setting) (at t : ℕ) (e : Event) (before : History)
 abbrev pub IsPassing : Regs → Type 0
 IsPassing f = (register f 10 ≡ 0) ⊎ (register f 5 ≤ register f 10)
 
+-- since a place thread t has executed the block's load of a slot where the slot's address, in x6, was this one
+pub record IsLoaded (s : Setting) (at t a : ℕ) (begun now : History) : Type 0 where
+  pub event : Event
+  pub since : List Event
+  pub earlier : List Event
+  pub parts : now ≡ since ++ event ∷ (earlier ++ begun)
+  pub exec : IsExecAt (at + 40) event
+  pub of : event.entry.tid.0 ≡ t
+  pub from : register (file s t (earlier ++ begun)).file 6 ≡ a
+
+-- the thread's next load is the first one of its slot since a place
+abbrev pub IsFirstLoad : Setting → ℕ → ℕ → History → History → Type 0
+IsFirstLoad s at t begun before = IsLoaded s at t (register (file s t before).file 6) begun before → ⊥
+
 -- since a place thread t executed so many instructions. No other event changed its file, but that its barrier
--- returned, so no signal was delivered to it; and each load of a slot by the sync block gave such a number
+-- returned, so no signal was delivered to it; and the first load of each slot by the sync block gave such a
+-- number
 pub data Runs (s : Setting) (at t : ℕ) (begun : History) : History → ℕ → Type 0 where
   none_run : Runs s at t begun begun 0
   it_rests : (e : Event) (before : History) (n : ℕ) → (choice_of e.entry ≡ asked.Exec → e.entry.tid.0 ≡ t → ⊥)
       → (file s t (e ∷ before) ≡ file s t before) ⊎ HasReturned s at t e before → Runs s at t begun before n
       → Runs s at t begun (e ∷ before) n
   it_runs : (e : Event) (before : History) (n : ℕ) → choice_of e.entry ≡ asked.Exec → e.entry.tid.0 ≡ t
-      → (e.entry.pc ≡ at + 40 → IsPassing (file s t (e ∷ before)).file) → Runs s at t begun before n
+      → (e.entry.pc ≡ at + 40 → IsFirstLoad s at t begun before → IsPassing (file s t (e ∷ before)).file)
+      → Runs s at t begun before n
       → Runs s at t begun (e ∷ before) (suc n)
 
 -- among the first so many of them was the block's last one

@@ -32,8 +32,8 @@ pub fn sections_end_before_grace_periods()
 {}
 
 /// Where a thread executes the instructions of a sync block from its first on, no signal is delivered to it,
-/// and each load of a slot gives 0 or a number not below the new counter, the block's last instruction is
-/// soon executed: it is among the thread's first 11 + 6 * readers instructions, where the log has so many.
+/// and the first load of each slot gives 0 or a number not below the new counter, the block's last instruction
+/// is soon executed: it is among the thread's first 11 + 6 * readers instructions, where the log has so many.
 pub fn sync_is_soon_over()
     ensures soon { (s : Setting) (log : List Entry) (u : Urcu) (at t n : ℕ) (r : SyncRegs) (begun : History)
         → IsBlockRun s log → HoldsUrcu s u (history s log) → u.syncs at ≡ Some r → (file s t begun).pc ≡ at
