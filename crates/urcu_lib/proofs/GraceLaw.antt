@@ -26,7 +26,7 @@ use Rattle.fence_laws.specs.Entered.{HaveEntered}
 use Rattle.fence_laws.specs.Kept.{AreBeside, AreQuiet, IsQuiet}
 use Rattle.urcu_lib.specs.Sections.{HaveEnded, IsGrace, IsGraceBegin, IsExecAt, IsGraceEnd, IsSyncStore}
 use Rattle.urcu_lib.specs.Sections.{IsSyncing, calls, comes_in, is_in, waits}
-use Rattle.urcu_lib.specs.Stretch.{HasFinished, HasReturned, IsCounterGrown, IsFirstLoad, IsLoaded}
+use Rattle.urcu_lib.specs.Stretch.{HasFinished, HasNewCounter, HasReturned, IsCounterGrown, IsFirstLoad, IsLoaded}
 use Rattle.urcu_lib.specs.Stretch.{IsPassing, Runs, it_rests, it_runs, none_run}
 use Rattle.urcu_lib.specs.Registers.{AreSyncRegs}
 use Rattle.urcu_lib.specs.Uses.{AreElsewhere, AreUses, HasCome, IsStart, acts, counted, goes_on, returns}
@@ -119,6 +119,24 @@ module _ (s : Setting) (u : Urcu) (first at t : ℕ) (f : Regs) (now : History) 
   none_at k four (moves is p i lt six x passed) = let no : ⊥ = omega arith in absurd no
   none_at k four (counts is p i lt six x passed) = let no : ⊥ = omega arith in absurd no
   none_at k four (is_over is p passed) = let no : ⊥ = omega arith in absurd no
+
+  looked_at : (k : ℕ) → k ≡ 11 → Stands s u first at t f now k → IsPast s u first at t f now
+  looked_at k looked (has_looked is p i lt six x passed shows) = p
+  looked_at k looked (looks is p i lt six x passed) = let no : ⊥ = omega arith in absurd no
+  looked_at k looked (all_set is a b c none) = let no : ⊥ = omega arith in absurd no
+  looked_at k looked (one_set is a none) = let no : ⊥ = omega arith in absurd no
+  looked_at k looked (two_set is a b none) = let no : ⊥ = omega arith in absurd no
+  looked_at k looked (three_set is a b none) = let no : ⊥ = omega arith in absurd no
+  looked_at k looked (has_called is o quiet) = let no : ⊥ = omega arith in absurd no
+  looked_at k looked (has_grown is o quiet entered x) = let no : ⊥ = omega arith in absurd no
+  looked_at k looked (has_loaded is o quiet entered x) = let no : ⊥ = omega arith in absurd no
+  looked_at k looked (has_stored is p) = let no : ⊥ = omega arith in absurd no
+  looked_at k looked (has_slots is p six) = let no : ⊥ = omega arith in absurd no
+  looked_at k looked (is_some is p i lt six x passed shows) = let no : ⊥ = omega arith in absurd no
+  looked_at k looked (passes is p i lt six x passed) = let no : ⊥ = omega arith in absurd no
+  looked_at k looked (moves is p i lt six x passed) = let no : ⊥ = omega arith in absurd no
+  looked_at k looked (counts is p i lt six x passed) = let no : ⊥ = omega arith in absurd no
+  looked_at k looked (is_over is p passed) = let no : ⊥ = omega arith in absurd no
 
   -- at the load x6 is the address of the slot at which the thread looks, and x7 says how many are left
   abbrev LooksAt : Type 0
@@ -961,7 +979,43 @@ module _ (s : Setting) (u : Urcu) (first : ℕ) (blocks : AreBlocks (code_of s.p
       (base_is s u first blocks at r block e before run has exec.executes its.gp its.slots c.0 c.1
       ∙ ap (counted u.counter first) (sym same))
 
-  -- and where the last instruction is executed, the number above it
+  -- a number that was seen there is the counter of where the grace period began
+  value_at_return : (at t : ℕ) (r : SyncRegs) → u.syncs at ≡ Some r → (e : Event) (before : History)
+      → IsRunHistory s (e ∷ before) → AreUses s u first before → (grace back : History) (next : Event)
+      (later : List Event) (n : ℕ) → IsGrace at t grace back → before ≡ later ++ next ∷ back
+      → IsExecAt (at + 20) next → next.entry.tid.0 ≡ t
+      → word_at (seen_at s next.entry.hart.0 back) u.counter 8 ≡ Some n → n ≡ counted u.counter first grace
+  value_at_return at t r block e before run uses grace back next later n began parts exec of saw =
+      let run_next = first_run s later (next ∷ back) (subst (IsRunHistory s) parts run.0) in
+      let uses_next = first_uses s u first later (next ∷ back) (subst (AreUses s u first) parts uses) in
+      let gone_next = first_gone later (next ∷ back) (subst HasGoneOn parts (has_gone_on s e before run)) in
+      same_number
+      (sym saw ∙ seen_at_return at t r block next back run_next uses_next gone_next exec of grace began)
+    where
+      same_number : {a b : ℕ} → Some a ≡ Some b → a ≡ b
+      same_number is = cc
+
+      first_gone : (since : List Event) (x : History) → HasGoneOn (since ++ x) → HasGoneOn x
+      first_gone [] x gone = gone
+      first_gone (y ∷ since) x gone = first_gone since x gone.0
+
+  -- where the instruction behind the load is executed, x5 is the number above it
+  pub new_counter : (e : Event) (before : History) → IsRunHistory s (e ∷ before)
+      → AreUses s u first (e ∷ before) → (at t : ℕ) (r : SyncRegs) → u.syncs at ≡ Some r
+      → IsExecAt (at + 44) e → e.entry.tid.0 ≡ t → HasNewCounter s u at t before
+  new_counter e before run uses at t r block exec of grace back next later n on began parts behind its saw =
+      let acts_it = exec_of s e before (step_of s e before run) exec.executes in
+      let gone = has_gone_on s e before run in
+      let all = always before run.0 uses.0 gone in
+      let there : (file s t before).pc ≡ at + 4 * 11 = sym (ap (λ m. (file s m before).pc) of) ∙ acts_it.pc
+      ∙ exec.pc in
+      let was = (sound before all).syncs at t 11 r block (omega arith) (omega arith) there in
+      let p = looked_at s u first at t (file s t before).file before 11 refl was.stands in
+      let same = one_grace at t r grace p.opened.grace block before run.0 uses.0 all gone on p.opened.on in
+      let value = value_at_return at t r block e before run uses.0 grace back next later n began parts behind its saw in
+      p.five ∙ ap (λ m. m + 1) (ap (counted u.counter first) (sym same) ∙ sym value)
+
+  -- and where the last instruction is executed, so is what its hart sees of the counter
   pub counter_grown : (e : Event) (before : History) → IsRunHistory s (e ∷ before)
       → AreUses s u first (e ∷ before)
       → (at t : ℕ) (r : SyncRegs) → u.syncs at ≡ Some r → IsGraceEnd at t e → IsCounterGrown s u at t e before
@@ -973,12 +1027,7 @@ module _ (s : Setting) (u : Urcu) (first : ℕ) (blocks : AreBlocks (code_of s.p
       (at_last e before run uses at t r block ends).stands in
       let c = (sound before all).counter in
       let same = one_grace at t r grace over.0.opened.grace block before run.0 uses.0 all gone on over.0.opened.on in
-      let run_next = first_run s later (next ∷ back) (subst (IsRunHistory s) parts run.0) in
-      let uses_next = first_uses s u first later (next ∷ back) (subst (AreUses s u first) parts uses.0) in
-      let gone_next = first_gone later (next ∷ back) (subst HasGoneOn parts gone) in
-      let value : n ≡ counted u.counter first grace = same_number
-      (sym saw
-      ∙ seen_at_return at t r block next back run_next uses_next gone_next exec of grace began) in
+      let value = value_at_return at t r block e before run uses.0 grace back next later n began parts exec of saw in
       let quiet = is_quiet_last uses.1.counter all in
       word_same (counter_bytes u) (seen_at s e.entry.hart.0 (e ∷ before)) (seen_at s e.entry.hart.0 before)
       (λ a has. ap Some (quiet_own (counter_bytes u) s e before run quiet a has)) u.counter 8
@@ -987,13 +1036,6 @@ module _ (s : Setting) (u : Urcu) (first : ℕ) (blocks : AreBlocks (code_of s.p
       ∙ ap Some over.0.count
       ∙ ap (λ m. Some (m + 1)) (ap (counted u.counter first) (sym same) ∙ sym value)
     where
-      same_number : {a b : ℕ} → Some a ≡ Some b → a ≡ b
-      same_number is = cc
-
-      first_gone : (since : List Event) (x : History) → HasGoneOn (since ++ x) → HasGoneOn x
-      first_gone [] x gone = gone
-      first_gone (y ∷ since) x gone = first_gone since x gone.0
-
       is_quiet_last : IsQuiet (counter_bytes u) e ⊎ IsSyncStore u e → Always before
           → IsQuiet (counter_bytes u) e
       is_quiet_last (inl quiet) all = quiet

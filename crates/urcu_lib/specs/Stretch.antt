@@ -58,6 +58,16 @@ pub record HasFinished (s : Setting) (at t most : ℕ) (begun now : History) : T
   pub run : Runs s at t begun rest executed
   pub few : executed < most
 
+-- x5 of the thread is the new counter: 1 above what the thread's hart saw where the call of the grace period
+-- that goes on had returned
+abbrev pub HasNewCounter : Setting → Urcu → ℕ → ℕ → History → Type 0
+HasNewCounter s u at t now =
+    (grace back : History) (next : Event) (later : List Event) (n : ℕ) → IsGrace at t grace now
+    → IsGrace at t grace back
+    → now ≡ later ++ next ∷ back → IsExecAt (at + 20) next → next.entry.tid.0 ≡ t
+    → word_at (seen_at s next.entry.hart.0 back) u.counter 8 ≡ Some n
+    → register (file s t now).file 5 ≡ n + 1
+
 -- after an event its hart sees the counter 1 above what the thread's hart saw where the call of the grace
 -- period that goes on had returned: before the thread executed the instruction behind the call
 abbrev pub IsCounterGrown : Setting → Urcu → ℕ → ℕ → Event → History → Type 0
