@@ -1,11 +1,17 @@
 -- A section that began before a grace period began has ended before it ended.
 use Rattle.std.proofs.Common.{◌≡◌, ◌≢◌, ℕ, zero, suc, ◌+◌, ◌*◌, ◌<◌, ◌≤◌, ◌%◌, ◌^◌, List, [], ◌∷◌, ◌++◌, ◌⊎◌}
-use Rattle.std.proofs.Common.{append_assoc, length, length-append, arith, refl, sym, ap, ◌∙◌, subst, true, inl, inr, Some, None}
+use Rattle.std.proofs.Common.{append_assoc, length, length-append, arith, refl, sym, ap, ◌∙◌, subst, true, false, inl, inr, Some, None, Option}
 use Rattle.std.proofs.Common.{pos}
 use Rattle.std.proofs.lemmas.Bool.{cases_eq, ne_eqb, false≢true}
 use Rattle.mach_types.specs.Events.{choice_of}
 use Rattle.mach_types.specs.Registers.{register}
 use Rattle.mach_types.specs.declared.events.Choice.TheVariants as asked
+use Rattle.mach_types.specs.declared.events.Kind.{Kind}
+use Rattle.mach_types.specs.declared.events.Kind.TheVariants as kind
+use Rattle.mach_types.specs.declared.threads.ThreadState.{ThreadState}
+use Rattle.mach_types.specs.declared.threads.ThreadState.TheVariants.{Ready, Running, Waiting}
+use Rattle.mach_types.specs.Kernel.Threads.{is_ready, is_ready_state, state_of}
+use Rattle.std.specs.Option.{option_map_or}
 use Rattle.mach_types.specs.declared.registers.Regs.{Regs}
 use Rattle.mach_types.specs.declared.threads.Saved.{Saved}
 use Rattle.rv_inst.specs.Memory.{loaded}
@@ -13,9 +19,11 @@ use Rattle.rv_inst.specs.declared.instruction.Inst.TheVariants as inst
 use Rattle.alone.proofs.Laws.{loaded_word, written_same}
 use Rattle.alone.proofs.Means.{means_ld}
 use Rattle.alone_laws.specs.Spans.{code_of, seen_at}
-use Rattle.block_model.proofs.Laws.{IsStep, has_registers, one_hart, step_of}
+use Rattle.block_model.proofs.Laws.{IsStep, file_apart, has_registers, not_ready, one_hart, ready_file_stays}
+use Rattle.block_model.proofs.Laws.{running_is, running_there, step_of}
+use Rattle.block_model.specs.Tables.{IsTables, on}
 use Rattle.mach_types.specs.Bytes.{word_at}
-use Rattle.block_model.specs.History.{Event, History, file, running, waiting}
+use Rattle.block_model.specs.History.{Event, History, file, kernel, running, waiting}
 use Rattle.block_model.specs.Run.{IsRunHistory}
 use Rattle.block_model.specs.Setting.{Setting}
 use Rattle.block_model.specs.Walks.{is_exec}
@@ -29,7 +37,8 @@ use Rattle.urcu_lib.specs.Sections.{IsSyncing, calls, comes_in, is_in, waits}
 use Rattle.urcu_lib.specs.Stretch.{HasFinished, HasNewCounter, HasReturned, IsCounterGrown, IsFirstLoad, IsLoaded}
 use Rattle.urcu_lib.specs.Stretch.{IsPassing, Runs, it_rests, it_runs, none_run}
 use Rattle.urcu_lib.specs.Registers.{AreSyncRegs}
-use Rattle.urcu_lib.specs.Uses.{AreElsewhere, AreUses, HasCome, IsStart, acts, counted, goes_on, returns}
+use Rattle.urcu_lib.specs.Uses.{AreElsewhere, AreUses, HasCome, IsStart, MaySet, acts, counted, goes_on}
+use Rattle.urcu_lib.specs.Uses.{returns}
 use Rattle.urcu_lib.proofs.CounterLaw.{IsCounter, counted_low, counter_quiet, counter_start, counter_stored}
 use Rattle.urcu_lib.proofs.CounterLaw.{in_word, new_count, same_count, seen_last, seen_word}
 use Rattle.fence_laws.proofs.ExecLaw.{after_load, exec_of}
@@ -265,6 +274,81 @@ syncing_since at t begun old [] elsewhere was = was
 syncing_since at t begun old (e ∷ since) elsewhere was =
     is_in e (since ++ old) (syncing_since at t begun old since elsewhere.0 was)
     (λ ends. elsewhere.1 ends.exec.executes ends.of (16, omega arith, ends.exec.pc))
+
+-- WHO SETS A FILE
+
+module _ (s : Setting) (e : Event) (before : History) (run : IsRunHistory s (e ∷ before)) where
+  set_step : IsStep s e before
+  set_step = step_of s e before run
+
+  -- an event leaves a thread as it was, and executes nothing for it
+  abbrev Leaves : ℕ → Type 0
+  Leaves t = (file s t (e ∷ before) ≡ file s t before) × (choice_of e.entry ≡ asked.Exec → e.entry.tid.0 ≡ t → ⊥)
+
+  runs_here : (t : ℕ) → choice_of e.entry ≡ asked.Exec → e.entry.tid.0 ≡ t
+      → running s e.entry.hart.0 before ≡ Some t
+  runs_here t executes of = (exec_of s e before set_step executes).runs ∙ ap Some of
+
+  ready_stays_so : (t : ℕ) → is_ready t (kernel s before).threads ≡ true
+      → (e.entry.kind ≡ kind.Run → e.entry.tid.0 ≢ t) → Leaves t
+  ready_stays_so t ready other = (
+    ready_file_stays s e before t run ready other,
+    λ executes of. false≢true
+        (sym (not_ready s e before set_step e.entry.hart.0 t (runs_here t executes of)) ∙ ready),
+  )
+
+  by_ready : (t : ℕ) → is_ready t (kernel s before).threads ≡ true → (k : Kind) → e.entry.kind ≡ k
+      → MaySet s t e before ⊎ Leaves t
+  by_ready t ready kind.Run is = by_thread (cases_eq e.entry.tid.0 t)
+    where
+      by_thread : (e.entry.tid.0 ≡ t) ⊎ (e.entry.tid.0 ≢ t) → MaySet s t e before ⊎ Leaves t
+      by_thread (inl same) = inl (inr (inl (is, same)))
+      by_thread (inr other) = inr (ready_stays_so t ready (λ k same. other same))
+  by_ready t ready k is = inr (ready_stays_so t ready (λ run_it same. absurd cc))
+
+  by_hart : (t h : ℕ) → running s h before ≡ Some t → MaySet s t e before ⊎ Leaves t
+  by_hart t h there = by_same (cases_eq e.entry.hart.0 h)
+    where
+      by_same : (e.entry.hart.0 ≡ h) ⊎ (e.entry.hart.0 ≢ h) → MaySet s t e before ⊎ Leaves t
+      by_same (inl same) = inl (inl (ap (λ n. running s n before) same ∙ there))
+      by_same (inr other) = inr (
+        file_apart s h t e before set_step (ne_eqb e.entry.hart.0 h other) there,
+        λ executes of. other
+            (sym (one_hart s e before set_step h t there e.entry.hart.0 (runs_here t executes of))),
+      )
+
+  set_or_left : (t : ℕ) → MaySet s t e before ⊎ Leaves t
+  set_or_left t = by_state (state_of t (kernel s before).threads) refl
+    where
+      tables : IsTables s.limits.harts (kernel s before).threads (kernel s before).scheduling
+      tables = set_step.good.kernel.tables
+
+      away : (o : Option ThreadState) → state_of t (kernel s before).threads ≡ o
+          → option_map_or is_ready_state o false ≡ false
+          → ((h : ℕ) → o ≢ Some (on h)) → MaySet s t e before ⊎ Leaves t
+      away o is not_it none = inl (inr (inr (record {
+        not_ready = ap (λ x. option_map_or is_ready_state x false) is ∙ not_it;
+        nowhere = λ h there. none h
+            (sym is
+            ∙ running_is s.limits.harts h t (kernel s before).threads (kernel s before).scheduling tables there);
+      })))
+
+      by_state : (o : Option ThreadState) → state_of t (kernel s before).threads ≡ o
+          → MaySet s t e before ⊎ Leaves t
+      by_state None is = away None is refl (λ h same. cc)
+      by_state (Some Ready) is = by_ready t (ap (λ x. option_map_or is_ready_state x false) is) e.entry.kind refl
+      by_state (Some (Running h)) is = by_hart t h.0
+          (running_there s.limits.harts h.0 t (kernel s before).threads (kernel s before).scheduling tables is)
+      by_state (Some (Waiting a)) is = away (Some (Waiting a)) is refl (λ h same. cc)
+
+  -- so a thread comes to a place by an event that may set its file, or stood there before
+  has_come : (at count kept t : ℕ) → (MaySet s t e before → HasCome s at count kept t e before)
+      → HasCome s at count kept t e before
+  has_come at count kept t asks = by_set (set_or_left t)
+    where
+      by_set : MaySet s t e before ⊎ Leaves t → HasCome s at count kept t e before
+      by_set (inl may) = asks may
+      by_set (inr (same, none)) = goes_on before [] refl (tt, λ executes of within. none executes of) same
 
 -- one thread at a time is in one
 module _ (s : Setting) (u : Urcu) (first : ℕ) where
@@ -604,9 +688,10 @@ module _ (s : Setting) (u : Urcu) (first : ℕ) (blocks : AreBlocks (code_of s.p
     sound_next : IsSound (e ∷ before)
     sound_next = record {
       counter = both.0;
-      locks = λ at t r block there. locks_next at t r block there (uses.1.locking at t r block there);
+      locks = λ at t r block there. locks_next at t r block there
+          (has_come s e before run at 1 0 t (λ may. uses.1.locking at t r block may there));
       syncs = λ at t k r block some lt there. syncs_next at t k r block lt there some
-          (uses.1.syncing at t k r block some lt there);
+          (has_come s e before run at 17 17 t (λ may. uses.1.syncing at t k r block some lt may there));
     }
 
   sound_start : IsSound []
@@ -843,9 +928,15 @@ module _ (s : Setting) (u : Urcu) (first : ℕ) (blocks : AreBlocks (code_of s.p
               subst (λ j. left_at (u.readers at) j (register (file s t before).file 7) ≤ 6 * was.0) five was.2,
             ))
 
+        by_set : MaySet s t e before ⊎ Leaves s e before run t
+            → (file s t (e ∷ before) ≡ file s t before) ⊎ HasReturned s at t e before
+        by_set (inl may) = keeps may
+        by_set (inr (same, none)) = inl same
+
         by_was : Goes before m → Goes (e ∷ before) m
         by_was (has_finished f) = has_finished (one_later e before f)
-        by_was (stands_at k lt place left known behind) = by_file k lt place left known behind keeps
+        by_was (stands_at k lt place left known behind) = by_file k lt place left known behind
+            (by_set (set_or_left s e before run t))
     goes now n run uses gone (it_runs e before m executes_it of good was) = by_was
         (goes before m run.0 uses.0 gone.0 was)
       where

@@ -734,8 +734,8 @@ module _ (s : Setting) (x : Layout) (first : ℕ) where
           follows (executes (x.sync_at + 16) e) (kernel s before).barriers.private register_rest.1
           (executes_it (x.sync_at + 16) e
           (subst (λ n. IsExecAt (n + 16) e) (sync_of at r block) begins.exec));
-      locking = locking_is;
-      syncing = syncing_at;
+      locking = λ at t r block may there. locking_is at t r block there;
+      syncing = λ at t k r block some lt may there. syncing_at at t k r block some lt there;
       lock_gp = lock_are;
       sync_gp = λ at r block exec. (sync_are at r block exec).0;
       sync_slots = λ at r block exec. (sync_are at r block exec).1;

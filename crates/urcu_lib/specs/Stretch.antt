@@ -10,6 +10,7 @@ use Rattle.block_model.specs.Setting.{Setting}
 use Rattle.alone_laws.specs.Spans.{seen_at}
 use Rattle.urcu_lib.specs.Blocks.{Urcu}
 use Rattle.urcu_lib.specs.Sections.{IsExecAt, IsGrace, IsGraceEnd}
+use Rattle.urcu_lib.specs.Uses.{MaySet}
 
 -- its barrier returns
 pub record HasReturned (s : Setting) (at t : ℕ) (e : Event) (before : History) : Type 0 where
@@ -34,13 +35,14 @@ pub record IsLoaded (s : Setting) (at t a : ℕ) (begun now : History) : Type 0 
 abbrev pub IsFirstLoad : Setting → ℕ → ℕ → History → History → Type 0
 IsFirstLoad s at t begun before = IsLoaded s at t (register (file s t before).file 6) begun before → ⊥
 
--- since a place thread t executed so many instructions. No other event changed its file, but that its barrier
--- returned, so no signal was delivered to it; and the first load of each slot by the sync block gave such a
+-- since a place thread t executed so many instructions. No other event that may set its file changed it, but
+-- that its barrier returned, so no signal was delivered to it; and the first load of each slot by the sync block gave such a
 -- number
 pub data Runs (s : Setting) (at t : ℕ) (begun : History) : History → ℕ → Type 0 where
   none_run : Runs s at t begun begun 0
   it_rests : (e : Event) (before : History) (n : ℕ) → (choice_of e.entry ≡ asked.Exec → e.entry.tid.0 ≡ t → ⊥)
-      → (file s t (e ∷ before) ≡ file s t before) ⊎ HasReturned s at t e before → Runs s at t begun before n
+      → (MaySet s t e before → (file s t (e ∷ before) ≡ file s t before) ⊎ HasReturned s at t e before)
+      → Runs s at t begun before n
       → Runs s at t begun (e ∷ before) n
   it_runs : (e : Event) (before : History) (n : ℕ) → choice_of e.entry ≡ asked.Exec → e.entry.tid.0 ≡ t
       → (e.entry.pc ≡ at + 40 → IsFirstLoad s at t begun before → IsPassing (file s t (e ∷ before)).file)
