@@ -352,12 +352,12 @@ blocks = record {
             (ap (λ q. slice_get (sync_block q 3) k) its.1 ∙ there);
       };
   low = λ at r is. let its = (only at 0x1019C waiting r is).0 in (omega arith, omega arith);
-  low_locks = λ at r is. let its = (only at 0x10214 reading r is).0 in omega arith;
   lock_regs = λ at r is. subst AreReadRegs (only at 0x10214 reading r is).1 are_reading;
   unlock_regs = λ at r is. subst AreReadRegs (only at 0x10224 reading r is).1 are_reading;
   sync_regs = λ at r is. subst AreSyncRegs (only at 0x1019C waiting r is).1 are_waiting;
-  one = leb-true 1 3 refl;
-  few = leb-true 3 63 refl;
+  one = λ at r is. leb-true 1 3 refl;
+  few = λ at r is. leb-true 3 63 refl;
+  counted = λ at r is. leb-true 3 3 refl;
   low_slots = leb-true (0x21040 + 64 * 3) (2 ^ 64) refl;
   low_counter = leb-true (0x20008 + 8) (2 ^ 64) refl;
   apart = λ i lt. inl (omega arith);

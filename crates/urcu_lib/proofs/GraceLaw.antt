@@ -1,40 +1,48 @@
 -- A section that began before a grace period began has ended before it ended.
 use Rattle.std.proofs.Common.{◌≡◌, ◌≢◌, ℕ, zero, suc, ◌+◌, ◌*◌, ◌<◌, ◌≤◌, ◌%◌, ◌^◌, List, [], ◌∷◌, ◌++◌, ◌⊎◌}
-use Rattle.std.proofs.Common.{append_assoc, arith, refl, sym, ap, ◌∙◌, subst, true, inl, inr, Some, None}
+use Rattle.std.proofs.Common.{append_assoc, length, length-append, arith, refl, sym, ap, ◌∙◌, subst, true, false, inl, inr, Some, None, Option}
 use Rattle.std.proofs.Common.{pos}
 use Rattle.std.proofs.lemmas.Bool.{cases_eq, ne_eqb, false≢true}
 use Rattle.mach_types.specs.Events.{choice_of}
 use Rattle.mach_types.specs.Registers.{register}
 use Rattle.mach_types.specs.declared.events.Choice.TheVariants as asked
+use Rattle.mach_types.specs.declared.events.Kind.{Kind}
+use Rattle.mach_types.specs.declared.events.Kind.TheVariants as kind
+use Rattle.mach_types.specs.declared.threads.ThreadState.{ThreadState}
+use Rattle.mach_types.specs.declared.threads.ThreadState.TheVariants.{Ready, Running, Waiting}
+use Rattle.mach_types.specs.Kernel.Threads.{is_ready, is_ready_state, state_of}
+use Rattle.std.specs.Option.{option_map_or}
 use Rattle.mach_types.specs.declared.registers.Regs.{Regs}
 use Rattle.mach_types.specs.declared.threads.Saved.{Saved}
 use Rattle.rv_inst.specs.Memory.{loaded}
-use Rattle.rv_inst.specs.Words.{sum_64}
 use Rattle.rv_inst.specs.declared.instruction.Inst.TheVariants as inst
-use Rattle.alone.proofs.Laws.{loaded_word, written_other, written_same}
-use Rattle.alone.proofs.Means.{means_ld, means_sd}
+use Rattle.alone.proofs.Laws.{loaded_word, written_same}
+use Rattle.alone.proofs.Means.{means_ld}
 use Rattle.alone_laws.specs.Spans.{code_of, seen_at}
-use Rattle.block_model.proofs.Laws.{IsStep, has_registers, one_hart, step_of}
+use Rattle.block_model.proofs.Laws.{IsStep, file_apart, has_registers, not_ready, one_hart, ready_file_stays}
+use Rattle.block_model.proofs.Laws.{running_is, running_there, step_of}
+use Rattle.block_model.specs.Tables.{IsTables, on}
 use Rattle.mach_types.specs.Bytes.{word_at}
-use Rattle.block_model.specs.History.{Event, History, file, running, waiting}
+use Rattle.block_model.specs.History.{Event, History, file, kernel, running, waiting}
 use Rattle.block_model.specs.Run.{IsRunHistory}
 use Rattle.block_model.specs.Setting.{Setting}
 use Rattle.block_model.specs.Walks.{is_exec}
-use Rattle.urcu_lib.specs.Blocks.{AreBlocks, Urcu, counter_bytes, slot_at, slot_bytes}
+use Rattle.urcu_lib.specs.Blocks.{AreBlocks, Urcu, counter_bytes, slot_at}
 use Rattle.urcu_lib.specs.declared.regs.ReadRegs.{ReadRegs}
 use Rattle.urcu_lib.specs.declared.regs.SyncRegs.{SyncRegs}
 use Rattle.fence_laws.specs.Entered.{HaveEntered}
 use Rattle.fence_laws.specs.Kept.{AreBeside, AreQuiet, IsQuiet}
 use Rattle.urcu_lib.specs.Sections.{HaveEnded, IsGrace, IsGraceBegin, IsExecAt, IsGraceEnd, IsSyncStore}
 use Rattle.urcu_lib.specs.Sections.{IsSyncing, calls, comes_in, is_in, waits}
-use Rattle.urcu_lib.specs.Stretch.{HasFinished, HasReturned, IsCounterGrown, IsPassing, Runs, it_rests}
-use Rattle.urcu_lib.specs.Stretch.{it_runs, none_run}
+use Rattle.urcu_lib.specs.Stretch.{HasFinished, HasNewCounter, HasReturned, IsCounterGrown, IsFirstLoad, IsLoaded}
+use Rattle.urcu_lib.specs.Stretch.{IsPassing, Runs, it_rests, it_runs, none_run}
 use Rattle.urcu_lib.specs.Registers.{AreSyncRegs}
-use Rattle.urcu_lib.specs.Uses.{AreElsewhere, AreUses, HasCome, IsStart, acts, counted, goes_on, returns}
+use Rattle.urcu_lib.specs.Uses.{AreElsewhere, AreUses, HasCome, IsStart, MaySet, acts, counted, goes_on}
+use Rattle.urcu_lib.specs.Uses.{returns}
 use Rattle.urcu_lib.proofs.CounterLaw.{IsCounter, counted_low, counter_quiet, counter_start, counter_stored}
 use Rattle.urcu_lib.proofs.CounterLaw.{in_word, new_count, same_count, seen_last, seen_word}
-use Rattle.fence_laws.proofs.ExecLaw.{after_load, after_store, exec_of}
-use Rattle.urcu_lib.proofs.SlotLaw.{in_slot, is_later}
+use Rattle.fence_laws.proofs.ExecLaw.{after_load, exec_of}
+use Rattle.urcu_lib.proofs.SlotLaw.{is_later}
 use Rattle.urcu_lib.proofs.SyncState.{ArePassed, HasNone, IsOpen, IsOrderly, IsPast, Stands, all_set, base}
 use Rattle.urcu_lib.proofs.SyncState.{counts, has_called, has_grown, has_loaded, has_looked, has_slots}
 use Rattle.urcu_lib.proofs.SyncState.{has_stored, is_over, is_some, left_at, looks, moves, one_set}
@@ -121,38 +129,78 @@ module _ (s : Setting) (u : Urcu) (first at t : ℕ) (f : Regs) (now : History) 
   none_at k four (counts is p i lt six x passed) = let no : ⊥ = omega arith in absurd no
   none_at k four (is_over is p passed) = let no : ⊥ = omega arith in absurd no
 
+  looked_at : (k : ℕ) → k ≡ 11 → Stands s u first at t f now k → IsPast s u first at t f now
+  looked_at k looked (has_looked is p i lt six x passed shows) = p
+  looked_at k looked (looks is p i lt six x passed) = let no : ⊥ = omega arith in absurd no
+  looked_at k looked (all_set is a b c none) = let no : ⊥ = omega arith in absurd no
+  looked_at k looked (one_set is a none) = let no : ⊥ = omega arith in absurd no
+  looked_at k looked (two_set is a b none) = let no : ⊥ = omega arith in absurd no
+  looked_at k looked (three_set is a b none) = let no : ⊥ = omega arith in absurd no
+  looked_at k looked (has_called is o quiet) = let no : ⊥ = omega arith in absurd no
+  looked_at k looked (has_grown is o quiet entered x) = let no : ⊥ = omega arith in absurd no
+  looked_at k looked (has_loaded is o quiet entered x) = let no : ⊥ = omega arith in absurd no
+  looked_at k looked (has_stored is p) = let no : ⊥ = omega arith in absurd no
+  looked_at k looked (has_slots is p six) = let no : ⊥ = omega arith in absurd no
+  looked_at k looked (is_some is p i lt six x passed shows) = let no : ⊥ = omega arith in absurd no
+  looked_at k looked (passes is p i lt six x passed) = let no : ⊥ = omega arith in absurd no
+  looked_at k looked (moves is p i lt six x passed) = let no : ⊥ = omega arith in absurd no
+  looked_at k looked (counts is p i lt six x passed) = let no : ⊥ = omega arith in absurd no
+  looked_at k looked (is_over is p passed) = let no : ⊥ = omega arith in absurd no
+
+  -- at the load x6 is the address of the slot at which the thread looks, and x7 says how many are left
+  abbrev LooksAt : Type 0
+  LooksAt = (i : ℕ) × (register f 6 ≡ slot_at u i) × (register f 7 + i ≡ u.readers at)
+
+  looks_at : (k : ℕ) → k ≡ 10 → Stands s u first at t f now k → LooksAt
+  looks_at k ten (looks is p i lt six seven passed) = (i, six, seven)
+  looks_at k ten (all_set is a b c none) = let no : ⊥ = omega arith in absurd no
+  looks_at k ten (one_set is a none) = let no : ⊥ = omega arith in absurd no
+  looks_at k ten (two_set is a b none) = let no : ⊥ = omega arith in absurd no
+  looks_at k ten (three_set is a b none) = let no : ⊥ = omega arith in absurd no
+  looks_at k ten (has_called is o quiet) = let no : ⊥ = omega arith in absurd no
+  looks_at k ten (has_grown is o quiet entered x) = let no : ⊥ = omega arith in absurd no
+  looks_at k ten (has_loaded is o quiet entered x) = let no : ⊥ = omega arith in absurd no
+  looks_at k ten (has_stored is p) = let no : ⊥ = omega arith in absurd no
+  looks_at k ten (has_slots is p six) = let no : ⊥ = omega arith in absurd no
+  looks_at k ten (has_looked is p i lt six x passed shows) = let no : ⊥ = omega arith in absurd no
+  looks_at k ten (is_some is p i lt six x passed shows) = let no : ⊥ = omega arith in absurd no
+  looks_at k ten (passes is p i lt six x passed) = let no : ⊥ = omega arith in absurd no
+  looks_at k ten (moves is p i lt six x passed) = let no : ⊥ = omega arith in absurd no
+  looks_at k ten (counts is p i lt six x passed) = let no : ⊥ = omega arith in absurd no
+  looks_at k ten (is_over is p passed) = let no : ⊥ = omega arith in absurd no
+
   -- at another instruction than the last at least two are left
-  two_left : (k : ℕ) → k ≢ 16 → Stands s u first at t f now k → 2 ≤ left_at u k (register f 7)
-  two_left k other (all_set is a b c none) = subst (λ n. 2 ≤ left_at u n (register f 7)) (sym is)
+  two_left : (k : ℕ) → k ≢ 16 → Stands s u first at t f now k → 2 ≤ left_at (u.readers at) k (register f 7)
+  two_left k other (all_set is a b c none) = subst (λ n. 2 ≤ left_at (u.readers at) n (register f 7)) (sym is)
       (omega arith)
-  two_left k other (one_set is a none) = subst (λ n. 2 ≤ left_at u n (register f 7)) (sym is) (omega arith)
-  two_left k other (two_set is a b none) = subst (λ n. 2 ≤ left_at u n (register f 7)) (sym is) (omega arith)
-  two_left k other (three_set is a b none) = subst (λ n. 2 ≤ left_at u n (register f 7)) (sym is)
+  two_left k other (one_set is a none) = subst (λ n. 2 ≤ left_at (u.readers at) n (register f 7)) (sym is) (omega arith)
+  two_left k other (two_set is a b none) = subst (λ n. 2 ≤ left_at (u.readers at) n (register f 7)) (sym is) (omega arith)
+  two_left k other (three_set is a b none) = subst (λ n. 2 ≤ left_at (u.readers at) n (register f 7)) (sym is)
       (omega arith)
-  two_left k other (has_called is o quiet) = subst (λ n. 2 ≤ left_at u n (register f 7)) (sym is)
+  two_left k other (has_called is o quiet) = subst (λ n. 2 ≤ left_at (u.readers at) n (register f 7)) (sym is)
       (omega arith)
-  two_left k other (has_grown is o quiet entered x) = subst (λ n. 2 ≤ left_at u n (register f 7)) (sym is)
+  two_left k other (has_grown is o quiet entered x) = subst (λ n. 2 ≤ left_at (u.readers at) n (register f 7)) (sym is)
       (omega arith)
-  two_left k other (has_loaded is o quiet entered x) = subst (λ n. 2 ≤ left_at u n (register f 7)) (sym is)
+  two_left k other (has_loaded is o quiet entered x) = subst (λ n. 2 ≤ left_at (u.readers at) n (register f 7)) (sym is)
       (omega arith)
-  two_left k other (has_stored is p) = subst (λ n. 2 ≤ left_at u n (register f 7)) (sym is) (omega arith)
-  two_left k other (has_slots is p six) = subst (λ n. 2 ≤ left_at u n (register f 7)) (sym is) (omega arith)
-  two_left k other (looks is p i lt six x passed) = subst (λ n. 2 ≤ left_at u n (register f 7)) (sym is)
+  two_left k other (has_stored is p) = subst (λ n. 2 ≤ left_at (u.readers at) n (register f 7)) (sym is) (omega arith)
+  two_left k other (has_slots is p six) = subst (λ n. 2 ≤ left_at (u.readers at) n (register f 7)) (sym is) (omega arith)
+  two_left k other (looks is p i lt six x passed) = subst (λ n. 2 ≤ left_at (u.readers at) n (register f 7)) (sym is)
       (omega arith)
-  two_left k other (has_looked is p i lt six x passed shows) = subst (λ n. 2 ≤ left_at u n (register f 7))
+  two_left k other (has_looked is p i lt six x passed shows) = subst (λ n. 2 ≤ left_at (u.readers at) n (register f 7))
       (sym is) (omega arith)
-  two_left k other (is_some is p i lt six x passed shows) = subst (λ n. 2 ≤ left_at u n (register f 7))
+  two_left k other (is_some is p i lt six x passed shows) = subst (λ n. 2 ≤ left_at (u.readers at) n (register f 7))
       (sym is) (omega arith)
-  two_left k other (passes is p i lt six x passed) = subst (λ n. 2 ≤ left_at u n (register f 7)) (sym is)
+  two_left k other (passes is p i lt six x passed) = subst (λ n. 2 ≤ left_at (u.readers at) n (register f 7)) (sym is)
       (omega arith)
-  two_left k other (moves is p i lt six x passed) = subst (λ n. 2 ≤ left_at u n (register f 7)) (sym is)
+  two_left k other (moves is p i lt six x passed) = subst (λ n. 2 ≤ left_at (u.readers at) n (register f 7)) (sym is)
       (omega arith)
-  two_left k other (counts is p i lt six x passed) = subst (λ n. 2 ≤ left_at u n (register f 7)) (sym is)
+  two_left k other (counts is p i lt six x passed) = subst (λ n. 2 ≤ left_at (u.readers at) n (register f 7)) (sym is)
       (omega arith)
   two_left k other (is_over is p passed) = absurd (other is)
 
   over_at : (k : ℕ) → k ≡ 16 → Stands s u first at t f now k
-      → (p : IsPast s u first at t f now) × ArePassed s u first p.opened.grace u.readers now
+      → (p : IsPast s u first at t f now) × ArePassed s u first p.opened.grace (u.readers at) now
   over_at k last (is_over is p passed) = (p, passed)
   over_at k last (has_called is o quiet) = let no : ⊥ = omega arith in absurd no
   over_at k last (has_grown is o quiet entered x) = let no : ⊥ = omega arith in absurd no
@@ -170,6 +218,52 @@ module _ (s : Setting) (u : Urcu) (first at t : ℕ) (f : Regs) (now : History) 
   over_at k last (moves is p i lt six x passed) = let no : ⊥ = omega arith in absurd no
   over_at k last (counts is p i lt six x passed) = let no : ⊥ = omega arith in absurd no
 
+same_event : (x y : Event) (xs ys : History) → x ∷ xs ≡ y ∷ ys → x ≡ y
+same_event x y xs ys is = cc
+
+same_rest : (x y : Event) (xs ys : History) → x ∷ xs ≡ y ∷ ys → xs ≡ ys
+same_rest x y xs ys is = cc
+
+-- LOADS SINCE A PLACE
+
+module _ (s : Setting) (at t : ℕ) (begun : History) where
+  none_loaded : (a : ℕ) → IsLoaded s at t a begun begun → ⊥
+  none_loaded a l =
+      let long : length begun ≡ length (l.since ++ l.event ∷ (l.earlier ++ begun)) = ap
+      (λ (b : History). length b) l.parts in
+      let one = length-append l.since (l.event ∷ (l.earlier ++ begun)) in
+      let two = length-append l.earlier begun in
+      let no : ⊥ = omega arith in
+      no
+
+  -- an event loads from an address
+  abbrev Loads : ℕ → Event → History → Type 0
+  Loads a e before = IsExecAt (at + 40) e × (e.entry.tid.0 ≡ t) × (register (file s t before).file 6 ≡ a)
+
+  loaded_next : (a : ℕ) (e : Event) (before : History) → IsLoaded s at t a begun (e ∷ before)
+      → IsLoaded s at t a begun before ⊎ Loads a e before
+  loaded_next a e before l = by_since l.since l.parts
+    where
+      by_since : (since : List Event) → e ∷ before ≡ since ++ l.event ∷ (l.earlier ++ begun)
+          → IsLoaded s at t a begun before ⊎ Loads a e before
+      by_since [] parts =
+          let same = same_event e l.event before (l.earlier ++ begun) parts in
+          let rest = same_rest e l.event before (l.earlier ++ begun) parts in
+          inr (
+            subst (IsExecAt (at + 40)) (sym same) l.exec,
+            ap (λ (x : Event). x.entry.tid.0) same ∙ l.of,
+            ap (λ (b : History). register (file s t b).file 6) rest ∙ l.from,
+          )
+      by_since (y ∷ ys) parts = inl (record {
+        event = l.event;
+        since = ys;
+        earlier = l.earlier;
+        parts = same_rest e y before (ys ++ l.event ∷ (l.earlier ++ begun)) parts;
+        exec = l.exec;
+        of = l.of;
+        from = l.from;
+      })
+
 -- WHO IS IN A SYNC BLOCK
 
 -- an event that executes nothing of the block for the thread leaves it there
@@ -180,6 +274,81 @@ syncing_since at t begun old [] elsewhere was = was
 syncing_since at t begun old (e ∷ since) elsewhere was =
     is_in e (since ++ old) (syncing_since at t begun old since elsewhere.0 was)
     (λ ends. elsewhere.1 ends.exec.executes ends.of (16, omega arith, ends.exec.pc))
+
+-- WHO SETS A FILE
+
+module _ (s : Setting) (e : Event) (before : History) (run : IsRunHistory s (e ∷ before)) where
+  set_step : IsStep s e before
+  set_step = step_of s e before run
+
+  -- an event leaves a thread as it was, and executes nothing for it
+  abbrev Leaves : ℕ → Type 0
+  Leaves t = (file s t (e ∷ before) ≡ file s t before) × (choice_of e.entry ≡ asked.Exec → e.entry.tid.0 ≡ t → ⊥)
+
+  runs_here : (t : ℕ) → choice_of e.entry ≡ asked.Exec → e.entry.tid.0 ≡ t
+      → running s e.entry.hart.0 before ≡ Some t
+  runs_here t executes of = (exec_of s e before set_step executes).runs ∙ ap Some of
+
+  ready_stays_so : (t : ℕ) → is_ready t (kernel s before).threads ≡ true
+      → (e.entry.kind ≡ kind.Run → e.entry.tid.0 ≢ t) → Leaves t
+  ready_stays_so t ready other = (
+    ready_file_stays s e before t run ready other,
+    λ executes of. false≢true
+        (sym (not_ready s e before set_step e.entry.hart.0 t (runs_here t executes of)) ∙ ready),
+  )
+
+  by_ready : (t : ℕ) → is_ready t (kernel s before).threads ≡ true → (k : Kind) → e.entry.kind ≡ k
+      → MaySet s t e before ⊎ Leaves t
+  by_ready t ready kind.Run is = by_thread (cases_eq e.entry.tid.0 t)
+    where
+      by_thread : (e.entry.tid.0 ≡ t) ⊎ (e.entry.tid.0 ≢ t) → MaySet s t e before ⊎ Leaves t
+      by_thread (inl same) = inl (inr (inl (is, same)))
+      by_thread (inr other) = inr (ready_stays_so t ready (λ k same. other same))
+  by_ready t ready k is = inr (ready_stays_so t ready (λ run_it same. absurd cc))
+
+  by_hart : (t h : ℕ) → running s h before ≡ Some t → MaySet s t e before ⊎ Leaves t
+  by_hart t h there = by_same (cases_eq e.entry.hart.0 h)
+    where
+      by_same : (e.entry.hart.0 ≡ h) ⊎ (e.entry.hart.0 ≢ h) → MaySet s t e before ⊎ Leaves t
+      by_same (inl same) = inl (inl (ap (λ n. running s n before) same ∙ there))
+      by_same (inr other) = inr (
+        file_apart s h t e before set_step (ne_eqb e.entry.hart.0 h other) there,
+        λ executes of. other
+            (sym (one_hart s e before set_step h t there e.entry.hart.0 (runs_here t executes of))),
+      )
+
+  set_or_left : (t : ℕ) → MaySet s t e before ⊎ Leaves t
+  set_or_left t = by_state (state_of t (kernel s before).threads) refl
+    where
+      tables : IsTables s.limits.harts (kernel s before).threads (kernel s before).scheduling
+      tables = set_step.good.kernel.tables
+
+      away : (o : Option ThreadState) → state_of t (kernel s before).threads ≡ o
+          → option_map_or is_ready_state o false ≡ false
+          → ((h : ℕ) → o ≢ Some (on h)) → MaySet s t e before ⊎ Leaves t
+      away o is not_it none = inl (inr (inr (record {
+        not_ready = ap (λ x. option_map_or is_ready_state x false) is ∙ not_it;
+        nowhere = λ h there. none h
+            (sym is
+            ∙ running_is s.limits.harts h t (kernel s before).threads (kernel s before).scheduling tables there);
+      })))
+
+      by_state : (o : Option ThreadState) → state_of t (kernel s before).threads ≡ o
+          → MaySet s t e before ⊎ Leaves t
+      by_state None is = away None is refl (λ h same. cc)
+      by_state (Some Ready) is = by_ready t (ap (λ x. option_map_or is_ready_state x false) is) e.entry.kind refl
+      by_state (Some (Running h)) is = by_hart t h.0
+          (running_there s.limits.harts h.0 t (kernel s before).threads (kernel s before).scheduling tables is)
+      by_state (Some (Waiting a)) is = away (Some (Waiting a)) is refl (λ h same. cc)
+
+  -- so a thread comes to a place by an event that may set its file, or stood there before
+  has_come : (at count kept t : ℕ) → (MaySet s t e before → HasCome s at count kept t e before)
+      → HasCome s at count kept t e before
+  has_come at count kept t asks = by_set (set_or_left t)
+    where
+      by_set : MaySet s t e before ⊎ Leaves t → HasCome s at count kept t e before
+      by_set (inl may) = asks may
+      by_set (inr (same, none)) = goes_on before [] refl (tt, λ executes of within. none executes of) same
 
 -- one thread at a time is in one
 module _ (s : Setting) (u : Urcu) (first : ℕ) where
@@ -205,13 +374,10 @@ module _ (s : Setting) (u : Urcu) (first : ℕ) (blocks : AreBlocks (code_of s.p
     (start : IsStart s u first) where
   -- WHAT HOLDS AT EACH PLACE
 
-  -- what a thread in a lock block is about to store, and where
+  -- what a thread in a lock block is about to store
   record IsInLock (r : ReadRegs) (f : Regs) (now : History) : Type 0 where
     some : 1 ≤ register f r.scratch
     most : register f r.scratch ≤ counted u.counter first now
-    index : ℕ
-    lt : index < u.readers
-    slot : register f r.slot ≡ slot_at u index
 
   -- a thread at instruction k of a sync block, behind its first
   record IsInSync (at t k : ℕ) (r : SyncRegs) (f : Regs) (now : History) : Type 0 where
@@ -403,45 +569,15 @@ module _ (s : Setting) (u : Urcu) (first : ℕ) (blocks : AreBlocks (code_of s.p
         let most = w.3 in
         let few = w.4 in
         let more = both.1 in
-        let to = uses.1.lock_slot at r block exec in
-        record {
-          some = omega arith;
-          most = omega arith;
-          index = to.0;
-          lt = to.1;
-          slot = ap (λ (x : Saved). register x.file r.slot) after
-              ∙ written_other (file s t before).file r.scratch (loaded w.0 8 true) r.slot regs.slot_scratch
-              ∙ to.2;
-        }
-
-    lock_stored : (at : ℕ) (r : ReadRegs) → u.locks at ≡ Some r → choice_of e.entry ≡ asked.Exec
-        → e.entry.pc ≡ at + 4 → (file s e.entry.tid.0 (e ∷ before)).pc ≡ at + 4 → ⊥
-    lock_stored at r block executes pc stays =
-        let t = e.entry.tid.0 in
-        let low = blocks.low_locks at r block in
-        let slots_low = blocks.low_slots in
-        let was = old.locks at t r block ((exec_of s e before step executes).pc ∙ pc) in
-        let lt = was.lt in
-        let f = (file s t before).file in
-        let after = after_store s e before step executes (at + 4) (inst.Sd r.slot r.scratch (pos 0)) pc
-        ((blocks.locks at r block).holds 1 (inst.Sd r.slot r.scratch (pos 0)) refl) (slot_bytes u was.index)
-        (uses.1.slot_usable was.index was.lt executes)
-        (slot_at u was.index) (register f r.scratch % 2 ^ 64)
-        (means_sd f (at + 4) r.slot r.scratch (pos 0) (slot_at u was.index) (slot_at u was.index)
-        (register f r.scratch) (register f r.scratch % 2 ^ 64) was.slot (omega arith) refl refl)
-        (in_slot s u first blocks was.index was.lt) in
-        let there : sum_64 (at + 4) 4 ≡ at + 4 = sym (ap (λ (x : Saved). x.pc) after.0) ∙ stays in
-        omega arith
+        record { some = omega arith; most = omega arith }
 
     locks_next : (at t : ℕ) (r : ReadRegs) → u.locks at ≡ Some r → (file s t (e ∷ before)).pc ≡ at + 4
-        → HasCome s at 2 0 t e before
+        → HasCome s at 1 0 t e before
         → IsInLock r (file s t (e ∷ before)).file (e ∷ before)
     locks_next at t r block there (acts of executes (zero, lt, pc)) =
         subst (λ n. IsInLock r (file s n (e ∷ before)).file (e ∷ before)) of
         (lock_load at r block executes (pc ∙ omega arith))
-    locks_next at t r block there (acts of executes (suc k, lt, pc)) =
-        absurd (lock_stored at r block executes (pc ∙ omega arith)
-        (ap (λ n. (file s n (e ∷ before)).pc) of ∙ there))
+    locks_next at t r block there (acts of executes (suc k, lt, pc)) = let no : ⊥ = omega arith in absurd no
     locks_next at t r block there (returns is was stays) = let no : ⊥ = omega arith in absurd no
     locks_next at t r block there (goes_on place since parts elsewhere same) =
         let all_place = always_at since place (subst Always parts all) in
@@ -454,14 +590,7 @@ module _ (s : Setting) (u : Urcu) (first : ℕ) (blocks : AreBlocks (code_of s.p
         (file s t place).file r.scratch = ap (λ (x : Saved). register x.file r.scratch) same in
         let some = was.some in
         let most = was.most in
-        record {
-          some = omega arith;
-          most = omega arith;
-          index = was.index;
-          lt = was.lt;
-          slot = ap
-              (λ (x : Saved). register x.file r.slot) same ∙ was.slot;
-        }
+        record { some = omega arith; most = omega arith }
 
     -- sync
     module _ (at t k : ℕ) (r : SyncRegs) (block : u.syncs at ≡ Some r) (lt : k < 17)
@@ -559,9 +688,10 @@ module _ (s : Setting) (u : Urcu) (first : ℕ) (blocks : AreBlocks (code_of s.p
     sound_next : IsSound (e ∷ before)
     sound_next = record {
       counter = both.0;
-      locks = λ at t r block there. locks_next at t r block there (uses.1.locking at t r block there);
+      locks = λ at t r block there. locks_next at t r block there
+          (has_come s e before run at 1 0 t (λ may. uses.1.locking at t r block may there));
       syncs = λ at t k r block some lt there. syncs_next at t k r block lt there some
-          (uses.1.syncing at t k r block some lt there);
+          (has_come s e before run at 17 17 t (λ may. uses.1.syncing at t k r block some lt may there));
     }
 
   sound_start : IsSound []
@@ -609,20 +739,66 @@ module _ (s : Setting) (u : Urcu) (first : ℕ) (blocks : AreBlocks (code_of s.p
   module _ (at t : ℕ) (r : SyncRegs) (block : u.syncs at ≡ Some r) (begun : History)
       (there : (file s t begun).pc ≡ at) where
     abbrev most : ℕ
-    most = 11 + 6 * u.readers
+    most = 11 + 6 * u.readers at
 
     abbrev left_now : ℕ → History → ℕ
-    left_now k now = left_at u k (register (file s t now).file 7)
+    left_now k now = left_at (u.readers at) k (register (file s t now).file 7)
 
     -- what is known of the load
     record IsKnown (k : ℕ) (f : Regs) : Type 0 where
       looked : k ≡ 11 → IsPassing f
       tested : k ≡ 12 → IsPassing f × (register f 10 ≢ 0)
 
+    -- each slot that it has loaded is one of those that it has left behind, or the one at which it is
+    abbrev AreBehind : ℕ → History → Type 0
+    AreBehind k now =
+        (a : ℕ) → IsLoaded s at t a begun now
+        → (m : ℕ) × (a + 64 * m ≡ u.slots + 64 * u.readers at) × (left_now k now ≤ 6 * m)
+
     data Goes (now : History) (n : ℕ) : Type 0 where
       has_finished : HasFinished s at t most begun now → Goes now n
       stands_at : (k : ℕ) → k < 17 → (file s t now).pc ≡ at + 4 * k → left_now k now + n ≤ most
-          → IsKnown k (file s t now).file → Goes now n
+          → IsKnown k (file s t now).file → AreBehind k now → Goes now n
+
+    -- so that a load is the first one of its slot
+    first_load : (k : ℕ) (now : History) → k ≡ 10 → AreBehind k now
+        → LooksAt s u first at t (file s t now).file now → IsFirstLoad s at t begun now
+    first_load k now ten behind (i, six, seven) loaded =
+        let was = behind (register (file s t now).file 6) loaded in
+        by_left (register (file s t now).file 6) (register (file s t now).file 7) was.0 six seven was.1
+        (subst (λ j. left_at (u.readers at) j (register (file s t now).file 7) ≤ 6 * was.0) ten was.2)
+      where
+        by_left : (x y m : ℕ) → x ≡ slot_at u i → y + i ≡ u.readers at
+            → x + 64 * m ≡ u.slots + 64 * u.readers at → left_at (u.readers at) 10 y ≤ 6 * m → ⊥
+        by_left x y m is left same le = let no : ⊥ = omega arith in no
+
+    -- the slots that it has loaded after an instruction that isn't the load, or by which it loads the next one
+    behind_next : (e : Event) (before : History) (k to : ℕ) → e.entry.pc ≡ at + 4 * k
+        → (k ≡ 10 → LooksAt s u first at t (file s t before).file before)
+        → left_now to (e ∷ before) + 1 ≤ left_now k before → AreBehind k before → AreBehind to (e ∷ before)
+    behind_next e before k to pc ten falls behind a loaded = by_old
+        (loaded_next s at t begun a e before loaded)
+      where
+        less : (x y m : ℕ) → x + 1 ≤ y → y ≤ 6 * m → x ≤ 6 * m
+        less x y m falls le = omega arith
+
+        by_slot : (x b seven i : ℕ) → b ≡ slot_at u i → seven + i ≡ u.readers at → b ≡ a
+            → x + 1 ≤ left_at (u.readers at) 10 seven
+            → (m : ℕ) × (a + 64 * m ≡ u.slots + 64 * u.readers at) × (x ≤ 6 * m)
+        by_slot x b seven i six left same falls = (seven, omega arith, omega arith)
+
+        by_old : IsLoaded s at t a begun before ⊎ Loads s at t begun a e before
+            → (m : ℕ) × (a + 64 * m ≡ u.slots + 64 * u.readers at) × (left_now to (e ∷ before) ≤ 6 * m)
+        by_old (inl was) =
+            let old = behind a was in
+            (old.0, old.1, less (left_now to (e ∷ before)) (left_now k before) old.0 falls old.2)
+        by_old (inr (exec, of, from)) =
+            let place = exec.pc in
+            let is : k ≡ 10 = omega arith in
+            let at_slot = ten is in
+            by_slot (left_now to (e ∷ before)) (register (file s t before).file 6)
+            (register (file s t before).file 7) at_slot.0 at_slot.1 at_slot.2 from
+            (subst (λ j. left_now to (e ∷ before) + 1 ≤ left_now j before) is falls)
 
     one_later : (e : Event) (before : History) → HasFinished s at t most begun before
         → HasFinished s at t most begun (e ∷ before)
@@ -648,20 +824,21 @@ module _ (s : Setting) (u : Urcu) (first : ℕ) (blocks : AreBlocks (code_of s.p
         (slots : register (file s e.entry.tid.0 before).file r.slots ≡ u.slots)
         → e.entry.tid.0 ≡ t → k < 17 → k ≢ 16 → IsKnown k (file s t before).file
         → (k ≡ 10 → IsPassing (file s t (e ∷ before)).file)
-        → left_now k before + n ≤ most
+        → left_now k before + n ≤ most → e.entry.pc ≡ at + 4 * k
+        → (k ≡ 10 → LooksAt s u first at t (file s t before).file before) → AreBehind k before
         → IsNext s u first blocks at r block e before run has executes_it gp slots k
         → Goes (e ∷ before) (suc n)
-    after_next e before n k run has executes_it gp slots of lt other known loads left next =
+    after_next e before n k run has executes_it gp slots of lt other known loads left pc ten behind next =
         let inside = next.inside other in
         let falls = next.falls
         (subst (λ m. k ≡ 12 → register (file s m before).file 5 ≤ register (file s m before).file 10)
         (sym of) (λ is. not_less (file s t before).file (known.tested is))) inside in
         let falls_t = subst
-        (λ m. left_at u next.to (register (file s m (e ∷ before)).file 7) + 1 ≤ left_at u k
+        (λ m. left_at (u.readers at) next.to (register (file s m (e ∷ before)).file 7) + 1 ≤ left_at (u.readers at) k
         (register (file s m before).file 7)) of falls in
         stands_at next.to inside (sym (ap (λ m. (file s m (e ∷ before)).pc) of) ∙ next.pc)
-        (sums (left_at u next.to (register (file s t (e ∷ before)).file 7))
-        (left_at u k (register (file s t before).file 7)) falls_t left)
+        (sums (left_at (u.readers at) next.to (register (file s t (e ∷ before)).file 7))
+        (left_at (u.readers at) k (register (file s t before).file 7)) falls_t left)
         (record {
           looked = λ is.
               (subst
@@ -673,6 +850,7 @@ module _ (s : Setting) (u : Urcu) (first : ℕ) (blocks : AreBlocks (code_of s.p
               → IsPassing (file s m (e ∷ before)).file × (register (file s m (e
               ∷ before)).file 10 ≢ 0)) of next.tested) is known.looked;
         })
+        (behind_next e before k next.to pc ten falls_t behind)
       where
         sums : (a b : ℕ) → a + 1 ≤ b → b + n ≤ most → a + suc n ≤ most
         sums a b falls left = omega arith
@@ -694,8 +872,8 @@ module _ (s : Setting) (u : Urcu) (first : ℕ) (blocks : AreBlocks (code_of s.p
           ends = record { exec = record { executes = executes_it; pc = pc }; of = of };
           executed = m;
           run = was;
-          few = fewer (left_at u k (register (file s t before).file 7))
-              (some_left u k (register (file s t before).file 7)) left;
+          few = fewer (left_at (u.readers at) k (register (file s t before).file 7))
+              (some_left (u.readers at) k (register (file s t before).file 7)) left;
         }
       where
         fewer : (a : ℕ) → 1 ≤ a → a + m ≤ most → m < most
@@ -708,38 +886,66 @@ module _ (s : Setting) (u : Urcu) (first : ℕ) (blocks : AreBlocks (code_of s.p
           looked = λ is. let no : ⊥ = omega arith in absurd no;
           tested = λ is. let no : ⊥ = omega arith in absurd no;
         })
+        (λ a loaded. absurd (none_loaded s at t begun a loaded))
     goes now n run uses gone (it_rests e before m other keeps was) = by_was
         (goes before m run.0 uses.0 gone.0 was)
       where
+        not_loaded : (a : ℕ) → IsLoaded s at t a begun (e ∷ before) → IsLoaded s at t a begun before
+        not_loaded a loaded = by_old (loaded_next s at t begun a e before loaded)
+          where
+            by_old : IsLoaded s at t a begun before ⊎ Loads s at t begun a e before
+                → IsLoaded s at t a begun before
+            by_old (inl old) = old
+            by_old (inr loads) = absurd (other loads.0.executes loads.1)
+
         by_file : (k : ℕ) → k < 17 → (file s t before).pc ≡ at + 4 * k → left_now k before + m ≤ most
-            → IsKnown k (file s t before).file
+            → IsKnown k (file s t before).file → AreBehind k before
             → (file s t (e ∷ before) ≡ file s t before) ⊎ HasReturned s at t e before → Goes (e ∷ before) m
-        by_file k lt place left known (inl same) =
+        by_file k lt place left known behind (inl same) =
             stands_at k lt (ap (λ (x : Saved). x.pc) same ∙ place)
-            (subst (λ (x : Saved). left_at u k (register x.file 7) + m ≤ most) (sym same) left)
+            (subst (λ (x : Saved). left_at (u.readers at) k (register x.file 7) + m ≤ most) (sym same) left)
             (subst (λ (x : Saved). IsKnown k x.file) (sym same) known)
-        by_file k lt place left known (inr returned) =
+            (λ a loaded.
+            let was = behind a (not_loaded a loaded) in (
+              was.0,
+              was.1,
+              subst (λ (x : Saved). left_at (u.readers at) k (register x.file 7) ≤ 6 * was.0) (sym same) was.2,
+            ))
+        by_file k lt place left known behind (inr returned) =
             let was_at = returned.was in
             let five : k ≡ 5 = omega arith in
-            let old : left_at u 5 (register (file s t before).file 7) + m ≤ most = subst
-            (λ j. left_at u j (register (file s t before).file 7) + m ≤ most) five left in
+            let old : left_at (u.readers at) 5 (register (file s t before).file 7) + m ≤ most = subst
+            (λ j. left_at (u.readers at) j (register (file s t before).file 7) + m ≤ most) five left in
             stands_at 5 (omega arith) returned.stays old
             (record {
               looked = λ is. let no : ⊥ = omega arith in absurd no;
               tested = λ is. let no : ⊥ = omega arith in absurd no;
             })
+            (λ a loaded.
+            let was = behind a (not_loaded a loaded) in (
+              was.0,
+              was.1,
+              subst (λ j. left_at (u.readers at) j (register (file s t before).file 7) ≤ 6 * was.0) five was.2,
+            ))
+
+        by_set : MaySet s t e before ⊎ Leaves s e before run t
+            → (file s t (e ∷ before) ≡ file s t before) ⊎ HasReturned s at t e before
+        by_set (inl may) = keeps may
+        by_set (inr (same, none)) = inl same
 
         by_was : Goes before m → Goes (e ∷ before) m
         by_was (has_finished f) = has_finished (one_later e before f)
-        by_was (stands_at k lt place left known) = by_file k lt place left known keeps
+        by_was (stands_at k lt place left known behind) = by_file k lt place left known behind
+            (by_set (set_or_left s e before run t))
     goes now n run uses gone (it_runs e before m executes_it of good was) = by_was
         (goes before m run.0 uses.0 gone.0 was)
       where
         by_k : (k : ℕ) → k < 17 → (file s t before).pc ≡ at + 4 * k → left_now k before + m ≤ most
-            → IsKnown k (file s t before).file → (k ≡ 16) ⊎ (k ≢ 16) → Goes (e ∷ before) (suc m)
-        by_k k lt place left known (inl last) = has_finished
+            → IsKnown k (file s t before).file → AreBehind k before → (k ≡ 16) ⊎ (k ≢ 16)
+            → Goes (e ∷ before) (suc m)
+        by_k k lt place left known behind (inl last) = has_finished
             (finished_by e before m k run executes_it of was place left last)
-        by_k zero lt place left known (inr other) =
+        by_k zero lt place left known behind (inr other) =
             let all = always before run.0 uses.0 gone.0 in
             let has = orderly e before run uses all (λ at t begins. gone.1) in
             let acts_it = exec_of s e before (step_of s e before run) executes_it in
@@ -749,11 +955,12 @@ module _ (s : Setting) (u : Urcu) (first : ℕ) (blocks : AreBlocks (code_of s.p
             let gp = uses.1.sync_gp at r block exec in
             let slots = uses.1.sync_slots at r block exec in
             after_next e before m 0 run has executes_it gp slots of lt other known
-            (λ is. let no : ⊥ = omega arith in absurd no) left
+            (λ is. let no : ⊥ = omega arith in absurd no) left (pc ∙ omega arith)
+            (λ is. let no : ⊥ = omega arith in absurd no) behind
             (next_first s u first blocks at r block e before run has executes_it gp slots
             (sound before all).counter uses.0
             (are_below before run.0 uses.0 all at e.entry.tid.0) pc)
-        by_k (suc j) lt place left known (inr other) =
+        by_k (suc j) lt place left known behind (inr other) =
             let all = always before run.0 uses.0 gone.0 in
             let has = orderly e before run uses all (λ at t begins. gone.1) in
             let acts_it = exec_of s e before (step_of s e before run) executes_it in
@@ -761,15 +968,20 @@ module _ (s : Setting) (u : Urcu) (first : ℕ) (blocks : AreBlocks (code_of s.p
             ∙ place in
             let pc : e.entry.pc ≡ at + 4 * suc j = sym acts_it.pc ∙ here in
             let its = (sound before all).syncs at e.entry.tid.0 (suc j) r block (omega arith) lt here in
+            let its_t : Stands s u first at t (file s t before).file before (suc j) =
+            subst (λ i. Stands s u first at i (file s i before).file before (suc j)) of its.stands in
+            let ten : suc j ≡ 10 → LooksAt s u first at t (file s t before).file before =
+            λ is. looks_at s u first at t (file s t before).file before (suc j) is its_t in
             after_next e before m (suc j) run has executes_it its.gp its.slots of lt other known
-            (λ is. good (pc ∙ ap (λ i. at + 4 * i) is)) left
+            (λ is. good (pc ∙ ap (λ i. at + 4 * i) is) (first_load (suc j) before is behind (ten is))) left
+            pc ten behind
             (next_of s u first blocks at r block e before run has executes_it its.gp its.slots
             (sound before all).counter uses.0
             (are_below before run.0 uses.0 all at e.entry.tid.0) (suc j) pc its.stands)
 
         by_was : Goes before m → Goes (e ∷ before) (suc m)
         by_was (has_finished f) = has_finished (one_later e before f)
-        by_was (stands_at k lt place left known) = by_k k lt place left known (cases_eq k 16)
+        by_was (stands_at k lt place left known behind) = by_k k lt place left known behind (cases_eq k 16)
 
     -- where so many instructions were executed, one of them was the last
     too_many : (a n : ℕ) → 1 ≤ a → a + n ≤ most → most ≤ n → ⊥
@@ -777,9 +989,9 @@ module _ (s : Setting) (u : Urcu) (first : ℕ) (blocks : AreBlocks (code_of s.p
 
     over_by : (now : History) (n : ℕ) → most ≤ n → Goes now n → HasFinished s at t most begun now
     over_by now n le (has_finished f) = f
-    over_by now n le (stands_at k lt place left known) =
-        absurd (too_many (left_at u k (register (file s t now).file 7)) n
-        (some_left u k (register (file s t now).file 7)) left le)
+    over_by now n le (stands_at k lt place left known behind) =
+        absurd (too_many (left_at (u.readers at) k (register (file s t now).file 7)) n
+        (some_left (u.readers at) k (register (file s t now).file 7)) left le)
 
     -- the last event of a log may end the process
     at_end : (e : Event) (before : History) (m : ℕ) → IsRunHistory s (e ∷ before)
@@ -787,13 +999,13 @@ module _ (s : Setting) (u : Urcu) (first : ℕ) (blocks : AreBlocks (code_of s.p
         → e.entry.tid.0 ≡ t → Runs s at t begun before m → most ≤ suc m → Goes before m
         → HasFinished s at t most begun (e ∷ before)
     at_end e before m run uses executes_it of was le (has_finished f) = one_later e before f
-    at_end e before m run uses executes_it of was le (stands_at k lt place left known) = by_k (cases_eq k 16)
+    at_end e before m run uses executes_it of was le (stands_at k lt place left known behind) = by_k (cases_eq k 16)
       where
-        two : (k ≢ 16) → 2 ≤ left_at u k (register (file s t before).file 7)
+        two : (k ≢ 16) → 2 ≤ left_at (u.readers at) k (register (file s t before).file 7)
         two other = by_zero k refl
           where
-            by_zero : (j : ℕ) → k ≡ j → 2 ≤ left_at u k (register (file s t before).file 7)
-            by_zero zero is = subst (λ n. 2 ≤ left_at u n (register (file s t before).file 7)) (sym is)
+            by_zero : (j : ℕ) → k ≡ j → 2 ≤ left_at (u.readers at) k (register (file s t before).file 7)
+            by_zero zero is = subst (λ n. 2 ≤ left_at (u.readers at) n (register (file s t before).file 7)) (sym is)
                 (omega arith)
             by_zero (suc j) is =
                 two_left s u first at t (file s t before).file before k other
@@ -803,7 +1015,7 @@ module _ (s : Setting) (u : Urcu) (first : ℕ) (blocks : AreBlocks (code_of s.p
         by_k : (k ≡ 16) ⊎ (k ≢ 16) → HasFinished s at t most begun (e ∷ before)
         by_k (inl last) = finished_by e before m k run executes_it of was place left last
         by_k (inr other) =
-            let no : ⊥ = few (left_at u k (register (file s t before).file 7)) (two other) left in
+            let no : ⊥ = few (left_at (u.readers at) k (register (file s t before).file 7)) (two other) left in
             absurd no
           where
             few : (a : ℕ) → 2 ≤ a → a + m ≤ most → ⊥
@@ -858,7 +1070,43 @@ module _ (s : Setting) (u : Urcu) (first : ℕ) (blocks : AreBlocks (code_of s.p
       (base_is s u first blocks at r block e before run has exec.executes its.gp its.slots c.0 c.1
       ∙ ap (counted u.counter first) (sym same))
 
-  -- and where the last instruction is executed, the number above it
+  -- a number that was seen there is the counter of where the grace period began
+  value_at_return : (at t : ℕ) (r : SyncRegs) → u.syncs at ≡ Some r → (e : Event) (before : History)
+      → IsRunHistory s (e ∷ before) → AreUses s u first before → (grace back : History) (next : Event)
+      (later : List Event) (n : ℕ) → IsGrace at t grace back → before ≡ later ++ next ∷ back
+      → IsExecAt (at + 20) next → next.entry.tid.0 ≡ t
+      → word_at (seen_at s next.entry.hart.0 back) u.counter 8 ≡ Some n → n ≡ counted u.counter first grace
+  value_at_return at t r block e before run uses grace back next later n began parts exec of saw =
+      let run_next = first_run s later (next ∷ back) (subst (IsRunHistory s) parts run.0) in
+      let uses_next = first_uses s u first later (next ∷ back) (subst (AreUses s u first) parts uses) in
+      let gone_next = first_gone later (next ∷ back) (subst HasGoneOn parts (has_gone_on s e before run)) in
+      same_number
+      (sym saw ∙ seen_at_return at t r block next back run_next uses_next gone_next exec of grace began)
+    where
+      same_number : {a b : ℕ} → Some a ≡ Some b → a ≡ b
+      same_number is = cc
+
+      first_gone : (since : List Event) (x : History) → HasGoneOn (since ++ x) → HasGoneOn x
+      first_gone [] x gone = gone
+      first_gone (y ∷ since) x gone = first_gone since x gone.0
+
+  -- where the instruction behind the load is executed, x5 is the number above it
+  pub new_counter : (e : Event) (before : History) → IsRunHistory s (e ∷ before)
+      → AreUses s u first (e ∷ before) → (at t : ℕ) (r : SyncRegs) → u.syncs at ≡ Some r
+      → IsExecAt (at + 44) e → e.entry.tid.0 ≡ t → HasNewCounter s u at t before
+  new_counter e before run uses at t r block exec of grace back next later n on began parts behind its saw =
+      let acts_it = exec_of s e before (step_of s e before run) exec.executes in
+      let gone = has_gone_on s e before run in
+      let all = always before run.0 uses.0 gone in
+      let there : (file s t before).pc ≡ at + 4 * 11 = sym (ap (λ m. (file s m before).pc) of) ∙ acts_it.pc
+      ∙ exec.pc in
+      let was = (sound before all).syncs at t 11 r block (omega arith) (omega arith) there in
+      let p = looked_at s u first at t (file s t before).file before 11 refl was.stands in
+      let same = one_grace at t r grace p.opened.grace block before run.0 uses.0 all gone on p.opened.on in
+      let value = value_at_return at t r block e before run uses.0 grace back next later n began parts behind its saw in
+      p.five ∙ ap (λ m. m + 1) (ap (counted u.counter first) (sym same) ∙ sym value)
+
+  -- and where the last instruction is executed, so is what its hart sees of the counter
   pub counter_grown : (e : Event) (before : History) → IsRunHistory s (e ∷ before)
       → AreUses s u first (e ∷ before)
       → (at t : ℕ) (r : SyncRegs) → u.syncs at ≡ Some r → IsGraceEnd at t e → IsCounterGrown s u at t e before
@@ -870,12 +1118,7 @@ module _ (s : Setting) (u : Urcu) (first : ℕ) (blocks : AreBlocks (code_of s.p
       (at_last e before run uses at t r block ends).stands in
       let c = (sound before all).counter in
       let same = one_grace at t r grace over.0.opened.grace block before run.0 uses.0 all gone on over.0.opened.on in
-      let run_next = first_run s later (next ∷ back) (subst (IsRunHistory s) parts run.0) in
-      let uses_next = first_uses s u first later (next ∷ back) (subst (AreUses s u first) parts uses.0) in
-      let gone_next = first_gone later (next ∷ back) (subst HasGoneOn parts gone) in
-      let value : n ≡ counted u.counter first grace = same_number
-      (sym saw
-      ∙ seen_at_return at t r block next back run_next uses_next gone_next exec of grace began) in
+      let value = value_at_return at t r block e before run uses.0 grace back next later n began parts exec of saw in
       let quiet = is_quiet_last uses.1.counter all in
       word_same (counter_bytes u) (seen_at s e.entry.hart.0 (e ∷ before)) (seen_at s e.entry.hart.0 before)
       (λ a has. ap Some (quiet_own (counter_bytes u) s e before run quiet a has)) u.counter 8
@@ -884,13 +1127,6 @@ module _ (s : Setting) (u : Urcu) (first : ℕ) (blocks : AreBlocks (code_of s.p
       ∙ ap Some over.0.count
       ∙ ap (λ m. Some (m + 1)) (ap (counted u.counter first) (sym same) ∙ sym value)
     where
-      same_number : {a b : ℕ} → Some a ≡ Some b → a ≡ b
-      same_number is = cc
-
-      first_gone : (since : List Event) (x : History) → HasGoneOn (since ++ x) → HasGoneOn x
-      first_gone [] x gone = gone
-      first_gone (y ∷ since) x gone = first_gone since x gone.0
-
       is_quiet_last : IsQuiet (counter_bytes u) e ⊎ IsSyncStore u e → Always before
           → IsQuiet (counter_bytes u) e
       is_quiet_last (inl quiet) all = quiet

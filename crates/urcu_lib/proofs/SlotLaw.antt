@@ -56,7 +56,7 @@ more_stores k (e ∷ since) place = let old = more_stores k since place in by_ha
     by_hart old false = old
 
 module _ (s : Setting) (u : Urcu) (first : ℕ) (blocks : AreBlocks (code_of s.program.pages) u) (i : ℕ)
-    (lt : i < u.readers) where
+    (lt : i < u.slot_count) where
   abbrev words : ℕ → Bool
   words = slot_bytes u i
 

@@ -19,15 +19,15 @@ use Rattle.urcu_lib.proofs.CounterLaw.{beside_stores}
 use Rattle.fence_laws.proofs.Fences.{entered_next}
 use Rattle.fence_laws.proofs.OwnerLaw.{owned_next}
 
--- how many instructions are left at most at one of the block, where each slot is loaded once
-abbrev pub left_at : Urcu → ℕ → ℕ → ℕ
-left_at u k seven = cond (ltb k 10) (1 + (10 - k + 6 * u.readers))
+-- how many instructions are left at most at one of a block for so many slots, each of which is loaded once
+abbrev pub left_at : ℕ → ℕ → ℕ → ℕ
+left_at readers k seven = cond (ltb k 10) (1 + (10 - k + 6 * readers))
     (cond (ltb k 15) (1 + (10 + 6 * seven - k)) (cond (ltb k 16) (6 * seven + 2) 1))
 
-pub some_left : (u : Urcu) (k seven : ℕ) → 1 ≤ left_at u k seven
-some_left u k seven = by_tests (ltb k 10) (ltb k 15) (ltb k 16)
+pub some_left : (readers k seven : ℕ) → 1 ≤ left_at readers k seven
+some_left readers k seven = by_tests (ltb k 10) (ltb k 15) (ltb k 16)
   where
-    by_tests : (a b c : Bool) → 1 ≤ cond a (1 + (10 - k + 6 * u.readers))
+    by_tests : (a b c : Bool) → 1 ≤ cond a (1 + (10 - k + 6 * readers))
         (cond b (1 + (10 + 6 * seven - k)) (cond c (6 * seven + 2) 1))
     by_tests true b c = omega arith
     by_tests false true c = omega arith
@@ -103,29 +103,29 @@ module _ (s : Setting) (u : Urcu) (first : ℕ) where
         → register f 5 ≡ (base at t now o + 1) % 2 ^ 64 → Stands at t f now k
     has_stored : k ≡ 8 → IsPast at t f now → Stands at t f now k
     has_slots : k ≡ 9 → IsPast at t f now → register f 6 ≡ u.slots → Stands at t f now k
-    looks : k ≡ 10 → (p : IsPast at t f now) → (i : ℕ) → i < u.readers → register f 6 ≡ slot_at u i
-        → register f 7 + i ≡ u.readers
+    looks : k ≡ 10 → (p : IsPast at t f now) → (i : ℕ) → i < u.readers at → register f 6 ≡ slot_at u i
+        → register f 7 + i ≡ u.readers at
         → ArePassed p.opened.grace i now → Stands at t f now k
-    has_looked : k ≡ 11 → (p : IsPast at t f now) → (i : ℕ) → i < u.readers → register f 6 ≡ slot_at u i
-        → register f 7 + i ≡ u.readers
+    has_looked : k ≡ 11 → (p : IsPast at t f now) → (i : ℕ) → i < u.readers at → register f 6 ≡ slot_at u i
+        → register f 7 + i ≡ u.readers at
         → ArePassed p.opened.grace i now
         → ((register f 10 ≡ 0) ⊎ (base at t now p.opened + 1 ≤ register f 10) → HasEnded p.opened.grace i now)
         → Stands at t f now k
-    is_some : k ≡ 12 → (p : IsPast at t f now) → (i : ℕ) → i < u.readers → register f 6 ≡ slot_at u i
-        → register f 7 + i ≡ u.readers
+    is_some : k ≡ 12 → (p : IsPast at t f now) → (i : ℕ) → i < u.readers at → register f 6 ≡ slot_at u i
+        → register f 7 + i ≡ u.readers at
         → ArePassed p.opened.grace i now
         → ((register f 10 ≡ 0) ⊎ (base at t now p.opened + 1 ≤ register f 10) → HasEnded p.opened.grace i now)
         → Stands at t f now k
-    passes : k ≡ 13 → (p : IsPast at t f now) → (i : ℕ) → i < u.readers → register f 6 ≡ slot_at u i
-        → register f 7 + i ≡ u.readers
+    passes : k ≡ 13 → (p : IsPast at t f now) → (i : ℕ) → i < u.readers at → register f 6 ≡ slot_at u i
+        → register f 7 + i ≡ u.readers at
         → ArePassed p.opened.grace (suc i) now → Stands at t f now k
-    moves : k ≡ 14 → (p : IsPast at t f now) → (i : ℕ) → i < u.readers
-        → (suc i < u.readers → register f 6 ≡ slot_at u (suc i)) → register f 7 + i ≡ u.readers
+    moves : k ≡ 14 → (p : IsPast at t f now) → (i : ℕ) → i < u.readers at
+        → (suc i < u.readers at → register f 6 ≡ slot_at u (suc i)) → register f 7 + i ≡ u.readers at
         → ArePassed p.opened.grace (suc i) now → Stands at t f now k
-    counts : k ≡ 15 → (p : IsPast at t f now) → (i : ℕ) → i < u.readers
-        → (suc i < u.readers → register f 6 ≡ slot_at u (suc i)) → register f 7 + suc i ≡ u.readers
+    counts : k ≡ 15 → (p : IsPast at t f now) → (i : ℕ) → i < u.readers at
+        → (suc i < u.readers at → register f 6 ≡ slot_at u (suc i)) → register f 7 + suc i ≡ u.readers at
         → ArePassed p.opened.grace (suc i) now → Stands at t f now k
-    is_over : k ≡ 16 → (p : IsPast at t f now) → ArePassed p.opened.grace u.readers now → Stands at t f now k
+    is_over : k ≡ 16 → (p : IsPast at t f now) → ArePassed p.opened.grace (u.readers at) now → Stands at t f now k
 
   module _ (at t : ℕ) (e : Event) (before : History) (run : IsRunHistory s (e ∷ before))
       (has : IsOrderly s u first e before) where
@@ -238,4 +238,4 @@ module _ (s : Setting) (u : Urcu) (first : ℕ) where
           (passed_next p.opened (suc i) passed)
       stands_next k (counts is p i lt six seven passed) = counts is (p_next p) i lt six seven
           (passed_next p.opened (suc i) passed)
-      stands_next k (is_over is p passed) = is_over is (p_next p) (passed_next p.opened u.readers passed)
+      stands_next k (is_over is p passed) = is_over is (p_next p) (passed_next p.opened (u.readers at) passed)

@@ -103,7 +103,7 @@ module _ (s : Setting) (u : Urcu) (first : ℕ) (blocks : AreBlocks (code_of s.p
     (now : History) where
   abbrev pub AreBelow : History → Type 0
   AreBelow grace =
-      (i : ℕ) (lt : i < u.readers) (begun : History) (b : HasBegun s u first blocks i lt begun now)
+      (i : ℕ) (lt : i < u.slot_count) (begun : History) (b : HasBegun s u first blocks i lt begun now)
       → length begun < length grace
       → (1 ≤ lock_value s u first blocks i lt b.event begun b.locks)
       × (lock_value s u first blocks i lt b.event begun b.locks ≤ counted u.counter first grace)
@@ -139,7 +139,7 @@ module _ (s : Setting) (u : Urcu) (first : ℕ) (blocks : AreBlocks (code_of s.p
     pub looked : to ≡ 11 → (k ≡ 10 → IsPassing now.file) → IsPassing now.file
     pub tested : to ≡ 12 → (k ≡ 11 → IsPassing f) → IsPassing now.file × (register now.file 10 ≢ 0)
     pub falls : (k ≡ 12 → register f 5 ≤ register f 10) → to < 17
-        → left_at u to (register now.file 7) + 1 ≤ left_at u k (register f 7)
+        → left_at (u.readers at) to (register now.file 7) + 1 ≤ left_at (u.readers at) k (register f 7)
     pub keeps : (j : ℕ) → j ≢ 0 → IsKept j → register now.file j ≡ register f j
     pub pc : now.pc ≡ at + 4 * to
     pub stands : to < 17 → Stands s u first at t now.file (e ∷ before) to
@@ -150,7 +150,7 @@ module _ (s : Setting) (u : Urcu) (first : ℕ) (blocks : AreBlocks (code_of s.p
   usable : IsUsable s no_words before
   usable = record { read = λ a is. absurd (false≢true is); write = λ a is. absurd (false≢true is) }
 
-  holds : (k : ℕ) (i : Inst) → slice_get (sync_block r u.readers) k ≡ Some (Some i)
+  holds : (k : ℕ) (i : Inst) → slice_get (sync_block r (u.readers at)) k ≡ Some (Some i)
       → code_of s.program.pages (at + 4 * k) ≡ Some i
   holds k i is = (blocks.syncs at r block).holds k i is
 
@@ -170,7 +170,7 @@ module _ (s : Setting) (u : Urcu) (first : ℕ) (blocks : AreBlocks (code_of s.p
 
   -- one that works on registers alone
   nexts : (k : ℕ) (i : Inst) (rd v to : ℕ) → e.entry.pc ≡ at + 4 * k
-      → slice_get (sync_block r u.readers) k ≡ Some (Some i) → meaning i f (at + 4 * k) ≡ effect.Next rd v to
+      → slice_get (sync_block r (u.readers at)) k ≡ Some (Some i) → meaning i f (at + 4 * k) ≡ effect.Next rd v to
       → now ≡ record { file = with_register f rd v; pc = to }
   nexts k i rd v to pc is means = after_next s e before step executes (at + 4 * k) i pc
       (holds k i is) no_words usable rd v to means
@@ -471,7 +471,8 @@ module _ (s : Setting) (u : Urcu) (first : ℕ) (blocks : AreBlocks (code_of s.p
   next_8 pc p =
       let low = at_low in
       let slots_low = blocks.low_slots in
-      let one = blocks.one in
+      let one = blocks.one at r block in
+      let all = blocks.counted at r block in
       let after = nexts 8 (inst.Addi 6 r.slots (pos 0)) 6 u.slots (at + 4 * 9) pc refl
       (means_addi f (at + 4 * 8) (at + 4 * 9) (omega arith) 6 r.slots (pos 0) u.slots u.slots slots
       (omega arith)) in
@@ -491,24 +492,24 @@ module _ (s : Setting) (u : Urcu) (first : ℕ) (blocks : AreBlocks (code_of s.p
   next_9 : e.entry.pc ≡ at + 4 * 9 → IsPast s u first at t f before → register f 6 ≡ u.slots → IsNext 9
   next_9 pc p six =
       let low = at_low in
-      let few = blocks.few in
-      let one = blocks.one in
-      let after = nexts 9 (inst.Addi 7 0 (pos u.readers)) 7 u.readers (at + 4 * 10) pc refl
-      (means_addi f (at + 4 * 9) (at + 4 * 10) (omega arith) 7 0 (pos u.readers) 0 u.readers refl
+      let few = blocks.few at r block in
+      let one = blocks.one at r block in
+      let after = nexts 9 (inst.Addi 7 0 (pos (u.readers at))) 7 (u.readers at) (at + 4 * 10) pc refl
+      (means_addi f (at + 4 * 9) (at + 4 * 10) (omega arith) 7 0 (pos (u.readers at)) 0 (u.readers at) refl
       (omega arith)) in
-      let seven = wrote 7 u.readers (at + 4 * 10) after refl (omega arith) in
+      let seven = wrote 7 (u.readers at) (at + 4 * 10) after refl (omega arith) in
       record {
         to = 10;
         looked = λ is_it had. let no : ⊥ = omega arith in absurd no;
         tested = λ is_it had. let no : ⊥ = omega arith in absurd no;
         inside = λ other. omega arith;
         falls = λ good le_17. omega arith;
-        keeps = λ j some free. kept 7 u.readers (at + 4 * 10) j after free.not_7;
-        pc = goes_to 7 u.readers (at + 4 * 10) after;
+        keeps = λ j some free. kept 7 (u.readers at) (at + 4 * 10) j after free.not_7;
+        pc = goes_to 7 (u.readers at) (at + 4 * 10) after;
         stands = λ lt. looks refl
-            (past 9 pc (omega arith) (omega arith) (kept 7 u.readers (at + 4 * 10) 5 after (omega arith)) p) 0
+            (past 9 pc (omega arith) (omega arith) (kept 7 (u.readers at) (at + 4 * 10) 5 after (omega arith)) p) 0
             (omega arith)
-            (kept 7 u.readers (at + 4 * 10) 6 after (omega arith) ∙ six ∙ omega arith) (omega arith)
+            (kept 7 (u.readers at) (at + 4 * 10) 6 after (omega arith) ∙ six ∙ omega arith) (omega arith)
             (λ j none. let no : ⊥ = omega arith in absurd no);
       }
 
@@ -520,18 +521,20 @@ module _ (s : Setting) (u : Urcu) (first : ℕ) (blocks : AreBlocks (code_of s.p
   same_word is = cc
 
   next_10 : e.entry.pc ≡ at + 4 * 10 → AreUses s u first before → (p : IsPast s u first at t f before)
-      → AreBelow s u first blocks before p.opened.grace → (i : ℕ) → (lt : i < u.readers)
-      → register f 6 ≡ slot_at u i → register f 7 + i ≡ u.readers
+      → AreBelow s u first blocks before p.opened.grace → (i : ℕ) → (lt : i < u.readers at)
+      → register f 6 ≡ slot_at u i → register f 7 + i ≡ u.readers at
       → ArePassed s u first p.opened.grace i before → IsNext 10
   next_10 pc uses p below i lt six seven passed =
       let low = at_low in
       let slots_low = blocks.low_slots in
+      let all = blocks.counted at r block in
+      let is_slot : i < u.slot_count = omega arith in
       let h = e.entry.hart.0 in
       let w = some_word (sees s h before) (slot_at u i) 8 in
       let v = loaded w.0 8 true in
       let on : sum_64 (at + 4 * 10) 4 ≡ at + 4 * 11 = omega arith in
       let after = after_load s e before step executes (at + 4 * 10) (inst.Ld 10 6 (pos 0)) pc
-      (holds 10 (inst.Ld 10 6 (pos 0)) refl) (slot_bytes u i) (has.used.slot_usable i lt executes)
+      (holds 10 (inst.Ld 10 6 (pos 0)) refl) (slot_bytes u i) (has.used.slot_usable i is_slot executes)
       (slot_at u i) 10 w.0
       (means_ld f (at + 4 * 10) 10 6 (pos 0) (slot_at u i) (slot_at u i) six (omega arith))
       (each_among (slot_at u i) 8 (slot_at u i) 8 (omega arith) (omega arith)) w.1
@@ -560,17 +563,19 @@ module _ (s : Setting) (u : Urcu) (first : ℕ) (blocks : AreBlocks (code_of s.p
           → length section < length p.opened.grace
           → (loaded w 8 true ≡ 0) ⊎ (counted u.counter first p.opened.grace + 1 ≤ loaded w 8 true) → ⊥
       shown w reads is section on earlier shows =
-          let b = has_begun s u first blocks i lt section before uses on in
-          let bounds = below i lt section b earlier in
+          let all = blocks.counted at r block in
+          let is_slot : i < u.slot_count = omega arith in
+          let b = has_begun s u first blocks i is_slot section before uses on in
+          let bounds = below i is_slot section b earlier in
           let entered : HaveEntered p.opened.grace before = p.entered in
           let parts : before ≡ (p.opened.since ++ p.opened.call ∷ []) ++ p.opened.grace = p.opened.parts
           ∙ sym (append_assoc p.opened.since (p.opened.call ∷ []) p.opened.grace) in
-          let holds_v = slot_holds s u first blocks i lt before section run.0 uses b p.opened.grace
+          let holds_v = slot_holds s u first blocks i is_slot before section run.0 uses b p.opened.grace
           (p.opened.since ++ p.opened.call ∷ []) parts entered earlier e.entry.hart.0 in
-          let same : w ≡ lock_value s u first blocks i lt b.event section b.locks = same_word
+          let same : w ≡ lock_value s u first blocks i is_slot b.event section b.locks = same_word
           (sym reads ∙ holds_v) in
-          let fits : lock_value s u first blocks i lt b.event section b.locks < 2 ^ 64 = omega arith in
-          by_shows (lock_value s u first blocks i lt b.event section b.locks) same fits bounds.0 bounds.1 shows
+          let fits : lock_value s u first blocks i is_slot b.event section b.locks < 2 ^ 64 = omega arith in
+          by_shows (lock_value s u first blocks i is_slot b.event section b.locks) same fits bounds.0 bounds.1 shows
         where
           by_shows : (x : ℕ) → w ≡ x → x < 2 ^ 64 → 1 ≤ x → x ≤ counted u.counter first p.opened.grace
               → (loaded w 8 true ≡ 0) ⊎ (counted u.counter first p.opened.grace + 1 ≤ loaded w 8 true) → ⊥
@@ -579,8 +584,8 @@ module _ (s : Setting) (u : Urcu) (first : ℕ) (blocks : AreBlocks (code_of s.p
               (inr le) = let same_le : counted u.counter first p.opened.grace + 1 ≤ w % 2 ^ 64 = subst
               (λ m. counted u.counter first p.opened.grace + 1 ≤ m) is le in omega arith
 
-  next_11 : e.entry.pc ≡ at + 4 * 11 → (p : IsPast s u first at t f before) → (i : ℕ) → i < u.readers
-      → register f 6 ≡ slot_at u i → register f 7 + i ≡ u.readers
+  next_11 : e.entry.pc ≡ at + 4 * 11 → (p : IsPast s u first at t f before) → (i : ℕ) → i < u.readers at
+      → register f 6 ≡ slot_at u i → register f 7 + i ≡ u.readers at
       → ArePassed s u first p.opened.grace i before
       → ((register f 10 ≡ 0) ⊎ (base s u first at t before p.opened + 1 ≤ register f 10)
       → HasEnded s u first p.opened.grace i before) → IsNext 11
@@ -634,8 +639,8 @@ module _ (s : Setting) (u : Urcu) (first : ℕ) (blocks : AreBlocks (code_of s.p
                 (λ m. (m ≡ 0) ⊎ (counted u.counter first p.opened.grace + 1 ≤ m)) ten now_shows)));
           }
 
-  next_12 : e.entry.pc ≡ at + 4 * 12 → (p : IsPast s u first at t f before) → (i : ℕ) → i < u.readers
-      → register f 6 ≡ slot_at u i → register f 7 + i ≡ u.readers
+  next_12 : e.entry.pc ≡ at + 4 * 12 → (p : IsPast s u first at t f before) → (i : ℕ) → i < u.readers at
+      → register f 6 ≡ slot_at u i → register f 7 + i ≡ u.readers at
       → ArePassed s u first p.opened.grace i before
       → ((register f 10 ≡ 0) ⊎ (base s u first at t before p.opened + 1 ≤ register f 10)
       → HasEnded s u first p.opened.grace i before) → IsNext 12
@@ -684,8 +689,8 @@ module _ (s : Setting) (u : Urcu) (first : ℕ) (blocks : AreBlocks (code_of s.p
                 (one_more p.opened.grace i passed (shows (inr (omega arith)))));
           }
 
-  next_13 : e.entry.pc ≡ at + 4 * 13 → (p : IsPast s u first at t f before) → (i : ℕ) → i < u.readers
-      → register f 6 ≡ slot_at u i → register f 7 + i ≡ u.readers
+  next_13 : e.entry.pc ≡ at + 4 * 13 → (p : IsPast s u first at t f before) → (i : ℕ) → i < u.readers at
+      → register f 6 ≡ slot_at u i → register f 7 + i ≡ u.readers at
       → ArePassed s u first p.opened.grace (suc i) before → IsNext 13
   next_13 pc p i lt six seven passed =
       let low = at_low in
@@ -708,16 +713,17 @@ module _ (s : Setting) (u : Urcu) (first : ℕ) (blocks : AreBlocks (code_of s.p
             (passed_next s u first at t e before run has p.opened (suc i) passed);
       }
     where
-      next_slot : suc i < u.readers → sum_64 (slot_at u i) 64 ≡ slot_at u (suc i)
-      next_slot more = let slots_low = blocks.low_slots in omega arith
+      next_slot : suc i < u.readers at → sum_64 (slot_at u i) 64 ≡ slot_at u (suc i)
+      next_slot more =
+          let slots_low = blocks.low_slots in let all = blocks.counted at r block in omega arith
 
-  next_14 : e.entry.pc ≡ at + 4 * 14 → (p : IsPast s u first at t f before) → (i : ℕ) → i < u.readers
-      → (suc i < u.readers → register f 6 ≡ slot_at u (suc i)) → register f 7 + i ≡ u.readers
+  next_14 : e.entry.pc ≡ at + 4 * 14 → (p : IsPast s u first at t f before) → (i : ℕ) → i < u.readers at
+      → (suc i < u.readers at → register f 6 ≡ slot_at u (suc i)) → register f 7 + i ≡ u.readers at
       → ArePassed s u first p.opened.grace (suc i) before → IsNext 14
   next_14 pc p i lt six seven passed =
       let low = at_low in
-      let few = blocks.few in
-      let v = u.readers - suc i in
+      let few = blocks.few at r block in
+      let v = u.readers at - suc i in
       let after = nexts 14 (inst.Addi 7 7 (negsuc 0)) 7 v (at + 4 * 15) pc refl
       (means_addi f (at + 4 * 14) (at + 4 * 15) (omega arith) 7 7 (negsuc 0) (register f 7) v refl
       (omega arith)) in
@@ -737,8 +743,8 @@ module _ (s : Setting) (u : Urcu) (first : ℕ) (blocks : AreBlocks (code_of s.p
             (passed_next s u first at t e before run has p.opened (suc i) passed);
       }
 
-  next_15 : e.entry.pc ≡ at + 4 * 15 → (p : IsPast s u first at t f before) → (i : ℕ) → i < u.readers
-      → (suc i < u.readers → register f 6 ≡ slot_at u (suc i)) → register f 7 + suc i ≡ u.readers
+  next_15 : e.entry.pc ≡ at + 4 * 15 → (p : IsPast s u first at t f before) → (i : ℕ) → i < u.readers at
+      → (suc i < u.readers at → register f 6 ≡ slot_at u (suc i)) → register f 7 + suc i ≡ u.readers at
       → ArePassed s u first p.opened.grace (suc i) before → IsNext 15
   next_15 pc p i lt six seven passed = by_test (eqb (register f 7) 0) refl
     where
@@ -746,7 +752,7 @@ module _ (s : Setting) (u : Urcu) (first : ℕ) (blocks : AreBlocks (code_of s.p
       by_test true is =
           let low = at_low in
           let none = eqb-true (register f 7) 0 is in
-          let all : suc i ≡ u.readers = omega arith in
+          let all : suc i ≡ u.readers at = omega arith in
           let after = nexts 15 (inst.Bne 7 0 (negsuc 19)) 0 0 (at + 4 * 16) pc refl
           (means_bne_not f (at + 4 * 15) (at + 4 * 16) (omega arith) 7 0 (negsuc 19)
           (register f 7) 0 refl refl is) in
@@ -761,14 +767,14 @@ module _ (s : Setting) (u : Urcu) (first : ℕ) (blocks : AreBlocks (code_of s.p
             keeps = λ j some free. kept 0 0 (at + 4 * 16) j after some;
             pc = goes_to 0 0 (at + 4 * 16) after;
             stands = λ le. is_over refl past_it
-                (passed_next s u first at t e before run has p.opened u.readers
+                (passed_next s u first at t e before run has p.opened (u.readers at)
                 (subst (λ n. ArePassed s u first p.opened.grace n before) all passed));
           }
       by_test false is =
           let low = at_low in
           let aligned = (blocks.low at r block).0 in
           let some = eqb-false (register f 7) 0 is in
-          let more : suc i < u.readers = omega arith in
+          let more : suc i < u.readers at = omega arith in
           let after = nexts 15 (inst.Bne 7 0 (negsuc 19)) 0 0 (at + 4 * 10) pc refl
           (means_bne_taken f (at + 4 * 15) 7 0 (negsuc 19) (register f 7) 0 (at + 4 * 10) refl refl is
           (omega arith) (omega arith)) in

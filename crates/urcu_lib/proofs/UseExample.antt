@@ -339,12 +339,12 @@ blocks = record {
             (ap (λ q. slice_get (sync_block q 1) k) its.1 ∙ there);
       };
   low = λ at r is. let its = (only at 0x10030 sync_regs r is).0 in (omega arith, omega arith);
-  low_locks = λ at r is. let its = (only at 0x10074 read_regs r is).0 in omega arith;
   lock_regs = λ at r is. subst AreReadRegs (only at 0x10074 read_regs r is).1 are_read;
   unlock_regs = λ at r is. subst AreReadRegs (only at 0x1007C read_regs r is).1 are_read;
   sync_regs = λ at r is. subst AreSyncRegs (only at 0x10030 sync_regs r is).1 are_sync;
-  one = leb-true 1 1 refl;
-  few = leb-true 1 63 refl;
+  one = λ at r is. leb-true 1 1 refl;
+  few = λ at r is. leb-true 1 63 refl;
+  counted = λ at r is. leb-true 1 1 refl;
   low_slots = leb-true (0x20040 + 64 * 1) (2 ^ 64) refl;
   low_counter = leb-true (0x20000 + 8) (2 ^ 64) refl;
   apart = λ i lt. inl (omega arith);

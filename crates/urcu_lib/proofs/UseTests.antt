@@ -49,11 +49,12 @@ abbrev pub urcu_of : Layout → Urcu
 urcu_of x = record {
   counter = x.counter;
   slots = x.slots;
-  readers = x.readers;
+  slot_count = x.readers;
   reader = x.reader;
   locks = λ at. cond (eqb at x.lock_at) (Some x.lock) None;
   unlocks = λ at. cond (eqb at x.unlock_at) (Some x.unlock) None;
   syncs = λ at. cond (eqb at x.sync_at) (Some x.sync) None;
+  readers = λ at. x.readers;
 }
 
 -- ANSWERS OF TESTS
@@ -316,7 +317,7 @@ module _ (s : Setting) (x : Layout) (first : ℕ) where
 
   abbrev comes : Event → History → ℕ → ℕ → Bool
   comes e before t pc =
-      implies (eqb pc (x.lock_at + 4)) (acts_in 2 x.lock_at e t)
+      implies (eqb pc (x.lock_at + 4)) (acts_in 1 x.lock_at e t)
       && implies (is_in_block 17 x.sync_at pc && ltb x.sync_at pc)
       (acts_in 17 x.sync_at e t || is_returned e before t pc)
 
@@ -325,13 +326,10 @@ module _ (s : Setting) (x : Layout) (first : ℕ) where
   all_come e before (p ∷ ps) = comes e before p.0 p.1.pc && all_come e before ps
 
   -- registers at the first instructions of blocks
-  abbrev is_slot : ℕ → Bool
-  is_slot v = leb x.slots v && (ltb v (x.slots + 64 * x.readers) && eqb ((v - x.slots) % 64) 0)
-
   abbrev registers_fine : Event → History → Bool
   registers_fine e before =
       implies (executes x.lock_at e)
-      (eqb (value e before x.lock.gp) x.counter && is_slot (value e before x.lock.slot))
+      (eqb (value e before x.lock.gp) x.counter)
       && (implies (executes x.sync_at e)
       (eqb (value e before x.sync.gp) x.counter && eqb (value e before x.sync.slots) x.slots)
       && implies (executes (x.sync_at + 16) e) (kernel s before).barriers.private)
@@ -607,23 +605,23 @@ module _ (s : Setting) (x : Layout) (first : ℕ) where
             same
 
     locking_is : (at t : ℕ) (r : ReadRegs) → u.locks at ≡ Some r → (file s t (e ∷ before)).pc ≡ at + 4
-        → HasCome s at 2 0 t e before
-    locking_is at t r block there = subst (λ n. HasCome s n 2 0 t e before) (sym place)
+        → HasCome s at 1 0 t e before
+    locking_is at t r block there = subst (λ n. HasCome s n 1 0 t e before) (sym place)
         (by_file (found t (file s t before) e.done.files four.0))
       where
         place : at ≡ x.lock_at
         place = (only at x.lock_at x.lock r block).0
 
         by_file : (file s t (e ∷ before) ≡ file s t before)
-            ⊎ (comes e before t (file s t (e ∷ before)).pc ≡ true) → HasCome s x.lock_at 2 0 t e before
-        by_file (inl same) = stays 2 x.lock_at t 0 (omega arith) same
+            ⊎ (comes e before t (file s t (e ∷ before)).pc ≡ true) → HasCome s x.lock_at 1 0 t e before
+        by_file (inl same) = stays 1 x.lock_at t 0 (omega arith) same
         by_file (inr is) =
             let first_test =
             (and_parts
             (implies (eqb (file s t (e
-            ∷ before)).pc (x.lock_at + 4)) (acts_in 2 x.lock_at e t)) _ is).0 in
-            acts_it 2 x.lock_at t 0
-            (follows (eqb (file s t (e ∷ before)).pc (x.lock_at + 4)) (acts_in 2 x.lock_at e t) first_test
+            ∷ before)).pc (x.lock_at + 4)) (acts_in 1 x.lock_at e t)) _ is).0 in
+            acts_it 1 x.lock_at t 0
+            (follows (eqb (file s t (e ∷ before)).pc (x.lock_at + 4)) (acts_in 1 x.lock_at e t) first_test
             (eq-eqb (file s t (e ∷ before)).pc (x.lock_at + 4) (there ∙ ap (λ n. n + 4) place)))
 
     syncing_at : (at t k : ℕ) (r : SyncRegs) → u.syncs at ≡ Some r → 0 < k → k < 17
@@ -662,7 +660,7 @@ module _ (s : Setting) (x : Layout) (first : ℕ) where
             let second =
             (and_parts
             (implies (eqb (file s t (e
-            ∷ before)).pc (x.lock_at + 4)) (acts_in 2 x.lock_at e t)) _ is).1 in
+            ∷ before)).pc (x.lock_at + 4)) (acts_in 1 x.lock_at e t)) _ is).1 in
             by_kind (either (acts_in 17 x.sync_at e t) (is_returned e before t (file s t (e ∷ before)).pc)
             (follows (is_in_block 17 x.sync_at (file s t (e ∷ before)).pc && ltb x.sync_at
             (file s t (e ∷ before)).pc) _ second
@@ -673,7 +671,7 @@ module _ (s : Setting) (x : Layout) (first : ℕ) where
 
     -- registers
     abbrev lock_registers : Bool
-    lock_registers = eqb (value e before x.lock.gp) x.counter && is_slot (value e before x.lock.slot)
+    lock_registers = eqb (value e before x.lock.gp) x.counter
 
     abbrev sync_registers : Bool
     sync_registers = eqb (value e before x.sync.gp) x.counter && eqb (value e before x.sync.slots) x.slots
@@ -689,30 +687,13 @@ module _ (s : Setting) (x : Layout) (first : ℕ) where
     register_rest : (implies (executes x.sync_at e) sync_registers ≡ true) × (has_registered ≡ true)
     register_rest = and_parts (implies (executes x.sync_at e) sync_registers) has_registered register_first.1
 
-    lock_are : (at : ℕ) (r : ReadRegs) → u.locks at ≡ Some r → IsExecAt at e
-        → (value e before r.gp ≡ x.counter)
-        × ((i : ℕ) × (i < x.readers) × (value e before r.slot ≡ slot_of i))
+    lock_are : (at : ℕ) (r : ReadRegs) → u.locks at ≡ Some r → IsExecAt at e → value e before r.gp ≡ x.counter
     lock_are at r block exec =
         let its = only at x.lock_at x.lock r block in
-        let parts = and_parts (eqb (value e before x.lock.gp) x.counter)
-        (is_slot (value e before x.lock.slot))
+        sym (ap (λ (q : ReadRegs). value e before q.gp) its.1)
+        ∙ eqb-true (value e before x.lock.gp) x.counter
         (follows (executes x.lock_at e) lock_registers register_first.0
-        (executes_it x.lock_at e (subst (λ n. IsExecAt n e) its.0 exec))) in
-        let slot = slot_is (value e before x.lock.slot) parts.1 in (
-          sym (ap (λ (q : ReadRegs). value e before q.gp) its.1)
-              ∙ eqb-true (value e before x.lock.gp) x.counter parts.0,
-          (slot.0, slot.1, sym (ap (λ (q : ReadRegs). value e before q.slot) its.1) ∙ slot.2),
-        )
-      where
-        slot_is : (v : ℕ) → is_slot v ≡ true → (i : ℕ) × (i < x.readers) × (v ≡ slot_of i)
-        slot_is v is =
-            let one = and_parts (leb x.slots v)
-            (ltb v (x.slots + 64 * x.readers) && eqb ((v - x.slots) % 64) 0) is in
-            let two = and_parts (ltb v (x.slots + 64 * x.readers)) (eqb ((v - x.slots) % 64) 0) one.1 in
-            let from = leb-true x.slots v one.0 in
-            let to = ltb-true v (x.slots + 64 * x.readers) two.0 in
-            let whole = eqb-true ((v - x.slots) % 64) 0 two.1 in
-            ((v - x.slots) / 64, omega arith, omega arith)
+        (executes_it x.lock_at e (subst (λ n. IsExecAt n e) its.0 exec)))
 
     sync_are : (at : ℕ) (r : SyncRegs) → u.syncs at ≡ Some r → IsExecAt at e
         → (value e before r.gp ≡ x.counter) × (value e before r.slots ≡ x.slots)
@@ -753,10 +734,9 @@ module _ (s : Setting) (x : Layout) (first : ℕ) where
           follows (executes (x.sync_at + 16) e) (kernel s before).barriers.private register_rest.1
           (executes_it (x.sync_at + 16) e
           (subst (λ n. IsExecAt (n + 16) e) (sync_of at r block) begins.exec));
-      locking = locking_is;
-      syncing = syncing_at;
-      lock_gp = λ at r block exec. (lock_are at r block exec).0;
-      lock_slot = λ at r block exec. (lock_are at r block exec).1;
+      locking = λ at t r block may there. locking_is at t r block there;
+      syncing = λ at t k r block some lt may there. syncing_at at t k r block some lt there;
+      lock_gp = lock_are;
       sync_gp = λ at r block exec. (sync_are at r block exec).0;
       sync_slots = λ at r block exec. (sync_are at r block exec).1;
     }

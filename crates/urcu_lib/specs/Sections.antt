@@ -58,10 +58,11 @@ pub data IsGrace (at t : ℕ) (begun : History) : History → Type 0 where
   waits : (e : Event) (before : History) → IsGrace at t begun before → (IsGraceEnd at t e → ⊥)
       → IsGrace at t begun (e ∷ before)
 
--- where a grace period ends, no section of a slot goes on that began before the grace period began
+-- where a grace period ends, no section of a slot for which its block waits goes on that began before the
+-- grace period began
 abbrev pub HaveEnded : Setting → Urcu → ℕ → ℕ → History → Type 0
 HaveEnded s u at t before =
-    (i : ℕ) (section grace : History) → i < u.readers → IsGrace at t grace before
+    (i : ℕ) (section grace : History) → i < u.readers at → IsGrace at t grace before
     → IsSection s u i section before → length section < length grace → ⊥
 
 -- WHO IS IN A SYNC BLOCK

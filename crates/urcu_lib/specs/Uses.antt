@@ -1,15 +1,17 @@
 -- How a program uses the blocks: the premises, one condition at each event.
-use Rattle.std.specs.Prelude.{ℕ, ◌≡◌, ◌≢◌, ◌+◌, ◌*◌, ◌<◌, ◌≤◌, ◌^◌, ◌⊎◌, true, List, [], ◌∷◌, ◌++◌}
+use Rattle.std.specs.Prelude.{ℕ, ◌≡◌, ◌≢◌, ◌+◌, ◌*◌, ◌<◌, ◌≤◌, ◌^◌, ◌⊎◌, true, false, List, [], ◌∷◌, ◌++◌}
 use Rattle.std.specs.Prelude.{if◌then◌else◌, Some}
 use Rattle.mach_types.specs.Bytes.{covers, word_at}
 use Rattle.mach_types.specs.Events.{choice_of}
+use Rattle.mach_types.specs.Kernel.Threads.{is_ready}
 use Rattle.mach_types.specs.Registers.{register}
 use Rattle.mach_types.specs.declared.events.Choice.TheVariants as asked
+use Rattle.mach_types.specs.declared.events.Kind.TheVariants as kind
 use Rattle.mach_types.specs.declared.user_memory.Store.{Store}
 use Rattle.alone_laws.specs.Spans.{IsUsable, code_of}
-use Rattle.block_model.specs.History.{Event, History, byte, file, kernel}
+use Rattle.block_model.specs.History.{Event, History, byte, file, kernel, running}
 use Rattle.block_model.specs.Setting.{Setting}
-use Rattle.urcu_lib.specs.Blocks.{AreBlocks, Urcu, counter_bytes, slot_at, slot_bytes}
+use Rattle.urcu_lib.specs.Blocks.{AreBlocks, Urcu, counter_bytes, slot_bytes}
 use Rattle.urcu_lib.specs.declared.regs.ReadRegs.{ReadRegs}
 use Rattle.urcu_lib.specs.declared.regs.SyncRegs.{SyncRegs}
 use Rattle.fence_laws.specs.Kept.{IsQuiet}
@@ -52,6 +54,18 @@ pub data HasCome (s : Setting) (at count kept t : ℕ) (e : Event) (before : His
       → file s t (e ∷ before) ≡ file s t old
       → HasCome s at count kept t e before
 
+-- a thread is neither ready nor on a hart: it waits, has ended, or isn't there yet
+pub record IsAway (s : Setting) (t : ℕ) (before : History) : Type 0 where
+  pub not_ready : is_ready t (kernel s before).threads ≡ false
+  pub nowhere : (h : ℕ) → running s h before ≢ Some t
+
+-- an event may set the file of a thread: it is one of the hart on which the thread runs, the thread begins to
+-- run by it, or the thread is away
+abbrev pub MaySet : Setting → ℕ → Event → History → Type 0
+MaySet s t e before =
+    (running s e.entry.hart.0 before ≡ Some t)
+    ⊎ ((e.entry.kind ≡ kind.Run) × (e.entry.tid.0 ≡ t) ⊎ IsAway s t before)
+
 -- a register of the thread of an event, before it
 abbrev pub register_of : Setting → Event → History → ℕ → ℕ
 register_of s e before r = register (file s e.entry.tid.0 before).file r
@@ -61,16 +75,16 @@ register_of s e before r = register (file s e.entry.tid.0 before).file r
 pub record IsUse (s : Setting) (u : Urcu) (first : ℕ) (e : Event) (before : History) : Type 0 where
   -- the words can be read and written where an instruction is executed
   pub counter_usable : choice_of e.entry ≡ asked.Exec → IsUsable s (counter_bytes u) before
-  pub slot_usable : (i : ℕ) → i < u.readers → choice_of e.entry ≡ asked.Exec
+  pub slot_usable : (i : ℕ) → i < u.slot_count → choice_of e.entry ≡ asked.Exec
       → IsUsable s (slot_bytes u i) before
   -- only these blocks write the counter and the slots
   pub counter : IsQuiet (counter_bytes u) e ⊎ IsSyncStore u e
-  pub slot : (i : ℕ) → i < u.readers → IsQuiet (slot_bytes u i) e ⊎
+  pub slot : (i : ℕ) → i < u.slot_count → IsQuiet (slot_bytes u i) e ⊎
       (IsLockStore s u i e before ⊎ IsUnlockStore s u i e before)
   -- each slot is written by one thread, by lock and unlock in turn
-  pub writer : (i : ℕ) → i < u.readers → IsLockStore s u i e before ⊎ IsUnlockStore s u i e before
+  pub writer : (i : ℕ) → i < u.slot_count → IsLockStore s u i e before ⊎ IsUnlockStore s u i e before
       → e.entry.tid.0 ≡ u.reader i
-  pub turns : (i : ℕ) (section : History) → i < u.readers → IsLockStore s u i e before
+  pub turns : (i : ℕ) (section : History) → i < u.slot_count → IsLockStore s u i e before
       → IsSection s u i section before → ⊥
   -- the counter doesn't pass 2^64 - 1
   pub small : IsSyncStore u e → counted u.counter first before + 1 < 2 ^ 64
@@ -82,17 +96,15 @@ pub record IsUse (s : Setting) (u : Urcu) (first : ℕ) (e : Event) (before : Hi
       → (kernel s before).barriers.private ≡ true
   -- each block is entered at its first instruction alone; and a thread that comes back into one by a
   -- handler's return goes on as it was: in a lock block as at some time in it, in a sync block as when it
-  -- last left it
-  pub locking : (at t : ℕ) (r : ReadRegs) → u.locks at ≡ Some r → (file s t (e ∷ before)).pc ≡ at + 4
-      → HasCome s at 2 0 t e before
+  -- last left it. No other event sets its file there
+  pub locking : (at t : ℕ) (r : ReadRegs) → u.locks at ≡ Some r → MaySet s t e before
+      → (file s t (e ∷ before)).pc ≡ at + 4 → HasCome s at 1 0 t e before
   pub syncing : (at t k : ℕ) (r : SyncRegs) → u.syncs at ≡ Some r → 0 < k → k < 17
-      → (file s t (e ∷ before)).pc ≡ at + 4 * k → HasCome s at 17 17 t e before
-  -- where a thread executes a block's first instruction, its registers hold the addresses of the counter and
-  -- of a slot
+      → MaySet s t e before → (file s t (e ∷ before)).pc ≡ at + 4 * k → HasCome s at 17 17 t e before
+  -- where a thread executes a block's first instruction, its registers hold the addresses of the counter and,
+  -- for sync, of slot 0
   pub lock_gp : (at : ℕ) (r : ReadRegs) → u.locks at ≡ Some r → IsExecAt at e
       → register_of s e before r.gp ≡ u.counter
-  pub lock_slot : (at : ℕ) (r : ReadRegs) → u.locks at ≡ Some r → IsExecAt at e
-      → (i : ℕ) × (i < u.readers) × (register_of s e before r.slot ≡ slot_at u i)
   pub sync_gp : (at : ℕ) (r : SyncRegs) → u.syncs at ≡ Some r → IsExecAt at e
       → register_of s e before r.gp ≡ u.counter
   pub sync_slots : (at : ℕ) (r : SyncRegs) → u.syncs at ≡ Some r → IsExecAt at e

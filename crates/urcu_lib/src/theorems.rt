@@ -17,13 +17,13 @@ ghost use Rattle.urcu_lib.specs.Blocks.{Urcu, lock_block, sync_block, unlock_blo
 ghost use Rattle.urcu_lib.specs.Lines.{AreFree, lock_lines, sync_lines, unlock_lines};
 ghost use Rattle.urcu_lib.specs.declared.regs.ReadRegs.{ReadRegs};
 ghost use Rattle.urcu_lib.specs.declared.regs.SyncRegs.{SyncRegs};
-ghost use Rattle.urcu_lib.specs.Sections.{HaveEnded, IsGraceBegin, IsGraceEnd, IsLockStore};
-ghost use Rattle.urcu_lib.specs.Stretch.{HasFinished, IsCounterGrown, Runs};
+ghost use Rattle.urcu_lib.specs.Sections.{HaveEnded, IsExecAt, IsGraceBegin, IsGraceEnd, IsLockStore};
+ghost use Rattle.urcu_lib.specs.Stretch.{HasFinished, HasNewCounter, IsCounterGrown, Runs};
 ghost use Rattle.urcu_lib.specs.Uses.{HoldsUrcu};
 
-/// In a block run each section of a slot that began before a grace period began has ended before that grace
-/// period ended: where a thread executes a sync block's last instruction, no section of a slot goes on that
-/// began before the thread executed the block's call.
+/// In a block run each section of a slot for which a sync block waits, and which began before a grace period
+/// of that block began, has ended before that grace period ended: where a thread executes the block's last
+/// instruction, no section of such a slot goes on that began before the thread executed the block's call.
 pub fn sections_end_before_grace_periods()
     ensures { (s : Setting) (log : List Entry) (u : Urcu) (at t : ℕ) (r : SyncRegs) (e : Event)
         (before : History)
@@ -32,14 +32,19 @@ pub fn sections_end_before_grace_periods()
 {}
 
 /// Where a thread executes the instructions of a sync block from its first on, no signal is delivered to it,
-/// and each load of a slot gives 0 or a number not below the new counter, the block's last instruction is
-/// soon executed: it is among the thread's first 11 + 6 * readers instructions, where the log has so many.
+/// and the first load of each slot gives 0 or a number not below the new counter, the block's last instruction
+/// is soon executed: it is among the thread's first 11 + 6 * readers instructions, where the log has so many.
 pub fn sync_is_soon_over()
     ensures soon { (s : Setting) (log : List Entry) (u : Urcu) (at t n : ℕ) (r : SyncRegs) (begun : History)
         → IsBlockRun s log → HoldsUrcu s u (history s log) → u.syncs at ≡ Some r → (file s t begun).pc ≡ at
-        → Runs s at t begun (history s log) n → 11 + 6 * u.readers ≤ n
-        → HasFinished s at t (11 + 6 * u.readers) begun (history s log) }
-    // And after it the thread's hart sees the counter 1 above what it saw where the call had returned.
+        → Runs s at t begun (history s log) n → 11 + 6 * u.readers at ≤ n
+        → HasFinished s at t (11 + 6 * u.readers at) begun (history s log) }
+    // The new counter is what x5 holds where the thread executes the instruction behind the load.
+    ensures compared { (s : Setting) (log : List Entry) (u : Urcu) (at t : ℕ) (r : SyncRegs) (e : Event)
+        (before : History)
+        → IsBlockRun s log → history s log ≡ e ∷ before → HoldsUrcu s u (e ∷ before) → u.syncs at ≡ Some r
+        → IsExecAt (at + 44) e → e.entry.tid.0 ≡ t → HasNewCounter s u at t before }
+    // And after the last instruction the thread's hart sees the counter 1 above what it saw where the call had returned.
     ensures grown { (s : Setting) (log : List Entry) (u : Urcu) (at t : ℕ) (r : SyncRegs) (e : Event)
         (before : History)
         → IsBlockRun s log → history s log ≡ e ∷ before → HoldsUrcu s u (e ∷ before) → u.syncs at ≡ Some r
