@@ -58,9 +58,9 @@ pub(crate) fn quiet_text<S: Shelf>(
 {
     match command {
         Command::Runs(run) => quiet_run_text(alloc, run, shelf),
-        Command::Makes(guest) => Ok(Output::whole(guest_file(alloc, *guest)?)),
+        Command::Makes(guest) => guest_output(alloc, *guest),
         Command::Tries(trial) => tried(alloc, trial),
-        Command::Explores(explore) => { Ok(Output::whole(explored_alone(alloc, explore, shelf)?)) }
+        Command::Explores(explore) => explored_alone(alloc, explore, shelf),
     }
 }
 
@@ -83,11 +83,17 @@ pub(crate) fn workers_text<R: Threads + Wait + Sync, S: Shelf, G: Gate + Sync>(
 {
     match command {
         Command::Runs(run) => workers_run_text(alloc, rt, run, shelf, gate),
-        Command::Explores(explore) => {
-            Ok(Output::whole(explored_together(alloc, rt, explore, shelf)?))
-        }
+        Command::Explores(explore) => explored_together(alloc, rt, explore, shelf),
         Command::Makes(_) | Command::Tries(_) => unreachable!(),
     }
+}
+
+/// The file of a guest, to be written.
+fn guest_output(alloc: Global, guest: Guest) -> Result<Output, Reason>
+    ensures output { IfOk result (IsGuestOutput guest) }
+    ensures cause { IfErr result (IsGuestReason guest) }
+{
+    Ok(Output::whole(guest_file(alloc, guest)?))
 }
 
 /// The file of a guest.
