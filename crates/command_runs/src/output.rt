@@ -92,7 +92,12 @@ impl Output {
 }
 
 /// The output of a run, at whose end a machine is: its console, its log and its end. All memory is taken here.
-pub(crate) fn run_output(alloc: Global, machine: Machine) -> Result<Output, AllocError> {
+#[tactic(auto, unfolding(outcomes::specs::Text::output_text))]
+pub(crate) fn run_output(alloc: Global, machine: Machine) -> Result<Output, AllocError>
+    requires { All (λ e. e.hart.0 < 8) machine.log }
+    ensures { let s = machine.setting in let before = history s machine.log in
+        IfOk result (λ output. output ≡ output_text (console s before) machine.log (end_of s before)) }
+{
     let head = head_of(alloc, &machine, machine.log().len())?;
     let tail = tail_of(alloc, &machine)?;
     let buffer = LineBuffer::new(alloc)?;
