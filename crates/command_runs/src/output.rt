@@ -76,12 +76,14 @@ impl Output {
         }
     }
 
-    /// Writes the text. It takes no memory. After `Failed` a prefix of it was appended.
+    /// Writes the text. It takes no memory, and the output stays the same. After `Failed` a prefix
+    /// of it was appended.
     pub fn write<K: Sink>(&mut self, sink: &mut K) -> Result<(), Failed>
         ensures whole { OnOk result (Gained (K.held sink.old) (K.held sink.new) self.old) }
         ensures prefix { OnErr result (GainedPrefix (K.held sink.old) (K.held sink.new) self.old) }
         ensures failed { OnErr result (Rose (K.faults sink.old) (K.faults sink.new)) }
         ensures counts { NeverFalls (K.faults sink.old) (K.faults sink.new) }
+        ensures same { self.new ≡ self.old }
     {
         let Some(lines) = &mut self.lines else {
             return emit(sink, &self.head);
@@ -91,7 +93,8 @@ impl Output {
     }
 }
 
-/// The output of a run, at whose end a machine is: its console, its log and its end. All memory is taken here.
+/// The output of a run, at whose end a machine is: its console, its log and its end. All memory is taken
+/// here.
 #[tactic(auto, unfolding(outcomes::specs::Text::output_text))]
 pub(crate) fn run_output(alloc: Global, machine: Machine) -> Result<Output, AllocError>
     requires { All (λ e. e.hart.0 < 8) machine.log }
