@@ -12,6 +12,7 @@ mod solo;
 mod summary;
 mod texts;
 
+pub use output::Output;
 pub use rounds::run_rounds;
 pub use run::run_workers;
 pub use scripts::play;

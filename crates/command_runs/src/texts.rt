@@ -11,7 +11,7 @@ ghost use Rattle.outcomes.specs.Outputs.{setting_for, shown_text};
 
 use crate::acts::{acts_of_run, acts_text};
 use crate::gather::gathered_log;
-use crate::output::{output_text, push_console};
+use crate::output::{Output, output_with, push_console, run_output};
 use crate::summary::{push_summary, summary_text};
 use command_words::{Run, Shown};
 use elf_load::Image;
@@ -25,26 +25,28 @@ pub fn shown_text(
     alloc: Global,
     run: &Run,
     image: &Image,
-    machine: &Machine,
-) -> Result<Vec<u8>, AllocError>
+    machine: Machine,
+) -> Result<Output, AllocError>
     requires image { IsBootable run.now.limits.frames image.now }
     requires limits { InRange run.now.limits }
-    requires setting { machine.now.setting ≡ setting_for (run_said run.now) image.now }
-    requires run { IsBlockRun machine.now.setting machine.now.log }
-    ensures { IfOk result
-        (λ text. text.items ≡ shown_text run.now.shown machine.now.setting machine.now.log) }
+    requires setting { machine.setting ≡ setting_for (run_said run.now) image.now }
+    requires run { IsBlockRun machine.setting machine.log }
+    ensures { IfOk result (λ output. output ≡ shown_text run.now.shown machine.setting machine.log) }
 {
     match run.shown {
-        Shown::Output => output_text(alloc, machine, machine.log()),
+        Shown::Output => run_output(alloc, machine),
         Shown::Summary => {
-            let acts = acts_of_run(alloc, image, &run.limits, machine)?;
-            summary_text(alloc, &acts, machine)
+            let acts = acts_of_run(alloc, image, &run.limits, &machine)?;
+            Ok(Output::whole(summary_text(alloc, &acts, &machine)?))
         }
-        Shown::Place => place_text(alloc, machine),
-        Shown::Acts => acts_text(alloc, &acts_of_run(alloc, image, &run.limits, machine)?),
+        Shown::Place => Ok(Output::whole(place_text(alloc, &machine)?)),
+        Shown::Acts => {
+            let acts = acts_of_run(alloc, image, &run.limits, &machine)?;
+            Ok(Output::whole(acts_text(alloc, &acts)?))
+        }
         Shown::Gathered => {
-            let log = gathered_log(alloc, image, &run.limits, machine)?;
-            output_text(alloc, machine, &log)
+            let log = gathered_log(alloc, image, &run.limits, &machine)?;
+            output_with(alloc, &machine, log)
         }
     }
 }

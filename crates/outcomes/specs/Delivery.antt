@@ -1,8 +1,6 @@
 -- Writing a text and giving its status.
 use Rattle.std.specs.Prelude.{ℕ, ◌≡◌, ◌⊎◌, List, Option, Some, None, Result, Ok, Err, false}
-use Rattle.std.specs.declared.alloc.Global.{Global}
 use Rattle.std.specs.declared.io.ErrorKind.{ErrorKind}
-use Rattle.std.specs.declared.vec.Vec.{Vec}
 use Rattle.mach_types.specs.declared.limits.Limits.{Limits}
 use Rattle.elf_load.specs.Faults.{first_fault}
 use Rattle.block_model.specs.Setting.{Setting}
@@ -36,7 +34,7 @@ IsDelivered old new before after text due status =
     IsWritten old new text due status ⊎ IsCutShort old new before after text status
 
 -- how a call that has this answer is explained where it is written
-abbrev pub due_for : Result (Vec ℕ Global) Reason → Explained
+abbrev pub due_for : Result (List ℕ) Reason → Explained
 due_for (Ok text) = record { status = 0; reason = None; untold = None }
 due_for (Err reason) = record { status = reason_status reason; reason = Some reason; untold = None }
 

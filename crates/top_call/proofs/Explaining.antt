@@ -1,7 +1,5 @@
 -- The outcome of a call and the reason that goes with it, from what was answered and how it was delivered.
 use Rattle.std.proofs.Common.{◌≡◌, ◌∙◌, ℕ, inl, inr, List, Option, None, refl, sym, ap, subst, Some, Result, Ok, Err}
-use Rattle.std.specs.declared.alloc.Global.{Global}
-use Rattle.std.specs.declared.vec.Vec.{Vec}
 use Rattle.std.specs.declared.io.ErrorKind.{ErrorKind}
 use Rattle.outcomes.specs.declared.faults.Fault.{Fault}
 use Rattle.outcomes.specs.declared.faults.Fault.TheVariants as told
@@ -32,7 +30,7 @@ cause call said reason why =
     cause_of call.files call.words call.read_faults call.read_faults_after said reason why
 
 -- the outcome of an answer that was told
-outcome_of : (call : Call) (said : Option ErrorKind) (answer : Result (Vec ℕ Global) Reason) (status : ℕ) → IsKept call
+outcome_of : (call : Call) (said : Option ErrorKind) (answer : Result (List ℕ) Reason) (status : ℕ) → IsKept call
     → IsAnswerFor call.files call.words call.read_faults call.read_faults_after said answer
     → IsToldFor call.held call.held_after call.write_faults call.write_faults_after answer status
     → IsOutcome call status
@@ -123,21 +121,21 @@ module _ (call : Call) (troubles : Troubles) where
   }
 
   -- where the sink failed, what was due is untold: a reason of the words and the files, or a part of the output
-  untold_of : (answer : Result (Vec ℕ Global) Reason) → IsAnswerFor call.files call.words call.read_faults
+  untold_of : (answer : Result (List ℕ) Reason) → IsAnswerFor call.files call.words call.read_faults
       call.read_faults_after troubles.shelf answer → IfSome (due_for answer).reason (IsUntold call troubles 6)
   untold_of (Ok text) output = tt
   untold_of (Err reason) why = record { unwritten = refl; why = why }
 
-  part_of : (answer : Result (Vec ℕ Global) Reason) (status : ℕ) → IsAnswerFor call.files call.words call.read_faults
+  part_of : (answer : Result (List ℕ) Reason) (status : ℕ) → IsAnswerFor call.files call.words call.read_faults
       call.read_faults_after troubles.shelf answer
       → IsToldFor call.held call.held_after call.write_faults call.write_faults_after answer status
       → status ≡ 6 → (due_for answer).reason ≡ None → WrotePrefix call (IsOutput call.files call.words)
   part_of (Ok text) status output (inl written) six none = absurd (cc (sym written.status ∙ six))
-  part_of (Ok text) status output (inr cut) six none = (text.items, output, cut.gained)
+  part_of (Ok text) status output (inr cut) six none = (text, output, cut.gained)
   part_of (Err reason) status why told_so six none = absurd (cc none)
 
 -- how a call is explained whose answer was told, with this outcome
-explained_so : (call : Call) (troubles : Troubles) (answer : Result (Vec ℕ Global) Reason) (explained : Explained)
+explained_so : (call : Call) (troubles : Troubles) (answer : Result (List ℕ) Reason) (explained : Explained)
     → IsAnswerFor call.files call.words call.read_faults call.read_faults_after troubles.shelf answer
     → IsToldFor call.held call.held_after call.write_faults call.write_faults_after answer explained.status
     → IsAsDue call.write_faults call.write_faults_after troubles.sink (due_for answer) explained
@@ -173,7 +171,7 @@ explained_so call troubles answer explained answered told_so (inr unwritten) out
           (ap (λ (e : Explained). e.status) unwritten.failed) none;
     })
 
-pub explained_of : (call : Call) (troubles : Troubles) (answer : Result (Vec ℕ Global) Reason) (explained : Explained)
+pub explained_of : (call : Call) (troubles : Troubles) (answer : Result (List ℕ) Reason) (explained : Explained)
     → IsKept call
     → IsAnswerFor call.files call.words call.read_faults call.read_faults_after troubles.shelf answer
     → IsToldFor call.held call.held_after call.write_faults call.write_faults_after answer explained.status
@@ -185,7 +183,7 @@ explained_of call troubles answer explained keeps answered told_so due =
 
 -- the reason of an answer stands for a fault, whose line can be told
 pub due_is_told : (files : Files) (words : List (List ℕ)) (old new : List ℕ → ℕ) (said : Option ErrorKind)
-    (answer : Result (Vec ℕ Global) Reason) → IsAnswerFor files words old new said answer
+    (answer : Result (List ℕ) Reason) → IsAnswerFor files words old new said answer
     → IfErr answer (λ reason. IsSome (fault_told reason))
 due_is_told files words old new said (Ok text) output = tt
 due_is_told files words old new said (Err reason) why = is_told files words old new said reason why
@@ -210,11 +208,11 @@ reason_for files words old new said command (Unwritten trouble) is why = absurd 
 
 -- the answer to the words, from the answer to their command
 pub answer_for : (files : Files) (words : List (List ℕ)) (old new : List ℕ → ℕ) (said : Option ErrorKind)
-    (command : Command) (answer : Result (Vec ℕ Global) Reason) → command_of words ≡ Some command
-    → IfOk answer (λ text. IsOutputOf files (Some command) text.items)
+    (command : Command) (answer : Result (List ℕ) Reason) → command_of words ≡ Some command
+    → IfOk answer (λ text. IsOutputOf files (Some command) text)
     → IfErr answer (IsReasonFor files (needs_of (Some command)) old new said)
     → IsAnswerFor files words old new said answer
 answer_for files words old new said command (Ok text) is output why =
-    subst (λ (c : Option Command). IsOutputOf files c text.items) (sym is) output
+    subst (λ (c : Option Command). IsOutputOf files c text) (sym is) output
 answer_for files words old new said command (Err reason) is output why =
     reason_for files words old new said command reason is why

@@ -3,7 +3,6 @@ use Rattle.std.proofs.Common.{◌≡◌, ◌∙◌, ℕ, List, ap, subst}
 use Rattle.elf_load.specs.declared.image.Image.{Image}
 use Rattle.block_model.specs.Setting.{setting_of}
 use Rattle.command_words.specs.declared.commands.Settings.{Settings}
-use Rattle.explored_runs.specs.declared.exploration.Apart.{Apart}
 use Rattle.explored_runs.specs.declared.exploration.Exploration.{Exploration}
 use Rattle.explored_runs.specs.declared.explored.Explored.{Explored}
 use Rattle.explored_runs.specs.Accounts.{account_of}

@@ -1,8 +1,6 @@
 -- The outcome of a call, from what was answered and how it was delivered.
 use Rattle.std.proofs.Common.{◌≡◌, ℕ, ◌⊎◌, inl, inr, List, refl, sym, ap, ◌∙◌, subst}
 use Rattle.std.proofs.Common.{None, Result, Ok, Err}
-use Rattle.std.specs.declared.alloc.Global.{Global}
-use Rattle.std.specs.declared.vec.Vec.{Vec}
 use Rattle.outside.specs.Counts.{NeverFalls, NoneFalls}
 use Rattle.outcomes.specs.declared.faults.Fault.{Fault}
 use Rattle.outcomes.specs.declared.faults.Fault.TheVariants.{Usage, Read, Memory, Big, Elf, Script, Guest}
@@ -228,9 +226,9 @@ fault_delivered call fault status keeps cause (inr cut) =
     (inr (record { fault = fault; cause = cause; line = refl })) cut
 
 -- the outcome of an answer that was told
-pub told_outcome : (call : Call) (answer : Result (Vec ℕ Global) Fault) (status : ℕ) → IsKept call
+pub told_outcome : (call : Call) (answer : Result (List ℕ) Fault) (status : ℕ) → IsKept call
     → IsAnswer call.files call.words call.read_faults call.read_faults_after answer
     → IsTold call.held call.held_after call.write_faults call.write_faults_after answer status
     → IsOutcome call status
-told_outcome call (Ok text) status keeps output told = output_delivered call text.items status keeps output told
+told_outcome call (Ok text) status keeps output told = output_delivered call text status keeps output told
 told_outcome call (Err fault) status keeps cause told = fault_delivered call fault status keeps cause told

@@ -13,6 +13,7 @@ ghost use Rattle.outcomes.specs.Reasons.{IsExplained};
 
 use crate::delivery::tell;
 use crate::texts::{quiet_text, workers_text};
+use command_runs::Output;
 use command_words::{Command, Source, WordsError, read_words};
 use outcomes::{Explained, Reason};
 use outside::{Gate, Shelf, Sink};
@@ -127,7 +128,7 @@ fn quiet_answer<'a, S: Shelf>(
     alloc: Global,
     words: &'a [String],
     shelf: &mut S,
-) -> Result<Result<Vec<u8>, Reason>, Command<'a>>
+) -> Result<Result<Output, Reason>, Command<'a>>
     ensures left { IfErr result (λ command. command_of (texts words.now) ≡ Some (said command)) }
     ensures workers { IfErr result (λ command. needs_workers (said command) ≡ true) }
     ensures limits { IfErr result (λ command. HasLimits (said command)) }

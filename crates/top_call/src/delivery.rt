@@ -5,7 +5,9 @@ ghost use Rattle.outside.specs.Counts.{NeverFalls};
 ghost use Rattle.outcomes.specs.Answers.{IsToldFor};
 ghost use Rattle.outcomes.specs.Delivery.{IsAsDue, IsDelivered, due_for};
 ghost use Rattle.outcomes.specs.Reasons.{fault_told, reason_status};
+ghost use Rattle.outcomes.specs.declared.reasons.Reason.TheVariants.{Unwritten};
 
+use command_runs::Output;
 use outcomes::{Explained, Reason};
 use outside::{Sink, emit};
 
@@ -13,7 +15,7 @@ use outside::{Sink, emit};
 const DONE: u8 = 0;
 
 /// Writes the output, or the line of the fault that a reason stands for, and explains how the call ended.
-pub(crate) fn tell<K: Sink>(sink: &mut K, answer: Result<Vec<u8>, Reason>) -> Explained
+pub(crate) fn tell<K: Sink>(sink: &mut K, answer: Result<Output, Reason>) -> Explained
     requires { IfErr answer (λ reason. IsSome (fault_told reason)) }
     ensures told { IsToldFor (K.held sink.old) (K.held sink.new) (K.faults sink.old) (K.faults sink.new)
         answer result.status }
@@ -22,42 +24,64 @@ pub(crate) fn tell<K: Sink>(sink: &mut K, answer: Result<Vec<u8>, Reason>) -> Ex
     ensures counts { NeverFalls (K.faults sink.old) (K.faults sink.new) }
 {
     match answer {
-        Ok(text) => {
+        Ok(output) => {
             let due = Explained {
                 status: DONE,
                 reason: None,
                 untold: None,
             };
-            deliver(sink, &text, due)
+            deliver(sink, output, due)
         }
         Err(reason) => {
             let Some(fault) = reason.fault() else {
                 unreachable!()
             };
-            deliver(sink, fault.line().as_str().as_bytes(), told(reason))
+            deliver_line(sink, fault.line().as_str().as_bytes(), told(reason))
         }
     }
 }
 
-/// Writes a text, and gives what is due, or the status and the reason of a failed sink.
-fn deliver<K: Sink>(sink: &mut K, text: &[u8], due: Explained) -> Explained
+/// Writes an output, and gives what is due, or the status and the reason of a failed sink.
+fn deliver<K: Sink>(sink: &mut K, mut output: Output, due: Explained) -> Explained
     ensures delivered { IsDelivered (K.held sink.old) (K.held sink.new) (K.faults sink.old)
-        (K.faults sink.new) text.now due.status result.status }
+        (K.faults sink.new) output due.status result.status }
     ensures explained { IsAsDue (K.faults sink.old) (K.faults sink.new) (K.last_trouble sink.new) due result }
     ensures counts { NeverFalls (K.faults sink.old) (K.faults sink.new) }
 {
-    match emit(sink, text) {
+    match output.write(sink) {
         Ok(()) => due,
-        Err(_) => {
-            let reason = Reason::Unwritten {
-                trouble: sink.trouble(),
-            };
-            Explained {
-                status: reason.status(),
-                reason: Some(reason),
-                untold: due.reason,
-            }
-        }
+        Err(_) => unwritten(sink, due),
+    }
+}
+
+/// Writes a line, and gives what is due, or the status and the reason of a failed sink.
+fn deliver_line<K: Sink>(sink: &mut K, line: &[u8], due: Explained) -> Explained
+    ensures delivered { IsDelivered (K.held sink.old) (K.held sink.new) (K.faults sink.old)
+        (K.faults sink.new) line.now due.status result.status }
+    ensures explained { IsAsDue (K.faults sink.old) (K.faults sink.new) (K.last_trouble sink.new) due result }
+    ensures counts { NeverFalls (K.faults sink.old) (K.faults sink.new) }
+{
+    match emit(sink, line) {
+        Ok(()) => due,
+        Err(_) => unwritten(sink, due),
+    }
+}
+
+/// How a call ends whose sink failed, where this was due.
+fn unwritten<K: Sink>(sink: &K, due: Explained) -> Explained
+    ensures { result ≡ record {
+      status = 6;
+      reason = Some (Unwritten (K.last_trouble sink.now));
+      untold = due.reason;
+    } }
+{
+    let reason = Reason::Unwritten {
+        trouble: sink.trouble(),
+    };
+    Explained {
+        status: reason.status(),
+        reason: Some(reason),
+        untold: due.reason,
     }
 }
 

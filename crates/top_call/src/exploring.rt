@@ -8,6 +8,7 @@ ghost use Rattle.outcomes.specs.Needs.{Program};
 ghost use Rattle.outcomes.specs.Reasons.{IsReasonFor};
 
 use crate::fetching::taken;
+use command_runs::Output;
 use command_words::{Apart as Asked, Explore, Settings};
 use explored_runs::{Apart, Exploration, explore, explore_on, explored_text};
 use outcomes::Reason;
@@ -47,10 +48,10 @@ pub(crate) fn explored_alone<S: Shelf>(
     alloc: Global,
     asked: &Explore,
     shelf: &mut S,
-) -> Result<Vec<u8>, Reason>
+) -> Result<Output, Reason>
     requires { AreInRange asked.now.settings }
     ensures output { IfOk result
-        (λ text. IsExploreOutput (S.file shelf.old) asked.now.program.now asked.now.settings text.items) }
+        (λ text. IsExploreOutput (S.file shelf.old) asked.now.program.now asked.now.settings text) }
     ensures cause { let needs = Program asked.now.program.now asked.now.settings.limits in
         IfErr result (IsReasonFor (S.file shelf.old) needs (S.faults shelf.old) (S.faults shelf.new)
         (S.last_trouble shelf.new)) }
@@ -61,7 +62,7 @@ pub(crate) fn explored_alone<S: Shelf>(
     let image = taken(alloc, asked.program, &settings.limits, shelf)?;
     let exploration = exploration_of(settings);
     let explored = explore(alloc, &image, settings.limits, &exploration)?;
-    Ok(explored_text(alloc, &explored, exploration.apart)?)
+    Ok(Output::whole(explored_text(alloc, &explored, exploration.apart)?))
 }
 
 /// The text of an exploration by as many host threads as are asked for.
@@ -70,10 +71,10 @@ pub(crate) fn explored_together<R: Threads + Sync, S: Shelf>(
     rt: &R,
     asked: &Explore,
     shelf: &mut S,
-) -> Result<Vec<u8>, Reason>
+) -> Result<Output, Reason>
     requires { AreInRange asked.now.settings }
     ensures output { IfOk result
-        (λ text. IsExploreOutput (S.file shelf.old) asked.now.program.now asked.now.settings text.items) }
+        (λ text. IsExploreOutput (S.file shelf.old) asked.now.program.now asked.now.settings text) }
     ensures cause { let needs = Program asked.now.program.now asked.now.settings.limits in
         IfErr result (IsReasonFor (S.file shelf.old) needs (S.faults shelf.old) (S.faults shelf.new)
         (S.last_trouble shelf.new)) }
@@ -85,7 +86,7 @@ pub(crate) fn explored_together<R: Threads + Sync, S: Shelf>(
     let exploration = exploration_of(settings);
     let jobs = jobs_of(rt, settings.jobs);
     let explored = explore_on(alloc, rt, &image, settings.limits, &exploration, jobs)?;
-    Ok(explored_text(alloc, &explored, exploration.apart)?)
+    Ok(Output::whole(explored_text(alloc, &explored, exploration.apart)?))
 }
 
 /// How many host threads make the runs: as many as are asked for, or as there are processors.

@@ -17,7 +17,7 @@ ghost use Rattle.outcomes.specs.Reasons.{IsReasonFor};
 
 use crate::exploring::{explored_alone, explored_together};
 use crate::fetching::{read_file, taken};
-use command_runs::{play, run_rounds, run_solo, run_workers, shown_text, trial_text};
+use command_runs::{Output, play, run_rounds, run_solo, run_workers, shown_text, trial_text};
 use command_words::{Command, Draws, Guest, Run, Source, Trial};
 use drawn_machine::{draw_on, run_drawn};
 use drawn_runs::Manner;
@@ -45,11 +45,11 @@ pub(crate) fn quiet_text<S: Shelf>(
     alloc: Global,
     command: &Command,
     shelf: &mut S,
-) -> Result<Vec<u8>, Reason>
+) -> Result<Output, Reason>
     requires limits { HasLimits (said command.now) }
     requires harts { HasItsHarts (said command.now) }
     requires quiet { needs_workers (said command.now) ≡ false }
-    ensures output { IfOk result (λ text. IsOutputOf (S.file shelf.old) (Some (said command.now)) text.items) }
+    ensures output { IfOk result (λ text. IsOutputOf (S.file shelf.old) (Some (said command.now)) text) }
     ensures cause { let needs = needs_of (Some (said command.now)) in
         IfErr result (IsReasonFor (S.file shelf.old) needs (S.faults shelf.old) (S.faults shelf.new)
         (S.last_trouble shelf.new)) }
@@ -58,7 +58,7 @@ pub(crate) fn quiet_text<S: Shelf>(
 {
     match command {
         Command::Runs(run) => quiet_run_text(alloc, run, shelf),
-        Command::Makes(guest) => guest_file(alloc, *guest),
+        Command::Makes(guest) => guest_output(alloc, *guest),
         Command::Tries(trial) => tried(alloc, trial),
         Command::Explores(explore) => explored_alone(alloc, explore, shelf),
     }
@@ -71,10 +71,10 @@ pub(crate) fn workers_text<R: Threads + Wait + Sync, S: Shelf, G: Gate + Sync>(
     command: &Command,
     shelf: &mut S,
     gate: &G,
-) -> Result<Vec<u8>, Reason>
+) -> Result<Output, Reason>
     requires limits { HasLimits (said command.now) }
     requires workers { needs_workers (said command.now) ≡ true }
-    ensures output { IfOk result (λ text. IsOutputOf (S.file shelf.old) (Some (said command.now)) text.items) }
+    ensures output { IfOk result (λ text. IsOutputOf (S.file shelf.old) (Some (said command.now)) text) }
     ensures cause { let needs = needs_of (Some (said command.now)) in
         IfErr result (IsReasonFor (S.file shelf.old) needs (S.faults shelf.old) (S.faults shelf.new)
         (S.last_trouble shelf.new)) }
@@ -86,6 +86,14 @@ pub(crate) fn workers_text<R: Threads + Wait + Sync, S: Shelf, G: Gate + Sync>(
         Command::Explores(explore) => explored_together(alloc, rt, explore, shelf),
         Command::Makes(_) | Command::Tries(_) => unreachable!(),
     }
+}
+
+/// The file of a guest, to be written.
+fn guest_output(alloc: Global, guest: Guest) -> Result<Output, Reason>
+    ensures output { IfOk result (IsGuestOutput guest) }
+    ensures cause { IfErr result (IsGuestReason guest) }
+{
+    Ok(Output::whole(guest_file(alloc, guest)?))
 }
 
 /// The file of a guest.
@@ -123,23 +131,23 @@ fn unloaded(_fault: ElfFault) -> Reason
 }
 
 /// The text of a trial.
-fn tried(alloc: Global, trial: &Trial) -> Result<Vec<u8>, Reason>
+fn tried(alloc: Global, trial: &Trial) -> Result<Output, Reason>
     requires { InRange (trial_limits trial.now) }
-    ensures output { IfOk result (λ text. IsTrialOutput trial.now text.items) }
+    ensures output { IfOk result (λ text. IsTrialOutput trial.now text) }
     ensures cause { IfErr result (IsGuestReason trial.now.guest) }
 {
     let limits = trial.limits();
     let image = guest_image(alloc, trial.guest, &limits)?;
     let machine = run_rounds(alloc, &image, limits, trial.seed)?;
-    Ok(trial_text(alloc, &image, &limits, &machine)?)
+    Ok(Output::whole(trial_text(alloc, &image, &limits, &machine)?))
 }
 
 /// The text of a run that needs no workers.
-fn quiet_run_text<S: Shelf>(alloc: Global, run: &Run, shelf: &mut S) -> Result<Vec<u8>, Reason>
+fn quiet_run_text<S: Shelf>(alloc: Global, run: &Run, shelf: &mut S) -> Result<Output, Reason>
     requires limits { InRange run.now.limits }
     requires harts { HasHartsOf (source_said run.now.source) run.now.limits }
     requires quiet { is_by_workers (source_said run.now.source) ≡ false }
-    ensures output { IfOk result (λ text. IsRunOutput (S.file shelf.old) (run_said run.now) text.items) }
+    ensures output { IfOk result (λ text. IsRunOutput (S.file shelf.old) (run_said run.now) text) }
     ensures cause { let needs = needs_by run.now.program.now (source_said run.now.source) run.now.limits in
         IfErr result (IsReasonFor (S.file shelf.old) needs (S.faults shelf.old) (S.faults shelf.new)
         (S.last_trouble shelf.new)) }
@@ -147,7 +155,8 @@ fn quiet_run_text<S: Shelf>(alloc: Global, run: &Run, shelf: &mut S) -> Result<V
     ensures counts { NoneFalls (S.faults shelf.old) (S.faults shelf.new) }
 {
     let made = quiet_run(alloc, run, shelf)?;
-    Ok(shown_text(alloc, run, &made.image, &made.machine)?)
+    let ProgramRun { image, machine } = made;
+    Ok(shown_text(alloc, run, &image, machine)?)
 }
 
 /// The text of a run by workers.
@@ -157,10 +166,10 @@ fn workers_run_text<R: Threads + Wait + Sync, S: Shelf, G: Gate + Sync>(
     run: &Run,
     shelf: &mut S,
     gate: &G,
-) -> Result<Vec<u8>, Reason>
+) -> Result<Output, Reason>
     requires limits { InRange run.now.limits }
     requires workers { is_by_workers (source_said run.now.source) ≡ true }
-    ensures output { IfOk result (λ text. IsRunOutput (S.file shelf.old) (run_said run.now) text.items) }
+    ensures output { IfOk result (λ text. IsRunOutput (S.file shelf.old) (run_said run.now) text) }
     ensures cause { let needs = needs_by run.now.program.now (source_said run.now.source) run.now.limits in
         IfErr result (IsReasonFor (S.file shelf.old) needs (S.faults shelf.old) (S.faults shelf.new)
         (S.last_trouble shelf.new)) }
@@ -168,7 +177,8 @@ fn workers_run_text<R: Threads + Wait + Sync, S: Shelf, G: Gate + Sync>(
     ensures counts { NoneFalls (S.faults shelf.old) (S.faults shelf.new) }
 {
     let made = waiting_run(alloc, rt, run, shelf, gate)?;
-    Ok(shown_text(alloc, run, &made.image, &made.machine)?)
+    let ProgramRun { image, machine } = made;
+    Ok(shown_text(alloc, run, &image, machine)?)
 }
 
 /// Runs a program without workers.

@@ -1,9 +1,10 @@
+use Rattle.std.proofs.Common.{◌∙◌}
 use Rattle.top_call.proofs.Explorations.{output_of_exploration}
 use Rattle.top_call.proofs.exploring.explored_together.Goals as goal
 
 pub returns-clause-output : goal.returns-clause-output
 returns-clause-output g c =
     output_of_exploration (g.S.Shelf.file c.args.shelf.now) c.args.asked.now.program.now c.args.asked.now.settings
-    c.in_ok-image.image c.exploration_of-exploration.result c.in_ok-explored.explored c.in_ok-explored_text.field-0.items
+    c.in_ok-image.image c.exploration_of-exploration.result c.in_ok-explored.explored c.whole.result
     c.in_ok-image.ensures.taken c.exploration_of-exploration.ensures c.in_ok-explored.ensures
-    c.in_ok-explored_text.ensures
+    (c.whole.ensures ∙ c.in_ok-explored_text.ensures)

@@ -1,7 +1,6 @@
-use Rattle.std.proofs.Common.{◌≡◌, ◌≤◌, ◌∙◌, ap, ap₂, arith, length}
+use Rattle.std.proofs.Common.{◌∙◌, ap, ap₂, arith, length}
 use Rattle.command_words.specs.Commands.{Script}
 use Rattle.drawn_runs.specs.Manners.{manner_behind}
-use Rattle.drawn_runs.specs.declared.manner.Manner.{Manner}
 use Rattle.top_call.proofs.Wholes.{block_run_at_end, range_at_end, run_behind_script, short_at_end}
 use Rattle.top_call.proofs.texts.drawn_after_run.Goals as goal
 

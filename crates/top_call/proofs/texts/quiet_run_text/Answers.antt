@@ -11,4 +11,4 @@ shown_text-requires-clause-run g c =
 pub returns-clause-output : goal.returns-clause-output
 returns-clause-output g c =
     output_of_run (g.S.Shelf.file c.args.shelf.now) (run_said c.args.run.now) c.in_ok-made.made.image
-    c.in_ok-made.made.machine c.in_ok-shown_text.field-0.items c.in_ok-made.ensures.run c.in_ok-shown_text.ensures
+    c.in_ok-made.made.machine c.in_ok-shown_text.field-0 c.in_ok-made.ensures.run c.in_ok-shown_text.ensures

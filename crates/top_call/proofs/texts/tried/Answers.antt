@@ -1,3 +1,4 @@
+use Rattle.std.proofs.Common.{◌∙◌}
 use Rattle.block_model.specs.Setting.{setting_of}
 use Rattle.top_call.proofs.Trials.{block_run_of_rounds, output_of_trial}
 use Rattle.top_call.proofs.texts.tried.Goals as goal
@@ -10,5 +11,5 @@ trial_text-requires-clause-run c =
 pub returns-clause-output : goal.returns-clause-output
 returns-clause-output c =
     output_of_trial c.args.trial.now c.limits-limits.result c.in_ok-image.image c.in_ok-machine.machine
-    c.in_ok-trial_text.field-0.items c.limits-limits.ensures c.in_ok-image.ensures.image c.in_ok-machine.ensures
-    c.in_ok-trial_text.ensures
+    c.whole.result c.limits-limits.ensures c.in_ok-image.ensures.image c.in_ok-machine.ensures
+    (c.whole.ensures ∙ c.in_ok-trial_text.ensures)
