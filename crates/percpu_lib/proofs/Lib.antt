@@ -36,6 +36,7 @@ pub mod RingLines
 pub mod RetryTests
 pub mod ShareLaw
 pub mod ShareTests
+pub mod SignalExample
 pub mod UseTests
 pub mod UsesLaw
 pub mod WordLaws

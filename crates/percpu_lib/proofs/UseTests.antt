@@ -8,7 +8,7 @@ use Rattle.std.proofs.lemmas.Bool.Decides.{nat_tests}
 use Rattle.mach_types.proofs.Laws.{eqb_same}
 use Rattle.std.proofs.lemmas.Bool.{and_from, and_parts, cases_eq, eqb-true, false≢true, leb-true}
 use Rattle.std.proofs.lemmas.Bool.{not-true}
-use Rattle.mach_types.specs.Bytes.{byte_over, each_byte, overlay}
+use Rattle.mach_types.specs.Bytes.{byte_over, each_byte, overlay, written}
 use Rattle.mach_types.specs.Kernel.Areas.{area_of, can_read_area, can_read_descriptor, descriptor_at}
 use Rattle.mach_types.specs.Kernel.Areas.{has_flags, is_inside, is_signed, sequence_of}
 use Rattle.mach_types.specs.Kernel.Pages.{can_read, can_write, permission_at}
@@ -18,17 +18,22 @@ use Rattle.mach_types.specs.declared.events.Kind.TheVariants as kind
 use Rattle.mach_types.specs.declared.sequences.Area.{Area}
 use Rattle.mach_types.specs.declared.sequences.Seq.{Seq}
 use Rattle.mach_types.specs.declared.user_memory.Store.{Store}
+use Rattle.mach_types.specs.declared.threads.Saved.{Saved}
 use Rattle.mach_types.specs.declared.user_memory.Write.{Write}
+use Rattle.mach_types.specs.declared.user_memory.Write.TheVariants as write
 use Rattle.block_model.specs.Acts.{Sequence, is_instruction, sequence_on}
+use Rattle.block_model.specs.Events.Signal.{file_interrupted}
 use Rattle.block_model.specs.Here.{memory, view}
 use Rattle.block_model.specs.History.{Event, History, file, here_in_history, kernel, running}
 use Rattle.block_model.specs.Run.{IsRunHistory}
+use Rattle.block_model.specs.Sequences.{interruption_here}
 use Rattle.block_model.specs.Setting.{Setting}
 use Rattle.block_model.proofs.Laws.{IsStep, not_ready, one_hart, step_of}
 use Rattle.alone_laws.specs.Areas.{LeavesProcessor, ProcessorKept}
 use Rattle.alone_laws.specs.Blocks.{IsFair, among}
 use Rattle.alone_laws.specs.Spans.{Leaves}
-use Rattle.alone_laws.specs.Uses.{AreUsed, Arrives, CanAlwaysBegin, CanBegin, IsDescribed, IsUsed, in_block}
+use Rattle.alone_laws.specs.Uses.{AreUsed, Arrives, CanAlwaysBegin, CanBegin, HasLeft, IsDescribed, IsTakenOut, IsUsed}
+use Rattle.alone_laws.specs.Uses.{came_back, in_block}
 use Rattle.alone_laws.specs.Uses.{is_before}
 use Rattle.alone_laws.specs.Uses.{DeliversNone, at_first, executed, interrupted, stayed}
 use Rattle.alone_laws.proofs.EventKinds.{is_kind, kind_is}
@@ -37,6 +42,7 @@ use Rattle.alone_laws.proofs.Sequences.{exec_kind}
 use Rattle.alone_laws.proofs.StoredWords.{among_low}
 use Rattle.percpu_lib.specs.Forms.{AreBlockUsed, Form, IsAtStart, IsBlockUsed, block_of, placed_of, range_of}
 use Rattle.percpu_lib.specs.declared.slots.Slots.{Slots}
+use Rattle.percpu_lib.proofs.RetryTests.{registers_are, same_registers}
 
 -- BOOLS
 
@@ -123,6 +129,30 @@ overlay_beside at n (w ∷ ws) is a c has =
     let parts = and_parts (is_beside at n w) (are_beside at n ws) is in
     ap (overlay ws a) (beside_one at n w parts.0 a c has) ∙ overlay_beside at n ws parts.1 a c has
 
+-- writes beside some bytes leave them as they are
+abbrev pub writes_beside : ℕ → ℕ → List Write → Bool
+writes_beside at n [] = true
+writes_beside at n (write.Stored w ∷ ws) = is_beside at n w && writes_beside at n ws
+writes_beside at n (write.Zeroed from k ∷ ws) = false
+
+writes_leave : (at n : ℕ) (ws : List Write) → writes_beside at n ws ≡ true → Leaves (among at n) ws
+writes_leave at n [] is a c has = refl
+writes_leave at n (write.Stored w ∷ ws) is a c has =
+    let parts = and_parts (is_beside at n w) (writes_beside at n ws) is in
+    ap (written ws a) (beside_one at n w parts.0 a c has) ∙ writes_leave at n ws parts.1 a c has
+writes_leave at n (write.Zeroed from k ∷ ws) is a c has = absurd (false≢true is)
+
+-- registers and a pc that are the same
+abbrev is_file : Saved → Saved → Bool
+is_file f g = eqb f.pc g.pc && same_registers f.file g.file
+
+file_is : (f g : Saved) → is_file f g ≡ true → f ≡ g
+file_is f g is =
+    let parts = and_parts (eqb f.pc g.pc) (same_registers f.file g.file) is in
+    let pc = eqb-true f.pc g.pc parts.0 in
+    let registers = registers_are f.file g.file parts.1 in
+    λ i. record { file = registers i; pc = pc i }
+
 -- an address in one of some spans
 abbrev pub is_among : List (ℕ × ℕ) → ℕ → Bool
 is_among [] a = false
@@ -198,8 +228,22 @@ module _ (s : Setting) (form : Form) (tested : IsTested form) (at : ℕ) (area :
       && (all_usable before ranges
       && is_range (sequence_of (descriptor_at (view (here_in_history s before 0)) p.table)))))
 
+  -- a signal took the thread out of the block with this file
+  abbrev is_taken : Saved → Event → History → Bool
+  is_taken f e before =
+      is_kind e.entry.kind kind.Signal
+      && (is_just (running s e.entry.hart.0 before) t
+      && (in_words (file s t before).pc
+      && (is_file f (file_interrupted (here_in_history s before e.entry.hart.0) t
+      (interruption_here (here_in_history s before e.entry.hart.0) t))
+      && (eqb f.pc (file s t before).pc || eqb f.pc (range_of form at).abort))))
+
+  abbrev pub has_left : Saved → History → Bool
+  has_left f [] = false
+  has_left f (e ∷ before) = is_taken f e before || has_left f before
+
   -- the thread comes to a word of the block at its first, by another word that it executes, or, where no signal is
-  -- delivered, by staying or by an interruption inside
+  -- delivered, by staying or by an interruption inside; or a handler returned
   abbrev by_word : Event → History → Bool
   by_word e before = runs_there before && (is_instruction e.entry.kind && in_words (file s t before).pc)
 
@@ -209,10 +253,13 @@ module _ (s : Setting) (form : Form) (tested : IsTested form) (at : ℕ) (area :
       && (is_live t (kernel s before).threads && (eqb (file s t (e ∷ before)).pc (file s t before).pc
       || in_sequence (file s t before).pc))
 
+  abbrev by_rest : Event → History → Bool
+  by_rest e before = by_staying e before || has_left (file s t (e ∷ before)) before
+
   abbrev comes : Event → History → Bool
   comes e before =
       eqb (file s t (e ∷ before)).pc at
-      || (by_word e before || by_staying e before)
+      || (by_word e before || by_rest e before)
 
   abbrev is_entered : Event → History → Bool
   is_entered e before = implies (in_words (file s t (e ∷ before)).pc) (comes e before)
@@ -249,7 +296,7 @@ module _ (s : Setting) (form : Form) (tested : IsTested form) (at : ℕ) (area :
   abbrev leaves_words : Event → History → Bool
   leaves_words e before =
       are_beside area.at 8 e.done.executed
-      && ((runs_there before && (is_kind e.entry.kind kind.Drain || is_empty e.done.entered)) || begins_to_run e before)
+      && ((runs_there before && (is_kind e.entry.kind kind.Drain || writes_beside area.at 8 e.done.entered)) || begins_to_run e before)
 
   abbrev is_told : Event → History → Bool
   is_told e before = implies (has_area before) (leaves_words e before)
@@ -295,6 +342,38 @@ module _ (s : Setting) (form : Form) (tested : IsTested form) (at : ℕ) (area :
       let place : a.at ≡ area.at = eqb-true a.at area.at parts.0 in
       let signature : a.sig ≡ area.sig = eqb-true a.sig area.sig parts.1 in
       λ i. Some (record { at = place i; sig = signature i })
+
+  taken_so : (f : Saved) (e : Event) (before : History) → is_taken f e before ≡ true
+      → IsTakenOut s (placed_of form at area) t f e before
+  taken_so f e before is =
+      let now : Saved = file_interrupted (here_in_history s before e.entry.hart.0) t
+      (interruption_here (here_in_history s before e.entry.hart.0) t) in
+      let one = and_parts (is_kind e.entry.kind kind.Signal) _ is in
+      let two = and_parts (is_just (running s e.entry.hart.0 before) t) _ one.1 in
+      let three = and_parts (in_words (file s t before).pc) _ two.1 in
+      let four = and_parts (is_file f now) (eqb f.pc (file s t before).pc || eqb f.pc (range_of form at).abort) three.1 in
+      record {
+        signal = kind_is e.entry.kind kind.Signal one.0;
+        runs = just_is (running s e.entry.hart.0 before) t two.0;
+        inside = three.0;
+        saved = file_is f now four.0;
+        word = by_word_of (either (eqb f.pc (file s t before).pc) (eqb f.pc (range_of form at).abort) four.1);
+      }
+    where
+      by_word_of : (eqb f.pc (file s t before).pc ≡ true) ⊎ (eqb f.pc (range_of form at).abort ≡ true)
+          → (f.pc ≡ (file s t before).pc) ⊎ (f.pc ≡ (range_of form at).abort)
+      by_word_of (inl same) = inl (eqb-true f.pc (file s t before).pc same)
+      by_word_of (inr abort) = inr (eqb-true f.pc (range_of form at).abort abort)
+
+  pub left_so : (f : Saved) (before : History) → has_left f before ≡ true → HasLeft s (placed_of form at area) t f before
+  left_so f [] is = absurd (false≢true is)
+  left_so f (e ∷ before) is = by_one (either (is_taken f e before) (has_left f before) is) (left_so f before)
+    where
+      by_one : (is_taken f e before ≡ true) ⊎ (has_left f before ≡ true)
+          → (has_left f before ≡ true → HasLeft s (placed_of form at area) t f before)
+          → HasLeft s (placed_of form at area) t f (e ∷ before)
+      by_one (inl now) earlier = inl (taken_so f e before now)
+      by_one (inr left) earlier = inr (earlier left)
 
   pub range_is : (g : Seq) → is_range g ≡ true → g ≡ range_of form at
   range_is g is =
@@ -384,7 +463,7 @@ module _ (s : Setting) (form : Form) (tested : IsTested form) (at : ℕ) (area :
 
     arrives : in_words (file s t (e ∷ before)).pc ≡ true → Arrives s (placed_of form at area) t e before
     arrives here =
-        by_way (either (eqb (file s t (e ∷ before)).pc at) (by_word e before || by_staying e before)
+        by_way (either (eqb (file s t (e ∷ before)).pc at) (by_word e before || by_rest e before)
         (follows (in_words (file s t (e ∷ before)).pc) (comes e before) entered_is here))
       where
         no_signal : not (is_kind e.entry.kind kind.Signal) ≡ true → DeliversNone s t e before
@@ -411,10 +490,21 @@ module _ (s : Setting) (form : Form) (tested : IsTested form) (at : ℕ) (area :
             (either (eqb (file s t (e ∷ before)).pc (file s t before).pc) (in_sequence (file s t before).pc)
             two.1)
 
-        by_way : (eqb (file s t (e ∷ before)).pc at ≡ true) ⊎ (by_word e before || by_staying e before ≡ true)
+        by_return : (by_staying e before ≡ true) ⊎ (has_left (file s t (e ∷ before)) before ≡ true)
+            → Arrives s (placed_of form at area) t e before
+        by_return (inl stays) = by_event (inr stays)
+        by_return (inr left) = came_back (left_so (file s t (e ∷ before)) before left)
+
+        by_way : (eqb (file s t (e ∷ before)).pc at ≡ true) ⊎ (by_word e before || by_rest e before ≡ true)
             → Arrives s (placed_of form at area) t e before
         by_way (inl first) = at_first (eqb-true (file s t (e ∷ before)).pc at first)
-        by_way (inr moved) = by_event (either (by_word e before) (by_staying e before) moved)
+        by_way (inr moved) =
+            by_place_or (either (by_word e before) (by_rest e before) moved)
+          where
+            by_place_or : (by_word e before ≡ true) ⊎ (by_rest e before ≡ true) → Arrives s (placed_of form at area) t e before
+            by_place_or (inl word) = by_event (inl word)
+            by_place_or (inr rest) =
+                by_return (either (by_staying e before) (has_left (file s t (e ∷ before)) before) rest)
 
     -- a thread that begins to run runs nowhere before
     pub not_both : begins_to_run e before ≡ true → (h : ℕ) → running s h before ≡ Some t → ⊥
@@ -499,7 +589,7 @@ module _ (s : Setting) (form : Form) (tested : IsTested form) (at : ℕ) (area :
         ∙ and_from (eqb area.at area.at) (eqb area.sig area.sig) (eqb_same area.at) (eqb_same area.sig)
 
     abbrev Tells : Type 0
-    Tells = (runs_there before && (is_kind e.entry.kind kind.Drain || is_empty e.done.entered) ≡ true)
+    Tells = (runs_there before && (is_kind e.entry.kind kind.Drain || writes_beside area.at 8 e.done.entered) ≡ true)
         ⊎ (begins_to_run e before ≡ true)
 
     tells : has_area before ≡ true → (are_beside area.at 8 e.done.executed ≡ true) × Tells
@@ -507,7 +597,7 @@ module _ (s : Setting) (form : Form) (tested : IsTested form) (at : ℕ) (area :
         let one = and_parts (are_beside area.at 8 e.done.executed) _
         (follows (has_area before) (leaves_words e before) told_is had) in (
           one.0,
-          either (runs_there before && (is_kind e.entry.kind kind.Drain || is_empty e.done.entered))
+          either (runs_there before && (is_kind e.entry.kind kind.Drain || writes_beside area.at 8 e.done.entered))
               (begins_to_run e before) one.1,
         )
 
@@ -516,15 +606,15 @@ module _ (s : Setting) (form : Form) (tested : IsTested form) (at : ℕ) (area :
     no_stranger (inl on) elsewhere begins = elsewhere (on_own (and_parts (runs_there before) _ on).0)
     no_stranger (inr off) elsewhere begins = not_named off begins
 
-    enters_none : e.entry.kind ≢ kind.Drain → is_kind e.entry.kind kind.Drain || is_empty e.done.entered ≡ true
+    enters_none : e.entry.kind ≢ kind.Drain → is_kind e.entry.kind kind.Drain || writes_beside area.at 8 e.done.entered ≡ true
         → Leaves (among area.at 8) e.done.entered
     enters_none other is =
-        by_kind (either (is_kind e.entry.kind kind.Drain) (is_empty e.done.entered) is)
+        by_kind (either (is_kind e.entry.kind kind.Drain) (writes_beside area.at 8 e.done.entered) is)
       where
-        by_kind : (is_kind e.entry.kind kind.Drain ≡ true) ⊎ (is_empty e.done.entered ≡ true)
+        by_kind : (is_kind e.entry.kind kind.Drain ≡ true) ⊎ (writes_beside area.at 8 e.done.entered ≡ true)
             → Leaves (among area.at 8) e.done.entered
         by_kind (inl drains) = absurd (other (kind_is e.entry.kind kind.Drain drains))
-        by_kind (inr none) = leaves_all (among area.at 8) e.done.entered none
+        by_kind (inr beside) = writes_leave area.at 8 e.done.entered beside
 
     words_left : Tells → running s e.entry.hart.0 before ≡ Some t → e.entry.kind ≢ kind.Drain
         → Leaves (among area.at 8) e.done.entered

@@ -51,6 +51,6 @@ pub use slots::Slots;
 pub use theorems::{
     aborted_adds_begin_anew, add_blocks_are_used, add_keeps_registers, adds_are_done,
     adds_begin_outside, adds_once_or_not_at_all, adds_that_commit_are_left, blocks_lie_beside,
-    files_hold_add, finished_code_holds_add, finished_code_is_fetched, labels_of_blocks_are_bound,
-    retries_of_add_keep_its_value,
+    files_hold_add, finished_code_holds_add, finished_code_is_fetched, handlers_return_to_blocks,
+    labels_of_blocks_are_bound, retries_of_add_keep_its_value,
 };

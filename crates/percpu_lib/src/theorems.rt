@@ -17,7 +17,7 @@ ghost use Rattle.alone_laws.specs.Entering.{IsIn};
 ghost use Rattle.alone_laws.specs.Pointers.{LiesBeside};
 ghost use Rattle.alone_laws.specs.Retries.{Retries};
 ghost use Rattle.alone_laws.specs.Undisturbed.{Brings, IsUndisturbed, executed_on};
-ghost use Rattle.alone_laws.specs.Uses.{AlwaysOutside, CanAlwaysBegin, Placed, in_block};
+ghost use Rattle.alone_laws.specs.Uses.{AlwaysOutside, CanAlwaysBegin, HasLeft, Placed, in_block};
 ghost use Rattle.alone_laws.specs.Spans.{code_of};
 ghost use Rattle.block_model.specs.Instruction.{fetched};
 ghost use Rattle.elf_load.specs.Images.{IsImage};
@@ -187,4 +187,17 @@ pub fn aborted_adds_begin_anew()
         × Retries s (placed_add p at area) t first log
         × (running s h (history s log) ≡ Some t) × ((file s t (history s log)).pc ≡ at)
         × IsUndisturbed h stretch × (11 ≤ executed_on h stretch) }
+{}
+
+/// What `HoldsAdd` asks can be met where a handler interrupts a block: there is a block run in which a signal takes a
+/// thread out of an add block, before its sequence, and the handler returns to that word with the registers that the
+/// thread had (`returned` is the run up to there); then a sequence of the block comes to the post-commit address, and
+/// the cell is 32.
+pub fn handlers_return_to_blocks()
+    ensures { (s : Setting) × (returned rest : List Entry) × (p : Slots) × (at : ℕ) × (area : Area) × (q : Sequence)
+        × IsBlockRun s (returned ++ rest) × HoldsAdd s (history s (returned ++ rest)) p at area q.thread
+        × HasLeft s (placed_add p at area) q.thread (file s q.thread (history s returned)) (history s returned)
+        × (sequence_on s 0 (history s (returned ++ rest)) ≡ Some q) × IsIn s (add_range at) q.thread q.begun
+        × ((file s q.thread q.reached).pc ≡ at + 44)
+        × (cell_seen s 0 (cells_of s p q.thread q.begun) q.reached ≡ Some 32) }
 {}
