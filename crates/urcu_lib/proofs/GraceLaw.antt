@@ -1,7 +1,7 @@
 -- A section that began before a grace period began has ended before it ended.
 use Rattle.std.proofs.Common.{◌≡◌, ◌≢◌, ℕ, zero, suc, ◌+◌, ◌*◌, ◌<◌, ◌≤◌, ◌%◌, ◌^◌, List, [], ◌∷◌, ◌++◌, ◌⊎◌}
-use Rattle.std.proofs.Common.{append_assoc, length, length-append, arith, refl, sym, ap, ◌∙◌, subst, true, false, inl, inr, Some, None, Option}
-use Rattle.std.proofs.Common.{pos}
+use Rattle.std.proofs.Common.{append_assoc, length, length-append, arith, refl, sym, ap, ◌∙◌, subst, true}
+use Rattle.std.proofs.Common.{false, inl, inr, Some, None, Option, pos}
 use Rattle.std.proofs.lemmas.Bool.{cases_eq, ne_eqb, false≢true}
 use Rattle.mach_types.specs.Events.{choice_of}
 use Rattle.mach_types.specs.Registers.{register}
@@ -10,7 +10,7 @@ use Rattle.mach_types.specs.declared.events.Kind.{Kind}
 use Rattle.mach_types.specs.declared.events.Kind.TheVariants as kind
 use Rattle.mach_types.specs.declared.threads.ThreadState.{ThreadState}
 use Rattle.mach_types.specs.declared.threads.ThreadState.TheVariants.{Ready, Running, Waiting}
-use Rattle.mach_types.specs.Kernel.Threads.{is_ready, is_ready_state, state_of}
+use Rattle.mach_types.specs.Kernel.Threads.{Threads, is_ready, is_ready_state, state_of}
 use Rattle.std.specs.Option.{option_map_or}
 use Rattle.mach_types.specs.declared.registers.Regs.{Regs}
 use Rattle.mach_types.specs.declared.threads.Saved.{Saved}
@@ -34,8 +34,8 @@ use Rattle.fence_laws.specs.Entered.{HaveEntered}
 use Rattle.fence_laws.specs.Kept.{AreBeside, AreQuiet, IsQuiet}
 use Rattle.urcu_lib.specs.Sections.{HaveEnded, IsGrace, IsGraceBegin, IsExecAt, IsGraceEnd, IsSyncStore}
 use Rattle.urcu_lib.specs.Sections.{IsSyncing, calls, comes_in, is_in, waits}
-use Rattle.urcu_lib.specs.Stretch.{HasFinished, HasNewCounter, HasReturned, IsCounterGrown, IsFirstLoad, IsLoaded}
-use Rattle.urcu_lib.specs.Stretch.{IsPassing, Runs, it_rests, it_runs, none_run}
+use Rattle.urcu_lib.specs.Stretch.{HasFinished, HasNewCounter, HasReturned, IsCounterGrown, IsFirstLoad}
+use Rattle.urcu_lib.specs.Stretch.{IsLoaded, IsPassing, Runs, it_rests, it_runs, none_run}
 use Rattle.urcu_lib.specs.Registers.{AreSyncRegs}
 use Rattle.urcu_lib.specs.Uses.{AreElsewhere, AreUses, HasCome, IsStart, MaySet, acts, counted, goes_on}
 use Rattle.urcu_lib.specs.Uses.{returns}
@@ -170,33 +170,28 @@ module _ (s : Setting) (u : Urcu) (first at t : ℕ) (f : Regs) (now : History) 
   looks_at k ten (is_over is p passed) = let no : ⊥ = omega arith in absurd no
 
   -- at another instruction than the last at least two are left
-  two_left : (k : ℕ) → k ≢ 16 → Stands s u first at t f now k → 2 ≤ left_at (u.readers at) k (register f 7)
-  two_left k other (all_set is a b c none) = subst (λ n. 2 ≤ left_at (u.readers at) n (register f 7)) (sym is)
-      (omega arith)
-  two_left k other (one_set is a none) = subst (λ n. 2 ≤ left_at (u.readers at) n (register f 7)) (sym is) (omega arith)
-  two_left k other (two_set is a b none) = subst (λ n. 2 ≤ left_at (u.readers at) n (register f 7)) (sym is) (omega arith)
-  two_left k other (three_set is a b none) = subst (λ n. 2 ≤ left_at (u.readers at) n (register f 7)) (sym is)
-      (omega arith)
-  two_left k other (has_called is o quiet) = subst (λ n. 2 ≤ left_at (u.readers at) n (register f 7)) (sym is)
-      (omega arith)
-  two_left k other (has_grown is o quiet entered x) = subst (λ n. 2 ≤ left_at (u.readers at) n (register f 7)) (sym is)
-      (omega arith)
-  two_left k other (has_loaded is o quiet entered x) = subst (λ n. 2 ≤ left_at (u.readers at) n (register f 7)) (sym is)
-      (omega arith)
-  two_left k other (has_stored is p) = subst (λ n. 2 ≤ left_at (u.readers at) n (register f 7)) (sym is) (omega arith)
-  two_left k other (has_slots is p six) = subst (λ n. 2 ≤ left_at (u.readers at) n (register f 7)) (sym is) (omega arith)
-  two_left k other (looks is p i lt six x passed) = subst (λ n. 2 ≤ left_at (u.readers at) n (register f 7)) (sym is)
-      (omega arith)
-  two_left k other (has_looked is p i lt six x passed shows) = subst (λ n. 2 ≤ left_at (u.readers at) n (register f 7))
-      (sym is) (omega arith)
-  two_left k other (is_some is p i lt six x passed shows) = subst (λ n. 2 ≤ left_at (u.readers at) n (register f 7))
-      (sym is) (omega arith)
-  two_left k other (passes is p i lt six x passed) = subst (λ n. 2 ≤ left_at (u.readers at) n (register f 7)) (sym is)
-      (omega arith)
-  two_left k other (moves is p i lt six x passed) = subst (λ n. 2 ≤ left_at (u.readers at) n (register f 7)) (sym is)
-      (omega arith)
-  two_left k other (counts is p i lt six x passed) = subst (λ n. 2 ≤ left_at (u.readers at) n (register f 7)) (sym is)
-      (omega arith)
+  abbrev left_of : ℕ → ℕ
+  left_of k = left_at (u.readers at) k (register f 7)
+
+  two_by : (k m : ℕ) → k ≡ m → 2 ≤ left_of m → 2 ≤ left_of k
+  two_by k m is some = subst (λ n. 2 ≤ left_of n) (sym is) some
+
+  two_left : (k : ℕ) → k ≢ 16 → Stands s u first at t f now k → 2 ≤ left_of k
+  two_left k other (all_set is a b c none) = two_by k 4 is (omega arith)
+  two_left k other (one_set is a none) = two_by k 1 is (omega arith)
+  two_left k other (two_set is a b none) = two_by k 2 is (omega arith)
+  two_left k other (three_set is a b none) = two_by k 3 is (omega arith)
+  two_left k other (has_called is o quiet) = two_by k 5 is (omega arith)
+  two_left k other (has_grown is o quiet entered x) = two_by k 7 is (omega arith)
+  two_left k other (has_loaded is o quiet entered x) = two_by k 6 is (omega arith)
+  two_left k other (has_stored is p) = two_by k 8 is (omega arith)
+  two_left k other (has_slots is p six) = two_by k 9 is (omega arith)
+  two_left k other (looks is p i lt six x passed) = two_by k 10 is (omega arith)
+  two_left k other (has_looked is p i lt six x passed shows) = two_by k 11 is (omega arith)
+  two_left k other (is_some is p i lt six x passed shows) = two_by k 12 is (omega arith)
+  two_left k other (passes is p i lt six x passed) = two_by k 13 is (omega arith)
+  two_left k other (moves is p i lt six x passed) = two_by k 14 is (omega arith)
+  two_left k other (counts is p i lt six x passed) = two_by k 15 is (omega arith)
   two_left k other (is_over is p passed) = absurd (other is)
 
   over_at : (k : ℕ) → k ≡ 16 → Stands s u first at t f now k
@@ -283,7 +278,8 @@ module _ (s : Setting) (e : Event) (before : History) (run : IsRunHistory s (e �
 
   -- an event leaves a thread as it was, and executes nothing for it
   abbrev Leaves : ℕ → Type 0
-  Leaves t = (file s t (e ∷ before) ≡ file s t before) × (choice_of e.entry ≡ asked.Exec → e.entry.tid.0 ≡ t → ⊥)
+  Leaves t = (file s t (e ∷ before) ≡ file s t before)
+      × (choice_of e.entry ≡ asked.Exec → e.entry.tid.0 ≡ t → ⊥)
 
   runs_here : (t : ℕ) → choice_of e.entry ≡ asked.Exec → e.entry.tid.0 ≡ t
       → running s e.entry.hart.0 before ≡ Some t
@@ -317,10 +313,13 @@ module _ (s : Setting) (e : Event) (before : History) (run : IsRunHistory s (e �
             (sym (one_hart s e before set_step h t there e.entry.hart.0 (runs_here t executes of))),
       )
 
+  abbrev ts : Threads
+  ts = (kernel s before).threads
+
   set_or_left : (t : ℕ) → MaySet s t e before ⊎ Leaves t
   set_or_left t = by_state (state_of t (kernel s before).threads) refl
     where
-      tables : IsTables s.limits.harts (kernel s before).threads (kernel s before).scheduling
+      tables : IsTables s.limits.harts ts (kernel s before).scheduling
       tables = set_step.good.kernel.tables
 
       away : (o : Option ThreadState) → state_of t (kernel s before).threads ≡ o
@@ -330,15 +329,16 @@ module _ (s : Setting) (e : Event) (before : History) (run : IsRunHistory s (e �
         not_ready = ap (λ x. option_map_or is_ready_state x false) is ∙ not_it;
         nowhere = λ h there. none h
             (sym is
-            ∙ running_is s.limits.harts h t (kernel s before).threads (kernel s before).scheduling tables there);
+            ∙ running_is s.limits.harts h t ts (kernel s before).scheduling tables there);
       })))
 
       by_state : (o : Option ThreadState) → state_of t (kernel s before).threads ≡ o
           → MaySet s t e before ⊎ Leaves t
       by_state None is = away None is refl (λ h same. cc)
-      by_state (Some Ready) is = by_ready t (ap (λ x. option_map_or is_ready_state x false) is) e.entry.kind refl
+      by_state (Some Ready) is =
+          by_ready t (ap (λ x. option_map_or is_ready_state x false) is) e.entry.kind refl
       by_state (Some (Running h)) is = by_hart t h.0
-          (running_there s.limits.harts h.0 t (kernel s before).threads (kernel s before).scheduling tables is)
+          (running_there s.limits.harts h.0 t ts (kernel s before).scheduling tables is)
       by_state (Some (Waiting a)) is = away (Some (Waiting a)) is refl (λ h same. cc)
 
   -- so a thread comes to a place by an event that may set its file, or stood there before
@@ -772,7 +772,7 @@ module _ (s : Setting) (u : Urcu) (first : ℕ) (blocks : AreBlocks (code_of s.p
             → x + 64 * m ≡ u.slots + 64 * u.readers at → left_at (u.readers at) 10 y ≤ 6 * m → ⊥
         by_left x y m is left same le = let no : ⊥ = omega arith in no
 
-    -- the slots that it has loaded after an instruction that isn't the load, or by which it loads the next one
+    -- the slots that it has loaded after an instruction, by which it may load the next one
     behind_next : (e : Event) (before : History) (k to : ℕ) → e.entry.pc ≡ at + 4 * k
         → (k ≡ 10 → LooksAt s u first at t (file s t before).file before)
         → left_now to (e ∷ before) + 1 ≤ left_now k before → AreBehind k before → AreBehind to (e ∷ before)
@@ -834,7 +834,8 @@ module _ (s : Setting) (u : Urcu) (first : ℕ) (blocks : AreBlocks (code_of s.p
         (subst (λ m. k ≡ 12 → register (file s m before).file 5 ≤ register (file s m before).file 10)
         (sym of) (λ is. not_less (file s t before).file (known.tested is))) inside in
         let falls_t = subst
-        (λ m. left_at (u.readers at) next.to (register (file s m (e ∷ before)).file 7) + 1 ≤ left_at (u.readers at) k
+        (λ m. left_at (u.readers at) next.to (register (file s m (e ∷ before)).file 7) + 1
+        ≤ left_at (u.readers at) k
         (register (file s m before).file 7)) of falls in
         stands_at next.to inside (sym (ap (λ m. (file s m (e ∷ before)).pc) of) ∙ next.pc)
         (sums (left_at (u.readers at) next.to (register (file s t (e ∷ before)).file 7))
@@ -909,7 +910,8 @@ module _ (s : Setting) (u : Urcu) (first : ℕ) (blocks : AreBlocks (code_of s.p
             let was = behind a (not_loaded a loaded) in (
               was.0,
               was.1,
-              subst (λ (x : Saved). left_at (u.readers at) k (register x.file 7) ≤ 6 * was.0) (sym same) was.2,
+              subst (λ (x : Saved). left_at (u.readers at) k (register x.file 7) ≤ 6 * was.0) (sym same)
+                  was.2,
             ))
         by_file k lt place left known behind (inr returned) =
             let was_at = returned.was in
@@ -925,7 +927,8 @@ module _ (s : Setting) (u : Urcu) (first : ℕ) (blocks : AreBlocks (code_of s.p
             let was = behind a (not_loaded a loaded) in (
               was.0,
               was.1,
-              subst (λ j. left_at (u.readers at) j (register (file s t before).file 7) ≤ 6 * was.0) five was.2,
+              subst (λ j. left_at (u.readers at) j (register (file s t before).file 7) ≤ 6 * was.0) five
+                  was.2,
             ))
 
         by_set : MaySet s t e before ⊎ Leaves s e before run t
@@ -999,13 +1002,15 @@ module _ (s : Setting) (u : Urcu) (first : ℕ) (blocks : AreBlocks (code_of s.p
         → e.entry.tid.0 ≡ t → Runs s at t begun before m → most ≤ suc m → Goes before m
         → HasFinished s at t most begun (e ∷ before)
     at_end e before m run uses executes_it of was le (has_finished f) = one_later e before f
-    at_end e before m run uses executes_it of was le (stands_at k lt place left known behind) = by_k (cases_eq k 16)
+    at_end e before m run uses executes_it of was le (stands_at k lt place left known behind) =
+        by_k (cases_eq k 16)
       where
         two : (k ≢ 16) → 2 ≤ left_at (u.readers at) k (register (file s t before).file 7)
         two other = by_zero k refl
           where
             by_zero : (j : ℕ) → k ≡ j → 2 ≤ left_at (u.readers at) k (register (file s t before).file 7)
-            by_zero zero is = subst (λ n. 2 ≤ left_at (u.readers at) n (register (file s t before).file 7)) (sym is)
+            by_zero zero is = subst
+                (λ n. 2 ≤ left_at (u.readers at) n (register (file s t before).file 7)) (sym is)
                 (omega arith)
             by_zero (suc j) is =
                 two_left s u first at t (file s t before).file before k other
@@ -1015,7 +1020,8 @@ module _ (s : Setting) (u : Urcu) (first : ℕ) (blocks : AreBlocks (code_of s.p
         by_k : (k ≡ 16) ⊎ (k ≢ 16) → HasFinished s at t most begun (e ∷ before)
         by_k (inl last) = finished_by e before m k run executes_it of was place left last
         by_k (inr other) =
-            let no : ⊥ = few (left_at (u.readers at) k (register (file s t before).file 7)) (two other) left in
+            let no : ⊥ = few (left_at (u.readers at) k (register (file s t before).file 7)) (two other)
+            left in
             absurd no
           where
             few : (a : ℕ) → 2 ≤ a → a + m ≤ most → ⊥
@@ -1103,7 +1109,8 @@ module _ (s : Setting) (u : Urcu) (first : ℕ) (blocks : AreBlocks (code_of s.p
       let was = (sound before all).syncs at t 11 r block (omega arith) (omega arith) there in
       let p = looked_at s u first at t (file s t before).file before 11 refl was.stands in
       let same = one_grace at t r grace p.opened.grace block before run.0 uses.0 all gone on p.opened.on in
-      let value = value_at_return at t r block e before run uses.0 grace back next later n began parts behind its saw in
+      let value = value_at_return at t r block e before run uses.0 grace back next later n began parts
+      behind its saw in
       p.five ∙ ap (λ m. m + 1) (ap (counted u.counter first) (sym same) ∙ sym value)
 
   -- and where the last instruction is executed, so is what its hart sees of the counter
@@ -1118,7 +1125,8 @@ module _ (s : Setting) (u : Urcu) (first : ℕ) (blocks : AreBlocks (code_of s.p
       (at_last e before run uses at t r block ends).stands in
       let c = (sound before all).counter in
       let same = one_grace at t r grace over.0.opened.grace block before run.0 uses.0 all gone on over.0.opened.on in
-      let value = value_at_return at t r block e before run uses.0 grace back next later n began parts exec of saw in
+      let value = value_at_return at t r block e before run uses.0 grace back next later n began parts
+      exec of saw in
       let quiet = is_quiet_last uses.1.counter all in
       word_same (counter_bytes u) (seen_at s e.entry.hart.0 (e ∷ before)) (seen_at s e.entry.hart.0 before)
       (λ a has. ap Some (quiet_own (counter_bytes u) s e before run quiet a has)) u.counter 8

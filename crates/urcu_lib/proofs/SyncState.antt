@@ -125,7 +125,8 @@ module _ (s : Setting) (u : Urcu) (first : ℕ) where
     counts : k ≡ 15 → (p : IsPast at t f now) → (i : ℕ) → i < u.readers at
         → (suc i < u.readers at → register f 6 ≡ slot_at u (suc i)) → register f 7 + suc i ≡ u.readers at
         → ArePassed p.opened.grace (suc i) now → Stands at t f now k
-    is_over : k ≡ 16 → (p : IsPast at t f now) → ArePassed p.opened.grace (u.readers at) now → Stands at t f now k
+    is_over : k ≡ 16 → (p : IsPast at t f now) → ArePassed p.opened.grace (u.readers at) now
+        → Stands at t f now k
 
   module _ (at t : ℕ) (e : Event) (before : History) (run : IsRunHistory s (e ∷ before))
       (has : IsOrderly s u first e before) where

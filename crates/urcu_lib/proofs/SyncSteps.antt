@@ -170,7 +170,8 @@ module _ (s : Setting) (u : Urcu) (first : ℕ) (blocks : AreBlocks (code_of s.p
 
   -- one that works on registers alone
   nexts : (k : ℕ) (i : Inst) (rd v to : ℕ) → e.entry.pc ≡ at + 4 * k
-      → slice_get (sync_block r (u.readers at)) k ≡ Some (Some i) → meaning i f (at + 4 * k) ≡ effect.Next rd v to
+      → slice_get (sync_block r (u.readers at)) k ≡ Some (Some i)
+      → meaning i f (at + 4 * k) ≡ effect.Next rd v to
       → now ≡ record { file = with_register f rd v; pc = to }
   nexts k i rd v to pc is means = after_next s e before step executes (at + 4 * k) i pc
       (holds k i is) no_words usable rd v to means
@@ -507,7 +508,8 @@ module _ (s : Setting) (u : Urcu) (first : ℕ) (blocks : AreBlocks (code_of s.p
         keeps = λ j some free. kept 7 (u.readers at) (at + 4 * 10) j after free.not_7;
         pc = goes_to 7 (u.readers at) (at + 4 * 10) after;
         stands = λ lt. looks refl
-            (past 9 pc (omega arith) (omega arith) (kept 7 (u.readers at) (at + 4 * 10) 5 after (omega arith)) p) 0
+            (past 9 pc (omega arith) (omega arith)
+            (kept 7 (u.readers at) (at + 4 * 10) 5 after (omega arith)) p) 0
             (omega arith)
             (kept 7 (u.readers at) (at + 4 * 10) 6 after (omega arith) ∙ six ∙ omega arith) (omega arith)
             (λ j none. let no : ⊥ = omega arith in absurd no);
@@ -575,7 +577,8 @@ module _ (s : Setting) (u : Urcu) (first : ℕ) (blocks : AreBlocks (code_of s.p
           let same : w ≡ lock_value s u first blocks i is_slot b.event section b.locks = same_word
           (sym reads ∙ holds_v) in
           let fits : lock_value s u first blocks i is_slot b.event section b.locks < 2 ^ 64 = omega arith in
-          by_shows (lock_value s u first blocks i is_slot b.event section b.locks) same fits bounds.0 bounds.1 shows
+          by_shows (lock_value s u first blocks i is_slot b.event section b.locks) same fits bounds.0
+          bounds.1 shows
         where
           by_shows : (x : ℕ) → w ≡ x → x < 2 ^ 64 → 1 ≤ x → x ≤ counted u.counter first p.opened.grace
               → (loaded w 8 true ≡ 0) ⊎ (counted u.counter first p.opened.grace + 1 ≤ loaded w 8 true) → ⊥

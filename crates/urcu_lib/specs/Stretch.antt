@@ -21,7 +21,7 @@ pub record HasReturned (s : Setting) (at t : ℕ) (e : Event) (before : History)
 abbrev pub IsPassing : Regs → Type 0
 IsPassing f = (register f 10 ≡ 0) ⊎ (register f 5 ≤ register f 10)
 
--- since a place thread t has executed the block's load of a slot where the slot's address, in x6, was this one
+-- since a place thread t has executed the block's load of a slot where the slot's address, in x6, was this
 pub record IsLoaded (s : Setting) (at t a : ℕ) (begun now : History) : Type 0 where
   pub event : Event
   pub since : List Event
@@ -36,8 +36,8 @@ abbrev pub IsFirstLoad : Setting → ℕ → ℕ → History → History → Typ
 IsFirstLoad s at t begun before = IsLoaded s at t (register (file s t before).file 6) begun before → ⊥
 
 -- since a place thread t executed so many instructions. No other event that may set its file changed it, but
--- that its barrier returned, so no signal was delivered to it; and the first load of each slot by the sync block gave such a
--- number
+-- that its barrier returned, so no signal was delivered to it; and the first load of each slot by the sync
+-- block gave such a number
 pub data Runs (s : Setting) (at t : ℕ) (begun : History) : History → ℕ → Type 0 where
   none_run : Runs s at t begun begun 0
   it_rests : (e : Event) (before : History) (n : ℕ) → (choice_of e.entry ≡ asked.Exec → e.entry.tid.0 ≡ t → ⊥)

@@ -32,8 +32,9 @@ pub fn sections_end_before_grace_periods()
 {}
 
 /// Where a thread executes the instructions of a sync block from its first on, no signal is delivered to it,
-/// and the first load of each slot gives 0 or a number not below the new counter, the block's last instruction
-/// is soon executed: it is among the thread's first 11 + 6 * readers instructions, where the log has so many.
+/// and the first load of each slot gives 0 or a number not below the new counter, the block's last
+/// instruction is soon executed: it is among the thread's first 11 + 6 * readers instructions, where the log
+/// has so many.
 pub fn sync_is_soon_over()
     ensures soon { (s : Setting) (log : List Entry) (u : Urcu) (at t n : ℕ) (r : SyncRegs) (begun : History)
         → IsBlockRun s log → HoldsUrcu s u (history s log) → u.syncs at ≡ Some r → (file s t begun).pc ≡ at
@@ -44,7 +45,8 @@ pub fn sync_is_soon_over()
         (before : History)
         → IsBlockRun s log → history s log ≡ e ∷ before → HoldsUrcu s u (e ∷ before) → u.syncs at ≡ Some r
         → IsExecAt (at + 44) e → e.entry.tid.0 ≡ t → HasNewCounter s u at t before }
-    // And after the last instruction the thread's hart sees the counter 1 above what it saw where the call had returned.
+    // And after the last instruction the thread's hart sees the counter 1 above what it saw where the call had
+    // returned.
     ensures grown { (s : Setting) (log : List Entry) (u : Urcu) (at t : ℕ) (r : SyncRegs) (e : Event)
         (before : History)
         → IsBlockRun s log → history s log ≡ e ∷ before → HoldsUrcu s u (e ∷ before) → u.syncs at ≡ Some r
