@@ -1,6 +1,6 @@
 //! What a policy sees of the harts of a machine, and which of them can make an event.
 
-ghost use Rattle.std.specs.Prelude.{◌≡◌, ◌<◌, ◌≤◌, ◌++◌, ◌∷◌, [], ℕ, IfSome, if◌then◌else◌, length, nat_lt, slice_get};
+ghost use Rattle.std.specs.Prelude.{◌≡◌, ◌<◌, ◌≤◌, ◌++◌, ◌∷◌, [], ℕ, true, IfSome, if◌then◌else◌, length, nat_lt, slice_get};
 ghost use Rattle.draw_policies.specs.Words.{hart_place};
 ghost use Rattle.drawings.specs.Scenes as scenes;
 ghost use Rattle.drawings.specs.Scenes.{Scene};
@@ -50,17 +50,58 @@ pub trait Harts {
         ensures { result ≡ nat_lt 0 (length (scenes.startable opened hart.0 (scene self.now).scheduling)) };
 }
 
-/// Whether a hart can make an event, where the first so many harts are open.
-pub fn is_able<H: Harts>(harts: &H, hart: Hart, opened: u8) -> bool
-    requires hart { hart.0 < (H.scene harts.now).harts }
-    requires opened { opened ≤ 8 }
-    ensures { result ≡ scenes.is_able (H.scene harts.now) opened hart.0 }
+/// A hart, and what a scheduler sees of it.
+#[derive(Clone, Copy, Drop)]
+pub struct SeenHart {
+    /// The hart's number.
+    pub hart: u8,
+    /// What is seen of it.
+    pub sight: Sight,
+}
+
+/// A hart, with what is seen of it.
+pub fn look_at<H: Harts>(harts: &H, hart: u8) -> SeenHart
+    requires { hart < (H.scene harts.now).harts }
+    ensures { result ≡ scenes.seen_hart (H.scene harts.now) hart }
 {
-    let sight = harts.sight(hart);
-    if sight.idle {
-        can_act(&sight, harts.has_startable(hart, opened))
+    SeenHart {
+        hart,
+        sight: harts.sight(Hart(hart)),
+    }
+}
+
+/// Whether a hart can make an event, where the first so many harts are open.
+pub fn is_able<H: Harts>(harts: &H, seen: &SeenHart, opened: u8) -> bool
+    requires seen { scenes.IsSeen (H.scene harts.now) seen.now }
+    requires opened { opened ≤ 8 }
+    ensures { result ≡ scenes.is_able (H.scene harts.now) opened seen.now.hart }
+{
+    if seen.sight.idle {
+        can_act(&seen.sight, harts.has_startable(Hart(seen.hart), opened))
     } else {
-        can_act(&sight, false)
+        can_act(&seen.sight, false)
+    }
+}
+
+/// Whether a hart can make an event which wasn't looked at so far.
+fn is_able_hart<H: Harts>(harts: &H, hart: u8, opened: u8) -> bool
+    requires hart { hart < (H.scene harts.now).harts }
+    requires opened { opened ≤ 8 }
+    ensures { result ≡ scenes.is_able (H.scene harts.now) opened hart }
+{
+    is_able(harts, &look_at(harts, hart), opened)
+}
+
+/// The ready threads that may begin to run on a hart that is idle, where the first so many harts are open.
+pub fn threads_for<H: Harts>(harts: &H, seen: &SeenHart, opened: u8) -> ArrayVec<u32, 64>
+    requires { opened ≤ 8 }
+    ensures { seen.now.sight.idle ≡ true
+        → result.items ≡ scenes.startable opened seen.now.hart (H.scene harts.now).scheduling }
+{
+    if seen.sight.idle {
+        harts.startable(Hart(seen.hart), opened)
+    } else {
+        ArrayVec::new()
     }
 }
 
@@ -81,7 +122,7 @@ fn able<H: Harts>(harts: &H, opened: u8) -> ArrayVec<u8, 8>
 {
     let mut able = ArrayVec::new();
     for number in 0..harts.count() {
-        push_if(&mut able, number, is_able(harts, Hart(number), opened));
+        push_if(&mut able, number, is_able_hart(harts, number, opened));
     }
     able
 }
