@@ -4,14 +4,15 @@ ghost use Rattle.std.specs.Prelude.{◌≡◌, ◌<◌, ◌++◌, All, IfOk, OnO
 ghost use Rattle.block_model.specs.Deciding.{end_of, history};
 ghost use Rattle.block_model.specs.History.{console};
 ghost use Rattle.step_log.specs.Grammar.{log_text};
+ghost use Rattle.step_log.specs.Text.{entry_text};
 ghost use Rattle.outcomes.specs.Text.{console_text, entries_text, output_text};
 
 use arrayvec::ArrayVec;
-use mach_types::Entry;
+use mach_types::{Entry, Kind};
 use machine_core::Machine;
 use place_text::{push_end, push_number_line};
 use std::alloc::{AllocError, Global};
-use step_log::print_entry;
+use step_log::{exec_line, print_entry};
 
 /// The most bytes of a log's line.
 const LONGEST_LINE: usize = 38;
@@ -69,9 +70,20 @@ fn push_lines(text: &mut Vec<u8>, log: &[Entry]) -> Result<(), AllocError>
     ensures { OnOk result (text.new.items ≡ text.old.items ++ log_text log.now) }
 {
     for entry in log {
-        let mut line = ArrayVec::new();
-        print_entry(entry, &mut line);
-        text.extend_from_slice(line.as_slice())?;
+        push_line(text, entry)?;
     }
     Ok(())
+}
+
+/// Appends the line of an entry. Most lines are those of an `exec` by a thread whose number is one digit.
+fn push_line(text: &mut Vec<u8>, entry: &Entry) -> Result<(), AllocError>
+    requires { entry.now.hart.0 < 8 }
+    ensures { OnOk result (text.new.items ≡ text.old.items ++ entry_text entry.now) }
+{
+    if entry.kind == Kind::Exec && entry.tid.0 < 10 {
+        return text.extend_from_slice(&exec_line(entry.hart, entry.tid, entry.pc));
+    }
+    let mut line = ArrayVec::new();
+    print_entry(entry, &mut line);
+    text.extend_from_slice(line.as_slice())
 }

@@ -16,7 +16,7 @@ use Rattle.clap.specs.Walk.{Held, Row, Text, Waiting, Walk, arg_by_id, arg_by_lo
 use Rattle.clap.specs.Walk.{is_pending, option, settled, used, value, walked, word_met}
 use Rattle.clap.specs.Faults.{bundle_fault, settle_fault, step_fault, turn_fault, walk_fault, word_fault}
 use Rattle.command_words.specs.Grammar.{Arguments, Item, Given, is_option}
-use Rattle.command_words.specs.Options.{OptionName, Harts, Frames, Steps, Seed, Policy, Calm, RunCount, Until, By, Jobs, long_name, option_named}
+use Rattle.command_words.specs.Options.{OptionName, Harts, Frames, Steps, Seed, Policy, Calm, After, RunCount, Until, By, Jobs, long_name, option_named}
 use Rattle.command_words.proofs.Parts.{with_item, with_name, with_option}
 use Rattle.command_words.specs.Words.{Reading, Options, Value, Names, option_read}
 use Rattle.command_words.proofs.ClapRows.{has_held}
@@ -107,6 +107,7 @@ option_words Steps = (refl, refl)
 option_words Seed = (refl, refl)
 option_words Policy = (refl, refl)
 option_words Calm = (refl, refl)
+option_words After = (refl, refl)
 option_words RunCount = (refl, refl)
 option_words Until = (refl, refl)
 option_words By = (refl, refl)

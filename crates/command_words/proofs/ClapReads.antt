@@ -11,7 +11,7 @@ use Rattle.clap.specs.Simple.{matches_of}
 use Rattle.clap.specs.Faults.{fault_of}
 use Rattle.command_words.specs.Grammar.{Arguments, Item, Name, Given, asked_by, begins_with_dash, is_option, suits}
 use Rattle.command_words.specs.Line.{AsksAlike, arguments_found, line, names_found}
-use Rattle.command_words.specs.Options.{OptionName, Harts, Frames, Steps, Seed, Policy, Calm, RunCount, Until, By, Jobs, is_value, long_name, same_option}
+use Rattle.command_words.specs.Options.{OptionName, Harts, Frames, Steps, Seed, Policy, Calm, After, RunCount, Until, By, Jobs, is_value, long_name, same_option}
 use Rattle.command_words.specs.Options.{values_of}
 use Rattle.command_words.specs.Takes.{has, takes_kind}
 use Rattle.command_words.specs.Words.{Reading, Options, Value, Names, texts, word_read}
@@ -39,6 +39,7 @@ none_takes Steps = refl
 none_takes Seed = refl
 none_takes Policy = refl
 none_takes Calm = refl
+none_takes After = refl
 none_takes RunCount = refl
 none_takes Until = refl
 none_takes By = refl

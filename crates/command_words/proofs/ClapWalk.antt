@@ -13,7 +13,7 @@ use Rattle.clap.specs.declared.parser.matches.ValueSource.TheVariants.{CommandLi
 use Rattle.clap.specs.declared.builder.value_parser.Reading.TheVariants.{AsWritten}
 use Rattle.std.proofs.lemmas.Slice.Eq.{bytes_eq-Decides}
 use Rattle.command_words.specs.Grammar.{Arguments, Item, Given, is_option}
-use Rattle.command_words.specs.Options.{OptionName, Harts, Frames, Steps, Seed, Policy, Calm, RunCount, Until, By, Jobs, long_name, same_option}
+use Rattle.command_words.specs.Options.{OptionName, Harts, Frames, Steps, Seed, Policy, Calm, After, RunCount, Until, By, Jobs, long_name, same_option}
 use Rattle.command_words.proofs.EachOption.{names_apart, same_is}
 use Rattle.command_words.proofs.Parts.{with_item, with_option}
 use Rattle.command_words.specs.Words.{Reading, Options, Value, Names, word_read}
@@ -127,6 +127,7 @@ module _ (given : Arguments) (rows : List Row) (v : Text) (fits : Fits given row
   apart Seed = (refl, refl)
   apart Policy = (refl, refl)
   apart Calm = (refl, refl)
+  apart After = (refl, refl)
   apart RunCount = (refl, refl)
   apart Until = (refl, refl)
   apart By = (refl, refl)
@@ -140,6 +141,7 @@ module _ (given : Arguments) (rows : List Row) (v : Text) (fits : Fits given row
   unlike_names Seed = (refl, refl)
   unlike_names Policy = (refl, refl)
   unlike_names Calm = (refl, refl)
+  unlike_names After = (refl, refl)
   unlike_names RunCount = (refl, refl)
   unlike_names Until = (refl, refl)
   unlike_names By = (refl, refl)
@@ -184,6 +186,7 @@ module _ (given : Arguments) (rows : List Row) (v : Text) (fits : Fits given row
       go Seed absent = rw absent refl
       go Policy absent = rw absent refl
       go Calm absent = rw absent refl
+      go After absent = rw absent refl
       go RunCount absent = rw absent refl
       go Until absent = rw absent refl
       go By absent = rw absent refl

@@ -5,7 +5,7 @@ use Rattle.std.specs.List.{list_all, list_any}
 use Rattle.std.specs.Str.{bytes_eq}
 use Rattle.std.proofs.lemmas.Bool.{and_parts}
 use Rattle.std.proofs.lemmas.Slice.Eq.{bytes_eq-Decides}
-use Rattle.command_words.specs.Options.{OptionName, Harts, Frames, Steps, Seed, Policy, Calm, RunCount, Until, By, Jobs, all_options, long_name, option_named}
+use Rattle.command_words.specs.Options.{OptionName, Harts, Frames, Steps, Seed, Policy, Calm, After, RunCount, Until, By, Jobs, all_options, long_name, option_named}
 use Rattle.command_words.specs.Options.{option_word, same_option}
 
 -- an option is named by its word
@@ -16,6 +16,7 @@ named_back Steps = refl
 named_back Seed = refl
 named_back Policy = refl
 named_back Calm = refl
+named_back After = refl
 named_back RunCount = refl
 named_back Until = refl
 named_back By = refl
@@ -29,6 +30,7 @@ is_one Steps = refl
 is_one Seed = refl
 is_one Policy = refl
 is_one Calm = refl
+is_one After = refl
 is_one RunCount = refl
 is_one Until = refl
 is_one By = refl

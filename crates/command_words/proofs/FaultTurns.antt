@@ -6,7 +6,7 @@ use Rattle.std.proofs.lemmas.Bool.{and_parts}
 use Rattle.std.specs.Option.{is_some}
 use Rattle.step_log.specs.Script.{◌>>=◌}
 use Rattle.command_words.specs.Grammar.{Arguments, Item, Name, Given, asked_by, suits}
-use Rattle.command_words.specs.Options.{OptionName, Harts, Frames, Steps, Seed, Policy, Calm, RunCount, Until, By, Jobs}
+use Rattle.command_words.specs.Options.{OptionName, Harts, Frames, Steps, Seed, Policy, Calm, After, RunCount, Until, By, Jobs}
 use Rattle.command_words.specs.Takes.{OptionSet, Takes, has, takes_of}
 use Rattle.command_words.specs.Takes.{with_option as with_one}
 use Rattle.command_words.specs.WordFaults.{SoFar, kind_at}
@@ -29,6 +29,7 @@ given_options given = record {
   seed = is_some (given.values Seed);
   policy = is_some (given.values Policy);
   calm = is_some (given.values Calm);
+  after = is_some (given.values After);
   run_count = is_some (given.values RunCount);
   until = is_some (given.values Until);
   by = is_some (given.values By);
@@ -52,6 +53,7 @@ has_given Steps given = refl
 has_given Seed given = refl
 has_given Policy given = refl
 has_given Calm given = refl
+has_given After given = refl
 has_given RunCount given = refl
 has_given Until given = refl
 has_given By given = refl
@@ -71,6 +73,7 @@ options_after Steps text given = refl
 options_after Seed text given = refl
 options_after Policy text given = refl
 options_after Calm text given = refl
+options_after After text given = refl
 options_after RunCount text given = refl
 options_after Until text given = refl
 options_after By text given = refl

@@ -17,7 +17,7 @@ use Rattle.command_words.specs.Commands.{Command}
 use Rattle.command_words.specs.Grammar.{Arguments, AreWritten, Given, IsCommandLine, IsLine}
 use Rattle.command_words.specs.Grammar.{IsWritten, Item, Name, arguments_in, asked_by, names_in}
 use Rattle.command_words.specs.Grammar.{values_in, begins_with_dash, command_in, is_option}
-use Rattle.command_words.specs.Options.{OptionName, Harts, Frames, Steps, Seed, Policy, Calm, RunCount, Until, By, Jobs, all_options, option_named}
+use Rattle.command_words.specs.Options.{OptionName, Harts, Frames, Steps, Seed, Policy, Calm, After, RunCount, Until, By, Jobs, all_options, option_named}
 use Rattle.command_words.specs.Options.{option_word}
 use Rattle.command_words.specs.Words.{Reading, Options, Value, Names, arguments_of, behind_equals, command_of}
 use Rattle.command_words.specs.Words.{few_arguments, is_equals, items, option_read, word_read}
@@ -276,6 +276,12 @@ joined_read Calm text =
       longer_than 6 (codes "--calm=") text
           (omega arith),
     )
+joined_read After text =
+    simp (
+      longer_than 1 (codes "--after=") text (omega arith),
+      longer_than 7 (codes "--after=") text
+          (omega arith),
+    )
 joined_read RunCount text =
     simp (
       longer_than 1 (codes "--runs=") text (omega arith),
@@ -308,6 +314,7 @@ option_alone Steps = refl
 option_alone Seed = refl
 option_alone Policy = refl
 option_alone Calm = refl
+option_alone After = refl
 option_alone RunCount = refl
 option_alone Until = refl
 option_alone By = refl

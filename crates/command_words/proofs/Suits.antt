@@ -16,10 +16,10 @@ use Rattle.command_words.specs.declared.table.SourceKind.{SourceKind}
 use Rattle.command_words.specs.declared.table.SourceKind.TheVariants.{ByRule, ByScript, ByWorkers, ByDraws}
 use Rattle.command_words.specs.declared.takes.NameKind.{NameKind}
 use Rattle.command_words.specs.declared.takes.NameKind.TheVariants.{Program, Script, Guest, Size}
-use Rattle.command_words.specs.Commands.{Command, Source, Rule, Workers, Drawn}
-use Rattle.command_words.specs.Grammar.{Arguments, all_suit, asked_by, asked_for, command_for, files_for, guest_for}
+use Rattle.command_words.specs.Commands.{Command, Source, Rule, Workers}
+use Rattle.command_words.specs.Grammar.{Arguments, all_suit, asked_by, asked_for, command_for, drawn_source, files_for, guest_for}
 use Rattle.command_words.specs.Grammar.{guest_named, one_name, program_for, settings_of, suits, two_names}
-use Rattle.command_words.specs.Options.{OptionName, number_of}
+use Rattle.command_words.specs.Options.{OptionName, After, number_of}
 use Rattle.command_words.specs.Table.{command_kind}
 use Rattle.command_words.specs.Takes.{Takes, takes_by, takes_kind, takes_of}
 use Rattle.command_words.specs.WordFaults.{kind_at}
@@ -123,12 +123,12 @@ two_are (a ∷ []) = refl
 two_are (a ∷ b ∷ []) = refl
 two_are (a ∷ b ∷ c ∷ more) = refl
 
-files_are : (source : SourceKind) (names : List (List ℕ)) (settings : Settings)
-    → is_some (files_for source names settings) ≡ names_fit (takes_by source).names names
-files_are ByRule names settings = one_is Rule names
-files_are ByScript names settings = two_are names
-files_are ByWorkers names settings = one_is (Workers settings.seed) names
-files_are ByDraws names settings = one_is (Drawn settings.seed settings.draws) names
+files_are : (source : SourceKind) (names : List (List ℕ)) (settings : Settings) (after : Option (List ℕ))
+    → is_some (files_for source names settings after) ≡ names_fit (takes_by source).names names
+files_are ByRule names settings after = one_is Rule names
+files_are ByScript names settings after = two_are names
+files_are ByWorkers names settings after = one_is (Workers settings.seed) names
+files_are ByDraws names settings after = one_is (drawn_source settings after) names
 
 -- and a guest exactly where the first is one's and the second is a number
 abbrev guest_of : GuestName → ℕ → AskedGuest
@@ -161,23 +161,23 @@ mapped : {A B : Type 0} (f : A → B) (o : Option A) → is_some (option_map f o
 mapped f None = refl
 mapped f (Some x) = refl
 
-names_are : (kind : CommandKind) (settings : Settings) (names : List (List ℕ))
-    → is_some (command_for kind settings names) ≡ names_fit (takes_kind kind).names names
-names_are (Runs source shown) settings names =
-    mapped _ (files_for source names settings) ∙ files_are source names settings
-names_are Makes settings names = mapped _ (guest_for names) ∙ guests_are names
-names_are Tries settings names = mapped _ (guest_for names) ∙ guests_are names
-names_are Explores settings names = mapped _ (program_for names) ∙ program_is names
+names_are : (kind : CommandKind) (settings : Settings) (after : Option (List ℕ)) (names : List (List ℕ))
+    → is_some (command_for kind settings after names) ≡ names_fit (takes_kind kind).names names
+names_are (Runs source shown) settings after names =
+    mapped _ (files_for source names settings after) ∙ files_are source names settings after
+names_are Makes settings after names = mapped _ (guest_for names) ∙ guests_are names
+names_are Tries settings after names = mapped _ (guest_for names) ∙ guests_are names
+names_are Explores settings after names = mapped _ (program_for names) ∙ program_is names
 
 -- so a command of a kind is asked for exactly where the arguments are its own
 kind_fits : (kind : CommandKind) (given : Arguments) → is_some (asked_for kind given) ≡ fits (takes_kind kind) given
 kind_fits kind given = by_suit (all_suit (takes_kind kind) given.values)
   where
     by_suit : (b : Bool)
-        → is_some (cond b (command_for kind (settings_of given.values) given.names) None)
+        → is_some (cond b (command_for kind (settings_of given.values) (given.values After) given.names) None)
         ≡ (names_fit (takes_kind kind).names given.names && b)
     by_suit true =
-        names_are kind (settings_of given.values) given.names
+        names_are kind (settings_of given.values) (given.values After) given.names
         ∙ sym (and_true (names_fit (takes_kind kind).names given.names))
     by_suit false = sym (and_false (names_fit (takes_kind kind).names given.names))
 

@@ -7,7 +7,7 @@ use Rattle.draw_policies.specs.declared.policies.Policies.{Policies}
 use Rattle.draw_policies.specs.declared.policies.Policies.TheVariants.{All, Only}
 use Rattle.draw_policies.specs.declared.policies.Policy.TheVariants as policy
 use Rattle.guest_names.specs.declared.names.Name.TheVariants.{Counter, Migrate}
-use Rattle.command_words.specs.Commands.{Command, Runs, Makes, Tries, Explores, Source, Rule, Script, Workers, Drawn}
+use Rattle.command_words.specs.Commands.{Command, Runs, Makes, Tries, Explores, Source, Rule, Script, Workers, Drawn, DrawnAfter}
 use Rattle.command_words.specs.declared.commands.Settings.{Settings}
 use Rattle.command_words.specs.declared.options.Apart.{Apart}
 use Rattle.command_words.specs.declared.options.Apart.TheVariants.{ByText, ByEnd}
@@ -310,6 +310,35 @@ draw_all : command_of (codes "draw" ∷ codes "F" ∷ codes "--policy" ∷ codes
     ≡ Some (draw (codes "F") (limits 2 4096 200000) 1 All None)
 unfolding command_of arguments_of
 draw_all = refl
+
+draw_by_rule : command_of (codes "draw" ∷ codes "F" ∷ codes "--policy=rule" ∷ [])
+    ≡ Some (draw (codes "F") (limits 2 4096 200000) 1 (Only policy.Rule) None)
+unfolding command_of arguments_of
+draw_by_rule = refl
+
+-- behind a script, of any name but `-`
+abbrev draw_after : List ℕ → Policies → Command
+draw_after script policies =
+    asked (codes "F") (DrawnAfter script 7 (record { policies = policies; calm = None })) Output (limits 2 4096 200000)
+
+draw_after_script : command_of (codes "draw" ∷ codes "--after" ∷ codes "S" ∷ codes "F" ∷ codes "--seed=7" ∷ [])
+    ≡ Some (draw_after (codes "S") All)
+unfolding command_of arguments_of
+draw_after_script = refl
+
+draw_after_by_rule :
+    command_of (codes "draw" ∷ codes "F" ∷ codes "--seed=7" ∷ codes "--after=-S" ∷ codes "--policy=rule" ∷ [])
+    ≡ Some (draw_after (codes "-S") (Only policy.Rule))
+unfolding command_of arguments_of
+draw_after_by_rule = refl
+
+draw_after_dash : command_of (codes "draw" ∷ codes "F" ∷ codes "--after=-" ∷ []) ≡ None
+unfolding command_of arguments_of
+draw_after_dash = refl
+
+explore_after : command_of (codes "explore" ∷ codes "F" ∷ codes "--after=S" ∷ []) ≡ None
+unfolding command_of arguments_of
+explore_after = refl
 
 -- the policy of the fair end has no word here, and words are in lower case
 draw_fair : command_of (codes "draw" ∷ codes "F" ∷ codes "--policy=fair" ∷ []) ≡ None

@@ -10,12 +10,14 @@ use Rattle.command_words.specs.declared.commands.Trial.{Trial}
 use Rattle.command_words.specs.declared.table.Shown.{Shown}
 
 -- how the log of the run comes about: on one hart by the fixed rule; by the events of a script; by workers, one for
--- each hart, that choose by a seed; or by the events that a seed draws, by these policies
+-- each hart, that choose by a seed; by the events that a seed draws, by these policies; or by the events of a script and those drawn
+-- behind them
 pub data Source : Type 0 where
   Rule : Source
   Script : (name : List ℕ) → Source
   Workers : (seed : ℕ) → Source
   Drawn : (seed : ℕ) (draws : Draws) → Source
+  DrawnAfter : (name : List ℕ) (seed : ℕ) (draws : Draws) → Source
 
 pub record Run : Type 0 where
   pub program : List ℕ
@@ -40,6 +42,7 @@ is_by_workers Rule = false
 is_by_workers (Script name) = false
 is_by_workers (Workers seed) = true
 is_by_workers (Drawn seed draws) = false
+is_by_workers (DrawnAfter name seed draws) = false
 
 -- whether runs are made by one host thread alone
 abbrev pub is_alone : Option ℕ → Bool
@@ -85,6 +88,7 @@ HasHartsOf Rule limits = limits.harts ≡ 1
 HasHartsOf (Script name) limits = Unit {0}
 HasHartsOf (Workers seed) limits = Unit {0}
 HasHartsOf (Drawn seed draws) limits = Unit {0}
+HasHartsOf (DrawnAfter name seed draws) limits = Unit {0}
 
 abbrev pub HasItsHarts : Command → Type 0
 HasItsHarts (Runs run) = HasHartsOf run.source run.limits

@@ -25,8 +25,8 @@ use Rattle.command_words.specs.declared.table.CommandKind.TheVariants as kind
 use Rattle.command_words.specs.declared.table.Shown.{Shown}
 use Rattle.command_words.specs.declared.table.SourceKind.{SourceKind}
 use Rattle.command_words.specs.declared.table.SourceKind.TheVariants.{ByRule, ByScript, ByWorkers, ByDraws}
-use Rattle.command_words.specs.Commands.{Command, Run, Runs, Makes, Tries, Explores, Source, Rule, Script, Workers, Drawn}
-use Rattle.command_words.specs.Options.{OptionName, Harts, Frames, Steps, Seed, Policy, Calm, RunCount, Until, By, Jobs}
+use Rattle.command_words.specs.Commands.{Command, Run, Runs, Makes, Tries, Explores, Source, Rule, Script, Workers, Drawn, DrawnAfter}
+use Rattle.command_words.specs.Options.{OptionName, Harts, Frames, Steps, Seed, Policy, Calm, After, RunCount, Until, By, Jobs}
 use Rattle.command_words.specs.Options.{Range, all_options, apart_named, is_value}
 use Rattle.command_words.specs.Options.{number_in, number_of, option_word, range_of, same_option, values_of}
 use Rattle.command_words.specs.Table.{command_kind}
@@ -158,12 +158,17 @@ abbrev pub two_names : List (List ℕ) → Option (List ℕ × Source)
 two_names (program ∷ script ∷ []) = Some (program, Script script)
 two_names _ = None
 
--- the program that names give, and how the log comes about with these settings
-abbrev pub files_for : SourceKind → List (List ℕ) → Settings → Option (List ℕ × Source)
-files_for ByRule names settings = one_name Rule names
-files_for ByScript names settings = two_names names
-files_for ByWorkers names settings = one_name (Workers settings.seed) names
-files_for ByDraws names settings = one_name (Drawn settings.seed settings.draws) names
+-- how a drawn log comes about with these settings: from the first event on, or behind the script of this name
+abbrev pub drawn_source : Settings → Option (List ℕ) → Source
+drawn_source settings None = Drawn settings.seed settings.draws
+drawn_source settings (Some script) = DrawnAfter script settings.seed settings.draws
+
+-- the program that names give, and how the log comes about with these settings, and behind this script where one is named
+abbrev pub files_for : SourceKind → List (List ℕ) → Settings → Option (List ℕ) → Option (List ℕ × Source)
+files_for ByRule names settings after = one_name Rule names
+files_for ByScript names settings after = two_names names
+files_for ByWorkers names settings after = one_name (Workers settings.seed) names
+files_for ByDraws names settings after = one_name (drawn_source settings after) names
 
 -- the run of these files under these limits
 abbrev pub run_for : SourceKind → Shown → Limits → List ℕ × Source → Run
@@ -197,18 +202,19 @@ abbrev pub program_for : List (List ℕ) → Option (List ℕ)
 program_for (program ∷ []) = Some program
 program_for _ = None
 
--- the command of this kind with these settings and these names
-abbrev pub command_for : CommandKind → Settings → List (List ℕ) → Option Command
-command_for (kind.Runs source shown) settings names =
-    option_map (λ files. Runs (run_for source shown settings.limits files)) (files_for source names settings)
-command_for kind.Makes settings names = option_map Makes (guest_for names)
-command_for kind.Tries settings names = option_map (λ guest. Tries (trial_of settings guest)) (guest_for names)
-command_for kind.Explores settings names = option_map (λ program. Explores program settings) (program_for names)
+-- the command of this kind with these settings, behind this script where one is named, and with these names
+abbrev pub command_for : CommandKind → Settings → Option (List ℕ) → List (List ℕ) → Option Command
+command_for (kind.Runs source shown) settings after names =
+    option_map (λ files. Runs (run_for source shown settings.limits files)) (files_for source names settings after)
+command_for kind.Makes settings after names = option_map Makes (guest_for names)
+command_for kind.Tries settings after names = option_map (λ guest. Tries (trial_of settings guest)) (guest_for names)
+command_for kind.Explores settings after names = option_map (λ program. Explores program settings) (program_for names)
 
 -- what such a command asks for with these arguments: each value that is given suits it
 abbrev pub asked_for : CommandKind → Arguments → Option Command
 asked_for kind given =
-    if all_suit (takes_kind kind) given.values then command_for kind (settings_of given.values) given.names else None
+    if all_suit (takes_kind kind) given.values then command_for kind (settings_of given.values) (given.values After) given.names
+    else None
 
 -- what a command's word asks for with them
 abbrev pub asked_by : List ℕ → Arguments → Option Command

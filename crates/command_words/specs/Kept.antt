@@ -2,7 +2,7 @@
 use Rattle.std.specs.Prelude.{ℕ, List, [], ◌∷◌, Option}
 use Rattle.std.specs.Option.{option_copied, option_to_list}
 use Rattle.command_words.specs.declared.arguments.Arguments.{Arguments}
-use Rattle.command_words.specs.declared.arguments.FileNames.{FileNames}
+use Rattle.command_words.specs.declared.arguments.FileNames.{FileNames as KeptNames}
 use Rattle.command_words.specs.declared.arguments.FileNames.TheVariants.{Zero, One, Two}
 use Rattle.command_words.specs.declared.commands.Command.{Command}
 use Rattle.command_words.specs.declared.commands.Command.TheVariants as command
@@ -20,10 +20,10 @@ use Rattle.command_words.specs.declared.reader.Reading.TheVariants as reading
 use Rattle.command_words.specs.declared.takes.OptionSet.{OptionSet}
 use Rattle.command_words.specs.declared.takes.Takes.{Takes}
 use Rattle.command_words.specs.Commands.{Command as Asked, Run as AskedRun, Runs, Makes, Tries, Explores}
-use Rattle.command_words.specs.Commands.{Source as FromSource, Rule, Script, Workers, Drawn}
+use Rattle.command_words.specs.Commands.{Source as FromSource, Rule, Script, Workers, Drawn, DrawnAfter}
 use Rattle.command_words.specs.Grammar.{Arguments as Stated}
-use Rattle.command_words.specs.Options.{OptionName as Named, Harts, Frames, Steps, Seed, Policy, Calm, RunCount, Until, By, Jobs, Range}
-use Rattle.command_words.specs.Options.{Values as ItsValues, Numbers as InRange, PolicyNames, ApartNames}
+use Rattle.command_words.specs.Options.{OptionName as Named, Harts, Frames, Steps, Seed, Policy, Calm, After, RunCount, Until, By, Jobs, Range}
+use Rattle.command_words.specs.Options.{Values as ItsValues, Numbers as InRange, PolicyNames, ApartNames, FileNames}
 use Rattle.command_words.specs.Takes.{OptionSet as SomeOptions, Takes as Taken}
 use Rattle.command_words.specs.WordFaults.{SoFar}
 use Rattle.command_words.specs.Words.{Reading as Read, Options, Value, Names}
@@ -36,6 +36,7 @@ named option.Steps = Steps
 named option.Seed = Seed
 named option.Policy = Policy
 named option.Calm = Calm
+named option.After = After
 named option.RunCount = RunCount
 named option.Until = Until
 named option.By = By
@@ -50,9 +51,10 @@ abbrev pub values_kept : Values → ItsValues
 values_kept (values.Numbers numbers) = InRange (range numbers)
 values_kept values.PolicyNames = PolicyNames
 values_kept values.ApartNames = ApartNames
+values_kept values.FileNames = FileNames
 
 -- the names, as texts
-abbrev pub names_kept : FileNames → List (List ℕ)
+abbrev pub names_kept : KeptNames → List (List ℕ)
 names_kept Zero = []
 names_kept (One first) = first.now ∷ []
 names_kept (Two first second) = first.now ∷ second.now ∷ []
@@ -65,6 +67,7 @@ value_kept kept Steps = option_copied kept.steps
 value_kept kept Seed = option_copied kept.seed
 value_kept kept Policy = option_copied kept.policy
 value_kept kept Calm = option_copied kept.calm
+value_kept kept After = option_copied kept.after
 value_kept kept RunCount = option_copied kept.run_count
 value_kept kept Until = option_copied kept.until
 value_kept kept By = option_copied kept.by
@@ -80,6 +83,7 @@ source_said code.Rule = Rule
 source_said (code.Script name) = Script name.now
 source_said (code.Workers seed) = Workers seed
 source_said (code.Drawn seed draws) = Drawn seed draws
+source_said (code.DrawnAfter script seed draws) = DrawnAfter script.now seed draws
 
 -- the run, with the texts of its names
 abbrev pub run_said : Run → AskedRun
@@ -106,6 +110,7 @@ options_kept options = record {
   seed = options.seed;
   policy = options.policy;
   calm = options.calm;
+  after = options.after;
   run_count = options.run_count;
   until = options.until;
   by = options.by;

@@ -1,5 +1,5 @@
 -- The options of a command line (own): their words, and the values that they take.
-use Rattle.std.specs.Prelude.{ℕ, ◌-◌, ◌^◌, Bool, ◌&&◌, List, [], ◌∷◌, ◌++◌, length, find, Option, Some, None}
+use Rattle.std.specs.Prelude.{ℕ, ◌-◌, ◌^◌, Bool, ◌&&◌, not, List, [], ◌∷◌, ◌++◌, length, find, Option, Some, None}
 use Rattle.std.specs.Prelude.{if◌then◌else◌, nat_lt, nat_le, codes}
 use Rattle.std.specs.Char.{is_ascii_digit}
 use Rattle.std.specs.List.{list_all}
@@ -12,8 +12,9 @@ use Rattle.command_words.specs.declared.options.Apart.{Apart}
 use Rattle.command_words.specs.declared.options.Apart.TheVariants.{ByText, ByEnd}
 
 -- the options that commands have: how many harts there are, how many frames of 4,096 bytes, how many lines
--- the log may have, the seed of what is chosen, which policies draw, and from how many events on a run goes on fairly; how many runs are explored, how many different
--- outcomes are enough, by what they are told apart, and how many host threads make the runs
+-- the log may have, the seed of what is chosen, which policies draw, from how many events on a run goes on fairly, and the script
+-- behind which events are drawn; how many runs are explored, how many different outcomes are enough, by what they are told apart, and
+-- how many host threads make the runs
 pub data OptionName : Type 0 where
   Harts : OptionName
   Frames : OptionName
@@ -21,13 +22,14 @@ pub data OptionName : Type 0 where
   Seed : OptionName
   Policy : OptionName
   Calm : OptionName
+  After : OptionName
   RunCount : OptionName
   Until : OptionName
   By : OptionName
   Jobs : OptionName
 
 abbrev pub all_options : List OptionName
-all_options = Harts ∷ Frames ∷ Steps ∷ Seed ∷ Policy ∷ Calm ∷ RunCount ∷ Until ∷ By ∷ Jobs ∷ []
+all_options = Harts ∷ Frames ∷ Steps ∷ Seed ∷ Policy ∷ Calm ∷ After ∷ RunCount ∷ Until ∷ By ∷ Jobs ∷ []
 
 -- the name of an option
 abbrev pub long_name : OptionName → List ℕ
@@ -37,6 +39,7 @@ long_name Steps = codes "steps"
 long_name Seed = codes "seed"
 long_name Policy = codes "policy"
 long_name Calm = codes "calm"
+long_name After = codes "after"
 long_name RunCount = codes "runs"
 long_name Until = codes "until"
 long_name By = codes "by"
@@ -62,11 +65,12 @@ pub record Range : Type 0 where
 abbrev pub range_of : ℕ → ℕ → Range
 range_of least most = record { least = least; most = most }
 
--- the values of an option: numbers, the names of policies, or by what outcomes are told apart
+-- the values of an option: numbers, the names of policies, by what outcomes are told apart, or the names of files
 pub data Values : Type 0 where
   Numbers : (range : Range) → Values
   PolicyNames : Values
   ApartNames : Values
+  FileNames : Values
 
 abbrev pub values_of : OptionName → Values
 values_of Harts = Numbers (range_of 1 8)
@@ -75,6 +79,7 @@ values_of Steps = Numbers (range_of 1 1000000)
 values_of Seed = Numbers (range_of 0 (2 ^ 64 - 1))
 values_of Policy = PolicyNames
 values_of Calm = Numbers (range_of 0 1000000)
+values_of After = FileNames
 values_of RunCount = Numbers (range_of 1 1000000000)
 values_of Until = Numbers (range_of 1 64)
 values_of By = ApartNames
@@ -101,8 +106,9 @@ abbrev pub apart_named : List ℕ → Option Apart
 apart_named word =
     if bytes_eq word (codes "text") then Some ByText else if bytes_eq word (codes "end") then Some ByEnd else None
 
--- whether a text is one of these values
+-- whether a text is one of these values. A file's name is any text but `-`, which can't stand alone behind an option
 abbrev pub is_value : Values → List ℕ → Bool
 is_value (Numbers range) text = is_some (number_in range text)
 is_value PolicyNames text = is_some (policies_of_word text)
 is_value ApartNames text = is_some (apart_named text)
+is_value FileNames text = not (bytes_eq text (codes "-"))

@@ -6,7 +6,7 @@ use Rattle.command_words.specs.declared.table.SourceKind.{SourceKind}
 use Rattle.command_words.specs.declared.table.SourceKind.TheVariants.{ByRule, ByScript, ByWorkers, ByDraws}
 use Rattle.command_words.specs.declared.takes.NameKind.{NameKind}
 use Rattle.command_words.specs.declared.takes.NameKind.TheVariants.{Program, Script, Guest, Size}
-use Rattle.command_words.specs.Options.{OptionName, Harts, Frames, Steps, Seed, Policy, Calm, RunCount, Until, By, Jobs}
+use Rattle.command_words.specs.Options.{OptionName, Harts, Frames, Steps, Seed, Policy, Calm, After, RunCount, Until, By, Jobs}
 use Rattle.command_words.specs.Table.{command_kind}
 
 -- some of the options
@@ -17,6 +17,7 @@ pub record OptionSet : Type 0 where
   pub seed : Bool
   pub policy : Bool
   pub calm : Bool
+  pub after : Bool
   pub run_count : Bool
   pub until : Bool
   pub by : Bool
@@ -31,6 +32,7 @@ no_options = record {
   seed = false;
   policy = false;
   calm = false;
+  after = false;
   run_count = false;
   until = false;
   by = false;
@@ -45,6 +47,7 @@ has options Steps = options.steps
 has options Seed = options.seed
 has options Policy = options.policy
 has options Calm = options.calm
+has options After = options.after
 has options RunCount = options.run_count
 has options Until = options.until
 has options By = options.by
@@ -58,6 +61,7 @@ with_option options Steps = record options { steps = true }
 with_option options Seed = record options { seed = true }
 with_option options Policy = record options { policy = true }
 with_option options Calm = record options { calm = true }
+with_option options After = record options { after = true }
 with_option options RunCount = record options { run_count = true }
 with_option options Until = record options { until = true }
 with_option options By = record options { by = true }
@@ -92,9 +96,9 @@ options_by_draws = record options_by_seed { policy = true; calm = true }
 abbrev pub taken_by_workers : Takes
 taken_by_workers = record { names = Program ∷ []; options = options_by_seed }
 
--- what a run by draws takes
+-- what a run by draws takes: it may begin with a script
 abbrev pub taken_by_draws : Takes
-taken_by_draws = record { names = Program ∷ []; options = options_by_draws }
+taken_by_draws = record { names = Program ∷ []; options = record options_by_draws { after = true } }
 
 -- what an exploration takes
 abbrev pub taken_by_explore : Takes

@@ -17,7 +17,7 @@ use Rattle.command_words.specs.declared.faults.WordsFault.TheVariants.{UnknownGu
 use Rattle.command_words.specs.declared.takes.NameKind.{NameKind}
 use Rattle.command_words.specs.declared.takes.NameKind.TheVariants.{Program, Script, Guest, Size}
 use Rattle.command_words.specs.Grammar.{Item, Name, Given, begins_with_dash, is_option}
-use Rattle.command_words.specs.Options.{OptionName, Values, Numbers, PolicyNames, ApartNames, is_value, number_of, option_named, values_of}
+use Rattle.command_words.specs.Options.{OptionName, Values, Numbers, PolicyNames, ApartNames, FileNames, is_value, number_of, option_named, values_of}
 use Rattle.command_words.specs.Takes.{OptionSet, Takes, has, no_options, takes_of, with_option}
 use Rattle.command_words.specs.Words.{Reading, Options, Value, Names, behind_equals, is_equals, word_read}
 
@@ -47,6 +47,7 @@ abbrev pub none_of : Values → ℕ → WordsFault
 none_of (Numbers range) word = OutOfRange word range.least range.most
 none_of PolicyNames word = UnknownPolicy word
 none_of ApartNames word = NeitherTextNorEnd word
+none_of FileNames word = NoValue word
 
 -- a value is one of those that its option takes
 abbrev pub value_fault : SoFar → OptionName → List ℕ → Option WordsFault

@@ -39,6 +39,8 @@ pub(crate) struct Arguments<'a> {
     pub(crate) policy: Option<&'a str>,
     /// The value of `--calm`.
     pub(crate) calm: Option<&'a str>,
+    /// The value of `--after`.
+    pub(crate) after: Option<&'a str>,
     /// The value of `--runs`.
     pub(crate) run_count: Option<&'a str>,
     /// The value of `--until`.
@@ -77,6 +79,7 @@ fn options<'a>(alloc: Global) -> Result<Parser<'a>, AllocError>
         .arg(option(alloc, "seed"))?
         .arg(option(alloc, "policy"))?
         .arg(option(alloc, "calm"))?
+        .arg(option(alloc, "after"))?
         .arg(option(alloc, "runs"))?
         .arg(option(alloc, "until"))?
         .arg(option(alloc, "by"))?
@@ -115,6 +118,7 @@ fn arguments_in<'a>(matches: &ArgMatches<'a>) -> Arguments<'a>
         seed: matches.get_str("seed"),
         policy: matches.get_str("policy"),
         calm: matches.get_str("calm"),
+        after: matches.get_str("after"),
         run_count: matches.get_str("runs"),
         until: matches.get_str("until"),
         by: matches.get_str("by"),

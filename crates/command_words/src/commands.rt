@@ -4,7 +4,7 @@ ghost use Rattle.std.specs.Prelude.{◌≡◌, ◌≤◌, IfOk, IfSome, option_c
 ghost use Rattle.mach_types.specs.Limits.{InRange};
 ghost use Rattle.command_words.specs.Commands.{AreInRange, HasHartsOf, HasItsHarts, HasLimits, trial_limits};
 ghost use Rattle.command_words.specs.Kept.{named, names_kept, range, run_said, said, source_said, stated, takes_kept};
-ghost use Rattle.command_words.specs.Grammar.{all_suit, apart_or_text, asked_by, asked_for, command_for, files_for, guest_for, guest_named};
+ghost use Rattle.command_words.specs.Grammar.{all_suit, apart_or_text, asked_by, asked_for, command_for, drawn_source, files_for, guest_for, guest_named};
 ghost use Rattle.command_words.specs.Grammar.{harts_for, one_name, policies_or_all, run_for, settings_of, suits, trial_of};
 ghost use Rattle.command_words.specs.Grammar.{number_given, program_for, two_names};
 ghost use Rattle.command_words.specs.Options.{range_of};
@@ -47,6 +47,15 @@ pub enum Source<'a> {
         /// The seed of what is drawn.
         seed: u64,
         /// How its events are drawn.
+        draws: Draws,
+    },
+    /// By the events of a script, and by draws behind them.
+    DrawnAfter {
+        /// The name of the script's file.
+        script: &'a str,
+        /// The seed of what is drawn.
+        seed: u64,
+        /// How events are drawn behind those of the script.
         draws: Draws,
     },
 }
@@ -147,7 +156,7 @@ impl Trial {
 ///
 /// The first word is the command: `solo FILE`, with `--frames` and `--steps`; `play FILE SCRIPT` and the other
 /// commands on a script, with `--harts` too; `run FILE`, with `--harts` and `--seed` too; `draw FILE`, with
-/// `--policy` and `--calm` besides; `explore FILE`, with `--runs`, `--until`, `--by` and `--jobs` beside these;
+/// `--policy`, `--calm` and `--after` besides; `explore FILE`, with `--policy`, `--calm`, `--runs`, `--until`, `--by` and `--jobs`;
 /// `make NAME N`, with no option; or `trial NAME N`, with `--harts`, `--steps` and `--seed`. Each limit is in its range.
 #[tactic(auto, unfolding(crate::specs::Words::command_of))]
 pub(crate) fn command_of<'a>(
@@ -189,6 +198,7 @@ impl<'a> Arguments<'a> {
             OptionName::Seed => self.seed,
             OptionName::Policy => self.policy,
             OptionName::Calm => self.calm,
+            OptionName::After => self.after,
             OptionName::RunCount => self.run_count,
             OptionName::Until => self.until,
             OptionName::By => self.by,
@@ -216,6 +226,7 @@ impl<'a> Arguments<'a> {
             && self.suits(takes, OptionName::Seed)
             && self.suits(takes, OptionName::Policy)
             && self.suits(takes, OptionName::Calm)
+            && self.suits(takes, OptionName::After)
             && self.suits(takes, OptionName::RunCount)
             && self.suits(takes, OptionName::Until)
             && self.suits(takes, OptionName::By)
@@ -312,26 +323,30 @@ fn asked_for<'a>(kind: CommandKind, arguments: Arguments<'a>) -> Option<Command<
     ensures harts { IfSome result (λ command. HasItsHarts (said command)) }
 {
     if arguments.all_suit(kind.takes()) {
-        command_for(kind, arguments.settings(), arguments.names)
+        let settings = arguments.settings();
+        command_for(kind, settings, arguments.after, arguments.names)
     } else {
         None
     }
 }
 
-/// The command of this kind with these settings and these names; None where the names don't suit.
+/// The command of this kind with these settings, behind this script where one is named, and with these names; None where the names
+/// don't suit.
 fn command_for<'a>(
     kind: CommandKind,
     settings: Settings,
+    after: Option<&'a str>,
     names: FileNames<'a>,
 ) -> Option<Command<'a>>
     requires { AreInRange settings }
-    ensures command { option_map said result ≡ command_for kind settings (names_kept names.entry) }
+    ensures command { option_map said result
+        ≡ command_for kind settings (option_copied after.entry) (names_kept names.entry) }
     ensures limits { IfSome result (λ command. HasLimits (said command)) }
     ensures harts { IfSome result (λ command. HasItsHarts (said command)) }
 {
     match kind {
         CommandKind::Runs { source, shown } => {
-            Some(Command::Runs(run_for(source, shown, settings, names)?))
+            Some(Command::Runs(run_for(source, shown, settings, after, names)?))
         }
         CommandKind::Makes => Some(Command::Makes(guest_for(names)?)),
         CommandKind::Tries => Some(Command::Tries(trial_of(settings, guest_for(names)?))),
@@ -384,38 +399,58 @@ fn two_names(names: FileNames<'_>) -> Option<(&str, Source<'_>)>
     }
 }
 
-/// The program that names give, and how the log comes about with these settings; None where they are too few or too many.
-fn files_for(
-    source: SourceKind,
-    names: FileNames<'_>,
-    settings: Settings,
-) -> Option<(&str, Source<'_>)>
-    ensures { option_map (λ files. (files.0.now, source_said files.1)) result
-        ≡ files_for source (names_kept names.entry) settings }
+/// How a drawn log comes about with these settings: from the first event on, or behind the script of this name.
+fn drawn_source<'a>(settings: Settings, after: Option<&'a str>) -> Source<'a>
+    ensures { source_said result ≡ drawn_source settings (option_copied after.entry) }
 {
     let Settings { seed, draws, .. } = settings;
+    match after {
+        Some(script) => Source::DrawnAfter {
+            script,
+            seed,
+            draws,
+        },
+        None => Source::Drawn { seed, draws },
+    }
+}
+
+/// The program that names give, and how the log comes about with these settings, behind this script where one is named; None where the
+/// names are too few or too many.
+fn files_for<'a>(
+    source: SourceKind,
+    names: FileNames<'a>,
+    settings: Settings,
+    after: Option<&'a str>,
+) -> Option<(&'a str, Source<'a>)>
+    ensures { option_map (λ files. (files.0.now, source_said files.1)) result
+        ≡ files_for source (names_kept names.entry) settings (option_copied after.entry) }
+{
+    let seed = settings.seed;
     match source {
         SourceKind::ByRule => one_name(Source::Rule, names),
         SourceKind::ByScript => two_names(names),
         SourceKind::ByWorkers => one_name(Source::Workers { seed }, names),
-        SourceKind::ByDraws => one_name(Source::Drawn { seed, draws }, names),
+        SourceKind::ByDraws => one_name(drawn_source(settings, after), names),
     }
 }
 
-/// The run of a program that names give, with these settings; None where they are too few or too many.
+/// The run of a program that names give, with these settings, behind this script where one is named; None where the names are too few
+/// or too many.
 fn run_for<'a>(
     kind: SourceKind,
     shown: Shown,
     settings: Settings,
+    after: Option<&'a str>,
     names: FileNames<'a>,
 ) -> Option<Run<'a>>
     requires { InRange settings.limits }
     ensures run { option_map run_said result
-        ≡ option_map (run_for kind shown settings.limits) (files_for kind (names_kept names.entry) settings) }
+        ≡ option_map (run_for kind shown settings.limits)
+        (files_for kind (names_kept names.entry) settings (option_copied after.entry)) }
     ensures limits { IfSome result (λ run. InRange run.limits) }
     ensures harts { IfSome result (λ run. HasHartsOf (source_said run.source) run.limits) }
 {
-    let (program, source) = files_for(kind, names, settings)?;
+    let (program, source) = files_for(kind, names, settings, after)?;
     let Limits {
         harts,
         frames,

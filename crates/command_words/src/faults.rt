@@ -22,7 +22,7 @@ pub enum WordsFault {
     NotTaken(usize),
     /// The option in this word was given before.
     Twice(usize),
-    /// The option in this word lacks its value: no word follows, or the next begins with `-`.
+    /// The option in this word lacks its value: no word follows, or the next begins with `-`; or it is a file's name and is `-`.
     NoValue(usize),
     /// The value in this word isn't a number from the least to the largest that the option takes.
     OutOfRange {

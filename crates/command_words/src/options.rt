@@ -24,6 +24,8 @@ pub(crate) enum OptionName {
     Policy,
     /// From how many events on a run goes on fairly.
     Calm,
+    /// The script behind which events are drawn.
+    After,
     /// How many runs are explored.
     RunCount,
     /// How many different outcomes are enough.
@@ -113,6 +115,8 @@ pub(crate) enum Values {
     PolicyNames,
     /// By what outcomes are told apart.
     ApartNames,
+    /// The names of files: any text but `-`.
+    FileNames,
 }
 
 impl OptionName {
@@ -127,6 +131,7 @@ impl OptionName {
             "--seed" => Some(OptionName::Seed),
             "--policy" => Some(OptionName::Policy),
             "--calm" => Some(OptionName::Calm),
+            "--after" => Some(OptionName::After),
             "--runs" => Some(OptionName::RunCount),
             "--until" => Some(OptionName::Until),
             "--by" => Some(OptionName::By),
@@ -146,6 +151,7 @@ impl OptionName {
             OptionName::Seed => Values::Numbers(SEEDS),
             OptionName::Policy => Values::PolicyNames,
             OptionName::Calm => Values::Numbers(CALM),
+            OptionName::After => Values::FileNames,
             OptionName::RunCount => Values::Numbers(RUNS),
             OptionName::Until => Values::Numbers(OUTCOMES),
             OptionName::By => Values::ApartNames,
@@ -163,6 +169,7 @@ impl Values {
             Values::Numbers(numbers) => numbers.number_in(text).is_some(),
             Values::PolicyNames => Policies::of_word(text).is_some(),
             Values::ApartNames => Apart::of_word(text).is_some(),
+            Values::FileNames => text != "-",
         }
     }
 }

@@ -25,7 +25,8 @@ pub enum WordsError {
 ///
 /// The first word is the command: `solo FILE`, with `--frames` and `--steps`; `play FILE SCRIPT` and the other
 /// commands on the events of a script, with `--harts` too; `run FILE`, with `--harts` and `--seed` too; `draw FILE`,
-/// with `--policy` and `--calm` besides; `explore FILE`, with `--runs`, `--until`, `--by` and `--jobs` beside these;
+/// with `--policy`, `--calm` and `--after` besides; `explore FILE`, with `--policy`, `--calm`, `--runs`, `--until`, `--by` and
+/// `--jobs`;
 /// `make NAME N`, with no option; or `trial NAME N`, with `--harts`, `--steps` and `--seed`. Each limit is in its
 /// range.
 pub fn read_words<'a>(alloc: Global, words: &'a [String]) -> Result<Command<'a>, WordsError>

@@ -18,6 +18,7 @@ pub(crate) struct OptionSet {
     seed: bool,
     policy: bool,
     calm: bool,
+    after: bool,
     run_count: bool,
     until: bool,
     by: bool,
@@ -43,6 +44,7 @@ impl OptionSet {
             OptionName::Seed => self.seed,
             OptionName::Policy => self.policy,
             OptionName::Calm => self.calm,
+            OptionName::After => self.after,
             OptionName::RunCount => self.run_count,
             OptionName::Until => self.until,
             OptionName::By => self.by,
@@ -62,6 +64,7 @@ impl OptionSet {
             OptionName::Seed => all.seed = true,
             OptionName::Policy => all.policy = true,
             OptionName::Calm => all.calm = true,
+            OptionName::After => all.after = true,
             OptionName::RunCount => all.run_count = true,
             OptionName::Until => all.until = true,
             OptionName::By => all.by = true,
@@ -79,6 +82,7 @@ const NO_OPTIONS: OptionSet = OptionSet {
     seed: false,
     policy: false,
     calm: false,
+    after: false,
     run_count: false,
     until: false,
     by: false,
@@ -117,11 +121,17 @@ const OF_WORKERS: OptionSet = OptionSet {
     ..NO_OPTIONS
 };
 
-/// The options of a command whose events a seed draws.
+/// The options of runs whose events a seed draws.
 const OF_DRAWS: OptionSet = OptionSet {
     policy: true,
     calm: true,
     ..OF_WORKERS
+};
+
+/// The options of a drawn run, which may begin with a script.
+const OF_A_DRAW: OptionSet = OptionSet {
+    after: true,
+    ..OF_DRAWS
 };
 
 /// The options of an exploration.
@@ -179,7 +189,7 @@ impl SourceKind {
             SourceKind::ByRule => (None, ON_ONE_HART),
             SourceKind::ByScript => (Some(NameKind::Script), ON_A_SCRIPT),
             SourceKind::ByWorkers => (None, OF_WORKERS),
-            SourceKind::ByDraws => (None, OF_DRAWS),
+            SourceKind::ByDraws => (None, OF_A_DRAW),
         };
         Takes {
             first: NameKind::Program,

@@ -111,6 +111,21 @@ pub request_is_taken_at_once : turn_of policy.Pos (record running { requested = 
     ≡ done asked.Take None 0
 request_is_taken_at_once = refl
 
+-- by the rule a store waits until the next event needs that none does, and a request is taken and a signal delivered at once
+pub rule_lets_stores_wait : turn_of policy.Rule storing None 0 ≡ done asked.Exec None 0
+rule_lets_stores_wait = refl
+
+pub rule_drains_where_it_must : turn_of policy.Rule (record storing { exec_enabled = false }) None 0 ≡ done asked.Drain None 0
+rule_drains_where_it_must = refl
+
+pub rule_takes_requests : turn_of policy.Rule (record running { requested = true; deliverable = true }) None 0
+    ≡ done asked.Take None 0
+rule_takes_requests = refl
+
+pub rule_delivers_signals : turn_of policy.Rule (record storing { deliverable = true }) None 0
+    ≡ done asked.Drain (Some means.Signal) 0
+rule_delivers_signals = refl
+
 -- an aim that can't be done any more is none, also while a store waits
 pub aim_is_given_up : turn_of policy.Long storing (Some means.Signal) 999999999999 ≡ done asked.Exec None 256
 aim_is_given_up = refl

@@ -1,5 +1,5 @@
--- The policies of drawn runs (own): five that are taken in turn by the seed, and the fair one by which each run goes on after some
--- time. A policy is a record of weights.
+-- The policies of drawn runs (own): five that are taken in turn by the seed, the rule, which draws no word, and the fair one by which
+-- each run goes on after some time. A policy is a record of weights.
 use Rattle.std.specs.Prelude.{ℕ, ◌%◌, ◌==◌, true, false, List, Option, Some, None, if◌then◌else◌, codes}
 use Rattle.std.specs.Str.{bytes_eq}
 use Rattle.draw_policies.specs.declared.policies.Policies.{Policies}
@@ -29,9 +29,10 @@ word_of policy.Long = codes "long"
 word_of policy.Short = codes "short"
 word_of policy.Pos = codes "pos"
 word_of policy.Spread = codes "spread"
+word_of policy.Rule = codes "rule"
 word_of policy.Fair = codes "fair"
 
--- the policies that a word names: all in turn, or one of the five
+-- the policies that a word names: all in turn, one of the five, or the rule
 abbrev pub policies_of_word : List ℕ → Option Policies
 policies_of_word word =
     if bytes_eq word (codes "all") then Some All
@@ -40,9 +41,12 @@ policies_of_word word =
     else if bytes_eq word (word_of policy.Short) then Some (Only policy.Short)
     else if bytes_eq word (word_of policy.Pos) then Some (Only policy.Pos)
     else if bytes_eq word (word_of policy.Spread) then Some (Only policy.Spread)
+    else if bytes_eq word (word_of policy.Rule) then Some (Only policy.Rule)
     else None
 
--- how often a policy does what, in thousandths of the words that could let it happen; and whether it goes by priorities
+-- how often a policy does what, in thousandths of the words that could let it happen; whether it goes by priorities; and whether it
+-- draws words. The rule draws none, and the word 0 stands for each: a hart goes on for as long as it can, then the first that can; its
+-- requests are taken and its signals delivered at once, and its stores enter memory where the next event needs it
 abbrev pub weights_of : Policy → Weights
 weights_of policy.One = record {
   stay = 0;
@@ -53,6 +57,7 @@ weights_of policy.One = record {
   credit = 0;
   alone = true;
   by_priority = false;
+  draws = true;
 }
 weights_of policy.Long = record {
   stay = 970;
@@ -63,6 +68,7 @@ weights_of policy.Long = record {
   credit = 256;
   alone = false;
   by_priority = false;
+  draws = true;
 }
 weights_of policy.Short = record {
   stay = 800;
@@ -73,6 +79,7 @@ weights_of policy.Short = record {
   credit = 256;
   alone = false;
   by_priority = false;
+  draws = true;
 }
 weights_of policy.Pos = record {
   stay = 0;
@@ -83,6 +90,7 @@ weights_of policy.Pos = record {
   credit = 256;
   alone = false;
   by_priority = true;
+  draws = true;
 }
 weights_of policy.Spread = record {
   stay = 0;
@@ -93,6 +101,18 @@ weights_of policy.Spread = record {
   credit = 256;
   alone = false;
   by_priority = false;
+  draws = true;
+}
+weights_of policy.Rule = record {
+  stay = 1000;
+  preempt = 0;
+  drain = 0;
+  take = 1000;
+  signal = 1000;
+  credit = 0;
+  alone = false;
+  by_priority = false;
+  draws = false;
 }
 weights_of policy.Fair = record {
   stay = 969;
@@ -103,4 +123,5 @@ weights_of policy.Fair = record {
   credit = 0;
   alone = false;
   by_priority = false;
+  draws = true;
 }

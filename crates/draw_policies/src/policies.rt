@@ -16,6 +16,8 @@ pub enum Policy {
     Pos,
     /// Each event on any hart.
     Spread,
+    /// Nothing is drawn: a hart goes on for as long as it can, then the first that can.
+    Rule,
     /// A hart goes on for a while, and its stores enter memory before its next instruction.
     Fair,
 }
@@ -30,7 +32,7 @@ pub enum Policies {
 }
 
 impl Policies {
-    /// The policies that a word names: `all`, or the word of one of the first five; None where it names none.
+    /// The policies that a word names: `all`, the word of one of the first five, or `rule`; None where it names none.
     pub fn of_word(word: &str) -> Option<Policies>
         ensures { result ≡ policies_of_word word.now }
     {
@@ -41,6 +43,7 @@ impl Policies {
             "short" => Some(Policies::Only(Policy::Short)),
             "pos" => Some(Policies::Only(Policy::Pos)),
             "spread" => Some(Policies::Only(Policy::Spread)),
+            "rule" => Some(Policies::Only(Policy::Rule)),
             _ => None,
         }
     }
@@ -75,6 +78,8 @@ pub struct Weights {
     pub alone: bool,
     /// Whether priorities say which hart or store comes next.
     pub by_priority: bool,
+    /// Whether words are drawn; else the word 0 stands for each.
+    pub draws: bool,
 }
 
 impl Policy {
@@ -106,6 +111,7 @@ impl Policy {
             Policy::Short => "short",
             Policy::Pos => "pos",
             Policy::Spread => "spread",
+            Policy::Rule => "rule",
             Policy::Fair => "fair",
         }
     }
@@ -124,6 +130,7 @@ impl Policy {
                 credit: 0,
                 alone: true,
                 by_priority: false,
+                draws: true,
             },
             Policy::Long => Weights {
                 stay: 970,
@@ -134,6 +141,7 @@ impl Policy {
                 credit: 256,
                 alone: false,
                 by_priority: false,
+                draws: true,
             },
             Policy::Short => Weights {
                 stay: 800,
@@ -144,6 +152,7 @@ impl Policy {
                 credit: 256,
                 alone: false,
                 by_priority: false,
+                draws: true,
             },
             Policy::Pos => Weights {
                 stay: 0,
@@ -154,6 +163,7 @@ impl Policy {
                 credit: 256,
                 alone: false,
                 by_priority: true,
+                draws: true,
             },
             Policy::Spread => Weights {
                 stay: 0,
@@ -164,6 +174,18 @@ impl Policy {
                 credit: 256,
                 alone: false,
                 by_priority: false,
+                draws: true,
+            },
+            Policy::Rule => Weights {
+                stay: 1000,
+                preempt: 0,
+                drain: 0,
+                take: 1000,
+                signal: 1000,
+                credit: 0,
+                alone: false,
+                by_priority: false,
+                draws: false,
             },
             Policy::Fair => Weights {
                 stay: 969,
@@ -174,6 +196,7 @@ impl Policy {
                 credit: 0,
                 alone: false,
                 by_priority: false,
+                draws: true,
             },
         }
     }

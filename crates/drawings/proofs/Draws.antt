@@ -7,13 +7,12 @@ use Rattle.std.proofs.lemmas.Nat.{div_below}
 use Rattle.std.proofs.lemmas.Option.{slice_get-get_or}
 use Rattle.mach_types.specs.declared.events.Sight.{Sight}
 use Rattle.chooser.specs.Cases.{has_stores}
-use Rattle.chooser.specs.Generators.{word}
 use Rattle.draw_policies.specs.Aims.{still_due}
 use Rattle.draw_policies.specs.Words.{hart_place, stay_of}
 use Rattle.draw_policies.specs.declared.turns.Turn.{Turn}
 use Rattle.draw_policies.proofs.Laws.{place_among-below, turn-allowed, turn-comes}
 use Rattle.drawings.specs.Allowed.{AreSettled, IsAllowedOf}
-use Rattle.drawings.specs.Drawings.{Drawn, IsFor, after_word, current, draw, drawn_by_actor, drawn_by_hart, drawn_by_priority, drawn_by_store, drawn_by_word, drawn_of, goes_on, hart_by_word, kept_after, lots_after, on_credit, stays, turn_at}
+use Rattle.drawings.specs.Drawings.{Drawn, IsFor, after_word, current, draw, drawn_by_actor, drawn_by_hart, drawn_by_priority, drawn_by_store, drawn_by_word, drawn_of, goes_on, hart_by_word, kept_after, lots_after, next_word, on_credit, stays, turn_at}
 use Rattle.drawings.specs.Priorities.{actors, acts, hart_of, is_enabled, is_hart, leader}
 use Rattle.drawings.specs.Scenes.{Scene, able, is_able, startable}
 use Rattle.drawings.specs.declared.drawing.Drawing.{Drawing}
@@ -67,7 +66,7 @@ one_fits : (scene : Scene) (d : Drawing) (actor : ℕ) (b : Bool) → AreSettled
     → Fits scene d (cond b (drawn_by_hart scene d actor) (Some (drawn_by_store scene d actor)))
 one_fits scene d actor true settled below can =
     let h = hart_of actor in
-    let w = word d.lots.generator in
+    let w = next_word d in
     turn_fits scene d h w (λ (t : Turn). lots_after scene actor h t.choice (after_word d)) (turn_at scene d h w) settled below
     (and_parts (is_able scene d.opened h) (may_act scene d h) can).0 refl
 one_fits scene d actor false settled below can = record { within = below; allowed = can }
@@ -96,7 +95,7 @@ any_fits scene d false true is ready settled =
     actor_fits scene d (leader (is_enabled scene d.opened d.aims) d.lots.priorities (actors scene.harts)) settled
     (leader_passes (is_enabled scene d.opened d.aims) d.lots.priorities (actors scene.harts))
 any_fits scene d false false is ready settled =
-    let w = word d.lots.generator in
+    let w = next_word d in
     word_fits scene d w (hart_by_word scene d w) settled (hart_passes scene d w ready)
 
 pub draw-allowed : (scene : Scene) (d : Drawing) (x : Drawn) → IsFor scene.harts d → AreSettled scene → draw scene d ≡ Some x
@@ -122,7 +121,7 @@ one_ready : (scene : Scene) (d : Drawing) (actor : ℕ) (b : Bool) → IsFor sce
     → IsFor scene.harts (kept_after (cond b (drawn_by_hart scene d actor) (Some (drawn_by_store scene d actor))) d)
 one_ready scene d actor true ready below =
     let h = hart_of actor in
-    turn_ready scene d h (λ (t : Turn). lots_after scene actor h t.choice (after_word d)) (turn_at scene d h (word d.lots.generator))
+    turn_ready scene d h (λ (t : Turn). lots_after scene actor h t.choice (after_word d)) (turn_at scene d h (next_word d))
     ready below
 one_ready scene d actor false ready below = record { few = ready.few; last = below; opened = ready.opened }
 
@@ -142,7 +141,7 @@ any_ready scene d false true ready =
     actor_ready scene d (leader (is_enabled scene d.opened d.aims) d.lots.priorities (actors scene.harts)) ready
     (leader_passes (is_enabled scene d.opened d.aims) d.lots.priorities (actors scene.harts))
 any_ready scene d false false ready =
-    let w = word d.lots.generator in
+    let w = next_word d in
     word_ready scene d w (hart_by_word scene d w) ready (hart_passes scene d w ready)
 
 pub draw-ready : (scene : Scene) (d : Drawing) → IsFor scene.harts d → IsFor scene.harts (kept_after (draw scene d) d)
@@ -181,7 +180,7 @@ one_drawn : (scene : Scene) (d : Drawing) (actor : ℕ) (b : Bool)
     → IsSome (cond b (drawn_by_hart scene d actor) (Some (drawn_by_store scene d actor)))
 one_drawn scene d actor true can =
     let h = hart_of actor in
-    let w = word d.lots.generator in
+    let w = next_word d in
     turn_drawn scene d h w (λ (t : Turn). lots_after scene actor h t.choice (after_word d))
     (and_parts (is_able scene d.opened h) (may_act scene d h) can).0
 one_drawn scene d actor false can = refl
@@ -246,7 +245,7 @@ any_drawn scene d h false true ready below can =
     (leader_comes scene d h below (itself_or_store scene d h can))
     (leader_passes (is_enabled scene d.opened d.aims) d.lots.priorities (actors scene.harts))
 any_drawn scene d h false false ready below can =
-    let w = word d.lots.generator in
+    let w = next_word d in
     word_drawn scene d w (hart_by_word scene d w)
     (hart_comes scene d w (passing_some (is_able scene d.opened) scene.harts h below can)) (hart_passes scene d w ready)
 

@@ -116,6 +116,27 @@ pub not_in_a_sequence : next (record (two_harts running running) { is_inside = �
 unfolding draw first_generator word next_generator fill_bytes stream_of word_bytes u32_at
 not_in_a_sequence = refl
 
+-- by the rule both harts are open, the last hart goes on where it can and else the first that can, and no word is drawn
+abbrev by_rule : Drawing
+by_rule = starting policy.Rule 1
+
+pub rule_begins_at_hart_0 : next (two_harts idle idle) by_rule ≡ event 0 (runs 1)
+unfolding draw
+rule_begins_at_hart_0 = refl
+
+pub rule_goes_on : next (two_harts running running) (record by_rule { last = record { 0 = 1 } }) ≡ event 1 asked.Exec
+unfolding draw
+rule_goes_on = refl
+
+pub rule_takes_the_first : next (two_harts running held_up_by_others) (record by_rule { last = record { 0 = 1 } })
+    ≡ event 0 asked.Exec
+unfolding draw
+rule_takes_the_first = refl
+
+pub rule_draws_no_word : (kept_after (draw (two_harts running running) by_rule) by_rule).lots ≡ by_rule.lots
+unfolding draw
+rule_draws_no_word = refl
+
 -- by priorities: of the first words of seed 3 that of hart 1 is higher than that of hart 0, and no store waits. Its turn is by the
 -- next word, of which the place is 1 of two threads. The word after that is its new priority
 abbrev unused : List ℕ

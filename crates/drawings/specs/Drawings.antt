@@ -6,7 +6,7 @@ use Rattle.std.specs.Option.{option_and_then, option_map}
 use Rattle.mach_types.specs.declared.events.Choice.{Choice}
 use Rattle.mach_types.specs.declared.events.Choice.TheVariants as asked
 use Rattle.mach_types.specs.declared.events.Tid.{Tid}
-use Rattle.chooser.specs.Generators.{next_generator, word}
+use Rattle.chooser.specs.Generators.{Generator, next_generator, word}
 use Rattle.draw_policies.specs.Policies.{weights_of}
 use Rattle.draw_policies.specs.Turns.{draining, turn}
 use Rattle.draw_policies.specs.Words.{hart_place, stay_of}
@@ -71,6 +71,10 @@ after_turn h t lots d = record d {
 abbrev pub drawn_of : ℕ → Lots → Drawing → Turn → Drawn
 drawn_of h lots d t = record { hart = h; choice = t.choice; after = after_turn h t lots d }
 
+-- the word that decides: the next of the generator, or 0 where the policy draws none
+abbrev pub next_word : Drawing → ℕ
+next_word d = if (current d).draws then word d.lots.generator else 0
+
 -- by a word: whether the last hart goes on, and which hart acts
 abbrev pub stays : Scene → Drawing → ℕ → Bool
 stays scene d w = nat_lt (stay_of w) (current d).stay && is_able scene d.opened d.last.0
@@ -80,13 +84,16 @@ hart_by_word scene d w =
     if stays scene d w then Some d.last.0
     else slice_get (able scene d.opened) (hart_place w (length (able scene d.opened)))
 
--- the priorities as they are, after a word
+-- the priorities as they are, and the generator after that word
+abbrev pub generator_after : Drawing → Generator
+generator_after d = if (current d).draws then next_generator d.lots.generator else d.lots.generator
+
 abbrev pub after_word : Drawing → Lots
-after_word d = record d.lots { generator = next_generator d.lots.generator }
+after_word d = record d.lots { generator = generator_after d }
 
 abbrev pub drawn_by_word : Scene → Drawing → Option Drawn
 drawn_by_word scene d =
-    let w = word d.lots.generator in
+    let w = next_word d in
     option_and_then (λ h. option_map (drawn_of h (after_word d) d) (turn_at scene d h w)) (hart_by_word scene d w)
 
 -- by priorities: the leader acts, a hart by a word, a store without one; then it and those whose next access races with its own get
@@ -98,7 +105,7 @@ abbrev pub drawn_by_hart : Scene → Drawing → ℕ → Option Drawn
 drawn_by_hart scene d actor =
     let h = hart_of actor in
     option_map (λ (t : Turn). drawn_of h (lots_after scene actor h t.choice (after_word d)) d t)
-    (turn_at scene d h (word d.lots.generator))
+    (turn_at scene d h (next_word d))
 
 abbrev pub drawn_by_store : Scene → Drawing → ℕ → Drawn
 drawn_by_store scene d actor =

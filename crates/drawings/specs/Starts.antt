@@ -1,6 +1,6 @@
 -- How a drawing begins (own): one generator, seeded as that of hart 0 of `run`; then how many harts are open, and the priorities,
 -- each by a word where one is needed.
-use Rattle.std.specs.Prelude.{ℕ, ◌+◌, ◌-◌, ◌%◌, Bool, true, false, None, if◌then◌else◌, nat_lt, replicate}
+use Rattle.std.specs.Prelude.{ℕ, ◌+◌, ◌-◌, ◌%◌, ◌&&◌, Bool, not, true, None, if◌then◌else◌, nat_lt, replicate}
 use Rattle.chooser.specs.Generators.{Generator, first_generator, next_generator, word}
 use Rattle.draw_policies.specs.Policies.{weights_of}
 use Rattle.draw_policies.specs.declared.policies.Policy.{Policy}
@@ -10,11 +10,15 @@ use Rattle.drawings.specs.declared.priorities.Lots.{Lots}
 
 -- whether a word says how many harts are open
 abbrev pub opens_by_word : Policy → ℕ → Bool
-opens_by_word policy harts = if (weights_of policy).alone then false else nat_lt 1 harts
+opens_by_word policy harts = (weights_of policy).draws && not (weights_of policy).alone && nat_lt 1 harts
 
--- how many are, from hart 0 on: 2 at least, each number as likely as the next; hart 0 alone where no word says it
+-- how many are where no word says it: hart 0 alone, or all
+abbrev pub open_without : Policy → ℕ → ℕ
+open_without policy harts = if (weights_of policy).alone then 1 else harts
+
+-- how many are, from hart 0 on: 2 at least, each number as likely as the next, where a word says it
 abbrev pub first_open : Policy → ℕ → Generator → ℕ
-first_open policy harts g = if opens_by_word policy harts then 2 + word g % (harts - 1) else 1
+first_open policy harts g = if opens_by_word policy harts then 2 + word g % (harts - 1) else open_without policy harts
 
 abbrev pub after_open : Policy → ℕ → Generator → Generator
 after_open policy harts g = if opens_by_word policy harts then next_generator g else g

@@ -10,6 +10,7 @@ use crate::priorities::{access_by, leader};
 use draw_policies::{Turn, Word};
 use mach_types::{Choice, Hart};
 use rand_core::utils::NextWord;
+use rand_xoshiro::Xoshiro256PlusPlus;
 
 impl Drawing {
     /// The next event, where there is one; else nothing changes.
@@ -28,8 +29,24 @@ impl Drawing {
         }
     }
 
-    /// The next event by a word.
+    /// The word that decides, and the generator after it: the next word, or 0 where the policy draws none.
     #[tactic(auto, unfolding(chooser::specs::Generators::word, chooser::specs::Generators::next_generator))]
+    fn next_word(&self) -> (Word, Xoshiro256PlusPlus)
+        ensures word { result.0.0 ≡ drawings.next_word self.now }
+        ensures generator { result.1 ≡ drawings.generator_after self.now }
+    {
+        let Ok(mut generator) = self.lots.generator.clone() else {
+            unreachable!()
+        };
+        if self.weights().draws {
+            let word = Word(generator.next_word());
+            (word, generator)
+        } else {
+            (Word(0), generator)
+        }
+    }
+
+    /// The next event by a word.
     fn next_by_word<H: Harts>(&mut self, harts: &H) -> Option<DrawnEvent>
         requires { drawings.IsFor (H.scene harts.now).harts self.old }
         ensures event { result
@@ -37,10 +54,7 @@ impl Drawing {
         ensures kept { self.new
             ≡ drawings.kept_after (drawings.drawn_by_word (H.scene harts.now) self.old) self.old }
     {
-        let Ok(mut generator) = self.lots.generator.clone() else {
-            unreachable!()
-        };
-        let word = Word(generator.next_word());
+        let (word, generator) = self.next_word();
         let seen = self.hart_by_word(harts, word)?;
         let turn = self.turn_at(harts, &seen, word)?;
         self.lots.generator = generator;
@@ -64,7 +78,6 @@ impl Drawing {
     }
 
     /// The next event, of the hart that is this actor.
-    #[tactic(auto, unfolding(chooser::specs::Generators::word, chooser::specs::Generators::next_generator))]
     fn next_by_hart<H: Harts>(&mut self, harts: &H, actor: u8) -> Option<DrawnEvent>
         requires ready { drawings.IsFor (H.scene harts.now).harts self.old }
         requires actor { actor < priorities.actors (H.scene harts.now).harts }
@@ -73,10 +86,7 @@ impl Drawing {
         ensures kept { self.new
             ≡ drawings.kept_after (drawings.drawn_by_hart (H.scene harts.now) self.old actor) self.old }
     {
-        let Ok(mut generator) = self.lots.generator.clone() else {
-            unreachable!()
-        };
-        let word = Word(generator.next_word());
+        let (word, generator) = self.next_word();
         let hart = actor / 2;
         let turn = self.turn_at(harts, &look_at(harts, hart), word)?;
         let made = access_by(harts, Hart(hart), turn.choice);

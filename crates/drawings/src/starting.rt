@@ -7,7 +7,7 @@ ghost use Rattle.chooser.specs.Generators.{first_generator};
 
 use crate::drawing::Drawing;
 use crate::priorities::{ACTORS, Lots};
-use draw_policies::Policy;
+use draw_policies::{Policy, Weights};
 use mach_types::Hart;
 use rand_core::SeedableRng;
 use rand_core::utils::NextWord;
@@ -17,11 +17,17 @@ use rand_xoshiro::Xoshiro256PlusPlus;
 fn opens_by_word(policy: Policy, harts: u8) -> bool
     ensures { result ≡ starts.opens_by_word policy harts }
 {
-    if policy.weights().alone {
-        false
-    } else {
-        harts > 1
-    }
+    let Weights { draws, alone, .. } = policy.weights();
+    draws && !alone && harts > 1
+}
+
+/// How many harts are open where no word says it, of so many: hart 0 alone, or all.
+fn open_without(policy: Policy, harts: u8) -> u8
+    requires { harts ≤ 8 }
+    ensures opened { result ≡ starts.open_without policy harts }
+    ensures few { result ≤ 8 }
+{
+    if policy.weights().alone { 1 } else { harts }
 }
 
 /// How many harts are open, of so many.
@@ -35,7 +41,7 @@ fn first_open(policy: Policy, harts: u8, generator: &mut Xoshiro256PlusPlus) -> 
     if opens_by_word(policy, harts) {
         2 + (generator.next_word() % u64::from(harts - 1)) as u8
     } else {
-        1
+        open_without(policy, harts)
     }
 }
 

@@ -1,5 +1,6 @@
 -- A drawn run goes on by each event that is drawn: one is where the run hasn't ended, and it is allowed.
-use Rattle.std.proofs.Common.{◌≡◌, ◌≢◌, ◌+◌, ◌<◌, ◌≤◌, ◌||◌, Bool, true, false, cond, leb, List, [], ◌∷◌, ◌++◌, length, length-append, take, Option, Some, None, Result, Ok, is_some, refl, sym, ap, ◌∙◌, subst, arith}
+use Rattle.std.proofs.Common.{◌≡◌, ◌≢◌, ℕ, ◌+◌, ◌<◌, ◌≤◌, ◌||◌, Bool, true, false, cond, leb, List, [], ◌∷◌, ◌++◌, length, length-append, take, Option, Some, None, Result, Ok, is_some, refl, sym, ap, ◌∙◌, subst, arith}
+use mir.Val.{bool_byte}
 use Rattle.std.specs.Prelude.{IfOk, IsSome}
 use Rattle.std.specs.Option.{option_map}
 use Rattle.std.specs.Result.{is_ok}
@@ -19,12 +20,13 @@ use Rattle.block_model.specs.History.{History}
 use Rattle.block_model.specs.Run.{IsBlockRun}
 use Rattle.block_model.specs.Setting.{Seen, Setting}
 use Rattle.block_model.specs.declared.refusals.Refused.{Refused}
-use Rattle.block_model.proofs.Laws.{history-append, is_open, length-history}
+use Rattle.block_model.proofs.Laws.{history-append, is_open, length-history, within_limit}
 use Rattle.drawn_runs.specs.DrawnRuns.{IsDrawn, drawing_at, drawn_at, drawn_entry, entry_of, first_drawing, scene_at}
 use Rattle.drawn_runs.specs.WholeRuns.{IsDrawnRun}
 use Rattle.drawn_runs.specs.declared.manner.Manner.{Manner}
 use Rattle.drawn_runs.proofs.Laws.{drawing_is_for, drawn_is_allowed, drawn_more, drawn_start, drawn_where_open}
 use Rattle.drawn_machine.specs.Scenes.{scene_of}
+use Rattle.drawn_machine.proofs.Inside.{IsCounted, as_number, of_the_machine, one_at_most}
 
 -- a machine on its way from this setting and this log, and what is kept between its events
 pub record IsDrawnSoFar (s : Setting) (m : Manner) (first : List Entry) (now : Seen) (d : Drawing) : Type 0 where
@@ -156,6 +158,33 @@ pub never_refused : (s : Setting) (m : Manner) (first : List Entry) (now : Seen)
 never_refused s m first now d e r range far unended is answer =
     let x = due s m first now d range far unended in
     ap is_ok (made m now d x.0 e r (in_range s m first now d range far) far.block_run x.1 (the_event (draw (scene_of now) d) x.0 e is x.1.is) answer)
+
+-- its hart is one of the machine
+pub of_its_machine : (s : Setting) (m : Manner) (first : List Entry) (now : Seen) (d : Drawing) (e : DrawnEvent)
+    → InRange s.limits → IsDrawnSoFar s m first now d → end_of now.setting (history now.setting now.log) ≡ Unended
+    → Some e ≡ option_map event_of (draw (scene_of now) d) → e.hart.0 < now.setting.limits.harts
+of_its_machine s m first now d e range far unended is =
+    let x = due s m first now d range far unended in
+    let before = history now.setting now.log in
+    let same = the_event (draw (scene_of now) d) x.0 e is x.1.is in
+    subst (λ (f : DrawnEvent). f.hart.0 < now.setting.limits.harts) (sym same)
+    (of_the_machine now.setting before x.0.hart x.0.choice (entry_of now.setting before x.0)
+    (allowed m now d x.0 (in_range s m first now d range far) far.block_run x.1))
+
+-- there are at most 8
+pub few_harts : (s : Setting) (m : Manner) (first : List Entry) (now : Seen) (d : Drawing) → InRange s.limits
+    → IsDrawnSoFar s m first now d → now.setting.limits.harts ≤ 8
+few_harts s m first now d range far = (in_range s m first now d range far).eight_harts
+
+-- so one more preemption is a number of 32 bits
+pub small_count : (s : Setting) (m : Manner) (first : List Entry) (now : Seen) (d : Drawing) (inside : ℕ) (b : Bool) (n : ℕ)
+    → InRange s.limits → IsDrawnSoFar s m first now d → IsCounted s first now inside → n ≡ bool_byte b → inside + n < 4294967296
+small_count s m first now d inside b n range far so_far number =
+    let limits = in_range s m first now d range far in
+    let steps = within_limit now.setting now.log far.block_run in
+    let most = limits.most_steps in
+    let few = so_far.few in
+    omega (arith, steps, most, few, number, as_number b, one_at_most b)
 
 -- and the run goes on by it
 grown : (now next : Seen) (r : Result Entry Refused) (e : Entry) → r ≡ Ok e

@@ -1,2 +1,3 @@
 mod DrawnSteps
+mod Inside
 mod Starting

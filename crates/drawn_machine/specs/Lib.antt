@@ -1,1 +1,2 @@
+pub mod Preemptions
 pub mod Scenes

@@ -1,6 +1,6 @@
 -- What is drawn at a place of a block run is allowed there.
-use Rattle.std.proofs.Common.{◌≡◌, ℕ, ◌+◌, ◌-◌, ◌%◌, ◌<◌, ◌≤◌, ◌||◌, Bool, true, false, cond, leb, ltb, List, [], ◌∷◌, length, Option, Some, None, Ok, is_some, refl, sym, ap, ◌∙◌, arith}
-use Rattle.std.proofs.lemmas.Bool.{false≢true, leb-false, lt-leb, ltb-true}
+use Rattle.std.proofs.Common.{◌≡◌, ℕ, ◌+◌, ◌-◌, ◌%◌, ◌<◌, ◌≤◌, ◌||◌, ◌&&◌, not, Bool, true, false, cond, leb, ltb, List, [], ◌∷◌, length, Option, Some, None, Ok, is_some, refl, sym, ap, ◌∙◌, arith}
+use Rattle.std.proofs.lemmas.Bool.{and_parts, false≢true, leb-false, lt-leb, ltb-true}
 use Rattle.std.proofs.lemmas.Nat.{mod_below}
 use Rattle.mach_types.specs.declared.events.Choice.{Choice}
 use Rattle.mach_types.specs.declared.events.Entry.{Entry}
@@ -10,7 +10,7 @@ use Rattle.draw_policies.specs.Policies.{weights_of}
 use Rattle.draw_policies.specs.declared.policies.Policy.{Policy}
 use Rattle.drawings.specs.Allowed.{AreSettled, IsAllowedOf}
 use Rattle.drawings.specs.Drawings.{Drawn, IsFor, draw, kept_after}
-use Rattle.drawings.specs.Starts.{first_open, opens_by_word}
+use Rattle.drawings.specs.Starts.{first_open, open_without, opens_by_word}
 use Rattle.drawings.specs.declared.drawing.Drawing.{Drawing}
 use Rattle.drawings.proofs.Laws.{draw-allowed, draw-ready}
 use Rattle.block_model.specs.Choosing.{has_ended}
@@ -24,9 +24,12 @@ use Rattle.drawn_runs.specs.DrawnRuns.{drawing_at, drawn_at, entry_of, first_dra
 use Rattle.drawn_runs.proofs.Places.{allowed_is_free, good_place, place_settled}
 
 -- the harts that are open at the start are harts of the machine
-several : (alone : Bool) (harts : ℕ) → cond alone false (ltb 1 harts) ≡ true → 1 < harts
-several true harts by_word = absurd (false≢true by_word)
-several false harts by_word = ltb-true 1 harts by_word
+several : (draws alone : Bool) (harts : ℕ) → (draws && not alone && ltb 1 harts) ≡ true → 1 < harts
+several draws alone harts by_word = ltb-true 1 harts (and_parts (draws && not alone) (ltb 1 harts) by_word).1
+
+one_or_all : (alone : Bool) (harts : ℕ) → 0 < harts → cond alone 1 harts ≤ harts
+one_or_all true harts some = omega arith
+one_or_all false harts some = omega arith
 
 two_and : (place harts : ℕ) → 1 < harts → place < harts - 1 → 2 + place ≤ harts
 two_and place harts more below = omega arith
@@ -34,11 +37,12 @@ two_and place harts more below = omega arith
 pub opened_within : (policy : Policy) (harts : ℕ) (g : Generator) → 0 < harts → first_open policy harts g ≤ harts
 opened_within policy harts g some = go (opens_by_word policy harts) refl
   where
-    go : (b : Bool) → opens_by_word policy harts ≡ b → cond b (2 + word g % (harts - 1)) 1 ≤ harts
+    go : (b : Bool) → opens_by_word policy harts ≡ b
+        → cond b (2 + word g % (harts - 1)) (open_without policy harts) ≤ harts
     go true by_word =
-        let more = several (weights_of policy).alone harts by_word in
+        let more = several (weights_of policy).draws (weights_of policy).alone harts by_word in
         two_and (word g % (harts - 1)) harts more (mod_below (word g) (harts - 1) (omega arith))
-    go false none = omega arith
+    go false none = one_or_all (weights_of policy).alone harts some
 
 at_most : (a b c : ℕ) → a ≤ b → b ≤ c → a ≤ c
 at_most a b c p q = omega arith

@@ -4,9 +4,9 @@ use Rattle.std.proofs.Common.{◌≡◌, ℕ, ◌<◌, ◌≤◌, Bool, true, fa
 use Rattle.std.specs.Prelude.{IsSome}
 use Rattle.std.specs.Option.{option_and_then, option_map}
 use Rattle.std.proofs.lemmas.Bool.{false≢true}
-use Rattle.chooser.specs.Generators.{first_generator, word}
+use Rattle.chooser.specs.Generators.{first_generator}
 use Rattle.draw_policies.specs.declared.turns.Turn.{Turn}
-use Rattle.drawings.specs.Drawings.{Drawn, after_word, current, draw, drawn_by_actor, drawn_by_hart, drawn_by_priority, drawn_by_store, drawn_by_word, drawn_of, goes_on, hart_by_word, kept_after, lots_after, on_credit, turn_at}
+use Rattle.drawings.specs.Drawings.{Drawn, after_word, current, draw, drawn_by_actor, drawn_by_hart, drawn_by_priority, drawn_by_store, drawn_by_word, drawn_of, goes_on, hart_by_word, kept_after, lots_after, next_word, on_credit, turn_at}
 use Rattle.drawings.specs.Priorities.{actors, hart_of, is_enabled, is_hart, leader}
 use Rattle.drawings.specs.Scenes.{Scene}
 use Rattle.drawings.specs.Starts.{first_open}
@@ -36,7 +36,7 @@ one_keeps : (scene : Scene) (d : Drawing) (actor : ℕ) (b : Bool)
     → (kept_after (cond b (drawn_by_hart scene d actor) (Some (drawn_by_store scene d actor))) d).opened ≡ d.opened
 one_keeps scene d actor true =
     let h = hart_of actor in
-    turn_keeps d h (λ (t : Turn). lots_after scene actor h t.choice (after_word d)) (turn_at scene d h (word d.lots.generator))
+    turn_keeps d h (λ (t : Turn). lots_after scene actor h t.choice (after_word d)) (turn_at scene d h (next_word d))
 one_keeps scene d actor false = refl
 
 actor_keeps : (scene : Scene) (d : Drawing) (o : Option ℕ)
@@ -51,7 +51,7 @@ any_keeps scene d true priority = refl
 any_keeps scene d false true =
     actor_keeps scene d (leader (is_enabled scene d.opened d.aims) d.lots.priorities (actors scene.harts))
 any_keeps scene d false false =
-    let w = word d.lots.generator in
+    let w = next_word d in
     word_keeps scene d w (hart_by_word scene d w)
 
 draw_keeps : (scene : Scene) (d : Drawing) → (kept_after (draw scene d) d).opened ≡ d.opened

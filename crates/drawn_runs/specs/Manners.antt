@@ -13,3 +13,7 @@ calm_of None steps = steps / 4
 abbrev pub manner_for : Policies → Option ℕ → ℕ → ℕ → Manner
 manner_for policies calm seed steps =
     record { seed = seed; policy = policy_for policies seed; scripted = 0; calm = calm_of calm steps }
+
+-- the same behind a script that made so many entries: these aren't drawn, and the first event behind them is the first that is
+abbrev pub manner_behind : ℕ → Manner → Manner
+manner_behind scripted m = record m { scripted = scripted }

@@ -1,7 +1,7 @@
 //! In which manner the events of a run are drawn.
 
 ghost use Rattle.std.specs.Prelude.{◌≡◌};
-ghost use Rattle.drawn_runs.specs.Manners.{calm_of, manner_for};
+ghost use Rattle.drawn_runs.specs.Manners.{calm_of, manner_behind, manner_for};
 
 use draw_policies::{Policies, Policy};
 
@@ -40,5 +40,12 @@ impl Manner {
             scripted: 0,
             calm: calm_of(calm, steps),
         }
+    }
+
+    /// The same behind a script that made so many entries: what is drawn begins behind them.
+    pub fn behind(self, scripted: u32) -> Manner
+        ensures { result ≡ manner_behind scripted self }
+    {
+        Manner { scripted, ..self }
     }
 }

@@ -1,9 +1,10 @@
--- No sequence of a block of the library has a word of an add block before its sequence: those words are a load into
--- x5, a LUI, an ADDI and a store, and a sequence begins with a load into x6 and has neither of the first two.
+-- No sequence of a block of the library has a word of another block before its sequence: those words are a load into
+-- x5, a LUI, an ADDI and a store, maybe behind a copy, and a sequence begins with a load into x6, ends with a store and
+-- has neither of the first two.
 use Rattle.std.proofs.Common.{◌≡◌, ℕ, zero, suc, ◌+◌, ◌*◌, ◌-◌, ◌/◌, ◌%◌, ◌<◌, ◌≤◌, ◌^◌, List, [], ◌∷◌, length, refl, sym, ap, ◌∙◌}
-use Rattle.std.proofs.Common.{arith, Bool, true, false, eqb, Option, Some, slice_get, pos}
+use Rattle.std.proofs.Common.{arith, Bool, true, false, eqb, Option, Some, slice_get, pos, inl, inr, ◌⊎◌}
 use Rattle.std.specs.Option.{option_map}
-use Rattle.std.proofs.lemmas.Bool.{false≢true, ltb-true}
+use Rattle.std.proofs.lemmas.Bool.{cases_lt, false≢true, ltb-true}
 use Rattle.elf_load.specs.declared.image.ImagePage.{ImagePage}
 use Rattle.mach_types.specs.Kernel.Areas.{is_inside}
 use Rattle.mach_types.specs.declared.sequences.Area.{Area}
@@ -13,9 +14,10 @@ use Rattle.rv_inst.specs.declared.instruction.Inst.TheVariants as inst
 use Rattle.alone_laws.specs.Pointers.{LiesBeside}
 use Rattle.alone_laws.specs.Spans.{code_of}
 use Rattle.alone_laws.specs.Uses.{Placed, is_before}
-use Rattle.percpu_lib.specs.Adds.{add_block, add_steps, placed_add}
+use Rattle.percpu_lib.specs.Adds.{add_steps}
 use Rattle.percpu_lib.specs.Allocs.{alloc_steps}
 use Rattle.percpu_lib.specs.Beside.{HoldsSequence, IsOfLibrary, is_add, is_alloc, is_free, is_pop, is_push, sequence_lines}
+use Rattle.percpu_lib.specs.Forms.{Form, placed_of}
 use Rattle.percpu_lib.specs.Frees.{free_steps}
 use Rattle.percpu_lib.specs.Lines.{instructions}
 use Rattle.percpu_lib.specs.Pops.{pop_steps}
@@ -23,13 +25,18 @@ use Rattle.percpu_lib.specs.Pushes.{push_steps}
 use Rattle.percpu_lib.specs.Words.{AreHeld, lower, upper}
 use Rattle.percpu_lib.specs.declared.lines.Line.{Line}
 use Rattle.percpu_lib.specs.declared.slots.Slots.{Slots}
+use Rattle.percpu_lib.proofs.BlockCourse.{AsksFirst}
 use Rattle.percpu_lib.proofs.BlockWords.{held_aligned}
 
--- an instruction that no sequence has; and one with which a sequence begins
+-- an instruction that no sequence has; one with which a sequence ends; and one with which it begins
 abbrev is_early : Inst → Bool
 is_early (inst.Lui rd imm) = true
 is_early (inst.Lw rd rs1 imm) = eqb rd 5
 is_early other = false
+
+abbrev is_store : Inst → Bool
+is_store (inst.Sd rs1 rs2 imm) = true
+is_store other = false
 
 abbrev is_start : Inst → Bool
 is_start (inst.Lw rd rs1 imm) = true
@@ -74,11 +81,23 @@ same_inst i j is = cc
 
 -- TWO BLOCKS
 
-module _ (pages : List ImagePage) (p : Slots) (at : ℕ) (area : Area) (x : Placed) (q : Slots)
-    (ws : List (Option Inst)) (held : AreHeld (code_of pages) at (add_block p)) (low : at < 2 ^ 37)
-    (stands : AreHeld (code_of pages) x.range.start ws) (long : x.range.length ≡ 4 * length ws)
-    (few : length ws ≤ 100) (some : 1 ≤ length ws) (low_start : x.range.start < 2 ^ 37) (are : AreLate ws)
-    (starts : slice_get ws 0 ≡ Some (Some (inst.Lw 6 q.area (pos 4)))) where
+-- a sequence of instructions that are known: none is early, the first is a load, and the last a store
+record IsKnown (q : Slots) (ws : List (Option Inst)) : Type 0 where
+  few : length ws ≤ 100
+  some : 1 ≤ length ws
+  late : AreLate ws
+  starts : slice_get ws 0 ≡ Some (Some (inst.Lw 6 q.area (pos 4)))
+  last : Inst
+  ends : slice_get ws (length ws - 1) ≡ Some (Some last)
+  stores : is_store last ≡ true
+
+module _ (pages : List ImagePage) (form : Form) (lead : ℕ) (asks : AsksFirst form lead) (one : lead ≤ 1) (at : ℕ)
+    (area : Area) (x : Placed) (q : Slots) (ws : List (Option Inst)) (held : AreHeld (code_of pages) at form.words)
+    (low : at < 2 ^ 37) (stands : AreHeld (code_of pages) x.range.start ws) (long : x.range.length ≡ 4 * length ws)
+    (low_start : x.range.start < 2 ^ 37) (known : IsKnown q ws) where
+  abbrev p : Slots
+  p = form.slots
+
   abbrev start : ℕ
   start = x.range.start
 
@@ -86,7 +105,7 @@ module _ (pages : List ImagePage) (p : Slots) (at : ℕ) (area : Area) (x : Plac
   not_early : (a k : ℕ) (i : Inst) → code_of pages a ≡ Some i → is_early i ≡ true → a ≡ start + 4 * k → k < length ws
       → ⊥
   not_early a k i is early same lt =
-      let w = each_late ws are k lt in
+      let w = each_late ws known.late k lt in
       let both : i ≡ w.0 = same_inst i w.0 (sym is ∙ ap (code_of pages) same ∙ stands.holds k w.0 w.1) in
       false≢true (sym w.2 ∙ sym (ap is_early both) ∙ early)
 
@@ -94,53 +113,86 @@ module _ (pages : List ImagePage) (p : Slots) (at : ℕ) (area : Area) (x : Plac
   is_first a i is other same =
       let both : i ≡ inst.Lw 6 q.area (pos 4) =
       same_inst i (inst.Lw 6 q.area (pos 4)) (sym is ∙ ap (code_of pages) same
-      ∙ stands.holds 0 (inst.Lw 6 q.area (pos 4)) starts) in
+      ∙ stands.holds 0 (inst.Lw 6 q.area (pos 4)) known.starts) in
       false≢true (sym other ∙ ap is_start both)
 
-  word_0 : code_of pages (at + 4 * 0) ≡ Some (inst.Lw 5 p.area (pos 0))
-  word_0 = held.holds 0 (inst.Lw 5 p.area (pos 0)) refl
+  word_0 : code_of pages (at + 4 * lead) ≡ Some (inst.Lw 5 p.area (pos 0))
+  word_0 = held.holds lead (inst.Lw 5 p.area (pos 0)) asks.lw
 
-  word_1 : code_of pages (at + 4 * 1) ≡ Some (inst.Lui 6 (upper p.table))
-  word_1 = held.holds 1 (inst.Lui 6 (upper p.table)) refl
+  word_1 : code_of pages (at + 4 * (lead + 1)) ≡ Some (inst.Lui 6 (upper p.table))
+  word_1 = held.holds (lead + 1) (inst.Lui 6 (upper p.table)) asks.lui
 
-  word_2 : code_of pages (at + 4 * 2) ≡ Some (inst.Addi 6 6 (lower p.table))
-  word_2 = held.holds 2 (inst.Addi 6 6 (lower p.table)) refl
+  word_2 : code_of pages (at + 4 * (lead + 2)) ≡ Some (inst.Addi 6 6 (lower p.table))
+  word_2 = held.holds (lead + 2) (inst.Addi 6 6 (lower p.table)) asks.addi
 
-  word_3 : code_of pages (at + 4 * 3) ≡ Some (inst.Sd p.area 6 (pos 8))
-  word_3 = held.holds 3 (inst.Sd p.area 6 (pos 8)) refl
+  word_3 : code_of pages (at + 4 * (lead + 3)) ≡ Some (inst.Sd p.area 6 (pos 8))
+  word_3 = held.holds (lead + 3) (inst.Sd p.area 6 (pos 8)) asks.store
 
-  not_upper : (k : ℕ) → at + 4 * 1 ≡ start + 4 * k → k < length ws → ⊥
-  not_upper k same lt = not_early (at + 4 * 1) k (inst.Lui 6 (upper p.table)) word_1 refl same lt
+  not_asked : (k : ℕ) → at + 4 * lead ≡ start + 4 * k → k < length ws → ⊥
+  not_asked k same lt = not_early (at + 4 * lead) k (inst.Lw 5 p.area (pos 0)) word_0 refl same lt
 
-  not_lower : (k : ℕ) → at + 4 * 2 ≡ start + 4 * k → k < length ws → ⊥
-  not_lower zero same lt = is_first (at + 4 * 2) (inst.Addi 6 6 (lower p.table)) word_2 refl same
+  not_upper : (k : ℕ) → at + 4 * (lead + 1) ≡ start + 4 * k → k < length ws → ⊥
+  not_upper k same lt = not_early (at + 4 * (lead + 1)) k (inst.Lui 6 (upper p.table)) word_1 refl same lt
+
+  not_lower : (k : ℕ) → at + 4 * (lead + 2) ≡ start + 4 * k → k < length ws → ⊥
+  not_lower zero same lt = is_first (at + 4 * (lead + 2)) (inst.Addi 6 6 (lower p.table)) word_2 refl same
   not_lower (suc k) same lt = not_upper k (omega arith) (omega arith)
 
-  not_store : (k : ℕ) → at + 4 * 3 ≡ start + 4 * k → k < length ws → ⊥
-  not_store zero same lt = is_first (at + 4 * 3) (inst.Sd p.area 6 (pos 8)) word_3 refl same
+  not_store : (k : ℕ) → at + 4 * (lead + 3) ≡ start + 4 * k → k < length ws → ⊥
+  not_store zero same lt = is_first (at + 4 * (lead + 3)) (inst.Sd p.area 6 (pos 8)) word_3 refl same
   not_store (suc k) same lt = not_lower k (omega arith) (omega arith)
 
+  -- a copy is no store, and the word behind it is early
+  not_copy : (j k : ℕ) → j < lead → at + 4 * j ≡ start + 4 * k → k < length ws → ⊥
+  not_copy j k lt same within = by_place (cases_lt (k + 1) (length ws))
+    where
+      copy : code_of pages (at + 4 * j) ≡ Some (inst.Addi (asks.copies j lt).rd (asks.copies j lt).rs (asks.copies j lt).imm)
+      copy = held.holds j (inst.Addi (asks.copies j lt).rd (asks.copies j lt).rs (asks.copies j lt).imm)
+          (asks.copies j lt).there
+
+      no_last : at + 4 * j ≡ start + 4 * (length ws - 1) → ⊥
+      no_last there =
+          let i : Inst = inst.Addi (asks.copies j lt).rd (asks.copies j lt).rs (asks.copies j lt).imm in
+          let both : i ≡ known.last =
+          same_inst i known.last (sym copy ∙ ap (code_of pages) there ∙ stands.holds (length ws - 1) known.last known.ends) in
+          false≢true (ap is_store both ∙ known.stores)
+
+      by_place : (k + 1 < length ws) ⊎ (length ws ≤ k + 1) → ⊥
+      by_place (inl before) =
+          let first = one in
+          not_asked (k + 1) (omega arith) before
+      by_place (inr last) =
+          let some = known.some in
+          let here : k ≡ length ws - 1 = omega arith in
+          no_last (same ∙ ap (λ n. start + 4 * n) here)
+
   -- a word of both
-  by_word : (j k : ℕ) → j < 4 → at + 4 * j ≡ start + 4 * k → k < length ws → ⊥
-  by_word zero k lt same within = not_early (at + 4 * 0) k (inst.Lw 5 p.area (pos 0)) word_0 refl same within
-  by_word (suc zero) k lt same within = not_upper k same within
-  by_word (suc (suc zero)) k lt same within = not_lower k same within
-  by_word (suc (suc (suc zero))) k lt same within = not_store k same within
-  by_word (suc (suc (suc (suc j)))) k lt same within = absurd (omega arith)
+  behind_lead : (i j k : ℕ) → j ≡ lead + i → i < 4 → at + 4 * j ≡ start + 4 * k → k < length ws → ⊥
+  behind_lead zero j k is lt same within = not_asked k (omega arith) within
+  behind_lead (suc zero) j k is lt same within = not_upper k (omega arith) within
+  behind_lead (suc (suc zero)) j k is lt same within = not_lower k (omega arith) within
+  behind_lead (suc (suc (suc zero))) j k is lt same within = not_store k (omega arith) within
+  behind_lead (suc (suc (suc (suc i)))) j k is lt same within = absurd (omega arith)
+
+  by_word : (j k : ℕ) → j < lead + 4 → at + 4 * j ≡ start + 4 * k → k < length ws → ⊥
+  by_word j k lt same within = by_lead (cases_lt j lead)
+    where
+      by_lead : (j < lead) ⊎ (lead ≤ j) → ⊥
+      by_lead (inl before) = not_copy j k before same within
+      by_lead (inr past) = behind_lead (j - lead) j k (omega arith) (omega arith) same within
 
   aligned : at % 4 ≡ 0
   aligned =
-      let i : Inst = inst.Lw 5 p.area (pos 0) in
-      let first = held_aligned pages (at + 4 * 0) i (held.holds 0 i refl) in
+      let first = held_aligned pages (at + 4 * lead) (inst.Lw 5 p.area (pos 0)) word_0 in
       omega (arith, first)
 
   start_aligned : start % 4 ≡ 0
   start_aligned =
-      let first = held_aligned pages (start + 4 * 0) (inst.Lw 6 q.area (pos 4)) (stands.holds 0 (inst.Lw 6 q.area (pos 4)) starts) in
+      let first = held_aligned pages (start + 4 * 0) (inst.Lw 6 q.area (pos 4)) (stands.holds 0 (inst.Lw 6 q.area (pos 4)) known.starts) in
       omega (arith, first)
 
   -- an address of both
-  by_address : (d e : ℕ) → at + d ≡ start + e → d < 16 → e < 4 * length ws → ⊥
+  by_address : (d e : ℕ) → at + d ≡ start + e → d < 4 * (lead + 4) → e < 4 * length ws → ⊥
   by_address d e same near within =
       by_word (d / 4) (e / 4) (omega arith) (omega (arith, aligned, start_aligned)) (omega arith)
 
@@ -148,78 +200,80 @@ module _ (pages : List ImagePage) (p : Slots) (at : ℕ) (area : Area) (x : Plac
       → pc % 2 ^ 64 ≡ from + (pc + (2 ^ 64 - from)) % 2 ^ 64
   near_at from pc n low_from small near = omega arith
 
-  apart : (pc : ℕ) → is_before (placed_add p at area) pc ≡ true → is_inside x.range pc ≡ false
+  apart : (pc : ℕ) → is_before (placed_of form at area) pc ≡ true → is_inside x.range pc ≡ false
   apart pc here = by_test (is_inside x.range pc) refl
     where
-      near : (pc + (2 ^ 64 - at)) % 2 ^ 64 < 16
+      near : (pc + (2 ^ 64 - at)) % 2 ^ 64 < 4 * (lead + 4)
       near =
-          let lt = ltb-true ((pc + (2 ^ 64 - at)) % 2 ^ 64) ((at + 16 + (2 ^ 64 - at)) % 2 ^ 64) here in omega arith
+          let small = one in
+          let all = asks.all in
+          let first : (at + 4 * form.first + (2 ^ 64 - at)) % 2 ^ 64 ≡ 4 * (lead + 4) = omega arith in
+          let lt = ltb-true ((pc + (2 ^ 64 - at)) % 2 ^ 64) ((at + 4 * form.first + (2 ^ 64 - at)) % 2 ^ 64) here in
+          omega arith
 
       by_test : (c : Bool) → is_inside x.range pc ≡ c → is_inside x.range pc ≡ false
       by_test false out = out
       by_test true inside =
+          let small = one in
+          let few = known.few in
           let within = ltb-true ((pc + (2 ^ 64 - start)) % 2 ^ 64) x.range.length inside in
-          let one = near_at at pc 16 low (omega arith) near in
-          let two = near_at start pc x.range.length low_start (omega (arith, long)) within in
-          absurd (by_address ((pc + (2 ^ 64 - at)) % 2 ^ 64) ((pc + (2 ^ 64 - start)) % 2 ^ 64) (sym one ∙ two) near
-          (omega (arith, long)))
+          let one_way = near_at at pc (4 * (lead + 4)) low (omega arith) near in
+          let other_way = near_at start pc x.range.length low_start (omega (arith, long)) within in
+          absurd (by_address ((pc + (2 ^ 64 - at)) % 2 ^ 64) ((pc + (2 ^ 64 - start)) % 2 ^ 64) (sym one_way ∙ other_way)
+          near (omega (arith, long)))
 
-module _ (pages : List ImagePage) (p : Slots) (at : ℕ) (area : Area) (x : Placed)
-    (held : AreHeld (code_of pages) at (add_block p)) (low : at < 2 ^ 37) where
+module _ (pages : List ImagePage) (form : Form) (lead : ℕ) (asks : AsksFirst form lead) (one : lead ≤ 1) (at : ℕ)
+    (area : Area) (x : Placed) (held : AreHeld (code_of pages) at form.words) (low : at < 2 ^ 37) where
   of_sequence : (q : Slots) (base shift : ℕ) (inside : List Line) (its : HoldsSequence (code_of pages) x q base shift inside)
-      → length (instructions its.labels its.first (sequence_lines q base shift inside)) ≤ 100
-      → AreLate (instructions its.labels its.first (sequence_lines q base shift inside))
-      → LiesBeside (placed_add p at area) x
-  of_sequence q base shift inside its few are = record {
+      → IsKnown q (instructions its.labels its.first (sequence_lines q base shift inside))
+      → LiesBeside (placed_of form at area) x
+  of_sequence q base shift inside its known = record {
     low_table = let small = its.low_table in omega arith;
-    apart = apart pages p at area x q (instructions its.labels its.first (sequence_lines q base shift inside)) held low
-        its.stands its.long few (omega arith) its.low are refl;
+    apart = apart pages form lead asks one at area x q
+        (instructions its.labels its.first (sequence_lines q base shift inside)) held low its.stands its.long its.low known;
   }
 
-  pub beside : IsOfLibrary (code_of pages) x → LiesBeside (placed_add p at area) x
+  pub beside : IsOfLibrary (code_of pages) x → LiesBeside (placed_of form at area) x
   beside (is_add q base its) =
-      of_sequence q base 6 (add_steps q) its (omega arith) (
-        late _ refl,
-        (
-          to_retry (index_of its.labels base) (its.first + 1) its.retry its.bound_retry,
-          (late _ refl, (late _ refl, (late _ refl, (late _ refl, (late _ refl, tt))))),
-        ),
-      )
-  beside (is_push q base its) =
-      of_sequence q base 6 (push_steps q) its (omega arith) (
-        late _ refl,
-        (
-          to_retry (index_of its.labels base) (its.first + 1) its.retry its.bound_retry,
-          (late _ refl, (late _ refl, (late _ refl, (late _ refl, (late _ refl, tt))))),
-        ),
-      )
-  beside (is_pop q base its) =
-      of_sequence q base 6 (pop_steps q base) its (omega arith) (
-        late _ refl,
-        (
-          to_retry (index_of its.labels base) (its.first + 1) its.retry its.bound_retry,
+      of_sequence q base 6 (add_steps q) its (record {
+        few = omega arith;
+        some = omega arith;
+        late = (
+          late _ refl,
           (
-            late _ refl,
-            (
-              late _ refl,
-              (
-                late _ refl,
-                (
-                  to_leave q.value 0 (index_of its.labels (base + 2)) (its.first + 1 + 1 + 1 + 1 + 1) its.leave its.bound_leave,
-                  (late _ refl, (late _ refl, tt)),
-                ),
-              ),
-            ),
+            to_retry (index_of its.labels base) (its.first + 1) its.retry its.bound_retry,
+            (late _ refl, (late _ refl, (late _ refl, (late _ refl, (late _ refl, tt))))),
           ),
-        ),
-      )
-  beside (is_alloc q base its) =
-      of_sequence q base 13 (alloc_steps q base) its (omega arith) (
-        late _ refl,
-        (
-          to_retry (index_of its.labels base) (its.first + 1) its.retry its.bound_retry,
+        );
+        starts = refl;
+        last = inst.Sd 5 6 (pos 0);
+        ends = refl;
+        stores = refl;
+      })
+  beside (is_push q base its) =
+      of_sequence q base 6 (push_steps q) its (record {
+        few = omega arith;
+        some = omega arith;
+        late = (
+          late _ refl,
           (
-            late _ refl,
+            to_retry (index_of its.labels base) (its.first + 1) its.retry its.bound_retry,
+            (late _ refl, (late _ refl, (late _ refl, (late _ refl, (late _ refl, tt))))),
+          ),
+        );
+        starts = refl;
+        last = inst.Sd 5 q.value (pos 0);
+        ends = refl;
+        stores = refl;
+      })
+  beside (is_pop q base its) =
+      of_sequence q base 6 (pop_steps q base) its (record {
+        few = omega arith;
+        some = omega arith;
+        late = (
+          late _ refl,
+          (
+            to_retry (index_of its.labels base) (its.first + 1) its.retry its.bound_retry,
             (
               late _ refl,
               (
@@ -227,22 +281,27 @@ module _ (pages : List ImagePage) (p : Slots) (at : ℕ) (area : Area) (x : Plac
                 (
                   late _ refl,
                   (
-                    to_leave 6 0 (index_of its.labels (base + 2)) (its.first + 1 + 1 + 1 + 1 + 1 + 1) its.leave its.bound_leave,
-                    (late _ refl, (late _ refl, (late _ refl, (late _ refl, (late _ refl, tt))))),
+                    to_leave q.value 0 (index_of its.labels (base + 2)) (its.first + 1 + 1 + 1 + 1 + 1) its.leave its.bound_leave,
+                    (late _ refl, (late _ refl, tt)),
                   ),
                 ),
               ),
             ),
           ),
-        ),
-      )
-  beside (is_free q base its) =
-      of_sequence q base 13 (free_steps q base) its (omega arith) (
-        late _ refl,
-        (
-          to_retry (index_of its.labels base) (its.first + 1) its.retry its.bound_retry,
+        );
+        starts = refl;
+        last = inst.Sd 5 6 (pos 0);
+        ends = refl;
+        stores = refl;
+      })
+  beside (is_alloc q base its) =
+      of_sequence q base 13 (alloc_steps q base) its (record {
+        few = omega arith;
+        some = omega arith;
+        late = (
+          late _ refl,
           (
-            late _ refl,
+            to_retry (index_of its.labels base) (its.first + 1) its.retry its.bound_retry,
             (
               late _ refl,
               (
@@ -250,9 +309,9 @@ module _ (pages : List ImagePage) (p : Slots) (at : ℕ) (area : Area) (x : Plac
                 (
                   late _ refl,
                   (
-                    to_leave 6 7 (index_of its.labels (base + 2)) (its.first + 1 + 1 + 1 + 1 + 1 + 1) its.leave its.bound_leave,
+                    late _ refl,
                     (
-                      late _ refl,
+                      to_leave 6 0 (index_of its.labels (base + 2)) (its.first + 1 + 1 + 1 + 1 + 1 + 1) its.leave its.bound_leave,
                       (late _ refl, (late _ refl, (late _ refl, (late _ refl, (late _ refl, tt))))),
                     ),
                   ),
@@ -260,5 +319,43 @@ module _ (pages : List ImagePage) (p : Slots) (at : ℕ) (area : Area) (x : Plac
               ),
             ),
           ),
-        ),
-      )
+        );
+        starts = refl;
+        last = inst.Sd 5 6 (pos 0);
+        ends = refl;
+        stores = refl;
+      })
+  beside (is_free q base its) =
+      of_sequence q base 13 (free_steps q base) its (record {
+        few = omega arith;
+        some = omega arith;
+        late = (
+          late _ refl,
+          (
+            to_retry (index_of its.labels base) (its.first + 1) its.retry its.bound_retry,
+            (
+              late _ refl,
+              (
+                late _ refl,
+                (
+                  late _ refl,
+                  (
+                    late _ refl,
+                    (
+                      to_leave 6 7 (index_of its.labels (base + 2)) (its.first + 1 + 1 + 1 + 1 + 1 + 1) its.leave its.bound_leave,
+                      (
+                        late _ refl,
+                        (late _ refl, (late _ refl, (late _ refl, (late _ refl, (late _ refl, tt))))),
+                      ),
+                    ),
+                  ),
+                ),
+              ),
+            ),
+          ),
+        );
+        starts = refl;
+        last = inst.Sd 5 6 (pos 0);
+        ends = refl;
+        stores = refl;
+      })

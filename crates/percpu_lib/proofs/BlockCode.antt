@@ -204,7 +204,7 @@ module _ (s : Setting) (form : Form) (at : ℕ) (area : Area) (formed : IsFormed
           sym (ap (option_map (λ j. meaning j f.file f.pc)) there) ∙ is in
           one_effect e (meaning i f.file f.pc) (sym same)
 
-      outcome_is : o ≡ outcome seen f.file f.pc r (meaning i f.file f.pc)
+      pub outcome_is : o ≡ outcome seen f.file f.pc r (meaning i f.file f.pc)
       outcome_is = ap (outcome seen f.file f.pc r) effect_is
 
     -- behind the LUI, and behind the ADDI
@@ -255,7 +255,7 @@ module _ (s : Setting) (form : Form) (at : ℕ) (area : Area) (formed : IsFormed
         }
 
     module _ (k : ℕ) (pc : f.pc ≡ at + 4 * k) (lt : k < length form.words) (know : Know k f.file) where
-      it : IsInstruction form form.words 0 k
+      pub it : IsInstruction form form.words 0 k
       it = instruction (word_there form 0 form.words k formed.words lt)
         where
           instruction : (0 + k ≡ committed form + 1) ⊎ IsInstruction form form.words 0 k
@@ -274,11 +274,8 @@ module _ (s : Setting) (form : Form) (at : ℕ) (area : Area) (formed : IsFormed
           ap (λ (y : Outcome). register y.regs x) (outcome_is k it.i pc it.there)
           ∙ leads.tame.keeps seen f.file f.pc r x kept
 
-      abbrev Next : Type 0
-      Next = (to : ℕ) × Leads form k to × (o.pc ≡ at + 4 * to)
-
-      next : Next
-      next =
+      pub leads_at : (to : ℕ) × Leads form k to × (o.pc ≡ at + 4 * to)
+      leads_at =
           let goes = leads.leads seen f.file f.pc at r pc aligned low_at in
           (goes.0, goes.1, ap (λ (y : Outcome). y.pc) (outcome_is k it.i pc it.there) ∙ goes.2)
 
@@ -299,7 +296,7 @@ module _ (s : Setting) (form : Form) (at : ℕ) (area : Area) (formed : IsFormed
 
         goes_at : in_block b o.pc ≡ true → KnowsAt b Know after
         goes_at now =
-            let go = next in
+            let go = leads_at in
             let to = go.0 in
             let all = formed.short in
             let below : to < length form.words = within_block to (leads_near to go.1) (sym (ap (in_block b) go.2) ∙ now) in
@@ -319,7 +316,7 @@ module _ (s : Setting) (form : Form) (at : ℕ) (area : Area) (formed : IsFormed
       starts_at : register f.file form.slots.area ≡ area.at → is_inside (range_of form at) o.pc ≡ true
           → (is_inside (range_of form at) f.pc ≡ true) ⊎ StoresPointer b o
       starts_at area_is now =
-          let go = next in
+          let go = leads_at in
           let here : is_inside (range_of form at) (at + 4 * go.0) ≡ true =
           sym (ap (is_inside (range_of form at)) go.2) ∙ now in
           from go.0 go.1 here

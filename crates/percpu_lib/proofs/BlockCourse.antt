@@ -2,8 +2,8 @@
 -- instructions as stand before it, by a sequence that is whole.
 use Rattle.std.proofs.Common.{◌≡◌, ℕ, zero, suc, ◌+◌, ◌*◌, ◌-◌, ◌%◌, ◌^◌, ◌<◌, ◌≤◌, ◌⊎◌, inl, inr, List, ◌++◌}
 use Rattle.std.proofs.Common.{[], ◌∷◌, refl, sym, ap, ◌∙◌, arith, subst, Bool, true, false, eqb, ltb}
-use Rattle.std.proofs.Common.{Option, Some, None, pos, length, slice_get}
-use Rattle.std.proofs.lemmas.Bool.{lt-ltb}
+use Rattle.std.proofs.Common.{Option, Some, None, ℤ, pos, length, slice_get}
+use Rattle.std.proofs.lemmas.Bool.{cases_lt, lt-ltb}
 use Rattle.mach_types.proofs.Laws.{eqb_same}
 use Rattle.mach_types.specs.Events.{choice_with}
 use Rattle.mach_types.specs.Kernel.Areas.{is_inside}
@@ -11,13 +11,14 @@ use Rattle.mach_types.specs.Kernel.Threads.{running_on}
 use Rattle.mach_types.specs.Registers.{register}
 use Rattle.mach_types.specs.declared.events.Entry.{Entry}
 use Rattle.mach_types.specs.declared.events.Kind.TheVariants as kind
+use Rattle.mach_types.specs.declared.registers.Regs.{Regs}
 use Rattle.mach_types.specs.declared.sequences.Area.{Area}
 use Rattle.mach_types.specs.declared.threads.Saved.{Saved}
 use Rattle.rv_inst.specs.declared.instruction.Inst.{Inst}
 use Rattle.rv_inst.specs.declared.instruction.Inst.TheVariants as inst
 use Rattle.rv_inst.specs.Memory.{low_bytes}
 use Rattle.rv_inst.specs.Words.{sum_64, word}
-use Rattle.alone.specs.Temps.{is_scratch}
+use Rattle.alone.specs.Temps.{IsLike, is_scratch}
 use Rattle.alone.proofs.Laws.{loaded_small}
 use Rattle.alone.proofs.Means.{means_addi, means_lui, means_lw, means_sd}
 use Rattle.block_model.specs.Acts.{Sequence, begun_with, is_inside_at}
@@ -54,16 +55,27 @@ use Rattle.percpu_lib.proofs.BlockCode.{KnowsTable}
 use Rattle.percpu_lib.proofs.Courses.{HasCourse, IsCourse}
 use Rattle.percpu_lib.proofs.UsesLaw.{fair_since, held_before, inside_start, is_code, is_placed, place_there}
 
--- the words before the sequence, where these four are all
-pub record AsksFirst (form : Form) : Type 0 where
-  pub four : form.first ≡ 4
-  pub lw : slice_get form.words 0 ≡ Some (Some (inst.Lw 5 form.slots.area (pos 0)))
-  pub lui : slice_get form.words 1 ≡ Some (Some (inst.Lui 6 (upper form.slots.table)))
-  pub addi : slice_get form.words 2 ≡ Some (Some (inst.Addi 6 6 (lower form.slots.table)))
-  pub store : slice_get form.words 3 ≡ Some (Some (inst.Sd form.slots.area 6 (pos 8)))
+-- a word that copies a register, or a sum, into one that every block may change
+pub record IsCopy (form : Form) (k : ℕ) : Type 0 where
+  pub rd : ℕ
+  pub rs : ℕ
+  pub imm : ℤ
+  pub there : slice_get form.words k ≡ Some (Some (inst.Addi rd rs imm))
+  pub scratch : is_scratch rd ≡ true
+  pub some : eqb rd 0 ≡ false
+  pub low : rd < 32
+
+-- the words before the sequence: so many that copy, and then these four
+pub record AsksFirst (form : Form) (lead : ℕ) : Type 0 where
+  pub all : form.first ≡ lead + 4
+  pub copies : (k : ℕ) → k < lead → IsCopy form k
+  pub lw : slice_get form.words lead ≡ Some (Some (inst.Lw 5 form.slots.area (pos 0)))
+  pub lui : slice_get form.words (lead + 1) ≡ Some (Some (inst.Lui 6 (upper form.slots.table)))
+  pub addi : slice_get form.words (lead + 2) ≡ Some (Some (inst.Addi 6 6 (lower form.slots.table)))
+  pub store : slice_get form.words (lead + 3) ≡ Some (Some (inst.Sd form.slots.area 6 (pos 8)))
 
 module _ (s : Setting) (form : Form) (at : ℕ) (area : Area) (h t : ℕ) (law : HasCourse form)
-    (asks : AsksFirst form) where
+    (lead : ℕ) (asks : AsksFirst form lead) where
   abbrev b : Placed
   b = placed_of form at area
 
@@ -90,7 +102,7 @@ module _ (s : Setting) (form : Form) (at : ℕ) (area : Area) (h t : ℕ) (law :
   record IsComing (n : ℕ) (before : History) : Type 0 where
     runs : running s h before ≡ Some t
     pc : (file s t before).pc ≡ at + 4 * n
-    chosen : 1 ≤ n → register (file s t before).file 5 ≡ h
+    chosen : lead + 1 ≤ n → register (file s t before).file 5 ≡ h
     closed : 1 ≤ n → sequence_on s h before ≡ None
 
   -- in the sequence: so many instructions of it
@@ -106,7 +118,7 @@ module _ (s : Setting) (form : Form) (at : ℕ) (area : Area) (h t : ℕ) (law :
 
   -- so many instructions may be left behind the next
   data IsLeft (m : ℕ) (before : History) : Type 0 where
-    coming : (n : ℕ) → n + m + 1 ≡ committed form → n ≤ 4 → IsComing n before → IsLeft m before
+    coming : (n : ℕ) → n + m + 1 ≡ committed form → n ≤ lead + 4 → IsComing n before → IsLeft m before
     going : (n : ℕ) → n + m + 1 ≡ form.inside → IsGoing n before → IsLeft m before
 
   -- AN EVENT
@@ -269,12 +281,12 @@ module _ (s : Setting) (form : Form) (at : ℕ) (area : Area) (h t : ℕ) (law :
             (held.used.1.fair h q.begun was.begun (inr (q, was.is, refl))) own executes inside was.so)
 
         -- the first one
-        executed_first : (m : ℕ) → m + 1 ≡ form.inside → IsComing 4 before → Next m
+        executed_first : (m : ℕ) → m + 1 ≡ form.inside → IsComing (lead + 4) before → Next m
         executed_first m sum was =
             let block = block_of s form at area h t before in
             let lt = step.good.lt in
             let few = held.few in
-            let four = asks.four in
+            let four = asks.all in
             let start : IsAtStart s (at + 4 * form.first) h t before =
             record { runs = was.runs; pc = was.pc ∙ omega arith } in
             let in_it : IsIn s (range_of form at) t before =
@@ -291,11 +303,11 @@ module _ (s : Setting) (form : Form) (at : ℕ) (area : Area) (h t : ℕ) (law :
             (starts s block h t before was.runs sole before refl))
 
         -- BEFORE THE SEQUENCE
-        module _ (n : ℕ) (few : n ≤ 3) (was : IsComing n before) where
+        module _ (n : ℕ) (few : n ≤ lead + 3) (was : IsComing n before) where
           before_start : is_before b (file s t before).pc ≡ true
           before_start =
               let low = held.low in
-              let four = asks.four in
+              let four = asks.all in
               ap (λ x. ltb ((x + (2 ^ 64 - at)) % 2 ^ 64) ((at + 4 * form.first + (2 ^ 64 - at)) % 2 ^ 64)) was.pc
               ∙ lt-ltb ((at + 4 * n + (2 ^ 64 - at)) % 2 ^ 64) ((at + 4 * form.first + (2 ^ 64 - at)) % 2 ^ 64) (omega arith)
 
@@ -308,7 +320,7 @@ module _ (s : Setting) (form : Form) (at : ℕ) (area : Area) (h t : ℕ) (law :
           area_is : register (file s t before).file p.area ≡ area.at
           area_is =
               let low = held.low in
-              let four = asks.four in
+              let four = asks.all in
               let within = law.formed.within in
               let all = law.formed.short in
               held.uses.1.registers h was.runs
@@ -316,14 +328,15 @@ module _ (s : Setting) (form : Form) (at : ℕ) (area : Area) (h t : ℕ) (law :
               ∙ lt-ltb ((at + 4 * n + (2 ^ 64 - at)) % 2 ^ 64) (4 * length form.words) (omega arith))
 
           came : (m : ℕ) → n + m + 1 ≡ committed form → running s h (e ∷ before) ≡ Some t
-              → (file s t (e ∷ before)).pc ≡ at + 4 * suc n → register (file s t (e ∷ before)).file 5 ≡ h → Next m
-          came m sum runs pc five = let four = asks.four in let inside = law.formed.inside in inr (
+              → (file s t (e ∷ before)).pc ≡ at + 4 * suc n
+              → (lead + 1 ≤ suc n → register (file s t (e ∷ before)).file 5 ≡ h) → Next m
+          came m sum runs pc five = let four = asks.all in let inside = law.formed.inside in inr (
             committed form - 2 - n,
             omega arith,
             coming (suc n) (omega arith) (omega arith) (record {
               runs = runs;
               pc = pc;
-              chosen = λ some. five;
+              chosen = five;
               closed = λ some. none_open s h e before own outside;
             }),
           )
@@ -331,71 +344,121 @@ module _ (s : Setting) (form : Form) (at : ℕ) (area : Area) (h t : ℕ) (law :
         abbrev bytes : ℕ → Bool
         bytes = among area.at 32
 
-        read_chosen : (m : ℕ) → 0 + m + 1 ≡ committed form → IsComing 0 before → Next m
+        copied : (n m : ℕ) → n < lead → n + m + 1 ≡ committed form → IsComing n before → Next m
+        copied n m lt sum was =
+            let low = held.low in
+            let four = asks.all in
+            let near = law.formed.short in
+            let within = law.formed.within in
+            let may = can n (omega arith) was in
+            let c = asks.copies n lt in
+            let i : Inst = inst.Addi c.rd c.rs c.imm in
+            let f = (file s t before).file in
+            let v = sum_64 (register f c.rs) (word c.imm) in
+            let next = step_next s h t e before run own executes was.runs bytes may.usable is_scratch (at + 4 * n)
+            was.pc i (held.stands.holds n i c.there) c.rd v (at + 4 * suc n)
+            (λ g like. means_addi g (at + 4 * n) (at + 4 * suc n) (omega arith) c.rd c.rs c.imm (register f c.rs) v
+            (unchanged f g like c.rs (is_scratch c.rs) refl) refl) c.scratch c.some c.low in
+            came n (omega arith) was m sum next.runs_on next.goes_to (λ some. absurd (omega arith))
+          where
+            unchanged : (f g : Regs) → IsLike is_scratch f (register f) g → (r : ℕ) (b : Bool) → is_scratch r ≡ b
+                → register g r ≡ register f r
+            unchanged f g like r true is = like.temp r is
+            unchanged f g like r false is = like.rest r is
+
+        read_chosen : (m : ℕ) → lead + m + 1 ≡ committed form → IsComing lead before → Next m
         read_chosen m sum was =
             let low = held.low in
             let low_area = held.low_area in
-            let may = can 0 (omega arith) was in
+            let near = law.formed.short in
+            let within = law.formed.within in
+            let may = can lead (omega arith) was in
             let i : Inst = inst.Lw 5 p.area (pos 0) in
             let one = step.good.lt in
             let few = held.few in
             let low_cpu : h < 8 = omega (arith, own) in
-            let next = step_load s h t e before run own executes was.runs bytes may.usable is_scratch (at + 4 * 0)
-            was.pc i (held.stands.holds 0 i asks.lw) area.at 4 5 h (at + 4 * 1) true
-            (λ f like. means_lw f (at + 4 * 0) 5 p.area (pos 0) area.at area.at
-            (like.rest p.area held.slots.area ∙ area_is 0 (omega arith) was) (omega arith))
+            let next = step_load s h t e before run own executes was.runs bytes may.usable is_scratch (at + 4 * lead)
+            was.pc i (held.stands.holds lead i asks.lw) area.at 4 5 h (at + 4 * suc lead) true
+            (λ f like. means_lw f (at + 4 * lead) 5 p.area (pos 0) area.at area.at
+            (like.rest p.area held.slots.area ∙ area_is lead (omega arith) was) (omega arith))
             (each_among area.at 32 area.at 4 (omega arith) (omega arith))
             (tells_first s t area held.few before h run.0 held.processor.0 was.runs may.registered) refl refl
             (omega arith) (omega arith) in
-            came 0 (omega arith) was m sum next.runs_on next.goes_to (next.like.temp 5 refl ∙ loaded_small h low_cpu)
+            came lead (omega arith) was m sum next.runs_on next.goes_to
+            (λ some. next.like.temp 5 refl ∙ loaded_small h low_cpu)
 
-        upper_set : (m : ℕ) → 1 + m + 1 ≡ committed form → IsComing 1 before → Next m
+        upper_set : (m : ℕ) → lead + 1 + m + 1 ≡ committed form → IsComing (lead + 1) before → Next m
         upper_set m sum was =
             let low = held.low in
-            let may = can 1 (omega arith) was in
+            let near = law.formed.short in
+            let within = law.formed.within in
+            let may = can (lead + 1) (omega arith) was in
             let i : Inst = inst.Lui 6 (upper p.table) in
-            let next = step_next s h t e before run own executes was.runs bytes may.usable is_scratch (at + 4 * 1)
-            was.pc i (held.stands.holds 1 i asks.lui) 6 (word (upper p.table)) (at + 4 * 2)
-            (λ f like. means_lui f (at + 4 * 1) (at + 4 * 2) (omega arith) 6 (upper p.table) (word (upper p.table))
-            refl) refl refl (omega arith) in
-            came 1 (omega arith) was m sum next.runs_on next.goes_to
-            (next.like.temp 5 refl ∙ was.chosen (omega arith))
+            let next = step_next s h t e before run own executes was.runs bytes may.usable is_scratch
+            (at + 4 * (lead + 1)) was.pc i (held.stands.holds (lead + 1) i asks.lui) 6 (word (upper p.table))
+            (at + 4 * suc (lead + 1))
+            (λ f like. means_lui f (at + 4 * (lead + 1)) (at + 4 * suc (lead + 1)) (omega arith) 6 (upper p.table)
+            (word (upper p.table)) refl) refl refl (omega arith) in
+            came (lead + 1) (omega arith) was m sum next.runs_on next.goes_to
+            (λ some. next.like.temp 5 refl ∙ was.chosen (omega arith))
 
-        lower_set : (m : ℕ) → 2 + m + 1 ≡ committed form → IsComing 2 before → Next m
+        lower_set : (m : ℕ) → lead + 2 + m + 1 ≡ committed form → IsComing (lead + 2) before → Next m
         lower_set m sum was =
             let low = held.low in
-            let may = can 2 (omega arith) was in
+            let near = law.formed.short in
+            let within = law.formed.within in
+            let may = can (lead + 2) (omega arith) was in
             let i : Inst = inst.Addi 6 6 (lower p.table) in
             let six = register (file s t before).file 6 in
-            let next = step_next s h t e before run own executes was.runs bytes may.usable is_scratch (at + 4 * 2)
-            was.pc i (held.stands.holds 2 i asks.addi) 6 (sum_64 six (word (lower p.table))) (at + 4 * 3)
-            (λ f like. means_addi f (at + 4 * 2) (at + 4 * 3) (omega arith) 6 6 (lower p.table) six
+            let next = step_next s h t e before run own executes was.runs bytes may.usable is_scratch
+            (at + 4 * (lead + 2)) was.pc i (held.stands.holds (lead + 2) i asks.addi) 6
+            (sum_64 six (word (lower p.table))) (at + 4 * suc (lead + 2))
+            (λ f like. means_addi f (at + 4 * (lead + 2)) (at + 4 * suc (lead + 2)) (omega arith) 6 6 (lower p.table) six
             (sum_64 six (word (lower p.table))) (like.temp 6 refl) refl) refl refl (omega arith) in
-            came 2 (omega arith) was m sum next.runs_on next.goes_to
-            (next.like.temp 5 refl ∙ was.chosen (omega arith))
+            came (lead + 2) (omega arith) was m sum next.runs_on next.goes_to
+            (λ some. next.like.temp 5 refl ∙ was.chosen (omega arith))
 
-        pointer_stored : (m : ℕ) → 3 + m + 1 ≡ committed form → IsComing 3 before → Next m
+        pointer_stored : (m : ℕ) → lead + 3 + m + 1 ≡ committed form → IsComing (lead + 3) before → Next m
         pointer_stored m sum was =
             let low = held.low in
             let low_area = held.low_area in
-            let may = can 3 (omega arith) was in
+            let near = law.formed.short in
+            let within = law.formed.within in
+            let may = can (lead + 3) (omega arith) was in
             let i : Inst = inst.Sd p.area 6 (pos 8) in
             let six = register (file s t before).file 6 in
-            let next = step_store s h t e before run own executes was.runs bytes may.usable is_scratch (at + 4 * 3)
-            was.pc i (held.stands.holds 3 i asks.store) (area.at + 8) 8 (low_bytes 8 six) (at + 4 * 4)
-            (λ f like. means_sd f (at + 4 * 3) p.area 6 (pos 8) area.at (area.at + 8) six (low_bytes 8 six)
-            (like.rest p.area held.slots.area ∙ area_is 3 (omega arith) was) (omega arith) (like.temp 6 refl) refl)
+            let next = step_store s h t e before run own executes was.runs bytes may.usable is_scratch
+            (at + 4 * (lead + 3)) was.pc i (held.stands.holds (lead + 3) i asks.store) (area.at + 8) 8 (low_bytes 8 six)
+            (at + 4 * suc (lead + 3))
+            (λ f like. means_sd f (at + 4 * (lead + 3)) p.area 6 (pos 8) area.at (area.at + 8) six (low_bytes 8 six)
+            (like.rest p.area held.slots.area ∙ area_is (lead + 3) (omega arith) was) (omega arith) (like.temp 6 refl)
+            refl)
             (each_among area.at 32 (area.at + 8) 8 (omega arith) (omega arith)) (omega arith) in
-            came 3 (omega arith) was m sum next.runs_on next.goes_to
-            (next.like.temp 5 refl ∙ was.chosen (omega arith))
+            came (lead + 3) (omega arith) was m sum next.runs_on next.goes_to
+            (λ some. next.like.temp 5 refl ∙ was.chosen (omega arith))
 
-        executed_coming : (n m : ℕ) → n + m + 1 ≡ committed form → n ≤ 4 → IsComing n before → Next m
-        executed_coming zero m sum few was = read_chosen m sum was
-        executed_coming (suc zero) m sum few was = upper_set m sum was
-        executed_coming (suc (suc zero)) m sum few was = lower_set m sum was
-        executed_coming (suc (suc (suc zero))) m sum few was = pointer_stored m sum was
-        executed_coming (suc (suc (suc (suc zero)))) m sum few was = (let four = asks.four in executed_first m (omega arith) was)
-        executed_coming (suc (suc (suc (suc (suc n))))) m sum few was = absurd (omega arith)
+        -- at a word behind those that copy
+        executed_word : (n m j : ℕ) → n ≡ lead + j → n + m + 1 ≡ committed form → n ≤ lead + 4 → IsComing n before
+            → Next m
+        executed_word n m zero is sum few was =
+            read_chosen m (omega arith) (subst (λ k. IsComing k before) (omega arith) was)
+        executed_word n m (suc zero) is sum few was =
+            upper_set m (omega arith) (subst (λ k. IsComing k before) (omega arith) was)
+        executed_word n m (suc (suc zero)) is sum few was =
+            lower_set m (omega arith) (subst (λ k. IsComing k before) (omega arith) was)
+        executed_word n m (suc (suc (suc zero))) is sum few was =
+            pointer_stored m (omega arith) (subst (λ k. IsComing k before) (omega arith) was)
+        executed_word n m (suc (suc (suc (suc zero)))) is sum few was =
+            let four = asks.all in
+            executed_first m (omega arith) (subst (λ k. IsComing k before) (omega arith) was)
+        executed_word n m (suc (suc (suc (suc (suc j))))) is sum few was = absurd (omega arith)
+
+        executed_coming : (n m : ℕ) → n + m + 1 ≡ committed form → n ≤ lead + 4 → IsComing n before → Next m
+        executed_coming n m sum few was = by_lead (cases_lt n lead)
+          where
+            by_lead : (n < lead) ⊎ (lead ≤ n) → Next m
+            by_lead (inl lt) = copied n m lt sum was
+            by_lead (inr past) = executed_word n m (n - lead) (omega arith) sum few was
 
   -- each event
   apart : (m : ℕ) (e : Event) (before : History) → IsRunHistory s (e ∷ before) → IsAsked (e ∷ before)

@@ -1,11 +1,14 @@
 -- How the sequence of each block begins: it asks whether it still is on the chosen processor, and finds the
 -- address of that one's data.
-use Rattle.std.proofs.Common.{◌≡◌, ℕ, ◌+◌, ◌*◌, ◌-◌, ◌%◌, ◌^◌, ◌<◌, ◌≤◌, [], refl, sym, ap, ◌∙◌, arith, subst, inl, inr}
-use Rattle.std.proofs.Common.{Bool, true, false, eqb, ltb, Some, pos, negsuc}
-use Rattle.std.proofs.lemmas.Bool.{eqb-true, le-ltb}
-use Rattle.mach_types.specs.Bytes.{each_byte, word_at}
+use Rattle.std.proofs.Common.{◌≡◌, ℕ, ◌+◌, ◌*◌, ◌%◌, ◌^◌, ◌<◌, ◌≤◌, List, [], refl, sym, ap, ◌∙◌, arith, subst, inl, inr}
+use Rattle.std.proofs.Common.{Bool, true, false, eqb, slice_get, Some, pos, negsuc}
+use Rattle.std.proofs.lemmas.Bool.{eqb-true}
+use Rattle.std.proofs.lemmas.Int.{ints}
 use Rattle.mach_types.specs.Kernel.Areas.{is_inside}
 use Rattle.mach_types.specs.Registers.{register}
+use Rattle.mach_types.specs.declared.registers.Regs.{Regs}
+use Rattle.mach_types.specs.declared.sequences.Area.{Area}
+use Rattle.mach_types.specs.declared.user_memory.Store.{Store}
 use Rattle.rv_inst.specs.Words.{shift_left, sum_64}
 use Rattle.rv_inst.specs.declared.instruction.Inst.TheVariants as inst
 use Rattle.alone.specs.Alone.{Stand}
@@ -13,105 +16,138 @@ use Rattle.alone.specs.Paths.{KeepsOn, Path}
 use Rattle.alone.specs.Temps.{IsAt, put}
 use Rattle.alone.proofs.Laws.{loaded_small, word_unchanged}
 use Rattle.alone.proofs.Means.{means_add, means_bne_not, means_bne_taken, means_lw, means_slli}
-use Rattle.alone.proofs.Paths.{inside_is, leaves, then_branch, then_load, then_next}
+use Rattle.alone.proofs.Paths.{leaves, then_branch, then_load, then_next}
+use Rattle.alone_laws.specs.Blocks.{among}
+use Rattle.alone_laws.specs.Spans.{alone_from, code_of}
+use Rattle.block_model.specs.History.{History, file}
+use Rattle.block_model.specs.Setting.{Setting}
+use Rattle.percpu_lib.specs.Forms.{Form, IsBlockPlace, committed, range_of}
+use Rattle.percpu_lib.specs.Words.{AreHeld}
+use Rattle.percpu_lib.proofs.BlockCode.{IsFormed, before_range, within_range}
+use Rattle.percpu_lib.proofs.CourseLaw.{block, in_area, way}
 
--- what it takes: the words stand there, the registers hold the area and the data, and the area names a
--- processor
-pub record IsCellStart (w : Path) (at area cells cpu shift scale : ℕ) (area_register cells_register : ℕ)
-    : Type 0 where
-  pub lw : w.code (at + 16) ≡ Some (inst.Lw 6 area_register (pos 4))
-  pub bne : w.code (at + 20) ≡ Some (inst.Bne 6 5 (negsuc 19))
-  pub slli : w.code (at + 24) ≡ Some (inst.Slli 5 5 shift)
-  pub add : w.code (at + 28) ≡ Some (inst.Add 5 5 cells_register)
-  pub aligned : at % 4 ≡ 0
-  pub low : at < 2 ^ 37
-  pub start : w.range.start ≡ at + 16
-  pub long : 20 ≤ w.range.length
-  pub short : w.range.length < 2 ^ 10
-  pub five : w.may 5 ≡ true
-  pub six : w.may 6 ≡ true
-  pub area_kept : w.may area_register ≡ false
-  pub cells_kept : w.may cells_register ≡ false
-  pub area_is : register w.old area_register ≡ area
-  pub cells_is : register w.old cells_register ≡ cells
-  pub low_area : area + 32 ≤ 2 ^ 38
-  pub area_used : each_byte w.words (area + 4) 4 ≡ true
-  pub on_cpu : word_at w.seen (area + 4) 4 ≡ Some cpu
-  pub few : cpu < 8
-  pub shifts : shift_left cpu shift ≡ scale * cpu
-  pub fits : sum_64 (scale * cpu) cells ≡ cells + scale * cpu
-  pub inside : w.Inside []
-  pub left : eqb cpu (register w.old 5) ≡ false → (temps : ℕ → ℕ) → w.Left at temps []
+-- the first words of a sequence: they load the processor, go back to the retry label where it isn't the chosen one,
+-- and make the address of its data, which lie so many bytes apart
+pub record BeginsSo (form : Form) (shift scale : ℕ) : Type 0 where
+  pub lw : slice_get form.words form.first ≡ Some (Some (inst.Lw 6 form.slots.area (pos 4)))
+  pub bne : slice_get form.words (form.first + 1) ≡ Some (Some (inst.Bne 6 5 (negsuc (4 * form.first + 3))))
+  pub slli : slice_get form.words (form.first + 2) ≡ Some (Some (inst.Slli 5 5 shift))
+  pub add : slice_get form.words (form.first + 3) ≡ Some (Some (inst.Add 5 5 form.slots.cells))
+  pub long : 5 ≤ form.inside
+  pub five : form.may 5 ≡ true
+  pub six : form.may 6 ≡ true
+  pub area_kept : form.may form.slots.area ≡ false
+  pub cells_kept : form.may form.slots.cells ≡ false
+  pub shifts : (cpu : ℕ) → cpu < 8 → shift_left cpu shift ≡ scale * cpu
 
-module _ (w : Path) (at area cells cpu shift scale ra rc : ℕ)
-    (c : IsCellStart w at area cells cpu shift scale ra rc) where
-  pub in_range : (k pc : ℕ) → pc ≡ at + 16 + k → k < w.range.length → is_inside w.range pc ≡ true
-  in_range k pc is lt =
-      let low = c.low in
-      let short = c.short in
-      let start = c.start in
-      let same : w.range.start + k ≡ pc = omega arith in
-      subst (λ n. is_inside w.range n ≡ true) same (inside_is w.range k (omega arith) (omega arith) lt)
+module _ (s : Setting) (form : Form) (at : ℕ) (area : Area) (h t : ℕ) (begun : History)
+    (Inside : List Store → Type 0) (Done : (ℕ → ℕ) → List Store → Type 0)
+    (formed : IsFormed form) (held : AreHeld (code_of s.program.pages) at form.words)
+    (place : IsBlockPlace s form at area h t begun) where
+  abbrev w : Path
+  w = way s form at area h t begun Inside Done
 
-  retry_out : is_inside w.range at ≡ false
+  abbrev old : Regs
+  old = (file s t begun).file
+
+  short : committed form < 2 ^ 8
+  short =
+      let within = formed.within in
+      let all = formed.short in
+      omega arith
+
+  -- a word of the sequence
+  pub inside_at : (k : ℕ) → form.first ≤ k → k < committed form → is_inside (range_of form at) (at + 4 * k) ≡ true
+  inside_at k from lt = within_range form at k place.low short from lt
+
+  retry_out : is_inside (range_of form at) at ≡ false
   retry_out =
-      let low = c.low in
-      let start = c.start in
-      let short = c.short in
-      let far : (at + (2 ^ 64 - w.range.start)) % 2 ^ 64 ≡ 2 ^ 64 - 16 = omega arith in
-      ap (λ n. ltb n w.range.length) far ∙ le-ltb (2 ^ 64 - 16) w.range.length (omega arith)
+      let some = formed.some in
+      ap (is_inside (range_of form at)) (omega arith) ∙ before_range form at 0 place.low short (omega arith)
 
   -- from the start on: back to the retry label, or on to the rest, with the address in x5
-  pub to_cell : (temps : ℕ → ℕ) → temps 5 ≡ register w.old 5 → (x : Stand)
-      → IsAt w.may w.old (at + 16) temps [] x
-      → ((y : Stand) → IsAt w.may w.old (at + 32)
-      (put 5 (cells + scale * cpu) (put 5 (scale * cpu) (put 6 cpu temps))) [] y → KeepsOn w y)
-      → KeepsOn w x
-  to_cell temps chosen x was rest =
-      let low = c.low in
-      let low_area = c.low_area in
-      let long = c.long in
-      then_load w (at + 16) temps [] x was (in_range 0 (at + 16) (omega arith) (omega arith)) c.inside
-      (inst.Lw 6 ra (pos 4)) c.lw
-      (area + 4) 4 6 cpu (at + 20) true (λ f like. means_lw f (at + 16) 6 ra (pos 4) area (area + 4)
-      (like.rest ra c.area_kept ∙ c.area_is) (omega arith))
-      c.area_used (word_unchanged w.seen (area + 4) 4 ∙ c.on_cpu) c.six refl (omega arith) (omega arith)
-      (omega arith) (omega arith)
-      (λ y now. compared y (subst (λ n. IsAt w.may w.old (at + 20) (put 6 n temps) [] y)
-      (loaded_small cpu c.few) now) (eqb cpu (temps 5)) refl)
-    where
-      compared : (y : Stand) → IsAt w.may w.old (at + 20) (put 6 cpu temps) [] y → (b : Bool)
-          → eqb cpu (temps 5) ≡ b → KeepsOn w y
-      compared y was false differs =
-          let low = c.low in
-          let long = c.long in
-          then_branch w (at + 20) (put 6 cpu temps) [] y was
-          (in_range 4 (at + 20) (omega arith) (omega arith)) c.inside (inst.Bne 6 5 (negsuc 19)) c.bne 0
-          at
-          (λ f like. means_bne_taken f (at + 20) 6 5 (negsuc 19) cpu (temps 5) at (like.temp 6 c.six)
-          (like.temp 5 c.five) differs (omega arith) c.aligned)
-          (inr retry_out)
-          (λ z now. leaves w at (put 6 cpu temps) [] z now retry_out
-          (c.left (ap (λ n. eqb cpu n) (sym chosen) ∙ differs) (put 6 cpu temps)))
-      compared y was true same =
-          let low = c.low in
-          let long = c.long in
-          then_branch w (at + 20) (put 6 cpu temps) [] y was
-          (in_range 4 (at + 20) (omega arith) (omega arith)) c.inside (inst.Bne 6 5 (negsuc 19)) c.bne 0
-          (at + 24)
-          (λ f like. means_bne_not f (at + 20) (at + 24) (omega arith) 6 5 (negsuc 19) cpu (temps 5)
-          (like.temp 6 c.six) (like.temp 5 c.five) same)
-          (inl ((omega arith), (omega arith)))
-          (λ z now.
-          then_next w (at + 24) (put 6 cpu temps) [] z now (in_range 8 (at + 24) (omega arith) (omega arith))
-          c.inside (inst.Slli 5 5 shift) c.slli 5 (scale * cpu) (at + 28)
-          (λ f like. means_slli f (at + 24) (at + 28) (omega arith) 5 5 shift cpu (scale * cpu)
-          (like.temp 5 c.five ∙ sym (eqb-true cpu (temps 5) same)) c.shifts)
-          c.five refl (omega arith) (omega arith) (omega arith)
-          (λ u then.
-          then_next w (at + 28) (put 5 (scale * cpu) (put 6 cpu temps)) [] u then
-          (in_range 12 (at + 28) (omega arith) (omega arith)) c.inside (inst.Add 5 5 rc) c.add 5
-          (cells + scale * cpu) (at + 32)
-          (λ f like. means_add f (at + 28) (at + 32) (omega arith) 5 5 rc (scale * cpu) cells
-          (cells + scale * cpu) (like.temp 5 c.five) (like.rest rc c.cells_kept ∙ c.cells_is) c.fits)
-          c.five refl (omega arith) (omega arith) (omega arith) rest))
+  module _ (shift scale : ℕ) (begins : BeginsSo form shift scale) (nothing : Inside [])
+      (has : (a : ℕ) → among area.at 32 a ≡ true → (block s form at area h t begun Inside Done).words a ≡ true)
+      (cells : ℕ) (cells_is : register old form.slots.cells ≡ cells)
+      (fits : sum_64 (scale * h) cells ≡ cells + scale * h) where
+    abbrev pub temps_there : ℕ → ℕ
+    temps_there = put 5 (cells + scale * h) (put 5 (scale * h) (put 6 h (register old)))
+
+    abbrev Rest : Type 0
+    Rest = (y : Stand) → IsAt form.may old (at + 4 * (form.first + 4)) temps_there [] y → KeepsOn w y
+
+    back : (y : Stand) → IsAt form.may old (at + 4 * (form.first + 1)) (put 6 h (register old)) [] y
+        → eqb h (register old 5) ≡ false → KeepsOn w y
+    back y was differs =
+        let low = place.low in
+        let near = short in
+        let long = begins.long in
+        let even = place.aligned in
+        then_branch w (at + 4 * (form.first + 1)) (put 6 h (register old)) [] y was
+        (inside_at (form.first + 1) (omega arith) (omega arith)) nothing (inst.Bne 6 5 (negsuc (4 * form.first + 3)))
+        (held.holds (form.first + 1) (inst.Bne 6 5 (negsuc (4 * form.first + 3))) begins.bne) 0 at
+        (λ f like. means_bne_taken f (at + 4 * (form.first + 1)) 6 5 (negsuc (4 * form.first + 3)) h (register old 5) at
+        (like.temp 6 begins.six) (like.temp 5 begins.five) differs (omega (arith, ints)) even)
+        (inr retry_out)
+        (λ z now. leaves w at (put 6 h (register old)) [] z now retry_out (inl (refl, refl, differs)))
+
+    onward : (y : Stand) → IsAt form.may old (at + 4 * (form.first + 1)) (put 6 h (register old)) [] y
+        → eqb h (register old 5) ≡ true → Rest → KeepsOn w y
+    onward y was same rest =
+        let low = place.low in
+        let near = short in
+        let long = begins.long in
+        then_branch w (at + 4 * (form.first + 1)) (put 6 h (register old)) [] y was
+        (inside_at (form.first + 1) (omega arith) (omega arith)) nothing (inst.Bne 6 5 (negsuc (4 * form.first + 3)))
+        (held.holds (form.first + 1) (inst.Bne 6 5 (negsuc (4 * form.first + 3))) begins.bne) 0
+        (at + 4 * (form.first + 2))
+        (λ f like. means_bne_not f (at + 4 * (form.first + 1)) (at + 4 * (form.first + 2)) (omega arith) 6 5
+        (negsuc (4 * form.first + 3)) h (register old 5) (like.temp 6 begins.six) (like.temp 5 begins.five) same)
+        (inl ((omega arith), (omega arith)))
+        (λ z now.
+        then_next w (at + 4 * (form.first + 2)) (put 6 h (register old)) [] z now
+        (inside_at (form.first + 2) (omega arith) (omega arith)) nothing (inst.Slli 5 5 shift)
+        (held.holds (form.first + 2) (inst.Slli 5 5 shift) begins.slli) 5 (scale * h) (at + 4 * (form.first + 3))
+        (λ f like. means_slli f (at + 4 * (form.first + 2)) (at + 4 * (form.first + 3)) (omega arith) 5 5 shift h
+        (scale * h) (like.temp 5 begins.five ∙ sym (eqb-true h (register old 5) same)) (begins.shifts h place.few))
+        begins.five refl (omega arith) (omega arith) (omega arith)
+        (λ u then.
+        then_next w (at + 4 * (form.first + 3)) (put 5 (scale * h) (put 6 h (register old))) [] u then
+        (inside_at (form.first + 3) (omega arith) (omega arith)) nothing (inst.Add 5 5 form.slots.cells)
+        (held.holds (form.first + 3) (inst.Add 5 5 form.slots.cells) begins.add) 5 (cells + scale * h)
+        (at + 4 * (form.first + 4))
+        (λ f like. means_add f (at + 4 * (form.first + 3)) (at + 4 * (form.first + 4)) (omega arith) 5 5
+        form.slots.cells (scale * h) cells (cells + scale * h) (like.temp 5 begins.five)
+        (like.rest form.slots.cells begins.cells_kept ∙ cells_is) fits)
+        begins.five refl (omega arith) (omega arith) (omega arith) rest))
+
+    compared : (y : Stand) → IsAt form.may old (at + 4 * (form.first + 1)) (put 6 h (register old)) [] y → Rest
+        → (b : Bool) → eqb h (register old 5) ≡ b → KeepsOn w y
+    compared y was rest false differs = back y was differs
+    compared y was rest true same = onward y was same rest
+
+    stands_at_start : IsAt form.may old (at + 4 * form.first) (register old) [] (alone_from s h t begun 0)
+    stands_at_start = record {
+      pc = place.pc;
+      like = record { temp = λ r is. refl; rest = λ r is. refl; many = place.many };
+      executed = refl;
+    }
+
+    pub to_cell : Rest → KeepsOn w (alone_from s h t begun 0)
+    to_cell rest =
+        let low = place.low in
+        let low_area = place.low_area in
+        let near = short in
+        let long = begins.long in
+        then_load w (at + 4 * form.first) (register old) [] (alone_from s h t begun 0) stands_at_start
+        (inside_at form.first (omega arith) (omega arith)) nothing
+        (inst.Lw 6 form.slots.area (pos 4)) (held.holds form.first (inst.Lw 6 form.slots.area (pos 4)) begins.lw)
+        (area.at + 4) 4 6 h (at + 4 * (form.first + 1)) true
+        (λ f like. means_lw f (at + 4 * form.first) 6 form.slots.area (pos 4) area.at (area.at + 4)
+        (like.rest form.slots.area begins.area_kept ∙ place.area_is) (omega arith))
+        (in_area s form at area h t begun Inside Done has (area.at + 4) 4 (omega arith) (omega arith))
+        (word_unchanged w.seen (area.at + 4) 4 ∙ place.on_cpu) begins.six refl (omega arith) (omega arith)
+        (omega arith) (omega arith)
+        (λ y now. compared y
+        (subst (λ n. IsAt form.may old (at + 4 * (form.first + 1)) (put 6 n (register old)) [] y)
+        (loaded_small h place.few) now) rest (eqb h (register old 5)) refl)

@@ -131,10 +131,10 @@ binds (line.Branch x n ∷ xs) a b l is free stands = binds xs (with_item a (ite
 binds (line.Data w ∷ xs) a b l is free stands = binds xs (with_item a (item.Word w)) b l is free stands
 
 -- lines in two parts
-record Parts (xs ys : List Line) (a c : Assembly) : Type 0 where
-  between : Assembly
-  first : IsEmitted xs a between
-  rest : IsEmitted ys between c
+pub record Parts (xs ys : List Line) (a c : Assembly) : Type 0 where
+  pub between : Assembly
+  pub first : IsEmitted xs a between
+  pub rest : IsEmitted ys between c
 
 parts : (xs ys : List Line) (a c : Assembly) → IsEmitted (xs ++ ys) a c → Parts xs ys a c
 parts [] ys a c is = record { between = a; first = refl; rest = is }
@@ -160,16 +160,16 @@ module _ (p : Slots) (base shift : ℕ) (first inside aborted : List Line) (a b 
     (is : AreEmitted (block_lines p base shift first inside aborted) a b) (room : HasRoom a.labels base)
     (none_first : HasNoLabel first) (none_inside : HasNoLabel inside) (none_aborted : HasNoLabel aborted)
   where
-    abbrev from_aborted : List Line
+    abbrev pub from_aborted : List Line
     from_aborted = aborted ++ end_lines base
 
-    abbrev from_leave : List Line
+    abbrev pub from_leave : List Line
     from_leave = leave_lines base ++ from_aborted
 
-    abbrev from_inside : List Line
+    abbrev pub from_inside : List Line
     from_inside = inside ++ from_leave
 
-    abbrev from_start : List Line
+    abbrev pub from_start : List Line
     from_start = start_lines p base shift ++ from_inside
 
     -- where each of them stands
@@ -195,13 +195,13 @@ module _ (p : Slots) (base shift : ℕ) (first inside aborted : List Line) (a b 
         (one.0, index_is b (base + k) (Some one.0) one.1)
 
     -- the assembler before and behind the parts
-    first_part : Parts first from_start (with_label a base) b
+    pub first_part : Parts first from_start (with_label a base) b
     first_part = parts first from_start (with_label a base) b is.are
 
-    start_part : Parts (start_lines p base shift) from_inside first_part.between b
+    pub start_part : Parts (start_lines p base shift) from_inside first_part.between b
     start_part = parts (start_lines p base shift) from_inside first_part.between b first_part.rest
 
-    inside_part : Parts inside from_leave start_part.between b
+    pub inside_part : Parts inside from_leave start_part.between b
     inside_part = parts inside from_leave start_part.between b start_part.rest
 
     -- a later label is free up to there
@@ -219,7 +219,7 @@ module _ (p : Slots) (base shift : ℕ) (first inside aborted : List Line) (a b 
         not_started (inl same) = omega arith
         not_started (inr rest) = rest
 
-    abbrev at_leave : Assembly
+    abbrev pub at_leave : Assembly
     at_leave = inside_part.between
 
     abbrev left : Assembly
@@ -229,7 +229,7 @@ module _ (p : Slots) (base shift : ℕ) (first inside aborted : List Line) (a b 
     behind_label = line.Branch (inst.Jal 0 (pos 0)) (base + 4) ∷ line.Data 0xF1401073 ∷ line.Label (base + 3) ∷
         from_aborted
 
-    post_commit_at : slice_get b.labels (base + 2) ≡ Some (Some (length at_leave.items))
+    pub post_commit_at : slice_get b.labels (base + 2) ≡ Some (Some (length at_leave.items))
     post_commit_at =
         keeps behind_label left b (base + 2) (length at_leave.items) inside_part.rest
         (label_own at_leave (base + 2) (free_there 2 (omega arith) (omega arith)))

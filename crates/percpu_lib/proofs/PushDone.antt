@@ -1,5 +1,5 @@
 -- A thread at the retry label of a push block, whose hart is left undisturbed, has pushed after eleven instructions.
-use Rattle.std.proofs.Common.{◌≡◌, ℕ, ◌≤◌, List, ◌++◌, refl, Some}
+use Rattle.std.proofs.Common.{◌≡◌, ℕ, ◌≤◌, List, ◌++◌, refl, Some, arith}
 use Rattle.mach_types.specs.declared.events.Entry.{Entry}
 use Rattle.mach_types.specs.declared.sequences.Area.{Area}
 use Rattle.block_model.specs.Deciding.{history}
@@ -14,8 +14,8 @@ use Rattle.percpu_lib.specs.declared.slots.Slots.{Slots}
 use Rattle.percpu_lib.proofs.PushLaw.{push_course}
 use Rattle.percpu_lib.proofs.BlockCourse.{AsksFirst, comes_to_commit, is_brought}
 
-asks_first : (p : Slots) → AsksFirst (push_form p)
-asks_first p = record { four = refl; lw = refl; lui = refl; addi = refl; store = refl }
+asks_first : (p : Slots) → AsksFirst (push_form p) 0
+asks_first p = record { all = refl; copies = λ k lt. absurd (omega arith); lw = refl; lui = refl; addi = refl; store = refl }
 
 is_pushed : (s : Setting) (p : Slots) (at h t : ℕ) (now : History) → IsCommitted s (push_form p) at h t now
     → IsPushed s p at h t now
@@ -37,5 +37,5 @@ pub comes_to_push : (s : Setting) (p : Slots) (at : ℕ) (area : Area) (h t : �
     → 11 ≤ executed_on h rest → Brings s h 11 (IsPushed s p at h t) log rest
 comes_to_push s p at area h t log rest run held begins outside runs pc calm many =
     is_brought s h 11 log rest (IsCommitted s (push_form p) at h t) (IsPushed s p at h t) (is_pushed s p at h t)
-    (comes_to_commit s (push_form p) at area h t (push_course p) (asks_first p) 10 refl log rest run held begins outside
+    (comes_to_commit s (push_form p) at area h t (push_course p) 0 (asks_first p) 10 refl log rest run held begins outside
     runs pc calm many)

@@ -1,8 +1,19 @@
--- The block that takes the last item out of the pool of its processor (own). A pool has a count, and 64 bytes
--- on its slots; pools lie 8,192 bytes apart.
-use Rattle.std.specs.Prelude.{ℕ, ◌+◌, List, [], ◌∷◌, pos, negsuc}
+-- The block that takes the last item out of the pool of its processor (own).
+use Rattle.std.specs.Prelude.{ℕ, ◌≡◌, ◌≢◌, ◌+◌, ◌-◌, ◌%◌, ◌^◌, ◌||◌, ◌&&◌, ◌==◌, not, Bool, false, List, [], ◌∷◌, ◌++◌}
+use Rattle.std.specs.Prelude.{Option, Some, None, pos, negsuc}
+use Rattle.mach_types.specs.Registers.{register}
+use Rattle.mach_types.specs.declared.sequences.Seq.{Seq}
+use Rattle.rv_inst.specs.declared.instruction.Inst.{Inst}
 use Rattle.rv_inst.specs.declared.instruction.Inst.TheVariants as inst
+use Rattle.alone_laws.specs.Blocks.{among}
+use Rattle.block_model.specs.History.{History, file, stores}
+use Rattle.block_model.specs.Setting.{Setting}
 use Rattle.percpu_lib.specs.BlockLines.{block_lines}
+use Rattle.percpu_lib.specs.Forms.{Form}
+use Rattle.percpu_lib.specs.Pools.{IsPool, count_of, count_seen, count_store, pool_at, slot_at}
+use Rattle.percpu_lib.specs.Pushes.{word_seen}
+use Rattle.percpu_lib.specs.Uses.{cells_of}
+use Rattle.percpu_lib.specs.Words.{asking_words, is_changed}
 use Rattle.percpu_lib.specs.declared.lines.Line.{Line}
 use Rattle.percpu_lib.specs.declared.lines.Line.TheVariants as line
 use Rattle.percpu_lib.specs.declared.slots.Slots.{Slots}
@@ -23,3 +34,70 @@ alloc_steps p base =
 -- its lines
 abbrev pub alloc_lines : Slots → ℕ → List Line
 alloc_lines p base = block_lines p base 13 [] (alloc_steps p base) []
+
+-- its words from the retry label on. Where the count is 0, a branch leads to the post-commit address
+abbrev pub alloc_block : Slots → List (Option Inst)
+alloc_block p =
+    asking_words p 19 13
+    (Some (inst.Ld 6 5 (pos 0))
+    ∷ Some (inst.Addi p.value 0 (pos 0))
+    ∷ Some (inst.Beq 6 0 (pos 24))
+    ∷ Some (inst.Addi 6 6 (negsuc 0))
+    ∷ Some (inst.Slli 7 6 3)
+    ∷ Some (inst.Add 7 7 5)
+    ∷ Some (inst.Ld p.value 7 (pos 64))
+    ∷ Some (inst.Sd 5 6 (pos 0))
+    ∷ Some (inst.Jal 0 (pos 12))
+    ∷ None
+    ∷ Some (inst.Jal 0 (negsuc 71))
+    ∷ [])
+
+-- the range of its sequence
+abbrev pub alloc_range : ℕ → Seq
+alloc_range at = record { start = at + 16; length = 48; abort = at + 72 }
+
+-- the bytes that its sequence uses: those of the area, the count, and the last item, where there is one
+abbrev pub alloc_bytes : ℕ → ℕ → ℕ → ℕ → Bool
+alloc_bytes area pool count a =
+    among area 32 a || (among pool 8 a || (not (count == 0) && among (slot_at pool (count - 1)) 8 a))
+
+-- what became of the value and the pool: the value is 0 and the pool is as it was, where it had no item; else the value is
+-- the last item and the count fell by 1, by one store
+pub data Allocs (s : Setting) (p : Slots) (pools h t count : ℕ) (begun reached : History) : Type 0 where
+  allocs_none : count ≡ 0 → register (file s t reached).file p.value ≡ 0
+      → count_seen s h pools reached ≡ count_seen s h pools begun
+      → stores h reached ≡ stores h begun → Allocs s p pools h t count begun reached
+  allocs_last : count ≢ 0 → (item : ℕ) → word_seen s h (slot_at (pool_at pools h) (count - 1)) begun ≡ Some item
+      → register (file s t reached).file p.value ≡ item % 2 ^ 64
+      → count_seen s h pools reached ≡ Some (count - 1)
+      → stores h reached ≡ stores h begun ++ count_store (pool_at pools h) (count - 1) ∷ []
+      → Allocs s p pools h t count begun reached
+
+-- what a whole alloc did from the place before its first event to the place after its last: that, and no register
+-- changed but that of the value and those that every block may change
+pub record IsWholeAlloc (s : Setting) (p : Slots) (pools h t : ℕ) (begun reached : History) : Type 0 where
+  pub allocs : Allocs s p pools h t (count_of s h pools begun) begun reached
+  pub kept : (r : ℕ) → is_changed p r ≡ false
+      → register (file s t reached).file r ≡ register (file s t begun).file r
+
+-- and what one did that isn't whole: nothing but to the value, and to registers that every block may change
+pub record IsNoAlloc (s : Setting) (p : Slots) (pools h t : ℕ) (begun reached : History) : Type 0 where
+  pub same : count_seen s h pools reached ≡ count_seen s h pools begun
+  pub stored : stores h reached ≡ stores h begun
+  pub kept : (r : ℕ) → is_changed p r ≡ false
+      → register (file s t reached).file r ≡ register (file s t begun).file r
+
+-- the alloc block. The item may lie on the area: it is read before the one store
+abbrev pub alloc_form : Slots → Form
+alloc_form p = record {
+  slots = p;
+  words = alloc_block p;
+  first = 4;
+  inside = 12;
+  may = is_changed p;
+  bytes = λ s area h t begun.
+      alloc_bytes area.at (pool_at (cells_of s p t begun) h) (count_of s h (cells_of s p t begun) begun);
+  Apart = λ s area h t begun. IsPool s area.at (cells_of s p t begun) h begun;
+  Whole = λ s h t begun reached. IsWholeAlloc s p (cells_of s p t begun) h t begun reached;
+  Partial = λ s h t begun reached. IsNoAlloc s p (cells_of s p t begun) h t begun reached;
+}

@@ -5,7 +5,9 @@ pub mod BlockLines
 pub mod Files
 pub mod Forms
 pub mod Frees
+pub mod Kinds
 pub mod Lines
+pub mod Pools
 pub mod Pops
 pub mod Pushes
 pub mod Uses

@@ -1,7 +1,8 @@
 -- Words of instructions that stand in a program.
-use Rattle.std.specs.Prelude.{ℕ, ◌≡◌, ◌≢◌, ◌+◌, ◌*◌, ◌/◌, ◌<◌, false, List, slice_get, Option, Some, ℤ, pos}
-use Rattle.std.specs.Prelude.{◌-ℤ◌}
+use Rattle.std.specs.Prelude.{ℕ, ◌≡◌, ◌≢◌, ◌+◌, ◌*◌, ◌/◌, ◌<◌, ◌==◌, ◌||◌, Bool, false, List, ◌∷◌, slice_get, Option}
+use Rattle.std.specs.Prelude.{Some, ℤ, pos, negsuc, ◌-ℤ◌}
 use Rattle.rv_inst.specs.declared.instruction.Inst.{Inst}
+use Rattle.rv_inst.specs.declared.instruction.Inst.TheVariants as inst
 use Rattle.alone.specs.Temps.{is_scratch}
 use Rattle.percpu_lib.specs.declared.slots.Slots.{Slots}
 
@@ -30,3 +31,22 @@ upper n = pos ((n + 2048) / 4096 * 4096)
 
 abbrev pub lower : ℕ → ℤ
 lower n = pos n -ℤ upper n
+
+-- the registers that a block may change which brings a value out: those that every block may, and that of the value
+abbrev pub is_changed : Slots → ℕ → Bool
+is_changed p r = is_scratch r || r == p.value
+
+-- the words of a block from where it asks for the processor on. The area is read for the processor, and the address of
+-- the descriptor is stored in it. Then the sequence starts: the area must still name that processor, else the block
+-- begins anew, so many bytes back and one; and the processor's number, shifted so far, makes the address of its data
+abbrev pub asking_words : Slots → ℕ → ℕ → List (Option Inst) → List (Option Inst)
+asking_words p back shift rest =
+    Some (inst.Lw 5 p.area (pos 0))
+    ∷ Some (inst.Lui 6 (upper p.table))
+    ∷ Some (inst.Addi 6 6 (lower p.table))
+    ∷ Some (inst.Sd p.area 6 (pos 8))
+    ∷ Some (inst.Lw 6 p.area (pos 4))
+    ∷ Some (inst.Bne 6 5 (negsuc back))
+    ∷ Some (inst.Slli 5 5 shift)
+    ∷ Some (inst.Add 5 5 p.cells)
+    ∷ rest

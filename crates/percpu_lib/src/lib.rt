@@ -10,9 +10,12 @@
 mod adds;
 mod allocs;
 mod block_lines;
+mod block_theorems;
 mod fault;
 mod frees;
 mod lines;
+mod pool_theorems;
+mod pop_theorems;
 mod pops;
 mod push_theorems;
 mod pushes;
@@ -22,9 +25,16 @@ mod theorems;
 
 pub use adds::emit_add;
 pub use allocs::emit_alloc;
+pub use block_theorems::{
+    all_blocks_lie_beside, blocks_are_done, blocks_begin_outside, blocks_keep_registers,
+    blocks_that_commit_are_left, blocks_work_once_or_not_at_all, files_hold_block,
+    finished_code_holds_block, retries_work_on_the_value,
+};
 pub use fault::EmitFault;
 pub use frees::emit_free;
 pub use lines::{Line, emit_lines};
+pub use pool_theorems::{allocs_once_or_not_at_all, frees_once_or_not_at_all};
+pub use pop_theorems::pops_once_or_not_at_all;
 pub use pops::emit_pop;
 pub use push_theorems::{
     push_keeps_registers, pushes_are_done, pushes_begin_outside, pushes_once_or_not_at_all,

@@ -201,3 +201,7 @@ pc_read-only field pc e =
     let whole = take_all 16 field (omega arith) in
     let text = hex_text-take field 16 tests.1 (omega arith) in
     (omega arith, cc)
+
+-- a digit that was read is one, and this is its value
+pub digit_read : (c d : ℕ) → Some d ≡ cond (is_hex_digit c) (Some (digit_value c)) None → (is_hex_digit c ≡ true) × (digit_value c ≡ d)
+digit_read c d e = cond_some (is_hex_digit c) (digit_value c) d (sym e)

@@ -40,23 +40,6 @@ pub hex_text-more : (places n : ℕ) → hex_text (places + 1) n ≡ hex_text pl
 unfolding hex_text
 hex_text-more places n = rw (add-one places) refl
 
--- the number without one more of its lowest places
-lower_place : (n k : ℕ) → n / 2 ^ (k + 4) ≡ n / 2 ^ k / 16
-lower_place n k = rw (pow-add 2 k 4) (sym (div-div-eq-div-mul n (2 ^ k) 16))
-
--- one more of the 16 digits, from the highest on
-pub hex_step : (start line new : List ℕ) (n p d : ℕ) → p < 16 → line ≡ start ++ hex_text p (n / 2 ^ (64 - 4 * p))
-    → d ≡ hex_digit (n / 2 ^ (60 - 4 * p) % 16) → new ≡ line ++ d ∷ []
-    → new ≡ start ++ hex_text (p + 1) (n / 2 ^ (64 - 4 * (p + 1)))
-hex_step start line new n p d within before digit after =
-    let low : 64 - 4 * p ≡ 60 - 4 * p + 4 = omega arith in
-    let next : 64 - 4 * (p + 1) ≡ 60 - 4 * p = omega arith in
-    let shorter = ap (λ k. n / 2 ^ k) low ∙ lower_place n (60 - 4 * p) in
-    let longer = ap (λ k. n / 2 ^ k) next in
-    let one = hex_text-more p (n / 2 ^ (60 - 4 * p)) in
-    let regroup = append_assoc start (hex_text p (n / 2 ^ (64 - 4 * p))) (d ∷ []) in
-    cc
-
 -- what stands after the higher digits and then the last digit
 pub decimal_many : (start line new : List ℕ) (n : ℕ) → 10 ≤ n → n < 2 ^ 32 → line ≡ start ++ decimal (n / 10)
     → new ≡ line ++ (48 + n % 10) ∷ [] → new ≡ start ++ decimal n

@@ -223,12 +223,16 @@ line_lacks e fits =
       ),
     )
 
+-- the line of an entry before other text
+pub entry_is_first : (e : Entry) (behind : List ℕ) → IsPrintable e → lines_of (entry_line e ++ newline ∷ behind) ≡ entry_line e ∷ lines_of behind
+entry_is_first e behind fits =
+    lines_of-cut (entry_line e ++ newline ∷ behind) (entry_line e) behind
+    (slice_split_at (λ b. eqb b 10) (entry_line e) 10 behind (line_lacks e fits) refl)
+
 pub log_lines : (log : List Entry) → AllByRecursion IsPrintable log → lines_of (log_text log) ≡ map entry_line log
 log_lines [] fits = refl
 log_lines (e ∷ es) fits =
-    ap lines_of (append_assoc (entry_line e) (newline ∷ []) (log_text es))
-    ∙ lines_of-cut (entry_line e ++ newline ∷ log_text es) (entry_line e) (log_text es)
-    (slice_split_at (λ b. eqb b 10) (entry_line e) 10 (log_text es) (line_lacks e fits.0) refl)
+    ap lines_of (append_assoc (entry_line e) (newline ∷ []) (log_text es)) ∙ entry_is_first e (log_text es) fits.0
     ∙ ap (λ (ls : List (List ℕ)). entry_line e ∷ ls) (log_lines es fits.1)
 
 each_read : (log : List Entry) → AllByRecursion IsPrintable log → map line_meaning (map entry_line log) ≡ map (λ e. Some (whole_line e)) log

@@ -1,8 +1,8 @@
 -- The parts of a line's meaning that the reader's functions give.
-use Rattle.std.specs.Prelude.{ℕ, List, [], ◌∷◌, Option, Some, None}
+use Rattle.std.specs.Prelude.{◌≡◌, ℕ, ◌<◌, List, [], ◌∷◌, Option, Some, None, length}
 use Rattle.mach_types.specs.declared.events.Hart.{Hart}
 use Rattle.mach_types.specs.declared.events.Kind.{Kind}
-use Rattle.step_log.specs.Script.{fields_of, tid_read, pc_read, run_line, whole_line, ◌>>=◌}
+use Rattle.step_log.specs.Script.{fields_of, line_meaning, lines_of, tid_read, pc_read, run_line, whole_line, ◌>>=◌}
 use Rattle.step_log.specs.declared.fields.Line.{Line}
 
 -- the fields behind a space, none where there is no space
@@ -21,3 +21,10 @@ long_meaning hart kind (tid ∷ pc ∷ []) = do
   p ← pc_read pc
   Some (whole_line (record { hart = hart; kind = kind; tid = t; pc = p }))
 long_meaning hart kind (tid ∷ pc ∷ another ∷ more) = None
+
+-- the first line of a text says this, and this text comes behind it
+pub record IsFirst (text : List ℕ) (line : Line) (behind : List ℕ) : Type 0 where
+  pub first : List ℕ
+  pub lines : lines_of text ≡ first ∷ lines_of behind
+  pub says : line_meaning first ≡ Some line
+  pub shorter : length behind < length text

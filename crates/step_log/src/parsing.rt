@@ -1,6 +1,6 @@
 //! A script's line, from its text.
 
-ghost use Rattle.std.specs.Prelude.{◌≡◌, ℕ, ◌+◌, ◌<◌, ◌≤◌, ◌^◌, true, length, [], ◌∷◌, nat_lt, Some, None, if◌then◌else◌, slice_index, ◌==◌};
+ghost use Rattle.std.specs.Prelude.{◌≡◌, ℕ, ◌+◌, ◌<◌, ◌≤◌, ◌^◌, true, length, [], ◌∷◌, nat_lt, Some, None, if◌then◌else◌, slice_index, ◌==◌, IfSome};
 ghost use Rattle.std.specs.Char.{digit_value, is_ascii_digit};
 ghost use Rattle.std.specs.List.{list_all, position};
 ghost use Rattle.std.specs.Option.{option_copied};
@@ -109,51 +109,36 @@ fn tid_of(text: &[u8]) -> Option<Tid>
     }
 }
 
-/// Whether a character is a hexadecimal digit in lower case.
-fn is_hex_digit(byte: u8) -> bool
-    ensures { result ≡ script.is_hex_digit byte }
+/// The value of a hexadecimal digit in lower case; None where the character is another.
+fn hex_digit_value(character: u8) -> Option<u8>
+    ensures { result
+        ≡ (if script.is_hex_digit character then Some (digit_value character) else None) }
 {
-    matches!(byte, b'0'..=b'9' | b'a'..=b'f')
-}
-
-/// Whether a text is made of hexadecimal digits in lower case.
-fn is_hex(text: &[u8]) -> bool
-    ensures { result ≡ list_all script.is_hex_digit text.now }
-{
-    text.iter().all(|byte| is_hex_digit(*byte))
-}
-
-/// The value of a hexadecimal digit.
-fn hex_digit_value(digit: u8) -> u8
-    requires { script.is_hex_digit digit ≡ true }
-    ensures { result ≡ digit_value digit }
-{
-    if digit <= b'9' {
-        digit - b'0'
-    } else {
-        digit - b'a' + 10
+    match character {
+        b'0'..=b'9' => Some(character - b'0'),
+        b'a'..=b'f' => Some(character - b'a' + 10),
+        _ => None,
     }
 }
 
-/// The number that 16 hexadecimal digits write.
-fn hex_value(digits: &[u8]) -> u64
-    requires long { length digits.now ≡ 16 }
-    requires digits { list_all script.is_hex_digit digits.now ≡ true }
-    ensures { result ≡ digits_value 16 digits.now }
+/// The number that 16 hexadecimal digits write; None where a character is another.
+fn hex_value(digits: &[u8]) -> Option<u64>
+    requires { length digits.now ≡ 16 }
+    ensures { result ≡ (if list_all script.is_hex_digit digits.now then Some (digits_value 16 digits.now) else None) }
 {
     let mut number = 0u64;
     for digit in digits {
-        number = number * 16 + u64::from(hex_digit_value(*digit));
+        number = number * 16 + u64::from(hex_digit_value(*digit)?);
     }
-    number
+    Some(number)
 }
 
 /// The pc that a field names.
 fn pc_of(text: &[u8]) -> Option<u64>
     ensures { result ≡ script.pc_read text.now }
 {
-    if text.len() == 16 && is_hex(text) {
-        Some(hex_value(text))
+    if text.len() == 16 {
+        hex_value(text)
     } else {
         None
     }
@@ -239,5 +224,32 @@ pub(crate) fn line_of(text: &[u8]) -> Option<Line>
     match rest {
         None => short_line(hart, kind),
         Some(rest) => long_line(hart, kind, rest),
+    }
+}
+
+/// What the first line of a text says, and the text behind that line, where it is as an `exec` is printed of a thread
+/// whose number is one digit. Most lines of a log are. None says nothing of the text.
+pub(crate) fn first_exec(text: &[u8]) -> Option<(Line, &[u8])>
+    ensures { IfSome result (λ said. parts.IsFirst text.now said.0 said.1.now) }
+{
+    match text {
+        [
+            hart @ b'0'..=b'7',
+            b' ',
+            b'e',
+            b'x',
+            b'e',
+            b'c',
+            b' ',
+            tid @ b'0'..=b'9',
+            b' ',
+            rest @ ..,
+        ] if rest.len() > 16 && rest[16] == b'\n' => {
+            let pc = pc_of(&rest[..16])?;
+            let hart = Hart(hart - b'0');
+            let tid = Tid(u32::from(tid - b'0'));
+            Some((whole_line(hart, Kind::Exec, tid, pc), &rest[17..]))
+        }
+        _ => None,
     }
 }

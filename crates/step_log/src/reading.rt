@@ -54,8 +54,13 @@ impl<'a> LineReader<'a> {
         if self.rest.is_empty() {
             return Ok(None);
         }
-        let (text, rest) = split_line(self.rest);
         let number = self.read + 1;
+        if let Some((line, rest)) = parsing::first_exec(self.rest) {
+            self.rest = rest;
+            self.read = number;
+            return Ok(Some(line));
+        }
+        let (text, rest) = split_line(self.rest);
         match parsing::line_of(text) {
             None => Err(BadLine(number)),
             Some(line) => {

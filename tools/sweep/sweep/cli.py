@@ -13,7 +13,7 @@ from lens.output import shown_console
 
 from .jobs import Parallel, Swept, make_jobs, seconds_of_jobs, sweep_jobs
 from .limits import jobs_that_fit, mebibytes_a_run
-from .records import Folder, Met, Outcome
+from .records import ELF, RUNS, Folder, Met, Outcome
 
 UNEXPECTED_STATUS, FAULT_STATUS, INTERRUPTED_STATUS = 1, 2, 130
 SEEDS = 1 << 64
@@ -24,7 +24,8 @@ def make_parser() -> argparse.ArgumentParser:
         prog='sweep',
         description='Runs a program many times, each time with another seed, '
         'and says which outcomes came how often. The same command goes on with a sweep '
-        'that was interrupted. Ends with 1 where a run ended otherwise than --expect says.',
+        'that was interrupted, and with more runs goes on where it was; with another ELF it begins anew. '
+        'Ends with 1 where a run ended otherwise than --expect says.',
     )
     parser.add_argument('elf', metavar='ELF')
     parser.add_argument('-o', '--out', metavar='FOLDER', required=True, help='where the sweep is kept')
@@ -71,9 +72,9 @@ def asked_of(arguments: argparse.Namespace) -> dict:
     """What makes two sweeps the same one."""
     return {
         'program': digest(arguments.program),
-        'elf': digest(arguments.elf),
+        ELF: digest(arguments.elf),
         'command': arguments.by,
-        'runs': arguments.runs,
+        RUNS: arguments.runs,
         'first seed': arguments.first_seed,
         'seeds a job': arguments.seeds_a_job,
         'limits': limits_of(arguments),
@@ -84,7 +85,8 @@ def sweep(arguments: argparse.Namespace) -> int:
     if not 0 <= arguments.first_seed <= SEEDS - arguments.runs:
         raise LensFault(f'a seed is a number from 0 to {SEEDS - 1}')
     folder = Folder(arguments.out)
-    folder.open(asked_of(arguments))
+    if folder.open(asked_of(arguments)):
+        print(f'sweep: {folder.path} held the sweep of another ELF; it begins anew', file=sys.stderr)
     mebibytes = mebibytes_a_run(arguments.frames, arguments.steps)
     program, elf = (str(Path(path).resolve()) for path in (arguments.program, arguments.elf))
     command = [str(arguments.seconds), program, arguments.by, elf, *limits_of(arguments)]

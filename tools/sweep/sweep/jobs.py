@@ -126,10 +126,12 @@ def noted_interrupts() -> Iterator[Interruption]:
 
 
 def sweep_jobs(parallel: Parallel, folder: Folder, jobs: list[Job]) -> Swept:
-    """Runs the jobs whose records aren't kept yet."""
+    """Runs the jobs whose records aren't kept yet. The last job of a sweep of fewer runs may have had fewer seeds: it is
+    run again."""
     if shutil.which(PARALLEL) is None:
         raise LensFault('GNU parallel isn\'t installed: apt-get install parallel')
-    kept = folder.records()
+    counts = {job.first: job.count for job in jobs}
+    kept = {first: record for first, record in folder.records().items() if record.runs == counts.get(first)}
     swept = Swept({})
     for record in kept.values():
         for outcome, met in record.tally.items():

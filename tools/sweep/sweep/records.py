@@ -13,6 +13,8 @@ from lens.faults import LensFault
 from lens.output import Outline, outline
 
 NAME_DIGITS = 8
+ELF, RUNS = 'elf', 'runs'
+"""In which a sweep may differ from that of its folder: another ELF begins anew, and more runs go on."""
 
 
 @dataclass(frozen=True, order=True)
@@ -68,6 +70,11 @@ class Record:
 
     first: int
     tally: Tally
+
+    @property
+    def runs(self) -> int:
+        """How many runs it counts."""
+        return sum(met.runs for met in self.tally.values())
 
     def line(self, has_texts: bool) -> str:
         """The record as one line, with or without the texts of the runs that are kept."""
@@ -125,25 +132,43 @@ class Folder:
         self.results = self.path / 'results'
         self.table = self.path / 'table.txt'
 
-    def open(self, asked: dict) -> None:
-        """Makes the folder, or takes it up again where it holds the same sweep."""
+    def open(self, asked: dict) -> bool:
+        """Makes the folder, or takes it up again where it holds the same sweep, also one of fewer runs. Where it
+        holds the sweep of another ELF, that is forgotten: whether it was."""
         try:
             self.path.mkdir(parents=True, exist_ok=True)
-            if self.asked.exists():
-                self.check_same(json.loads(self.asked.read_text()), asked)
-            elif any(self.path.iterdir()):
-                raise LensFault(f'{self.path} holds something else than a sweep')
+            if not self.asked.exists():
+                if any(self.path.iterdir()):
+                    raise LensFault(f'{self.path} holds something else than a sweep')
+                begins_anew = False
             else:
-                replace(self.asked, (json.dumps(asked, indent=1) + '\n').encode())
+                begins_anew = self.differs_in_elf(json.loads(self.asked.read_text()), asked)
+            if begins_anew:
+                self.forget()
+            replace(self.asked, (json.dumps(asked, indent=1) + '\n').encode())
         except OSError as error:
             raise LensFault(f'{self.path}: {error.strerror}') from None
+        return begins_anew
 
-    def check_same(self, kept: dict, asked: dict) -> None:
-        differing = sorted(key for key in kept.keys() | asked.keys() if kept.get(key) != asked.get(key))
-        if differing:
-            raise LensFault(
-                f'{self.path} holds a sweep that differs in {", ".join(differing)}: name another folder'
-            )
+    def differs_in_elf(self, kept: dict, asked: dict) -> bool:
+        """Whether a sweep that is kept is that of another ELF. A fault where it differs in something else, or has more
+        runs than are asked for."""
+        differing = {key for key in kept.keys() | asked.keys() if kept.get(key) != asked.get(key)}
+        others = sorted(differing - {ELF, RUNS})
+        if others:
+            raise LensFault(f'{self.path} holds a sweep that differs in {", ".join(others)}: name another folder')
+        if ELF in differing:
+            return True
+        if RUNS in differing and kept[RUNS] > asked[RUNS]:
+            raise LensFault(f'{self.path} holds a sweep of {kept[RUNS]} runs: ask for no fewer, or name another folder')
+        return False
+
+    def forget(self) -> None:
+        """Removes what a sweep left, and nothing else."""
+        outcomes = {outcome for record in self.records().values() for outcome in record.tally}
+        runs = [path for outcome in outcomes for path in (self.output_of(outcome), self.script_of(outcome))]
+        for path in (self.asked, self.results, self.job_log, self.jobs, self.table, *runs):
+            path.unlink(missing_ok=True)
 
     def records(self) -> dict[int, Record]:
         """The records that are kept, by their first seeds. A last line that was cut off by an

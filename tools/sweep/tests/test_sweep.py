@@ -196,19 +196,49 @@ class Sweeps(unittest.TestCase):
     def test_another_sweep_in_the_folder(self):
         folder = self.room / 'swept'
         self.sweep('-o', folder)
-        self.file('0.0')
-        answer = self.sweep('-o', folder, runs=7)
-        self.assertEqual(
-            (answer.returncode, answer.stderr),
-            (
-                FAULT_STATUS,
-                f'sweep: {folder} holds a sweep that differs in elf, runs: name another folder\n',
-            ),
-        )
+        for more, runs, said in (
+            (('--harts', 3), RUNS, 'that differs in limits: name another folder'),
+            (('--first-seed', 2), RUNS, 'that differs in first seed: name another folder'),
+            ((), RUNS - 1, f'of {RUNS} runs: ask for no fewer, or name another folder'),
+        ):
+            with self.subTest(more=more):
+                answer = self.sweep('-o', folder, *more, runs=runs)
+                self.assertEqual(
+                    (answer.returncode, answer.stderr), (FAULT_STATUS, f'sweep: {folder} holds a sweep {said}\n')
+                )
         other = self.room / 'other'
         other.mkdir()
         (other / 'file').touch()
         self.assertIn('holds something else than a sweep', self.sweep('-o', other).stderr)
+
+    def test_more_runs_go_on(self):
+        """The jobs that were whole aren't made again; the last one had fewer seeds, and is."""
+        few, folder, whole = RUNS - SEEDS_A_JOB - 2, self.room / 'swept', self.room / 'whole'
+        self.sweep('-o', whole)
+        self.sweep('-o', folder, runs=few)
+        kept = (folder / 'results').read_text().splitlines()
+        answer = self.sweep('-o', folder)
+        self.assertEqual((answer.returncode, answer.stderr), (0, ''))
+        self.assertEqual(self.table(folder), self.table(whole))
+        made = (folder / 'results').read_text().splitlines()
+        self.assertEqual((made[: len(kept)], len(made)), (kept, len(kept) + 2))
+        self.assertEqual(self.sweep('-o', folder).stdout, answer.stdout)
+
+    def test_another_elf_begins_anew(self):
+        folder = self.room / 'swept'
+        self.sweep('-o', folder, runs=2 * RUNS)
+        note = folder / 'note'
+        note.touch()
+        self.file('0.0')
+        anew = self.sweep('-o', folder, runs=6)
+        self.assertEqual(
+            (anew.returncode, anew.stderr),
+            (0, f'sweep: {folder} held the sweep of another ELF; it begins anew\n'),
+        )
+        self.assertEqual(sum(read_record(line).runs for line in (folder / 'results').read_text().splitlines()), 6)
+        self.assertEqual(len(list(folder.glob('*.output'))), 2)
+        self.assertTrue(note.exists())
+        self.assertEqual(self.sweep('-o', folder, runs=6).stderr, '')
 
     def test_machines(self):
         """Over this machine by name, as over others; `:` is what GNU parallel calls it."""

@@ -4,7 +4,7 @@ use Rattle.clap.proofs.WalkLemmas.{first_value-rows}
 use Rattle.clap.specs.Words.{Row, found_of, first_of, rows_of}
 use Rattle.command_words.specs.Kept.{names_kept, stated, value_kept}
 use Rattle.command_words.specs.Line.{arguments_found, names_found}
-use Rattle.command_words.specs.Options.{OptionName, Harts, Frames, Steps, Seed, Policy, Calm, RunCount, Until, By, Jobs, long_name}
+use Rattle.command_words.specs.Options.{OptionName, Harts, Frames, Steps, Seed, Policy, Calm, After, RunCount, Until, By, Jobs, long_name}
 use Rattle.command_words.specs.declared.arguments.Arguments.{Arguments}
 use Rattle.command_words.proofs.arguments.arguments_in.Goals as goal
 
@@ -20,21 +20,23 @@ values_are : (rows : List Row) (kept : Arguments) → option_copied kept.harts �
     → option_copied kept.seed ≡ first_of (codes "seed") rows
     → option_copied kept.policy ≡ first_of (codes "policy") rows
     → option_copied kept.calm ≡ first_of (codes "calm") rows
+    → option_copied kept.after ≡ first_of (codes "after") rows
     → option_copied kept.run_count ≡ first_of (codes "runs") rows
     → option_copied kept.until ≡ first_of (codes "until") rows
     → option_copied kept.by ≡ first_of (codes "by") rows
     → option_copied kept.jobs ≡ first_of (codes "jobs") rows
     → (option : OptionName) → value_kept kept option ≡ first_of (long_name option) rows
-values_are rows kept harts frames steps seed policy calm run_count until by jobs Harts = harts
-values_are rows kept harts frames steps seed policy calm run_count until by jobs Frames = frames
-values_are rows kept harts frames steps seed policy calm run_count until by jobs Steps = steps
-values_are rows kept harts frames steps seed policy calm run_count until by jobs Seed = seed
-values_are rows kept harts frames steps seed policy calm run_count until by jobs Policy = policy
-values_are rows kept harts frames steps seed policy calm run_count until by jobs Calm = calm
-values_are rows kept harts frames steps seed policy calm run_count until by jobs RunCount = run_count
-values_are rows kept harts frames steps seed policy calm run_count until by jobs Until = until
-values_are rows kept harts frames steps seed policy calm run_count until by jobs By = by
-values_are rows kept harts frames steps seed policy calm run_count until by jobs Jobs = jobs
+values_are rows kept harts frames steps seed policy calm after run_count until by jobs Harts = harts
+values_are rows kept harts frames steps seed policy calm after run_count until by jobs Frames = frames
+values_are rows kept harts frames steps seed policy calm after run_count until by jobs Steps = steps
+values_are rows kept harts frames steps seed policy calm after run_count until by jobs Seed = seed
+values_are rows kept harts frames steps seed policy calm after run_count until by jobs Policy = policy
+values_are rows kept harts frames steps seed policy calm after run_count until by jobs Calm = calm
+values_are rows kept harts frames steps seed policy calm after run_count until by jobs After = after
+values_are rows kept harts frames steps seed policy calm after run_count until by jobs RunCount = run_count
+values_are rows kept harts frames steps seed policy calm after run_count until by jobs Until = until
+values_are rows kept harts frames steps seed policy calm after run_count until by jobs By = by
+values_are rows kept harts frames steps seed policy calm after run_count until by jobs Jobs = jobs
 
 pub returns : goal.returns
 returns c =
@@ -48,10 +50,11 @@ returns c =
       seed = c.get_str-6.result;
       policy = c.get_str-7.result;
       calm = c.get_str-8.result;
-      run_count = c.get_str-9.result;
-      until = c.get_str-10.result;
-      by = c.get_str-11.result;
-      jobs = c.get_str-12.result;
+      after = c.get_str-9.result;
+      run_count = c.get_str-10.result;
+      until = c.get_str-11.result;
+      by = c.get_str-12.result;
+      jobs = c.get_str-13.result;
     } in
     arguments_are rows kept
     (c.names_of.ensures ∙ ap₂ names_found (c.get_str.ensures ∙ at (codes "program")) (c.get_str-2.ensures
@@ -59,5 +62,5 @@ returns c =
     (values_are rows kept (c.get_str-3.ensures ∙ at (codes "harts")) (c.get_str-4.ensures ∙ at (codes "frames"))
     (c.get_str-5.ensures ∙ at (codes "steps")) (c.get_str-6.ensures ∙ at (codes "seed"))
     (c.get_str-7.ensures ∙ at (codes "policy")) (c.get_str-8.ensures ∙ at (codes "calm"))
-    (c.get_str-9.ensures ∙ at (codes "runs")) (c.get_str-10.ensures ∙ at (codes "until"))
-    (c.get_str-11.ensures ∙ at (codes "by")) (c.get_str-12.ensures ∙ at (codes "jobs")))
+    (c.get_str-9.ensures ∙ at (codes "after")) (c.get_str-10.ensures ∙ at (codes "runs"))
+    (c.get_str-11.ensures ∙ at (codes "until")) (c.get_str-12.ensures ∙ at (codes "by")) (c.get_str-13.ensures ∙ at (codes "jobs")))

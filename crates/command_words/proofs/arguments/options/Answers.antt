@@ -16,6 +16,7 @@ returns c =
     let seven = c.in_ok-arg-7.ensures.shape c.option-7.ensures.own ∙ ap₂ with_rule six c.option-7.ensures.rule in
     let eight = c.in_ok-arg-8.ensures.shape c.option-8.ensures.own ∙ ap₂ with_rule seven c.option-8.ensures.rule in
     let nine = c.in_ok-arg-9.ensures.shape c.option-9.ensures.own ∙ ap₂ with_rule eight c.option-9.ensures.rule in
-    IfOk-weaker c.arg-10.result _ _ (λ parser added. added.shape c.option-10.ensures.own
-    ∙ ap₂ with_rule nine c.option-10.ensures.rule)
-    c.arg-10.ensures
+    let ten = c.in_ok-arg-10.ensures.shape c.option-10.ensures.own ∙ ap₂ with_rule nine c.option-10.ensures.rule in
+    IfOk-weaker c.arg-11.result _ _ (λ parser added. added.shape c.option-11.ensures.own
+    ∙ ap₂ with_rule ten c.option-11.ensures.rule)
+    c.arg-11.ensures

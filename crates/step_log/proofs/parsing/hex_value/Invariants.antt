@@ -1,6 +1,5 @@
-use Rattle.std.proofs.Common.{◌≡◌, take}
-use Rattle.std.specs.Str.Parse.{digits_value}
+use Rattle.step_log.proofs.Quick.{IsReadTo}
 use Rattle.step_log.proofs.parsing.hex_value.Given as goal
 
 abbrev pub invariant-loop-digit : goal.invariant-loop-digit
-invariant-loop-digit l = l.number ≡ digits_value 16 (take l.digit-index l.digits)
+invariant-loop-digit l = IsReadTo l.digits l.digit-index l.number

@@ -1,0 +1,6 @@
+pub mod Calls
+pub mod ExecLaw
+pub mod Fences
+pub mod GoingOn
+pub mod OwnerLaw
+pub mod WordLaw

@@ -1,0 +1,323 @@
+-- A sequence of a pop block is one run of its thread alone, and so pops once or not at all.
+use Rattle.std.proofs.Common.{◌≡◌, ◌≢◌, ℕ, ◌+◌, ◌*◌, ◌<◌, ◌≤◌, ◌%◌, ◌^◌, List, [], ◌∷◌, ◌++◌, refl, sym, ap, ◌∙◌, subst}
+use Rattle.std.proofs.Common.{arith, Bool, true, false, not, ◌&&◌, ◌||◌, eqb, Option, Some, inl, inr, ◌⊎◌, append-nil, pos}
+use Rattle.std.proofs.Common.{negsuc, unwrap_or}
+use Rattle.std.proofs.lemmas.Bool.{eqb-false, eqb-true}
+use Rattle.std.proofs.lemmas.Int.{ints}
+use Rattle.mach_types.specs.Bytes.{each_byte, word_at}
+use Rattle.mach_types.specs.Kernel.Areas.{is_inside}
+use Rattle.mach_types.specs.Registers.{register}
+use Rattle.mach_types.specs.declared.registers.Regs.{Regs}
+use Rattle.mach_types.specs.declared.sequences.Area.{Area}
+use Rattle.mach_types.specs.declared.user_memory.Store.{Store}
+use Rattle.rv_inst.specs.Execution.{seen_byte}
+use Rattle.rv_inst.specs.Memory.{loaded}
+use Rattle.rv_inst.specs.declared.instruction.Inst.TheVariants as inst
+use Rattle.alone.specs.Alone.{Stand}
+use Rattle.alone.specs.Paths.{KeepsOn, Path}
+use Rattle.alone.specs.Temps.{IsAt, put}
+use Rattle.alone.proofs.Laws.{loaded_word, word_unchanged}
+use Rattle.alone.proofs.Means.{means_ld, means_sd}
+use Rattle.alone.proofs.Paths.{leaves, then_branch, then_load, then_store}
+use Rattle.alone_laws.specs.Blocks.{among}
+use Rattle.alone_laws.specs.Spans.{alone_from, code_of, seen_at, sees}
+use Rattle.alone_laws.proofs.Sequences.{each_among}
+use Rattle.alone_laws.proofs.Steps.{each_implies}
+use Rattle.alone_laws.proofs.StoredWords.{beside_word, some_word, stored_word}
+use Rattle.block_model.specs.History.{History, file, stores}
+use Rattle.block_model.specs.Setting.{Setting}
+use Rattle.percpu_lib.specs.Adds.{cell_at, cell_seen, cell_store}
+use Rattle.percpu_lib.specs.Forms.{IsBlockPlace}
+use Rattle.percpu_lib.specs.Pops.{IsNoPop, IsWholePop, Pops, head_of, pop_block, pop_bytes, pop_form, pop_range}
+use Rattle.percpu_lib.specs.Pops.{pops_first, pops_none}
+use Rattle.percpu_lib.specs.Pushes.{word_seen}
+use Rattle.percpu_lib.specs.Uses.{cells_of}
+use Rattle.percpu_lib.specs.Words.{AreHeld, AreSlots, is_changed}
+use Rattle.percpu_lib.specs.declared.slots.Slots.{Slots}
+use Rattle.percpu_lib.proofs.BlockCode.{IsFormed, behind_range}
+use Rattle.percpu_lib.proofs.BlockWords.{beside_pointer, or_true}
+use Rattle.percpu_lib.proofs.CellPath.{BeginsSo, inside_at, to_cell}
+use Rattle.percpu_lib.proofs.Changes.{area_not_changed, cells_not_changed, means_beq_not, means_beq_taken, put_other}
+use Rattle.percpu_lib.proofs.Changes.{put_same, scratch_not, some_value, value_changed, zero_not_changed}
+use Rattle.percpu_lib.proofs.CourseLaw.{HasPath, IsAfter, course_of, way}
+use Rattle.percpu_lib.proofs.Courses.{HasCourse}
+use Rattle.percpu_lib.proofs.FormedWords.{AreFit, words_fit}
+
+fit : (p : Slots) → AreFit (pop_form p) 0 (pop_block p)
+fit p = (
+  (refl, refl),
+  (
+    (refl, refl),
+    (
+      (refl, refl),
+      (
+        refl,
+        (
+          (refl, refl),
+          (
+            (refl, refl),
+            (
+              (refl, refl),
+              (
+                (refl, refl),
+                (
+                  (refl, value_changed p),
+                  (
+                    (refl, refl),
+                    (
+                      (refl, refl),
+                      (
+                        refl,
+                        ((refl, refl), (refl, ((refl, refl), tt))),
+                      ),
+                    ),
+                  ),
+                ),
+              ),
+            ),
+          ),
+        ),
+      ),
+    ),
+  ),
+)
+
+pub pop_formed : (p : Slots) → IsFormed (pop_form p)
+pop_formed p = record {
+  some = omega arith;
+  within = omega arith;
+  short = omega arith;
+  inside = omega arith;
+  lui = refl;
+  addi = refl;
+  store = refl;
+  words = words_fit (pop_form p) (omega arith) (omega arith) 0 (pop_block p) (omega arith) (fit p);
+  entry = (inst.Lw 5 p.area (pos 0), refl);
+}
+
+begins_so : (p : Slots) → AreSlots p → BeginsSo (pop_form p) 6 64
+begins_so p slots = record {
+  lw = refl;
+  bne = refl;
+  slli = refl;
+  add = refl;
+  long = omega arith;
+  five = refl;
+  six = refl;
+  area_kept = area_not_changed p slots;
+  cells_kept = cells_not_changed p slots;
+  shifts = λ cpu few. omega arith;
+}
+
+module _ (s : Setting) (p : Slots) (at : ℕ) (area : Area) (h t : ℕ) (begun : History)
+    (held : AreHeld (code_of s.program.pages) at (pop_block p)) (slots : AreSlots p)
+    (place : IsBlockPlace s (pop_form p) at area h t begun) where
+  abbrev old : Regs
+  old = (file s t begun).file
+
+  abbrev seen : ℕ → Option ℕ
+  seen = seen_at s h begun
+
+  abbrev cells : ℕ
+  cells = cells_of s p t begun
+
+  abbrev cell : ℕ
+  cell = cell_at cells h
+
+  abbrev head : ℕ
+  head = head_of s h cells begun
+
+  -- the words of the cell, and of the first node
+  old_word : (w : ℕ) × (cell_seen s h cells begun ≡ Some w)
+  old_word = some_word (sees s h begun) cell 8
+
+  head_is : loaded old_word.0 8 true ≡ head
+  head_is = loaded_word old_word.0 ∙ sym (ap (λ (o : Option ℕ). unwrap_or o 0 % 2 ^ 64) old_word.1)
+
+  next_word : (w : ℕ) × (word_seen s h head begun ≡ Some w)
+  next_word = some_word (sees s h begun) head 8
+
+  abbrev next : ℕ
+  next = next_word.0 % 2 ^ 64
+
+  -- inside nothing is stored; at the end nothing, or the second node as the head
+  abbrev Inside : List Store → Type 0
+  Inside es = es ≡ []
+
+  abbrev Ended : List Store → Type 0
+  Ended es = ((eqb head 0 ≡ true) × (es ≡ [])) ⊎ ((eqb head 0 ≡ false) × (es ≡ cell_store cells h next ∷ []))
+
+  abbrev Done : (ℕ → ℕ) → List Store → Type 0
+  Done temps es = (temps p.value ≡ head) × Ended es
+
+  abbrev w : Path
+  w = way s (pop_form p) at area h t begun Inside Done
+
+  abbrev bytes : ℕ → Bool
+  bytes = pop_bytes area.at cells h head
+
+  abbrev of_node : ℕ → Bool
+  of_node a = not (eqb head 0) && among head 8 a
+
+  area_bytes : (a : ℕ) → among area.at 32 a ≡ true → bytes a ≡ true
+  area_bytes a is = ap (λ b. b || (among cell 8 a || of_node a)) is
+
+  in_cell : each_byte bytes cell 8 ≡ true
+  in_cell =
+      each_implies (among cell 8) bytes
+      (λ a is. ap (λ b. among area.at 32 a || (b || of_node a)) is ∙ or_true (among area.at 32 a))
+      cell 8 (each_among cell 8 cell 8 (omega arith) (omega arith))
+
+  in_node : eqb head 0 ≡ false → each_byte bytes head 8 ≡ true
+  in_node some =
+      each_implies (among head 8) bytes
+      (λ a is. ap (λ c. among area.at 32 a || (among cell 8 a || (not c && among head 8 a))) some
+      ∙ ap (λ b. among area.at 32 a || (among cell 8 a || b)) is
+      ∙ ap (λ b. among area.at 32 a || b) (or_true (among cell 8 a)) ∙ or_true (among area.at 32 a))
+      head 8 (each_among head 8 head 8 (omega arith) (omega arith))
+
+  here : (k : ℕ) → 4 ≤ k → k < 12 → is_inside (pop_range at) (at + 4 * k) ≡ true
+  here k from lt = inside_at s (pop_form p) at area h t begun Inside Done (pop_formed p) held place k from lt
+
+  out : is_inside (pop_range at) (at + 48) ≡ false
+  out = let low = place.low in behind_range (pop_form p) at 12 low (omega arith) (omega arith)
+
+  -- THE PATH
+
+  abbrev temps_0 : ℕ → ℕ
+  temps_0 = put 5 (cells + 64 * h) (put 5 (64 * h) (put 6 h (register old)))
+
+  abbrev temps_1 : ℕ → ℕ
+  temps_1 = put p.value head temps_0
+
+  five_kept : 5 ≢ p.value
+  five_kept = scratch_not 5 p.value refl slots.value
+
+  -- the list has no node
+  ends : (y : Stand) → IsAt (is_changed p) old (at + 36) temps_1 [] y → eqb head 0 ≡ true → KeepsOn w y
+  ends y was none =
+      let low = place.low in
+      let even = place.aligned in
+      then_branch w (at + 36) _ [] y was (here 9 (omega arith) (omega arith)) refl
+      (inst.Beq p.value 0 (pos 12)) (held.holds 9 (inst.Beq p.value 0 (pos 12)) refl) 0 (at + 48)
+      (λ f like. means_beq_taken f (at + 36) p.value 0 (pos 12) head 0 (at + 48)
+      (like.temp p.value (value_changed p) ∙ put_same p.value head temps_0) refl none (omega arith) (omega arith))
+      (inr out)
+      (λ v last. leaves w (at + 48) _ _ v last out (inr (refl, (put_same p.value head temps_0, inl (none, refl)))))
+
+  -- it has one
+  unlinks : (y : Stand) → IsAt (is_changed p) old (at + 36) temps_1 [] y → eqb head 0 ≡ false → KeepsOn w y
+  unlinks y was some =
+      let low = place.low in
+      let low_cells = place.apart.low_cells in
+      then_branch w (at + 36) _ [] y was (here 9 (omega arith) (omega arith)) refl
+      (inst.Beq p.value 0 (pos 12)) (held.holds 9 (inst.Beq p.value 0 (pos 12)) refl) 0 (at + 40)
+      (λ f like. means_beq_not f (at + 36) (at + 40) (omega arith) p.value 0 (pos 12) head 0
+      (like.temp p.value (value_changed p) ∙ put_same p.value head temps_0) refl some)
+      (inl ((omega arith), (omega arith)))
+      (λ z now.
+      then_load w (at + 40) _ [] z now (here 10 (omega arith) (omega arith)) refl
+      (inst.Ld 6 p.value (pos 0)) (held.holds 10 (inst.Ld 6 p.value (pos 0)) refl)
+      head 8 6 next_word.0 (at + 44) true
+      (λ f like. means_ld f (at + 40) 6 p.value (pos 0) head head
+      (like.temp p.value (value_changed p) ∙ put_same p.value head temps_0) (omega arith))
+      (in_node some) (word_unchanged seen head 8 ∙ next_word.1) refl refl (omega arith) (omega arith)
+      (omega arith) (omega arith)
+      (λ u then.
+      then_store w (at + 44) _ [] u then (here 11 (omega arith) (omega arith)) refl
+      (inst.Sd 5 6 (pos 0)) (held.holds 11 (inst.Sd 5 6 (pos 0)) refl)
+      cell 8 next (at + 48)
+      (λ f like. means_sd f (at + 44) 5 6 (pos 0) cell cell next next
+      (like.temp 5 refl ∙ put_other p.value head temps_0 5 five_kept) (omega arith)
+      (like.temp 6 refl ∙ loaded_word next_word.0) (omega arith))
+      in_cell (omega arith) (omega arith) (omega arith)
+      (λ v last. leaves w (at + 48) _ _ v last out (inr (refl, (value_there, inr (some, refl)))))))
+    where
+      value_there : put 6 (loaded next_word.0 8 true) temps_1 p.value ≡ head
+      value_there = put_other 6 (loaded next_word.0 8 true) temps_1 p.value
+          (λ same. scratch_not 6 p.value refl slots.value (sym same)) ∙ put_same p.value head temps_0
+
+  by_head : (y : Stand) → IsAt (is_changed p) old (at + 36) temps_1 [] y → (b : Bool) → eqb head 0 ≡ b → KeepsOn w y
+  by_head y was true is = ends y was is
+  by_head y was false is = unlinks y was is
+
+  keeps : KeepsOn w (alone_from s h t begun 0)
+  keeps =
+      let low = place.low in
+      let low_cells = place.apart.low_cells in
+      to_cell s (pop_form p) at area h t begun Inside Done (pop_formed p) held place 6 64 (begins_so p slots) refl
+      area_bytes cells refl (omega arith)
+      (λ y now.
+      then_load w (at + 32) _ [] y now (here 8 (omega arith) (omega arith)) refl
+      (inst.Ld p.value 5 (pos 0)) (held.holds 8 (inst.Ld p.value 5 (pos 0)) refl)
+      cell 8 p.value old_word.0 (at + 36) true (λ f like. means_ld f (at + 32) p.value 5 (pos 0) cell cell
+      (like.temp 5 refl) (omega arith))
+      in_cell (word_unchanged seen cell 8 ∙ old_word.1) (value_changed p) (some_value p slots) slots.low_value
+      (omega arith) (omega arith) (omega arith)
+      (λ z next. by_head z
+      (subst (λ n. IsAt (is_changed p) old (at + 36) (put p.value n temps_0) [] z) head_is next) (eqb head 0) refl))
+
+  -- WHAT WAS DONE
+
+  same_cell : (temps : ℕ → ℕ) (es : List Store) (last : History)
+      → IsAfter s (pop_form p) at area h t begun Inside Done temps es last → es ≡ []
+      → cell_seen s h cells last ≡ cell_seen s h cells begun
+  same_cell temps es last after none =
+      after.sees cell in_cell ∙ ap (λ (x : List Store). word_at (seen_byte x seen) cell 8) none
+      ∙ word_unchanged seen cell 8
+
+  same_stores : (temps : ℕ → ℕ) (es : List Store) (last : History)
+      → IsAfter s (pop_form p) at area h t begun Inside Done temps es last → es ≡ []
+      → stores h last ≡ stores h begun
+  same_stores temps es last after none =
+      after.stored ∙ ap (λ (x : List Store). stores h begun ++ x) none ∙ append-nil (stores h begun)
+
+  pops : (temps : ℕ → ℕ) (es : List Store) (last : History)
+      → IsAfter s (pop_form p) at area h t begun Inside Done temps es last → Ended es
+      → Pops s cells h head begun last
+  pops temps es last after (inl none) =
+      pops_none (eqb-true head 0 none.0) (same_cell temps es last after none.1) (same_stores temps es last after none.1)
+  pops temps es last after (inr some) =
+      pops_first (eqb-false head 0 some.0) next_word.0 next_word.1
+      (after.sees cell in_cell ∙ ap (λ (x : List Store). word_at (seen_byte x seen) cell 8) some.1
+      ∙ stored_word (sees s h begun) (cell_store cells h next) (omega arith))
+      (after.stored ∙ ap (λ (x : List Store). stores h begun ++ x) some.1)
+
+  points : (es : List Store) → es ≡ [] → word_at (seen_byte es seen) (area.at + 8) 8 ≡ word_at seen (area.at + 8) 8
+  points es none = ap (λ (x : List Store). word_at (seen_byte x seen) (area.at + 8) 8) none
+      ∙ word_unchanged seen (area.at + 8) 8
+
+  points_done : (es : List Store) → Ended es
+      → word_at (seen_byte es seen) (area.at + 8) 8 ≡ word_at seen (area.at + 8) 8
+  points_done es (inl none) = points es none.1
+  points_done es (inr some) =
+      ap (λ (x : List Store). word_at (seen_byte x seen) (area.at + 8) 8) some.1
+      ∙ beside_word seen (cell_store cells h next) (area.at + 8) 8 (beside_pointer cell area.at place.apart.beside)
+
+  path : HasPath s (pop_form p) at area h t begun Inside Done
+  path = record {
+    keeps = keeps;
+    nothing = refl;
+    area_bytes = area_bytes;
+    points = points;
+    points_done = λ temps es done. points_done es done.1;
+    partial = λ temps es last after none. record {
+      same = same_cell temps es last after none;
+      stored = same_stores temps es last after none;
+      kept = after.kept;
+    };
+    whole = λ temps es last after done. record {
+      popped = after.temp p.value (value_changed p) ∙ done.0;
+      pops = pops temps es last after done.1;
+      kept = after.kept;
+    };
+  }
+
+-- the course of a pop block
+pub pop_course : (p : Slots) → HasCourse (pop_form p)
+pop_course p = record {
+  formed = pop_formed p;
+  course = λ s at area h t begun held slots place.
+      course_of s (pop_form p) at area h t begun (Inside s p at area h t begun held slots place)
+      (Done s p at area h t begun held slots place) (pop_formed p) place (path s p at area h t begun held slots place);
+}

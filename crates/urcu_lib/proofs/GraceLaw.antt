@@ -1,0 +1,676 @@
+-- A section that began before a grace period began has ended before it ended.
+use Rattle.std.proofs.Common.{◌≡◌, ◌≢◌, ℕ, zero, suc, ◌+◌, ◌*◌, ◌<◌, ◌≤◌, ◌%◌, ◌^◌, List, [], ◌∷◌, ◌++◌, ◌⊎◌, append_assoc, arith, refl, sym, ap, ◌∙◌, subst, true, inl, inr, Some, None, pos}
+use Rattle.std.proofs.lemmas.Bool.{cases_eq, ne_eqb, false≢true}
+use Rattle.mach_types.specs.Events.{choice_of}
+use Rattle.mach_types.specs.Registers.{register}
+use Rattle.mach_types.specs.declared.events.Choice.TheVariants as asked
+use Rattle.mach_types.specs.declared.registers.Regs.{Regs}
+use Rattle.mach_types.specs.declared.threads.Saved.{Saved}
+use Rattle.rv_inst.specs.Memory.{loaded}
+use Rattle.rv_inst.specs.Words.{sum_64}
+use Rattle.rv_inst.specs.declared.instruction.Inst.TheVariants as inst
+use Rattle.alone.proofs.Laws.{loaded_word, written_other, written_same}
+use Rattle.alone.proofs.Means.{means_ld, means_sd}
+use Rattle.alone_laws.specs.Spans.{code_of, seen_at}
+use Rattle.block_model.proofs.Laws.{IsStep, has_registers, one_hart, step_of}
+use Rattle.mach_types.specs.Bytes.{word_at}
+use Rattle.block_model.specs.History.{Event, History, file, running, waiting}
+use Rattle.block_model.specs.Run.{IsRunHistory}
+use Rattle.block_model.specs.Setting.{Setting}
+use Rattle.block_model.specs.Walks.{is_exec}
+use Rattle.urcu_lib.specs.Blocks.{AreBlocks, Urcu, counter_bytes, slot_at, slot_bytes}
+use Rattle.urcu_lib.specs.declared.regs.ReadRegs.{ReadRegs}
+use Rattle.urcu_lib.specs.declared.regs.SyncRegs.{SyncRegs}
+use Rattle.fence_laws.specs.Entered.{HaveEntered}
+use Rattle.fence_laws.specs.Kept.{AreBeside, AreQuiet, IsQuiet}
+use Rattle.urcu_lib.specs.Sections.{HaveEnded, IsGrace, IsGraceBegin, IsExecAt, IsGraceEnd, IsSyncStore, IsSyncing, calls, comes_in, is_in, waits}
+use Rattle.urcu_lib.specs.Stretch.{HasFinished, HasReturned, IsPassing, Runs, it_rests, it_runs, none_run}
+use Rattle.urcu_lib.specs.Registers.{AreSyncRegs}
+use Rattle.urcu_lib.specs.Uses.{AreElsewhere, AreUses, HasCome, IsStart, acts, counted, goes_on, returns}
+use Rattle.urcu_lib.proofs.CounterLaw.{IsCounter, counted_low, counter_quiet, counter_start, counter_stored, in_word, new_count, same_count, seen_last, seen_word}
+use Rattle.fence_laws.proofs.ExecLaw.{after_load, after_store, exec_of}
+use Rattle.urcu_lib.proofs.SlotLaw.{in_slot, is_later}
+use Rattle.urcu_lib.proofs.SyncState.{ArePassed, HasNone, IsOpen, IsOrderly, IsPast, Stands, all_set, base, counts, has_called, has_grown, has_loaded, has_looked, has_slots, has_stored, is_over, is_some, left_at, looks, moves, one_set, open_next, passes, quiet_next, some_left, stands_next, three_set, two_set}
+use Rattle.urcu_lib.proofs.SyncSteps.{AreBelow, IsNext, next_first, next_of, none_waits, past_last, sync_stores}
+use Rattle.fence_laws.proofs.Calls.{outside_of}
+use Rattle.fence_laws.proofs.GoingOn.{HasGoneOn, has_gone_on, return_keeps}
+use Rattle.fence_laws.proofs.WordLaw.{exec_drained}
+
+first_uses : (s : Setting) (u : Urcu) (first : ℕ) (since : List Event) (x : History) → AreUses s u first (since ++ x) → AreUses s u first x
+first_uses s u first [] x uses = uses
+first_uses s u first (y ∷ since) x uses = first_uses s u first since x uses.0
+
+first_run : (s : Setting) (since : List Event) (x : History) → IsRunHistory s (since ++ x) → IsRunHistory s x
+first_run s [] x run = run
+first_run s (y ∷ since) x run = first_run s since x run.0
+
+-- WHAT A PLACE TELLS
+
+module _ (s : Setting) (u : Urcu) (first at t : ℕ) (f : Regs) (now : History) where
+  record IsGrown : Type 0 where
+    o : IsOpen s u first at t now
+    quiet : AreQuiet (counter_bytes u) o.since
+    entered : HaveEntered o.grace now
+    five : register f 5 ≡ (base s u first at t now o + 1) % 2 ^ 64
+
+  grown_at : (k : ℕ) → k ≡ 7 → Stands s u first at t f now k → IsGrown
+  grown_at k seven (has_grown is o quiet entered five) = record { o = o; quiet = quiet; entered = entered; five = five }
+  grown_at k seven (one_set is a none) = let no : ⊥ = omega arith in absurd no
+  grown_at k seven (two_set is a b none) = let no : ⊥ = omega arith in absurd no
+  grown_at k seven (three_set is a b none) = let no : ⊥ = omega arith in absurd no
+  grown_at k seven (all_set is a b c none) = let no : ⊥ = omega arith in absurd no
+  grown_at k seven (has_called is o quiet) = let no : ⊥ = omega arith in absurd no
+  grown_at k seven (has_loaded is o quiet entered five) = let no : ⊥ = omega arith in absurd no
+  grown_at k seven (has_stored is p) = let no : ⊥ = omega arith in absurd no
+  grown_at k seven (has_slots is p six) = let no : ⊥ = omega arith in absurd no
+  grown_at k seven (looks is p i lt six x passed) = let no : ⊥ = omega arith in absurd no
+  grown_at k seven (has_looked is p i lt six x passed shows) = let no : ⊥ = omega arith in absurd no
+  grown_at k seven (is_some is p i lt six x passed shows) = let no : ⊥ = omega arith in absurd no
+  grown_at k seven (passes is p i lt six x passed) = let no : ⊥ = omega arith in absurd no
+  grown_at k seven (moves is p i lt six x passed) = let no : ⊥ = omega arith in absurd no
+  grown_at k seven (counts is p i lt six x passed) = let no : ⊥ = omega arith in absurd no
+  grown_at k seven (is_over is p passed) = let no : ⊥ = omega arith in absurd no
+
+  called_at : (k : ℕ) → k ≡ 5 → Stands s u first at t f now k → (o : IsOpen s u first at t now) × AreQuiet (counter_bytes u) o.since
+  called_at k five (has_called is o quiet) = (o, quiet)
+  called_at k five (has_grown is o quiet entered x) = let no : ⊥ = omega arith in absurd no
+  called_at k five (one_set is a none) = let no : ⊥ = omega arith in absurd no
+  called_at k five (two_set is a b none) = let no : ⊥ = omega arith in absurd no
+  called_at k five (three_set is a b none) = let no : ⊥ = omega arith in absurd no
+  called_at k five (all_set is a b c none) = let no : ⊥ = omega arith in absurd no
+  called_at k five (has_loaded is o quiet entered x) = let no : ⊥ = omega arith in absurd no
+  called_at k five (has_stored is p) = let no : ⊥ = omega arith in absurd no
+  called_at k five (has_slots is p six) = let no : ⊥ = omega arith in absurd no
+  called_at k five (looks is p i lt six x passed) = let no : ⊥ = omega arith in absurd no
+  called_at k five (has_looked is p i lt six x passed shows) = let no : ⊥ = omega arith in absurd no
+  called_at k five (is_some is p i lt six x passed shows) = let no : ⊥ = omega arith in absurd no
+  called_at k five (passes is p i lt six x passed) = let no : ⊥ = omega arith in absurd no
+  called_at k five (moves is p i lt six x passed) = let no : ⊥ = omega arith in absurd no
+  called_at k five (counts is p i lt six x passed) = let no : ⊥ = omega arith in absurd no
+  called_at k five (is_over is p passed) = let no : ⊥ = omega arith in absurd no
+
+  none_at : (k : ℕ) → k ≡ 4 → Stands s u first at t f now k → HasNone s u first at t now
+  none_at k four (all_set is a b c none) = none
+  none_at k four (one_set is a none) = none
+  none_at k four (two_set is a b none) = none
+  none_at k four (three_set is a b none) = none
+  none_at k four (has_called is o quiet) = let no : ⊥ = omega arith in absurd no
+  none_at k four (has_grown is o quiet entered x) = let no : ⊥ = omega arith in absurd no
+  none_at k four (has_loaded is o quiet entered x) = let no : ⊥ = omega arith in absurd no
+  none_at k four (has_stored is p) = let no : ⊥ = omega arith in absurd no
+  none_at k four (has_slots is p six) = let no : ⊥ = omega arith in absurd no
+  none_at k four (looks is p i lt six x passed) = let no : ⊥ = omega arith in absurd no
+  none_at k four (has_looked is p i lt six x passed shows) = let no : ⊥ = omega arith in absurd no
+  none_at k four (is_some is p i lt six x passed shows) = let no : ⊥ = omega arith in absurd no
+  none_at k four (passes is p i lt six x passed) = let no : ⊥ = omega arith in absurd no
+  none_at k four (moves is p i lt six x passed) = let no : ⊥ = omega arith in absurd no
+  none_at k four (counts is p i lt six x passed) = let no : ⊥ = omega arith in absurd no
+  none_at k four (is_over is p passed) = let no : ⊥ = omega arith in absurd no
+
+  -- at another instruction than the last at least two are left
+  two_left : (k : ℕ) → k ≢ 16 → Stands s u first at t f now k → 2 ≤ left_at u k (register f 7)
+  two_left k other (all_set is a b c none) = subst (λ n. 2 ≤ left_at u n (register f 7)) (sym is) (omega arith)
+  two_left k other (one_set is a none) = subst (λ n. 2 ≤ left_at u n (register f 7)) (sym is) (omega arith)
+  two_left k other (two_set is a b none) = subst (λ n. 2 ≤ left_at u n (register f 7)) (sym is) (omega arith)
+  two_left k other (three_set is a b none) = subst (λ n. 2 ≤ left_at u n (register f 7)) (sym is) (omega arith)
+  two_left k other (has_called is o quiet) = subst (λ n. 2 ≤ left_at u n (register f 7)) (sym is) (omega arith)
+  two_left k other (has_grown is o quiet entered x) = subst (λ n. 2 ≤ left_at u n (register f 7)) (sym is) (omega arith)
+  two_left k other (has_loaded is o quiet entered x) = subst (λ n. 2 ≤ left_at u n (register f 7)) (sym is) (omega arith)
+  two_left k other (has_stored is p) = subst (λ n. 2 ≤ left_at u n (register f 7)) (sym is) (omega arith)
+  two_left k other (has_slots is p six) = subst (λ n. 2 ≤ left_at u n (register f 7)) (sym is) (omega arith)
+  two_left k other (looks is p i lt six x passed) = subst (λ n. 2 ≤ left_at u n (register f 7)) (sym is) (omega arith)
+  two_left k other (has_looked is p i lt six x passed shows) = subst (λ n. 2 ≤ left_at u n (register f 7)) (sym is) (omega arith)
+  two_left k other (is_some is p i lt six x passed shows) = subst (λ n. 2 ≤ left_at u n (register f 7)) (sym is) (omega arith)
+  two_left k other (passes is p i lt six x passed) = subst (λ n. 2 ≤ left_at u n (register f 7)) (sym is) (omega arith)
+  two_left k other (moves is p i lt six x passed) = subst (λ n. 2 ≤ left_at u n (register f 7)) (sym is) (omega arith)
+  two_left k other (counts is p i lt six x passed) = subst (λ n. 2 ≤ left_at u n (register f 7)) (sym is) (omega arith)
+  two_left k other (is_over is p passed) = absurd (other is)
+
+  over_at : (k : ℕ) → k ≡ 16 → Stands s u first at t f now k → (p : IsPast s u first at t f now) × ArePassed s u first p.opened.grace u.readers now
+  over_at k last (is_over is p passed) = (p, passed)
+  over_at k last (has_called is o quiet) = let no : ⊥ = omega arith in absurd no
+  over_at k last (has_grown is o quiet entered x) = let no : ⊥ = omega arith in absurd no
+  over_at k last (one_set is a none) = let no : ⊥ = omega arith in absurd no
+  over_at k last (two_set is a b none) = let no : ⊥ = omega arith in absurd no
+  over_at k last (three_set is a b none) = let no : ⊥ = omega arith in absurd no
+  over_at k last (all_set is a b c none) = let no : ⊥ = omega arith in absurd no
+  over_at k last (has_loaded is o quiet entered x) = let no : ⊥ = omega arith in absurd no
+  over_at k last (has_stored is p) = let no : ⊥ = omega arith in absurd no
+  over_at k last (has_slots is p six) = let no : ⊥ = omega arith in absurd no
+  over_at k last (looks is p i lt six x passed) = let no : ⊥ = omega arith in absurd no
+  over_at k last (has_looked is p i lt six x passed shows) = let no : ⊥ = omega arith in absurd no
+  over_at k last (is_some is p i lt six x passed shows) = let no : ⊥ = omega arith in absurd no
+  over_at k last (passes is p i lt six x passed) = let no : ⊥ = omega arith in absurd no
+  over_at k last (moves is p i lt six x passed) = let no : ⊥ = omega arith in absurd no
+  over_at k last (counts is p i lt six x passed) = let no : ⊥ = omega arith in absurd no
+
+-- WHO IS IN A SYNC BLOCK
+
+-- an event that executes nothing of the block for the thread leaves it there
+syncing_since : (at t : ℕ) (begun old : History) (since : List Event) → AreElsewhere at 17 t since → IsSyncing at t begun old
+    → IsSyncing at t begun (since ++ old)
+syncing_since at t begun old [] elsewhere was = was
+syncing_since at t begun old (e ∷ since) elsewhere was =
+    is_in e (since ++ old) (syncing_since at t begun old since elsewhere.0 was)
+    (λ ends. elsewhere.1 ends.exec.executes ends.of (16, omega arith, ends.exec.pc))
+
+-- one thread at a time is in one
+module _ (s : Setting) (u : Urcu) (first : ℕ) where
+  one_syncs : (at t other v : ℕ) (r q : SyncRegs) (begun since : History) → u.syncs at ≡ Some r → u.syncs other ≡ Some q → (now : History)
+      → AreUses s u first now → IsSyncing at t begun now → IsSyncing other v since now → (at ≡ other) × (t ≡ v)
+  one_syncs at t other v r q begun since block second now uses (comes_in e exec of) (comes_in x again its) =
+      (sym exec.pc ∙ again.pc, sym of ∙ its)
+  one_syncs at t other v r q begun since block second now uses (comes_in e exec of) (is_in x before was still) =
+      absurd (uses.1.alone other v q since second was (record { place = at; regs = r; block = block; exec = exec }))
+  one_syncs at t other v r q begun since block second now uses (is_in e before was still) (comes_in x again its) =
+      absurd (uses.1.alone at t r begun block was (record { place = other; regs = q; block = second; exec = again }))
+  one_syncs at t other v r q begun since block second now uses (is_in e before was still) (is_in x rest there goes) =
+      one_syncs at t other v r q begun since block second before uses.0 was there
+
+module _ (s : Setting) (u : Urcu) (first : ℕ) (blocks : AreBlocks (code_of s.program.pages) u) (start : IsStart s u first) where
+  -- WHAT HOLDS AT EACH PLACE
+
+  -- what a thread in a lock block is about to store, and where
+  record IsInLock (r : ReadRegs) (f : Regs) (now : History) : Type 0 where
+    some : 1 ≤ register f r.scratch
+    most : register f r.scratch ≤ counted u.counter first now
+    index : ℕ
+    lt : index < u.readers
+    slot : register f r.slot ≡ slot_at u index
+
+  -- a thread at instruction k of a sync block, behind its first
+  record IsInSync (at t k : ℕ) (r : SyncRegs) (f : Regs) (now : History) : Type 0 where
+    stands : Stands s u first at t f now k
+    gp : register f r.gp ≡ u.counter
+    slots : register f r.slots ≡ u.slots
+    begun : History
+    on : IsSyncing at t begun now
+
+  record IsSound (now : History) : Type 0 where
+    counter : IsCounter u.counter s first now
+    locks : (at t : ℕ) (r : ReadRegs) → u.locks at ≡ Some r → (file s t now).pc ≡ at + 4 → IsInLock r (file s t now).file now
+    syncs : (at t k : ℕ) (r : SyncRegs) → u.syncs at ≡ Some r → 0 < k → k < 17 → (file s t now).pc ≡ at + 4 * k
+        → IsInSync at t k r (file s t now).file now
+
+  abbrev Always : History → Type 0
+  Always [] = IsSound []
+  Always (e ∷ before) = Always before × (counted u.counter first before ≤ counted u.counter first (e ∷ before)) × IsSound (e ∷ before)
+
+  sound : (now : History) → Always now → IsSound now
+  sound [] all = all
+  sound (e ∷ before) all = all.2
+
+  always_at : (since : List Event) (old : History) → Always (since ++ old) → Always old
+  always_at [] old all = all
+  always_at (e ∷ since) old all = always_at since old all.0
+
+  grows : (since : List Event) (old : History) → Always (since ++ old) → counted u.counter first old ≤ counted u.counter first (since ++ old)
+  grows [] old all = omega arith
+  grows (e ∷ since) old all = let earlier = grows since old all.0 in let now = all.1 in omega arith
+
+  -- a thread whose grace period goes on is in its block
+  grace_syncs : (at t : ℕ) (r : SyncRegs) (grace : History) → u.syncs at ≡ Some r → (now : History) → IsRunHistory s now → Always now → IsGrace at t grace now
+      → (begun : History) × IsSyncing at t begun now
+  grace_syncs at t r grace block now run all (calls e begins) =
+      let of = exec_of s e grace (step_of s e grace run) begins.exec.executes in
+      let there : (file s t grace).pc ≡ at + 4 * 4 = sym (ap (λ n. (file s n grace).pc) begins.of) ∙ of.pc ∙ begins.exec.pc in
+      let was = (sound grace all.0).syncs at t 4 r block (omega arith) (omega arith) there in
+      (was.begun, is_in e grace was.on (λ ends. let one = begins.exec.pc in let two = ends.exec.pc in let no : ⊥ = omega arith in no))
+  grace_syncs at t r grace block now run all (waits e before was still) =
+      let old = grace_syncs at t r grace block before run.0 all.0 was in
+      (old.0, is_in e before old.1 still)
+
+  -- what is known of an event by what holds before it
+  orderly : (e : Event) (before : History) → IsRunHistory s (e ∷ before) → AreUses s u first (e ∷ before) → Always before
+      → ((at t : ℕ) → IsGraceBegin at t e → e.done.ended ≡ None) → IsOrderly s u first e before
+  orderly e before run uses all lives = record {
+    used = uses.1;
+    one = λ at t r grace block on x.
+        let g = grace_syncs at t r grace block before run.0 all on in
+        let place : (file s e.entry.tid.0 before).pc ≡ x.place + 4 * 7 = (exec_of s e before step x.exec.executes).pc ∙ x.exec.pc in
+        let its = (sound before all).syncs x.place e.entry.tid.0 7 x.regs x.block (omega arith) (omega arith) place in
+        let same = one_syncs s u first at t x.place e.entry.tid.0 r x.regs g.0 its.begun block x.block before uses.0 g.1 its.on in
+        (sym same.1, x.exec.pc ∙ ap (λ n. n + 28) (sym same.0));
+    once = λ at t r grace block on begins.
+        let of = exec_of s e before step begins.exec.executes in
+        let there : (file s t before).pc ≡ at + 4 * 4 = sym (ap (λ n. (file s n before).pc) begins.of) ∙ of.pc ∙ begins.exec.pc in
+        let its = (sound before all).syncs at t 4 r block (omega arith) (omega arith) there in
+        none_at s u first at t (file s t before).file before 4 refl its.stands grace on;
+    anew = λ at t r grace block on exec.
+        let g = grace_syncs at t r grace block before run.0 all on in
+        uses.1.alone at t r g.0 block g.1 (record { place = at; regs = r; block = block; exec = exec });
+    outside = λ at t r block begins.
+        let of = exec_of s e before step begins.exec.executes in
+        outside_of s e before step begins.exec.executes
+        (ap (code_of s.program.pages) (of.pc ∙ begins.exec.pc) ∙ (blocks.syncs at r block).holds 4 inst.Ecall refl) (lives at t begins);
+    many = has_registers s before run.0;
+    low = counted_low u.counter s first before (sound before all).counter;
+  }
+    where
+      step : IsStep s e before
+      step = step_of s e before run
+
+  -- what sections stored that began before a grace period
+  are_below : (now : History) → IsRunHistory s now → AreUses s u first now → Always now → (at t : ℕ)
+      → (p : IsPast s u first at t (file s t now).file now) → AreBelow s u first blocks now p.opened.grace
+  are_below now run uses all at t p i lt begun b earlier =
+      let x = b.event ∷ begun in
+      let all_x : Always x = always_at b.since x (subst Always b.parts all) in
+      let run_x : IsRunHistory s x = first_run s b.since x (subst (IsRunHistory s) b.parts run) in
+      let of = exec_of s b.event begun (step_of s b.event begun run_x) b.locks.exec.executes in
+      let holds = (sound begun all_x.0).locks b.locks.place b.event.entry.tid.0 b.locks.regs b.locks.block (of.pc ∙ b.locks.exec.pc) in
+      let o = p.opened in
+      let parts : now ≡ (o.since ++ o.call ∷ []) ++ o.grace = o.parts ∙ sym (append_assoc o.since (o.call ∷ []) o.grace) in
+      let later = is_later b.since (o.since ++ o.call ∷ []) x o.grace (sym b.parts ∙ parts) (omega arith) in
+      let all_grace : Always o.grace = always_at (o.since ++ o.call ∷ []) o.grace (subst Always parts all) in
+      let more = grows later.0 x (subst Always later.1 all_grace) in
+      let same : counted u.counter first o.grace ≡ counted u.counter first (later.0 ++ x) = ap (counted u.counter first) later.1 in
+      let one = all_x.1 in
+      let low = counted_low u.counter s first begun (sound begun all_x.0).counter in
+      let some = holds.some in
+      let most = holds.most in
+      (omega arith, omega arith)
+
+  -- where nothing of a block is executed a thread in it stands as it did
+  stands_since : (at t k : ℕ) (f : Regs) (old : History) (since : List Event) → IsRunHistory s (since ++ old) → AreUses s u first (since ++ old)
+      → Always (since ++ old) → HasGoneOn (since ++ old) → AreElsewhere at 17 t since → Stands s u first at t f old k
+      → Stands s u first at t f (since ++ old) k
+  stands_since at t k f old [] run uses all gone elsewhere was = was
+  stands_since at t k f old (e ∷ since) run uses all gone elsewhere was =
+      stands_next s u first at t e (since ++ old) run (orderly e (since ++ old) run uses all.0 (λ block thread begins. gone.1)) f elsewhere.1 k
+      (stands_since at t k f old since run.0 uses.0 all.0 gone.0 elsewhere.0 was)
+
+  -- AN EVENT
+
+  module _ (e : Event) (before : History) (run : IsRunHistory s (e ∷ before)) (uses : AreUses s u first (e ∷ before)) (all : Always before)
+      (gone : HasGoneOn before) (has : IsOrderly s u first e before) where
+    old : IsSound before
+    old = sound before all
+
+    step : IsStep s e before
+    step = step_of s e before run
+
+    -- the counter
+    abbrev CounterNext : Type 0
+    CounterNext = IsCounter u.counter s first (e ∷ before) × (counted u.counter first before ≤ counted u.counter first (e ∷ before))
+
+    counter_next : IsQuiet (counter_bytes u) e ⊎ IsSyncStore u e → CounterNext
+    counter_next (inl quiet) =
+        let same = same_count u.counter s first e before run old.counter quiet in
+        (counter_quiet u.counter s first e before run old.counter quiet, omega arith)
+    counter_next (inr x) =
+        let executes = x.exec.executes in
+        let t = e.entry.tid.0 in
+        let stands_at : (file s t before).pc ≡ x.place + 4 * 7 = (exec_of s e before step executes).pc ∙ x.exec.pc in
+        let its = old.syncs x.place t 7 x.regs x.block (omega arith) (omega arith) stands_at in
+        let g = grown_at s u first x.place t (file s t before).file before 7 refl its.stands in
+        let did = sync_stores s u first blocks x.place x.regs x.block e before run has executes its.gp its.slots x.exec.pc g.o g.quiet g.five in
+        let empty = none_waits s u first blocks x.place x.regs x.block e before run has executes its.gp its.slots g.o g.quiet g.entered in
+        let small = uses.1.small x in
+        let n = counted u.counter first before in
+        let drained = exec_drained s e before step executes in
+        let new = new_count u.counter s first e before run old.counter (n + 1) did.1 did.2 drained (omega arith) (omega arith) small empty in
+        (counter_stored u.counter s first e before run old.counter (n + 1) did.1 did.2 drained (omega arith) (omega arith) small empty, omega arith)
+
+    both : CounterNext
+    both = counter_next uses.1.counter
+
+    -- lock
+    lock_load : (at : ℕ) (r : ReadRegs) → u.locks at ≡ Some r → choice_of e.entry ≡ asked.Exec → e.entry.pc ≡ at
+        → IsInLock r (file s e.entry.tid.0 (e ∷ before)).file (e ∷ before)
+    lock_load at r block executes pc =
+        let t = e.entry.tid.0 in
+        let low_counter = blocks.low_counter in
+        let w = seen_word u.counter s first before old.counter e.entry.hart.0 in
+        let code = (blocks.locks at r block).holds 0 (inst.Ld r.scratch r.gp (pos 0)) refl in
+        let exec : IsExecAt at e = record { executes = executes; pc = pc } in
+        let after = after_load s e before step executes (at + 4 * 0) (inst.Ld r.scratch r.gp (pos 0)) (pc ∙ omega arith) code (counter_bytes u) (uses.1.counter_usable executes)
+        u.counter r.scratch w.0 (means_ld (file s t before).file (at + 4 * 0) r.scratch r.gp (pos 0) u.counter u.counter
+        (uses.1.lock_gp at r block exec) (omega arith)) (in_word u.counter) w.1 in
+        let regs = blocks.lock_regs at r block in
+        let value : register (file s t (e ∷ before)).file r.scratch ≡ loaded w.0 8 true =
+        ap (λ (x : Saved). register x.file r.scratch) after
+        ∙ written_same (file s t before).file r.scratch (loaded w.0 8 true) (ne_eqb r.scratch 0 regs.scratch.some)
+        (subst (λ n. r.scratch < n) (sym (has.many t)) regs.scratch.low) in
+        let is = value ∙ loaded_word w.0 in
+        let some = w.2 in
+        let most = w.3 in
+        let few = w.4 in
+        let more = both.1 in
+        let to = uses.1.lock_slot at r block exec in
+        record {
+          some = omega arith;
+          most = omega arith;
+          index = to.0;
+          lt = to.1;
+          slot = ap (λ (x : Saved). register x.file r.slot) after ∙ written_other (file s t before).file r.scratch (loaded w.0 8 true) r.slot regs.slot_scratch
+              ∙ to.2;
+        }
+
+    lock_stored : (at : ℕ) (r : ReadRegs) → u.locks at ≡ Some r → choice_of e.entry ≡ asked.Exec → e.entry.pc ≡ at + 4 → (file s e.entry.tid.0 (e ∷ before)).pc ≡ at + 4 → ⊥
+    lock_stored at r block executes pc stays =
+        let t = e.entry.tid.0 in
+        let low = blocks.low_locks at r block in
+        let slots_low = blocks.low_slots in
+        let was = old.locks at t r block ((exec_of s e before step executes).pc ∙ pc) in
+        let lt = was.lt in
+        let f = (file s t before).file in
+        let after = after_store s e before step executes (at + 4) (inst.Sd r.slot r.scratch (pos 0)) pc
+        ((blocks.locks at r block).holds 1 (inst.Sd r.slot r.scratch (pos 0)) refl) (slot_bytes u was.index) (uses.1.slot_usable was.index was.lt executes)
+        (slot_at u was.index) (register f r.scratch % 2 ^ 64)
+        (means_sd f (at + 4) r.slot r.scratch (pos 0) (slot_at u was.index) (slot_at u was.index) (register f r.scratch) (register f r.scratch % 2 ^ 64) was.slot (omega arith) refl refl)
+        (in_slot s u first blocks was.index was.lt) in
+        let there : sum_64 (at + 4) 4 ≡ at + 4 = sym (ap (λ (x : Saved). x.pc) after.0) ∙ stays in
+        omega arith
+
+    locks_next : (at t : ℕ) (r : ReadRegs) → u.locks at ≡ Some r → (file s t (e ∷ before)).pc ≡ at + 4 → HasCome s at 2 0 t e before
+        → IsInLock r (file s t (e ∷ before)).file (e ∷ before)
+    locks_next at t r block there (acts of executes (zero, lt, pc)) =
+        subst (λ n. IsInLock r (file s n (e ∷ before)).file (e ∷ before)) of (lock_load at r block executes (pc ∙ omega arith))
+    locks_next at t r block there (acts of executes (suc k, lt, pc)) =
+        absurd (lock_stored at r block executes (pc ∙ omega arith) (ap (λ n. (file s n (e ∷ before)).pc) of ∙ there))
+    locks_next at t r block there (returns is was stays) = let no : ⊥ = omega arith in absurd no
+    locks_next at t r block there (goes_on place since parts elsewhere same) =
+        let all_place = always_at since place (subst Always parts all) in
+        let was = (sound place all_place).locks at t r block (sym (ap (λ (x : Saved). x.pc) same) ∙ there) in
+        let more = grows since place (subst Always parts all) in
+        let now_more = both.1 in
+        let is : counted u.counter first before ≡ counted u.counter first (since ++ place) = ap (counted u.counter first) parts in
+        let value : register (file s t (e ∷ before)).file r.scratch ≡ register (file s t place).file r.scratch = ap (λ (x : Saved). register x.file r.scratch) same in
+        let some = was.some in
+        let most = was.most in
+        record { some = omega arith; most = omega arith; index = was.index; lt = was.lt; slot = ap (λ (x : Saved). register x.file r.slot) same ∙ was.slot }
+
+    -- sync
+    module _ (at t k : ℕ) (r : SyncRegs) (block : u.syncs at ≡ Some r) (lt : k < 17) (there : (file s t (e ∷ before)).pc ≡ at + 4 * k) where
+      regs : AreSyncRegs r
+      regs = blocks.sync_regs at r block
+
+      -- by an instruction of the block
+      module _ (j : ℕ) (executes : choice_of e.entry ≡ asked.Exec) (of : e.entry.tid.0 ≡ t) (pc : e.entry.pc ≡ at + 4 * j)
+          (gp : register (file s e.entry.tid.0 before).file r.gp ≡ u.counter) (slots : register (file s e.entry.tid.0 before).file r.slots ≡ u.slots)
+          (next : IsNext s u first blocks at r block e before run has executes gp slots j) where
+        not_end : IsGraceEnd at t e → ⊥
+        not_end ends =
+            let last : e.entry.pc ≡ at + 4 * 16 = ends.exec.pc in
+            let out = past_last s u first blocks at r block e before run has executes gp slots last in
+            let same : at + 4 * 17 ≡ at + 4 * k = sym out ∙ ap (λ n. (file s n (e ∷ before)).pc) of ∙ there in
+            let no : ⊥ = omega arith in
+            no
+
+        came : (begun : History) → IsSyncing at t begun (e ∷ before) → IsInSync at t k r (file s t (e ∷ before)).file (e ∷ before)
+        came begun on =
+            let same : at + 4 * next.to ≡ at + 4 * k = sym next.pc ∙ ap (λ n. (file s n (e ∷ before)).pc) of ∙ there in
+            let to : next.to ≡ k = omega arith in
+            record {
+              stands = subst (λ n. Stands s u first at n (file s n (e ∷ before)).file (e ∷ before) k) of
+                  (subst (λ n. Stands s u first at e.entry.tid.0 (file s e.entry.tid.0 (e ∷ before)).file (e ∷ before) n) to (next.stands (omega arith)));
+              gp = sym (ap (λ n. register (file s n (e ∷ before)).file r.gp) of) ∙ next.keeps r.gp regs.gp.some regs.gp_kept ∙ gp;
+              slots = sym (ap (λ n. register (file s n (e ∷ before)).file r.slots) of) ∙ next.keeps r.slots regs.slots.some regs.slots_kept ∙ slots;
+              begun = begun;
+              on = on;
+            }
+
+      syncs_next : 0 < k → HasCome s at 17 17 t e before → IsInSync at t k r (file s t (e ∷ before)).file (e ∷ before)
+      syncs_next some (acts of executes (zero, low, pc)) =
+          let exec : IsExecAt at e = record { executes = executes; pc = pc ∙ omega arith } in
+          let gp = uses.1.sync_gp at r block exec in
+          let slots = uses.1.sync_slots at r block exec in
+          came 0 executes of pc gp slots
+          (next_first s u first blocks at r block e before run has executes gp slots old.counter uses.0 (are_below before run.0 uses.0 all at e.entry.tid.0) (pc ∙ omega arith))
+          before (comes_in e exec of)
+      syncs_next some (acts of executes (suc j, low, pc)) =
+          let stands_at : (file s e.entry.tid.0 before).pc ≡ at + 4 * suc j = (exec_of s e before step executes).pc ∙ pc in
+          let was = old.syncs at e.entry.tid.0 (suc j) r block (omega arith) low stands_at in
+          let next = next_of s u first blocks at r block e before run has executes was.gp was.slots old.counter uses.0 (are_below before run.0 uses.0 all at e.entry.tid.0) (suc j) pc was.stands in
+          came (suc j) executes of pc was.gp was.slots next was.begun
+          (is_in e before (subst (λ n. IsSyncing at n was.begun before) of was.on) (not_end (suc j) executes of pc was.gp was.slots next))
+      syncs_next some (returns is was stays) =
+          let its = old.syncs at t 5 r block (omega arith) (omega arith) was in
+          let c = called_at s u first at t (file s t before).file before 5 refl its.stands in
+          let same : k ≡ 5 = omega arith in
+          let not_exec : choice_of e.entry ≢ asked.Exec = λ executes. false≢true (sym (ap is_exec is) ∙ ap is_exec executes) in
+          record {
+            stands = has_called same (open_next s u first at t e before run has (λ ends. not_exec ends.exec.executes) c.0)
+                (quiet_next s u first at t e before run has c.0 (λ of exec. not_exec exec.executes) c.1);
+            gp = return_keeps s e before step is t r.gp regs.gp_kept.not_10 ∙ its.gp;
+            slots = return_keeps s e before step is t r.slots regs.slots_kept.not_10 ∙ its.slots;
+            begun = its.begun;
+            on = is_in e before its.on (λ ends. not_exec ends.exec.executes);
+          }
+      syncs_next some (goes_on place since parts elsewhere same) =
+          let all_place = always_at since place (subst Always parts all) in
+          let was = (sound place all_place).syncs at t k r block some lt (sym (ap (λ (x : Saved). x.pc) same) ∙ there) in
+          let uses_there : AreUses s u first (since ++ place) = subst (AreUses s u first) parts uses.0 in
+          let on_there : IsSyncing at t was.begun before = subst (IsSyncing at t was.begun) (sym parts) (syncing_since at t was.begun place since elsewhere.0 was.on) in
+          let there_still = stands_since at t k (file s t place).file place since (subst (IsRunHistory s) parts run.0) uses_there (subst Always parts all) (subst HasGoneOn parts gone) elsewhere.0 was.stands in
+          let still : Stands s u first at t (file s t place).file before k = subst (λ (b : History). Stands s u first at t (file s t place).file b k) (sym parts) there_still in
+          record {
+            stands = subst (λ (x : Saved). Stands s u first at t x.file (e ∷ before) k) (sym same)
+                (stands_next s u first at t e before run has (file s t place).file elsewhere.1 k still);
+            gp = ap (λ (x : Saved). register x.file r.gp) same ∙ was.gp;
+            slots = ap (λ (x : Saved). register x.file r.slots) same ∙ was.slots;
+            begun = was.begun;
+            on = is_in e before on_there (λ ends. elsewhere.1 ends.exec.executes ends.of (16, omega arith, ends.exec.pc));
+          }
+
+    sound_next : IsSound (e ∷ before)
+    sound_next = record {
+      counter = both.0;
+      locks = λ at t r block there. locks_next at t r block there (uses.1.locking at t r block there);
+      syncs = λ at t k r block some lt there. syncs_next at t k r block lt there some (uses.1.syncing at t k r block some lt there);
+    }
+
+  sound_start : IsSound []
+  sound_start = record {
+    counter = counter_start u.counter s first start.counter start.some start.fits;
+    locks = λ at t r block there. absurd (start.locking at r block there);
+    syncs = λ at t k r block some lt there. absurd (start.syncing at k r block some lt there);
+  }
+
+  always : (history : History) → IsRunHistory s history → AreUses s u first history → HasGoneOn history → Always history
+  always [] run uses gone = sound_start
+  always (e ∷ before) run uses gone =
+      let all = always before run.0 uses.0 gone.0 in
+      let has = orderly e before run uses all (λ at t begins. gone.1) in
+      (all, (both e before run uses all gone.0 has).1, sound_next e before run uses all gone.0 has)
+
+  -- what holds before an event of a run
+  sound_before : (e : Event) (before : History) → IsRunHistory s (e ∷ before) → AreUses s u first before → Always before
+  sound_before e before run uses = always before run.0 uses (has_gone_on s e before run)
+
+  -- a thread that executes the last instruction of a sync block has looked at each slot
+  at_last : (e : Event) (before : History) → IsRunHistory s (e ∷ before) → AreUses s u first (e ∷ before)
+      → (at t : ℕ) (r : SyncRegs) → u.syncs at ≡ Some r → IsGraceEnd at t e → IsInSync at t 16 r (file s t before).file before
+  at_last e before run uses at t r block ends =
+      let all = sound_before e before run uses.0 in
+      let of = exec_of s e before (step_of s e before run) ends.exec.executes in
+      let there : (file s t before).pc ≡ at + 4 * 16 = sym (ap (λ n. (file s n before).pc) ends.of) ∙ of.pc ∙ ends.exec.pc in
+      (sound before all).syncs at t 16 r block (omega arith) (omega arith) there
+
+  pub grace_ends : (e : Event) (before : History) → IsRunHistory s (e ∷ before) → AreUses s u first (e ∷ before)
+      → (at t : ℕ) (r : SyncRegs) → u.syncs at ≡ Some r → IsGraceEnd at t e → HaveEnded s u at t before
+  grace_ends e before run uses at t r block ends i section grace lt on in_section earlier =
+      let over = over_at s u first at t (file s t before).file before 16 refl (at_last e before run uses at t r block ends).stands in
+      let newest = over.0.opened.newest grace on in
+      over.1 i lt section in_section (omega arith)
+
+  -- THE SYNC BLOCK IS SOON OVER
+
+  module _ (at t : ℕ) (r : SyncRegs) (block : u.syncs at ≡ Some r) (begun : History) (there : (file s t begun).pc ≡ at) where
+    abbrev most : ℕ
+    most = 11 + 6 * u.readers
+
+    abbrev left_now : ℕ → History → ℕ
+    left_now k now = left_at u k (register (file s t now).file 7)
+
+    -- what is known of the load
+    record IsKnown (k : ℕ) (f : Regs) : Type 0 where
+      looked : k ≡ 11 → IsPassing f
+      tested : k ≡ 12 → IsPassing f × (register f 10 ≢ 0)
+
+    data Goes (now : History) (n : ℕ) : Type 0 where
+      has_finished : HasFinished s at t most begun now → Goes now n
+      stands_at : (k : ℕ) → k < 17 → (file s t now).pc ≡ at + 4 * k → left_now k now + n ≤ most → IsKnown k (file s t now).file → Goes now n
+
+    one_later : (e : Event) (before : History) → HasFinished s at t most begun before → HasFinished s at t most begun (e ∷ before)
+    one_later e before f = record {
+      event = f.event;
+      rest = f.rest;
+      since = e ∷ f.since;
+      parts = ap (λ (b : History). e ∷ b) f.parts;
+      ends = f.ends;
+      executed = f.executed;
+      run = f.run;
+      few = f.few;
+    }
+
+    not_less : (f : Regs) → IsPassing f × (register f 10 ≢ 0) → register f 5 ≤ register f 10
+    not_less f (inl none, some) = absurd (some none)
+    not_less f (inr le, some) = le
+
+    -- after an instruction of the block
+    after_next : (e : Event) (before : History) (n k : ℕ) (run : IsRunHistory s (e ∷ before)) (has : IsOrderly s u first e before) (executes_it : choice_of e.entry ≡ asked.Exec)
+        (gp : register (file s e.entry.tid.0 before).file r.gp ≡ u.counter) (slots : register (file s e.entry.tid.0 before).file r.slots ≡ u.slots)
+        → e.entry.tid.0 ≡ t → k < 17 → k ≢ 16 → IsKnown k (file s t before).file → (k ≡ 10 → IsPassing (file s t (e ∷ before)).file)
+        → left_now k before + n ≤ most → IsNext s u first blocks at r block e before run has executes_it gp slots k → Goes (e ∷ before) (suc n)
+    after_next e before n k run has executes_it gp slots of lt other known loads left next =
+        let inside = next.inside other in
+        let falls = next.falls (subst (λ m. k ≡ 12 → register (file s m before).file 5 ≤ register (file s m before).file 10) (sym of) (λ is. not_less (file s t before).file (known.tested is))) inside in
+        let falls_t = subst (λ m. left_at u next.to (register (file s m (e ∷ before)).file 7) + 1 ≤ left_at u k (register (file s m before).file 7)) of falls in
+        stands_at next.to inside (sym (ap (λ m. (file s m (e ∷ before)).pc) of) ∙ next.pc)
+        (sums (left_at u next.to (register (file s t (e ∷ before)).file 7)) (left_at u k (register (file s t before).file 7)) falls_t left)
+        (record {
+          looked = λ is. (subst (λ m. next.to ≡ 11 → (k ≡ 10 → IsPassing (file s m (e ∷ before)).file) → IsPassing (file s m (e ∷ before)).file) of next.looked) is loads;
+          tested = λ is. (subst (λ m. next.to ≡ 12 → (k ≡ 11 → IsPassing (file s m before).file) → IsPassing (file s m (e ∷ before)).file × (register (file s m (e ∷ before)).file 10 ≢ 0)) of next.tested) is known.looked;
+        })
+      where
+        sums : (a b : ℕ) → a + 1 ≤ b → b + n ≤ most → a + suc n ≤ most
+        sums a b falls left = omega arith
+
+    -- the last instruction
+    finished_by : (e : Event) (before : History) (m k : ℕ) → IsRunHistory s (e ∷ before) → choice_of e.entry ≡ asked.Exec → e.entry.tid.0 ≡ t
+        → Runs s at t begun before m → (file s t before).pc ≡ at + 4 * k → left_now k before + m ≤ most → k ≡ 16 → HasFinished s at t most begun (e ∷ before)
+    finished_by e before m k run executes_it of was place left last =
+        let acts_it = exec_of s e before (step_of s e before run) executes_it in
+        let pc : e.entry.pc ≡ at + 64 = sym acts_it.pc ∙ ap (λ j. (file s j before).pc) of ∙ place ∙ ap (λ j. at + 4 * j) last in
+        record {
+          event = e;
+          rest = before;
+          since = [];
+          parts = refl;
+          ends = record { exec = record { executes = executes_it; pc = pc }; of = of };
+          executed = m;
+          run = was;
+          few = fewer (left_at u k (register (file s t before).file 7)) (some_left u k (register (file s t before).file 7)) left;
+        }
+      where
+        fewer : (a : ℕ) → 1 ≤ a → a + m ≤ most → m < most
+        fewer a some left = omega arith
+
+    goes : (now : History) (n : ℕ) → IsRunHistory s now → AreUses s u first now → HasGoneOn now → Runs s at t begun now n → Goes now n
+    goes now n run uses gone none_run = stands_at 0 (omega arith) (there ∙ omega arith) (omega arith) (record { looked = λ is. let no : ⊥ = omega arith in absurd no; tested = λ is. let no : ⊥ = omega arith in absurd no })
+    goes now n run uses gone (it_rests e before m other keeps was) = by_was (goes before m run.0 uses.0 gone.0 was)
+      where
+        by_file : (k : ℕ) → k < 17 → (file s t before).pc ≡ at + 4 * k → left_now k before + m ≤ most → IsKnown k (file s t before).file → (file s t (e ∷ before) ≡ file s t before) ⊎ HasReturned s at t e before → Goes (e ∷ before) m
+        by_file k lt place left known (inl same) =
+            stands_at k lt (ap (λ (x : Saved). x.pc) same ∙ place)
+            (subst (λ (x : Saved). left_at u k (register x.file 7) + m ≤ most) (sym same) left) (subst (λ (x : Saved). IsKnown k x.file) (sym same) known)
+        by_file k lt place left known (inr returned) =
+            let was_at = returned.was in
+            let five : k ≡ 5 = omega arith in
+            let old : left_at u 5 (register (file s t before).file 7) + m ≤ most = subst (λ j. left_at u j (register (file s t before).file 7) + m ≤ most) five left in
+            stands_at 5 (omega arith) returned.stays old (record { looked = λ is. let no : ⊥ = omega arith in absurd no; tested = λ is. let no : ⊥ = omega arith in absurd no })
+
+        by_was : Goes before m → Goes (e ∷ before) m
+        by_was (has_finished f) = has_finished (one_later e before f)
+        by_was (stands_at k lt place left known) = by_file k lt place left known keeps
+    goes now n run uses gone (it_runs e before m executes_it of good was) = by_was (goes before m run.0 uses.0 gone.0 was)
+      where
+        by_k : (k : ℕ) → k < 17 → (file s t before).pc ≡ at + 4 * k → left_now k before + m ≤ most → IsKnown k (file s t before).file → (k ≡ 16) ⊎ (k ≢ 16) → Goes (e ∷ before) (suc m)
+        by_k k lt place left known (inl last) = has_finished (finished_by e before m k run executes_it of was place left last)
+        by_k zero lt place left known (inr other) =
+            let all = always before run.0 uses.0 gone.0 in
+            let has = orderly e before run uses all (λ at t begins. gone.1) in
+            let acts_it = exec_of s e before (step_of s e before run) executes_it in
+            let pc : e.entry.pc ≡ at = sym acts_it.pc ∙ ap (λ j. (file s j before).pc) of ∙ place ∙ omega arith in
+            let exec : IsExecAt at e = record { executes = executes_it; pc = pc } in
+            let gp = uses.1.sync_gp at r block exec in
+            let slots = uses.1.sync_slots at r block exec in
+            after_next e before m 0 run has executes_it gp slots of lt other known (λ is. let no : ⊥ = omega arith in absurd no) left
+            (next_first s u first blocks at r block e before run has executes_it gp slots (sound before all).counter uses.0
+            (are_below before run.0 uses.0 all at e.entry.tid.0) pc)
+        by_k (suc j) lt place left known (inr other) =
+            let all = always before run.0 uses.0 gone.0 in
+            let has = orderly e before run uses all (λ at t begins. gone.1) in
+            let acts_it = exec_of s e before (step_of s e before run) executes_it in
+            let here : (file s e.entry.tid.0 before).pc ≡ at + 4 * suc j = ap (λ i. (file s i before).pc) of ∙ place in
+            let pc : e.entry.pc ≡ at + 4 * suc j = sym acts_it.pc ∙ here in
+            let its = (sound before all).syncs at e.entry.tid.0 (suc j) r block (omega arith) lt here in
+            after_next e before m (suc j) run has executes_it its.gp its.slots of lt other known (λ is. good (pc ∙ ap (λ i. at + 4 * i) is)) left
+            (next_of s u first blocks at r block e before run has executes_it its.gp its.slots (sound before all).counter uses.0
+            (are_below before run.0 uses.0 all at e.entry.tid.0) (suc j) pc its.stands)
+
+        by_was : Goes before m → Goes (e ∷ before) (suc m)
+        by_was (has_finished f) = has_finished (one_later e before f)
+        by_was (stands_at k lt place left known) = by_k k lt place left known (cases_eq k 16)
+
+    -- where so many instructions were executed, one of them was the last
+    too_many : (a n : ℕ) → 1 ≤ a → a + n ≤ most → most ≤ n → ⊥
+    too_many a n some left le = omega arith
+
+    over_by : (now : History) (n : ℕ) → most ≤ n → Goes now n → HasFinished s at t most begun now
+    over_by now n le (has_finished f) = f
+    over_by now n le (stands_at k lt place left known) =
+        absurd (too_many (left_at u k (register (file s t now).file 7)) n (some_left u k (register (file s t now).file 7)) left le)
+
+    -- the last event of a log may end the process
+    at_end : (e : Event) (before : History) (m : ℕ) → IsRunHistory s (e ∷ before) → AreUses s u first (e ∷ before) → choice_of e.entry ≡ asked.Exec
+        → e.entry.tid.0 ≡ t → Runs s at t begun before m → most ≤ suc m → Goes before m → HasFinished s at t most begun (e ∷ before)
+    at_end e before m run uses executes_it of was le (has_finished f) = one_later e before f
+    at_end e before m run uses executes_it of was le (stands_at k lt place left known) = by_k (cases_eq k 16)
+      where
+        two : (k ≢ 16) → 2 ≤ left_at u k (register (file s t before).file 7)
+        two other = by_zero k refl
+          where
+            by_zero : (j : ℕ) → k ≡ j → 2 ≤ left_at u k (register (file s t before).file 7)
+            by_zero zero is = subst (λ n. 2 ≤ left_at u n (register (file s t before).file 7)) (sym is) (omega arith)
+            by_zero (suc j) is =
+                two_left s u first at t (file s t before).file before k other
+                ((sound before (sound_before e before run uses.0)).syncs at t k r block (omega arith) lt place).stands
+
+        by_k : (k ≡ 16) ⊎ (k ≢ 16) → HasFinished s at t most begun (e ∷ before)
+        by_k (inl last) = finished_by e before m k run executes_it of was place left last
+        by_k (inr other) =
+            let no : ⊥ = few (left_at u k (register (file s t before).file 7)) (two other) left in
+            absurd no
+          where
+            few : (a : ℕ) → 2 ≤ a → a + m ≤ most → ⊥
+            few a some left = omega arith
+
+    pub is_soon_over : (now : History) (n : ℕ) → IsRunHistory s now → AreUses s u first now → Runs s at t begun now n → most ≤ n → HasFinished s at t most begun now
+    is_soon_over now n run uses none_run le = let no : ⊥ = omega arith in absurd no
+    is_soon_over now n run uses (it_rests e before m other keeps was) le =
+        one_later e before (over_by before n le (goes before n run.0 uses.0 (has_gone_on s e before run) was))
+    is_soon_over now n run uses (it_runs e before m executes_it of good was) le =
+        at_end e before m run uses executes_it of was le (goes before m run.0 uses.0 (has_gone_on s e before run) was)
+
+  -- and where the last one is executed the thread's hart sees the new counter
+  pub counter_grown : (e : Event) (before : History) → IsRunHistory s (e ∷ before) → AreUses s u first (e ∷ before)
+      → (at t : ℕ) (r : SyncRegs) → u.syncs at ≡ Some r → IsGraceEnd at t e
+      → (grace : History) × IsGrace at t grace before × (word_at (seen_at s e.entry.hart.0 before) u.counter 8 ≡ Some (counted u.counter first grace + 1))
+  counter_grown e before run uses at t r block ends =
+      let acts_it = exec_of s e before (step_of s e before run) ends.exec.executes in
+      let over = over_at s u first at t (file s t before).file before 16 refl (at_last e before run uses at t r block ends).stands in
+      let c = (sound before (sound_before e before run uses.0)).counter in
+      (over.0.opened.grace, over.0.opened.on, by_hart c over.0 (acts_it.runs ∙ ap Some ends.of) (cases_eq c.hart e.entry.hart.0) ∙ ap Some over.0.count)
+    where
+      by_hart : (c : IsCounter u.counter s first before) (p : IsPast s u first at t (file s t before).file before) → running s e.entry.hart.0 before ≡ Some t
+          → (c.hart ≡ e.entry.hart.0) ⊎ (c.hart ≢ e.entry.hart.0) → word_at (seen_at s e.entry.hart.0 before) u.counter 8 ≡ Some (counted u.counter first before)
+      by_hart c p runs_it (inl same) = ap (λ h. word_at (seen_at s h before) u.counter 8) (sym same) ∙ c.seen
+      by_hart c p runs_it (inr other) = seen_last u.counter s first before c (λ h. beside h (cases_eq h c.hart)) e.entry.hart.0
+        where
+          beside : (h : ℕ) → (h ≡ c.hart) ⊎ (h ≢ c.hart) → AreBeside (counter_bytes u) (waiting h before)
+          beside h (inl same) =
+              p.apart h (λ its. other (sym same ∙ one_hart s e before (step_of s e before run) h t its e.entry.hart.0 runs_it))
+          beside h (inr apart_it) = c.others h apart_it

@@ -1,0 +1,201 @@
+-- Where a thread stands in a sync block, and what it has shown by then; what it doesn't execute leaves it so.
+use Rattle.std.proofs.Common.{◌≡◌, ◌≢◌, ℕ, suc, ◌+◌, ◌*◌, ◌-◌, ◌<◌, ◌≤◌, ◌%◌, ◌^◌, List, ◌∷◌, ◌++◌, ◌⊎◌, length, length-append, arith, refl, ap, ◌∙◌, Bool, true, false, cond, ltb, inl, inr, Some}
+use Rattle.mach_types.specs.Registers.{register}
+use Rattle.mach_types.specs.declared.registers.Regs.{Regs}
+use Rattle.block_model.specs.History.{Event, History, file, running, waiting}
+use Rattle.block_model.specs.Run.{IsRunHistory}
+use Rattle.block_model.specs.Setting.{Setting}
+use Rattle.urcu_lib.specs.Blocks.{Urcu, counter_bytes, slot_at}
+use Rattle.urcu_lib.specs.declared.regs.SyncRegs.{SyncRegs}
+use Rattle.fence_laws.specs.Entered.{HaveEntered, IsFence}
+use Rattle.fence_laws.specs.Kept.{AreBeside, AreQuiet, IsQuiet}
+use Rattle.urcu_lib.specs.Sections.{IsExecAt, IsGrace, IsGraceBegin, IsGraceEnd, IsSection, IsSyncStore, calls, enters, goes, waits}
+use Rattle.block_model.specs.Acts.{is_inside_at}
+use Rattle.urcu_lib.specs.Uses.{IsElsewhere, IsUse, counted}
+use Rattle.urcu_lib.proofs.CounterLaw.{beside_stores}
+use Rattle.fence_laws.proofs.Fences.{entered_next}
+use Rattle.fence_laws.proofs.OwnerLaw.{owned_next}
+
+-- how many instructions are left at most at one of the block, where each slot is loaded once
+abbrev pub left_at : Urcu → ℕ → ℕ → ℕ
+left_at u k seven = cond (ltb k 10) (1 + (10 - k + 6 * u.readers)) (cond (ltb k 15) (1 + (10 + 6 * seven - k)) (cond (ltb k 16) (6 * seven + 2) 1))
+
+pub some_left : (u : Urcu) (k seven : ℕ) → 1 ≤ left_at u k seven
+some_left u k seven = by_tests (ltb k 10) (ltb k 15) (ltb k 16)
+  where
+    by_tests : (a b c : Bool) → 1 ≤ cond a (1 + (10 - k + 6 * u.readers)) (cond b (1 + (10 + 6 * seven - k)) (cond c (6 * seven + 2) 1))
+    by_tests true b c = omega arith
+    by_tests false true c = omega arith
+    by_tests false false true = omega arith
+    by_tests false false false = omega arith
+
+-- what is known of an event besides how the blocks are used: of a grace period that goes on nobody else stores in the
+-- counter, its thread doesn't begin it again or enter its block anew, and it calls inside no restartable sequence
+pub record IsOrderly (s : Setting) (u : Urcu) (first : ℕ) (e : Event) (before : History) : Type 0 where
+  pub used : IsUse s u first e before
+  pub one : (at t : ℕ) (r : SyncRegs) (grace : History) → u.syncs at ≡ Some r → IsGrace at t grace before → IsSyncStore u e → (e.entry.tid.0 ≡ t) × (e.entry.pc ≡ at + 28)
+  pub once : (at t : ℕ) (r : SyncRegs) (grace : History) → u.syncs at ≡ Some r → IsGrace at t grace before → IsGraceBegin at t e → ⊥
+  pub anew : (at t : ℕ) (r : SyncRegs) (grace : History) → u.syncs at ≡ Some r → IsGrace at t grace before → IsExecAt at e → ⊥
+  pub outside : (at t : ℕ) (r : SyncRegs) → u.syncs at ≡ Some r → IsGraceBegin at t e → is_inside_at s e.entry.hart.0 before ≡ false
+  pub many : (t : ℕ) → length (file s t before).file.x ≡ 32
+  pub low : counted u.counter first before < 2 ^ 64
+
+module _ (s : Setting) (u : Urcu) (first : ℕ) where
+  -- a grace period of thread t in the sync block goes on, the newest one, since a call that is a barrier for each hart
+  pub record IsOpen (at t : ℕ) (now : History) : Type 0 where
+    pub regs : SyncRegs
+    pub block : u.syncs at ≡ Some regs
+    pub grace : History
+    pub call : Event
+    pub since : List Event
+    pub parts : now ≡ since ++ call ∷ grace
+    pub begins : IsGraceBegin at t call
+    pub fence : IsFence s call grace
+    pub on : IsGrace at t grace now
+    pub newest : (g : History) → IsGrace at t g now → length g ≤ length grace
+
+  -- the counter where it began
+  abbrev pub base : (at t : ℕ) (now : History) → IsOpen at t now → ℕ
+  base at t now o = counted u.counter first o.grace
+
+  -- no section of a slot goes on that began before it; of each of the first slots
+  abbrev pub HasEnded : History → ℕ → History → Type 0
+  HasEnded grace i now = (section : History) → IsSection s u i section now → length section < length grace → ⊥
+
+  abbrev pub ArePassed : History → ℕ → History → Type 0
+  ArePassed grace n now = (j : ℕ) → j < n → HasEnded grace j now
+
+  -- past the barrier, with the new counter in x5
+  pub record IsPast (at t : ℕ) (f : Regs) (now : History) : Type 0 where
+    pub opened : IsOpen at t now
+    pub entered : HaveEntered opened.grace now
+    pub five : register f 5 ≡ counted u.counter first opened.grace + 1
+    -- the counter is the new one, and its store waits only where the thread runs, if at all
+    pub count : counted u.counter first now ≡ counted u.counter first opened.grace + 1
+    pub apart : (h : ℕ) → running s h now ≢ Some t → AreBeside (counter_bytes u) (waiting h now)
+
+  -- no grace period of the thread in the block goes on
+  abbrev pub HasNone : (at t : ℕ) (now : History) → Type 0
+  HasNone at t now = (g : History) → IsGrace at t g now → ⊥
+
+  -- the thread is at instruction k of the block
+  pub data Stands (at t : ℕ) (f : Regs) (now : History) (k : ℕ) : Type 0 where
+    one_set : k ≡ 1 → register f 10 ≡ 8 → HasNone at t now → Stands at t f now k
+    two_set : k ≡ 2 → register f 10 ≡ 8 → register f 11 ≡ 0 → HasNone at t now → Stands at t f now k
+    three_set : k ≡ 3 → register f 10 ≡ 8 → register f 11 ≡ 0 → HasNone at t now → Stands at t f now k
+    all_set : k ≡ 4 → register f 10 ≡ 8 → register f 11 ≡ 0 → register f 17 ≡ 283 → HasNone at t now → Stands at t f now k
+    has_called : k ≡ 5 → (o : IsOpen at t now) → AreQuiet (counter_bytes u) o.since → Stands at t f now k
+    has_loaded : k ≡ 6 → (o : IsOpen at t now) → AreQuiet (counter_bytes u) o.since → HaveEntered o.grace now → register f 5 ≡ base at t now o → Stands at t f now k
+    has_grown : k ≡ 7 → (o : IsOpen at t now) → AreQuiet (counter_bytes u) o.since → HaveEntered o.grace now → register f 5 ≡ (base at t now o + 1) % 2 ^ 64 → Stands at t f now k
+    has_stored : k ≡ 8 → IsPast at t f now → Stands at t f now k
+    has_slots : k ≡ 9 → IsPast at t f now → register f 6 ≡ u.slots → Stands at t f now k
+    looks : k ≡ 10 → (p : IsPast at t f now) → (i : ℕ) → i < u.readers → register f 6 ≡ slot_at u i → register f 7 + i ≡ u.readers
+        → ArePassed p.opened.grace i now → Stands at t f now k
+    has_looked : k ≡ 11 → (p : IsPast at t f now) → (i : ℕ) → i < u.readers → register f 6 ≡ slot_at u i → register f 7 + i ≡ u.readers
+        → ArePassed p.opened.grace i now
+        → ((register f 10 ≡ 0) ⊎ (base at t now p.opened + 1 ≤ register f 10) → HasEnded p.opened.grace i now) → Stands at t f now k
+    is_some : k ≡ 12 → (p : IsPast at t f now) → (i : ℕ) → i < u.readers → register f 6 ≡ slot_at u i → register f 7 + i ≡ u.readers
+        → ArePassed p.opened.grace i now
+        → ((register f 10 ≡ 0) ⊎ (base at t now p.opened + 1 ≤ register f 10) → HasEnded p.opened.grace i now) → Stands at t f now k
+    passes : k ≡ 13 → (p : IsPast at t f now) → (i : ℕ) → i < u.readers → register f 6 ≡ slot_at u i → register f 7 + i ≡ u.readers
+        → ArePassed p.opened.grace (suc i) now → Stands at t f now k
+    moves : k ≡ 14 → (p : IsPast at t f now) → (i : ℕ) → i < u.readers → (suc i < u.readers → register f 6 ≡ slot_at u (suc i)) → register f 7 + i ≡ u.readers
+        → ArePassed p.opened.grace (suc i) now → Stands at t f now k
+    counts : k ≡ 15 → (p : IsPast at t f now) → (i : ℕ) → i < u.readers → (suc i < u.readers → register f 6 ≡ slot_at u (suc i)) → register f 7 + suc i ≡ u.readers
+        → ArePassed p.opened.grace (suc i) now → Stands at t f now k
+    is_over : k ≡ 16 → (p : IsPast at t f now) → ArePassed p.opened.grace u.readers now → Stands at t f now k
+
+  module _ (at t : ℕ) (e : Event) (before : History) (run : IsRunHistory s (e ∷ before)) (has : IsOrderly s u first e before) where
+    -- an event that doesn't begin a grace period of the thread in the block
+    pub none_next : (IsGraceBegin at t e → ⊥) → HasNone at t before → HasNone at t (e ∷ before)
+    none_next not_begun none g (calls x begins) = not_begun begins
+    none_next not_begun none g (waits x rest was still) = none g was
+
+    pub newest_next : (o : IsOpen at t before) → (g : History) → IsGrace at t g (e ∷ before) → length g ≤ length o.grace
+    newest_next o g (calls x begins) = absurd (has.once at t o.regs o.grace o.block o.on begins)
+    newest_next o g (waits x rest was still) = o.newest g was
+
+    -- an event that doesn't end the grace period
+    abbrev pub open_next : (IsGraceEnd at t e → ⊥) → IsOpen at t before → IsOpen at t (e ∷ before)
+    open_next not_end o = record {
+      regs = o.regs;
+      block = o.block;
+      grace = o.grace;
+      call = o.call;
+      since = e ∷ o.since;
+      parts = ap (λ (b : History). e ∷ b) o.parts;
+      begins = o.begins;
+      fence = o.fence;
+      on = waits e before o.on not_end;
+      newest = newest_next o;
+    }
+
+    -- sections that have ended have ended
+    pub ended_next : (o : IsOpen at t before) → (i : ℕ) → HasEnded o.grace i before → HasEnded o.grace i (e ∷ before)
+    ended_next o i was section (enters x locks) earlier =
+        let long : length before ≡ length (o.since ++ o.call ∷ o.grace) = ap (λ (b : History). length b) o.parts in
+        omega (arith, length-append o.since (o.call ∷ o.grace))
+    ended_next o i was section (goes x rest on still) earlier = was section on earlier
+
+    pub passed_next : (o : IsOpen at t before) → (n : ℕ) → ArePassed o.grace n before → ArePassed o.grace n (e ∷ before)
+    passed_next o n was j lt = ended_next o j (was j lt)
+
+    -- and one that doesn't store in the counter for it
+    pub is_quiet : (o : IsOpen at t before) → (e.entry.tid.0 ≡ t → IsExecAt (at + 28) e → ⊥) → IsQuiet (counter_bytes u) e
+    is_quiet o not_store = by_use has.used.counter
+      where
+        by_use : IsQuiet (counter_bytes u) e ⊎ IsSyncStore u e → IsQuiet (counter_bytes u) e
+        by_use (inl quiet) = quiet
+        by_use (inr stores) =
+            let one = has.one at t o.regs o.grace o.block o.on stores in
+            absurd (not_store one.0 (record { executes = stores.exec.executes; pc = one.1 }))
+
+    pub quiet_next : (o : IsOpen at t before) → (e.entry.tid.0 ≡ t → IsExecAt (at + 28) e → ⊥) → AreQuiet (counter_bytes u) o.since → AreQuiet (counter_bytes u) (e ∷ o.since)
+    quiet_next o not_store was = (was, is_quiet o not_store)
+
+    abbrev pub past_next : (f g : Regs) → (IsGraceEnd at t e → ⊥) → (e.entry.tid.0 ≡ t → IsExecAt (at + 28) e → ⊥) → register g 5 ≡ register f 5
+        → IsPast at t f before → IsPast at t g (e ∷ before)
+    past_next f g not_end not_store same p = record {
+      opened = open_next not_end p.opened;
+      entered = entered_next p.opened.grace e before p.entered;
+      five = same ∙ p.five;
+      count = beside_stores u.counter e.done.executed (counted u.counter first before) (is_quiet p.opened not_store).executed ∙ p.count;
+      apart = owned_next (counter_bytes u) s t e before run (inl (is_quiet p.opened not_store).executed) p.apart;
+    }
+
+    -- an event that executes nothing of the block
+    module _ (f : Regs) (elsewhere : IsElsewhere at 17 t e) where
+      not_end : IsGraceEnd at t e → ⊥
+      not_end ends = elsewhere ends.exec.executes ends.of (16, omega arith, ends.exec.pc)
+
+      not_store : e.entry.tid.0 ≡ t → IsExecAt (at + 28) e → ⊥
+      not_store of exec = elsewhere exec.executes of (7, omega arith, exec.pc)
+
+      abbrev o_next : IsOpen at t before → IsOpen at t (e ∷ before)
+      o_next o = open_next not_end o
+
+      abbrev p_next : IsPast at t f before → IsPast at t f (e ∷ before)
+      p_next p = past_next f f not_end not_store refl p
+
+      not_begun : IsGraceBegin at t e → ⊥
+      not_begun begins = elsewhere begins.exec.executes begins.of (4, omega arith, begins.exec.pc)
+
+      pub stands_next : (k : ℕ) → Stands at t f before k → Stands at t f (e ∷ before) k
+      stands_next k (one_set is a none) = one_set is a (none_next not_begun none)
+      stands_next k (two_set is a b none) = two_set is a b (none_next not_begun none)
+      stands_next k (three_set is a b none) = three_set is a b (none_next not_begun none)
+      stands_next k (all_set is a b c none) = all_set is a b c (none_next not_begun none)
+      stands_next k (has_called is o quiet) = has_called is (o_next o) (quiet_next o not_store quiet)
+      stands_next k (has_loaded is o quiet entered five) = has_loaded is (o_next o) (quiet_next o not_store quiet) (entered_next o.grace e before entered) five
+      stands_next k (has_grown is o quiet entered five) = has_grown is (o_next o) (quiet_next o not_store quiet) (entered_next o.grace e before entered) five
+      stands_next k (has_stored is p) = has_stored is (p_next p)
+      stands_next k (has_slots is p six) = has_slots is (p_next p) six
+      stands_next k (looks is p i lt six seven passed) = looks is (p_next p) i lt six seven (passed_next p.opened i passed)
+      stands_next k (has_looked is p i lt six seven passed shows) =
+          has_looked is (p_next p) i lt six seven (passed_next p.opened i passed) (λ is. ended_next p.opened i (shows is))
+      stands_next k (is_some is p i lt six seven passed shows) =
+          is_some is (p_next p) i lt six seven (passed_next p.opened i passed) (λ is. ended_next p.opened i (shows is))
+      stands_next k (passes is p i lt six seven passed) = passes is (p_next p) i lt six seven (passed_next p.opened (suc i) passed)
+      stands_next k (moves is p i lt six seven passed) = moves is (p_next p) i lt six seven (passed_next p.opened (suc i) passed)
+      stands_next k (counts is p i lt six seven passed) = counts is (p_next p) i lt six seven (passed_next p.opened (suc i) passed)
+      stands_next k (is_over is p passed) = is_over is (p_next p) (passed_next p.opened u.readers passed)

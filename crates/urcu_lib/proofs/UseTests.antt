@@ -1,0 +1,639 @@
+-- Tests of each event of a run that find from its history that a program uses its blocks as it should: what IsUse asks
+-- of each event, by computation. They ask for more than it does.
+use Rattle.std.proofs.Common.{◌≡◌, ◌≢◌, ℕ, zero, suc, ◌+◌, ◌*◌, ◌-◌, ◌/◌, ◌%◌, ◌^◌, ◌<◌, ◌≤◌, List, [], ◌∷◌, refl, sym, ap, ◌∙◌, arith, subst}
+use Rattle.std.proofs.Common.{Bool, true, false, not, ◌&&◌, ◌||◌, ◌⊎◌, inl, inr, cond, eqb, leb, ltb, Option, Some, None, is_none}
+use Rattle.std.proofs.lemmas.Bool.Decides.{nat_tests}
+use Rattle.std.proofs.lemmas.Bool.{and_from, and_parts, cases_eq, eq-eqb, eqb-false, eqb-true, false≢true, le-leb, leb-true, lt-ltb, ltb-true}
+use Rattle.mach_types.specs.Bytes.{covers, each_byte}
+use Rattle.mach_types.specs.Events.{choice_of}
+use Rattle.mach_types.specs.Kernel.Pages.{can_read, can_write, permission_at}
+use Rattle.mach_types.specs.Registers.{register}
+use Rattle.mach_types.specs.declared.events.Choice.{Choice}
+use Rattle.mach_types.specs.declared.events.Choice.TheVariants as asked
+use Rattle.mach_types.specs.declared.threads.Saved.{Saved}
+use Rattle.mach_types.specs.declared.user_memory.Store.{Store}
+use Rattle.block_model.specs.History.{Event, History, file, file_among, kernel}
+use Rattle.block_model.specs.Setting.{Setting}
+use Rattle.block_model.specs.Walks.{is_exec}
+use Rattle.alone_laws.specs.Blocks.{among}
+use Rattle.alone_laws.specs.Spans.{IsUsable, Leaves}
+use Rattle.alone_laws.proofs.StoredWords.{among_low}
+use Rattle.fence_laws.specs.Kept.{AreBeside, IsQuiet}
+use Rattle.percpu_lib.proofs.UseTests.{either, follows, implies, is_empty, is_just, leaves_all}
+use Rattle.urcu_lib.specs.Blocks.{Urcu}
+use Rattle.urcu_lib.specs.Sections.{IsExecAt, IsGraceBegin, IsGraceEnd, IsLockStore, IsSection, IsSyncEntry, IsSyncStore, IsSyncing, IsUnlockStore, comes_in, enters, goes, is_in}
+use Rattle.urcu_lib.specs.Uses.{AreUses, HasCome, IsIn, IsUse, acts, counted, goes_on, returns}
+use Rattle.urcu_lib.specs.declared.regs.ReadRegs.{ReadRegs}
+use Rattle.urcu_lib.specs.declared.regs.SyncRegs.{SyncRegs}
+
+-- one block of each kind in a program
+pub record Layout : Type 0 where
+  pub counter : ℕ
+  pub slots : ℕ
+  pub readers : ℕ
+  pub reader : ℕ → ℕ
+  pub lock_at : ℕ
+  pub lock : ReadRegs
+  pub unlock_at : ℕ
+  pub unlock : ReadRegs
+  pub sync_at : ℕ
+  pub sync : SyncRegs
+
+abbrev pub urcu_of : Layout → Urcu
+urcu_of x = record {
+  counter = x.counter;
+  slots = x.slots;
+  readers = x.readers;
+  reader = x.reader;
+  locks = λ at. cond (eqb at x.lock_at) (Some x.lock) None;
+  unlocks = λ at. cond (eqb at x.unlock_at) (Some x.unlock) None;
+  syncs = λ at. cond (eqb at x.sync_at) (Some x.sync) None;
+}
+
+-- ANSWERS OF TESTS
+
+same_some : {X : Type 0} (a b : X) → Some a ≡ Some b → a ≡ b
+same_some a b is = cc
+
+no_some : {X : Type 0} (b : X) → None ≡ Some b → ⊥
+no_some b is = cc
+
+pub only : {X : Type 0} (at p : ℕ) (v r : X) → cond (eqb at p) (Some v) None ≡ Some r → (at ≡ p) × (v ≡ r)
+only at p v r is = by_test (eqb at p) refl is
+  where
+    by_test : (b : Bool) → eqb at p ≡ b → cond b (Some v) None ≡ Some r → (at ≡ p) × (v ≡ r)
+    by_test true same found = (eqb-true at p same, same_some v r found)
+    by_test false other found = absurd (no_some r found)
+
+exec_is : (c : Choice) → is_exec c ≡ true → c ≡ asked.Exec
+exec_is asked.Exec is = refl
+exec_is asked.Drain is = absurd (false≢true is)
+exec_is asked.Take is = absurd (false≢true is)
+exec_is asked.Done is = absurd (false≢true is)
+exec_is asked.Preempt is = absurd (false≢true is)
+exec_is (asked.Run t) is = absurd (false≢true is)
+exec_is asked.Signal is = absurd (false≢true is)
+
+abbrev is_drain : Choice → Bool
+is_drain asked.Exec = false
+is_drain asked.Drain = true
+is_drain asked.Take = false
+is_drain asked.Done = false
+is_drain asked.Preempt = false
+is_drain (asked.Run t) = false
+is_drain asked.Signal = false
+
+drain_is : (c : Choice) → is_drain c ≡ true → c ≡ asked.Drain
+drain_is asked.Exec is = absurd (false≢true is)
+drain_is asked.Drain is = refl
+drain_is asked.Take is = absurd (false≢true is)
+drain_is asked.Done is = absurd (false≢true is)
+drain_is asked.Preempt is = absurd (false≢true is)
+drain_is (asked.Run t) is = absurd (false≢true is)
+drain_is asked.Signal is = absurd (false≢true is)
+
+abbrev is_done : Choice → Bool
+is_done asked.Exec = false
+is_done asked.Drain = false
+is_done asked.Take = false
+is_done asked.Done = true
+is_done asked.Preempt = false
+is_done (asked.Run t) = false
+is_done asked.Signal = false
+
+done_is : (c : Choice) → is_done c ≡ true → c ≡ asked.Done
+done_is asked.Exec is = absurd (false≢true is)
+done_is asked.Drain is = absurd (false≢true is)
+done_is asked.Take is = absurd (false≢true is)
+done_is asked.Done is = refl
+done_is asked.Preempt is = absurd (false≢true is)
+done_is (asked.Run t) is = absurd (false≢true is)
+done_is asked.Signal is = absurd (false≢true is)
+
+-- each number below another
+abbrev all_below : ℕ → (ℕ → Bool) → Bool
+all_below zero test = true
+all_below (suc n) test = test n && all_below n test
+
+below : (n : ℕ) (test : ℕ → Bool) → all_below n test ≡ true → (i : ℕ) → i < n → test i ≡ true
+below zero test all i lt = absurd (omega arith)
+below (suc n) test all i lt =
+    let parts = and_parts (test n) (all_below n test) all in
+    by_last parts.0 (λ less. below n test parts.1 i less) (cases_eq i n)
+  where
+    by_last : test n ≡ true → (i < n → test i ≡ true) → (i ≡ n) ⊎ (i ≢ n) → test i ≡ true
+    by_last last rest (inl same) = subst (λ k. test k ≡ true) (sym same) last
+    by_last last rest (inr other) = rest (omega arith)
+
+each_holds : (test : ℕ → Bool) (at n a : ℕ) → each_byte test at n ≡ true → at ≤ a → a < at + n → test a ≡ true
+each_holds test at zero a all low high = absurd (omega arith)
+each_holds test at (suc n) a all low high =
+    let parts = and_parts (test at) (each_byte test (at + 1) n) all in
+    by_place parts.0 (λ past. each_holds test (at + 1) n a parts.1 past (omega arith)) (cases_eq at a)
+  where
+    by_place : test at ≡ true → (at + 1 ≤ a → test a ≡ true) → (at ≡ a) ⊎ (at ≢ a) → test a ≡ true
+    by_place first rest (inl here) = subst (λ k. test k ≡ true) here first
+    by_place first rest (inr past) = rest (omega arith)
+
+-- BYTES
+
+-- a store beside eight bytes, and stores beside them
+abbrev is_beside : ℕ → Store → Bool
+is_beside at w = leb (w.at + w.size) at || leb (at + 8) w.at
+
+abbrev are_beside : ℕ → List Store → Bool
+are_beside at [] = true
+are_beside at (w ∷ ws) = is_beside at w && are_beside at ws
+
+not_covered : (w : Store) (a : ℕ) → (w.at + w.size ≤ a) ⊎ (a < w.at) → covers w a ≡ false
+not_covered w a (inl behind) = grind (arith, nat_tests)
+not_covered w a (inr before) = grind (arith, nat_tests)
+
+beside_is : (at : ℕ) (ws : List Store) → are_beside at ws ≡ true → AreBeside (among at 8) ws
+beside_is at [] is = tt
+beside_is at (w ∷ ws) is = (λ a has. by_side a has (either (leb (w.at + w.size) at) (leb (at + 8) w.at) parts.0), beside_is at ws parts.1)
+  where
+    parts : (is_beside at w ≡ true) × (are_beside at ws ≡ true)
+    parts = and_parts (is_beside at w) (are_beside at ws) is
+
+    by_side : (a : ℕ) → among at 8 a ≡ true → (leb (w.at + w.size) at ≡ true) ⊎ (leb (at + 8) w.at ≡ true) → covers w a ≡ false
+    by_side a has (inl low) =
+        let place = among_low at 8 a has in
+        let under = leb-true (w.at + w.size) at low in
+        not_covered w a (inl (omega arith))
+    by_side a has (inr high) =
+        let place = among_low at 8 a has in
+        let over = leb-true (at + 8) w.at high in
+        not_covered w a (inr (omega arith))
+
+-- an event leaves eight bytes alone, but that a waiting store may enter them
+abbrev is_quiet : ℕ → Event → Bool
+is_quiet at e = are_beside at e.done.executed && (is_drain (choice_of e.entry) || is_empty e.done.entered)
+
+quiet_is : (at : ℕ) (e : Event) → is_quiet at e ≡ true → IsQuiet (among at 8) e
+quiet_is at e is =
+    let parts = and_parts (are_beside at e.done.executed) (is_drain (choice_of e.entry) || is_empty e.done.entered) is in
+    record {
+      executed = beside_is at e.done.executed parts.0;
+      entered = λ other. by_drain other (either (is_drain (choice_of e.entry)) (is_empty e.done.entered) parts.1);
+    }
+  where
+    by_drain : choice_of e.entry ≢ asked.Drain → (is_drain (choice_of e.entry) ≡ true) ⊎ (is_empty e.done.entered ≡ true)
+        → Leaves (among at 8) e.done.entered
+    by_drain other (inl drains) = absurd (other (drain_is (choice_of e.entry) drains))
+    by_drain other (inr empty) = leaves_all (among at 8) e.done.entered empty
+
+-- ADDRESSES
+
+-- an address is that of one of so many instructions
+abbrev is_in_block : ℕ → ℕ → ℕ → Bool
+is_in_block count at pc = leb at pc && (ltb pc (at + 4 * count) && eqb ((pc - at) % 4) 0)
+
+in_is : (count at pc : ℕ) → is_in_block count at pc ≡ true → IsIn at count pc
+in_is count at pc is =
+    let one = and_parts (leb at pc) (ltb pc (at + 4 * count) && eqb ((pc - at) % 4) 0) is in
+    let two = and_parts (ltb pc (at + 4 * count)) (eqb ((pc - at) % 4) 0) one.1 in
+    let from = leb-true at pc one.0 in
+    let to = ltb-true pc (at + 4 * count) two.0 in
+    let whole = eqb-true ((pc - at) % 4) 0 two.1 in
+    ((pc - at) / 4, omega arith, omega arith)
+
+is_in_of : (count at pc : ℕ) → IsIn at count pc → is_in_block count at pc ≡ true
+is_in_of count at pc (k, lt, is) =
+    and_from (leb at pc) (ltb pc (at + 4 * count) && eqb ((pc - at) % 4) 0) (le-leb at pc (omega arith))
+    (and_from (ltb pc (at + 4 * count)) (eqb ((pc - at) % 4) 0) (lt-ltb pc (at + 4 * count) (omega arith)) (eq-eqb ((pc - at) % 4) 0 (omega arith)))
+
+-- the event executes the instruction at an address
+abbrev executes : ℕ → Event → Bool
+executes at e = is_exec (choice_of e.entry) && eqb e.entry.pc at
+
+executes_it : (at : ℕ) (e : Event) → IsExecAt at e → executes at e ≡ true
+executes_it at e exec = and_from (is_exec (choice_of e.entry)) (eqb e.entry.pc at) (ap is_exec exec.executes) (eq-eqb e.entry.pc at exec.pc)
+
+it_executes : (at : ℕ) (e : Event) → executes at e ≡ true → IsExecAt at e
+it_executes at e is =
+    let parts = and_parts (is_exec (choice_of e.entry)) (eqb e.entry.pc at) is in
+    record { executes = exec_is (choice_of e.entry) parts.0; pc = eqb-true e.entry.pc at parts.1 }
+
+module _ (s : Setting) (x : Layout) (first : ℕ) where
+  abbrev u : Urcu
+  u = urcu_of x
+
+  abbrev slot_of : ℕ → ℕ
+  slot_of i = x.slots + 64 * i
+
+  abbrev value : Event → History → ℕ → ℕ
+  value e before r = register (file s e.entry.tid.0 before).file r
+
+  -- THE TESTS
+
+  abbrev can_use : History → ℕ → Bool
+  can_use before a = can_read (permission_at (kernel s before).pages a) && can_write (permission_at (kernel s before).pages a)
+
+  abbrev are_usable : History → ℕ → Bool
+  are_usable before at = each_byte (can_use before) at 8
+
+  abbrev usable : Event → History → Bool
+  usable e before = implies (is_exec (choice_of e.entry)) (are_usable before x.counter && all_below x.readers (λ i. are_usable before (slot_of i)))
+
+  -- the stores of the blocks
+  abbrev pub is_lock_store : ℕ → Event → History → Bool
+  is_lock_store i e before = executes (x.lock_at + 4) e && eqb (value e before x.lock.slot) (slot_of i)
+
+  abbrev is_unlock_store : ℕ → Event → History → Bool
+  is_unlock_store i e before = executes x.unlock_at e && eqb (value e before x.unlock.slot) (slot_of i)
+
+  abbrev is_sync_store : Event → Bool
+  is_sync_store e = executes (x.sync_at + 28) e
+
+  -- a section of a slot goes on
+  abbrev has_section : ℕ → History → Bool
+  has_section i [] = false
+  has_section i (e ∷ before) = is_lock_store i e before || (not (is_unlock_store i e before) && has_section i before)
+
+  -- the thread that is in the sync block
+  abbrev who_syncs : History → Option ℕ
+  who_syncs [] = None
+  who_syncs (e ∷ before) =
+      cond (executes x.sync_at e) (Some e.entry.tid.0)
+      (cond (executes (x.sync_at + 64) e && is_just (who_syncs before) e.entry.tid.0) None (who_syncs before))
+
+  abbrev slot_fine : Event → History → ℕ → Bool
+  slot_fine e before i =
+      (is_quiet (slot_of i) e || (is_lock_store i e before || is_unlock_store i e before))
+      && (implies (is_lock_store i e before || is_unlock_store i e before) (eqb e.entry.tid.0 (x.reader i))
+      && implies (is_lock_store i e before) (not (has_section i before)))
+
+  abbrev counter_fine : Event → History → Bool
+  counter_fine e before =
+      (is_quiet x.counter e || is_sync_store e)
+      && (implies (is_sync_store e) (ltb (counted x.counter first before + 1) (2 ^ 64))
+      && implies (executes x.sync_at e) (is_none (who_syncs before)))
+
+  -- each thread whose file is set comes to stand in a block as it should
+  abbrev acts_in : ℕ → ℕ → Event → ℕ → Bool
+  acts_in count at e t = is_exec (choice_of e.entry) && (eqb e.entry.tid.0 t && is_in_block count at e.entry.pc)
+
+  abbrev is_returned : Event → History → ℕ → ℕ → Bool
+  is_returned e before t pc = is_done (choice_of e.entry) && (eqb (file s t before).pc (x.sync_at + 20) && eqb pc (x.sync_at + 20))
+
+  abbrev comes : Event → History → ℕ → ℕ → Bool
+  comes e before t pc =
+      implies (eqb pc (x.lock_at + 4)) (acts_in 2 x.lock_at e t)
+      && implies (is_in_block 17 x.sync_at pc && ltb x.sync_at pc) (acts_in 17 x.sync_at e t || is_returned e before t pc)
+
+  abbrev all_come : Event → History → List (ℕ × Saved) → Bool
+  all_come e before [] = true
+  all_come e before (p ∷ ps) = comes e before p.0 p.1.pc && all_come e before ps
+
+  -- registers at the first instructions of blocks
+  abbrev is_slot : ℕ → Bool
+  is_slot v = leb x.slots v && (ltb v (x.slots + 64 * x.readers) && eqb ((v - x.slots) % 64) 0)
+
+  abbrev registers_fine : Event → History → Bool
+  registers_fine e before =
+      implies (executes x.lock_at e) (eqb (value e before x.lock.gp) x.counter && is_slot (value e before x.lock.slot))
+      && (implies (executes x.sync_at e) (eqb (value e before x.sync.gp) x.counter && eqb (value e before x.sync.slots) x.slots)
+      && implies (executes (x.sync_at + 16) e) (kernel s before).barriers.private)
+
+  abbrev pub is_fine : Event → History → Bool
+  is_fine e before =
+      usable e before
+      && (counter_fine e before
+      && (all_below x.readers (slot_fine e before)
+      && (all_come e before e.done.files && registers_fine e before)))
+
+  abbrev pub are_fine : History → Bool
+  are_fine [] = true
+  are_fine (e ∷ before) = are_fine before && is_fine e before
+
+  -- WHAT THEY FIND
+
+  usable_at : (before : History) (at : ℕ) → are_usable before at ≡ true → IsUsable s (among at 8) before
+  usable_at before at all = record { read = λ a has. (each a has).0; write = λ a has. (each a has).1 }
+    where
+      each : (a : ℕ) → among at 8 a ≡ true → (can_read (permission_at (kernel s before).pages a) ≡ true) × (can_write (permission_at (kernel s before).pages a) ≡ true)
+      each a has =
+          let place = among_low at 8 a has in
+          and_parts (can_read (permission_at (kernel s before).pages a)) (can_write (permission_at (kernel s before).pages a))
+          (each_holds (can_use before) at 8 a all place.0 place.1)
+
+  -- stores
+  lock_store_of : (i : ℕ) (e : Event) (before : History) → IsLockStore s u i e before → is_lock_store i e before ≡ true
+  lock_store_of i e before it =
+      let its = only it.place x.lock_at x.lock it.regs it.block in
+      and_from (executes (x.lock_at + 4) e) (eqb (value e before x.lock.slot) (slot_of i))
+      (executes_it (x.lock_at + 4) e (subst (λ n. IsExecAt (n + 4) e) its.0 it.exec))
+      (eq-eqb (value e before x.lock.slot) (slot_of i) (ap (λ (r : ReadRegs). value e before r.slot) its.1 ∙ it.to))
+
+  pub lock_store_is : (i : ℕ) (e : Event) (before : History) → is_lock_store i e before ≡ true → IsLockStore s u i e before
+  lock_store_is i e before is =
+      let parts = and_parts (executes (x.lock_at + 4) e) (eqb (value e before x.lock.slot) (slot_of i)) is in
+      record {
+        place = x.lock_at;
+        regs = x.lock;
+        block = ap (λ b. cond b (Some x.lock) None) (eq-eqb x.lock_at x.lock_at refl);
+        exec = it_executes (x.lock_at + 4) e parts.0;
+        to = eqb-true (value e before x.lock.slot) (slot_of i) parts.1;
+      }
+
+  unlock_store_of : (i : ℕ) (e : Event) (before : History) → IsUnlockStore s u i e before → is_unlock_store i e before ≡ true
+  unlock_store_of i e before it =
+      let its = only it.place x.unlock_at x.unlock it.regs it.block in
+      and_from (executes x.unlock_at e) (eqb (value e before x.unlock.slot) (slot_of i))
+      (executes_it x.unlock_at e (subst (λ n. IsExecAt n e) its.0 it.exec))
+      (eq-eqb (value e before x.unlock.slot) (slot_of i) (ap (λ (r : ReadRegs). value e before r.slot) its.1 ∙ it.to))
+
+  unlock_store_is : (i : ℕ) (e : Event) (before : History) → is_unlock_store i e before ≡ true → IsUnlockStore s u i e before
+  unlock_store_is i e before is =
+      let parts = and_parts (executes x.unlock_at e) (eqb (value e before x.unlock.slot) (slot_of i)) is in
+      record {
+        place = x.unlock_at;
+        regs = x.unlock;
+        block = ap (λ b. cond b (Some x.unlock) None) (eq-eqb x.unlock_at x.unlock_at refl);
+        exec = it_executes x.unlock_at e parts.0;
+        to = eqb-true (value e before x.unlock.slot) (slot_of i) parts.1;
+      }
+
+  sync_of : (at : ℕ) (r : SyncRegs) → u.syncs at ≡ Some r → at ≡ x.sync_at
+  sync_of at r block = (only at x.sync_at x.sync r block).0
+
+  sync_store_of : (e : Event) → IsSyncStore u e → is_sync_store e ≡ true
+  sync_store_of e it = executes_it (x.sync_at + 28) e (subst (λ n. IsExecAt (n + 28) e) (sync_of it.place it.regs it.block) it.exec)
+
+  -- sections
+  section_is : (i : ℕ) (begun now : History) → IsSection s u i begun now → has_section i now ≡ true
+  section_is i begun now (enters e locks) =
+      ap (λ b. b || (not (is_unlock_store i e begun) && has_section i begun)) (lock_store_of i e begun locks)
+  section_is i begun now (goes e before was still) =
+      by_tests (section_is i begun before was) (is_lock_store i e before) (is_unlock_store i e before) refl
+    where
+      by_tests : has_section i before ≡ true → (a b : Bool) → is_unlock_store i e before ≡ b → a || (not b && has_section i before) ≡ true
+      by_tests old true b is = refl
+      by_tests old false true is = absurd (still (unlock_store_is i e before is))
+      by_tests old false false is = old
+
+  -- who is in the sync block
+  module _ (t : ℕ) (e : Event) (before : History) (fine : is_fine e before ≡ true) (old : who_syncs before ≡ Some t) (still : IsGraceEnd x.sync_at t e → ⊥) where
+    abbrev last_of : Bool → Option ℕ
+    last_of b = cond (b && is_just (who_syncs before) e.entry.tid.0) None (who_syncs before)
+
+    alone : implies (executes x.sync_at e) (is_none (who_syncs before)) ≡ true
+    alone =
+        let counter_is = (and_parts (counter_fine e before) _ (and_parts (usable e before) _ fine).1).0 in
+        (and_parts (implies (is_sync_store e) (ltb (counted x.counter first before + 1) (2 ^ 64))) _
+        (and_parts (is_quiet x.counter e || is_sync_store e) _ counter_is).1).1
+
+    by_thread : executes (x.sync_at + 64) e ≡ true → (c : Bool) → eqb t e.entry.tid.0 ≡ c → last_of true ≡ Some t
+    by_thread is true same = absurd (still (record { exec = it_executes (x.sync_at + 64) e is; of = sym (eqb-true t e.entry.tid.0 same) }))
+    by_thread is false other = ap (λ o. cond (is_just o e.entry.tid.0) None o) old ∙ ap (λ c. cond c None (Some t)) other
+
+    by_leaves : (b : Bool) → executes (x.sync_at + 64) e ≡ b → last_of b ≡ Some t
+    by_leaves false is = old
+    by_leaves true is = by_thread is (eqb t e.entry.tid.0) refl
+
+    by_enters : (b : Bool) → executes x.sync_at e ≡ b → cond b (Some e.entry.tid.0) (last_of (executes (x.sync_at + 64) e)) ≡ Some t
+    by_enters true is = absurd (false≢true (sym (ap is_none old) ∙ follows (executes x.sync_at e) (is_none (who_syncs before)) alone is))
+    by_enters false is = by_leaves (executes (x.sync_at + 64) e) refl
+
+    still_syncs : who_syncs (e ∷ before) ≡ Some t
+    still_syncs = by_enters (executes x.sync_at e) refl
+
+  syncing_is : (t : ℕ) (begun now : History) → are_fine now ≡ true → IsSyncing x.sync_at t begun now → who_syncs now ≡ Some t
+  syncing_is t begun now fine (comes_in e exec of) =
+      ap (λ b. cond b (Some e.entry.tid.0) (cond (executes (x.sync_at + 64) e && is_just (who_syncs begun) e.entry.tid.0) None (who_syncs begun)))
+      (executes_it x.sync_at e exec) ∙ ap Some of
+  syncing_is t begun now fine (is_in e before was still) =
+      let parts = and_parts (are_fine before) (is_fine e before) fine in
+      let old = syncing_is t begun before parts.0 was in
+      still_syncs t e before parts.1 old still
+
+  module _ (e : Event) (before : History) (fine_before : are_fine before ≡ true) (fine : is_fine e before ≡ true) where
+    one : (usable e before ≡ true) × (counter_fine e before && (all_below x.readers (slot_fine e before) && (all_come e before e.done.files && registers_fine e before)) ≡ true)
+    one = and_parts (usable e before) _ fine
+
+    two : (counter_fine e before ≡ true) × (all_below x.readers (slot_fine e before) && (all_come e before e.done.files && registers_fine e before) ≡ true)
+    two = and_parts (counter_fine e before) _ one.1
+
+    three : (all_below x.readers (slot_fine e before) ≡ true) × (all_come e before e.done.files && registers_fine e before ≡ true)
+    three = and_parts (all_below x.readers (slot_fine e before)) _ two.1
+
+    four : (all_come e before e.done.files ≡ true) × (registers_fine e before ≡ true)
+    four = and_parts (all_come e before e.done.files) (registers_fine e before) three.1
+
+    usable_all : choice_of e.entry ≡ asked.Exec → (are_usable before x.counter ≡ true) × (all_below x.readers (λ i. are_usable before (slot_of i)) ≡ true)
+    usable_all executes =
+        and_parts (are_usable before x.counter) (all_below x.readers (λ i. are_usable before (slot_of i)))
+        (follows (is_exec (choice_of e.entry)) _ one.0 (ap is_exec executes))
+
+    abbrev counts : Bool
+    counts = implies (is_sync_store e) (ltb (counted x.counter first before + 1) (2 ^ 64))
+
+    abbrev enters_alone : Bool
+    enters_alone = implies (executes x.sync_at e) (is_none (who_syncs before))
+
+    counter_first : (is_quiet x.counter e || is_sync_store e ≡ true) × (counts && enters_alone ≡ true)
+    counter_first = and_parts (is_quiet x.counter e || is_sync_store e) (counts && enters_alone) two.0
+
+    counter_rest : (counts ≡ true) × (enters_alone ≡ true)
+    counter_rest = and_parts counts enters_alone counter_first.1
+
+    module _ (i : ℕ) (lt : i < x.readers) where
+      abbrev stores : Bool
+      stores = is_lock_store i e before || is_unlock_store i e before
+
+      abbrev owns : Bool
+      owns = implies stores (eqb e.entry.tid.0 (x.reader i))
+
+      abbrev in_turn : Bool
+      in_turn = implies (is_lock_store i e before) (not (has_section i before))
+
+      slot_first : (is_quiet (slot_of i) e || stores ≡ true) × (owns && in_turn ≡ true)
+      slot_first = and_parts (is_quiet (slot_of i) e || stores) (owns && in_turn) (below x.readers (slot_fine e before) three.0 i lt)
+
+      slot_rest : (owns ≡ true) × (in_turn ≡ true)
+      slot_rest = and_parts owns in_turn slot_first.1
+
+      slot_by : (is_quiet (slot_of i) e ≡ true) ⊎ (stores ≡ true) → IsQuiet (among (slot_of i) 8) e ⊎ (IsLockStore s u i e before ⊎ IsUnlockStore s u i e before)
+      slot_by (inl quiet) = inl (quiet_is (slot_of i) e quiet)
+      slot_by (inr is) = by_kind (either (is_lock_store i e before) (is_unlock_store i e before) is)
+        where
+          by_kind : (is_lock_store i e before ≡ true) ⊎ (is_unlock_store i e before ≡ true)
+              → IsQuiet (among (slot_of i) 8) e ⊎ (IsLockStore s u i e before ⊎ IsUnlockStore s u i e before)
+          by_kind (inl locks) = inr (inl (lock_store_is i e before locks))
+          by_kind (inr unlocks) = inr (inr (unlock_store_is i e before unlocks))
+
+      stores_it : IsLockStore s u i e before ⊎ IsUnlockStore s u i e before → stores ≡ true
+      stores_it (inl locks) = ap (λ b. b || is_unlock_store i e before) (lock_store_of i e before locks)
+      stores_it (inr unlocks) = by_lock (is_lock_store i e before)
+        where
+          by_lock : (b : Bool) → b || is_unlock_store i e before ≡ true
+          by_lock true = refl
+          by_lock false = unlock_store_of i e before unlocks
+
+      turn_is : (section : History) → IsLockStore s u i e before → IsSection s u i section before → ⊥
+      turn_is section locks on =
+          let none = follows (is_lock_store i e before) (not (has_section i before)) slot_rest.1 (lock_store_of i e before locks) in
+          false≢true (sym (ap not (section_is i section before on)) ∙ none)
+
+    counter_by : (is_quiet x.counter e ≡ true) ⊎ (is_sync_store e ≡ true) → IsQuiet (among x.counter 8) e ⊎ IsSyncStore u e
+    counter_by (inl quiet) = inl (quiet_is x.counter e quiet)
+    counter_by (inr is) =
+        inr (record {
+          place = x.sync_at;
+          regs = x.sync;
+          block = ap (λ b. cond b (Some x.sync) None) (eq-eqb x.sync_at x.sync_at refl);
+          exec = it_executes (x.sync_at + 28) e is;
+        })
+
+    -- how a thread comes to stand in a block: its file is as it was, or among those that are set
+    found : (t : ℕ) (g : Saved) (files : List (ℕ × Saved)) → all_come e before files ≡ true
+        → (file_among files t g ≡ g) ⊎ (comes e before t (file_among files t g).pc ≡ true)
+    found t g [] all = inl refl
+    found t g (p ∷ ps) all =
+        let parts = and_parts (comes e before p.0 p.1.pc) (all_come e before ps) all in
+        by_pair parts.0 (found t g ps parts.1) (eqb p.0 t) refl
+      where
+        by_pair : comes e before p.0 p.1.pc ≡ true → (file_among ps t g ≡ g) ⊎ (comes e before t (file_among ps t g).pc ≡ true) → (b : Bool) → eqb p.0 t ≡ b
+            → (cond b p.1 (file_among ps t g) ≡ g) ⊎ (comes e before t (cond b p.1 (file_among ps t g)).pc ≡ true)
+        by_pair one rest true same = inr (subst (λ n. comes e before n p.1.pc ≡ true) (eqb-true p.0 t same) one)
+        by_pair one rest false other = rest
+
+    acts_it : (count at t kept : ℕ) → acts_in count at e t ≡ true → HasCome s at count kept t e before
+    acts_it count at t kept is =
+        let parts = and_parts (is_exec (choice_of e.entry)) (eqb e.entry.tid.0 t && is_in_block count at e.entry.pc) is in
+        let more = and_parts (eqb e.entry.tid.0 t) (is_in_block count at e.entry.pc) parts.1 in
+        acts (eqb-true e.entry.tid.0 t more.0) (exec_is (choice_of e.entry) parts.0) (in_is count at e.entry.pc more.1)
+
+    -- one whose file is as it was
+    stays : (count at t kept : ℕ) → kept ≤ count → file s t (e ∷ before) ≡ file s t before → HasCome s at count kept t e before
+    stays count at t kept le same = by_acts (acts_in count at e t) refl
+      where
+        by_acts : (b : Bool) → acts_in count at e t ≡ b → HasCome s at count kept t e before
+        by_acts true is = acts_it count at t kept is
+        by_acts false isnt =
+            goes_on before [] refl
+            (tt, λ executes of within.
+            false≢true (sym isnt
+            ∙ and_from (is_exec (choice_of e.entry)) (eqb e.entry.tid.0 t && is_in_block count at e.entry.pc) (ap is_exec executes)
+            (and_from (eqb e.entry.tid.0 t) (is_in_block count at e.entry.pc) (eq-eqb e.entry.tid.0 t of)
+            (is_in_of count at e.entry.pc (within.0, let lt = within.1 in omega arith, within.2)))))
+            same
+
+    locking_is : (at t : ℕ) (r : ReadRegs) → u.locks at ≡ Some r → (file s t (e ∷ before)).pc ≡ at + 4 → HasCome s at 2 0 t e before
+    locking_is at t r block there = subst (λ n. HasCome s n 2 0 t e before) (sym place) (by_file (found t (file s t before) e.done.files four.0))
+      where
+        place : at ≡ x.lock_at
+        place = (only at x.lock_at x.lock r block).0
+
+        by_file : (file s t (e ∷ before) ≡ file s t before) ⊎ (comes e before t (file s t (e ∷ before)).pc ≡ true) → HasCome s x.lock_at 2 0 t e before
+        by_file (inl same) = stays 2 x.lock_at t 0 (omega arith) same
+        by_file (inr is) =
+            let first_test = (and_parts (implies (eqb (file s t (e ∷ before)).pc (x.lock_at + 4)) (acts_in 2 x.lock_at e t)) _ is).0 in
+            acts_it 2 x.lock_at t 0
+            (follows (eqb (file s t (e ∷ before)).pc (x.lock_at + 4)) (acts_in 2 x.lock_at e t) first_test
+            (eq-eqb (file s t (e ∷ before)).pc (x.lock_at + 4) (there ∙ ap (λ n. n + 4) place)))
+
+    syncing_at : (at t k : ℕ) (r : SyncRegs) → u.syncs at ≡ Some r → 0 < k → k < 17 → (file s t (e ∷ before)).pc ≡ at + 4 * k
+        → HasCome s at 17 17 t e before
+    syncing_at at t k r block some lt there = subst (λ n. HasCome s n 17 17 t e before) (sym place) (by_file (found t (file s t before) e.done.files four.0))
+      where
+        place : at ≡ x.sync_at
+        place = sync_of at r block
+
+        here : (file s t (e ∷ before)).pc ≡ x.sync_at + 4 * k
+        here = there ∙ ap (λ n. n + 4 * k) place
+
+        behind : (file s t (e ∷ before)).pc ≡ x.sync_at + 4 * k → x.sync_at < (file s t (e ∷ before)).pc
+        behind is = omega arith
+
+        by_kind : (acts_in 17 x.sync_at e t ≡ true) ⊎ (is_returned e before t (file s t (e ∷ before)).pc ≡ true) → HasCome s x.sync_at 17 17 t e before
+        by_kind (inl is) = acts_it 17 x.sync_at t 17 is
+        by_kind (inr is) =
+            let parts = and_parts (is_done (choice_of e.entry)) (eqb (file s t before).pc (x.sync_at + 20) && eqb (file s t (e ∷ before)).pc (x.sync_at + 20)) is in
+            let more = and_parts (eqb (file s t before).pc (x.sync_at + 20)) (eqb (file s t (e ∷ before)).pc (x.sync_at + 20)) parts.1 in
+            returns (done_is (choice_of e.entry) parts.0) (eqb-true (file s t before).pc (x.sync_at + 20) more.0) (eqb-true (file s t (e ∷ before)).pc (x.sync_at + 20) more.1)
+
+        by_file : (file s t (e ∷ before) ≡ file s t before) ⊎ (comes e before t (file s t (e ∷ before)).pc ≡ true) → HasCome s x.sync_at 17 17 t e before
+        by_file (inl same) = stays 17 x.sync_at t 17 (omega arith) same
+        by_file (inr is) =
+            let second = (and_parts (implies (eqb (file s t (e ∷ before)).pc (x.lock_at + 4)) (acts_in 2 x.lock_at e t)) _ is).1 in
+            by_kind (either (acts_in 17 x.sync_at e t) (is_returned e before t (file s t (e ∷ before)).pc)
+            (follows (is_in_block 17 x.sync_at (file s t (e ∷ before)).pc && ltb x.sync_at (file s t (e ∷ before)).pc) _ second
+            (and_from (is_in_block 17 x.sync_at (file s t (e ∷ before)).pc) (ltb x.sync_at (file s t (e ∷ before)).pc) (is_in_of 17 x.sync_at (file s t (e ∷ before)).pc (k, lt, here)) (lt-ltb x.sync_at (file s t (e ∷ before)).pc (behind here)))))
+
+    -- registers
+    abbrev lock_registers : Bool
+    lock_registers = eqb (value e before x.lock.gp) x.counter && is_slot (value e before x.lock.slot)
+
+    abbrev sync_registers : Bool
+    sync_registers = eqb (value e before x.sync.gp) x.counter && eqb (value e before x.sync.slots) x.slots
+
+    abbrev has_registered : Bool
+    has_registered = implies (executes (x.sync_at + 16) e) (kernel s before).barriers.private
+
+    register_first : (implies (executes x.lock_at e) lock_registers ≡ true) × (implies (executes x.sync_at e) sync_registers && has_registered ≡ true)
+    register_first = and_parts (implies (executes x.lock_at e) lock_registers) (implies (executes x.sync_at e) sync_registers && has_registered) four.1
+
+    register_rest : (implies (executes x.sync_at e) sync_registers ≡ true) × (has_registered ≡ true)
+    register_rest = and_parts (implies (executes x.sync_at e) sync_registers) has_registered register_first.1
+
+    lock_are : (at : ℕ) (r : ReadRegs) → u.locks at ≡ Some r → IsExecAt at e
+        → (value e before r.gp ≡ x.counter) × ((i : ℕ) × (i < x.readers) × (value e before r.slot ≡ slot_of i))
+    lock_are at r block exec =
+        let its = only at x.lock_at x.lock r block in
+        let parts = and_parts (eqb (value e before x.lock.gp) x.counter) (is_slot (value e before x.lock.slot))
+        (follows (executes x.lock_at e) lock_registers register_first.0 (executes_it x.lock_at e (subst (λ n. IsExecAt n e) its.0 exec))) in
+        let slot = slot_is (value e before x.lock.slot) parts.1 in (
+          sym (ap (λ (q : ReadRegs). value e before q.gp) its.1) ∙ eqb-true (value e before x.lock.gp) x.counter parts.0,
+          (slot.0, slot.1, sym (ap (λ (q : ReadRegs). value e before q.slot) its.1) ∙ slot.2),
+        )
+      where
+        slot_is : (v : ℕ) → is_slot v ≡ true → (i : ℕ) × (i < x.readers) × (v ≡ slot_of i)
+        slot_is v is =
+            let one = and_parts (leb x.slots v) (ltb v (x.slots + 64 * x.readers) && eqb ((v - x.slots) % 64) 0) is in
+            let two = and_parts (ltb v (x.slots + 64 * x.readers)) (eqb ((v - x.slots) % 64) 0) one.1 in
+            let from = leb-true x.slots v one.0 in
+            let to = ltb-true v (x.slots + 64 * x.readers) two.0 in
+            let whole = eqb-true ((v - x.slots) % 64) 0 two.1 in
+            ((v - x.slots) / 64, omega arith, omega arith)
+
+    sync_are : (at : ℕ) (r : SyncRegs) → u.syncs at ≡ Some r → IsExecAt at e → (value e before r.gp ≡ x.counter) × (value e before r.slots ≡ x.slots)
+    sync_are at r block exec =
+        let its = only at x.sync_at x.sync r block in
+        let parts = and_parts (eqb (value e before x.sync.gp) x.counter) (eqb (value e before x.sync.slots) x.slots)
+        (follows (executes x.sync_at e) sync_registers register_rest.0 (executes_it x.sync_at e (subst (λ n. IsExecAt n e) its.0 exec))) in (
+          sym (ap (λ (q : SyncRegs). value e before q.gp) its.1) ∙ eqb-true (value e before x.sync.gp) x.counter parts.0,
+          sym (ap (λ (q : SyncRegs). value e before q.slots) its.1) ∙ eqb-true (value e before x.sync.slots) x.slots parts.1,
+        )
+
+    is_use : IsUse s u first e before
+    is_use = record {
+      counter_usable = λ executes. usable_at before x.counter (usable_all executes).0;
+      slot_usable = λ i lt executes. usable_at before (slot_of i) (below x.readers (λ j. are_usable before (slot_of j)) (usable_all executes).1 i lt);
+      counter = counter_by (either (is_quiet x.counter e) (is_sync_store e) counter_first.0);
+      slot = λ i lt. slot_by i lt (either (is_quiet (slot_of i) e) (stores i lt) (slot_first i lt).0);
+      writer = λ i lt is. eqb-true e.entry.tid.0 (x.reader i) (follows (stores i lt) (eqb e.entry.tid.0 (x.reader i)) (slot_rest i lt).0 (stores_it i lt is));
+      turns = λ i section lt locks on. turn_is i lt section locks on;
+      small = λ it. ltb-true (counted x.counter first before + 1) (2 ^ 64)
+          (follows (is_sync_store e) (ltb (counted x.counter first before + 1) (2 ^ 64)) counter_rest.0 (sync_store_of e it));
+      alone = λ at t r begun block on entry.
+          let who = syncing_is t begun before fine_before (subst (λ n. IsSyncing n t begun before) (sync_of at r block) on) in
+          let exec = executes_it x.sync_at e (subst (λ n. IsExecAt n e) (sync_of entry.place entry.regs entry.block) entry.exec) in
+          false≢true (sym (ap is_none who) ∙ follows (executes x.sync_at e) (is_none (who_syncs before)) counter_rest.1 exec);
+      registered = λ at t r block begins.
+          follows (executes (x.sync_at + 16) e) (kernel s before).barriers.private register_rest.1
+          (executes_it (x.sync_at + 16) e (subst (λ n. IsExecAt (n + 16) e) (sync_of at r block) begins.exec));
+      locking = locking_is;
+      syncing = syncing_at;
+      lock_gp = λ at r block exec. (lock_are at r block exec).0;
+      lock_slot = λ at r block exec. (lock_are at r block exec).1;
+      sync_gp = λ at r block exec. (sync_are at r block exec).0;
+      sync_slots = λ at r block exec. (sync_are at r block exec).1;
+    }
+
+  pub all_used : (now : History) → are_fine now ≡ true → AreUses s u first now
+  all_used [] fine = tt
+  all_used (e ∷ before) fine =
+      let parts = and_parts (are_fine before) (is_fine e before) fine in
+      (all_used before parts.0, is_use e before parts.0 parts.1)
