@@ -1,10 +1,11 @@
 //! What is kept between drawn events, and the next one.
 
-ghost use Rattle.std.specs.Prelude.{◌≡◌, ◌<◌, ◌≤◌, Some, None, IfSome, if◌then◌else◌, option_map};
+ghost use Rattle.std.specs.Prelude.{◌≡◌, ◌<◌, ◌≤◌, Some, None, IfSome, if◌then◌else◌, option_map, slice_index_or};
+ghost use Rattle.draw_policies.specs.Turns.{turn};
 ghost use Rattle.drawings.specs.Drawings as drawings;
 ghost use Rattle.drawings.specs.Scenes.{IsSeen, seen_hart};
 
-use crate::harts::{Harts, SeenHart, able_by_word, is_able, look_at, threads_for};
+use crate::harts::{Harts, SeenHart, able_by_word, is_able, look_at};
 use crate::priorities::Lots;
 use draw_policies::{Aim, Policy, Turn, Weights, Word, turn_of};
 use mach_types::{Choice, Hart, Tid};
@@ -116,12 +117,25 @@ impl Drawing {
     {
         let count = harts.count();
         prove!(count <= 8);
+        if seen.sight.idle {
+            let threads = harts.startable(Hart(seen.hart), self.opened);
+            self.turn_with(seen, &threads, word)
+        } else {
+            self.turn_with(seen, &[], word)
+        }
+    }
+
+    /// What a hart does in its turn where these threads may begin to run there.
+    fn turn_with(&self, seen: &SeenHart, threads: &[u32], word: Word) -> Option<Turn>
+        requires { seen.now.hart < 8 }
+        ensures { result ≡ turn (drawings.current self.now) seen.now.sight threads.now
+            (slice_index_or self.now.ran seen.now.hart None) (slice_index_or self.now.aims seen.now.hart None) word.0 }
+    {
         let place = seen.hart as usize;
-        let threads = threads_for(harts, seen, self.opened);
         turn_of(
             &self.weights(),
             &seen.sight,
-            &threads,
+            threads,
             self.ran[place],
             self.aims[place],
             word,

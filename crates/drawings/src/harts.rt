@@ -1,6 +1,6 @@
 //! What a policy sees of the harts of a machine, and which of them can make an event.
 
-ghost use Rattle.std.specs.Prelude.{◌≡◌, ◌<◌, ◌≤◌, ◌++◌, ◌∷◌, [], ℕ, true, IfSome, if◌then◌else◌, length, nat_lt, slice_get};
+ghost use Rattle.std.specs.Prelude.{◌≡◌, ◌<◌, ◌≤◌, ◌++◌, ◌∷◌, [], ℕ, IfSome, if◌then◌else◌, length, nat_lt, slice_get};
 ghost use Rattle.draw_policies.specs.Words.{hart_place};
 ghost use Rattle.drawings.specs.Scenes as scenes;
 ghost use Rattle.drawings.specs.Scenes.{Scene};
@@ -90,19 +90,6 @@ fn is_able_hart<H: Harts>(harts: &H, hart: u8, opened: u8) -> bool
     ensures { result ≡ scenes.is_able (H.scene harts.now) opened hart }
 {
     is_able(harts, &look_at(harts, hart), opened)
-}
-
-/// The ready threads that may begin to run on a hart that is idle, where the first so many harts are open.
-pub fn threads_for<H: Harts>(harts: &H, seen: &SeenHart, opened: u8) -> ArrayVec<u32, 64>
-    requires { opened ≤ 8 }
-    ensures { seen.now.sight.idle ≡ true
-        → result.items ≡ scenes.startable opened seen.now.hart (H.scene harts.now).scheduling }
-{
-    if seen.sight.idle {
-        harts.startable(Hart(seen.hart), opened)
-    } else {
-        ArrayVec::new()
-    }
 }
 
 /// Appends a number where it passes.

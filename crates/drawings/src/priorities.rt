@@ -2,6 +2,7 @@
 
 ghost use Rattle.std.specs.Prelude.{◌≡◌, ◌<◌, ◌≤◌, ◌+◌, ℕ, Some, IfSome, true, if◌then◌else◌, length};
 ghost use Rattle.chooser.specs.Cases.{has_stores};
+ghost use Rattle.draw_policies.specs.Accesses.{race};
 ghost use Rattle.drawings.specs.Priorities as priorities;
 ghost use Rattle.drawings.specs.Scenes.{IsSeen};
 
@@ -120,6 +121,14 @@ fn next_of<H: Harts>(harts: &H, actor: u8) -> Option<Access>
     }
 }
 
+/// Whether what an actor accesses next races with an access, where one was made.
+fn races<H: Harts>(harts: &H, made: Option<Access>, actor: u8) -> bool
+    requires { actor < priorities.actors (H.scene harts.now).harts }
+    ensures { result ≡ race made (priorities.next_of (H.scene harts.now) actor) }
+{
+    made.is_some() && race(made, next_of(harts, actor))
+}
+
 /// What an event of a hart accesses.
 pub fn access_by<H: Harts>(harts: &H, hart: Hart, choice: Choice) -> Option<Access>
     requires { hart.0 < (H.scene harts.now).harts }
@@ -169,7 +178,7 @@ impl Lots {
             (priorities.actors (H.scene harts.now).harts) self.old }
     {
         for actor in 0..2 * harts.count() {
-            self.draw(actor, actor == acted || race(made, next_of(harts, actor)));
+            self.draw(actor, actor == acted || races(harts, made, actor));
         }
     }
 }
