@@ -17,6 +17,10 @@ pub record Scene : Type 0 where
   pub oldest_store : ℕ → Option Access
   pub scheduling : Scheduling
 
+-- whether the thread on hart h may execute its next instruction, which touches registers alone
+abbrev pub goes_freely : Scene → ℕ → Bool
+goes_freely scene h = (scene.sight h).exec_enabled && (scene.sight h).«local»
+
 -- a hart with what a scheduler sees of it
 abbrev pub seen_hart : Scene → ℕ → SeenHart
 seen_hart scene h = record { hart = h; sight = scene.sight h }

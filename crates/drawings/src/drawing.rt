@@ -58,8 +58,7 @@ impl Drawing {
         ensures { result ≡ drawings.goes_on (H.scene harts.now) self.now }
     {
         if self.credit > 0 {
-            let sight = harts.sight(self.last);
-            sight.exec_enabled && sight.local && !harts.is_inside(self.last)
+            harts.goes_freely(self.last) && !harts.is_inside(self.last)
         } else {
             false
         }

@@ -24,6 +24,11 @@ pub trait Harts {
         requires { hart.0 < (scene self.now).harts }
         ensures { result ≡ (scene self.now).sight hart.0 };
 
+    /// Whether the thread on a hart may execute its next instruction, which touches registers alone.
+    fn goes_freely(&self, hart: Hart) -> bool
+        requires { hart.0 < (scene self.now).harts }
+        ensures { result ≡ scenes.goes_freely (scene self.now) hart.0 };
+
     /// Whether the thread on a hart is inside a good restartable sequence, as the hart sees memory.
     fn is_inside(&self, hart: Hart) -> bool
         requires { hart.0 < (scene self.now).harts }
