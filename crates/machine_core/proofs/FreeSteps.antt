@@ -1,45 +1,28 @@
 -- A hart goes freely where a thread runs that waits in no barrier, and its next instruction sets a register and does nothing else.
-use Rattle.std.proofs.Common.{◌≡◌, ℕ, ◌&&◌, length, ltb, cond, sym, ap, ◌∙◌, refl, not, Bool, true, false, is_none, is_some, Option, Some, None}
+use Rattle.std.proofs.Common.{◌≡◌, ℕ, ◌&&◌, length, sym, ap, ◌∙◌, refl, not, Bool, true, false, is_none, is_some, Option, Some, None}
 use Rattle.std.specs.Option.{option_map, option_map_or, option_or}
-use Rattle.std.proofs.lemmas.Bool.{false≢true}
 use Rattle.machine_core.proofs.Common.{HartState, Here, is_writable, memory, runs, sets_register, thread}
-use Rattle.mach_types.specs.declared.events.Why.{Why}
-use Rattle.mach_types.specs.declared.events.Why.TheVariants.{FullBuffer, Waiting}
 use Rattle.rv_inst.specs.Execution.{instruction_gate}
 use Rattle.rv_inst.specs.declared.effects.Effect.{Effect}
-use Rattle.rv_inst.specs.declared.effects.Effect.TheVariants as effect
 use Rattle.block_model.specs.Events.Exec.{is_held, next_effect as effect_at, next_fault as fault_at, others_gate, refusal_exec_by}
 use Rattle.block_model.specs.Events.Preempt.{unless_in_barrier}
 use Rattle.block_model.specs.Here.{waiting_here}
 use Rattle.block_model.specs.Instruction.{fault_by, fetched, next_effect}
 use Rattle.block_model.specs.Sights.{is_local_on}
+use Rattle.process.proofs.Laws.{gate_of_free, no_fault_of_free, others_of_free}
 use Rattle.process.specs.Harts.{file_of, file_on, hart_in}
 use Rattle.machine_core.specs.Free.{goes_freely}
 use Rattle.machine_core.proofs.Sights.{next_local}
 
-nothing_waits : (some full : Bool) → cond (some && false) (Some Waiting) (cond (full && false) (Some FullBuffer) None) ≡ None
-nothing_waits true true = refl
-nothing_waits true false = refl
-nothing_waits false true = refl
-nothing_waits false false = refl
-
-gate_of_free : (waiting : ℕ) (byte : ℕ → Option ℕ) (writable : ℕ → Bool) (pc : ℕ) (word : Option ℕ) (o : Option Effect)
+-- it makes no fault, and so no gate holds it up
+gate_is_open : (waiting : ℕ) (byte : ℕ → Option ℕ) (writable : ℕ → Bool) (pc : ℕ) (word : Option ℕ) (o : Option Effect)
     → option_map_or sets_register o false ≡ true → instruction_gate waiting o (is_some (fault_by byte writable pc word o)) ≡ None
-gate_of_free waiting byte writable pc word None sets = absurd (false≢true sets)
-gate_of_free waiting byte writable pc word (Some (effect.Next rd value to)) sets = nothing_waits (ltb 0 waiting) _
-gate_of_free waiting byte writable pc word (Some e) sets = absurd (false≢true sets)
-
-others_of_free : (held : Bool) (o : Option Effect) → option_map_or sets_register o false ≡ true → others_gate held o ≡ None
-others_of_free held None sets = absurd (false≢true sets)
-others_of_free held (Some (effect.Next rd value pc)) sets = refl
-others_of_free held (Some e) sets = absurd (false≢true sets)
+gate_is_open waiting byte writable pc word o sets =
+    ap (λ f. instruction_gate waiting o (is_some f)) (sym (no_fault_of_free byte writable pc word o sets)) ∙ gate_of_free waiting o sets
 
 and_false : (b : Bool) → (b && false) ≡ false
 and_false true = refl
 and_false false = refl
-
-none_first : (a b : Option Why) → a ≡ None → b ≡ None → is_none (option_or a b) ≡ true
-none_first a b first second = rw (first, second) refl
 
 -- of a thread
 module _ (here : Here) (t : ℕ) where
@@ -56,9 +39,10 @@ module _ (here : Here) (t : ℕ) where
   by_barrier (Some left) true sets = refl
   by_barrier None true sets =
       let gate : instruction_gate (length (waiting_here here)) (effect_at here t) (is_some (fault_at here t)) ≡ None =
-      gate_of_free (length (waiting_here here)) (memory here) (is_writable here) (here.file t).pc (fetched here.setting.program.pages (here.file t).pc) (effect_at here t) sets in
-      rw (none_first (instruction_gate (length (waiting_here here)) (effect_at here t) (is_some (fault_at here t))) (others_gate (is_held here t) (effect_at here t))
-      gate (others_of_free (is_held here t) (effect_at here t) sets)) refl
+      gate_is_open (length (waiting_here here)) (memory here) (is_writable here) (here.file t).pc (fetched here.setting.program.pages (here.file t).pc) (effect_at here t) sets in
+      let none : option_or (instruction_gate (length (waiting_here here)) (effect_at here t) (is_some (fault_at here t))) (others_gate (is_held here t) (effect_at here t)) ≡ None =
+      ap (λ g. option_or g (others_gate (is_held here t) (effect_at here t))) gate ∙ sym (others_of_free (is_held here t) (effect_at here t) sets) in
+      rw none refl
   by_barrier waits false sets = sym (and_false _)
 
 freely_by : (here : Here) (o : Option ℕ)

@@ -27,12 +27,12 @@ nothing_waits true false = refl
 nothing_waits false true = refl
 nothing_waits false false = refl
 
-gate_of_free : (waiting : ℕ) (o : Option Effect) → is_local o ≡ true → instruction_gate waiting o false ≡ None
+pub gate_of_free : (waiting : ℕ) (o : Option Effect) → is_local o ≡ true → instruction_gate waiting o false ≡ None
 gate_of_free waiting None sets = absurd (false≢true sets)
 gate_of_free waiting (Some (effect.Next rd value pc)) sets = nothing_waits (ltb 0 waiting) _
 gate_of_free waiting (Some e) sets = absurd (false≢true sets)
 
-others_of_free : (held : Bool) (o : Option Effect) → is_local o ≡ true → None ≡ option_or None (others_gate held o)
+pub others_of_free : (held : Bool) (o : Option Effect) → is_local o ≡ true → None ≡ option_or None (others_gate held o)
 others_of_free held None sets = absurd (false≢true sets)
 others_of_free held (Some (effect.Next rd value pc)) sets = refl
 others_of_free held (Some e) sets = absurd (false≢true sets)

@@ -81,7 +81,7 @@ pub(crate) fn fault_of_next(
 /// Whether an instruction with this effect may be executed by the thread on a hart in this state whatever waits, and makes no fault
 /// whatever memory is: it sets a register and does nothing else, and a thread runs there that waits in no barrier.
 #[inline]
-pub(crate) fn is_free(state: &HartState, effect: Option<&Effect>) -> bool
+pub fn is_free(state: &HartState, effect: Option<&Effect>) -> bool
     ensures { result ≡ (option_map_or sets_register (option_copied effect.entry) false && is_some state.now.running
         && not (is_some state.now.waits)) }
 {

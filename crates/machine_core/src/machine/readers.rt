@@ -1,7 +1,6 @@
 //! What is read of a machine: each of its harts, the kernel's tables, and what it would answer to a choice.
 
-ghost use Rattle.std.specs.Prelude.{◌≡◌, ◌<◌, ◌&&◌, ℕ, false, is_some, not};
-ghost use Rattle.std.specs.Option.{option_copied, option_map_or};
+ghost use Rattle.std.specs.Prelude.{◌≡◌, ◌<◌, ℕ};
 ghost use Rattle.mach_types.specs.Bytes.{IsAccessSize, word_at};
 ghost use Rattle.mach_types.specs.Kernel.Signals as signals;
 ghost use Rattle.mach_types.specs.Kernel.Threads.{is_live};
@@ -14,7 +13,6 @@ ghost use Rattle.block_model.specs.Deciding.{decide, history};
 ghost use Rattle.block_model.specs.Here.{runs, view};
 ghost use Rattle.block_model.specs.History.{events, file, here_in_history, kernel, ran};
 ghost use Rattle.block_model.specs.Sights.{effect_here, fault_here, is_deliverable_on, sight_in};
-ghost use Rattle.rv_inst.specs.Class.{sets_register};
 ghost use Rattle.process.specs.Harts.{hart_in};
 ghost use Rattle.process.specs.Sequences.{area_on, looked_at_on};
 ghost use Rattle.machine_core.specs.Free.{goes_freely};
@@ -23,19 +21,10 @@ use crate::machine::Machine;
 use block_model::Refused;
 use hart_state::HartState;
 use mach_types::{Area, Choice, Entry, Hart, Named, Sight};
-use process::{effect_of_next, is_all_taken, is_local, next_of};
+use process::{effect_of_next, is_all_taken, is_free, is_local, next_of};
 use rseq_area::Lookups;
 use rv_inst::Effect;
 use sys_calls::Kernel;
-
-/// Whether an instruction with this effect sets a register and does nothing else, where a thread runs on a hart in this state and waits
-/// in no barrier.
-fn is_free(state: &HartState, effect: Option<&Effect>) -> bool
-    ensures { result ≡ (option_map_or sets_register (option_copied effect.entry) false && is_some state.now.running
-        && not (is_some state.now.waits)) }
-{
-    is_local(effect) && !state.is_idle() && state.waits.is_none()
-}
 
 impl Machine {
     /// How many harts the machine has.
