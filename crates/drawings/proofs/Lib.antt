@@ -1,3 +1,4 @@
+mod Actors
 mod Draws
 mod Examples
 pub mod Laws

@@ -46,6 +46,10 @@ leader test priorities zero = None
 leader test priorities (suc n) =
     if test n then Some (higher priorities (leader test priorities n) n) else leader test priorities n
 
+-- the one of two that leads, where the second may act or not
+abbrev pub leading : List ℕ → Option ℕ → ℕ → Bool → Option ℕ
+leading priorities best actor enabled = if enabled then Some (higher priorities best actor) else best
+
 -- what an actor accesses next
 abbrev pub next_of : Scene → ℕ → Option Access
 next_of scene actor = if is_hart actor then scene.next_access (hart_of actor) else scene.oldest_store (hart_of actor)

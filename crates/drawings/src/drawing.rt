@@ -1,9 +1,11 @@
 //! What is kept between drawn events, and the next one.
 
-ghost use Rattle.std.specs.Prelude.{◌≡◌, ◌<◌, ◌≤◌, IfSome};
+ghost use Rattle.std.specs.Prelude.{◌≡◌, ◌<◌, ◌≤◌, Some, None, IfSome, if◌then◌else◌, option_map, slice_index_or};
+ghost use Rattle.draw_policies.specs.Turns.{turn};
 ghost use Rattle.drawings.specs.Drawings as drawings;
+ghost use Rattle.drawings.specs.Scenes.{IsSeen, seen_hart};
 
-use crate::harts::{Harts, able_by_word, is_able};
+use crate::harts::{Harts, SeenHart, able_by_word, is_able, look_at};
 use crate::priorities::Lots;
 use draw_policies::{Aim, Policy, Turn, Weights, Word, turn_of};
 use mach_types::{Choice, Hart, Tid};
@@ -56,8 +58,7 @@ impl Drawing {
         ensures { result ≡ drawings.goes_on (H.scene harts.now) self.now }
     {
         if self.credit > 0 {
-            let sight = harts.sight(self.last);
-            sight.exec_enabled && sight.local && !harts.is_inside(self.last)
+            harts.goes_freely(self.last) && !harts.is_inside(self.last)
         } else {
             false
         }
@@ -77,42 +78,63 @@ impl Drawing {
         }
     }
 
-    /// Whether the last hart goes on by a word.
-    fn stays<H: Harts>(&self, harts: &H, word: Word) -> bool
+    /// The last hart, where it goes on by a word.
+    fn last_by_word<H: Harts>(&self, harts: &H, word: Word) -> Option<SeenHart>
         requires { drawings.IsFor (H.scene harts.now).harts self.now }
-        ensures { result ≡ drawings.stays (H.scene harts.now) self.now word.0 }
+        ensures { result ≡ (if drawings.stays (H.scene harts.now) self.now word.0
+            then Some (seen_hart (H.scene harts.now) self.now.last.0) else None) }
     {
-        word.stay() < self.weights().stay && is_able(harts, self.last, self.opened)
+        if word.stay() >= self.weights().stay {
+            return None;
+        }
+        let last = look_at(harts, self.last.0);
+        if is_able(harts, &last, self.opened) {
+            Some(last)
+        } else {
+            None
+        }
     }
 
-    /// The hart that acts by a word; None exactly where none can.
-    pub(crate) fn hart_by_word<H: Harts>(&self, harts: &H, word: Word) -> Option<u8>
+    /// The hart that acts by a word, with what is seen of it; None exactly where none can.
+    pub(crate) fn hart_by_word<H: Harts>(&self, harts: &H, word: Word) -> Option<SeenHart>
         requires { drawings.IsFor (H.scene harts.now).harts self.now }
-        ensures named { result ≡ drawings.hart_by_word (H.scene harts.now) self.now word.0 }
-        ensures within { IfSome result (λ hart. hart < (H.scene harts.now).harts) }
+        ensures named { option_map (λ seen. seen.hart) result
+            ≡ drawings.hart_by_word (H.scene harts.now) self.now word.0 }
+        ensures seen { IfSome result (IsSeen (H.scene harts.now)) }
     {
-        if self.stays(harts, word) {
-            Some(self.last.0)
-        } else {
-            able_by_word(harts, self.opened, word)
+        match self.last_by_word(harts, word) {
+            Some(last) => Some(last),
+            None => Some(look_at(harts, able_by_word(harts, self.opened, word)?)),
         }
     }
 
     /// What a hart does in its turn.
-    pub(crate) fn turn_at<H: Harts>(&self, harts: &H, hart: u8, word: Word) -> Option<Turn>
-        requires hart { hart < (H.scene harts.now).harts }
+    pub(crate) fn turn_at<H: Harts>(&self, harts: &H, seen: &SeenHart, word: Word) -> Option<Turn>
+        requires seen { IsSeen (H.scene harts.now) seen.now }
         requires opened { self.now.opened ≤ 8 }
-        ensures { result ≡ drawings.turn_at (H.scene harts.now) self.now hart word.0 }
+        ensures { result ≡ drawings.turn_at (H.scene harts.now) self.now seen.now.hart word.0 }
     {
         let count = harts.count();
         prove!(count <= 8);
-        let place = hart as usize;
-        let threads = harts.startable(Hart(hart), self.opened);
-        let sight = harts.sight(Hart(hart));
+        if seen.sight.idle {
+            let threads = harts.startable(Hart(seen.hart), self.opened);
+            self.turn_with(seen, &threads, word)
+        } else {
+            self.turn_with(seen, &[], word)
+        }
+    }
+
+    /// What a hart does in its turn where these threads may begin to run there.
+    fn turn_with(&self, seen: &SeenHart, threads: &[u32], word: Word) -> Option<Turn>
+        requires { seen.now.hart < 8 }
+        ensures { result ≡ turn (drawings.current self.now) seen.now.sight threads.now
+            (slice_index_or self.now.ran seen.now.hart None) (slice_index_or self.now.aims seen.now.hart None) word.0 }
+    {
+        let place = seen.hart as usize;
         turn_of(
             &self.weights(),
-            &sight,
-            &threads,
+            &seen.sight,
+            threads,
             self.ran[place],
             self.aims[place],
             word,

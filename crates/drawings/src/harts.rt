@@ -24,6 +24,11 @@ pub trait Harts {
         requires { hart.0 < (scene self.now).harts }
         ensures { result ≡ (scene self.now).sight hart.0 };
 
+    /// Whether the thread on a hart may execute its next instruction, which touches registers alone.
+    fn goes_freely(&self, hart: Hart) -> bool
+        requires { hart.0 < (scene self.now).harts }
+        ensures { result ≡ scenes.goes_freely (scene self.now) hart.0 };
+
     /// Whether the thread on a hart is inside a good restartable sequence, as the hart sees memory.
     fn is_inside(&self, hart: Hart) -> bool
         requires { hart.0 < (scene self.now).harts }
@@ -50,18 +55,46 @@ pub trait Harts {
         ensures { result ≡ nat_lt 0 (length (scenes.startable opened hart.0 (scene self.now).scheduling)) };
 }
 
-/// Whether a hart can make an event, where the first so many harts are open.
-pub fn is_able<H: Harts>(harts: &H, hart: Hart, opened: u8) -> bool
-    requires hart { hart.0 < (H.scene harts.now).harts }
-    requires opened { opened ≤ 8 }
-    ensures { result ≡ scenes.is_able (H.scene harts.now) opened hart.0 }
+/// A hart, and what a scheduler sees of it.
+#[derive(Clone, Copy, Drop)]
+pub struct SeenHart {
+    /// The hart's number.
+    pub hart: u8,
+    /// What is seen of it.
+    pub sight: Sight,
+}
+
+/// A hart, with what is seen of it.
+pub fn look_at<H: Harts>(harts: &H, hart: u8) -> SeenHart
+    requires { hart < (H.scene harts.now).harts }
+    ensures { result ≡ scenes.seen_hart (H.scene harts.now) hart }
 {
-    let sight = harts.sight(hart);
-    if sight.idle {
-        can_act(&sight, harts.has_startable(hart, opened))
-    } else {
-        can_act(&sight, false)
+    SeenHart {
+        hart,
+        sight: harts.sight(Hart(hart)),
     }
+}
+
+/// Whether a hart can make an event, where the first so many harts are open.
+pub fn is_able<H: Harts>(harts: &H, seen: &SeenHart, opened: u8) -> bool
+    requires seen { scenes.IsSeen (H.scene harts.now) seen.now }
+    requires opened { opened ≤ 8 }
+    ensures { result ≡ scenes.is_able (H.scene harts.now) opened seen.now.hart }
+{
+    if seen.sight.idle {
+        can_act(&seen.sight, harts.has_startable(Hart(seen.hart), opened))
+    } else {
+        can_act(&seen.sight, false)
+    }
+}
+
+/// Whether a hart can make an event which wasn't looked at so far.
+fn is_able_hart<H: Harts>(harts: &H, hart: u8, opened: u8) -> bool
+    requires hart { hart < (H.scene harts.now).harts }
+    requires opened { opened ≤ 8 }
+    ensures { result ≡ scenes.is_able (H.scene harts.now) opened hart }
+{
+    is_able(harts, &look_at(harts, hart), opened)
 }
 
 /// Appends a number where it passes.
@@ -81,7 +114,7 @@ fn able<H: Harts>(harts: &H, opened: u8) -> ArrayVec<u8, 8>
 {
     let mut able = ArrayVec::new();
     for number in 0..harts.count() {
-        push_if(&mut able, number, is_able(harts, Hart(number), opened));
+        push_if(&mut able, number, is_able_hart(harts, number, opened));
     }
     able
 }

@@ -5,7 +5,7 @@ ghost use Rattle.drawings.specs.Drawings as drawings;
 ghost use Rattle.drawings.specs.Priorities as priorities;
 
 use crate::drawing::{Drawing, DrawnEvent};
-use crate::harts::Harts;
+use crate::harts::{Harts, look_at};
 use crate::priorities::{access_by, leader};
 use draw_policies::{Turn, Word};
 use mach_types::{Choice, Hart};
@@ -55,10 +55,10 @@ impl Drawing {
             ≡ drawings.kept_after (drawings.drawn_by_word (H.scene harts.now) self.old) self.old }
     {
         let (word, generator) = self.next_word();
-        let hart = self.hart_by_word(harts, word)?;
-        let turn = self.turn_at(harts, hart, word)?;
+        let seen = self.hart_by_word(harts, word)?;
+        let turn = self.turn_at(harts, &seen, word)?;
         self.lots.generator = generator;
-        Some(self.take_turn(hart, &turn))
+        Some(self.take_turn(seen.hart, &turn))
     }
 
     /// The next event by priorities.
@@ -88,7 +88,7 @@ impl Drawing {
     {
         let (word, generator) = self.next_word();
         let hart = actor / 2;
-        let turn = self.turn_at(harts, hart, word)?;
+        let turn = self.turn_at(harts, &look_at(harts, hart), word)?;
         let made = access_by(harts, Hart(hart), turn.choice);
         self.lots.generator = generator;
         self.lots.draw_anew(harts, actor, made);

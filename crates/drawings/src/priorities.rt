@@ -1,9 +1,12 @@
 //! Priorities of actors: each hart, and the oldest waiting store of each hart.
 
 ghost use Rattle.std.specs.Prelude.{◌≡◌, ◌<◌, ◌≤◌, ◌+◌, ℕ, Some, IfSome, true, if◌then◌else◌, length};
+ghost use Rattle.chooser.specs.Cases.{has_stores};
+ghost use Rattle.draw_policies.specs.Accesses.{race};
 ghost use Rattle.drawings.specs.Priorities as priorities;
+ghost use Rattle.drawings.specs.Scenes.{IsSeen};
 
-use crate::harts::{Harts, is_able};
+use crate::harts::{Harts, SeenHart, is_able, look_at};
 use draw_policies::{Access, Aim, has_stores, race, still_due};
 use mach_types::{Choice, Hart};
 use rand_core::utils::NextWord;
@@ -13,35 +16,20 @@ use rand_xoshiro::Xoshiro256PlusPlus;
 pub const ACTORS: usize = 16;
 
 /// Whether a hart acts by itself, where the first so many harts are open.
-fn acts<H: Harts>(harts: &H, opened: u8, aims: &[Option<Aim>], hart: Hart) -> bool
-    requires hart { hart.0 < (H.scene harts.now).harts }
+fn acts<H: Harts>(harts: &H, opened: u8, aims: &[Option<Aim>], seen: &SeenHart) -> bool
+    requires seen { IsSeen (H.scene harts.now) seen.now }
     requires opened { opened ≤ 8 }
     requires aims { length aims.now ≡ 8 }
-    ensures { result ≡ priorities.acts (H.scene harts.now) opened aims.now hart.0 }
+    ensures { result ≡ priorities.acts (H.scene harts.now) opened aims.now seen.now.hart }
 {
     let count = harts.count();
     prove!(count <= 8);
-    let sight = harts.sight(hart);
-    is_able(harts, hart, opened)
+    let sight = &seen.sight;
+    is_able(harts, seen, opened)
         && (sight.idle
             || sight.in_barrier
             || sight.exec_enabled
-            || still_due(&sight, aims[hart.0 as usize]).is_some())
-}
-
-/// Whether an actor can act.
-pub fn is_enabled<H: Harts>(harts: &H, opened: u8, aims: &[Option<Aim>], actor: u8) -> bool
-    requires actor { actor < priorities.actors (H.scene harts.now).harts }
-    requires opened { opened ≤ 8 }
-    requires aims { length aims.now ≡ 8 }
-    ensures { result ≡ priorities.is_enabled (H.scene harts.now) opened aims.now actor }
-{
-    let hart = Hart(actor / 2);
-    if actor % 2 == 0 {
-        acts(harts, opened, aims, hart)
-    } else {
-        has_stores(&harts.sight(hart))
-    }
+            || still_due(sight, aims[seen.hart as usize]).is_some())
 }
 
 /// The one of two actors with the higher priority, the first where they have the same.
@@ -78,6 +66,32 @@ fn better(lots: &[u64], best: Option<u8>, actor: u8, enabled: bool) -> Option<u8
     }
 }
 
+/// The actor that leads where those of one hart more are looked at: the hart itself, and its oldest waiting store.
+fn with_hart<H: Harts>(
+    harts: &H,
+    opened: u8,
+    aims: &[Option<Aim>],
+    lots: &[u64],
+    hart: u8,
+    best: Option<u8>,
+) -> Option<u8>
+    requires hart { hart < (H.scene harts.now).harts }
+    requires opened { opened ≤ 8 }
+    requires aims { length aims.now ≡ 8 }
+    requires lots { length lots.now ≡ 16 }
+    requires best { IfSome best (λ other. other < priorities.actors hart) }
+    ensures leader { result ≡ priorities.leading lots.now
+        (priorities.leading lots.now best (hart + hart) (priorities.acts (H.scene harts.now) opened aims.now hart))
+        (hart + hart + 1) (has_stores ((H.scene harts.now).sight hart)) }
+    ensures within { IfSome result (λ other. other < priorities.actors (hart + 1)) }
+{
+    let count = harts.count();
+    prove!(count <= 8);
+    let seen = look_at(harts, hart);
+    let best = better(lots, best, 2 * hart, acts(harts, opened, aims, &seen));
+    better(lots, best, 2 * hart + 1, has_stores(&seen.sight))
+}
+
 /// The actor that can act and has the highest priority; the first of them.
 pub fn leader<H: Harts>(harts: &H, opened: u8, aims: &[Option<Aim>], lots: &[u64]) -> Option<u8>
     requires opened { opened ≤ 8 }
@@ -88,8 +102,8 @@ pub fn leader<H: Harts>(harts: &H, opened: u8, aims: &[Option<Aim>], lots: &[u64
     ensures within { IfSome result (λ actor. actor < priorities.actors (H.scene harts.now).harts) }
 {
     let mut best = None;
-    for actor in 0..2 * harts.count() {
-        best = better(lots, best, actor, is_enabled(harts, opened, aims, actor));
+    for hart in 0..harts.count() {
+        best = with_hart(harts, opened, aims, lots, hart, best);
     }
     best
 }
@@ -105,6 +119,14 @@ fn next_of<H: Harts>(harts: &H, actor: u8) -> Option<Access>
     } else {
         harts.oldest_store(hart)
     }
+}
+
+/// Whether what an actor accesses next races with an access, where one was made.
+fn races<H: Harts>(harts: &H, made: Option<Access>, actor: u8) -> bool
+    requires { actor < priorities.actors (H.scene harts.now).harts }
+    ensures { result ≡ race made (priorities.next_of (H.scene harts.now) actor) }
+{
+    made.is_some() && race(made, next_of(harts, actor))
 }
 
 /// What an event of a hart accesses.
@@ -156,7 +178,7 @@ impl Lots {
             (priorities.actors (H.scene harts.now).harts) self.old }
     {
         for actor in 0..2 * harts.count() {
-            self.draw(actor, actor == acted || race(made, next_of(harts, actor)));
+            self.draw(actor, actor == acted || races(harts, made, actor));
         }
     }
 }

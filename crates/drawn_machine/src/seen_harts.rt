@@ -31,6 +31,10 @@ impl Harts for SeenHarts<'_> {
         sight
     }
 
+    fn goes_freely(&self, hart: Hart) -> bool {
+        self.machine.goes_freely(hart)
+    }
+
     fn is_inside(&self, hart: Hart) -> bool {
         match self.machine.named(hart) {
             Named::Good(sequence) => sequence.is_inside(self.machine.hart(hart).pc),

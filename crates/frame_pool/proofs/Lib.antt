@@ -8,3 +8,4 @@ mod LaidOut
 pub mod Laws
 mod Places
 mod Pools
+mod Zeros

@@ -1,7 +1,9 @@
--- How a pool lies in memory (own): in order of their numbers the frames that were ever taken, which of them are taken
--- now, and a stack of the numbers of the others. The frames behind them were never taken, and no bytes stand for them.
+-- How a pool lies in memory (own): in order of their numbers the bytes of the first frames, as far as they were ever
+-- written; which of the frames that were ever taken are taken now, and a stack of the numbers of the others. A frame that
+-- was taken and lies behind those with bytes has zeros. The frames behind these were never taken.
 use Rattle.std.specs.Prelude.{◌≡◌, ◌-◌, ◌<◌, ◌≤◌, ◌^◌, ℕ, Bool, true, false, List, [], ◌∷◌, ◌++◌, Option, Some, None, if◌then◌else◌, length, replicate, slice_get, slice_set}
 use Rattle.std.specs.List.{AllByRecursion}
+use Rattle.frame_pool.specs.Pool.{fresh}
 
 -- a frame of the region
 abbrev pub frame_of : Bool → List ℕ → Option (List ℕ)
@@ -12,6 +14,10 @@ abbrev pub frames_of : List Bool → List (List ℕ) → List (Option (List ℕ)
 frames_of [] frames = []
 frames_of (t ∷ ts) [] = []
 frames_of (t ∷ ts) (bytes ∷ frames) = frame_of t bytes ∷ frames_of ts frames
+
+-- so many frames: those with bytes, and then those that have zeros
+abbrev pub with_zeros : ℕ → List (List ℕ) → List (List ℕ)
+with_zeros count region = region ++ replicate (count - length region) fresh
 
 -- all frames: those of the region, and then those that were never taken
 abbrev pub pool_of : ℕ → List Bool → List (List ℕ) → List (Option (List ℕ))

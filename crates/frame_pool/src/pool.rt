@@ -1,7 +1,8 @@
 //! The pool.
 
-ghost use Rattle.std.specs.Prelude.{◌≡◌, ◌↔◌, length, replicate, slice_get, slice_set, Option, Some, None, IfNone, IfOk, IfSome, IsNone};
+ghost use Rattle.std.specs.Prelude.{◌≡◌, ◌↔◌, ◌+◌, ◌<◌, ◌≤◌, length, replicate, slice_get, slice_set, vec_capacity, Option, Some, None, IfNone, IfOk, IfSome, IsNone};
 ghost use Rattle.std.specs.Borrow.{sem};
+ghost use Rattle.frame_pool.specs.Layout.{with_zeros};
 ghost use Rattle.frame_pool.specs.Lending.{LendsFrame};
 ghost use Rattle.frame_pool.specs.Pool.{IsTaken, free_count, fresh};
 
@@ -12,8 +13,8 @@ use std::marker::Model;
 /// All frames of guest memory, by number: the bytes of each frame that is taken, and nothing for one that is
 /// free.
 ///
-/// The region has the frames that were ever taken, so that a frame costs nothing before it is taken for the
-/// first time.
+/// The region has the first so many frames, as far as they were ever written. A frame behind them that is taken has zero
+/// bytes, and none of its own: so a frame costs next to nothing before it is written for the first time.
 #[derive(Drop)]
 pub struct FramePool {
     region: Vec<[u8; 4096]>,
@@ -23,16 +24,18 @@ pub struct FramePool {
 }
 
 impl Model for FramePool {
-    ghost use Rattle.std.specs.Prelude.{ℕ, List, Option};
+    ghost use Rattle.std.specs.Prelude.{ℕ, List, Option, ◌≤◌, length};
     ghost use Rattle.std.specs.Vec.{vec_capacity};
-    ghost use Rattle.frame_pool.specs.Layout.{HasRoom, IsLaidOut, pool_of};
+    ghost use Rattle.frame_pool.specs.Layout.{HasRoom, IsLaidOut, pool_of, with_zeros};
 
     ghost Value = { List (Option (List ℕ)) };
 
-    ghost view = { λ p. pool_of p.frames p.taken.items p.region.items };
+    ghost view = { λ p. pool_of p.frames p.taken.items
+        (with_zeros (length p.taken.items) p.region.items) };
 
-    ghost invariant = { λ p. IsLaidOut p.frames p.region.items p.taken.items p.free.items
-        × HasRoom p.frames (vec_capacity p.region) (vec_capacity p.taken) (vec_capacity p.free) };
+    ghost invariant = { λ p. IsLaidOut p.frames (with_zeros (length p.taken.items) p.region.items) p.taken.items p.free.items
+        × HasRoom p.frames (vec_capacity p.region) (vec_capacity p.taken) (vec_capacity p.free)
+        × (length p.region.items ≤ length p.taken.items) };
 }
 
 impl FramePool {
@@ -54,7 +57,7 @@ impl FramePool {
     pub fn free(&self) -> u32
         ensures { result ≡ free_count self.now }
     {
-        let never_taken = self.frames - self.region.len() as u32;
+        let never_taken = self.frames - self.taken.len() as u32;
         never_taken + self.free.len() as u32
     }
 
@@ -68,14 +71,13 @@ impl FramePool {
     {
         if let Some(number) = self.free.pop() {
             self.taken[number as usize] = true;
-            self.region[number as usize] = zeros();
+            clear(&mut self.region, number as usize);
             return Some(Frame::new(number));
         }
-        let number = self.region.len() as u32;
+        let number = self.taken.len() as u32;
         if number == self.frames {
             return None;
         }
-        let _ = self.region.push(zeros());
         let _ = self.taken.push(true);
         Some(Frame::new(number))
     }
@@ -96,7 +98,12 @@ impl FramePool {
         ensures bytes { slice_get self.now frame.now ≡ Some (Some result.now) }
         ensures size { length result.now ≡ 4096 }
     {
-        &self.region[frame.place()]
+        let place = frame.place();
+        if place < self.region.len() {
+            &self.region[place]
+        } else {
+            no_bytes()
+        }
     }
 
     /// The 4,096 bytes of a taken frame, to be written. No other frame changes.
@@ -108,7 +115,36 @@ impl FramePool {
     {
         prove!(self.bytes(frame).len() == 4096);
         let place = frame.place();
+        reach(&mut self.region, place);
         self.region[place].as_mut_slice()
+    }
+}
+
+/// The bytes of a frame that was never written.
+fn no_bytes() -> &'static [u8]
+    ensures { result.now ≡ fresh }
+{
+    &[0; 4096]
+}
+
+/// Makes the bytes at a place zero, if some stand there.
+fn clear(region: &mut Vec<[u8; 4096]>, place: usize)
+    ensures items { region.new.items ≡ slice_set region.old.items place fresh }
+    ensures capacity { vec_capacity region.old ≤ vec_capacity region.new }
+{
+    if place < region.len() {
+        region[place] = zeros();
+    }
+}
+
+/// Appends frames of zero bytes, until one stands at a place.
+fn reach(region: &mut Vec<[u8; 4096]>, place: usize)
+    requires { place < vec_capacity region.old }
+    ensures items { region.new.items ≡ with_zeros (place + 1) region.old.items }
+    ensures capacity { vec_capacity region.old ≤ vec_capacity region.new }
+{
+    for _ in region.len()..place + 1 {
+        let _ = region.push(zeros());
     }
 }
 

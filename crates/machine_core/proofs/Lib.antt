@@ -2,6 +2,7 @@ mod AdvanceAnswers
 mod Boot
 mod ChoiceCredits
 mod Common
+mod FreeSteps
 pub mod Laws
 mod MachineCredits
 mod Readings

@@ -178,29 +178,35 @@ not-stack : (n : ℕ) → (n < 0x3FFFF00) ⊎ (0x3FFFF40 ≤ n) → is_in stack_
 not-stack n (inl low) = rw (lt-leb 0x3FFFF00 n low) refl
 not-stack n (inr high) = rw (le-leb 0x3FFFF00 n (omega arith), le-ltb n 0x3FFFF40 high) refl
 
+pub not-return : (n : ℕ) → is_in stack_run n ≡ true → nat_eq n 0x3FFFFF0 ≡ false
+not-return n stack = elim (cases_lt n 0x3FFFF40) [
+  | inl to ↦ ne_eqb n 0x3FFFFF0 (λ e. omega arith)
+  | inr high ↦ let out : is_in stack_run n ≡ false = not-stack n (inr high) in absurd (cc)
+]
+
 zero-stack : (k : ℕ) → slice_index fresh k % 256 ≡ 0
 zero-stack k = ap (λ x. x % 256) (fresh-at k)
 
 return-run : (n : ℕ) → is_in return_run n ≡ nat_eq 0x3FFFFF0 n
 return-run n = one-run 0x3FFFFF0 n
 
--- the pages of an image, of the stack and the return page, mapped in this order, are those of the start
+-- the pages of an image, the return page and those of the stack, mapped in this order, are those of the start
 module _ (pages : List ImagePage) (n : ℕ) (image laid after : Option Page) (bytes : List ℕ)
     (mapped : image ≡ image_page pages n) (small : IfSome image (λ p. (k : ℕ) → slice_index p.bytes k < 256))
-    (stack : laid ≡ cond (is_in stack_run n) (Some stack_page) image)
-    (return : after ≡ cond (nat_eq n 0x3FFFFF0) (Some (record { permission = 5; bytes = bytes })) laid)
+    (return : laid ≡ cond (nat_eq n 0x3FFFFF0) (Some (record { permission = 5; bytes = bytes })) image)
+    (stack : after ≡ cond (is_in stack_run n) (Some stack_page) laid)
     (return_bytes : (k : ℕ) → slice_index bytes k ≡ return_byte k) (return_small : (k : ℕ) → slice_index bytes k < 256) where
   start-stack : 0x3FFFF00 ≤ n → n < 0x3FFFF40 → IsStartPage pages n after
   start-stack from to =
       let run : is_in stack_run n ≡ true = stack-run n from to in
-      let page : after ≡ Some stack_page = return ∙ (rw (ne_eqb n 0x3FFFFF0 (λ e. omega arith)) (stack ∙ (rw run refl))) in
+      let page : after ≡ Some stack_page = stack ∙ (rw run refl) in
       subst (IsStartPage pages n) (sym page) (record { permission = rw run refl; bytes = λ k. zero-stack k ∙ (rw run refl) })
 
   start-return : n ≡ 0x3FFFFF0 → IsStartPage pages n after
   start-return same =
       let run : is_in stack_run n ≡ false = not-stack n (inr (omega arith)) in
       let other : is_in return_run n ≡ true = return-run n ∙ eq-eqb 0x3FFFFF0 n (sym same) in
-      let page : after ≡ Some (record { permission = 5; bytes = bytes }) = return ∙ (rw (eq-eqb n 0x3FFFFF0 same) refl) in
+      let page : after ≡ Some (record { permission = 5; bytes = bytes }) = stack ∙ (rw run (return ∙ (rw (eq-eqb n 0x3FFFFF0 same) refl))) in
       subst (IsStartPage pages n) (sym page) (record {
         permission = rw (run, other) refl;
         bytes = λ k. small_byte (slice_index bytes k) (return_small k) ∙ return_bytes k ∙ (rw (run, other) refl);
@@ -210,7 +216,7 @@ module _ (pages : List ImagePage) (n : ℕ) (image laid after : Option Page) (by
   start-image out two =
       let run : is_in stack_run n ≡ false = not-stack n out in
       let other : is_in return_run n ≡ false = return-run n ∙ ne_eqb 0x3FFFFF0 n (λ e. two (sym e)) in
-      let page : after ≡ image_page pages n = return ∙ (rw (ne_eqb n 0x3FFFFF0 two) (stack ∙ (rw run mapped))) in
+      let page : after ≡ image_page pages n = stack ∙ (rw run (return ∙ (rw (ne_eqb n 0x3FFFFF0 two) mapped))) in
       subst (IsStartPage pages n) (sym page) (record {
         permission = sym (image-permission pages n) ∙ (rw (run, other) refl);
         bytes = rw (run, other) (image-bytes (page_of pages n) (rw (← mapped) small));

@@ -32,6 +32,11 @@ frame_bytes None = []
 frame_bytes (Some None) = []
 frame_bytes (Some (Some bytes)) = bytes
 
+-- the bytes of a frame that was just filled, which are zeros where none were given
+abbrev pub first_bytes : Option (List ℕ) → List ℕ
+first_bytes None = fresh
+first_bytes (Some bytes) = bytes
+
 -- the page that stands at a place
 abbrev pub page_at : List (Option (List ℕ)) → MappedPage → Page
 page_at pool p = record { permission = p.permission; bytes = frame_bytes (slice_get pool p.frame) }

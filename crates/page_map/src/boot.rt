@@ -24,6 +24,9 @@ use std::alloc::{AllocError, Global};
 /// The permission of the stack's pages: to read and to write.
 const STACK_PERMISSION: u8 = 6;
 
+/// The number of the page behind the stack.
+const STACK_END: u64 = FIRST_STACK_PAGE + STACK_PAGES;
+
 /// The permission of the page that signal handlers return to: to read and to execute.
 const RETURN_PERMISSION: u8 = 5;
 
@@ -31,7 +34,7 @@ const RETURN_PERMISSION: u8 = 5;
 const NAME: u64 = 0x74_7365_7567;
 
 /// The bytes of an empty page.
-pub(crate) fn zeros() -> [u8; 4096]
+fn zeros() -> [u8; 4096]
     ensures { result ≡ fresh }
 {
     [0; 4096]
@@ -124,8 +127,8 @@ impl PageMap {
         ensures break_start { break_start_in self.new ≡ break_start_in self.old }
     {
         self.add_image(&image.pages);
+        self.add(RETURN_PAGE, RETURN_PERMISSION, Some(&return_bytes()));
         self.add_stack();
-        self.add(RETURN_PAGE, RETURN_PERMISSION, &return_bytes());
     }
 
     /// Maps the pages of an image.
@@ -145,11 +148,11 @@ impl PageMap {
         ensures break_start { break_start_in self.new ≡ break_start_in self.old }
     {
         for page in pages {
-            self.add(page.number, page.perm, &page.bytes);
+            self.add(page.number, page.perm, Some(&page.bytes));
         }
     }
 
-    /// Maps the pages of the stack, all zero.
+    /// Maps the pages of the stack, all zero, the highest first: those that are used first get the first frames.
     fn add_stack(&mut self)
         requires free { 64 ≤ free_in self.old }
         requires unmapped { (n : ℕ) → is_in stack_run n ≡ true → page_in self.old n ≡ None }
@@ -159,9 +162,8 @@ impl PageMap {
         ensures break_at { break_in self.new ≡ break_in self.old }
         ensures break_start { break_start_in self.new ≡ break_start_in self.old }
     {
-        let bytes = zeros();
         for k in 0..STACK_PAGES {
-            self.add(FIRST_STACK_PAGE + k, STACK_PERMISSION, &bytes);
+            self.add(STACK_END - 1 - k, STACK_PERMISSION, None);
         }
     }
 

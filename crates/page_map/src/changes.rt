@@ -8,7 +8,6 @@ ghost use Rattle.elf_load.specs.Images.{IsPermission};
 ghost use Rattle.page_map.specs.Map.{break_in, break_start_in, free_in, page_in, page_over, permission_in, protected_page};
 ghost use Rattle.page_map.specs.Mapping.{CanLie};
 
-use crate::boot::zeros;
 use crate::map::{EXECUTE, PageMap};
 use mach_types::address_space::{FIRST_MAPPING_PAGE, FIRST_STACK_PAGE};
 
@@ -98,9 +97,8 @@ impl PageMap {
         ensures break_at { break_in self.new ≡ break_in self.old }
         ensures break_start { break_start_in self.new ≡ break_start_in self.old }
     {
-        let bytes = zeros();
         for k in 0..count {
-            self.add(first + k, permission, &bytes);
+            self.add(first + k, permission, None);
         }
     }
 

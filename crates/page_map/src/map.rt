@@ -7,8 +7,8 @@ ghost use Rattle.mach_types.specs.Bytes.{IsAccessSize};
 ghost use Rattle.mach_types.specs.Kernel.Pages.{can_execute, can_read, can_write, first_page, pages_of};
 ghost use Rattle.elf_load.specs.Images.{IsPermission};
 ghost use Rattle.frame_pool.specs.Held.{AreHeld};
-ghost use Rattle.frame_pool.specs.Pool.{IsTaken, free_count};
-ghost use Rattle.page_map.specs.Map.{break_in, break_start_in, bytes_if, frame_bytes, free_in, page_at, page_in, page_with, permission_in, protected_page};
+ghost use Rattle.frame_pool.specs.Pool.{IsTaken, free_count, fresh};
+ghost use Rattle.page_map.specs.Map.{break_in, break_start_in, bytes_if, first_bytes, frame_bytes, free_in, page_at, page_in, page_with, permission_in, protected_page};
 ghost use Rattle.page_map.specs.Mapping.{CanLie, IsGap, frames_of};
 
 use crate::mapped_page::MappedPage;
@@ -117,20 +117,20 @@ impl PageMap {
         })
     }
 
-    /// Maps a page with these bytes.
-    pub(crate) fn add(&mut self, number: u64, permission: u8, bytes: &[u8])
+    /// Maps a page with these bytes, or with zeros where there are none.
+    pub(crate) fn add(&mut self, number: u64, permission: u8, bytes: Option<&[u8]>)
         requires number { CanLie (break_start_in self.old) (break_in self.old) number permission }
         requires permission { IsPermission permission }
-        requires bytes { length bytes.now ≡ 4096 }
+        requires bytes { IfSome bytes (λ given. length given.now ≡ 4096) }
         requires free { 0 < free_in self.old }
         requires unmapped { page_in self.old number ≡ None }
         ensures pages { (n : ℕ) → page_in self.new n
-            ≡ (if n == number then Some (record { permission = permission; bytes = bytes.now })
+            ≡ (if n == number then Some (record { permission = permission; bytes = first_bytes (option_copied bytes.entry) })
             else page_in self.old n) }
         ensures free { free_in self.new + 1 ≡ free_in self.old }
         ensures break_at { break_in self.new ≡ break_in self.old }
         ensures break_start { break_start_in self.new ≡ break_start_in self.old }
-        ensures small { (k : ℕ) → slice_index bytes.now k < 256 }
+        ensures small { IfSome bytes.entry (λ given. (k : ℕ) → slice_index given.now k < 256) }
     {
         let frame = filled(&mut self.pool, bytes);
         let place = self.mapped.len() as u32;
@@ -322,21 +322,42 @@ impl PageMap {
     }
 }
 
-/// A frame of the pool, which is now taken, with these bytes.
-fn filled(pool: &mut FramePool, bytes: &[u8]) -> Frame
+/// A frame of the pool, which is now taken, with these bytes, or with zeros where there are none.
+fn filled(pool: &mut FramePool, bytes: Option<&[u8]>) -> Frame
     requires free { 0 < free_count pool.old }
-    requires size { length bytes.now ≡ 4096 }
+    requires size { IfSome bytes (λ given. length given.now ≡ 4096) }
     ensures was_free { slice_get pool.old result ≡ Some None }
-    ensures taken { pool.new ≡ slice_set pool.old result (Some bytes.now) }
+    ensures taken { pool.new ≡ slice_set pool.old result (Some (first_bytes (option_copied bytes.entry))) }
+    ensures small { IfSome bytes.entry (λ given. (k : ℕ) → slice_index given.now k < 256) }
+{
+    let Some(frame) = pool.take() else {
+        unreachable!()
+    };
+    fill(pool, &frame, bytes);
+    frame
+}
+
+/// Writes the bytes of a page, if there are some, into a frame, which is zero.
+fn fill(pool: &mut FramePool, frame: &Frame, bytes: Option<&[u8]>)
+    requires zero { slice_get pool.old frame.now ≡ Some (Some fresh) }
+    requires size { IfSome bytes (λ given. length given.now ≡ 4096) }
+    ensures filled { pool.new ≡ slice_set pool.old frame.now (Some (first_bytes (option_copied bytes.entry))) }
+    ensures small { IfSome bytes.entry (λ given. (k : ℕ) → slice_index given.now k < 256) }
+{
+    match bytes {
+        Some(bytes) => write_whole(pool, frame, bytes),
+        None => {}
+    }
+}
+
+/// Writes all bytes of a frame.
+fn write_whole(pool: &mut FramePool, frame: &Frame, bytes: &[u8])
+    requires taken { IsTaken pool.old frame.now }
+    requires size { length bytes.now ≡ 4096 }
+    ensures written { pool.new ≡ slice_set pool.old frame.now (Some bytes.now) }
     ensures small { (k : ℕ) → slice_index bytes.now k < 256 }
 {
-    match pool.take() {
-        Some(frame) => {
-            pool.bytes_mut(&frame).copy_from_slice(bytes);
-            frame
-        }
-        None => unreachable!(),
-    }
+    pool.bytes_mut(frame).copy_from_slice(bytes);
 }
 
 /// Appends a page, for which there is room.

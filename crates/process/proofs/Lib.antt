@@ -9,6 +9,7 @@ mod Events
 mod ExecEvent
 mod ExecGates
 mod Fetches
+mod FreeInstructions
 mod HartEvents
 mod HartStates
 mod Interruptions

@@ -1,10 +1,11 @@
 -- The next instruction of the thread on a hart, and why it may not be executed.
-use Rattle.std.proofs.Common.{◌≡◌, ℕ, List, refl, ap, ◌∙◌, Bool, Option, Some, None, IfSome}
+use Rattle.std.proofs.Common.{◌≡◌, ℕ, List, get_or, refl, ap, ◌∙◌, Bool, Option, Some, None, IfSome}
 use Rattle.mach_types.specs.declared.events.Choice.TheVariants as asked
-use Rattle.process.proofs.Common.{HartState, Here, ImagePage, IsNextAt, IsPlanned, Next, Seen, here_of, is_writable, memory, refusal_of, runs}
+use Rattle.process.proofs.Common.{Effect, HartState, Here, ImagePage, IsNextAt, IsPlace, IsPlanned, Next, Parts, Seen, byte_in, can_write_in, credit_of, here_of, is_writable, memory, plain_seen, refusal_of, runs}
 use Rattle.rv_inst.specs.Sizes.{HasAccessSizes}
 use Rattle.block_model.specs.Events.Exec.{refusal_exec_by}
-use Rattle.block_model.specs.Instruction.{next_effect, next_fault}
+use Rattle.block_model.specs.Instruction.{fault_by, fetched, next_effect, next_fault}
+use Rattle.process.proofs.Places.{bytes_at, hart_is, writable_at}
 use Rattle.process.specs.Harts.{file_of, file_on, hart_in}
 
 -- the next instruction of the file that a hart keeps is that of the place
@@ -15,6 +16,15 @@ next_at here x ran events credit code byte writable next own same bytes writable
   effect = effect ∙ rw (own, same) refl;
   fault = fault ∙ rw (own, same, bytes, writables) refl;
 }
+
+-- the instruction that was read for a hart at a place, with its fault
+pub next_read : (v : Seen) (m : Parts) (h : ℕ) (x : HartState) (code : List ImagePage) (word : Option ℕ) (read : Option Effect) (fault : Option ℕ)
+    → IsPlace v m h → x ≡ get_or m.harts.items h x → code ≡ v.setting.program.pages → word ≡ fetched code x.pc → read ≡ next_effect code (file_of x)
+    → fault ≡ fault_by (byte_in m.pages) (can_write_in m.pages) x.pc word read → IsNextAt (here_of v h) (record { effect = read; fault = fault })
+next_read v m h x code word read fault place value same words effects is =
+    next_at (here_of v h) x ((plain_seen v).ran h) ((plain_seen v).events h) (credit_of m.harts.items h) code (byte_in m.pages) (can_write_in m.pages)
+    (record { effect = read; fault = fault }) (hart_is v m h x place value) same (bytes_at v m h place) (writable_at v m h place) effects
+    (is ∙ (λ i. fault_by (byte_in m.pages) (can_write_in m.pages) x.pc (words i) (effects i)))
 
 -- where no condition fails, it is planned
 pub planned : (v : Seen) (h : ℕ) (next : Next) → IsNextAt (here_of v h) next → IfSome next.effect HasAccessSizes → refusal_of asked.Exec (here_of v h) ≡ None → IsPlanned v h next

@@ -12,7 +12,7 @@ ghost use Rattle.process.specs.Refinement.{IsPlace, HasCode, IsUncounted, answer
 
 use crate::code::Code;
 use crate::handlers::has_handler;
-use crate::next::{Next, next_of};
+use crate::next::{Next, fault_of_next, instruction_at, is_free, next_of};
 use crate::parts::{Parts, entry_of};
 use hart_state::HartState;
 use mach_types::signals::SIGSEGV;
@@ -30,7 +30,17 @@ impl Parts {
             → IfOk result (IsPlanned v hart.0) }
     {
         let state = &self.harts[hart.0 as usize];
-        let next = next_of(code, &self.pages, state);
+        let instruction = instruction_at(code, &state.file, state.pc);
+        if is_free(state, instruction.effect.as_ref()) {
+            return Ok(Next {
+                effect: instruction.effect,
+                fault: None,
+            });
+        }
+        let next = Next {
+            effect: instruction.effect,
+            fault: fault_of_next(&self.pages, state, &instruction),
+        };
         match self.exec_gate(hart, &next) {
             Some(why) => Err(why),
             None => Ok(next),

@@ -21,6 +21,6 @@ mod search;
 mod signal_delivery;
 
 pub use code::Code;
-pub use next::{Next, effect_at, effect_of_next, is_local, next_of};
+pub use next::{Next, effect_at, effect_of_next, is_free, is_local, next_of};
 pub use parts::Parts;
 pub use requests::is_all_taken;

@@ -1,6 +1,6 @@
 //! The next instruction of a thread: its word, its effect, and its fault.
 
-ghost use Rattle.std.specs.Prelude.{◌≡◌, Some, IfSome, false};
+ghost use Rattle.std.specs.Prelude.{◌≡◌, ◌&&◌, Some, IfSome, false, is_some, not};
 ghost use Rattle.std.specs.Option.{option_copied, option_map_or};
 ghost use Rattle.rv_inst.specs.Sizes.{HasAccessSizes};
 ghost use Rattle.block_model.specs.Instruction.{fetched as word_fetched, effect_of, fetch_fault as fault_of_fetch, fault_by, next_effect, next_fault};
@@ -28,9 +28,11 @@ pub struct Next {
 
 /// The word at a pc, where it was fetched, and what it asks for, where it has a row.
 #[derive(Clone, Copy, Drop)]
-struct Instruction {
-    word: Option<u32>,
-    effect: Option<Effect>,
+pub(crate) struct Instruction {
+    /// The word; None where nothing can be executed.
+    pub(crate) word: Option<u32>,
+    /// What it asks for; None where there is no word, or it has no row.
+    pub(crate) effect: Option<Effect>,
 }
 
 /// The word at a pc: instructions stand at multiples of 4.
@@ -61,24 +63,34 @@ fn fetch_fault(pc: u64, word: Option<u32>) -> u8
 }
 
 /// The signal of the first fault of an instruction.
-fn fault_of_next(
+pub(crate) fn fault_of_next(
     pages: &PageMap,
     state: &HartState,
-    word: Option<u32>,
-    effect: Option<Effect>,
+    instruction: &Instruction,
 ) -> Option<u8>
-    requires { IfSome effect HasAccessSizes }
-    ensures { result ≡ fault_by (byte_in pages.now) (can_write_in pages.now) state.now.pc word effect }
+    requires { IfSome instruction.now.effect HasAccessSizes }
+    ensures { result ≡ fault_by (byte_in pages.now) (can_write_in pages.now) state.now.pc instruction.now.word
+        instruction.now.effect }
 {
-    match effect {
-        Some(effect) => state.fault_of(pages, &effect),
-        None => Some(fetch_fault(state.pc, word)),
+    match &instruction.effect {
+        Some(effect) => state.fault_of(pages, effect),
+        None => Some(fetch_fault(state.pc, instruction.word)),
     }
+}
+
+/// Whether an instruction with this effect may be executed by the thread on a hart in this state whatever waits, and makes no fault
+/// whatever memory is: it sets a register and does nothing else, and a thread runs there that waits in no barrier.
+#[inline]
+pub fn is_free(state: &HartState, effect: Option<&Effect>) -> bool
+    ensures { result ≡ (option_map_or sets_register (option_copied effect.entry) false && is_some state.now.running
+        && not (is_some state.now.waits)) }
+{
+    is_local(effect) && !state.is_idle() && state.waits.is_none()
 }
 
 /// The instruction at a pc, with these registers. Whoever looks at an instruction calls this one function, so decoding is in it.
 #[inline(never)]
-fn instruction_at(code: &Code, file: &Regs, pc: u64) -> Instruction
+pub(crate) fn instruction_at(code: &Code, file: &Regs, pc: u64) -> Instruction
     ensures word { result.word ≡ word_fetched code.now pc }
     ensures effect { result.effect ≡ next_effect code.now (record { file = file.now; pc = pc }) }
     ensures sizes { IfSome result.effect HasAccessSizes }
@@ -136,6 +148,6 @@ pub fn next_of(code: &Code, pages: &PageMap, state: &HartState) -> Next
     let instruction = instruction_at(code, &state.file, state.pc);
     Next {
         effect: instruction.effect,
-        fault: fault_of_next(pages, state, instruction.word, instruction.effect),
+        fault: fault_of_next(pages, state, &instruction),
     }
 }

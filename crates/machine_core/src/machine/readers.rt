@@ -15,12 +15,13 @@ ghost use Rattle.block_model.specs.History.{events, file, here_in_history, kerne
 ghost use Rattle.block_model.specs.Sights.{effect_here, fault_here, is_deliverable_on, sight_in};
 ghost use Rattle.process.specs.Harts.{hart_in};
 ghost use Rattle.process.specs.Sequences.{area_on, looked_at_on};
+ghost use Rattle.machine_core.specs.Free.{goes_freely};
 
 use crate::machine::Machine;
 use block_model::Refused;
 use hart_state::HartState;
 use mach_types::{Area, Choice, Entry, Hart, Named, Sight};
-use process::{effect_of_next, is_all_taken, is_local, next_of};
+use process::{effect_of_next, is_all_taken, is_free, is_local, next_of};
 use rseq_area::Lookups;
 use rv_inst::Effect;
 use sys_calls::Kernel;
@@ -120,6 +121,17 @@ impl Machine {
             (runs (here_in_history self.now.setting (history self.now.setting self.now.log) hart.0)) }
     {
         self.parts.deliverable(hart).is_some()
+    }
+
+    /// Whether the thread on a hart may execute its next instruction, and that touches registers and the pc alone and makes no fault:
+    /// `exec_enabled` and `local` of what a scheduler sees, for whom sees nothing else.
+    pub fn goes_freely(&self, hart: Hart) -> bool
+        requires { hart.0 < self.now.setting.limits.harts }
+        ensures { result
+            ≡ goes_freely (here_in_history self.now.setting (history self.now.setting self.now.log) hart.0) }
+    {
+        let state = self.hart(hart);
+        is_free(state, effect_of_next(&self.code, state).as_ref())
     }
 
     /// What a scheduler sees of a hart.

@@ -1,8 +1,9 @@
 use Rattle.std.proofs.Common.{◌≡◌, ◌<◌, ◌+◌, ℕ, List, Option, Some, None, cond, nat_eq, length, ap, sym, ◌∙◌, subst}
+use Rattle.std.specs.Option.{option_copied}
 use Rattle.std.specs.Vec.{vec_capacity}
 use Rattle.frame_pool.specs.Pool.{free_count}
 use Rattle.frame_pool.proofs.Laws.{free_count-taking}
-use Rattle.page_map.specs.Map.{Map, Page, free_in, page_in}
+use Rattle.page_map.specs.Map.{Map, Page, first_bytes, free_in, page_in}
 use Rattle.page_map.specs.Mapping.{CanLie}
 use Rattle.page_map.specs.Table.{place_in}
 use Rattle.page_map.proofs.Maps.{added-map, added-pages, shown, unmapped-place}
@@ -11,6 +12,10 @@ use Rattle.page_map.proofs.map.PageMap.add.Goals as goal
 -- the map as it was
 abbrev before : goal.After-set → Map
 before c = shown c.self.inside
+
+-- the bytes of the new page
+abbrev given : goal.After-set → List ℕ
+given c = first_bytes (option_copied c.args.bytes)
 
 -- the table has the new place
 places : (c : goal.After-set) (n : ℕ)
@@ -29,7 +34,7 @@ invariant_of-self c =
     let lies : CanLie was.break_start was.break_at c.args.number c.args.permission =
     subst (λ (m : Map). CanLie m.break_start m.break_at c.args.number c.args.permission) (sym c.self.view_is) c.requires.number in
     rw c.filled-frame.ensures.taken
-    (added-map (before c) (vec_capacity was.mapped) c.self.invariant c.filled-frame.result c.args.number c.args.permission c.args.bytes.now
+    (added-map (before c) (vec_capacity was.mapped) c.self.invariant c.filled-frame.result c.args.number c.args.permission (given c)
     c.filled-frame.ensures.was_free c.keep.new.mapped.items c.set.new.self c.keep.ensures.items (places c)
     (vec_capacity c.keep.new.mapped) lies c.requires.permission some unplaced c.keep.ensures.capacity)
 
@@ -37,13 +42,13 @@ pub returns-clause-pages : goal.returns-clause-pages
 returns-clause-pages c n =
     let was = c.self.inside in
     ap (λ (p : List (Option (List ℕ))). page_in (record { pool = p; mapped = c.keep.new.mapped.items; table = c.set.new.self; break_at = was.break_at; break_start = was.break_start }) n) c.filled-frame.ensures.taken
-    ∙ added-pages (before c) (vec_capacity was.mapped) c.self.invariant c.filled-frame.result c.args.number c.args.permission c.args.bytes.now
+    ∙ added-pages (before c) (vec_capacity was.mapped) c.self.invariant c.filled-frame.result c.args.number c.args.permission (given c)
     c.filled-frame.ensures.was_free c.keep.new.mapped.items c.set.new.self c.keep.ensures.items (places c) n
-    ∙ ap (λ (m : Map). let q : Option Page = cond (nat_eq n c.args.number) (Some (record { permission = c.args.permission; bytes = c.args.bytes.now })) (page_in m n) in q) c.self.view_is
+    ∙ ap (λ (m : Map). let q : Option Page = cond (nat_eq n c.args.number) (Some (record { permission = c.args.permission; bytes = (given c) })) (page_in m n) in q) c.self.view_is
 
 pub returns-clause-free : goal.returns-clause-free
 returns-clause-free c =
     let was = c.self.inside in
     ap (λ (p : List (Option (List ℕ))). free_count p + 1) c.filled-frame.ensures.taken
-    ∙ free_count-taking was.pool c.filled-frame.result c.args.bytes.now c.filled-frame.ensures.was_free
+    ∙ free_count-taking was.pool c.filled-frame.result (given c) c.filled-frame.ensures.was_free
     ∙ ap free_in c.self.view_is

@@ -1,0 +1,62 @@
+-- A hart goes freely where a thread runs that waits in no barrier, and its next instruction sets a register and does nothing else.
+use Rattle.std.proofs.Common.{◌≡◌, ℕ, ◌&&◌, length, sym, ap, ◌∙◌, refl, not, Bool, true, false, is_none, is_some, Option, Some, None}
+use Rattle.std.specs.Option.{option_map, option_map_or, option_or}
+use Rattle.machine_core.proofs.Common.{HartState, Here, is_writable, memory, runs, sets_register, thread}
+use Rattle.rv_inst.specs.Execution.{instruction_gate}
+use Rattle.rv_inst.specs.declared.effects.Effect.{Effect}
+use Rattle.block_model.specs.Events.Exec.{is_held, next_effect as effect_at, next_fault as fault_at, others_gate, refusal_exec_by}
+use Rattle.block_model.specs.Events.Preempt.{unless_in_barrier}
+use Rattle.block_model.specs.Here.{waiting_here}
+use Rattle.block_model.specs.Instruction.{fault_by, fetched, next_effect}
+use Rattle.block_model.specs.Sights.{is_local_on}
+use Rattle.process.proofs.Laws.{gate_of_free, no_fault_of_free, others_of_free}
+use Rattle.process.specs.Harts.{file_of, file_on, hart_in}
+use Rattle.machine_core.specs.Free.{goes_freely}
+use Rattle.machine_core.proofs.Sights.{next_local}
+
+-- it makes no fault, and so no gate holds it up
+gate_is_open : (waiting : ℕ) (byte : ℕ → Option ℕ) (writable : ℕ → Bool) (pc : ℕ) (word : Option ℕ) (o : Option Effect)
+    → option_map_or sets_register o false ≡ true → instruction_gate waiting o (is_some (fault_by byte writable pc word o)) ≡ None
+gate_is_open waiting byte writable pc word o sets =
+    ap (λ f. instruction_gate waiting o (is_some f)) (sym (no_fault_of_free byte writable pc word o sets)) ∙ gate_of_free waiting o sets
+
+and_false : (b : Bool) → (b && false) ≡ false
+and_false true = refl
+and_false false = refl
+
+-- of a thread
+module _ (here : Here) (t : ℕ) where
+  abbrev is_local : Bool
+  is_local = option_map_or sets_register (next_effect here.setting.program.pages (here.file t)) false
+
+  local_is : is_local ≡ is_local_on here (Some t)
+  local_is = next_local (memory here) (is_writable here) here.setting.program.pages (here.file t)
+
+  by_barrier : (waits : Option ℕ) (b : Bool) → is_local ≡ b
+      → (b && true && not (is_some waits))
+      ≡ (is_none (unless_in_barrier waits (option_or (instruction_gate (length (waiting_here here)) (effect_at here t) (is_some (fault_at here t)))
+      (others_gate (is_held here t) (effect_at here t)))) && b)
+  by_barrier (Some left) true sets = refl
+  by_barrier None true sets =
+      let gate : instruction_gate (length (waiting_here here)) (effect_at here t) (is_some (fault_at here t)) ≡ None =
+      gate_is_open (length (waiting_here here)) (memory here) (is_writable here) (here.file t).pc (fetched here.setting.program.pages (here.file t).pc) (effect_at here t) sets in
+      let none : option_or (instruction_gate (length (waiting_here here)) (effect_at here t) (is_some (fault_at here t))) (others_gate (is_held here t) (effect_at here t)) ≡ None =
+      ap (λ g. option_or g (others_gate (is_held here t) (effect_at here t))) gate ∙ sym (others_of_free (is_held here t) (effect_at here t) sets) in
+      rw none refl
+  by_barrier waits false sets = sym (and_false _)
+
+freely_by : (here : Here) (o : Option ℕ)
+    → (option_map_or sets_register (next_effect here.setting.program.pages (file_on here o)) false && is_some (option_map thread o) && not (is_some here.awaits))
+    ≡ (is_none (refusal_exec_by here o) && is_local_on here o)
+freely_by here None =
+    ap (λ b. b && not (is_some here.awaits)) (and_false (option_map_or sets_register (next_effect here.setting.program.pages (file_on here None)) false))
+freely_by here (Some t) =
+    by_barrier here t here.awaits (is_local here t) refl
+    ∙ ap (λ b. is_none (refusal_exec_by here (Some t)) && b) (local_is here t)
+
+-- told by the hart's state
+pub freely_read : (here : Here) (x : HartState) (n k credit : ℕ) → x ≡ hart_in here n k credit
+    → (option_map_or sets_register (next_effect here.setting.program.pages (file_of x)) false && is_some x.running && not (is_some x.waits)) ≡ goes_freely here
+freely_read here x n k credit is =
+    ap (λ (y : HartState). option_map_or sets_register (next_effect here.setting.program.pages (file_of y)) false && is_some y.running && not (is_some y.waits)) is
+    ∙ freely_by here (runs here)
