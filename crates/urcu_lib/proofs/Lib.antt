@@ -1,6 +1,8 @@
+pub mod CallWords
 pub mod CounterLaw
 pub mod EmittedWords
 pub mod GraceLaw
+pub mod LowCode
 pub mod SlotLaw
 pub mod SyncState
 pub mod SyncSteps

@@ -32,6 +32,7 @@ use Rattle.urcu_lib.specs.Sections.{IsLockStore}
 use Rattle.urcu_lib.specs.Uses.{HoldsUrcu, IsStart}
 use Rattle.urcu_lib.specs.declared.regs.ReadRegs.{ReadRegs}
 use Rattle.urcu_lib.specs.declared.regs.SyncRegs.{SyncRegs}
+use Rattle.urcu_lib.proofs.LowCode.{code_low, low_is}
 use Rattle.urcu_lib.proofs.UseTests.{Layout, all_used, are_fine, is_lock_store, lock_store_is, only, urcu_of}
 
 -- `lui x8, 0x20`, `addi x9, x8, 64`; membarrier(16, 0); clone; the child goes to 0x10074. From 0x10030 on the
@@ -338,7 +339,7 @@ blocks = record {
             ∙ word_is (code_of reading.program.pages) (sync_block sync_regs 1) 0x10030 sync_there k i
             (ap (λ q. slice_get (sync_block q 1) k) its.1 ∙ there);
       };
-  low = λ at r is. let its = (only at 0x10030 sync_regs r is).0 in (omega arith, omega arith);
+  low = code_low reading.program.pages (low_is reading.program.pages refl);
   lock_regs = λ at r is. subst AreReadRegs (only at 0x10074 read_regs r is).1 are_read;
   unlock_regs = λ at r is. subst AreReadRegs (only at 0x1007C read_regs r is).1 are_read;
   sync_regs = λ at r is. subst AreSyncRegs (only at 0x10030 sync_regs r is).1 are_sync;
