@@ -1,6 +1,8 @@
 pub mod CounterLaw
 pub mod EmittedWords
 pub mod GraceLaw
+pub mod HandlerExample
+pub mod RunTests
 pub mod SlotLaw
 pub mod SyncState
 pub mod SyncSteps
