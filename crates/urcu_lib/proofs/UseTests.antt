@@ -272,7 +272,7 @@ record HadIt (s : Setting) (at t : ℕ) (f : Saved) (before : History) : Type 0 
   same : f ≡ file s t old
 
 elsewhere : (count at t : ℕ) (e : Event) → acts_in count at e t ≡ false → IsElsewhere at count t e
-elsewhere count at t e isnt executes of within =
+elsewhere count at t e isnt = λ executes of within.
     false≢true
     (sym isnt
     ∙ and_from (is_exec (choice_of e.entry)) (eqb e.entry.tid.0 t && is_in_block count at e.entry.pc)
