@@ -33,7 +33,8 @@ use Rattle.urcu_lib.specs.Uses.{HoldsUrcu, IsStart}
 use Rattle.urcu_lib.specs.declared.regs.ReadRegs.{ReadRegs}
 use Rattle.urcu_lib.proofs.RunTests.{all_go_on, executed_in, runs_so}
 use Rattle.urcu_lib.proofs.UseExample.{AreThere, are_sync, blocks_so, entry, is_register, line, sync_regs}
-use Rattle.urcu_lib.proofs.UseTests.{Layout, all_used, are_fine, is_lock_store, lock_store_is, only, urcu_of}
+use Rattle.urcu_lib.proofs.UseTests.{Layout, all_used, are_fine, is_file, is_lock_store, lock_store_is, only}
+use Rattle.urcu_lib.proofs.UseTests.{saved_is, urcu_of}
 
 -- The first thread registers for membarrier, starts the readers, sets the handler of SIGUSR1 and sends itself the
 -- signal. From 0x10064 on stands the sync block, behind it a jump back to it and the handler, `jalr x0, 0(x1)`, and at
@@ -299,9 +300,13 @@ fails passing = no_pass passing
     no_pass (inl none) = let one = loaded in omega arith
     no_pass (inr low) = let one = loaded in let two = counter in omega arith
 
-pub comes_back : file waiting 1 (history waiting come_back) ≡ file waiting 1 (history waiting in_loop)
+is_so : is_file (file waiting 1 (history waiting come_back)) (file waiting 1 (history waiting in_loop)) ≡ true
 unfolding decide history done meaning row_of rows lui_rows auipc_rows jal_rows jalr_rows branch_rows load_rows store_rows op_imm_rows op_imm_32_rows op_rows op_32_rows misc_mem_rows amo_rows system_rows are_readable number_at command_asked all_signals can_write_frame frame_read
-comes_back = refl
+is_so = refl
+
+pub comes_back : file waiting 1 (history waiting come_back) ≡ file waiting 1 (history waiting in_loop)
+comes_back =
+    saved_is (file waiting 1 (history waiting come_back)) (file waiting 1 (history waiting in_loop)) is_so
 
 -- from the block's first instruction on it then executes 23 instructions undisturbed, and each of its loads passes
 pub starts : (file waiting 1 (history waiting at_start)).pc ≡ 0x10064

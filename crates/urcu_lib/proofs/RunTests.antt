@@ -11,9 +11,9 @@ use Rattle.mach_types.specs.declared.registers.Regs.{Regs}
 use Rattle.block_model.specs.History.{Event, History, file}
 use Rattle.block_model.specs.Setting.{Setting}
 use Rattle.block_model.specs.Walks.{is_exec}
-use Rattle.percpu_lib.proofs.UseTests.{either, follows, implies, is_file}
+use Rattle.percpu_lib.proofs.UseTests.{either, follows, implies}
 use Rattle.urcu_lib.specs.Stretch.{HasReturned, IsPassing, Runs, it_rests, it_runs, none_run}
-use Rattle.urcu_lib.proofs.UseTests.{exec_is, saved_is}
+use Rattle.urcu_lib.proofs.UseTests.{exec_is, is_file, saved_is}
 
 module _ (s : Setting) (at t : ℕ) where
   -- the event executes an instruction of the thread

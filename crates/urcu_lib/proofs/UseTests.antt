@@ -26,7 +26,7 @@ use Rattle.alone_laws.specs.Spans.{IsUsable, Leaves}
 use Rattle.alone_laws.proofs.StoredWords.{among_low}
 use Rattle.fence_laws.specs.Kept.{AreBeside, IsQuiet}
 use Rattle.percpu_lib.proofs.RetryTests.{registers_are, same_registers}
-use Rattle.percpu_lib.proofs.UseTests.{either, follows, implies, is_file, is_just}
+use Rattle.percpu_lib.proofs.UseTests.{either, follows, implies, is_just}
 use Rattle.urcu_lib.specs.Blocks.{Urcu}
 use Rattle.urcu_lib.specs.Sections.{IsExecAt, IsGraceEnd, IsLockStore, IsSection}
 use Rattle.urcu_lib.specs.Sections.{IsSyncStore, IsSyncing, IsUnlockStore, comes_in, enters, goes, is_in}
@@ -252,6 +252,9 @@ it_executes at e is =
     record { executes = exec_is (choice_of e.entry) parts.0; pc = eqb-true e.entry.pc at parts.1 }
 
 -- a thread's file is another
+abbrev pub is_file : Saved → Saved → Bool
+is_file f g = eqb f.pc g.pc && same_registers f.file g.file
+
 pub saved_is : (f g : Saved) → is_file f g ≡ true → f ≡ g
 saved_is f g is =
     let parts = and_parts (eqb f.pc g.pc) (same_registers f.file g.file) is in
