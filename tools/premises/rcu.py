@@ -248,7 +248,7 @@ Look = Callable[[Past, Line], None]
 def first_breaks(elf: bytes, u: Urcu, steps: list[Step], look: Look) -> dict[str, int]:
     """What doesn't hold in a log, each with the first line where it doesn't (0 before all lines)."""
     replay = Replay(elf)
-    first = replay.view(0, u.counter)
+    first = replay.view(0, u.counter)  # IsStart.counter
     past = Past(u, first)
     breaks = dict.fromkeys(broken('AreBlocks', ARE_BLOCKS, u, replay.code), 0)
     breaks |= dict.fromkeys(broken('IsStart', IS_START, u, replay.entry, first), 0)
