@@ -6,7 +6,7 @@ field fails that these words break.
     tools/premises/check.py [PROGRAM [LOGS]]
 
 PROGRAM is crates/rseq_run/out/rseq_run where it isn't given. LOGS says with how many seeds a program is drawn
-on 2, 3 and 4 harts (50; a few where a field is to fail). A line tells of each program how many logs there
+on 2, 3 and 4 harts (40; a few where a field is to fail). A line tells of each program how many logs there
 are and what comes about in them. Below it stands each field that fails, in how many logs, and in
 which first, at which line; 0 is the program itself. Ends with 1 where something else comes of it than is due.
 """
@@ -32,14 +32,14 @@ from rcu import addi, first_breaks, ld, sd  # noqa: E402
 from replay import HANDLER_RETURN, SIGUSR1, segments  # noqa: E402
 
 GUEST = ('make', 'urcu', '3')
-HARTS, LOGS, STEPS = (2, 3, 4), 50, 4_000
+HARTS, LOGS, STEPS = (2, 3, 4), 40, 4_000
 LOCK_AT, UNLOCK_AT, SYNC_AT = 0x10214, 0x10224, 0x1019C
 READ, SYNC = ReadRegs(gp=26, slot=25, scratch=24), SyncRegs(gp=26, slots=27)
 URCU = Urcu(0x20008, 0x21040, (2, 3, 4), {LOCK_AT: READ}, {UNLOCK_AT: READ}, {SYNC_AT: SYNC}, {SYNC_AT: 3})
 SPARE, REGISTRATION, PRINTING, ACTION = 0x10134, 0x10024, 0x100CC, 0x20020
 """What the guest can do without: code that chooses a hart, registers an area and prints; and a descriptor."""
-NOP, RETURN, PROT_READ = 0x13, 0x00008067, 1
-BNE_X6_THIRD, SRLI_X5_5 = 0x00031663, 0x0052D293
+STOP, NOP, RETURN, PROT_READ = 0x100C0, 0x13, 0x00008067, 1
+BNE_X6_THIRD, BEQ_A0_BACK, SRLI_X5_5 = 0x00031663, 0xFE0508E3, 0x0052D293
 
 
 def lui(rd: int, page: int) -> int:
@@ -64,7 +64,8 @@ def protect(page: int) -> dict[int, list[int]]:
 
 GRACES, IN_SECTIONS, WAITS = 'grace periods', 'of them begun in a section', 'loads that do not pass'
 RETURNS, OUTLAWS = 'returns of handlers into sync', 'Law.sections_end_before_grace_periods'
-WAYS = (GRACES, IN_SECTIONS, WAITS, RETURNS)
+BEHIND = 'entries behind a thread that ended there'
+WAYS = (GRACES, IN_SECTIONS, WAITS, RETURNS, BEHIND)
 HANDLER = {
     REGISTRATION: [addi(10, 0, SIGUSR1), lui(11, 0x20), addi(11, 11, 0x20), addi(12, 0, 0), addi(13, 0, 8)],
     REGISTRATION + 5 * SIZE: call(RT_SIGACTION),
@@ -77,8 +78,18 @@ STALE_FRAMES = {
     ACTION: [PRINTING, 0, 0, 0, 0, 0],
     PRINTING: [lui(5, 0x41), ld(6, 5), BNE_X6_THIRD, sd(5, 2), RETURN, addi(2, 6, 0), RETURN],
     0x101E0: [addi(2, 2, -288)],
-    0x101FC: [jal(0, 0x100C0 - 0x101FC)],
+    0x101FC: [jal(0, STOP - 0x101FC)],
 }
+ENDING = {
+    **HANDLER,
+    ACTION: [STOP, 0, 0, 0, 0, 0],
+    0x10150: [addi(20, 0, 1)],
+    0x1023C: [jal(0, PRINTING - 0x1023C)],
+    PRINTING: [addi(10, 0, 1), addi(11, 0, 0), addi(17, 0, TKILL), ECALL, BEQ_A0_BACK],
+    PRINTING + 5 * SIZE: [jal(0, SYNC_AT - PRINTING - 5 * SIZE)],
+}
+"""The handler ends its thread. One reader asks by a signal 0 until the first thread isn't there any more, and
+makes a grace period then."""
 
 
 @dataclass(frozen=True)
@@ -103,7 +114,8 @@ class Case:
 
 CASES = [
     Case('the guest', shows=(GRACES, IN_SECTIONS, WAITS)),
-    Case('handlers return into sync', words=HANDLER, shows=WAYS),
+    Case('handlers return into sync', words=HANDLER, shows=WAYS[:-1]),
+    Case('handlers end threads in sync', words=ENDING, shows=(BEHIND,)),
     Case('sync makes no call', 'AreBlocks.syncs', {SYNC_AT + CALL: [NOP]}, (OUTLAWS,), range(24, 28)),
     Case('the counter begins at 0', 'IsStart.some', {URCU.counter: [0, 0]}),
     Case('the counter passes its end', 'IsUse.small', {URCU.counter: [0xFFFF_FFFE, 0xFFFF_FFFF]}),
@@ -148,6 +160,7 @@ def tells(past: Past, line: Line) -> list[str]:
         IN_SECTIONS: line.place == CALL and any(past.sections),
         WAITS: line.place == BRANCH_BACK and line.e.deed.after.pc == SYNC_AT + LOOP,
         RETURNS: line.e.step.pc == HANDLER_RETURN + SIZE and line.e.deed.after.pc - SYNC_AT in SYNC_BLOCK,
+        BEHIND: line.place == 0 and past.ended,
     }
     return [way for way, comes in ways.items() if comes]
 

@@ -128,6 +128,8 @@ class Past:
         self.counted = first
         self.sections: list[list[int]] = [[] for _ in u.places]
         self.syncing: set[tuple[int, int]] = set()
+        self.ended: set[tuple[int, int]] = set()
+        """Who ended in a sync block."""
         self.calls: dict[tuple[int, int], int] = {}
         self.grown: dict[tuple[int, int], int] = {}
         self.stood: dict[int, set[File]] = defaultdict(set)
@@ -144,6 +146,8 @@ class Past:
             self.sections[slot].append(line.e.step.number)
         for thread, file in line.e.files:
             self.keep(line, thread, file)
+        self.ended |= {block for block in self.syncing if block[1] in replay.ended}
+        self.syncing -= self.ended
         if line.place == 0:
             self.syncing.add(line.block)
         elif line.place == CALL:

@@ -21,7 +21,7 @@ RA, SP, TP, A0, A1, A2 = 1, 2, 4, 10, 11, 12
 WORD = (1 << 64) - 1
 PAGE, STACK_PAGES, START_SP = 0x1000, range(0x3FF_FF00, 0x3FF_FF40), 0x3F_FFF3_FF30
 HANDLER_RETURN, LI_A7_SIGRETURN, FRAME, SIGUSR1 = 0x3F_FFFF_0000, 0x08B00893, 272, 10
-QUERY, PRIVATE, REGISTER_PRIVATE, QUERY_ANSWER, EPERM = 0, 8, 16, 927, 1
+QUERY, PRIVATE, REGISTER_PRIVATE, QUERY_ANSWER, EPERM, ESRCH = 0, 8, 16, 927, 1, 3
 BRANCHES = {0: eq, 1: ne, 6: lt}
 SUMS = {(0, 0): add, (0, 0x20): sub, (5, 1): floordiv, (7, 1): mod}
 
@@ -88,6 +88,7 @@ class Replay:
                 self.usable |= pages(at, size)
         self.files = {1: File(self.entry, (0, 0, START_SP, *[0] * 29))}
         self.waiting: list[deque[Store]] = [deque() for _ in range(HARTS)]
+        self.ended: set[int] = set()
         self.areas: dict[int, int] = {}
         self.clears: dict[int, int] = {}
         self.handler = 0
@@ -184,11 +185,14 @@ class Replay:
         a0, a1, a2, a3, a4 = file.registers[A0 : A0 + 5]
         past, answer, entered = file.pc + SIZE, 0, []
         match file.registers[A7]:
-            case calls.FUTEX | calls.TKILL | calls.EXIT_GROUP:
+            case calls.FUTEX | calls.EXIT_GROUP:
                 pass
+            case calls.TKILL:
+                answer = -ESRCH if a0 in self.ended else 0
             case calls.WRITE:
                 answer = a2
             case calls.EXIT:
+                self.ended.add(step.thread)
                 entered = [Store(self.clears[step.thread], 4, 0)] if step.thread in self.clears else []
             case calls.RT_SIGACTION:
                 self.handler = self.view(step.hart, a1)

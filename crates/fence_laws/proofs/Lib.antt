@@ -3,4 +3,5 @@ pub mod ExecLaw
 pub mod Fences
 pub mod GoingOn
 pub mod OwnerLaw
+pub mod ThreadLaw
 pub mod WordLaw

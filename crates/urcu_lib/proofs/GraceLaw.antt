@@ -10,7 +10,7 @@ use Rattle.mach_types.specs.declared.events.Kind.{Kind}
 use Rattle.mach_types.specs.declared.events.Kind.TheVariants as kind
 use Rattle.mach_types.specs.declared.threads.ThreadState.{ThreadState}
 use Rattle.mach_types.specs.declared.threads.ThreadState.TheVariants.{Ready, Running, Waiting}
-use Rattle.mach_types.specs.Kernel.Threads.{Threads, is_ready, is_ready_state, state_of}
+use Rattle.mach_types.specs.Kernel.Threads.{Threads, is_live, is_ready, is_ready_state, state_of}
 use Rattle.std.specs.Option.{option_map_or}
 use Rattle.mach_types.specs.declared.registers.Regs.{Regs}
 use Rattle.mach_types.specs.declared.threads.Saved.{Saved}
@@ -52,6 +52,8 @@ use Rattle.urcu_lib.proofs.SyncSteps.{AreBelow, IsNext, base_is, entered_now, ne
 use Rattle.urcu_lib.proofs.SyncSteps.{none_waits, past_last, sync_stores}
 use Rattle.fence_laws.proofs.Calls.{outside_of}
 use Rattle.fence_laws.proofs.GoingOn.{HasGoneOn, has_gone_on, return_keeps}
+use Rattle.fence_laws.proofs.ThreadLaw.{given_at, given_grows, given_since, lived_at, lived_before}
+use Rattle.fence_laws.proofs.ThreadLaw.{runner_lives, was_given}
 use Rattle.alone_laws.proofs.Steps.{word_same}
 use Rattle.fence_laws.proofs.WordLaw.{exec_drained, quiet_own}
 
@@ -261,14 +263,40 @@ module _ (s : Setting) (at t : ℕ) (begun : History) where
 
 -- WHO IS IN A SYNC BLOCK
 
--- an event that executes nothing of the block for the thread leaves it there
-syncing_since : (at t : ℕ) (begun old : History) (since : List Event) → AreElsewhere at 17 t since
-    → IsSyncing at t begun old
-    → IsSyncing at t begun (since ++ old)
-syncing_since at t begun old [] elsewhere was = was
-syncing_since at t begun old (e ∷ since) elsewhere was =
-    is_in e (since ++ old) (syncing_since at t begun old since elsewhere.0 was)
-    (λ ends. elsewhere.1 ends.exec.executes ends.of (16, omega arith, ends.exec.pc))
+module _ (s : Setting) (t : ℕ) where
+  -- a thread that lives, and whose number was given at an earlier place, lived before the last event
+  lived_last : (old : History) (e : Event) (since : List Event) → IsRunHistory s (e ∷ since ++ old)
+      → t ≤ (kernel s old).threads.given → is_live t e.done.kernel.threads ≡ true
+      → is_live t (kernel s (since ++ old)).threads ≡ true
+  lived_last old e since run low lives =
+      let more = given_since s since old run.0 in
+      lived_before s e (since ++ old) (step_of s e (since ++ old) run) t (omega arith) lives
+
+  -- an event that executes nothing of the block for the thread leaves it there
+  syncing_since : (at : ℕ) (begun old : History) (since : List Event) → IsRunHistory s (since ++ old)
+      → t ≤ (kernel s old).threads.given → is_live t (kernel s (since ++ old)).threads ≡ true
+      → AreElsewhere at 17 t since → IsSyncing s at t begun old
+      → IsSyncing s at t begun (since ++ old)
+  syncing_since at begun old [] run low lives elsewhere was = was
+  syncing_since at begun old (e ∷ since) run low lives elsewhere was =
+      is_in e (since ++ old)
+      (syncing_since at begun old since run.0 low (lived_last old e since run low lives) elsewhere.0 was)
+      (λ ends. elsewhere.1 ends.exec.executes ends.of (16, omega arith, ends.exec.pc)) lives
+
+  -- the number of a thread whose grace period goes on was given
+  grace_given : (at : ℕ) (grace now : History) → IsRunHistory s now → IsGrace at t grace now
+      → t ≤ (kernel s now).threads.given
+  grace_given at grace now run (calls e begins) =
+      let step = step_of s e grace run in
+      let of = exec_of s e grace step begins.exec.executes in
+      let low = was_given s e grace step t
+      (runner_lives s e grace step e.entry.hart.0 t (of.runs ∙ ap Some begins.of)) in
+      let more = given_grows s e grace step in
+      omega arith
+  grace_given at grace now run (waits e before was still) =
+      let low = grace_given at grace before run.0 was in
+      let more = given_grows s e before (step_of s e before run) in
+      omega arith
 
 -- WHO SETS A FILE
 
@@ -354,20 +382,20 @@ module _ (s : Setting) (e : Event) (before : History) (run : IsRunHistory s (e �
 module _ (s : Setting) (u : Urcu) (first : ℕ) where
   one_syncs : (at t other v : ℕ) (r q : SyncRegs) (begun since : History) → u.syncs at ≡ Some r
       → u.syncs other ≡ Some q → (now : History)
-      → AreUses s u first now → IsSyncing at t begun now → IsSyncing other v since now
+      → AreUses s u first now → IsSyncing s at t begun now → IsSyncing s other v since now
       → (at ≡ other) × (t ≡ v)
   one_syncs at t other v r q begun since block second now uses (comes_in e exec of) (comes_in x again its) =
       (sym exec.pc ∙ again.pc, sym of ∙ its)
   one_syncs at t other v r q begun since block second now uses (comes_in e exec of)
-      (is_in x before was still) =
+      (is_in x before was still lives) =
       absurd (uses.1.alone other v q since second was
       (record { place = at; regs = r; block = block; exec = exec }))
-  one_syncs at t other v r q begun since block second now uses (is_in e before was still)
+  one_syncs at t other v r q begun since block second now uses (is_in e before was still lives)
       (comes_in x again its) =
       absurd (uses.1.alone at t r begun block was
       (record { place = other; regs = q; block = second; exec = again }))
-  one_syncs at t other v r q begun since block second now uses (is_in e before was still)
-      (is_in x rest there goes) =
+  one_syncs at t other v r q begun since block second now uses (is_in e before was still lives)
+      (is_in x rest there goes live) =
       one_syncs at t other v r q begun since block second before uses.0 was there
 
 module _ (s : Setting) (u : Urcu) (first : ℕ) (blocks : AreBlocks (code_of s.program.pages) u)
@@ -385,14 +413,16 @@ module _ (s : Setting) (u : Urcu) (first : ℕ) (blocks : AreBlocks (code_of s.p
     gp : register f r.gp ≡ u.counter
     slots : register f r.slots ≡ u.slots
     begun : History
-    on : IsSyncing at t begun now
+    on : IsSyncing s at t begun now
 
+  -- of each thread that lives
   record IsSound (now : History) : Type 0 where
     counter : IsCounter u.counter s first now
-    locks : (at t : ℕ) (r : ReadRegs) → u.locks at ≡ Some r → (file s t now).pc ≡ at + 4
+    locks : (at t : ℕ) (r : ReadRegs) → u.locks at ≡ Some r → is_live t (kernel s now).threads ≡ true
+        → (file s t now).pc ≡ at + 4
         → IsInLock r (file s t now).file now
     syncs : (at t k : ℕ) (r : SyncRegs) → u.syncs at ≡ Some r → 0 < k → k < 17
-        → (file s t now).pc ≡ at + 4 * k
+        → is_live t (kernel s now).threads ≡ true → (file s t now).pc ≡ at + 4 * k
         → IsInSync at t k r (file s t now).file now
 
   abbrev Always : History → Type 0
@@ -413,22 +443,35 @@ module _ (s : Setting) (u : Urcu) (first : ℕ) (blocks : AreBlocks (code_of s.p
   grows [] old all = omega arith
   grows (e ∷ since) old all = let earlier = grows since old all.0 in let now = all.1 in omega arith
 
-  -- a thread whose grace period goes on is in its block
+  -- a thread that executes an instruction lives
+  actor_lives : (e : Event) (before : History) → IsRunHistory s (e ∷ before)
+      → choice_of e.entry ≡ asked.Exec → (t : ℕ) → e.entry.tid.0 ≡ t
+      → is_live t (kernel s before).threads ≡ true
+  actor_lives e before run executes t of =
+      let step = step_of s e before run in
+      runner_lives s e before step e.entry.hart.0 t
+      ((exec_of s e before step executes).runs ∙ ap Some of)
+
+  -- a thread that lives and whose grace period goes on is in its block
   grace_syncs : (at t : ℕ) (r : SyncRegs) (grace : History) → u.syncs at ≡ Some r → (now : History)
-      → IsRunHistory s now → Always now → IsGrace at t grace now
-      → (begun : History) × IsSyncing at t begun now
-  grace_syncs at t r grace block now run all (calls e begins) =
+      → IsRunHistory s now → Always now → is_live t (kernel s now).threads ≡ true → IsGrace at t grace now
+      → (begun : History) × IsSyncing s at t begun now
+  grace_syncs at t r grace block now run all lives (calls e begins) =
       let of = exec_of s e grace (step_of s e grace run) begins.exec.executes in
       let there : (file s t grace).pc ≡ at + 4 * 4 = sym (ap (λ n. (file s n grace).pc) begins.of) ∙ of.pc
       ∙ begins.exec.pc in
-      let was = (sound grace all.0).syncs at t 4 r block (omega arith) (omega arith) there in (
+      let was = (sound grace all.0).syncs at t 4 r block (omega arith) (omega arith)
+      (actor_lives e grace run begins.exec.executes t begins.of) there in (
         was.begun,
         is_in e grace was.on
-            (λ ends. let one = begins.exec.pc in let two = ends.exec.pc in let no : ⊥ = omega arith in no),
+            (λ ends. let one = begins.exec.pc in let two = ends.exec.pc in let no : ⊥ = omega arith in no)
+            lives,
       )
-  grace_syncs at t r grace block now run all (waits e before was still) =
-      let old = grace_syncs at t r grace block before run.0 all.0 was in
-      (old.0, is_in e before old.1 still)
+  grace_syncs at t r grace block now run all lives (waits e before was still) =
+      let low = grace_given s t at grace before run.0 was in
+      let old = grace_syncs at t r grace block before run.0 all.0
+      (lived_before s e before (step_of s e before run) t low lives) was in
+      (old.0, is_in e before old.1 still lives)
 
   -- what is known of an event by what holds before it
   orderly : (e : Event) (before : History) → IsRunHistory s (e ∷ before) → AreUses s u first (e ∷ before)
@@ -436,22 +479,23 @@ module _ (s : Setting) (u : Urcu) (first : ℕ) (blocks : AreBlocks (code_of s.p
       → ((at t : ℕ) → IsGraceBegin at t e → e.done.ended ≡ None) → IsOrderly s u first e before
   orderly e before run uses all lives = record {
     used = uses.1;
-    one = λ at t r grace block on x.
-        let g = grace_syncs at t r grace block before run.0 all on in
+    one = λ at t r grace block on alive x.
+        let g = grace_syncs at t r grace block before run.0 all alive on in
         let place : (file s e.entry.tid.0 before).pc ≡ x.place + 4 * 7 =
         (exec_of s e before step x.exec.executes).pc ∙ x.exec.pc in
         let its = (sound before all).syncs x.place e.entry.tid.0 7 x.regs x.block (omega arith)
-        (omega arith) place in
+        (omega arith) (its_actor e.entry.tid.0 x.exec.executes refl) place in
         let same = one_syncs s u first at t x.place e.entry.tid.0 r x.regs g.0 its.begun block x.block before uses.0 g.1 its.on in
         (sym same.1, x.exec.pc ∙ ap (λ n. n + 28) (sym same.0));
     once = λ at t r grace block on begins.
         let of = exec_of s e before step begins.exec.executes in
         let there : (file s t before).pc ≡ at + 4 * 4 = sym (ap (λ n. (file s n before).pc) begins.of) ∙ of.pc
         ∙ begins.exec.pc in
-        let its = (sound before all).syncs at t 4 r block (omega arith) (omega arith) there in
+        let its = (sound before all).syncs at t 4 r block (omega arith) (omega arith)
+        (its_actor t begins.exec.executes begins.of) there in
         none_at s u first at t (file s t before).file before 4 refl its.stands grace on;
-    anew = λ at t r grace block on exec.
-        let g = grace_syncs at t r grace block before run.0 all on in
+    anew = λ at t r grace block on alive exec.
+        let g = grace_syncs at t r grace block before run.0 all alive on in
         uses.1.alone at t r g.0 block g.1 (record { place = at; regs = r; block = block; exec = exec });
     outside = λ at t r block begins.
         let of = exec_of s e before step begins.exec.executes in
@@ -465,6 +509,10 @@ module _ (s : Setting) (u : Urcu) (first : ℕ) (blocks : AreBlocks (code_of s.p
       step : IsStep s e before
       step = step_of s e before run
 
+      its_actor : (t : ℕ) → choice_of e.entry ≡ asked.Exec → e.entry.tid.0 ≡ t
+          → is_live t (kernel s before).threads ≡ true
+      its_actor t executes of = actor_lives e before run executes t of
+
   -- what sections stored that began before a grace period
   are_below : (now : History) → IsRunHistory s now → AreUses s u first now → Always now → (at t : ℕ)
       → (p : IsPast s u first at t (file s t now).file now) → AreBelow s u first blocks now p.opened.grace
@@ -474,6 +522,7 @@ module _ (s : Setting) (u : Urcu) (first : ℕ) (blocks : AreBlocks (code_of s.p
       let run_x : IsRunHistory s x = first_run s b.since x (subst (IsRunHistory s) b.parts run) in
       let of = exec_of s b.event begun (step_of s b.event begun run_x) b.locks.exec.executes in
       let holds = (sound begun all_x.0).locks b.locks.place b.event.entry.tid.0 b.locks.regs b.locks.block
+      (actor_lives b.event begun run_x b.locks.exec.executes b.event.entry.tid.0 refl)
       (of.pc ∙ b.locks.exec.pc) in
       let o = p.opened in
       let parts : now ≡ (o.since ++ o.call ∷ []) ++ o.grace = o.parts
@@ -492,14 +541,16 @@ module _ (s : Setting) (u : Urcu) (first : ℕ) (blocks : AreBlocks (code_of s.p
   -- where nothing of a block is executed a thread in it stands as it did
   stands_since : (at t k : ℕ) (f : Regs) (old : History) (since : List Event) → IsRunHistory s (since ++ old)
       → AreUses s u first (since ++ old)
-      → Always (since ++ old) → HasGoneOn (since ++ old) → AreElsewhere at 17 t since
+      → Always (since ++ old) → HasGoneOn (since ++ old) → t ≤ (kernel s old).threads.given
+      → is_live t (kernel s (since ++ old)).threads ≡ true → AreElsewhere at 17 t since
       → Stands s u first at t f old k
       → Stands s u first at t f (since ++ old) k
-  stands_since at t k f old [] run uses all gone elsewhere was = was
-  stands_since at t k f old (e ∷ since) run uses all gone elsewhere was =
+  stands_since at t k f old [] run uses all gone low lives elsewhere was = was
+  stands_since at t k f old (e ∷ since) run uses all gone low lives elsewhere was =
+      let alive = lived_last s t old e since run low lives in
       stands_next s u first at t e (since ++ old) run
-      (orderly e (since ++ old) run uses all.0 (λ block thread begins. gone.1)) f elsewhere.1 k
-      (stands_since at t k f old since run.0 uses.0 all.0 gone.0 elsewhere.0 was)
+      (orderly e (since ++ old) run uses all.0 (λ block thread begins. gone.1)) alive f elsewhere.1 k
+      (stands_since at t k f old since run.0 uses.0 all.0 gone.0 low alive elsewhere.0 was)
 
   -- AN EVENT
 
@@ -526,7 +577,8 @@ module _ (s : Setting) (u : Urcu) (first : ℕ) (blocks : AreBlocks (code_of s.p
         let t = e.entry.tid.0 in
         let stands_at : (file s t before).pc ≡ x.place + 4 * 7 = (exec_of s e before step executes).pc
         ∙ x.exec.pc in
-        let its = old.syncs x.place t 7 x.regs x.block (omega arith) (omega arith) stands_at in
+        let its = old.syncs x.place t 7 x.regs x.block (omega arith) (omega arith)
+        (actor_lives e before run executes t refl) stands_at in
         let g = grown_at s u first x.place t (file s t before).file before 7 refl its.stands in
         let did = sync_stores s u first blocks x.place x.regs x.block e before run has executes its.gp its.slots x.exec.pc g.o g.quiet g.five in
         let empty = none_waits s u first blocks x.place x.regs x.block e before run has executes its.gp its.slots g.o g.quiet g.entered in
@@ -571,17 +623,23 @@ module _ (s : Setting) (u : Urcu) (first : ℕ) (blocks : AreBlocks (code_of s.p
         let more = both.1 in
         record { some = omega arith; most = omega arith }
 
-    locks_next : (at t : ℕ) (r : ReadRegs) → u.locks at ≡ Some r → (file s t (e ∷ before)).pc ≡ at + 4
+    locks_next : (at t : ℕ) (r : ReadRegs) → u.locks at ≡ Some r
+        → is_live t (kernel s (e ∷ before)).threads ≡ true → (file s t (e ∷ before)).pc ≡ at + 4
         → HasCome s at 1 0 t e before
         → IsInLock r (file s t (e ∷ before)).file (e ∷ before)
-    locks_next at t r block there (acts of executes (zero, lt, pc)) =
+    locks_next at t r block lives there (acts of executes (zero, lt, pc)) =
         subst (λ n. IsInLock r (file s n (e ∷ before)).file (e ∷ before)) of
         (lock_load at r block executes (pc ∙ omega arith))
-    locks_next at t r block there (acts of executes (suc k, lt, pc)) = let no : ⊥ = omega arith in absurd no
-    locks_next at t r block there (returns is was stays) = let no : ⊥ = omega arith in absurd no
-    locks_next at t r block there (goes_on place since parts elsewhere same) =
+    locks_next at t r block lives there (acts of executes (suc k, lt, pc)) =
+        let no : ⊥ = omega arith in absurd no
+    locks_next at t r block lives there (returns is was stays) = let no : ⊥ = omega arith in absurd no
+    locks_next at t r block lives there (goes_on place since parts elsewhere same) =
         let all_place = always_at since place (subst Always parts all) in
-        let was = (sound place all_place).locks at t r block (sym (ap (λ (x : Saved). x.pc) same) ∙ there) in
+        let stood : (file s t place).pc ≡ at + 4 = sym (ap (λ (x : Saved). x.pc) same) ∙ there in
+        let run_there = subst (λ (b : History). IsRunHistory s (e ∷ b)) parts run in
+        let lived = lived_at s t (e ∷ since) place run_there lives
+        (λ is. start.locking at r block (is ∙ stood)) in
+        let was = (sound place all_place).locks at t r block lived stood in
         let more = grows since place (subst Always parts all) in
         let now_more = both.1 in
         let is : counted u.counter first before ≡ counted u.counter first (since ++ place) = ap
@@ -594,6 +652,7 @@ module _ (s : Setting) (u : Urcu) (first : ℕ) (blocks : AreBlocks (code_of s.p
 
     -- sync
     module _ (at t k : ℕ) (r : SyncRegs) (block : u.syncs at ≡ Some r) (lt : k < 17)
+        (lives : is_live t (kernel s (e ∷ before)).threads ≡ true)
         (there : (file s t (e ∷ before)).pc ≡ at + 4 * k) where
       regs : AreSyncRegs r
       regs = blocks.sync_regs at r block
@@ -612,7 +671,7 @@ module _ (s : Setting) (u : Urcu) (first : ℕ) (blocks : AreBlocks (code_of s.p
             let no : ⊥ = omega arith in
             no
 
-        came : (begun : History) → IsSyncing at t begun (e ∷ before)
+        came : (begun : History) → IsSyncing s at t begun (e ∷ before)
             → IsInSync at t k r (file s t (e ∷ before)).file (e ∷ before)
         came begun on =
             let same : at + 4 * next.to ≡ at + 4 * k = sym next.pc ∙ ap (λ n. (file s n (e ∷ before)).pc) of
@@ -643,13 +702,16 @@ module _ (s : Setting) (u : Urcu) (first : ℕ) (blocks : AreBlocks (code_of s.p
       syncs_next some (acts of executes (suc j, low, pc)) =
           let stands_at : (file s e.entry.tid.0 before).pc ≡ at + 4 * suc j =
           (exec_of s e before step executes).pc ∙ pc in
-          let was = old.syncs at e.entry.tid.0 (suc j) r block (omega arith) low stands_at in
+          let was = old.syncs at e.entry.tid.0 (suc j) r block (omega arith) low
+          (actor_lives e before run executes e.entry.tid.0 refl) stands_at in
           let next = next_of s u first blocks at r block e before run has executes was.gp was.slots old.counter uses.0 (are_below before run.0 uses.0 all at e.entry.tid.0) (suc j) pc was.stands in
           came (suc j) executes of pc was.gp was.slots next was.begun
-          (is_in e before (subst (λ n. IsSyncing at n was.begun before) of was.on)
-          (not_end (suc j) executes of pc was.gp was.slots next))
+          (is_in e before (subst (λ n. IsSyncing s at n was.begun before) of was.on)
+          (not_end (suc j) executes of pc was.gp was.slots next) lives)
       syncs_next some (returns is was stays) =
-          let its = old.syncs at t 5 r block (omega arith) (omega arith) was in
+          let alive = lived_at s t (e ∷ []) before run lives
+          (λ same. start.syncing at 5 r block (omega arith) (omega arith) (same ∙ was)) in
+          let its = old.syncs at t 5 r block (omega arith) (omega arith) alive was in
           let c = called_at s u first at t (file s t before).file before 5 refl its.stands in
           let same : k ≡ 5 = omega arith in
           let not_exec : choice_of e.entry ≢ asked.Exec = λ executes. false≢true
@@ -657,48 +719,55 @@ module _ (s : Setting) (u : Urcu) (first : ℕ) (blocks : AreBlocks (code_of s.p
           record {
             stands = has_called same
                 (open_next s u first at t e before run has (λ ends. not_exec ends.exec.executes) c.0)
-                (quiet_next s u first at t e before run has c.0 (λ of exec. not_exec exec.executes) c.1);
+                (quiet_next s u first at t e before run has alive c.0 (λ of exec. not_exec exec.executes) c.1);
             gp = return_keeps s e before step is t r.gp regs.gp_kept.not_10 ∙ its.gp;
             slots = return_keeps s e before step is t r.slots regs.slots_kept.not_10 ∙ its.slots;
             begun = its.begun;
-            on = is_in e before its.on (λ ends. not_exec ends.exec.executes);
+            on = is_in e before its.on (λ ends. not_exec ends.exec.executes) lives;
           }
       syncs_next some (goes_on place since parts elsewhere same) =
           let all_place = always_at since place (subst Always parts all) in
-          let was = (sound place all_place).syncs at t k r block some lt
-          (sym (ap (λ (x : Saved). x.pc) same) ∙ there) in
+          let stood : (file s t place).pc ≡ at + 4 * k = sym (ap (λ (x : Saved). x.pc) same) ∙ there in
+          let run_there = subst (λ (b : History). IsRunHistory s (e ∷ b)) parts run in
+          let lived = lived_at s t (e ∷ since) place run_there lives
+          (λ is. start.syncing at k r block some lt (is ∙ stood)) in
+          let low = given_at s t e since place run_there lived in
+          let alive_there = lived_last s t place e since run_there low lives in
+          let alive : is_live t (kernel s before).threads ≡ true = subst
+          (λ (b : History). is_live t (kernel s b).threads ≡ true) (sym parts) alive_there in
+          let was = (sound place all_place).syncs at t k r block some lt lived stood in
           let uses_there : AreUses s u first (since ++ place) = subst (AreUses s u first) parts uses.0 in
-          let on_there : IsSyncing at t was.begun before = subst (IsSyncing at t was.begun) (sym parts)
-          (syncing_since at t was.begun place since elsewhere.0 was.on) in
+          let on_there : IsSyncing s at t was.begun before = subst (IsSyncing s at t was.begun) (sym parts)
+          (syncing_since s t at was.begun place since run_there.0 low alive_there elsewhere.0 was.on) in
           let there_still = stands_since at t k (file s t place).file place since
-          (subst (IsRunHistory s) parts run.0) uses_there (subst Always parts all)
-          (subst HasGoneOn parts gone) elsewhere.0 was.stands in
+          run_there.0 uses_there (subst Always parts all)
+          (subst HasGoneOn parts gone) low alive_there elsewhere.0 was.stands in
           let still : Stands s u first at t (file s t place).file before k = subst
           (λ (b : History). Stands s u first at t (file s t place).file b k) (sym parts) there_still in
           record {
             stands = subst (λ (x : Saved). Stands s u first at t x.file (e ∷ before) k) (sym same)
-                (stands_next s u first at t e before run has (file s t place).file elsewhere.1 k still);
+                (stands_next s u first at t e before run has alive (file s t place).file elsewhere.1 k still);
             gp = ap (λ (x : Saved). register x.file r.gp) same ∙ was.gp;
             slots = ap (λ (x : Saved). register x.file r.slots) same ∙ was.slots;
             begun = was.begun;
             on = is_in e before on_there
-                (λ ends. elsewhere.1 ends.exec.executes ends.of (16, omega arith, ends.exec.pc));
+                (λ ends. elsewhere.1 ends.exec.executes ends.of (16, omega arith, ends.exec.pc)) lives;
           }
 
     sound_next : IsSound (e ∷ before)
     sound_next = record {
       counter = both.0;
-      locks = λ at t r block there. locks_next at t r block there
+      locks = λ at t r block lives there. locks_next at t r block lives there
           (has_come s e before run at 1 0 t (λ may. uses.1.locking at t r block may there));
-      syncs = λ at t k r block some lt there. syncs_next at t k r block lt there some
+      syncs = λ at t k r block some lt lives there. syncs_next at t k r block lt lives there some
           (has_come s e before run at 17 17 t (λ may. uses.1.syncing at t k r block some lt may there));
     }
 
   sound_start : IsSound []
   sound_start = record {
     counter = counter_start u.counter s first start.counter start.some start.fits;
-    locks = λ at t r block there. absurd (start.locking at r block there);
-    syncs = λ at t k r block some lt there. absurd (start.syncing at k r block some lt there);
+    locks = λ at t r block lives there. absurd (start.locking at r block there);
+    syncs = λ at t k r block some lt lives there. absurd (start.syncing at k r block some lt there);
   }
 
   always : (history : History) → IsRunHistory s history → AreUses s u first history → HasGoneOn history
@@ -723,7 +792,8 @@ module _ (s : Setting) (u : Urcu) (first : ℕ) (blocks : AreBlocks (code_of s.p
       let of = exec_of s e before (step_of s e before run) ends.exec.executes in
       let there : (file s t before).pc ≡ at + 4 * 16 = sym (ap (λ n. (file s n before).pc) ends.of) ∙ of.pc
       ∙ ends.exec.pc in
-      (sound before all).syncs at t 16 r block (omega arith) (omega arith) there
+      (sound before all).syncs at t 16 r block (omega arith) (omega arith)
+      (actor_lives e before run ends.exec.executes t ends.of) there
 
   pub grace_ends : (e : Event) (before : History) → IsRunHistory s (e ∷ before)
       → AreUses s u first (e ∷ before)
@@ -970,7 +1040,8 @@ module _ (s : Setting) (u : Urcu) (first : ℕ) (blocks : AreBlocks (code_of s.p
             let here : (file s e.entry.tid.0 before).pc ≡ at + 4 * suc j = ap (λ i. (file s i before).pc) of
             ∙ place in
             let pc : e.entry.pc ≡ at + 4 * suc j = sym acts_it.pc ∙ here in
-            let its = (sound before all).syncs at e.entry.tid.0 (suc j) r block (omega arith) lt here in
+            let its = (sound before all).syncs at e.entry.tid.0 (suc j) r block (omega arith) lt
+            (actor_lives e before run executes_it e.entry.tid.0 refl) here in
             let its_t : Stands s u first at t (file s t before).file before (suc j) =
             subst (λ i. Stands s u first at i (file s i before).file before (suc j)) of its.stands in
             let ten : suc j ≡ 10 → LooksAt s u first at t (file s t before).file before =
@@ -1015,7 +1086,7 @@ module _ (s : Setting) (u : Urcu) (first : ℕ) (blocks : AreBlocks (code_of s.p
             by_zero (suc j) is =
                 two_left s u first at t (file s t before).file before k other
                 ((sound before (sound_before e before run uses.0)).syncs at t k r block
-                (omega arith) lt place).stands
+                (omega arith) lt (actor_lives e before run executes_it t of) place).stands
 
         by_k : (k ≡ 16) ⊎ (k ≢ 16) → HasFinished s at t most begun (e ∷ before)
         by_k (inl last) = finished_by e before m k run executes_it of was place left last
@@ -1064,7 +1135,8 @@ module _ (s : Setting) (u : Urcu) (first : ℕ) (blocks : AreBlocks (code_of s.p
       let has = orderly e before run uses all (λ place thread its. gone.1) in
       let acts_it = exec_of s e before (step_of s e before run) exec.executes in
       let there : (file s e.entry.tid.0 before).pc ≡ at + 4 * 5 = acts_it.pc ∙ exec.pc in
-      let its = (sound before all).syncs at e.entry.tid.0 5 r block (omega arith) (omega arith) there in
+      let its = (sound before all).syncs at e.entry.tid.0 5 r block (omega arith) (omega arith)
+      (actor_lives e before run exec.executes e.entry.tid.0 refl) there in
       let c = called_at s u first at e.entry.tid.0
       (file s e.entry.tid.0 before).file before 5 refl its.stands in
       let entered = entered_now s u first blocks at r block e before run has exec.executes its.gp its.slots c.0 in
@@ -1106,7 +1178,8 @@ module _ (s : Setting) (u : Urcu) (first : ℕ) (blocks : AreBlocks (code_of s.p
       let all = always before run.0 uses.0 gone in
       let there : (file s t before).pc ≡ at + 4 * 11 = sym (ap (λ m. (file s m before).pc) of) ∙ acts_it.pc
       ∙ exec.pc in
-      let was = (sound before all).syncs at t 11 r block (omega arith) (omega arith) there in
+      let was = (sound before all).syncs at t 11 r block (omega arith) (omega arith)
+      (actor_lives e before run exec.executes t of) there in
       let p = looked_at s u first at t (file s t before).file before 11 refl was.stands in
       let same = one_grace at t r grace p.opened.grace block before run.0 uses.0 all gone on p.opened.on in
       let value = value_at_return at t r block e before run uses.0 grace back next later n began parts
@@ -1142,7 +1215,7 @@ module _ (s : Setting) (u : Urcu) (first : ℕ) (blocks : AreBlocks (code_of s.p
           let of = exec_of s e before (step_of s e before run) x.exec.executes in
           let place : (file s e.entry.tid.0 before).pc ≡ x.place + 4 * 7 = of.pc ∙ x.exec.pc in
           let its = (sound before all).syncs x.place e.entry.tid.0 7 x.regs x.block (omega arith)
-          (omega arith) place in
+          (omega arith) (actor_lives e before run x.exec.executes e.entry.tid.0 refl) place in
           let last = at_last e before run uses at t r block ends in
           let same =
           (one_syncs s u first at t x.place e.entry.tid.0 r x.regs last.begun its.begun block x.block before uses.0 last.on its.on).0 in

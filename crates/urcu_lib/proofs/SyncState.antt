@@ -2,9 +2,10 @@
 use Rattle.std.proofs.Common.{◌≡◌, ◌≢◌, ℕ, suc, ◌+◌, ◌*◌, ◌-◌, ◌<◌, ◌≤◌, ◌%◌, ◌^◌, List, ◌∷◌, ◌++◌, ◌⊎◌}
 use Rattle.std.proofs.Common.{length, length-append, arith, refl, ap, ◌∙◌, Bool, true, false, cond, ltb, inl}
 use Rattle.std.proofs.Common.{inr, Some}
+use Rattle.mach_types.specs.Kernel.Threads.{is_live}
 use Rattle.mach_types.specs.Registers.{register}
 use Rattle.mach_types.specs.declared.registers.Regs.{Regs}
-use Rattle.block_model.specs.History.{Event, History, file, running, waiting}
+use Rattle.block_model.specs.History.{Event, History, file, kernel, running, waiting}
 use Rattle.block_model.specs.Run.{IsRunHistory}
 use Rattle.block_model.specs.Setting.{Setting}
 use Rattle.urcu_lib.specs.Blocks.{Urcu, counter_bytes, slot_at}
@@ -34,17 +35,18 @@ some_left readers k seven = by_tests (ltb k 10) (ltb k 15) (ltb k 16)
     by_tests false false true = omega arith
     by_tests false false false = omega arith
 
--- what is known of an event besides how the blocks are used: of a grace period that goes on nobody else
--- stores in the counter, its thread doesn't begin it again or enter its block anew, and it calls inside no
--- restartable sequence
+-- what is known of an event besides how the blocks are used: the thread of a grace period that goes on doesn't
+-- begin it again, and while it lives nobody else stores in the counter or enters its block; and a thread calls
+-- inside no restartable sequence
 pub record IsOrderly (s : Setting) (u : Urcu) (first : ℕ) (e : Event) (before : History) : Type 0 where
   pub used : IsUse s u first e before
   pub one : (at t : ℕ) (r : SyncRegs) (grace : History) → u.syncs at ≡ Some r → IsGrace at t grace before
-      → IsSyncStore u e → (e.entry.tid.0 ≡ t) × (e.entry.pc ≡ at + 28)
+      → is_live t (kernel s before).threads ≡ true → IsSyncStore u e
+      → (e.entry.tid.0 ≡ t) × (e.entry.pc ≡ at + 28)
   pub once : (at t : ℕ) (r : SyncRegs) (grace : History) → u.syncs at ≡ Some r → IsGrace at t grace before
       → IsGraceBegin at t e → ⊥
   pub anew : (at t : ℕ) (r : SyncRegs) (grace : History) → u.syncs at ≡ Some r → IsGrace at t grace before
-      → IsExecAt at e → ⊥
+      → is_live t (kernel s before).threads ≡ true → IsExecAt at e → ⊥
   pub outside : (at t : ℕ) (r : SyncRegs) → u.syncs at ≡ Some r → IsGraceBegin at t e
       → is_inside_at s e.entry.hart.0 before ≡ false
   pub many : (t : ℕ) → length (file s t before).file.x ≡ 32
@@ -168,75 +170,76 @@ module _ (s : Setting) (u : Urcu) (first : ℕ) where
         → ArePassed o.grace n (e ∷ before)
     passed_next o n was j lt = ended_next o j (was j lt)
 
-    -- and one that doesn't store in the counter for it
-    pub is_quiet : (o : IsOpen at t before) → (e.entry.tid.0 ≡ t → IsExecAt (at + 28) e → ⊥)
-        → IsQuiet (counter_bytes u) e
-    is_quiet o not_store = by_use has.used.counter
-      where
-        by_use : IsQuiet (counter_bytes u) e ⊎ IsSyncStore u e → IsQuiet (counter_bytes u) e
-        by_use (inl quiet) = quiet
-        by_use (inr stores) =
-            let one = has.one at t o.regs o.grace o.block o.on stores in
-            absurd (not_store one.0 (record { executes = stores.exec.executes; pc = one.1 }))
+    -- and one that doesn't store in the counter for it, while the thread lives
+    module _ (lives : is_live t (kernel s before).threads ≡ true) where
+      pub is_quiet : (o : IsOpen at t before) → (e.entry.tid.0 ≡ t → IsExecAt (at + 28) e → ⊥)
+          → IsQuiet (counter_bytes u) e
+      is_quiet o not_store = by_use has.used.counter
+        where
+          by_use : IsQuiet (counter_bytes u) e ⊎ IsSyncStore u e → IsQuiet (counter_bytes u) e
+          by_use (inl quiet) = quiet
+          by_use (inr stores) =
+              let one = has.one at t o.regs o.grace o.block o.on lives stores in
+              absurd (not_store one.0 (record { executes = stores.exec.executes; pc = one.1 }))
 
-    pub quiet_next : (o : IsOpen at t before) → (e.entry.tid.0 ≡ t → IsExecAt (at + 28) e → ⊥)
-        → AreQuiet (counter_bytes u) o.since → AreQuiet (counter_bytes u) (e ∷ o.since)
-    quiet_next o not_store was = (was, is_quiet o not_store)
+      pub quiet_next : (o : IsOpen at t before) → (e.entry.tid.0 ≡ t → IsExecAt (at + 28) e → ⊥)
+          → AreQuiet (counter_bytes u) o.since → AreQuiet (counter_bytes u) (e ∷ o.since)
+      quiet_next o not_store was = (was, is_quiet o not_store)
 
-    abbrev pub past_next : (f g : Regs) → (IsGraceEnd at t e → ⊥)
-        → (e.entry.tid.0 ≡ t → IsExecAt (at + 28) e → ⊥) → register g 5 ≡ register f 5
-        → IsPast at t f before → IsPast at t g (e ∷ before)
-    past_next f g not_end not_store same p = record {
-      opened = open_next not_end p.opened;
-      entered = entered_next p.opened.grace e before p.entered;
-      five = same ∙ p.five;
-      count = beside_stores u.counter e.done.executed (counted u.counter first before)
-          (is_quiet p.opened not_store).executed ∙ p.count;
-      apart = owned_next (counter_bytes u) s t e before run
-          (inl (is_quiet p.opened not_store).executed) p.apart;
-    }
+      abbrev pub past_next : (f g : Regs) → (IsGraceEnd at t e → ⊥)
+          → (e.entry.tid.0 ≡ t → IsExecAt (at + 28) e → ⊥) → register g 5 ≡ register f 5
+          → IsPast at t f before → IsPast at t g (e ∷ before)
+      past_next f g not_end not_store same p = record {
+        opened = open_next not_end p.opened;
+        entered = entered_next p.opened.grace e before p.entered;
+        five = same ∙ p.five;
+        count = beside_stores u.counter e.done.executed (counted u.counter first before)
+            (is_quiet p.opened not_store).executed ∙ p.count;
+        apart = owned_next (counter_bytes u) s t e before run
+            (inl (is_quiet p.opened not_store).executed) p.apart;
+      }
 
-    -- an event that executes nothing of the block
-    module _ (f : Regs) (elsewhere : IsElsewhere at 17 t e) where
-      not_end : IsGraceEnd at t e → ⊥
-      not_end ends = elsewhere ends.exec.executes ends.of (16, omega arith, ends.exec.pc)
+      -- an event that executes nothing of the block
+      module _ (f : Regs) (elsewhere : IsElsewhere at 17 t e) where
+        not_end : IsGraceEnd at t e → ⊥
+        not_end ends = elsewhere ends.exec.executes ends.of (16, omega arith, ends.exec.pc)
 
-      not_store : e.entry.tid.0 ≡ t → IsExecAt (at + 28) e → ⊥
-      not_store of exec = elsewhere exec.executes of (7, omega arith, exec.pc)
+        not_store : e.entry.tid.0 ≡ t → IsExecAt (at + 28) e → ⊥
+        not_store of exec = elsewhere exec.executes of (7, omega arith, exec.pc)
 
-      abbrev o_next : IsOpen at t before → IsOpen at t (e ∷ before)
-      o_next o = open_next not_end o
+        abbrev o_next : IsOpen at t before → IsOpen at t (e ∷ before)
+        o_next o = open_next not_end o
 
-      abbrev p_next : IsPast at t f before → IsPast at t f (e ∷ before)
-      p_next p = past_next f f not_end not_store refl p
+        abbrev p_next : IsPast at t f before → IsPast at t f (e ∷ before)
+        p_next p = past_next f f not_end not_store refl p
 
-      not_begun : IsGraceBegin at t e → ⊥
-      not_begun begins = elsewhere begins.exec.executes begins.of (4, omega arith, begins.exec.pc)
+        not_begun : IsGraceBegin at t e → ⊥
+        not_begun begins = elsewhere begins.exec.executes begins.of (4, omega arith, begins.exec.pc)
 
-      pub stands_next : (k : ℕ) → Stands at t f before k → Stands at t f (e ∷ before) k
-      stands_next k (one_set is a none) = one_set is a (none_next not_begun none)
-      stands_next k (two_set is a b none) = two_set is a b (none_next not_begun none)
-      stands_next k (three_set is a b none) = three_set is a b (none_next not_begun none)
-      stands_next k (all_set is a b c none) = all_set is a b c (none_next not_begun none)
-      stands_next k (has_called is o quiet) = has_called is (o_next o) (quiet_next o not_store quiet)
-      stands_next k (has_loaded is o quiet entered five) = has_loaded is (o_next o)
-          (quiet_next o not_store quiet) (entered_next o.grace e before entered) five
-      stands_next k (has_grown is o quiet entered five) = has_grown is (o_next o)
-          (quiet_next o not_store quiet) (entered_next o.grace e before entered) five
-      stands_next k (has_stored is p) = has_stored is (p_next p)
-      stands_next k (has_slots is p six) = has_slots is (p_next p) six
-      stands_next k (looks is p i lt six seven passed) = looks is (p_next p) i lt six seven
-          (passed_next p.opened i passed)
-      stands_next k (has_looked is p i lt six seven passed shows) =
-          has_looked is (p_next p) i lt six seven (passed_next p.opened i passed)
-          (λ is. ended_next p.opened i (shows is))
-      stands_next k (is_some is p i lt six seven passed shows) =
-          is_some is (p_next p) i lt six seven (passed_next p.opened i passed)
-          (λ is. ended_next p.opened i (shows is))
-      stands_next k (passes is p i lt six seven passed) = passes is (p_next p) i lt six seven
-          (passed_next p.opened (suc i) passed)
-      stands_next k (moves is p i lt six seven passed) = moves is (p_next p) i lt six seven
-          (passed_next p.opened (suc i) passed)
-      stands_next k (counts is p i lt six seven passed) = counts is (p_next p) i lt six seven
-          (passed_next p.opened (suc i) passed)
-      stands_next k (is_over is p passed) = is_over is (p_next p) (passed_next p.opened (u.readers at) passed)
+        pub stands_next : (k : ℕ) → Stands at t f before k → Stands at t f (e ∷ before) k
+        stands_next k (one_set is a none) = one_set is a (none_next not_begun none)
+        stands_next k (two_set is a b none) = two_set is a b (none_next not_begun none)
+        stands_next k (three_set is a b none) = three_set is a b (none_next not_begun none)
+        stands_next k (all_set is a b c none) = all_set is a b c (none_next not_begun none)
+        stands_next k (has_called is o quiet) = has_called is (o_next o) (quiet_next o not_store quiet)
+        stands_next k (has_loaded is o quiet entered five) = has_loaded is (o_next o)
+            (quiet_next o not_store quiet) (entered_next o.grace e before entered) five
+        stands_next k (has_grown is o quiet entered five) = has_grown is (o_next o)
+            (quiet_next o not_store quiet) (entered_next o.grace e before entered) five
+        stands_next k (has_stored is p) = has_stored is (p_next p)
+        stands_next k (has_slots is p six) = has_slots is (p_next p) six
+        stands_next k (looks is p i lt six seven passed) = looks is (p_next p) i lt six seven
+            (passed_next p.opened i passed)
+        stands_next k (has_looked is p i lt six seven passed shows) =
+            has_looked is (p_next p) i lt six seven (passed_next p.opened i passed)
+            (λ is. ended_next p.opened i (shows is))
+        stands_next k (is_some is p i lt six seven passed shows) =
+            is_some is (p_next p) i lt six seven (passed_next p.opened i passed)
+            (λ is. ended_next p.opened i (shows is))
+        stands_next k (passes is p i lt six seven passed) = passes is (p_next p) i lt six seven
+            (passed_next p.opened (suc i) passed)
+        stands_next k (moves is p i lt six seven passed) = moves is (p_next p) i lt six seven
+            (passed_next p.opened (suc i) passed)
+        stands_next k (counts is p i lt six seven passed) = counts is (p_next p) i lt six seven
+            (passed_next p.opened (suc i) passed)
+        stands_next k (is_over is p passed) = is_over is (p_next p) (passed_next p.opened (u.readers at) passed)

@@ -5,6 +5,7 @@ use Rattle.std.proofs.Common.{false, cond, eqb, ltb, inl, inr, Some, slice_get, 
 use Rattle.std.proofs.lemmas.Bool.{cases_eq, eqb-false, eqb-true, false≢true, ltb-true, ltb-false}
 use Rattle.mach_types.specs.Bytes.{each_byte, word_at}
 use Rattle.mach_types.specs.Events.{choice_of}
+use Rattle.mach_types.specs.Kernel.Threads.{is_live}
 use Rattle.mach_types.specs.Registers.{register, with_register}
 use Rattle.mach_types.specs.declared.events.Choice.TheVariants as asked
 use Rattle.mach_types.specs.declared.registers.Regs.{Regs}
@@ -23,7 +24,7 @@ use Rattle.alone_laws.specs.Spans.{IsUsable, code_of, seen_at, sees}
 use Rattle.block_model.proofs.Laws.{IsStep, step_of}
 use Rattle.alone_laws.proofs.Sequences.{each_among}
 use Rattle.alone_laws.proofs.StoredWords.{some_word}
-use Rattle.block_model.specs.History.{Event, History, drains, file, is_of_hart, stores, waiting}
+use Rattle.block_model.specs.History.{Event, History, drains, file, is_of_hart, kernel, stores, waiting}
 use Rattle.block_model.specs.Run.{IsRunHistory}
 use Rattle.block_model.specs.Setting.{Setting}
 use Rattle.urcu_lib.specs.Blocks.{AreBlocks, Urcu, counter_bytes, slot_at, slot_bytes, sync_block}
@@ -39,6 +40,7 @@ use Rattle.urcu_lib.proofs.CounterLaw.{IsCounter, beside_stores, own_store, seen
 use Rattle.fence_laws.proofs.ExecLaw.{after_load, after_next, after_store, exec_of}
 use Rattle.fence_laws.proofs.Fences.{entered_at_exec, entered_next}
 use Rattle.fence_laws.proofs.OwnerLaw.{owned_next}
+use Rattle.fence_laws.proofs.ThreadLaw.{runner_lives}
 use Rattle.urcu_lib.proofs.SlotLaw.{HasBegun, has_begun, lock_value, slot_holds}
 use Rattle.urcu_lib.proofs.SyncState.{ArePassed, HasEnded, HasNone, IsOrderly, IsOpen, IsPast, Stands}
 use Rattle.urcu_lib.proofs.SyncState.{all_set, base, counts, ended_next, has_called, has_grown, has_loaded}
@@ -126,6 +128,9 @@ module _ (s : Setting) (u : Urcu) (first : ℕ) (blocks : AreBlocks (code_of s.p
   step : IsStep s e before
   step = step_of s e before run
 
+  lives : is_live t (kernel s before).threads ≡ true
+  lives = runner_lives s e before step e.entry.hart.0 t (exec_of s e before step executes).runs
+
   at_low : at < 2 ^ 37
   at_low = (blocks.low at r block).1
 
@@ -202,7 +207,8 @@ module _ (s : Setting) (u : Urcu) (first : ℕ) (blocks : AreBlocks (code_of s.p
         pc = goes_to 10 8 (at + 4 * 1) after;
         stands = λ lt. one_set refl (wrote 10 8 (at + 4 * 1) after refl (omega arith))
             (none_next s u first at t e before run has (begins_not 0 pc (omega arith))
-            (λ g on. has.anew at t r g block on (record { executes = executes; pc = pc ∙ omega arith })));
+            (λ g on. has.anew at t r g block on lives
+            (record { executes = executes; pc = pc ∙ omega arith })));
       }
 
   next_1 : e.entry.pc ≡ at + 4 * 1 → register f 10 ≡ 8 → HasNone s u first at t before → IsNext 1
@@ -377,7 +383,7 @@ module _ (s : Setting) (u : Urcu) (first : ℕ) (blocks : AreBlocks (code_of s.p
         keeps = λ j some free. kept 5 (loaded n 8 true) (at + 4 * 6) j after free.not_5;
         pc = goes_to 5 (loaded n 8 true) (at + 4 * 6) after;
         stands = λ lt. has_loaded refl (open_next s u first at t e before run has not_end o)
-            (quiet_next s u first at t e before run has o (stores_not 5 pc (omega arith)) quiet)
+            (quiet_next s u first at t e before run has lives o (stores_not 5 pc (omega arith)) quiet)
             (entered_next o.grace e before entered)
             (wrote 5 (loaded n 8 true) (at + 4 * 6) after refl (omega arith) ∙ value);
       }
@@ -403,7 +409,7 @@ module _ (s : Setting) (u : Urcu) (first : ℕ) (blocks : AreBlocks (code_of s.p
         pc = goes_to 5 v (at + 4 * 7) after;
         stands = λ lt. has_grown refl
             (open_next s u first at t e before run has (ends_not 6 pc (omega arith)) o)
-            (quiet_next s u first at t e before run has o (stores_not 6 pc (omega arith)) quiet)
+            (quiet_next s u first at t e before run has lives o (stores_not 6 pc (omega arith)) quiet)
             (entered_next o.grace e before entered) (wrote 5 v (at + 4 * 7) after refl (omega arith));
       }
 
@@ -465,7 +471,7 @@ module _ (s : Setting) (u : Urcu) (first : ℕ) (blocks : AreBlocks (code_of s.p
 
   abbrev past : (k : ℕ) → e.entry.pc ≡ at + 4 * k → k ≢ 16 → k ≢ 7 → register now.file 5 ≡ register f 5
       → IsPast s u first at t f before → IsPast s u first at t now.file (e ∷ before)
-  past k pc other seven same p = past_next s u first at t e before run has f now.file (ends_not k pc other)
+  past k pc other seven same p = past_next s u first at t e before run has lives f now.file (ends_not k pc other)
       (stores_not k pc seven) same p
 
   next_8 : e.entry.pc ≡ at + 4 * 8 → IsPast s u first at t f before → IsNext 8

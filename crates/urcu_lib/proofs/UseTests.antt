@@ -531,14 +531,14 @@ module _ (s : Setting) (x : Layout) (first : ℕ) where
     still_syncs : who_syncs (e ∷ before) ≡ Some t
     still_syncs = by_enters (executes x.sync_at e) refl
 
-  syncing_is : (t : ℕ) (begun now : History) → are_fine now ≡ true → IsSyncing x.sync_at t begun now
+  syncing_is : (t : ℕ) (begun now : History) → are_fine now ≡ true → IsSyncing s x.sync_at t begun now
       → who_syncs now ≡ Some t
   syncing_is t begun now fine (comes_in e exec of) =
       ap (λ b. cond b (Some e.entry.tid.0)
       (cond (executes (x.sync_at + 64) e && is_just (who_syncs begun) e.entry.tid.0) None
       (who_syncs begun)))
       (executes_it x.sync_at e exec) ∙ ap Some of
-  syncing_is t begun now fine (is_in e before was still) =
+  syncing_is t begun now fine (is_in e before was still lives) =
       let parts = and_parts (are_fine before) (is_fine e before) fine in
       let old = syncing_is t begun before parts.0 was in
       still_syncs t e before parts.1 old still
@@ -807,7 +807,7 @@ module _ (s : Setting) (x : Layout) (first : ℕ) where
           (sync_store_of e it));
       alone = λ at t r begun block on entry.
           let who = syncing_is t begun before fine_before
-          (subst (λ n. IsSyncing n t begun before) (sync_of at r block) on) in
+          (subst (λ n. IsSyncing s n t begun before) (sync_of at r block) on) in
           let exec = executes_it x.sync_at e
           (subst (λ n. IsExecAt n e) (sync_of entry.place entry.regs entry.block) entry.exec) in
           false≢true

@@ -1,9 +1,10 @@
 -- Sections and grace periods, read from a log.
-use Rattle.std.specs.Prelude.{ℕ, ◌≡◌, ◌+◌, ◌<◌, ◌∷◌, length, Some}
+use Rattle.std.specs.Prelude.{ℕ, ◌≡◌, ◌+◌, ◌<◌, ◌∷◌, length, Some, true}
 use Rattle.mach_types.specs.Events.{choice_of}
+use Rattle.mach_types.specs.Kernel.Threads.{is_live}
 use Rattle.mach_types.specs.Registers.{register}
 use Rattle.mach_types.specs.declared.events.Choice.TheVariants as asked
-use Rattle.block_model.specs.History.{Event, History, file}
+use Rattle.block_model.specs.History.{Event, History, file, kernel}
 use Rattle.block_model.specs.Setting.{Setting}
 use Rattle.urcu_lib.specs.Blocks.{Urcu, slot_at}
 use Rattle.urcu_lib.specs.declared.regs.ReadRegs.{ReadRegs}
@@ -75,8 +76,8 @@ pub record IsSyncEntry (u : Urcu) (e : Event) : Type 0 where
   pub exec : IsExecAt place e
 
 -- thread t is in the sync block at an address, which it entered by the event after `begun`: it has executed
--- the block's first instruction, and its last not yet
-pub data IsSyncing (at t : ℕ) (begun : History) : History → Type 0 where
-  comes_in : (e : Event) → IsExecAt at e → e.entry.tid.0 ≡ t → IsSyncing at t begun (e ∷ begun)
-  is_in : (e : Event) (before : History) → IsSyncing at t begun before → (IsGraceEnd at t e → ⊥)
-      → IsSyncing at t begun (e ∷ before)
+-- the block's first instruction, and its last not yet, and it lives
+pub data IsSyncing (s : Setting) (at t : ℕ) (begun : History) : History → Type 0 where
+  comes_in : (e : Event) → IsExecAt at e → e.entry.tid.0 ≡ t → IsSyncing s at t begun (e ∷ begun)
+  is_in : (e : Event) (before : History) → IsSyncing s at t begun before → (IsGraceEnd at t e → ⊥)
+      → is_live t (kernel s (e ∷ before)).threads ≡ true → IsSyncing s at t begun (e ∷ before)

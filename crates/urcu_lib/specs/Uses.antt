@@ -88,9 +88,10 @@ pub record IsUse (s : Setting) (u : Urcu) (first : ℕ) (e : Event) (before : Hi
       → IsSection s u i section before → ⊥
   -- the counter doesn't pass 2^64 - 1
   pub small : IsSyncStore u e → counted u.counter first before + 1 < 2 ^ 64
-  -- one thread at a time is in a sync block, and before that block's last instruction it enters none again
-  pub alone : (at t : ℕ) (r : SyncRegs) (begun : History) → u.syncs at ≡ Some r → IsSyncing at t begun before
-      → IsSyncEntry u e → ⊥
+  -- one thread at a time is in a sync block, and before that block's last instruction it enters none again. A
+  -- thread that has ended is in none
+  pub alone : (at t : ℕ) (r : SyncRegs) (begun : History) → u.syncs at ≡ Some r
+      → IsSyncing s at t begun before → IsSyncEntry u e → ⊥
   -- the process has registered for membarrier's private command
   pub registered : (at t : ℕ) (r : SyncRegs) → u.syncs at ≡ Some r → IsGraceBegin at t e
       → (kernel s before).barriers.private ≡ true

@@ -1,0 +1,871 @@
+-- What an event does to the threads of a process. Who is gone stays so, and numbers aren't given twice; who waits
+-- waited, or made the call for it; and a thread that neither runs on the hart nor begins to run keeps its pc, but
+-- one that is born goes on behind the call of its parent.
+use Rattle.std.proofs.Common.{◌≡◌, ◌≢◌, ℕ, ◌+◌, ◌<◌, ◌≤◌, ◌%◌, List, [], ◌∷◌, ◌++◌, ◌⊎◌, All, arith, refl}
+use Rattle.std.proofs.Common.{sym, ap, ◌∙◌, subst, Bool, true, false, not, ◌||◌, cond, eqb, find, map, inl, inr}
+use Rattle.std.proofs.Common.{Option, Some, None, is_some, Result, Ok, Err}
+use Rattle.std.specs.Option.{option_map, option_map_or}
+use Rattle.std.proofs.lemmas.Bool.{cases_eq, cases_lt, eq-eqb, eqb-true, false≢true, ne_eqb}
+use Rattle.std.proofs.lemmas.List.Elements.{All-head, All-tail}
+use Rattle.mach_types.proofs.Laws.{state_of-with_child_other, state_of-with_clear, state_of-with_state_other}
+use Rattle.mach_types.proofs.Laws.{state_of-with_state_same, state_of-without_other, state_of-without_same}
+use Rattle.mach_types.specs.Events.{choice_of}
+use Rattle.mach_types.specs.Kernel.Areas.{are_words_writable, registration, unregistration}
+use Rattle.mach_types.specs.Kernel.PageCalls.{mmap_answer}
+use Rattle.mach_types.specs.Kernel.SignalFrames.{frame_read}
+use Rattle.mach_types.specs.Kernel.Pages.{Pages}
+use Rattle.mach_types.specs.Kernel.Scheduling.{has_hart}
+use Rattle.mach_types.specs.Kernel.Threads.{Thread, Threads, clear_of, is_live, is_ready, is_thread, numbers}
+use Rattle.mach_types.specs.Kernel.Threads.{is_ready_state, is_waiting_state, state_of, thread_of, with_child}
+use Rattle.mach_types.specs.Kernel.Threads.{with_clear}
+use Rattle.mach_types.specs.Kernel.Threads.{with_state, with_waiter, with_woken, without}
+use Rattle.mach_types.specs.Registers.{register}
+use Rattle.mach_types.specs.declared.barriers.Answer.{Answer}
+use Rattle.mach_types.specs.declared.barriers.Answer.TheVariants.{Begin, Value}
+use Rattle.mach_types.specs.declared.errors.Errno.{Errno}
+use Rattle.mach_types.specs.declared.errors.TheConstants.{EINVAL}
+use Rattle.mach_types.specs.declared.events.Choice.{Choice}
+use Rattle.mach_types.specs.declared.events.Choice.TheVariants as asked
+use Rattle.mach_types.specs.declared.events.Tid.{Tid}
+use Rattle.mach_types.specs.declared.sequences.Area.{Area}
+use Rattle.mach_types.specs.declared.sequences.Outcome.{Outcome}
+use Rattle.mach_types.specs.declared.sequences.Outcome.TheVariants as comes_to
+use Rattle.mach_types.specs.declared.threads.Saved.{Saved}
+use Rattle.mach_types.specs.declared.threads.ThreadState.{ThreadState}
+use Rattle.mach_types.specs.declared.threads.ThreadState.TheVariants.{Ready, Running, Waiting}
+use Rattle.mach_types.specs.declared.user_memory.Store.{Store}
+use Rattle.rv_inst.specs.Class.{is_call}
+use Rattle.rv_inst.specs.Words.{sum_64}
+use Rattle.rv_inst.specs.declared.effects.Effect.{Effect}
+use Rattle.block_model.specs.Calls.{call_of, called}
+use Rattle.block_model.specs.Calls.Affinity.{getaffinity_errors, getcpu_errors}
+use Rattle.block_model.specs.Calls.Affinity.{sched_setaffinity, set_given, setaffinity_errors}
+use Rattle.block_model.specs.Calls.Answers.{CallDone, Errors, argument, call_number, int_argument}
+use Rattle.block_model.specs.Calls.Answers.{killed_in_call, returned, said, unless}
+use Rattle.block_model.specs.Calls.Barriers.{answers}
+use Rattle.block_model.specs.Calls.Cloning.{child_file, clone, clone_child_cleartid, clone_errors, cloned}
+use Rattle.block_model.specs.Calls.Cloning.{has_flag, with_new_child}
+use Rattle.block_model.specs.Calls.Console.{Span, span_errors, spans_at, total, write, write_errors}
+use Rattle.block_model.specs.Calls.Console.{write_spans, writev, writev_errors}
+use Rattle.block_model.specs.Calls.Ending.{clears, exit, is_last}
+use Rattle.block_model.specs.Calls.Futexes.{answered_wait, futex, futex_errors, futex_wake, operation}
+use Rattle.block_model.specs.Calls.Futexes.{wait_errors, wake}
+use Rattle.block_model.specs.Calls.Memory.{changed_unless, mapped_or_refused, mmap, mmap_errors}
+use Rattle.block_model.specs.Calls.Memory.{permission_here}
+use Rattle.block_model.specs.Calls.Numbers.{set_tid_address}
+use Rattle.block_model.specs.Calls.Sequences.{registers_or_refused, rseq, unregisters}
+use Rattle.block_model.specs.Calls.Sequences.{unregisters_or_refused}
+use Rattle.block_model.specs.Calls.Signals.{broken_wait, resumed, send}
+use Rattle.block_model.specs.Calls.Signals.{sigaction_errors, sigprocmask_errors, tgkill, tgkill_errors}
+use Rattle.block_model.specs.Calls.Signals.{tkill, refuses_signal, tkill_errors, waits_in_vain, with_posted}
+use Rattle.block_model.specs.Events.{done_of, refusal_of}
+use Rattle.block_model.specs.Events.Drain.{done_drain_of}
+use Rattle.block_model.specs.Events.Exec.{by_call, by_effect, by_outcome, called_here, done_exec_by}
+use Rattle.block_model.specs.Events.Exec.{has_handler, next_effect, next_fault, outcome_of}
+use Rattle.block_model.specs.Events.Finish.{done_done_by}
+use Rattle.block_model.specs.Events.Preempt.{done_preempt_by}
+use Rattle.block_model.specs.Events.Run.{done_run_by, lives_on}
+use Rattle.block_model.specs.Events.Signal.{done_next, done_signal_by, handled_unless_killed, kills}
+use Rattle.block_model.specs.Events.Take.{done_take_by}
+use Rattle.block_model.specs.Here.{Done, Here, is_writable, memory, runs, waiting_here}
+use Rattle.block_model.specs.History.{Event, History, file, file_among, here_in_history, kernel, running}
+use Rattle.block_model.specs.Kernel.{cleared, gone, had_child, left, next_number, restricted, waited, woken}
+use Rattle.block_model.specs.Record.{Kernel}
+use Rattle.block_model.specs.Run.{IsRunHistory}
+use Rattle.block_model.specs.Sequences.{area_here, files_interrupted, interruption_here, is_inside_here}
+use Rattle.block_model.specs.Setting.{Setting}
+use Rattle.block_model.specs.Tables.{on}
+use Rattle.block_model.proofs.Laws.{IsStep, run_ready, running_is, step_of, wake_keeps}
+use Rattle.mach_types.specs.Kernel.Signals.{next_for}
+
+-- STATES
+
+-- a state after another one: no thread comes that wasn't there, and none begins to wait
+abbrev pub is_calm : Option ThreadState → Option ThreadState → Bool
+is_calm None old = true
+is_calm (Some x) None = false
+is_calm (Some x) (Some a) = not (is_waiting_state x) || is_waiting_state a
+
+calm_same : (o : Option ThreadState) → is_calm o o ≡ true
+calm_same None = refl
+calm_same (Some Ready) = refl
+calm_same (Some (Running h)) = refl
+calm_same (Some (Waiting at)) = refl
+
+calm_after : (a b c : Option ThreadState) → is_calm b a ≡ true → is_calm c b ≡ true → is_calm c a ≡ true
+calm_after a b None p q = refl
+calm_after a None (Some x) p q = absurd (false≢true q)
+calm_after None (Some y) (Some x) p q = absurd (false≢true p)
+calm_after (Some z) (Some y) (Some x) p q = by_waits (is_waiting_state x) (is_waiting_state y)
+    (is_waiting_state z) p q
+  where
+    by_waits : (x y z : Bool) → (not y || z) ≡ true → (not x || y) ≡ true → (not x || z) ≡ true
+    by_waits false y z p q = refl
+    by_waits true true z p q = p
+    by_waits true false z p q = absurd (false≢true q)
+
+same_le : (n : ℕ) → n ≤ n
+same_le n = omega arith
+
+module _ (u : ℕ) where
+  -- numbers are given in order, and the state of thread u is a calm one after the old
+  pub record IsCalm (ts us : Threads) : Type 0 where
+    pub given : ts.given ≤ us.given
+    pub state : is_calm (state_of u us) (state_of u ts) ≡ true
+
+  calm_alike : (ts us : Threads) → us ≡ ts → IsCalm ts us
+  calm_alike ts us same = record {
+    given = subst (λ n. ts.given ≤ n) (sym (ap (λ (x : Threads). x.given) same)) (same_le ts.given);
+    state = ap (λ (x : Threads). is_calm (state_of u x) (state_of u ts)) same ∙ calm_same (state_of u ts);
+  }
+
+  calm_then : (a b c : Threads) → IsCalm a b → IsCalm b c → IsCalm a c
+  calm_then a b c p q = record {
+    given = let one = p.given in let two = q.given in omega arith;
+    state = calm_after (state_of u a) (state_of u b) (state_of u c) p.state q.state;
+  }
+
+  -- one thread's state is another, or it is gone; the others' are as they were
+  as_was : (ts us : Threads) → state_of u us ≡ state_of u ts → is_calm (state_of u us) (state_of u ts) ≡ true
+  as_was ts us same = ap (λ (o : Option ThreadState). is_calm o (state_of u ts)) same
+      ∙ calm_same (state_of u ts)
+
+  changed : (st : ThreadState) → is_waiting_state st ≡ false → (o : Option ThreadState)
+      → is_calm (option_map (λ old. st) o) o ≡ true
+  changed st calm None = refl
+  changed st calm (Some a) = ap (λ b. not b || is_waiting_state a) calm
+
+  calm_state : (t : ℕ) (st : ThreadState) (ts : Threads) → is_waiting_state st ≡ false
+      → IsCalm ts (with_state t st ts)
+  calm_state t st ts calm = record { given = same_le ts.given; state = by_same (cases_eq u t) }
+    where
+      by_same : (u ≡ t) ⊎ (u ≢ t) → is_calm (state_of u (with_state t st ts)) (state_of u ts) ≡ true
+      by_same (inl same) =
+          ap (λ n. is_calm (state_of n (with_state t st ts)) (state_of n ts)) same
+          ∙ ap (λ (o : Option ThreadState). is_calm o (state_of t ts)) (state_of-with_state_same t st ts)
+          ∙ changed st calm (state_of t ts)
+      by_same (inr other) = as_was ts (with_state t st ts) (state_of-with_state_other t u other st ts)
+
+  calm_clear : (t at : ℕ) (ts : Threads) → IsCalm ts (with_clear t at ts)
+  calm_clear t at ts = record {
+    given = same_le ts.given;
+    state = as_was ts (with_clear t at ts) (state_of-with_clear t at u ts);
+  }
+
+  calm_gone : (t : ℕ) (ts : Threads) → IsCalm ts (without t ts)
+  calm_gone t ts = record { given = same_le ts.given; state = by_same (cases_eq u t) }
+    where
+      by_same : (u ≡ t) ⊎ (u ≢ t) → is_calm (state_of u (without t ts)) (state_of u ts) ≡ true
+      by_same (inl same) =
+          ap (λ n. is_calm (state_of n (without t ts)) (state_of n ts)) same
+          ∙ ap (λ (o : Option ThreadState). is_calm o (state_of t ts)) (state_of-without_same t ts)
+      by_same (inr other) = as_was ts (without t ts) (state_of-without_other t u other ts)
+
+  calm_woken : (t : ℕ) (ts : Threads) → IsCalm ts (with_woken t ts)
+  calm_woken t ts = record { given = same_le ts.given; state = (calm_state t Ready ts refl).state }
+
+  calm_wake : (n at : ℕ) (k : Kernel) → IsCalm k.threads (wake n at k).kernel.threads
+  calm_wake = wake_keeps (λ a b. IsCalm a.threads b.threads) (λ k. calm_alike k.threads k.threads refl)
+      (λ v k after waiting rest. calm_then k.threads (woken v k).threads after.threads
+      (calm_woken v k.threads) rest)
+
+  calm_either : (k x y : Kernel) (b : Bool) → IsCalm k.threads x.threads → IsCalm k.threads y.threads
+      → IsCalm k.threads (cond b x y).threads
+  calm_either k x y true p q = p
+  calm_either k x y false p q = q
+
+-- CALLS
+
+-- the pc of thread u where these files are set
+abbrev pub pc_of : Here → ℕ → List (ℕ × Saved) → ℕ
+pc_of here u files = (file_among files u (here.file u)).pc
+
+-- the address behind the instruction of a thread
+abbrev pub behind : Here → ℕ → ℕ
+behind here t = sum_64 (here.file t).pc 4
+
+module _ (here : Here) (t u number : ℕ) where
+  -- a call of thread t leaves thread u calm, and its pc as it was, where it isn't its own; or thread u makes it
+  -- and may wait by it, or is born by it, and then stands behind it
+  pub data CallStep (c : CallDone) : Type 0 where
+    Leaves : IsCalm u here.kernel.threads c.kernel.threads → (t ≢ u → pc_of here u c.files ≡ (here.file u).pc)
+        → CallStep c
+    Waits : number ≡ 98 → u ≡ t → here.kernel.threads.given ≤ c.kernel.threads.given
+        → pc_of here u c.files ≡ behind here t → CallStep c
+    Bears : number ≡ 220 → u ≡ next_number here.kernel → c.kernel.threads.given ≡ u
+        → pc_of here u c.files ≡ behind here t → CallStep c
+
+  past_own : (x : Saved) (rest : List (ℕ × Saved)) → t ≢ u → pc_of here u ((t, x) ∷ rest) ≡ pc_of here u rest
+  past_own x rest other = ap (λ b. (cond b x (file_among rest u (here.file u))).pc) (ne_eqb t u other)
+
+  -- an answer to who waits leaves the pc
+  answered_pc : (vs : List ℕ) → pc_of here u (map (answered_wait here) vs) ≡ (here.file u).pc
+  answered_pc [] = refl
+  answered_pc (v ∷ vs) = by_same (answered_pc vs) (eqb v u) refl
+    where
+      by_same : pc_of here u (map (answered_wait here) vs) ≡ (here.file u).pc → (b : Bool) → eqb v u ≡ b
+          → (cond b (answered_wait here v).1 (file_among (map (answered_wait here) vs) u (here.file u))).pc
+          ≡ (here.file u).pc
+      by_same rest true is = ap (λ n. (here.file n).pc) (eqb-true v u is)
+      by_same rest false is = rest
+
+  -- it sets the file of its thread alone
+  stepped : {c : CallDone} (x : Saved) → c.files ≡ (t, x) ∷ [] → IsCalm u here.kernel.threads c.kernel.threads
+      → CallStep c
+  stepped x set calm = Leaves calm (λ other. ap (pc_of here u) set ∙ past_own x [] other)
+
+  plain : {c : CallDone} (x : Saved) → c.files ≡ (t, x) ∷ [] → c.kernel.threads ≡ here.kernel.threads
+      → CallStep c
+  plain x set same = stepped x set (calm_alike u here.kernel.threads _ same)
+
+  silent : {c : CallDone} → c.files ≡ [] → c.kernel.threads ≡ here.kernel.threads → CallStep c
+  silent set same = Leaves (calm_alike u here.kernel.threads _ same) (λ other. ap (pc_of here u) set)
+
+  either : (b : Bool) {x y : CallDone} → (b ≡ true → CallStep x) → (b ≡ false → CallStep y)
+      → CallStep (cond b x y)
+  either true p q = p refl
+  either false p q = q refl
+
+  by_errors : (es : Errors) {c : CallDone} → CallStep c → CallStep (unless here t es c)
+  by_errors [] step = step
+  by_errors (e ∷ es) step = either e.0 (λ is. plain _ refl refl) (λ is. by_errors es step)
+
+  -- writing
+  step_spans : (spans : List Span) → CallStep (write_spans here t spans)
+  step_spans spans = either (eqb (total spans) 0) (λ is. plain _ refl refl)
+      (λ is. by_errors (span_errors here spans) (plain _ refl refl))
+
+  -- ending
+  step_exit : CallStep (exit here t)
+  step_exit = either (is_last here) (λ is. silent refl refl) (λ is.
+      let n : ℕ = cond (clears here t) 1 0 in
+      let at = clear_of t here.kernel.threads in
+      let then = (wake n at here.kernel).kernel in
+      Leaves (calm_then u here.kernel.threads then.threads (without t then.threads)
+      (calm_wake u n at here.kernel) (calm_gone u t then.threads))
+      (λ other. answered_pc (wake n at here.kernel).threads))
+
+  -- waiting and waking
+  step_wait : number ≡ 98
+      → CallStep (record (said here t 0) { kernel = waited t (argument here t 0) here.kernel })
+  step_wait is = by_same (cases_eq u t)
+    where
+      by_same : (u ≡ t) ⊎ (u ≢ t)
+          → CallStep (record (said here t 0) { kernel = waited t (argument here t 0) here.kernel })
+      by_same (inl same) = Waits is same (same_le here.kernel.threads.given)
+          (ap (λ b. (cond b (returned 0 (here.file t)) (here.file u)).pc) (eq-eqb t u (sym same)))
+      by_same (inr other) = Leaves
+          (record {
+            given = same_le here.kernel.threads.given;
+            state = as_was u here.kernel.threads (with_waiter t (argument here t 0) here.kernel.threads)
+                (state_of-with_state_other t u other (Waiting (argument here t 0)) here.kernel.threads);
+          })
+          (λ apart. past_own _ [] apart)
+
+  step_wake : CallStep (futex_wake here t)
+  step_wake =
+      let done = wake (int_argument here t 2) (argument here t 0) here.kernel in
+      Leaves (calm_wake u (int_argument here t 2) (argument here t 0) here.kernel)
+      (λ other. past_own _ (map (answered_wait here) done.threads) other ∙ answered_pc done.threads)
+
+  step_futex : number ≡ 98 → CallStep (futex here t)
+  step_futex is = by_errors (futex_errors here t)
+      (either (eqb (operation (int_argument here t 1)) 0)
+      (λ _. by_errors (wait_errors here t) (step_wait is)) (λ _. step_wake))
+
+  -- harts
+  step_setaffinity : CallStep (sched_setaffinity here t)
+  step_setaffinity =
+      let set = set_given here t in
+      by_errors (setaffinity_errors here t)
+      (stepped _ refl
+      (calm_either u here.kernel (restricted t set here.kernel) (left t (restricted t set here.kernel))
+      (has_hart set here.hart) (calm_alike u here.kernel.threads here.kernel.threads refl)
+      (calm_state u t Ready here.kernel.threads refl)))
+
+  -- signals
+  step_broken : (v sig : ℕ) → CallStep (record {
+    files = (t, returned 0 (here.file t)) ∷ broken_wait here v ∷ [];
+    entered = [];
+    kernel = woken v (with_posted here v sig);
+    barrier = None;
+    ended = None;
+  })
+  step_broken v sig = Leaves (calm_woken u v here.kernel.threads)
+      (λ other. past_own _ (broken_wait here v ∷ []) other ∙ by_same (eqb v u) refl)
+    where
+      by_same : (b : Bool) → eqb v u ≡ b → (cond b (broken_wait here v).1 (here.file u)).pc ≡ (here.file u).pc
+      by_same true is = ap (λ n. (here.file n).pc) (eqb-true v u is)
+      by_same false is = refl
+
+  step_send : (v sig : ℕ) → CallStep (send here t v sig)
+  step_send v sig = by_errors ((refuses_signal sig, EINVAL) ∷ [])
+      (either (eqb sig 0) (λ _. plain _ refl refl)
+      (λ _. either (waits_in_vain v (with_posted here v sig)) (λ _. step_broken v sig)
+      (λ _. plain _ refl refl)))
+
+  step_resumed : (o : Option (List ℕ)) → CallStep (resumed here t o)
+  step_resumed None = silent refl refl
+  step_resumed (Some words) = plain _ refl refl
+
+  -- pages
+  step_changed : (o : Option Errno) (pages : Pages) → CallStep (changed_unless here t o pages)
+  step_changed (Some e) pages = plain _ refl refl
+  step_changed None pages = plain _ refl refl
+
+  step_mapped : (len prot : ℕ) (answer : Result ℕ Errno) → CallStep (mapped_or_refused here t len prot answer)
+  step_mapped len prot (Err e) = plain _ refl refl
+  step_mapped len prot (Ok at) = plain _ refl refl
+
+  -- a child
+  module _ (is : number ≡ 220) where
+    abbrev child : ℕ
+    child = next_number here.kernel
+
+    abbrev born : Kernel
+    born = had_child t here.kernel
+
+    born_given : (b : Bool) (at : ℕ)
+        → (cond b (cleared child at (had_child t here.kernel)) (had_child t here.kernel)).threads.given
+        ≡ here.kernel.threads.given + 1
+    born_given true at = refl
+    born_given false at = refl
+
+    other_state : u ≢ next_number here.kernel → (b : Bool) (at : ℕ)
+        → state_of u (cond b (cleared child at (had_child t here.kernel)) (had_child t here.kernel)).threads
+        ≡ state_of u here.kernel.threads
+    other_state other true at = state_of-with_clear child at u (with_child here.kernel.threads)
+        ∙ state_of-with_child_other u here.kernel.threads other
+    other_state other false at = state_of-with_child_other u here.kernel.threads other
+
+    child_pc : (a b : Bool) → b ≡ true
+        → (cond a (returned child (here.file t)) (cond b (child_file here t) (here.file u))).pc
+        ≡ behind here t
+    child_pc true b its = refl
+    child_pc false true its = refl
+    child_pc false false its = absurd (false≢true its)
+
+    step_cloned : CallStep (cloned here t)
+    step_cloned = by_same (cases_eq u (next_number here.kernel))
+      where
+        one_le : (n : ℕ) → n ≤ n + 1
+        one_le n = omega arith
+
+        by_same : (u ≡ next_number here.kernel) ⊎ (u ≢ next_number here.kernel) → CallStep (cloned here t)
+        by_same (inl same) = Bears is same
+            (born_given (has_flag (argument here t 0) clone_child_cleartid) (argument here t 4) ∙ sym same)
+            (child_pc (eqb t u) (eqb child u) (eq-eqb child u (sym same)))
+        by_same (inr other) = Leaves
+            (record {
+              given = subst (λ n. here.kernel.threads.given ≤ n)
+                  (sym (born_given (has_flag (argument here t 0) clone_child_cleartid) (argument here t 4)))
+                  (one_le here.kernel.threads.given);
+              state = as_was u here.kernel.threads (with_new_child here t).threads
+                  (other_state other (has_flag (argument here t 0) clone_child_cleartid) (argument here t 4));
+            })
+            (λ apart. past_own _ ((child, child_file here t) ∷ []) apart
+            ∙ ap (λ b. (cond b (child_file here t) (here.file u)).pc)
+            (ne_eqb child u (λ its. other (sym its))))
+
+  step_clone : number ≡ 220 → CallStep (clone here t)
+  step_clone is = by_errors (clone_errors here t) (step_cloned is)
+
+  -- barriers
+  step_answers : (a : Answer) → CallStep (answers here t a)
+  step_answers (Value n) = plain _ refl refl
+  step_answers (Begin targets restart) = plain _ refl refl
+
+  -- areas
+  step_registers : (answer : Result Area Errno) → CallStep (registers_or_refused here t answer)
+  step_registers (Err e) = plain _ refl refl
+  step_registers (Ok area) = either (are_words_writable (is_writable here) area) (λ _. plain _ refl refl)
+      (λ _. silent refl refl)
+
+  step_unregister : (o : Option Area) → CallStep (unregisters here t o)
+  step_unregister None = plain _ refl refl
+  step_unregister (Some area) = either (are_words_writable (is_writable here) area) (λ _. plain _ refl refl)
+      (λ _. plain _ refl refl)
+
+  step_unregisters : (answer : Result (Unit {0}) Errno) → CallStep (unregisters_or_refused here t answer)
+  step_unregisters (Err e) = plain _ refl refl
+  step_unregisters (Ok done) = step_unregister (area_here here t)
+
+  step_clears : CallStep (set_tid_address here t)
+  step_clears = stepped _ refl (calm_clear u t (argument here t 0) here.kernel.threads)
+
+  step_rseq : CallStep (rseq here t)
+  step_rseq =
+      let at = argument here t 0 in
+      let len = int_argument here t 1 in
+      let flags = int_argument here t 2 in
+      let sig = int_argument here t 3 in
+      let old = area_here here t in
+      either (eqb (int_argument here t 2 % 2) 1)
+      {x = unregisters_or_refused here t (unregistration old at len flags sig)}
+      {y = registers_or_refused here t (registration old at len flags sig)}
+      (λ _. step_unregisters (unregistration old at len flags sig))
+      (λ _. step_registers (registration old at len flags sig))
+
+  step_write : CallStep (write here t)
+  step_write = by_errors (write_errors here t)
+      (step_spans (record { at = argument here t 1; len = argument here t 2 } ∷ []))
+
+  step_writev : CallStep (writev here t)
+  step_writev = by_errors (writev_errors here t)
+      (step_spans (spans_at here (argument here t 1) (argument here t 2)))
+
+  step_tkill : CallStep (tkill here t)
+  step_tkill = by_errors (tkill_errors here t) (step_send (int_argument here t 0) (int_argument here t 1))
+
+  step_tgkill : CallStep (tgkill here t)
+  step_tgkill = by_errors (tgkill_errors here t) (step_send (int_argument here t 1) (int_argument here t 2))
+
+  step_mmap : CallStep (mmap here t)
+  step_mmap =
+      let len = argument here t 1 in
+      let prot = argument here t 2 in
+      by_errors (mmap_errors here t)
+      (step_mapped len prot (mmap_answer (permission_here here) here.kernel.pages.free len prot))
+
+  -- the table
+  step_call : CallStep (call_of number here t)
+  step_call =
+      either (eqb number 64) (λ _. step_write) (λ _.
+      either (eqb number 66) (λ _. step_writev) (λ _.
+      either (eqb number 93) (λ _. step_exit) (λ _.
+      either (eqb number 94) (λ _. silent refl refl) (λ _.
+      either (eqb number 96) (λ _. step_clears) (λ _.
+      either (eqb number 98) (λ is. step_futex (eqb-true number 98 is)) (λ _.
+      either (eqb number 122) (λ _. step_setaffinity) (λ _.
+      either (eqb number 123) (λ _. by_errors (getaffinity_errors here t) (plain _ refl refl)) (λ _.
+      either (eqb number 124) (λ _. stepped _ refl (calm_state u t Ready here.kernel.threads refl)) (λ _.
+      either (eqb number 130) (λ _. step_tkill) (λ _.
+      either (eqb number 131) (λ _. step_tgkill) (λ _.
+      either (eqb number 134) (λ _. by_errors (sigaction_errors here t) (plain _ refl refl)) (λ _.
+      either (eqb number 135) (λ _. by_errors (sigprocmask_errors here t) (plain _ refl refl)) (λ _.
+      either (eqb number 139) (λ _. step_resumed (frame_read (memory here) (here.file t))) (λ _.
+      either (eqb number 168) (λ _. by_errors (getcpu_errors here t) (plain _ refl refl)) (λ _.
+      either (eqb number 172) (λ _. plain _ refl refl) (λ _.
+      either (eqb number 178) (λ _. plain _ refl refl) (λ _.
+      either (eqb number 214) (λ _. plain _ refl refl) (λ _.
+      either (eqb number 215) (λ _. step_changed _ _) (λ _.
+      either (eqb number 220) (λ is. step_clone (eqb-true number 220 is)) (λ _.
+      either (eqb number 222) (λ _. step_mmap) (λ _.
+      either (eqb number 226) (λ _. step_changed _ _) (λ _.
+      either (eqb number 283) (λ _. step_answers _) (λ _.
+      either (eqb number 293) (λ _. step_rseq) (λ _.
+      plain _ refl refl))))))))))))))))))))))))
+
+-- EVENTS
+
+-- thread t makes the call of this number by an event of its hart
+pub record IsCaller (here : Here) (t n : ℕ) (c : Choice) : Type 0 where
+  pub executes : c ≡ asked.Exec
+  pub at : runs here ≡ Some t
+  pub effect : Effect
+  pub is : next_effect here t ≡ Some effect
+  pub calls : is_call effect ≡ true
+  pub number : register (here.file t).file 17 ≡ n
+
+-- the thread that a choice lets run
+abbrev pub begins : Choice → Option ℕ
+begins asked.Exec = None
+begins asked.Drain = None
+begins asked.Take = None
+begins asked.Done = None
+begins asked.Preempt = None
+begins (asked.Run t) = Some t.0
+begins asked.Signal = None
+
+module _ (here : Here) (u : ℕ) where
+  -- the same of an event
+  pub data ThreadStep (c : Choice) (d : Done) : Type 0 where
+    IsLeft : IsCalm u here.kernel.threads d.kernel.threads
+        → (runs here ≢ Some u → begins c ≢ Some u → pc_of here u d.files ≡ (here.file u).pc) → ThreadStep c d
+    BeginsToWait : (t : ℕ) → IsCaller here t 98 c → u ≡ t
+        → here.kernel.threads.given ≤ d.kernel.threads.given → pc_of here u d.files ≡ behind here t
+        → ThreadStep c d
+    IsBorn : (t : ℕ) → IsCaller here t 220 c → u ≡ next_number here.kernel → d.kernel.threads.given ≡ u
+        → pc_of here u d.files ≡ behind here t → ThreadStep c d
+
+  calm : IsCalm u here.kernel.threads here.kernel.threads
+  calm = calm_alike u here.kernel.threads here.kernel.threads refl
+
+  rests : {c : Choice} {d : Done} → d.files ≡ [] → d.kernel.threads ≡ here.kernel.threads → ThreadStep c d
+  rests none same = IsLeft (calm_alike u here.kernel.threads _ same)
+      (λ apart other. ap (pc_of here u) none)
+
+  -- one that sets the file of the thread on the hart
+  sets : {c : Choice} {d : Done} (t : ℕ) (x : Saved) → runs here ≡ Some t → d.files ≡ (t, x) ∷ []
+      → IsCalm u here.kernel.threads d.kernel.threads → ThreadStep c d
+  sets t x at set is = IsLeft is (λ apart other. ap (pc_of here u) set
+      ∙ ap (λ b. (cond b x (here.file u)).pc) (ne_eqb t u (λ same. apart (at ∙ ap Some same))))
+
+  interrupted_pc : (t : ℕ) (o : Outcome) → t ≢ u
+      → pc_of here u (files_interrupted here t o) ≡ (here.file u).pc
+  interrupted_pc t comes_to.Nothing other = refl
+  interrupted_pc t comes_to.Cleared other = refl
+  interrupted_pc t (comes_to.Aborted at) other = ap
+      (λ b. (cond b (record (here.file t) { pc = at }) (here.file u)).pc) (ne_eqb t u other)
+  interrupted_pc t (comes_to.Killed why) other = refl
+
+  -- one that interrupts the thread on the hart
+  interrupts : {c : Choice} {d : Done} (t : ℕ) (o : Outcome) → runs here ≡ Some t
+      → d.files ≡ files_interrupted here t o → d.kernel.threads ≡ here.kernel.threads → ThreadStep c d
+  interrupts t o at set same = IsLeft (calm_alike u here.kernel.threads _ same)
+      (λ apart other. ap (pc_of here u) set ∙ interrupted_pc t o (λ its. apart (at ∙ ap Some its)))
+
+  either_done : {c : Choice} (b : Bool) {x y : Done} → ThreadStep c x → ThreadStep c y
+      → ThreadStep c (cond b x y)
+  either_done true p q = p
+  either_done false p q = q
+
+  -- an instruction
+  module _ (t : ℕ) (at : runs here ≡ Some t) where
+    by_step : {c : CallDone} (e : Effect) → next_effect here t ≡ Some e → is_call e ≡ true
+        → CallStep here t u (call_number here t) c → ThreadStep asked.Exec (by_call here c)
+    by_step e is calls (Leaves left pc) = IsLeft left (λ apart other. pc (λ same. apart (at ∙ ap Some same)))
+    by_step e is calls (Waits number same given pc) = BeginsToWait t
+        (record { executes = refl; at = at; effect = e; is = is; calls = calls; number = number })
+        same given pc
+    by_step e is calls (Bears number same given pc) = IsBorn t
+        (record { executes = refl; at = at; effect = e; is = is; calls = calls; number = number })
+        same given pc
+
+    step_called : (e : Effect) → next_effect here t ≡ Some e → is_call e ≡ true → (b : Bool)
+        → ThreadStep asked.Exec (by_call here (cond b (killed_in_call here) (called here t)))
+    step_called e is calls true = rests refl refl
+    step_called e is calls false = by_step e is calls (step_call here t u (call_number here t))
+
+    step_effect : (fault : Option ℕ) (o : Option Effect) → next_effect here t ≡ o
+        → ThreadStep asked.Exec (by_effect here t fault o)
+    step_effect (Some signal) o is = either_done (has_handler here t signal) (rests refl refl)
+        (rests refl refl)
+    step_effect None None is = rests refl refl
+    step_effect None (Some e) is = by_kind (is_call e) refl
+      where
+        by_kind : (b : Bool) → is_call e ≡ b
+            → ThreadStep asked.Exec
+            (cond b (by_call here (called_here here t)) (by_outcome here t (outcome_of here t e)))
+        by_kind true calls = step_called e is calls (is_inside_here here t)
+        by_kind false calls = sets t _ at refl calm
+
+    step_delivery : (signal : ℕ) (o : Outcome) (killer : Option ℕ)
+        → ThreadStep asked.Signal (handled_unless_killed here t signal o killer)
+    step_delivery signal o None = sets t _ at refl calm
+    step_delivery signal o (Some killer) = interrupts t o at refl refl
+
+    step_next : (next : Option ℕ) → ThreadStep asked.Signal (done_next here t next)
+    step_next None = rests refl refl
+    step_next (Some signal) = step_delivery signal (interruption_here here t)
+        (kills here t signal (interruption_here here t))
+
+  step_exec : (r : Option ℕ) → runs here ≡ r → ThreadStep asked.Exec (done_exec_by here r)
+  step_exec None at = rests refl refl
+  step_exec (Some t) at = step_effect t at (next_fault here t) (next_effect here t) refl
+
+  step_drain : (ws : List Store) → ThreadStep asked.Drain (done_drain_of here ws)
+  step_drain [] = rests refl refl
+  step_drain (w ∷ ws) = rests refl refl
+
+  step_take : (restart : Bool) (r : Option ℕ) → runs here ≡ r
+      → ThreadStep asked.Take (done_take_by here restart r)
+  step_take false r at = rests refl refl
+  step_take true None at = rests refl refl
+  step_take true (Some t) at = interrupts t (interruption_here here t) at refl refl
+
+  step_done_by : (r : Option ℕ) → runs here ≡ r → ThreadStep asked.Done (done_done_by here r)
+  step_done_by None at = rests refl refl
+  step_done_by (Some t) at = sets t _ at refl calm
+
+  step_preempt : (r : Option ℕ) → runs here ≡ r → ThreadStep asked.Preempt (done_preempt_by here r)
+  step_preempt None at = rests refl refl
+  step_preempt (Some t) at = IsLeft (calm_state u t Ready here.kernel.threads refl) (λ apart other. refl)
+
+  step_signal : (r : Option ℕ) → runs here ≡ r → ThreadStep asked.Signal (done_signal_by here r)
+  step_signal None at = rests refl refl
+  step_signal (Some t) at = step_next t at (next_for t here.kernel.signals)
+
+  step_run : (t : Tid) (o : Outcome) → ThreadStep (asked.Run t) (done_run_by here t.0 o)
+  step_run t o = either_done (lives_on here t.0 o)
+      (IsLeft (calm_state u t.0 (on here.hart) here.kernel.threads refl)
+      (λ apart other. interrupted_pc t.0 o (λ same. other (ap Some same))))
+      (IsLeft calm (λ apart other. interrupted_pc t.0 o (λ same. other (ap Some same))))
+
+  step_choice : (c : Choice) → ThreadStep c (done_of c here)
+  step_choice asked.Exec = step_exec (runs here) refl
+  step_choice asked.Drain = step_drain (waiting_here here)
+  step_choice asked.Take = step_take here.restart (runs here) refl
+  step_choice asked.Done = step_done_by (runs here) refl
+  step_choice asked.Preempt = step_preempt (runs here) refl
+  step_choice (asked.Run t) = step_run t (interruption_here here t.0)
+  step_choice asked.Signal = step_signal (runs here) refl
+
+-- WHO LIVES
+
+its_state : (o : Option Thread) → is_some (option_map (λ th. th.state) o) ≡ is_some o
+its_state None = refl
+its_state (Some th) = refl
+
+has_state : (t : ℕ) (ts : Threads) → is_some (state_of t ts) ≡ is_live t ts
+has_state t ts = its_state (thread_of t ts)
+
+-- one without a state doesn't live
+pub gone_is : (t : ℕ) (ts : Threads) → state_of t ts ≡ None → is_live t ts ≡ false
+gone_is t ts none = sym (has_state t ts) ∙ ap (λ (o : Option ThreadState). is_some o) none
+
+ready_lives : (u : ℕ) (ts : Threads) → is_ready u ts ≡ true → is_live u ts ≡ true
+ready_lives u ts ready = sym (has_state u ts) ∙ by_state (state_of u ts) ready
+  where
+    by_state : (o : Option ThreadState) → option_map_or is_ready_state o false ≡ true → is_some o ≡ true
+    by_state None is = absurd (false≢true is)
+    by_state (Some x) is = refl
+
+same_thread : {a b : ℕ} → Some a ≡ Some b → a ≡ b
+same_thread is = cc
+
+-- whether a thread waits; one that does isn't ready
+abbrev pub is_kept_waiting : ℕ → Threads → Bool
+is_kept_waiting t ts = option_map_or is_waiting_state (state_of t ts) false
+
+ready_rests : (u : ℕ) (ts : Threads) → is_ready u ts ≡ true → is_kept_waiting u ts ≡ true → ⊥
+ready_rests u ts ready waits = by_state (state_of u ts) ready waits
+  where
+    by_state : (o : Option ThreadState) → option_map_or is_ready_state o false ≡ true
+        → option_map_or is_waiting_state o false ≡ true → ⊥
+    by_state None one two = false≢true one
+    by_state (Some Ready) one two = false≢true two
+    by_state (Some (Running h)) one two = false≢true one
+    by_state (Some (Waiting at)) one two = false≢true one
+
+waited_on : (new old : Option ThreadState) → is_calm new old ≡ true
+    → option_map_or is_waiting_state new false ≡ true → option_map_or is_waiting_state old false ≡ true
+waited_on None old calm_it waits = absurd (false≢true waits)
+waited_on (Some x) None calm_it waits = absurd (false≢true calm_it)
+waited_on (Some x) (Some a) calm_it waits = sym (ap (λ b. not b || is_waiting_state a) waits) ∙ calm_it
+
+came : (new old : Option ThreadState) → is_calm new old ≡ true → is_some new ≡ true → is_some old ≡ true
+came None old calm_it live = absurd (false≢true live)
+came (Some x) None calm_it live = absurd (false≢true calm_it)
+came (Some x) (Some a) calm_it live = refl
+
+-- the number of a live thread was given
+found_in : (P : ℕ → Type 0) (t : ℕ) (live : List Thread) → All P (numbers live)
+    → is_some (find (is_thread t) live) ≡ true → P t
+found_in P t [] all is = absurd (false≢true is)
+found_in P t (th ∷ live) all is =
+    by_same (found_in P t live (All-tail P th.tid (numbers live) all)) (eqb th.tid t) refl is
+  where
+    by_same : (is_some (find (is_thread t) live) ≡ true → P t) → (b : Bool) → eqb th.tid t ≡ b
+        → is_some (cond b (Some th) (find (is_thread t) live)) ≡ true → P t
+    by_same rest true same found = subst P (eqb-true th.tid t same) (All-head P th.tid (numbers live) all)
+    by_same rest false other found = rest found
+
+module _ (s : Setting) (e : Event) (before : History) (step : IsStep s e before) where
+  abbrev place : Here
+  place = here_in_history s before e.entry.hart.0
+
+  pub thread_step : (u : ℕ) → ThreadStep place u (choice_of e.entry) e.done
+  thread_step u = subst (ThreadStep place u (choice_of e.entry)) (sym step.did)
+      (step_choice place u (choice_of e.entry))
+
+  pub was_given : (t : ℕ) → is_live t (kernel s before).threads ≡ true → t ≤ (kernel s before).threads.given
+  was_given t live = (found_in (λ n. (0 < n) × (n ≤ (kernel s before).threads.given)) t
+      (kernel s before).threads.live step.good.kernel.tables.threads.given live).1
+
+  -- a thread that runs lives
+  pub runner_lives : (h t : ℕ) → running s h before ≡ Some t → is_live t (kernel s before).threads ≡ true
+  runner_lives h t at = sym (has_state t (kernel s before).threads)
+      ∙ ap (λ (o : Option ThreadState). is_some o)
+      (running_is s.limits.harts h t (kernel s before).threads (kernel s before).scheduling
+      step.good.kernel.tables at)
+
+  pub given_grows : (kernel s before).threads.given ≤ (kernel s (e ∷ before)).threads.given
+  given_grows = by_step_of (thread_step 0)
+    where
+      by_step_of : ThreadStep place 0 (choice_of e.entry) e.done
+          → (kernel s before).threads.given ≤ (kernel s (e ∷ before)).threads.given
+      by_step_of (IsLeft left pc) = left.given
+      by_step_of (BeginsToWait t calls same given pc) = given
+      by_step_of (IsBorn t calls same given pc) = let now = given in let next = same in absurd (omega arith)
+
+  -- a thread that lives and whose number was given before lived before
+  pub lived_before : (t : ℕ) → t ≤ (kernel s before).threads.given
+      → is_live t (kernel s (e ∷ before)).threads ≡ true → is_live t (kernel s before).threads ≡ true
+  lived_before u low live = by_step_of (thread_step u)
+    where
+      by_step_of : ThreadStep place u (choice_of e.entry) e.done → is_live u (kernel s before).threads ≡ true
+      by_step_of (IsLeft left pc) = sym (has_state u (kernel s before).threads)
+          ∙ came (state_of u e.done.kernel.threads) (state_of u (kernel s before).threads) left.state
+          (has_state u e.done.kernel.threads ∙ live)
+      by_step_of (BeginsToWait t calls same given pc) = runner_lives e.entry.hart.0 u
+          (calls.at ∙ ap Some (sym same))
+      by_step_of (IsBorn t calls same given pc) = absurd (omega arith)
+
+  -- one whose number isn't given yet keeps its pc
+  pub unborn_keeps : (t : ℕ) → (kernel s (e ∷ before)).threads.given < t
+      → (file s t (e ∷ before)).pc ≡ (file s t before).pc
+  unborn_keeps u high = by_step_of (thread_step u)
+    where
+      grown : (kernel s before).threads.given ≤ (kernel s (e ∷ before)).threads.given
+      grown = given_grows
+
+      not_live : is_live u (kernel s before).threads ≢ true
+      not_live live = let low = was_given u live in let more = grown in omega arith
+
+      not_begun : (c : Choice) → choice_of e.entry ≡ c → begins c ≢ Some u
+      not_begun (asked.Run t) is same =
+          let free = sym (ap (λ c. refusal_of c place) is) ∙ step.free in
+          not_live (ready_lives u (kernel s before).threads
+          (ap (λ n. is_ready n (kernel s before).threads) (sym (same_thread same))
+          ∙ (run_ready place t.0 free).1))
+      not_begun asked.Exec is same = cc
+      not_begun asked.Drain is same = cc
+      not_begun asked.Take is same = cc
+      not_begun asked.Done is same = cc
+      not_begun asked.Preempt is same = cc
+      not_begun asked.Signal is same = cc
+
+      by_step_of : ThreadStep place u (choice_of e.entry) e.done
+          → (file s u (e ∷ before)).pc ≡ (file s u before).pc
+      by_step_of (IsLeft left pc) = pc (λ at. not_live (runner_lives e.entry.hart.0 u at))
+          (not_begun (choice_of e.entry) refl)
+      by_step_of (BeginsToWait t calls same given pc) = absurd
+          (not_live (runner_lives e.entry.hart.0 u (calls.at ∙ ap Some (sym same))))
+      by_step_of (IsBorn t calls same given pc) = absurd (omega arith)
+
+  -- WHO WAITS
+
+  waiter_lives : (t : ℕ) → is_kept_waiting t (kernel s before).threads ≡ true
+      → is_live t (kernel s before).threads ≡ true
+  waiter_lives t waits = sym (has_state t (kernel s before).threads)
+      ∙ by_state (state_of t (kernel s before).threads) waits
+    where
+      by_state : (o : Option ThreadState) → option_map_or is_waiting_state o false ≡ true → is_some o ≡ true
+      by_state None is = absurd (false≢true is)
+      by_state (Some x) is = refl
+
+  waiter_rests : (h t : ℕ) → is_kept_waiting t (kernel s before).threads ≡ true → running s h before ≢ Some t
+  waiter_rests h t waits at =
+      false≢true
+      (sym (ap (λ (o : Option ThreadState). option_map_or is_waiting_state o false)
+      (running_is s.limits.harts h t (kernel s before).threads (kernel s before).scheduling
+      step.good.kernel.tables at))
+      ∙ waits)
+
+  waiter_not_begun : (t : ℕ) → is_kept_waiting t (kernel s before).threads ≡ true
+      → (c : Choice) → choice_of e.entry ≡ c → begins c ≢ Some t
+  waiter_not_begun t waits (asked.Run v) is same =
+      let free = sym (ap (λ c. refusal_of c place) is) ∙ step.free in
+      ready_rests t (kernel s before).threads
+      (ap (λ n. is_ready n (kernel s before).threads) (sym (same_thread same)) ∙ (run_ready place v.0 free).1)
+      waits
+  waiter_not_begun t waits asked.Exec is same = cc
+  waiter_not_begun t waits asked.Drain is same = cc
+  waiter_not_begun t waits asked.Take is same = cc
+  waiter_not_begun t waits asked.Done is same = cc
+  waiter_not_begun t waits asked.Preempt is same = cc
+  waiter_not_begun t waits asked.Signal is same = cc
+
+  -- a thread that waits keeps its pc, also where it is woken
+  pub waiter_keeps : (t : ℕ) → is_kept_waiting t (kernel s before).threads ≡ true
+      → (file s t (e ∷ before)).pc ≡ (file s t before).pc
+  waiter_keeps u waits = by_step_of (thread_step u)
+    where
+      by_step_of : ThreadStep place u (choice_of e.entry) e.done
+          → (file s u (e ∷ before)).pc ≡ (file s u before).pc
+      by_step_of (IsLeft left pc) = pc (waiter_rests e.entry.hart.0 u waits)
+          (waiter_not_begun u waits (choice_of e.entry) refl)
+      by_step_of (BeginsToWait t calls same given pc) = absurd
+          (waiter_rests e.entry.hart.0 u waits (calls.at ∙ ap Some (sym same)))
+      by_step_of (IsBorn t calls same given pc) =
+          let low = was_given u (waiter_lives u waits) in let next = same in absurd (omega arith)
+
+  -- a thread comes to stand behind a call of some thread that isn't membarrier's
+  pub record ComesByCall (u : ℕ) : Type 0 where
+    pub thread : ℕ
+    pub number : ℕ
+    pub caller : IsCaller place thread number (choice_of e.entry)
+    pub other : number ≢ 283
+    pub pc : (file s u (e ∷ before)).pc ≡ behind place thread
+
+  -- one that waits waited, or made the call for it
+  pub waiter_came : (t : ℕ) → is_kept_waiting t (kernel s (e ∷ before)).threads ≡ true
+      → (is_kept_waiting t (kernel s before).threads ≡ true) ⊎ ComesByCall t
+  waiter_came u waits = by_step_of (thread_step u)
+    where
+      by_step_of : ThreadStep place u (choice_of e.entry) e.done
+          → (is_kept_waiting u (kernel s before).threads ≡ true) ⊎ ComesByCall u
+      by_step_of (IsLeft left pc) = inl
+          (waited_on (state_of u e.done.kernel.threads) (state_of u (kernel s before).threads) left.state
+          waits)
+      by_step_of (BeginsToWait t calls same given pc) = inr
+          (record { thread = t; number = 98; caller = calls; other = omega arith; pc = pc })
+      by_step_of (IsBorn t calls same given pc) = inr
+          (record { thread = t; number = 220; caller = calls; other = omega arith; pc = pc })
+
+  -- and one that lives and didn't is a child
+  pub child_came : (t : ℕ) → is_live t (kernel s before).threads ≡ false
+      → is_live t (kernel s (e ∷ before)).threads ≡ true → ComesByCall t
+  child_came u gone live = by_step_of (thread_step u)
+    where
+      by_step_of : ThreadStep place u (choice_of e.entry) e.done → ComesByCall u
+      by_step_of (IsLeft left pc) = absurd
+          (false≢true
+          (sym gone ∙ sym (has_state u (kernel s before).threads)
+          ∙ came (state_of u e.done.kernel.threads) (state_of u (kernel s before).threads) left.state
+          (has_state u e.done.kernel.threads ∙ live)))
+      by_step_of (BeginsToWait t calls same given pc) = record
+          { thread = t; number = 98; caller = calls; other = omega arith; pc = pc }
+      by_step_of (IsBorn t calls same given pc) = record
+          { thread = t; number = 220; caller = calls; other = omega arith; pc = pc }
+
+-- RUNS
+
+pub given_since : (s : Setting) (since : List Event) (old : History) → IsRunHistory s (since ++ old)
+    → (kernel s old).threads.given ≤ (kernel s (since ++ old)).threads.given
+given_since s [] old run = same_le (kernel s old).threads.given
+given_since s (e ∷ since) old run =
+    let was = given_since s since old run.0 in
+    let more = given_grows s e (since ++ old) (step_of s e (since ++ old) run) in
+    omega arith
+
+pub given_at : (s : Setting) (t : ℕ) (e : Event) (since : List Event) (old : History)
+    → IsRunHistory s (e ∷ since ++ old) → is_live t (kernel s old).threads ≡ true
+    → t ≤ (kernel s old).threads.given
+given_at s t e [] old run live = was_given s e old (step_of s e old run) t live
+given_at s t e (x ∷ since) old run live = given_at s t x since old run.0 live
+
+-- a thread that lives lived at each place where its number was given
+pub lived_since : (s : Setting) (t : ℕ) (since : List Event) (old : History) → IsRunHistory s (since ++ old)
+    → t ≤ (kernel s old).threads.given → is_live t (kernel s (since ++ old)).threads ≡ true
+    → is_live t (kernel s old).threads ≡ true
+lived_since s t [] old run low live = live
+lived_since s t (e ∷ since) old run low live =
+    let more = given_since s since old run.0 in
+    lived_since s t since old run.0 low
+    (lived_before s e (since ++ old) (step_of s e (since ++ old) run) t (omega arith) live)
+
+-- before that its pc is the program's entry
+pub unborn_pc : (s : Setting) (t : ℕ) (now : History) → IsRunHistory s now → (kernel s now).threads.given < t
+    → (file s t now).pc ≡ s.program.entry
+unborn_pc s t [] run high = refl
+unborn_pc s t (e ∷ before) run high =
+    let step = step_of s e before run in
+    let more = given_grows s e before step in
+    unborn_keeps s e before step t high ∙ unborn_pc s t before run.0 (omega arith)
+
+-- so a thread that lives lived at an earlier place where its pc was another
+pub lived_at : (s : Setting) (t : ℕ) (since : List Event) (old : History) → IsRunHistory s (since ++ old)
+    → is_live t (kernel s (since ++ old)).threads ≡ true → s.program.entry ≢ (file s t old).pc
+    → is_live t (kernel s old).threads ≡ true
+lived_at s t since old run live other = by_given (cases_lt (kernel s old).threads.given t)
+  where
+    run_of : (more : List Event) → IsRunHistory s (more ++ old) → IsRunHistory s old
+    run_of [] its = its
+    run_of (e ∷ more) its = run_of more its.0
+
+    by_given : ((kernel s old).threads.given < t) ⊎ (t ≤ (kernel s old).threads.given)
+        → is_live t (kernel s old).threads ≡ true
+    by_given (inl high) = absurd (other (sym (unborn_pc s t old (run_of since run) high)))
+    by_given (inr low) = lived_since s t since old run low live
