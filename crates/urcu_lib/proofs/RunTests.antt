@@ -1,12 +1,11 @@
 -- Tests of the events since a place that find from their history that a thread runs undisturbed and its loads of
 -- slots pass: what Runs asks, by computation. They ask it of each load, and of each event that is none of the
 -- thread's instructions.
-use Rattle.std.proofs.Common.{◌≡◌, ℕ, suc, ◌+◌, ◌≤◌, List, [], ◌∷◌, ◌++◌, ◌⊎◌, inl, inr, refl, sym, ap, ◌∙◌, subst}
+use Rattle.std.proofs.Common.{◌≡◌, ℕ, suc, ◌+◌, List, [], ◌∷◌, ◌++◌, ◌⊎◌, inl, inr, refl, sym, ap, ◌∙◌}
 use Rattle.std.proofs.Common.{Bool, true, false, ◌&&◌, ◌||◌, cond, eqb, leb}
 use Rattle.std.proofs.lemmas.Bool.{and_from, and_parts, eq-eqb, eqb-true, false≢true, leb-true}
 use Rattle.mach_types.specs.Events.{choice_of}
 use Rattle.mach_types.specs.Registers.{register}
-use Rattle.mach_types.specs.declared.events.Choice.TheVariants as asked
 use Rattle.mach_types.specs.declared.registers.Regs.{Regs}
 use Rattle.block_model.specs.History.{Event, History, file}
 use Rattle.block_model.specs.Setting.{Setting}
