@@ -97,6 +97,8 @@ class Line:
         at = next((at for at in u.syncs if self.is_exec and e.step.pc - at in SYNC_BLOCK), None)
         self.place = None if at is None else e.step.pc - at
         self.block = at, e.step.thread
+        self.thread, self.after = e.step.thread, e.deed.after
+        self.is_still = self.after is e.before
         self.stores = e.deed.executed if e.step.kind == DRAIN else e.deed.executed + e.deed.entered
 
     def written(self, u: Urcu, regs: ReadRegs | None) -> list[int]:
@@ -111,13 +113,13 @@ class Line:
         """Whether a register of its thread has a value before it."""
         return self.e.before.registers[register] == value
 
-    def acts(self, thread: int, at: int, block: range) -> bool:
-        """Whether it executes an instruction of a block for a thread."""
-        return self.is_exec and self.e.step.thread == thread and self.e.step.pc - at in block
+    def acts(self, at: int, block: range) -> bool:
+        """Whether it executes an instruction of a block."""
+        return self.is_exec and self.e.step.pc - at in block
 
-    def returns(self, file: File, at: int) -> bool:
+    def returns(self, at: int) -> bool:
         """Whether a barrier returns by it in a sync block."""
-        return self.e.step.kind == DONE and self.e.before.pc == file.pc == at + BEHIND_CALL
+        return self.e.step.kind == DONE and self.e.before.pc == self.after.pc == at + BEHIND_CALL
 
 
 class Past:
@@ -144,8 +146,8 @@ class Past:
             self.sections[slot].clear()
         for slot in line.locked:
             self.sections[slot].append(line.e.step.number)
-        for thread, file in line.e.files:
-            self.keep(line, thread, file)
+        if not line.is_still:
+            self.keep(line)
         self.ended |= {block for block in self.syncing if block[1] in replay.ended}
         self.syncing -= self.ended
         if line.place == 0:
@@ -159,14 +161,14 @@ class Past:
             self.calls.pop(line.block, None)
             self.grown.pop(line.block, None)
 
-    def keep(self, line: Line, thread: int, file: File) -> None:
-        if file.pc - SIZE in self.u.locks:
-            self.stood[thread].add(file)
+    def keep(self, line: Line) -> None:
+        if line.after.pc - SIZE in self.u.locks:
+            self.stood[line.thread].add(line.after)
         for at in self.u.syncs:
-            if line.acts(thread, at, SYNC_BLOCK):
-                self.left[at, thread].clear()
-            if file.pc - at in SYNC_BLOCK:
-                self.left[at, thread].add(file)
+            if line.acts(at, SYNC_BLOCK):
+                self.left[at, line.thread].clear()
+            if line.after.pc - at in SYNC_BLOCK:
+                self.left[at, line.thread].add(line.after)
 
 
 def stands(code: dict[int, int], at: int, block: list[int]) -> bool:
@@ -179,7 +181,7 @@ ARE_BLOCKS = {
     ),
     'unlocks': lambda u, code: all(stands(code, at, [sd(r.slot, 0)]) for at, r in u.unlocks.items()),
     'syncs': lambda u, code: all(stands(code, at, sync_block(r, u.readers[at])) for at, r in u.syncs.items()),
-    'low': lambda u, code: all(at % SIZE == 0 and at < 1 << 37 for at in u.syncs),
+    'low': lambda u, code: all(at + SIZE < 1 << 64 for at in code),
     'lock_regs': lambda u, code: all(r.are_good() for r in u.locks.values()),
     'unlock_regs': lambda u, code: all(r.are_good() for r in u.unlocks.values()),
     'sync_regs': lambda u, code: all(r.are_good() for r in u.syncs.values()),
@@ -204,19 +206,19 @@ IS_USE = {
         line.is_quiet(at) or slot in line.locked + line.unlocked for slot, at in enumerate(u.places)
     ),
     'writer': lambda u, past, line: all(
-        u.reader[slot] == line.e.step.thread for slot in line.locked + line.unlocked
+        u.reader[slot] == line.thread for slot in line.locked + line.unlocked
     ),
     'turns': lambda u, past, line: not any(past.sections[slot] for slot in line.locked),
     'small': lambda u, past, line: line.place != COUNTER_STORE or past.counted + 1 < 1 << 64,
     'alone': lambda u, past, line: line.place != 0 or not past.syncing,
     'registered': lambda u, past, line: line.place != CALL or line.e.is_registered,
-    'locking': lambda u, past, line: all(
-        line.acts(thread, at, LOCK_ENTRY) or file in past.stood[thread]
-        for thread, file in line.e.files for at in u.locks if file.pc == at + SIZE
+    'locking': lambda u, past, line: line.is_still or all(
+        line.acts(at, LOCK_ENTRY) or line.after in past.stood[line.thread]
+        for at in u.locks if line.after.pc == at + SIZE
     ),
-    'syncing': lambda u, past, line: all(
-        line.acts(thread, at, SYNC_BLOCK) or line.returns(file, at) or file in past.left[at, thread]
-        for thread, file in line.e.files for at in u.syncs if file.pc - at in SYNC_BLOCK[1:]
+    'syncing': lambda u, past, line: line.is_still or all(
+        line.acts(at, SYNC_BLOCK) or line.returns(at) or line.after in past.left[at, line.thread]
+        for at in u.syncs if line.after.pc - at in SYNC_BLOCK[1:]
     ),
     'lock_gp': lambda u, past, line: all(
         line.has(regs.gp, u.counter) for at, regs in u.locks.items() if line.is_exec and line.e.step.pc == at

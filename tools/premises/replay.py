@@ -65,8 +65,6 @@ class Event(NamedTuple):
     step: Step
     before: File
     deed: Deed
-    files: list[tuple[int, File]]
-    """The threads whose files it set, and how."""
     usable: frozenset[int]
     is_registered: bool
 
@@ -109,14 +107,13 @@ class Replay:
         before = self.files.get(step.thread, File(step.pc, ()))
         if before.pc != step.pc:
             raise ReplayFault(f'line {step.number}: thread {step.thread} has come to {before.pc:#x}')
-        usable, is_registered, threads = self.usable, self.is_registered, len(self.files)
+        usable, is_registered = self.usable, self.is_registered
         deed = self.deed(step, before)
         for store in deed.entered:
             self.memory.update(enumerate(store.value.to_bytes(store.size, 'little'), store.at))
-        files = [(step.thread, deed.after)] if deed.after is not before else []
-        self.files.update(files)
-        files += [(child, self.files[child]) for child in range(threads + 1, len(self.files) + 1)]
-        return Event(step, before, deed, files, usable, is_registered)
+        if deed.after is not before:
+            self.files[step.thread] = deed.after
+        return Event(step, before, deed, usable, is_registered)
 
     def deed(self, step: Step, file: File) -> Deed:
         if step.kind == DRAIN:

@@ -28,6 +28,7 @@ use Rattle.urcu_lib.specs.Registers.{AreReadRegs, AreSyncRegs}
 use Rattle.urcu_lib.specs.Sections.{IsLockStore}
 use Rattle.urcu_lib.specs.Uses.{HoldsUrcu, IsStart}
 use Rattle.urcu_lib.specs.declared.regs.SyncRegs.{SyncRegs}
+use Rattle.urcu_lib.proofs.LowCode.{code_low, low_is}
 use Rattle.urcu_lib.proofs.UseExample.{AreThere, word_is}
 use Rattle.urcu_lib.proofs.UseTests.{Layout, all_used, are_fine, is_lock_store, lock_store_is, only, urcu_of}
 use Rattle.guest_programs.specs.Programs.{data_bytes, guest_program}
@@ -351,7 +352,7 @@ blocks = record {
             ∙ word_is (code_of exchanging.program.pages) (sync_block waiting 3) 0x1019C sync_there k i
             (ap (λ q. slice_get (sync_block q 3) k) its.1 ∙ there);
       };
-  low = λ at r is. let its = (only at 0x1019C waiting r is).0 in (omega arith, omega arith);
+  low = code_low exchanging.program.pages (low_is exchanging.program.pages refl);
   lock_regs = λ at r is. subst AreReadRegs (only at 0x10214 reading r is).1 are_reading;
   unlock_regs = λ at r is. subst AreReadRegs (only at 0x10224 reading r is).1 are_reading;
   sync_regs = λ at r is. subst AreSyncRegs (only at 0x1019C waiting r is).1 are_waiting;

@@ -10,17 +10,22 @@ use Rattle.mach_types.specs.declared.events.Kind.{Kind}
 use Rattle.mach_types.specs.declared.events.Kind.TheVariants as kind
 use Rattle.mach_types.specs.declared.threads.ThreadState.{ThreadState}
 use Rattle.mach_types.specs.declared.threads.ThreadState.TheVariants.{Ready, Running, Waiting}
-use Rattle.mach_types.specs.Kernel.Threads.{Threads, is_live, is_ready, is_ready_state, state_of}
-use Rattle.std.specs.Option.{option_map_or}
+use Rattle.mach_types.specs.Kernel.Threads.{Threads, is_live, is_ready, is_ready_state, is_waiting_state}
+use Rattle.mach_types.specs.Kernel.Threads.{state_of}
+use Rattle.std.specs.Option.{option_map, option_map_or}
 use Rattle.mach_types.specs.declared.registers.Regs.{Regs}
 use Rattle.mach_types.specs.declared.threads.Saved.{Saved}
+use Rattle.rv_inst.specs.Class.{is_call}
+use Rattle.rv_inst.specs.Meaning.{meaning}
 use Rattle.rv_inst.specs.Memory.{loaded}
+use Rattle.rv_inst.specs.declared.effects.Effect.{Effect}
+use Rattle.rv_inst.specs.declared.instruction.Inst.{Inst}
 use Rattle.rv_inst.specs.declared.instruction.Inst.TheVariants as inst
 use Rattle.alone.proofs.Laws.{loaded_word, written_same}
 use Rattle.alone.proofs.Means.{means_ld}
 use Rattle.alone_laws.specs.Spans.{code_of, seen_at}
 use Rattle.block_model.proofs.Laws.{IsStep, file_apart, has_registers, not_ready, one_hart, ready_file_stays}
-use Rattle.block_model.proofs.Laws.{running_is, running_there, step_of}
+use Rattle.block_model.proofs.Laws.{running_there, step_of}
 use Rattle.block_model.specs.Tables.{IsTables, on}
 use Rattle.mach_types.specs.Bytes.{word_at}
 use Rattle.block_model.specs.History.{Event, History, file, kernel, running, waiting}
@@ -53,7 +58,9 @@ use Rattle.urcu_lib.proofs.SyncSteps.{none_waits, past_last, sync_stores}
 use Rattle.fence_laws.proofs.Calls.{outside_of}
 use Rattle.fence_laws.proofs.GoingOn.{HasGoneOn, has_gone_on, return_keeps}
 use Rattle.fence_laws.proofs.ThreadLaw.{given_at, given_grows, given_since, lived_at, lived_before}
-use Rattle.fence_laws.proofs.ThreadLaw.{runner_lives, was_given}
+use Rattle.fence_laws.proofs.ThreadLaw.{ComesByCall, child_came, gone_is, is_kept_waiting, runner_lives}
+use Rattle.fence_laws.proofs.ThreadLaw.{waiter_came, waiter_keeps, was_given}
+use Rattle.urcu_lib.proofs.CallWords.{IsNoCall, ld_none, sync_word}
 use Rattle.alone_laws.proofs.Steps.{word_same}
 use Rattle.fence_laws.proofs.WordLaw.{exec_drained, quiet_own}
 
@@ -65,6 +72,18 @@ first_uses s u first (y ∷ since) x uses = first_uses s u first since x uses.0
 first_run : (s : Setting) (since : List Event) (x : History) → IsRunHistory s (since ++ x) → IsRunHistory s x
 first_run s [] x run = run
 first_run s (y ∷ since) x run = first_run s since x run.0
+
+-- the instruction of a call
+called_code : (f : Saved) (x : Effect) (o : Option Inst) → option_map (λ i. meaning i f.file f.pc) o ≡ Some x
+    → is_call x ≡ true → (i : Inst) × (o ≡ Some i) × (is_call (meaning i f.file f.pc) ≡ true)
+called_code f x None is is_it = absurd cc
+called_code f x (Some i) is is_it = (i, refl, ap is_call (same_effect is) ∙ is_it)
+  where
+    same_effect : {a b : Effect} → Some a ≡ Some b → a ≡ b
+    same_effect its = cc
+
+same_inst : {a b : Inst} → Some a ≡ Some b → a ≡ b
+same_inst is = cc
 
 -- WHAT A PLACE TELLS
 
@@ -113,23 +132,25 @@ module _ (s : Setting) (u : Urcu) (first at t : ℕ) (f : Regs) (now : History) 
   called_at k five (counts is p i lt six x passed) = let no : ⊥ = omega arith in absurd no
   called_at k five (is_over is p passed) = let no : ⊥ = omega arith in absurd no
 
-  none_at : (k : ℕ) → k ≡ 4 → Stands s u first at t f now k → HasNone s u first at t now
-  none_at k four (all_set is a b c none) = none
-  none_at k four (one_set is a none) = none
-  none_at k four (two_set is a b none) = none
-  none_at k four (three_set is a b none) = none
-  none_at k four (has_called is o quiet) = let no : ⊥ = omega arith in absurd no
-  none_at k four (has_grown is o quiet entered x) = let no : ⊥ = omega arith in absurd no
-  none_at k four (has_loaded is o quiet entered x) = let no : ⊥ = omega arith in absurd no
-  none_at k four (has_stored is p) = let no : ⊥ = omega arith in absurd no
-  none_at k four (has_slots is p six) = let no : ⊥ = omega arith in absurd no
-  none_at k four (looks is p i lt six x passed) = let no : ⊥ = omega arith in absurd no
-  none_at k four (has_looked is p i lt six x passed shows) = let no : ⊥ = omega arith in absurd no
-  none_at k four (is_some is p i lt six x passed shows) = let no : ⊥ = omega arith in absurd no
-  none_at k four (passes is p i lt six x passed) = let no : ⊥ = omega arith in absurd no
-  none_at k four (moves is p i lt six x passed) = let no : ⊥ = omega arith in absurd no
-  none_at k four (counts is p i lt six x passed) = let no : ⊥ = omega arith in absurd no
-  none_at k four (is_over is p passed) = let no : ⊥ = omega arith in absurd no
+  -- at the call its number stands in x17, and no grace period goes on
+  call_at : (k : ℕ) → k ≡ 4 → Stands s u first at t f now k
+      → (register f 17 ≡ 283) × HasNone s u first at t now
+  call_at k four (all_set is a b c none) = (c, none)
+  call_at k four (one_set is a none) = let no : ⊥ = omega arith in absurd no
+  call_at k four (two_set is a b none) = let no : ⊥ = omega arith in absurd no
+  call_at k four (three_set is a b none) = let no : ⊥ = omega arith in absurd no
+  call_at k four (has_called is o quiet) = let no : ⊥ = omega arith in absurd no
+  call_at k four (has_grown is o quiet entered x) = let no : ⊥ = omega arith in absurd no
+  call_at k four (has_loaded is o quiet entered x) = let no : ⊥ = omega arith in absurd no
+  call_at k four (has_stored is p) = let no : ⊥ = omega arith in absurd no
+  call_at k four (has_slots is p six) = let no : ⊥ = omega arith in absurd no
+  call_at k four (looks is p i lt six x passed) = let no : ⊥ = omega arith in absurd no
+  call_at k four (has_looked is p i lt six x passed shows) = let no : ⊥ = omega arith in absurd no
+  call_at k four (is_some is p i lt six x passed shows) = let no : ⊥ = omega arith in absurd no
+  call_at k four (passes is p i lt six x passed) = let no : ⊥ = omega arith in absurd no
+  call_at k four (moves is p i lt six x passed) = let no : ⊥ = omega arith in absurd no
+  call_at k four (counts is p i lt six x passed) = let no : ⊥ = omega arith in absurd no
+  call_at k four (is_over is p passed) = let no : ⊥ = omega arith in absurd no
 
   looked_at : (k : ℕ) → k ≡ 11 → Stands s u first at t f now k → IsPast s u first at t f now
   looked_at k looked (has_looked is p i lt six x passed shows) = p
@@ -326,7 +347,7 @@ module _ (s : Setting) (e : Event) (before : History) (run : IsRunHistory s (e �
   by_ready t ready kind.Run is = by_thread (cases_eq e.entry.tid.0 t)
     where
       by_thread : (e.entry.tid.0 ≡ t) ⊎ (e.entry.tid.0 ≢ t) → MaySet s t e before ⊎ Leaves t
-      by_thread (inl same) = inl (inr (inl (is, same)))
+      by_thread (inl same) = inl (inr (is, same))
       by_thread (inr other) = inr (ready_stays_so t ready (λ k same. other same))
   by_ready t ready k is = inr (ready_stays_so t ready (λ run_it same. absurd cc))
 
@@ -344,39 +365,40 @@ module _ (s : Setting) (e : Event) (before : History) (run : IsRunHistory s (e �
   abbrev ts : Threads
   ts = (kernel s before).threads
 
-  set_or_left : (t : ℕ) → MaySet s t e before ⊎ Leaves t
+  -- it waits, or it doesn't live
+  abbrev IsIdle : ℕ → Type 0
+  IsIdle t = (is_kept_waiting t (kernel s before).threads ≡ true)
+      ⊎ (is_live t (kernel s before).threads ≡ false)
+
+  set_or_left : (t : ℕ) → MaySet s t e before ⊎ (Leaves t ⊎ IsIdle t)
   set_or_left t = by_state (state_of t (kernel s before).threads) refl
     where
       tables : IsTables s.limits.harts ts (kernel s before).scheduling
       tables = set_step.good.kernel.tables
 
-      away : (o : Option ThreadState) → state_of t (kernel s before).threads ≡ o
-          → option_map_or is_ready_state o false ≡ false
-          → ((h : ℕ) → o ≢ Some (on h)) → MaySet s t e before ⊎ Leaves t
-      away o is not_it none = inl (inr (inr (record {
-        not_ready = ap (λ x. option_map_or is_ready_state x false) is ∙ not_it;
-        nowhere = λ h there. none h
-            (sym is
-            ∙ running_is s.limits.harts h t ts (kernel s before).scheduling tables there);
-      })))
+      beside : MaySet s t e before ⊎ Leaves t → MaySet s t e before ⊎ (Leaves t ⊎ IsIdle t)
+      beside (inl may) = inl may
+      beside (inr leaves) = inr (inl leaves)
 
       by_state : (o : Option ThreadState) → state_of t (kernel s before).threads ≡ o
-          → MaySet s t e before ⊎ Leaves t
-      by_state None is = away None is refl (λ h same. cc)
-      by_state (Some Ready) is =
-          by_ready t (ap (λ x. option_map_or is_ready_state x false) is) e.entry.kind refl
-      by_state (Some (Running h)) is = by_hart t h.0
-          (running_there s.limits.harts h.0 t ts (kernel s before).scheduling tables is)
-      by_state (Some (Waiting a)) is = away (Some (Waiting a)) is refl (λ h same. cc)
+          → MaySet s t e before ⊎ (Leaves t ⊎ IsIdle t)
+      by_state None is = inr (inr (inr (gone_is t (kernel s before).threads is)))
+      by_state (Some Ready) is = beside
+          (by_ready t (ap (λ x. option_map_or is_ready_state x false) is) e.entry.kind refl)
+      by_state (Some (Running h)) is = beside (by_hart t h.0
+          (running_there s.limits.harts h.0 t ts (kernel s before).scheduling tables is))
+      by_state (Some (Waiting a)) is = inr (inr (inl (ap (λ x. option_map_or is_waiting_state x false) is)))
 
-  -- so a thread comes to a place by an event that may set its file, or stood there before
+  -- so a thread comes to a place by an event that may move it, or stood there before, or waited or is a child
   has_come : (at count kept t : ℕ) → (MaySet s t e before → HasCome s at count kept t e before)
-      → HasCome s at count kept t e before
-  has_come at count kept t asks = by_set (set_or_left t)
+      → (IsIdle t → ⊥) → HasCome s at count kept t e before
+  has_come at count kept t asks busy = by_set (set_or_left t)
     where
-      by_set : MaySet s t e before ⊎ Leaves t → HasCome s at count kept t e before
+      by_set : MaySet s t e before ⊎ (Leaves t ⊎ IsIdle t) → HasCome s at count kept t e before
       by_set (inl may) = asks may
-      by_set (inr (same, none)) = goes_on before [] refl (tt, λ executes of within. none executes of) same
+      by_set (inr (inl (same, none))) =
+          goes_on before [] refl (tt, λ executes of within. none executes of) same
+      by_set (inr (inr idle)) = absurd (busy idle)
 
 -- one thread at a time is in one
 module _ (s : Setting) (u : Urcu) (first : ℕ) where
@@ -424,6 +446,11 @@ module _ (s : Setting) (u : Urcu) (first : ℕ) (blocks : AreBlocks (code_of s.p
     syncs : (at t k : ℕ) (r : SyncRegs) → u.syncs at ≡ Some r → 0 < k → k < 17
         → is_live t (kernel s now).threads ≡ true → (file s t now).pc ≡ at + 4 * k
         → IsInSync at t k r (file s t now).file now
+    -- one that waits stands in none behind its first instruction
+    rests_locks : (at t : ℕ) (r : ReadRegs) → u.locks at ≡ Some r
+        → is_kept_waiting t (kernel s now).threads ≡ true → (file s t now).pc ≢ at + 4
+    rests_syncs : (at t k : ℕ) (r : SyncRegs) → u.syncs at ≡ Some r → 0 < k → k < 17
+        → is_kept_waiting t (kernel s now).threads ≡ true → (file s t now).pc ≢ at + 4 * k
 
   abbrev Always : History → Type 0
   Always [] = IsSound []
@@ -493,7 +520,7 @@ module _ (s : Setting) (u : Urcu) (first : ℕ) (blocks : AreBlocks (code_of s.p
         ∙ begins.exec.pc in
         let its = (sound before all).syncs at t 4 r block (omega arith) (omega arith)
         (its_actor t begins.exec.executes begins.of) there in
-        none_at s u first at t (file s t before).file before 4 refl its.stands grace on;
+        (call_at s u first at t (file s t before).file before 4 refl its.stands).1 grace on;
     anew = λ at t r grace block on alive exec.
         let g = grace_syncs at t r grace block before run.0 all alive on in
         uses.1.alone at t r g.0 block g.1 (record { place = at; regs = r; block = block; exec = exec });
@@ -594,6 +621,86 @@ module _ (s : Setting) (u : Urcu) (first : ℕ) (blocks : AreBlocks (code_of s.p
 
     both : CounterNext
     both = counter_next uses.1.counter
+
+    -- a thread that comes to stand behind another call than a barrier's comes into no block
+    module _ (v : ℕ) (c : ComesByCall s e before step v) where
+      abbrev its_file : Saved
+      its_file = file s c.thread before
+
+      called : (i : Inst) × (code_of s.program.pages (file s c.thread before).pc ≡ Some i)
+          × (is_call (meaning i (file s c.thread before).file (file s c.thread before).pc) ≡ true)
+      called = called_code (file s c.thread before) c.caller.effect
+          (code_of s.program.pages (file s c.thread before).pc) c.caller.is c.caller.calls
+
+      stood : (a : ℕ) → (file s v (e ∷ before)).pc ≡ a + 4 → (file s c.thread before).pc ≡ a
+      stood a there =
+          let low = blocks.low (file s c.thread before).pc called.0 called.1 in
+          let pc : (file s v (e ∷ before)).pc ≡ ((file s c.thread before).pc + 4) % 2 ^ 64 = c.pc in
+          omega arith
+
+      not_plain : (a : ℕ) (i : Inst) → code_of s.program.pages a ≡ Some i → IsNoCall i
+          → (file s c.thread before).pc ≢ a
+      not_plain a i code none same =
+          let its = same_inst (sym called.1 ∙ ap (code_of s.program.pages) same ∙ code) in
+          false≢true
+          (sym (none (file s c.thread before).file (file s c.thread before).pc)
+          ∙ ap (λ j. is_call (meaning j (file s c.thread before).file (file s c.thread before).pc)) (sym its)
+          ∙ called.2)
+
+      in_no_lock : (at : ℕ) (r : ReadRegs) → u.locks at ≡ Some r → (file s v (e ∷ before)).pc ≢ at + 4
+      in_no_lock at r block there =
+          let load = inst.Ld r.scratch r.gp (pos 0) in
+          not_plain (at + 4 * 0) load ((blocks.locks at r block).holds 0 load refl)
+          (ld_none r.scratch r.gp (pos 0)) (stood (at + 4 * 0) (there ∙ omega arith))
+
+      in_no_sync : (at k : ℕ) (r : SyncRegs) → u.syncs at ≡ Some r → 0 < k → k < 17
+          → (file s v (e ∷ before)).pc ≢ at + 4 * k
+      in_no_sync at zero r block some lt there = omega arith
+      in_no_sync at (suc j) r block some lt there = by_word (cases_eq j 4)
+        where
+          at_j : (file s c.thread before).pc ≡ at + 4 * j
+          at_j = stood (at + 4 * j) (there ∙ omega arith)
+
+          by_word : (j ≡ 4) ⊎ (j ≢ 4) → ⊥
+          by_word (inl four) =
+              let its = old.syncs at c.thread 4 r block (omega arith) (omega arith)
+              (runner_lives s e before step e.entry.hart.0 c.thread c.caller.at)
+              (at_j ∙ ap (λ n. at + 4 * n) four) in
+              c.other (sym c.caller.number
+              ∙ (call_at s u first at c.thread (file s c.thread before).file before 4 refl its.stands).0)
+          by_word (inr other) =
+              let w = sync_word r (u.readers at) j (omega arith) other in
+              not_plain (at + 4 * j) w.its ((blocks.syncs at r block).holds j w.its w.is) w.none at_j
+
+    -- nor does one that waited, or is a child
+    lock_busy : (at t : ℕ) (r : ReadRegs) → u.locks at ≡ Some r
+        → is_live t (kernel s (e ∷ before)).threads ≡ true → (file s t (e ∷ before)).pc ≡ at + 4
+        → IsIdle s e before run t → ⊥
+    lock_busy at t r block lives there (inl rests) = old.rests_locks at t r block rests
+        (sym (waiter_keeps s e before step t rests) ∙ there)
+    lock_busy at t r block lives there (inr gone_it) = in_no_lock t
+        (child_came s e before step t gone_it lives) at r block there
+
+    sync_busy : (at t k : ℕ) (r : SyncRegs) → u.syncs at ≡ Some r → 0 < k → k < 17
+        → is_live t (kernel s (e ∷ before)).threads ≡ true → (file s t (e ∷ before)).pc ≡ at + 4 * k
+        → IsIdle s e before run t → ⊥
+    sync_busy at t k r block some lt lives there (inl rests) = old.rests_syncs at t k r block some lt rests
+        (sym (waiter_keeps s e before step t rests) ∙ there)
+    sync_busy at t k r block some lt lives there (inr gone_it) = in_no_sync t
+        (child_came s e before step t gone_it lives) at k r block some lt there
+
+    lock_rests : (at t : ℕ) (r : ReadRegs) → u.locks at ≡ Some r → (file s t (e ∷ before)).pc ≡ at + 4
+        → (is_kept_waiting t (kernel s before).threads ≡ true) ⊎ ComesByCall s e before step t → ⊥
+    lock_rests at t r block there (inl was) = old.rests_locks at t r block was
+        (sym (waiter_keeps s e before step t was) ∙ there)
+    lock_rests at t r block there (inr c) = in_no_lock t c at r block there
+
+    sync_rests : (at t k : ℕ) (r : SyncRegs) → u.syncs at ≡ Some r → 0 < k → k < 17
+        → (file s t (e ∷ before)).pc ≡ at + 4 * k
+        → (is_kept_waiting t (kernel s before).threads ≡ true) ⊎ ComesByCall s e before step t → ⊥
+    sync_rests at t k r block some lt there (inl was) = old.rests_syncs at t k r block some lt was
+        (sym (waiter_keeps s e before step t was) ∙ there)
+    sync_rests at t k r block some lt there (inr c) = in_no_sync t c at k r block some lt there
 
     -- lock
     lock_load : (at : ℕ) (r : ReadRegs) → u.locks at ≡ Some r → choice_of e.entry ≡ asked.Exec
@@ -758,9 +865,15 @@ module _ (s : Setting) (u : Urcu) (first : ℕ) (blocks : AreBlocks (code_of s.p
     sound_next = record {
       counter = both.0;
       locks = λ at t r block lives there. locks_next at t r block lives there
-          (has_come s e before run at 1 0 t (λ may. uses.1.locking at t r block may there));
+          (has_come s e before run at 1 0 t (λ may. uses.1.locking at t r block may there)
+          (lock_busy at t r block lives there));
       syncs = λ at t k r block some lt lives there. syncs_next at t k r block lt lives there some
-          (has_come s e before run at 17 17 t (λ may. uses.1.syncing at t k r block some lt may there));
+          (has_come s e before run at 17 17 t (λ may. uses.1.syncing at t k r block some lt may there)
+          (sync_busy at t k r block some lt lives there));
+      rests_locks = λ at t r block rests there. lock_rests at t r block there
+          (waiter_came s e before step t rests);
+      rests_syncs = λ at t k r block some lt rests there. sync_rests at t k r block some lt there
+          (waiter_came s e before step t rests);
     }
 
   sound_start : IsSound []
@@ -768,6 +881,8 @@ module _ (s : Setting) (u : Urcu) (first : ℕ) (blocks : AreBlocks (code_of s.p
     counter = counter_start u.counter s first start.counter start.some start.fits;
     locks = λ at t r block lives there. absurd (start.locking at r block there);
     syncs = λ at t k r block some lt lives there. absurd (start.syncing at k r block some lt there);
+    rests_locks = λ at t r block rests there. start.locking at r block there;
+    rests_syncs = λ at t k r block some lt rests there. start.syncing at k r block some lt there;
   }
 
   always : (history : History) → IsRunHistory s history → AreUses s u first history → HasGoneOn history
@@ -1001,15 +1116,34 @@ module _ (s : Setting) (u : Urcu) (first : ℕ) (blocks : AreBlocks (code_of s.p
                   was.2,
             ))
 
-        by_set : MaySet s t e before ⊎ Leaves s e before run t
-            → (file s t (e ∷ before) ≡ file s t before) ⊎ HasReturned s at t e before
-        by_set (inl may) = keeps may
-        by_set (inr (same, none)) = inl same
+        -- a thread that waits may stand at the block's first instruction
+        waits_at : (k : ℕ) → k < 17 → (file s t before).pc ≡ at + 4 * k → left_now k before + m ≤ most
+            → AreBehind k before → is_kept_waiting t (kernel s before).threads ≡ true → Goes (e ∷ before) m
+        waits_at zero lt place left behind rests =
+            stands_at 0 lt (waiter_keeps s e before (step_of s e before run) t rests ∙ place) left
+            (record {
+              looked = λ is. let no : ⊥ = omega arith in absurd no;
+              tested = λ is. let no : ⊥ = omega arith in absurd no;
+            })
+            (λ a loaded. behind a (not_loaded a loaded))
+        waits_at (suc j) lt place left behind rests =
+            absurd ((sound before (always before run.0 uses.0 gone.0)).rests_syncs at t (suc j) r block
+            (omega arith) lt rests place)
+
+        by_set : (k : ℕ) → k < 17 → (file s t before).pc ≡ at + 4 * k → left_now k before + m ≤ most
+            → IsKnown k (file s t before).file → AreBehind k before
+            → MaySet s t e before ⊎ (Leaves s e before run t ⊎ IsIdle s e before run t) → Goes (e ∷ before) m
+        by_set k lt place left known behind (inl may) = by_file k lt place left known behind (keeps (inl may))
+        by_set k lt place left known behind (inr (inl (same, none))) = by_file k lt place left known behind
+            (inl same)
+        by_set k lt place left known behind (inr (inr (inl rests))) = waits_at k lt place left behind rests
+        by_set k lt place left known behind (inr (inr (inr gone_it))) = by_file k lt place left known behind
+            (keeps (inr gone_it))
 
         by_was : Goes before m → Goes (e ∷ before) m
         by_was (has_finished f) = has_finished (one_later e before f)
-        by_was (stands_at k lt place left known behind) = by_file k lt place left known behind
-            (by_set (set_or_left s e before run t))
+        by_was (stands_at k lt place left known behind) = by_set k lt place left known behind
+            (set_or_left s e before run t)
     goes now n run uses gone (it_runs e before m executes_it of good was) = by_was
         (goes before m run.0 uses.0 gone.0 was)
       where

@@ -369,7 +369,8 @@ start = record {
 pub holds : HoldsUrcu waiting urcu (history waiting log)
 holds = record {
   first = 1;
-  blocks = blocks_so waiting.program.pages layout refl are_read are_read are_sync lock_there unlock_there sync_there;
+  blocks =
+      blocks_so waiting.program.pages layout refl refl are_read are_read are_sync lock_there unlock_there sync_there;
   start = start;
   uses = all_used waiting layout 1 (history waiting log) fine;
 }

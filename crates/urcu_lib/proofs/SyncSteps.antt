@@ -41,6 +41,7 @@ use Rattle.fence_laws.proofs.ExecLaw.{after_load, after_next, after_store, exec_
 use Rattle.fence_laws.proofs.Fences.{entered_at_exec, entered_next}
 use Rattle.fence_laws.proofs.OwnerLaw.{owned_next}
 use Rattle.fence_laws.proofs.ThreadLaw.{runner_lives}
+use Rattle.percpu_lib.proofs.BlockWords.{held_aligned}
 use Rattle.urcu_lib.proofs.SlotLaw.{HasBegun, has_begun, lock_value, slot_holds}
 use Rattle.urcu_lib.proofs.SyncState.{ArePassed, HasEnded, HasNone, IsOrderly, IsOpen, IsPast, Stands}
 use Rattle.urcu_lib.proofs.SyncState.{all_set, base, counts, ended_next, has_called, has_grown, has_loaded}
@@ -131,8 +132,17 @@ module _ (s : Setting) (u : Urcu) (first : ℕ) (blocks : AreBlocks (code_of s.p
   lives : is_live t (kernel s before).threads ≡ true
   lives = runner_lives s e before step e.entry.hart.0 t (exec_of s e before step executes).runs
 
-  at_low : at < 2 ^ 37
-  at_low = (blocks.low at r block).1
+  at_low : at + 68 < 2 ^ 64
+  at_low =
+      let held = (blocks.syncs at r block).holds 16 (inst.Addi 10 0 (pos 0)) refl in
+      let low = blocks.low (at + 4 * 16) (inst.Addi 10 0 (pos 0)) held in
+      omega arith
+
+  at_aligned : at % 4 ≡ 0
+  at_aligned =
+      let held = (blocks.syncs at r block).holds 4 inst.Ecall refl in
+      let whole = held_aligned s.program.pages (at + 4 * 4) inst.Ecall held in
+      omega arith
 
   abbrev State : ℕ → Type 0
   State k = Stands s u first at t f before k
@@ -603,7 +613,7 @@ module _ (s : Setting) (u : Urcu) (first : ℕ) (blocks : AreBlocks (code_of s.p
       by_test : (b : Bool) → eqb (register f 10) (register f 0) ≡ b → IsNext 11
       by_test true is =
           let low = at_low in
-          let aligned = (blocks.low at r block).0 in
+          let aligned = at_aligned in
           let after = nexts 11 (inst.Beq 10 0 (pos 8)) 0 0 (at + 4 * 13) pc refl
           (means_beq f (at + 4 * 11) (at + 4 * 13) (omega arith) 10 0 (pos 8) (omega arith) is) in
           let past_it = past 11 pc (omega arith) (omega arith)
@@ -658,7 +668,7 @@ module _ (s : Setting) (u : Urcu) (first : ℕ) (blocks : AreBlocks (code_of s.p
       by_test : (b : Bool) → ltb (register f 10) (register f 5) ≡ b → IsNext 12
       by_test true is =
           let low = at_low in
-          let aligned = (blocks.low at r block).0 in
+          let aligned = at_aligned in
           let after = nexts 12 (inst.Bltu 10 5 (negsuc 7)) 0 0 (at + 4 * 10) pc refl
           (means_bltu f (at + 4 * 12) (at + 4 * 10) (omega arith) 10 5 (negsuc 7) (omega arith) is) in
           let past_it = past 12 pc (omega arith) (omega arith)
@@ -781,7 +791,7 @@ module _ (s : Setting) (u : Urcu) (first : ℕ) (blocks : AreBlocks (code_of s.p
           }
       by_test false is =
           let low = at_low in
-          let aligned = (blocks.low at r block).0 in
+          let aligned = at_aligned in
           let some = eqb-false (register f 7) 0 is in
           let more : suc i < u.readers at = omega arith in
           let after = nexts 15 (inst.Bne 7 0 (negsuc 19)) 0 0 (at + 4 * 10) pc refl

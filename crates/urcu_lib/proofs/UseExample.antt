@@ -2,7 +2,7 @@
 -- reader's lock has stored the counter in its slot, but the store waits, when the first thread calls
 -- membarrier in a sync block. The store enters memory before the call returns; the sync block finds it there
 -- twice, then finds 0, and ends. The program uses the blocks as HoldsUrcu asks.
-use Rattle.std.proofs.Common.{◌≡◌, ℕ, suc, zero, ◌+◌, ◌*◌, ◌%◌, ◌^◌, ◌<◌, ◌≤◌, List, [], ◌∷◌, ◌++◌, refl, ap}
+use Rattle.std.proofs.Common.{◌≡◌, ℕ, suc, zero, ◌+◌, ◌*◌, ◌^◌, ◌<◌, ◌≤◌, List, [], ◌∷◌, ◌++◌, refl, ap}
 use Rattle.std.proofs.Common.{◌∙◌}
 use Rattle.std.proofs.Common.{subst, arith, true, false, ◌&&◌, Bool, eqb, leb, ltb, Option, Some, None, Ok}
 use Rattle.std.proofs.Common.{slice_get}
@@ -34,6 +34,7 @@ use Rattle.urcu_lib.specs.Sections.{IsLockStore}
 use Rattle.urcu_lib.specs.Uses.{HoldsUrcu, IsStart}
 use Rattle.urcu_lib.specs.declared.regs.ReadRegs.{ReadRegs}
 use Rattle.urcu_lib.specs.declared.regs.SyncRegs.{SyncRegs}
+use Rattle.urcu_lib.proofs.LowCode.{are_low, code_low, low_is}
 use Rattle.urcu_lib.proofs.UseTests.{Layout, all_used, are_fine, is_lock_store, lock_store_is, only, urcu_of}
 
 -- `lui x8, 0x20`, `addi x9, x8, 64`; membarrier(16, 0); clone; the child goes to 0x10074. From 0x10030 on the
@@ -318,30 +319,25 @@ are_sync = record {
   slots_kept = kept_9;
 }
 
--- a layout's sync block stands low, and its counter before its slots
-abbrev pub is_low : Layout → Bool
-is_low x =
-    eqb (x.sync_at % 4) 0
-    && (ltb x.sync_at (2 ^ 37)
-    && (leb 1 x.readers
+-- a layout's sync block waits for some slots, and its counter stands before them
+abbrev pub is_sound : Layout → Bool
+is_sound x =
+    leb 1 x.readers
     && (leb x.readers 63
-    && (leb (x.slots + 64 * x.readers) (2 ^ 64) && leb (x.counter + 8) x.slots))))
+    && (leb (x.slots + 64 * x.readers) (2 ^ 64) && leb (x.counter + 8) x.slots))
 
 -- the blocks of a layout are as they should be where their words stand there
-pub blocks_so : (pages : List ImagePage) (x : Layout) → is_low x ≡ true → AreReadRegs x.lock → AreReadRegs x.unlock
-    → AreSyncRegs x.sync → AreThere (code_of pages) x.lock_at (lock_block x.lock)
+pub blocks_so : (pages : List ImagePage) (x : Layout) → are_low pages ≡ true → is_sound x ≡ true
+    → AreReadRegs x.lock → AreReadRegs x.unlock → AreSyncRegs x.sync
+    → AreThere (code_of pages) x.lock_at (lock_block x.lock)
     → AreThere (code_of pages) x.unlock_at (unlock_block x.unlock)
     → AreThere (code_of pages) x.sync_at (sync_block x.sync x.readers) → AreBlocks (code_of pages) (urcu_of x)
-blocks_so pages x is_so lock_regs unlock_regs sync_regs lock_there unlock_there sync_there =
-    let one = and_parts (eqb (x.sync_at % 4) 0) _ is_so in
-    let two = and_parts (ltb x.sync_at (2 ^ 37)) _ one.1 in
-    let three = and_parts (leb 1 x.readers) _ two.1 in
-    let four = and_parts (leb x.readers 63) _ three.1 in
-    let five = and_parts (leb (x.slots + 64 * x.readers) (2 ^ 64)) _ four.1 in
-    let aligned : x.sync_at % 4 ≡ 0 = eqb-true (x.sync_at % 4) 0 one.0 in
-    let low : x.sync_at < 2 ^ 37 = ltb-true x.sync_at (2 ^ 37) two.0 in
-    let high : x.slots + 64 * x.readers ≤ 2 ^ 64 = leb-true (x.slots + 64 * x.readers) (2 ^ 64) five.0 in
-    let front : x.counter + 8 ≤ x.slots = leb-true (x.counter + 8) x.slots five.1 in
+blocks_so pages x low sound lock_regs unlock_regs sync_regs lock_there unlock_there sync_there =
+    let one = and_parts (leb 1 x.readers) _ sound in
+    let two = and_parts (leb x.readers 63) _ one.1 in
+    let three = and_parts (leb (x.slots + 64 * x.readers) (2 ^ 64)) _ two.1 in
+    let high : x.slots + 64 * x.readers ≤ 2 ^ 64 = leb-true (x.slots + 64 * x.readers) (2 ^ 64) three.0 in
+    let front : x.counter + 8 ≤ x.slots = leb-true (x.counter + 8) x.slots three.1 in
     record {
       locks = λ at r is.
           let its = only at x.lock_at x.lock r is in
@@ -364,13 +360,12 @@ blocks_so pages x is_so lock_regs unlock_regs sync_regs lock_there unlock_there 
                 ∙ word_is (code_of pages) (sync_block x.sync x.readers) x.sync_at sync_there k i
                 (ap (λ q. slice_get (sync_block q x.readers) k) its.1 ∙ there);
           };
-      low = λ at r is.
-          let its = (only at x.sync_at x.sync r is).0 in (ap (λ n. n % 4) its ∙ aligned, omega arith);
+      low = code_low pages (low_is pages low);
       lock_regs = λ at r is. subst AreReadRegs (only at x.lock_at x.lock r is).1 lock_regs;
       unlock_regs = λ at r is. subst AreReadRegs (only at x.unlock_at x.unlock r is).1 unlock_regs;
       sync_regs = λ at r is. subst AreSyncRegs (only at x.sync_at x.sync r is).1 sync_regs;
-      one = λ at r is. leb-true 1 x.readers three.0;
-      few = λ at r is. leb-true x.readers 63 four.0;
+      one = λ at r is. leb-true 1 x.readers one.0;
+      few = λ at r is. leb-true x.readers 63 two.0;
       counted = λ at r is. omega arith;
       low_slots = high;
       low_counter = omega arith;
@@ -379,7 +374,7 @@ blocks_so pages x is_so lock_regs unlock_regs sync_regs lock_there unlock_there 
 
 blocks : AreBlocks (code_of reading.program.pages) (urcu_of layout)
 blocks =
-    blocks_so reading.program.pages layout refl are_read are_read are_sync lock_there unlock_there sync_there
+    blocks_so reading.program.pages layout refl refl are_read are_read are_sync lock_there unlock_there sync_there
 
 start : IsStart reading (urcu_of layout) 1
 start = record {

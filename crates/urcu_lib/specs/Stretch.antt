@@ -1,11 +1,12 @@
 -- How many instructions a thread executes.
-use Rattle.std.specs.Prelude.{ℕ, suc, ◌≡◌, ◌+◌, ◌<◌, ◌≤◌, ◌⊎◌, List, ◌∷◌, ◌++◌, Some}
+use Rattle.std.specs.Prelude.{ℕ, suc, ◌≡◌, ◌+◌, ◌<◌, ◌≤◌, ◌⊎◌, false, List, ◌∷◌, ◌++◌, Some}
 use Rattle.mach_types.specs.Bytes.{word_at}
 use Rattle.mach_types.specs.Events.{choice_of}
+use Rattle.mach_types.specs.Kernel.Threads.{is_live}
 use Rattle.mach_types.specs.Registers.{register}
 use Rattle.mach_types.specs.declared.events.Choice.TheVariants as asked
 use Rattle.mach_types.specs.declared.registers.Regs.{Regs}
-use Rattle.block_model.specs.History.{Event, History, file}
+use Rattle.block_model.specs.History.{Event, History, file, kernel}
 use Rattle.block_model.specs.Setting.{Setting}
 use Rattle.alone_laws.specs.Spans.{seen_at}
 use Rattle.urcu_lib.specs.Blocks.{Urcu}
@@ -35,13 +36,14 @@ pub record IsLoaded (s : Setting) (at t a : ℕ) (begun now : History) : Type 0 
 abbrev pub IsFirstLoad : Setting → ℕ → ℕ → History → History → Type 0
 IsFirstLoad s at t begun before = IsLoaded s at t (register (file s t before).file 6) begun before → ⊥
 
--- since a place thread t executed so many instructions. No other event that may set its file changed it, but
--- that its barrier returned, so no signal was delivered to it; and the first load of each slot by the sync
--- block gave such a number
+-- since a place thread t executed so many instructions. No other event of its hart changed its file, nor did
+-- its beginning to run or to live, but that its barrier returned, so no signal was delivered to it; and the
+-- first load of each slot by the sync block gave such a number
 pub data Runs (s : Setting) (at t : ℕ) (begun : History) : History → ℕ → Type 0 where
   none_run : Runs s at t begun begun 0
   it_rests : (e : Event) (before : History) (n : ℕ) → (choice_of e.entry ≡ asked.Exec → e.entry.tid.0 ≡ t → ⊥)
-      → (MaySet s t e before → (file s t (e ∷ before) ≡ file s t before) ⊎ HasReturned s at t e before)
+      → (MaySet s t e before ⊎ (is_live t (kernel s before).threads ≡ false)
+      → (file s t (e ∷ before) ≡ file s t before) ⊎ HasReturned s at t e before)
       → Runs s at t begun before n
       → Runs s at t begun (e ∷ before) n
   it_runs : (e : Event) (before : History) (n : ℕ) → choice_of e.entry ≡ asked.Exec → e.entry.tid.0 ≡ t

@@ -1,9 +1,8 @@
 -- How a program uses the blocks: the premises, one condition at each event.
-use Rattle.std.specs.Prelude.{ℕ, ◌≡◌, ◌≢◌, ◌+◌, ◌*◌, ◌<◌, ◌≤◌, ◌^◌, ◌⊎◌, true, false, List, [], ◌∷◌, ◌++◌}
+use Rattle.std.specs.Prelude.{ℕ, ◌≡◌, ◌≢◌, ◌+◌, ◌*◌, ◌<◌, ◌≤◌, ◌^◌, ◌⊎◌, true, List, [], ◌∷◌, ◌++◌}
 use Rattle.std.specs.Prelude.{if◌then◌else◌, Some}
 use Rattle.mach_types.specs.Bytes.{covers, word_at}
 use Rattle.mach_types.specs.Events.{choice_of}
-use Rattle.mach_types.specs.Kernel.Threads.{is_ready}
 use Rattle.mach_types.specs.Registers.{register}
 use Rattle.mach_types.specs.declared.events.Choice.TheVariants as asked
 use Rattle.mach_types.specs.declared.events.Kind.TheVariants as kind
@@ -54,17 +53,11 @@ pub data HasCome (s : Setting) (at count kept t : ℕ) (e : Event) (before : His
       → file s t (e ∷ before) ≡ file s t old
       → HasCome s at count kept t e before
 
--- a thread is neither ready nor on a hart: it waits, has ended, or isn't there yet
-pub record IsAway (s : Setting) (t : ℕ) (before : History) : Type 0 where
-  pub not_ready : is_ready t (kernel s before).threads ≡ false
-  pub nowhere : (h : ℕ) → running s h before ≢ Some t
-
--- an event may set the file of a thread: it is one of the hart on which the thread runs, the thread begins to
--- run by it, or the thread is away
+-- an event may move a thread: it is one of the hart on which the thread runs, or the thread begins to run by
+-- it
 abbrev pub MaySet : Setting → ℕ → Event → History → Type 0
 MaySet s t e before =
-    (running s e.entry.hart.0 before ≡ Some t)
-    ⊎ ((e.entry.kind ≡ kind.Run) × (e.entry.tid.0 ≡ t) ⊎ IsAway s t before)
+    (running s e.entry.hart.0 before ≡ Some t) ⊎ ((e.entry.kind ≡ kind.Run) × (e.entry.tid.0 ≡ t))
 
 -- a register of the thread of an event, before it
 abbrev pub register_of : Setting → Event → History → ℕ → ℕ
@@ -95,9 +88,9 @@ pub record IsUse (s : Setting) (u : Urcu) (first : ℕ) (e : Event) (before : Hi
   -- the process has registered for membarrier's private command
   pub registered : (at t : ℕ) (r : SyncRegs) → u.syncs at ≡ Some r → IsGraceBegin at t e
       → (kernel s before).barriers.private ≡ true
-  -- each block is entered at its first instruction alone; and a thread that comes back into one by a
-  -- handler's return goes on as it was: in a lock block as at some time in it, in a sync block as when it
-  -- last left it. No other event sets its file there
+  -- each block is entered at its first instruction alone: no jump leads behind it, and no handler's or abort's
+  -- address lies there; and a thread that comes back by a handler's return goes on as it was: in a lock block
+  -- as at some time in it, in a sync block as when it last left it
   pub locking : (at t : ℕ) (r : ReadRegs) → u.locks at ≡ Some r → MaySet s t e before
       → (file s t (e ∷ before)).pc ≡ at + 4 → HasCome s at 1 0 t e before
   pub syncing : (at t k : ℕ) (r : SyncRegs) → u.syncs at ≡ Some r → 0 < k → k < 17
