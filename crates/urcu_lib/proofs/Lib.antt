@@ -2,12 +2,9 @@ pub mod CallWords
 pub mod CounterLaw
 pub mod EmittedWords
 pub mod GraceLaw
-<<<<<<< HEAD
 pub mod HandlerExample
-pub mod RunTests
-=======
 pub mod LowCode
->>>>>>> h38-premises
+pub mod RunTests
 pub mod SlotLaw
 pub mod SyncState
 pub mod SyncSteps
