@@ -4,10 +4,10 @@
 -- twice, then finds 0, and ends. The program uses the blocks as HoldsUrcu asks.
 use Rattle.std.proofs.Common.{◌≡◌, ℕ, suc, zero, ◌+◌, ◌*◌, ◌^◌, ◌<◌, ◌≤◌, List, [], ◌∷◌, ◌++◌, refl, ap}
 use Rattle.std.proofs.Common.{◌∙◌}
-use Rattle.std.proofs.Common.{subst, arith, true, false, ◌&&◌, Bool, eqb, leb, ltb, Option, Some, None, Ok}
+use Rattle.std.proofs.Common.{subst, arith, true, false, ◌&&◌, Bool, eqb, leb, Option, Some, None, Ok}
 use Rattle.std.proofs.Common.{slice_get}
 use Rattle.std.proofs.Common.{unwrap_or, inl}
-use Rattle.std.proofs.lemmas.Bool.{and_parts, eqb-false, eqb-true, leb-true, ltb-true}
+use Rattle.std.proofs.lemmas.Bool.{and_parts, eqb-false, leb-true, ltb-true}
 use Rattle.elf_load.specs.declared.image.ImagePage.{ImagePage}
 use Rattle.mach_types.specs.Kernel.Areas.{are_readable, number_at}
 use Rattle.mach_types.specs.Kernel.Barriers.{asked as command_asked}
