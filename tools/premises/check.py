@@ -5,10 +5,11 @@ field fails that these words break.
 
     tools/premises/check.py [PROGRAM [LOGS]]
 
-PROGRAM is crates/rseq_run/out/rseq_run where it isn't given. LOGS says with how many seeds a program is drawn
-on 2, 3 and 4 harts (40; a few where a field is to fail). A line tells of each program how many logs there
-are and what comes about in them. Below it stands each field that fails, in how many logs, and in
-which first, at which line; 0 is the program itself. Ends with 1 where something else comes of it than is due.
+PROGRAM is crates/rseq_run/out/rseq_run where it isn't given. LOGS says with how many seeds a program is
+drawn on 2, 3 and 4 harts (40, and hardly fewer than 20; a few where a field is to fail). A line tells of
+each program how many logs there are and what comes about in them. Below it stands each field that fails, in
+how many logs, and in which first, at which line; 0 is the program itself. Ends with 1 where something else
+comes of it than is due.
 """
 from __future__ import annotations
 
@@ -169,7 +170,8 @@ def is_as_due(case: Case, logs: list[Log], found: list[tuple[dict[str, int], Cou
     """Whether what is due is found in the logs of a program; tells what is found."""
     fails = Counter(name for names, _ in found for name in names)
     told = sum((counts for _, counts in found), Counter())
-    print(f'{case.about}: {len(logs)} logs, ' + ', '.join(f'{told[way]} {way}' for way in WAYS))
+    ways = ''.join(f', {told[way]} {way}' for way in WAYS if told[way])
+    print(f'{case.about}: {len(logs)} logs{ways}')
     for name, count in fails.items():
         log, line = next((log, names[name]) for log, (names, _) in zip(logs, found) if name in names)
         print(f'    {name} fails in {count}, first by --harts {log.harts} --seed {log.seed} at line {line}')
