@@ -2,7 +2,9 @@ pub mod CallWords
 pub mod CounterLaw
 pub mod EmittedWords
 pub mod GraceLaw
+pub mod HandlerExample
 pub mod LowCode
+pub mod RunTests
 pub mod SlotLaw
 pub mod SyncState
 pub mod SyncSteps

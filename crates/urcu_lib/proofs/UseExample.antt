@@ -2,11 +2,13 @@
 -- reader's lock has stored the counter in its slot, but the store waits, when the first thread calls
 -- membarrier in a sync block. The store enters memory before the call returns; the sync block finds it there
 -- twice, then finds 0, and ends. The program uses the blocks as HoldsUrcu asks.
-use Rattle.std.proofs.Common.{◌≡◌, ℕ, suc, zero, ◌+◌, ◌*◌, ◌^◌, ◌<◌, List, [], ◌∷◌, ◌++◌, refl, ap}
+use Rattle.std.proofs.Common.{◌≡◌, ℕ, suc, zero, ◌+◌, ◌*◌, ◌^◌, ◌<◌, ◌≤◌, List, [], ◌∷◌, ◌++◌, refl, ap}
 use Rattle.std.proofs.Common.{◌∙◌}
-use Rattle.std.proofs.Common.{subst, arith, true, false, eqb, Option, Some, None, Ok, slice_get}
+use Rattle.std.proofs.Common.{subst, arith, true, false, ◌&&◌, Bool, eqb, leb, Option, Some, None, Ok}
+use Rattle.std.proofs.Common.{slice_get}
 use Rattle.std.proofs.Common.{unwrap_or, inl}
-use Rattle.std.proofs.lemmas.Bool.{eqb-false, leb-true, ltb-true}
+use Rattle.std.proofs.lemmas.Bool.{and_parts, eqb-false, leb-true, ltb-true}
+use Rattle.elf_load.specs.declared.image.ImagePage.{ImagePage}
 use Rattle.mach_types.specs.Kernel.Areas.{are_readable, number_at}
 use Rattle.mach_types.specs.Kernel.Barriers.{asked as command_asked}
 use Rattle.mach_types.specs.declared.events.Choice.{Choice}
@@ -32,7 +34,7 @@ use Rattle.urcu_lib.specs.Sections.{IsLockStore}
 use Rattle.urcu_lib.specs.Uses.{HoldsUrcu, IsStart}
 use Rattle.urcu_lib.specs.declared.regs.ReadRegs.{ReadRegs}
 use Rattle.urcu_lib.specs.declared.regs.SyncRegs.{SyncRegs}
-use Rattle.urcu_lib.proofs.LowCode.{code_low, low_is}
+use Rattle.urcu_lib.proofs.LowCode.{are_low, code_low, low_is}
 use Rattle.urcu_lib.proofs.UseTests.{Layout, all_used, are_fine, is_lock_store, lock_store_is, only, urcu_of}
 
 -- `lui x8, 0x20`, `addi x9, x8, 64`; membarrier(16, 0); clone; the child goes to 0x10074. From 0x10030 on the
@@ -93,7 +95,8 @@ layout = record {
 abbrev pub urcu : Urcu
 urcu = urcu_of layout
 
-abbrev line : ℕ → Choice → Ask
+-- a line of a script, and an entry of a log
+abbrev pub line : ℕ → Choice → Ask
 line h choice = record { hart = record { 0 = h }; choice = choice; check = None }
 
 abbrev lines : List Ask
@@ -143,7 +146,7 @@ lines =
     ∷ line 0 asked.Exec
     ∷ line 0 asked.Exec ∷ []
 
-abbrev entry : ℕ → Kind → ℕ → ℕ → Entry
+abbrev pub entry : ℕ → Kind → ℕ → ℕ → Entry
 entry h k t pc = record { hart = record { 0 = h }; kind = k; tid = record { 0 = t }; pc = pc }
 
 -- up to the store of lock; up to the call; and up to the last instruction of the sync block
@@ -272,7 +275,7 @@ sync_there = (
   ),
 )
 
-is_register : (r : ℕ) → eqb r 0 ≡ false → r < 32 → IsRegister r
+pub is_register : (r : ℕ) → eqb r 0 ≡ false → r < 32 → IsRegister r
 is_register r some low = record { some = eqb-false r 0 some; low = low }
 
 are_read : AreReadRegs read_regs
@@ -307,7 +310,7 @@ kept_9 = record {
   not_17 = eqb-false 9 17 refl;
 }
 
-are_sync : AreSyncRegs sync_regs
+pub are_sync : AreSyncRegs sync_regs
 are_sync = record {
   gp = is_register 8 refl (ltb-true 8 32 refl);
   slots = is_register 9 refl (ltb-true 9 32 refl);
@@ -316,40 +319,62 @@ are_sync = record {
   slots_kept = kept_9;
 }
 
+-- a layout's sync block waits for some slots, and its counter stands before them
+abbrev pub is_sound : Layout → Bool
+is_sound x =
+    leb 1 x.readers
+    && (leb x.readers 63
+    && (leb (x.slots + 64 * x.readers) (2 ^ 64) && leb (x.counter + 8) x.slots))
+
+-- the blocks of a layout are as they should be where their words stand there
+pub blocks_so : (pages : List ImagePage) (x : Layout) → are_low pages ≡ true → is_sound x ≡ true
+    → AreReadRegs x.lock → AreReadRegs x.unlock → AreSyncRegs x.sync
+    → AreThere (code_of pages) x.lock_at (lock_block x.lock)
+    → AreThere (code_of pages) x.unlock_at (unlock_block x.unlock)
+    → AreThere (code_of pages) x.sync_at (sync_block x.sync x.readers) → AreBlocks (code_of pages) (urcu_of x)
+blocks_so pages x low sound lock_regs unlock_regs sync_regs lock_there unlock_there sync_there =
+    let one = and_parts (leb 1 x.readers) _ sound in
+    let two = and_parts (leb x.readers 63) _ one.1 in
+    let three = and_parts (leb (x.slots + 64 * x.readers) (2 ^ 64)) _ two.1 in
+    let high : x.slots + 64 * x.readers ≤ 2 ^ 64 = leb-true (x.slots + 64 * x.readers) (2 ^ 64) three.0 in
+    let front : x.counter + 8 ≤ x.slots = leb-true (x.counter + 8) x.slots three.1 in
+    record {
+      locks = λ at r is.
+          let its = only at x.lock_at x.lock r is in
+          record {
+            holds = λ k i there. ap (λ n. code_of pages (n + 4 * k)) its.0
+                ∙ word_is (code_of pages) (lock_block x.lock) x.lock_at lock_there k i
+                (ap (λ q. slice_get (lock_block q) k) its.1 ∙ there);
+          };
+      unlocks = λ at r is.
+          let its = only at x.unlock_at x.unlock r is in
+          record {
+            holds = λ k i there. ap (λ n. code_of pages (n + 4 * k)) its.0
+                ∙ word_is (code_of pages) (unlock_block x.unlock) x.unlock_at unlock_there k i
+                (ap (λ q. slice_get (unlock_block q) k) its.1 ∙ there);
+          };
+      syncs = λ at r is.
+          let its = only at x.sync_at x.sync r is in
+          record {
+            holds = λ k i there. ap (λ n. code_of pages (n + 4 * k)) its.0
+                ∙ word_is (code_of pages) (sync_block x.sync x.readers) x.sync_at sync_there k i
+                (ap (λ q. slice_get (sync_block q x.readers) k) its.1 ∙ there);
+          };
+      low = code_low pages (low_is pages low);
+      lock_regs = λ at r is. subst AreReadRegs (only at x.lock_at x.lock r is).1 lock_regs;
+      unlock_regs = λ at r is. subst AreReadRegs (only at x.unlock_at x.unlock r is).1 unlock_regs;
+      sync_regs = λ at r is. subst AreSyncRegs (only at x.sync_at x.sync r is).1 sync_regs;
+      one = λ at r is. leb-true 1 x.readers one.0;
+      few = λ at r is. leb-true x.readers 63 two.0;
+      counted = λ at r is. omega arith;
+      low_slots = high;
+      low_counter = omega arith;
+      apart = λ i lt. inl (omega arith);
+    }
+
 blocks : AreBlocks (code_of reading.program.pages) (urcu_of layout)
-blocks = record {
-  locks = λ at r is.
-      let its = only at 0x10074 read_regs r is in
-      record {
-        holds = λ k i there. ap (λ n. code_of reading.program.pages (n + 4 * k)) its.0
-            ∙ word_is (code_of reading.program.pages) (lock_block read_regs) 0x10074 lock_there k i
-            (ap (λ q. slice_get (lock_block q) k) its.1 ∙ there);
-      };
-  unlocks = λ at r is.
-      let its = only at 0x1007C read_regs r is in
-      record {
-        holds = λ k i there. ap (λ n. code_of reading.program.pages (n + 4 * k)) its.0
-            ∙ word_is (code_of reading.program.pages) (unlock_block read_regs) 0x1007C unlock_there k i
-            (ap (λ q. slice_get (unlock_block q) k) its.1 ∙ there);
-      };
-  syncs = λ at r is.
-      let its = only at 0x10030 sync_regs r is in
-      record {
-        holds = λ k i there. ap (λ n. code_of reading.program.pages (n + 4 * k)) its.0
-            ∙ word_is (code_of reading.program.pages) (sync_block sync_regs 1) 0x10030 sync_there k i
-            (ap (λ q. slice_get (sync_block q 1) k) its.1 ∙ there);
-      };
-  low = code_low reading.program.pages (low_is reading.program.pages refl);
-  lock_regs = λ at r is. subst AreReadRegs (only at 0x10074 read_regs r is).1 are_read;
-  unlock_regs = λ at r is. subst AreReadRegs (only at 0x1007C read_regs r is).1 are_read;
-  sync_regs = λ at r is. subst AreSyncRegs (only at 0x10030 sync_regs r is).1 are_sync;
-  one = λ at r is. leb-true 1 1 refl;
-  few = λ at r is. leb-true 1 63 refl;
-  counted = λ at r is. leb-true 1 1 refl;
-  low_slots = leb-true (0x20040 + 64 * 1) (2 ^ 64) refl;
-  low_counter = leb-true (0x20000 + 8) (2 ^ 64) refl;
-  apart = λ i lt. inl (omega arith);
-}
+blocks =
+    blocks_so reading.program.pages layout refl refl are_read are_read are_sync lock_there unlock_there sync_there
 
 start : IsStart reading (urcu_of layout) 1
 start = record {

@@ -1,12 +1,13 @@
 -- Tests of each event of a run that find from its history that a program uses its blocks as it should: what
 -- IsUse asks of each event, by computation. They ask for more than it does.
 use Rattle.std.proofs.Common.{◌≡◌, ◌≢◌, ℕ, zero, suc, ◌+◌, ◌*◌, ◌-◌, ◌/◌, ◌%◌, ◌^◌, ◌<◌, ◌≤◌, List, [], ◌∷◌}
+use Rattle.std.proofs.Common.{◌++◌}
 use Rattle.std.proofs.Common.{refl, sym, ap, ◌∙◌, arith, subst}
 use Rattle.std.proofs.Common.{Bool, true, false, not, ◌&&◌, ◌||◌, ◌⊎◌, inl, inr, cond, eqb, leb, ltb, Option}
 use Rattle.std.proofs.Common.{Some, None, is_none}
 use Rattle.std.proofs.lemmas.Bool.Decides.{nat_tests}
 use Rattle.std.proofs.lemmas.Bool.{and_from, and_parts, cases_eq, eq-eqb, eqb-true, false≢true}
-use Rattle.std.proofs.lemmas.Bool.{le-leb, leb-true, lt-ltb, ltb-true}
+use Rattle.std.proofs.lemmas.Bool.{le-leb, leb-true, lt-ltb, ltb-true, not-true}
 use Rattle.mach_types.specs.Bytes.{byte_of, covers, each_byte, written}
 use Rattle.mach_types.specs.Events.{choice_of}
 use Rattle.mach_types.specs.Kernel.Pages.{can_read, can_write, permission_at}
@@ -24,11 +25,13 @@ use Rattle.alone_laws.specs.Blocks.{among}
 use Rattle.alone_laws.specs.Spans.{IsUsable, Leaves}
 use Rattle.alone_laws.proofs.StoredWords.{among_low}
 use Rattle.fence_laws.specs.Kept.{AreBeside, IsQuiet}
+use Rattle.percpu_lib.proofs.RetryTests.{registers_are, same_registers}
 use Rattle.percpu_lib.proofs.UseTests.{either, follows, implies, is_just}
 use Rattle.urcu_lib.specs.Blocks.{Urcu}
 use Rattle.urcu_lib.specs.Sections.{IsExecAt, IsGraceEnd, IsLockStore, IsSection}
 use Rattle.urcu_lib.specs.Sections.{IsSyncStore, IsSyncing, IsUnlockStore, comes_in, enters, goes, is_in}
-use Rattle.urcu_lib.specs.Uses.{AreUses, HasCome, IsIn, IsUse, acts, counted, goes_on, returns}
+use Rattle.urcu_lib.specs.Uses.{AreElsewhere, AreUses, HasCome, IsElsewhere, IsIn, IsUse, acts, counted}
+use Rattle.urcu_lib.specs.Uses.{goes_on, returns}
 use Rattle.urcu_lib.specs.declared.regs.ReadRegs.{ReadRegs}
 use Rattle.urcu_lib.specs.declared.regs.SyncRegs.{SyncRegs}
 
@@ -72,7 +75,7 @@ only at p v r is = by_test (eqb at p) refl is
     by_test true same found = (eqb-true at p same, same_some v r found)
     by_test false other found = absurd (no_some r found)
 
-exec_is : (c : Choice) → is_exec c ≡ true → c ≡ asked.Exec
+pub exec_is : (c : Choice) → is_exec c ≡ true → c ≡ asked.Exec
 exec_is asked.Exec is = refl
 exec_is asked.Drain is = absurd (false≢true is)
 exec_is asked.Take is = absurd (false≢true is)
@@ -248,6 +251,38 @@ it_executes at e is =
     let parts = and_parts (is_exec (choice_of e.entry)) (eqb e.entry.pc at) is in
     record { executes = exec_is (choice_of e.entry) parts.0; pc = eqb-true e.entry.pc at parts.1 }
 
+-- a thread's file is another
+abbrev pub is_file : Saved → Saved → Bool
+is_file f g = eqb f.pc g.pc && same_registers f.file g.file
+
+pub saved_is : (f g : Saved) → is_file f g ≡ true → f ≡ g
+saved_is f g is =
+    let parts = and_parts (eqb f.pc g.pc) (same_registers f.file g.file) is in
+    let pc = eqb-true f.pc g.pc parts.0 in
+    let registers = registers_are f.file g.file parts.1 in
+    λ i. record { file = registers i; pc = pc i }
+
+-- the event executes one of so many instructions of a block for a thread
+abbrev acts_in : ℕ → ℕ → Event → ℕ → Bool
+acts_in count at e t = is_exec (choice_of e.entry) && (eqb e.entry.tid.0 t && is_in_block count at e.entry.pc)
+
+-- an earlier place at which a thread had a file, since which it has executed no instruction of the sync block
+record HadIt (s : Setting) (at t : ℕ) (f : Saved) (before : History) : Type 0 where
+  old : History
+  since : List Event
+  parts : before ≡ since ++ old
+  apart : AreElsewhere at 17 t since
+  same : f ≡ file s t old
+
+elsewhere : (count at t : ℕ) (e : Event) → acts_in count at e t ≡ false → IsElsewhere at count t e
+elsewhere count at t e isnt = λ executes of within.
+    false≢true
+    (sym isnt
+    ∙ and_from (is_exec (choice_of e.entry)) (eqb e.entry.tid.0 t && is_in_block count at e.entry.pc)
+    (ap is_exec executes)
+    (and_from (eqb e.entry.tid.0 t) (is_in_block count at e.entry.pc) (eq-eqb e.entry.tid.0 t of)
+    (is_in_of count at e.entry.pc within)))
+
 module _ (s : Setting) (x : Layout) (first : ℕ) where
   abbrev u : Urcu
   u = urcu_of x
@@ -307,23 +342,36 @@ module _ (s : Setting) (x : Layout) (first : ℕ) where
       && implies (executes x.sync_at e) (is_none (who_syncs before)))
 
   -- each thread whose file is set comes to stand in a block as it should
-  abbrev acts_in : ℕ → ℕ → Event → ℕ → Bool
-  acts_in count at e t = is_exec (choice_of e.entry) &&
-      (eqb e.entry.tid.0 t && is_in_block count at e.entry.pc)
-
   abbrev is_returned : Event → History → ℕ → ℕ → Bool
   is_returned e before t pc = is_done (choice_of e.entry) &&
       (eqb (file s t before).pc (x.sync_at + 20) && eqb pc (x.sync_at + 20))
 
-  abbrev comes : Event → History → ℕ → ℕ → Bool
-  comes e before t pc =
-      implies (eqb pc (x.lock_at + 4)) (acts_in 1 x.lock_at e t)
-      && implies (is_in_block 17 x.sync_at pc && ltb x.sync_at pc)
-      (acts_in 17 x.sync_at e t || is_returned e before t pc)
+  -- since a thread last executed an instruction of the sync block, it has had this file
+  abbrev has_had : ℕ → Saved → History → Bool
+  has_had t f [] = is_file f (file s t [])
+  has_had t f (e ∷ before) =
+      is_file f (file s t (e ∷ before)) || (not (acts_in 17 x.sync_at e t) && has_had t f before)
+
+  -- it stands in the sync block behind the first instruction, and has come there neither by an instruction of the
+  -- block nor by its barrier's return; then it has stood there so (asked only where it is needed, since it looks far
+  -- back)
+  abbrev is_set_back : Event → History → ℕ → Saved → Bool
+  is_set_back e before t f =
+      is_in_block 17 x.sync_at f.pc
+      && (ltb x.sync_at f.pc && not (acts_in 17 x.sync_at e t || is_returned e before t f.pc))
+
+  abbrev has_stood : Bool → Event → History → ℕ → Saved → Bool
+  has_stood false e before t f = true
+  has_stood true e before t f = not (acts_in 17 x.sync_at e t) && has_had t f before
+
+  abbrev comes : Event → History → ℕ → Saved → Bool
+  comes e before t f =
+      implies (eqb f.pc (x.lock_at + 4)) (acts_in 1 x.lock_at e t)
+      && has_stood (is_set_back e before t f) e before t f
 
   abbrev all_come : Event → History → List (ℕ × Saved) → Bool
   all_come e before [] = true
-  all_come e before (p ∷ ps) = comes e before p.0 p.1.pc && all_come e before ps
+  all_come e before (p ∷ ps) = comes e before p.0 p.1 && all_come e before ps
 
   -- registers at the first instructions of blocks
   abbrev registers_fine : Event → History → Bool
@@ -408,6 +456,33 @@ module _ (s : Setting) (x : Layout) (first : ℕ) where
   sync_store_of : (e : Event) → IsSyncStore u e → is_sync_store e ≡ true
   sync_store_of e it = executes_it (x.sync_at + 28) e
       (subst (λ n. IsExecAt (n + 28) e) (sync_of it.place it.regs it.block) it.exec)
+
+  -- how a thread stood
+  had_so : (t : ℕ) (f : Saved) (before : History) → has_had t f before ≡ true → HadIt s x.sync_at t f before
+  had_so t f [] is = record { old = []; since = []; parts = refl; apart = tt; same = saved_is f (file s t []) is }
+  had_so t f (e ∷ before) is =
+      by_one (either (is_file f (file s t (e ∷ before))) _ is) (had_so t f before)
+    where
+      by_one : (is_file f (file s t (e ∷ before)) ≡ true)
+          ⊎ (not (acts_in 17 x.sync_at e t) && has_had t f before ≡ true)
+          → (has_had t f before ≡ true → HadIt s x.sync_at t f before) → HadIt s x.sync_at t f (e ∷ before)
+      by_one (inl here) rest = record {
+        old = e ∷ before;
+        since = [];
+        parts = refl;
+        apart = tt;
+        same = saved_is f (file s t (e ∷ before)) here;
+      }
+      by_one (inr more) rest =
+          let both = and_parts (not (acts_in 17 x.sync_at e t)) (has_had t f before) more in
+          let was = rest both.1 in
+          record {
+            old = was.old;
+            since = e ∷ was.since;
+            parts = ap (λ h. e ∷ h) was.parts;
+            apart = (was.apart, elsewhere 17 x.sync_at t e (not-true (acts_in 17 x.sync_at e t) both.0));
+            same = was.same;
+          }
 
   -- sections
   section_is : (i : ℕ) (begun now : History) → IsSection s u i begun now → has_section i now ≡ true
@@ -561,19 +636,19 @@ module _ (s : Setting) (x : Layout) (first : ℕ) where
 
     -- how a thread comes to stand in a block: its file is as it was, or among those that are set
     found : (t : ℕ) (g : Saved) (files : List (ℕ × Saved)) → all_come e before files ≡ true
-        → (file_among files t g ≡ g) ⊎ (comes e before t (file_among files t g).pc ≡ true)
+        → (file_among files t g ≡ g) ⊎ (comes e before t (file_among files t g) ≡ true)
     found t g [] all = inl refl
     found t g (p ∷ ps) all =
-        let parts = and_parts (comes e before p.0 p.1.pc) (all_come e before ps) all in
+        let parts = and_parts (comes e before p.0 p.1) (all_come e before ps) all in
         by_pair parts.0 (found t g ps parts.1) (eqb p.0 t) refl
       where
-        by_pair : comes e before p.0 p.1.pc ≡ true
-            → (file_among ps t g ≡ g) ⊎ (comes e before t (file_among ps t g).pc ≡ true) → (b : Bool)
+        by_pair : comes e before p.0 p.1 ≡ true
+            → (file_among ps t g ≡ g) ⊎ (comes e before t (file_among ps t g) ≡ true) → (b : Bool)
             → eqb p.0 t ≡ b
             → (cond b p.1 (file_among ps t g) ≡ g)
-            ⊎ (comes e before t (cond b p.1 (file_among ps t g)).pc ≡ true)
+            ⊎ (comes e before t (cond b p.1 (file_among ps t g)) ≡ true)
         by_pair its rest true same = inr
-            (subst (λ n. comes e before n p.1.pc ≡ true) (eqb-true p.0 t same) its)
+            (subst (λ n. comes e before n p.1 ≡ true) (eqb-true p.0 t same) its)
         by_pair its rest false other = rest
 
     acts_it : (count at t kept : ℕ) → acts_in count at e t ≡ true → HasCome s at count kept t e before
@@ -595,12 +670,8 @@ module _ (s : Setting) (x : Layout) (first : ℕ) where
             goes_on before [] refl (
               tt,
               λ executes of within.
-                  false≢true (sym isnt
-                  ∙ and_from (is_exec (choice_of e.entry))
-                  (eqb e.entry.tid.0 t && is_in_block count at e.entry.pc) (ap is_exec executes)
-                  (and_from (eqb e.entry.tid.0 t) (is_in_block count at e.entry.pc)
-                  (eq-eqb e.entry.tid.0 t of)
-                  (is_in_of count at e.entry.pc (within.0, let lt = within.1 in omega arith, within.2)))),
+                  elsewhere count at t e isnt executes of
+                  (within.0, let lt = within.1 in omega arith, within.2),
             )
             same
 
@@ -613,7 +684,7 @@ module _ (s : Setting) (x : Layout) (first : ℕ) where
         place = (only at x.lock_at x.lock r block).0
 
         by_file : (file s t (e ∷ before) ≡ file s t before)
-            ⊎ (comes e before t (file s t (e ∷ before)).pc ≡ true) → HasCome s x.lock_at 1 0 t e before
+            ⊎ (comes e before t (file s t (e ∷ before)) ≡ true) → HasCome s x.lock_at 1 0 t e before
         by_file (inl same) = stays 1 x.lock_at t 0 (omega arith) same
         by_file (inr is) =
             let first_test =
@@ -624,6 +695,45 @@ module _ (s : Setting) (x : Layout) (first : ℕ) where
             (follows (eqb (file s t (e ∷ before)).pc (x.lock_at + 4)) (acts_in 1 x.lock_at e t) first_test
             (eq-eqb (file s t (e ∷ before)).pc (x.lock_at + 4) (there ∙ ap (λ n. n + 4) place)))
 
+    -- in a sync block
+    module _ (t : ℕ) where
+      abbrev f : Saved
+      f = file s t (e ∷ before)
+
+      returned : is_returned e before t f.pc ≡ true → HasCome s x.sync_at 17 17 t e before
+      returned is =
+          let parts = and_parts (is_done (choice_of e.entry))
+          (eqb (file s t before).pc (x.sync_at + 20) && eqb f.pc (x.sync_at + 20)) is in
+          let more = and_parts (eqb (file s t before).pc (x.sync_at + 20)) (eqb f.pc (x.sync_at + 20)) parts.1 in
+          returns (done_is (choice_of e.entry) parts.0)
+          (eqb-true (file s t before).pc (x.sync_at + 20) more.0) (eqb-true f.pc (x.sync_at + 20) more.1)
+
+      came_back : acts_in 17 x.sync_at e t ≡ false → has_stood true e before t f ≡ true
+          → HasCome s x.sync_at 17 17 t e before
+      came_back isnt stood =
+          let was = had_so t f before (and_parts (not (acts_in 17 x.sync_at e t)) (has_had t f before) stood).1 in
+          goes_on was.old was.since was.parts (was.apart, elsewhere 17 x.sync_at t e isnt) was.same
+
+      set_back : (k : ℕ) → 0 < k → k < 17 → f.pc ≡ x.sync_at + 4 * k → acts_in 17 x.sync_at e t ≡ false
+          → is_returned e before t f.pc ≡ false → is_set_back e before t f ≡ true
+      set_back k some lt here isnt other =
+          let behind : x.sync_at < f.pc = omega arith in
+          and_from (is_in_block 17 x.sync_at f.pc)
+          (ltb x.sync_at f.pc && not (acts_in 17 x.sync_at e t || is_returned e before t f.pc))
+          (is_in_of 17 x.sync_at f.pc (k, lt, here))
+          (and_from (ltb x.sync_at f.pc) (not (acts_in 17 x.sync_at e t || is_returned e before t f.pc))
+          (lt-ltb x.sync_at f.pc behind)
+          (ap (λ b. not (b || is_returned e before t f.pc)) isnt ∙ ap not other))
+
+      by_way : (k : ℕ) → 0 < k → k < 17 → f.pc ≡ x.sync_at + 4 * k
+          → has_stood (is_set_back e before t f) e before t f ≡ true → (a b : Bool) → acts_in 17 x.sync_at e t ≡ a
+          → is_returned e before t f.pc ≡ b → HasCome s x.sync_at 17 17 t e before
+      by_way k some lt here stood true b is other = acts_it 17 x.sync_at t 17 is
+      by_way k some lt here stood false true isnt is = returned is
+      by_way k some lt here stood false false isnt other =
+          came_back isnt
+          (subst (λ b. has_stood b e before t f ≡ true) (set_back k some lt here isnt other) stood)
+
     syncing_at : (at t k : ℕ) (r : SyncRegs) → u.syncs at ≡ Some r → 0 < k → k < 17
         → (file s t (e ∷ before)).pc ≡ at + 4 * k
         → HasCome s at 17 17 t e before
@@ -633,41 +743,14 @@ module _ (s : Setting) (x : Layout) (first : ℕ) where
         place : at ≡ x.sync_at
         place = sync_of at r block
 
-        here : (file s t (e ∷ before)).pc ≡ x.sync_at + 4 * k
-        here = there ∙ ap (λ n. n + 4 * k) place
-
-        behind : (file s t (e ∷ before)).pc ≡ x.sync_at + 4 * k → x.sync_at < (file s t (e ∷ before)).pc
-        behind is = omega arith
-
-        by_kind : (acts_in 17 x.sync_at e t ≡ true)
-            ⊎ (is_returned e before t (file s t (e ∷ before)).pc ≡ true)
-            → HasCome s x.sync_at 17 17 t e before
-        by_kind (inl is) = acts_it 17 x.sync_at t 17 is
-        by_kind (inr is) =
-            let parts = and_parts (is_done (choice_of e.entry))
-            (eqb (file s t before).pc (x.sync_at + 20) && eqb (file s t (e
-            ∷ before)).pc (x.sync_at + 20)) is in
-            let more = and_parts (eqb (file s t before).pc (x.sync_at + 20))
-            (eqb (file s t (e ∷ before)).pc (x.sync_at + 20)) parts.1 in
-            returns (done_is (choice_of e.entry) parts.0)
-            (eqb-true (file s t before).pc (x.sync_at + 20) more.0)
-            (eqb-true (file s t (e ∷ before)).pc (x.sync_at + 20) more.1)
-
         by_file : (file s t (e ∷ before) ≡ file s t before)
-            ⊎ (comes e before t (file s t (e ∷ before)).pc ≡ true) → HasCome s x.sync_at 17 17 t e before
+            ⊎ (comes e before t (file s t (e ∷ before)) ≡ true) → HasCome s x.sync_at 17 17 t e before
         by_file (inl same) = stays 17 x.sync_at t 17 (omega arith) same
         by_file (inr is) =
-            let second =
+            by_way t k some lt (there ∙ ap (λ n. n + 4 * k) place)
             (and_parts
-            (implies (eqb (file s t (e
-            ∷ before)).pc (x.lock_at + 4)) (acts_in 1 x.lock_at e t)) _ is).1 in
-            by_kind (either (acts_in 17 x.sync_at e t) (is_returned e before t (file s t (e ∷ before)).pc)
-            (follows (is_in_block 17 x.sync_at (file s t (e ∷ before)).pc && ltb x.sync_at
-            (file s t (e ∷ before)).pc) _ second
-            (and_from (is_in_block 17 x.sync_at (file s t (e ∷ before)).pc)
-            (ltb x.sync_at (file s t (e ∷ before)).pc)
-            (is_in_of 17 x.sync_at (file s t (e ∷ before)).pc (k, lt, here))
-            (lt-ltb x.sync_at (file s t (e ∷ before)).pc (behind here)))))
+            (implies (eqb (file s t (e ∷ before)).pc (x.lock_at + 4)) (acts_in 1 x.lock_at e t)) _ is).1
+            (acts_in 17 x.sync_at e t) (is_returned e before t (file s t (e ∷ before)).pc) refl refl
 
     -- registers
     abbrev lock_registers : Bool

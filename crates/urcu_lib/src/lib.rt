@@ -18,6 +18,6 @@ pub use reads::{emit_read_lock, emit_read_unlock};
 pub use regs::{ReadRegs, SyncRegs};
 pub use syncs::emit_sync;
 pub use theorems::{
-    files_hold_rcu_blocks, sections_end_before_grace_periods, sync_blocks_are_used,
-    sync_is_soon_over,
+    files_hold_rcu_blocks, handlers_return_to_sync_blocks, sections_end_before_grace_periods,
+    sync_blocks_are_used, sync_is_soon_over,
 };

@@ -2,6 +2,7 @@
 
 ghost use Rattle.std.specs.Prelude.{ℕ, List, [], ◌∷◌, ◌++◌, Some, length, ◌≡◌, ◌≤◌, ◌+◌, ◌*◌};
 ghost use Rattle.mach_types.specs.declared.events.Entry.{Entry};
+ghost use Rattle.mach_types.specs.declared.events.Kind.TheVariants as kind;
 ghost use Rattle.block_model.specs.Deciding.{event, history};
 ghost use Rattle.block_model.specs.History.{Event, History, file};
 ghost use Rattle.block_model.specs.Run.{IsBlockRun};
@@ -18,7 +19,7 @@ ghost use Rattle.urcu_lib.specs.Lines.{AreFree, lock_lines, sync_lines, unlock_l
 ghost use Rattle.urcu_lib.specs.declared.regs.ReadRegs.{ReadRegs};
 ghost use Rattle.urcu_lib.specs.declared.regs.SyncRegs.{SyncRegs};
 ghost use Rattle.urcu_lib.specs.Sections.{HaveEnded, IsExecAt, IsGraceBegin, IsGraceEnd, IsLockStore};
-ghost use Rattle.urcu_lib.specs.Stretch.{HasFinished, HasNewCounter, IsCounterGrown, Runs};
+ghost use Rattle.urcu_lib.specs.Stretch.{HasFinished, HasNewCounter, IsCounterGrown, IsPassing, Runs};
 ghost use Rattle.urcu_lib.specs.Uses.{HoldsUrcu};
 
 /// In a block run each section of a slot for which a sync block waits, and which began before a grace period
@@ -64,6 +65,35 @@ pub fn sync_blocks_are_used()
         × IsLockStore s u 0 (event s (history s first) lock) (history s first)
         × IsGraceBegin at t (event s (history s (first ++ lock ∷ second)) call)
         × IsGraceEnd at t (event s (history s (first ++ lock ∷ (second ++ call ∷ third))) last) }
+{}
+
+/// It can be met too where a handler interrupts a sync block: there is a block run in which a thread calls membarrier
+/// in a sync block of two slots while a section of slot 0 goes on, loads a slot and has to load it again, and is
+/// interrupted there by a signal. The handler returns, the thread goes on as it was and comes to the block's last
+/// instruction. Later it comes to the block again, runs there as `sync_is_soon_over` asks, for as long as that says,
+/// and comes to its last instruction.
+pub fn handlers_return_to_sync_blocks()
+    ensures { (s : Setting) × (first second third fourth fifth sixth seventh : List Entry)
+        × (eighth ninth : List Entry) × (lock call signal back last again over : Entry) × (u : Urcu) × (at t : ℕ)
+        × (r : SyncRegs)
+        × (let begun : List Entry = first ++ lock ∷ second in
+        let in_loop : List Entry = begun ++ call ∷ third in
+        let come_back : List Entry = in_loop ++ signal ∷ (fourth ++ back ∷ []) in
+        let waited : List Entry = come_back ++ fifth in
+        let at_start : List Entry = waited ++ last ∷ sixth in
+        let called_again : List Entry = at_start ++ seventh in
+        let to_over : List Entry = called_again ++ again ∷ eighth in
+        let log : List Entry = to_over ++ over ∷ ninth in
+        IsBlockRun s log × HoldsUrcu s u (history s log) × (u.syncs at ≡ Some r) × (u.readers at ≡ 2)
+        × IsLockStore s u 0 (event s (history s first) lock) (history s first)
+        × IsGraceBegin at t (event s (history s begun) call)
+        × ((file s t (history s in_loop)).pc ≡ at + 40) × (IsPassing (file s t (history s in_loop)).file → ⊥)
+        × (signal.kind ≡ kind.Signal) × (signal.tid.0 ≡ t)
+        × (file s t (history s come_back) ≡ file s t (history s in_loop))
+        × IsGraceEnd at t (event s (history s waited) last) × ((file s t (history s at_start)).pc ≡ at)
+        × Runs s at t (history s at_start) (history s log) (11 + 6 * u.readers at)
+        × IsGraceBegin at t (event s (history s called_again) again)
+        × IsGraceEnd at t (event s (history s to_over) over)) }
 {}
 
 /// The program of a file holds the instructions of a block where finished code stands to which the block's

@@ -4,6 +4,7 @@ may answer."""
 from collections.abc import Callable
 
 WRITE, WRITEV, EXIT, EXIT_GROUP, FUTEX, RT_SIGRETURN, CLONE, MEMBARRIER = 64, 66, 93, 94, 98, 139, 220, 283
+TKILL, RT_SIGACTION, MPROTECT, RSEQ = 130, 134, 226, 293
 WRITES = (WRITE, WRITEV)
 WITHOUT_ANSWER = (EXIT, EXIT_GROUP, RT_SIGRETURN)
 
@@ -17,9 +18,9 @@ NAMES = {
     122: 'sched_setaffinity',
     123: 'sched_getaffinity',
     124: 'sched_yield',
-    130: 'tkill',
+    TKILL: 'tkill',
     131: 'tgkill',
-    134: 'rt_sigaction',
+    RT_SIGACTION: 'rt_sigaction',
     135: 'rt_sigprocmask',
     RT_SIGRETURN: 'rt_sigreturn',
     168: 'getcpu',
@@ -29,9 +30,9 @@ NAMES = {
     215: 'munmap',
     CLONE: 'clone',
     222: 'mmap',
-    226: 'mprotect',
+    MPROTECT: 'mprotect',
     MEMBARRIER: 'membarrier',
-    293: 'rseq',
+    RSEQ: 'rseq',
 }
 
 
