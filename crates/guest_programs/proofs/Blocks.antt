@@ -165,10 +165,10 @@ holds Migrate n pages stand read =
     holds_block add_lines FIRST_TABLE 92 14 4 pages (guest_instructions Migrate) (data_words (model Migrate) n)
     (omega arith) (λ e. omega arith) (omega arith) (omega arith) stand read refl refl refl
 holds Ring n pages stand read = (
-  holds_block (λ p base. ring_put_lines p base 4) FIRST_TABLE 114 45 4 pages (guest_instructions Ring)
+  holds_block (λ p base. ring_put_lines p base 4) FIRST_TABLE 114 46 4 pages (guest_instructions Ring)
       (data_words (model Ring) n) (omega arith) (λ e. omega arith) (omega arith) (omega arith) stand read refl refl
       refl,
-  holds_block (λ p base. ring_get_lines p base 4) SECOND_TABLE 166 45 8 pages (guest_instructions Ring)
+  holds_block (λ p base. ring_get_lines p base 4) SECOND_TABLE 167 46 8 pages (guest_instructions Ring)
       (data_words (model Ring) n) (omega arith) (λ e. omega arith) (omega arith) (omega arith) stand read refl refl
       refl,
 )

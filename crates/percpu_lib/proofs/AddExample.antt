@@ -2,7 +2,7 @@
 -- add block. It is preempted inside, begins anew at the abort handler, and adds once. It uses the block as
 -- HoldsAdd asks.
 use Rattle.std.proofs.Common.{◌≡◌, ℕ, ◌+◌, List, [], ◌∷◌, ◌++◌, replicate, take, drop, refl}
-use Rattle.std.proofs.Common.{true, Some, Ok, ◌⊎◌, inl, inr}
+use Rattle.std.proofs.Common.{true, Some, Ok}
 use Rattle.mach_types.specs.Kernel.Areas.{are_readable, is_inside, number_at}
 use Rattle.mach_types.specs.declared.events.Choice.TheVariants as asked
 use Rattle.mach_types.specs.declared.events.Entry.{Entry}
@@ -18,7 +18,7 @@ use Rattle.block_model.specs.Replay.{Ask, played}
 use Rattle.block_model.specs.Run.{IsBlockRun}
 use Rattle.block_model.specs.Setting.{Setting}
 use Rattle.block_model.proofs.Laws.{played_is_run}
-use Rattle.alone_laws.specs.Retries.{Retries, begins, goes_on, walks}
+use Rattle.alone_laws.specs.Retries.{Retries}
 use Rattle.alone_laws.specs.Spans.{code_of}
 use Rattle.alone_laws.specs.Undisturbed.{IsUndisturbed}
 use Rattle.alone_laws.specs.Uses.{CanAlwaysBegin}
@@ -27,7 +27,7 @@ use Rattle.percpu_lib.specs.Uses.{HoldsAdd, SharesArea, add_form, cells_of}
 use Rattle.percpu_lib.specs.declared.slots.Slots.{Slots}
 use Rattle.percpu_lib.proofs.ExampleParts.{AreThere, entry, holds_so, line}
 use Rattle.percpu_lib.proofs.FormTests.{add_tested}
-use Rattle.percpu_lib.proofs.RetryTests.{registers_are, same_registers, walk_found, walks_at_work}
+use Rattle.percpu_lib.proofs.RetryParts.{calm_so, is_retried, retried_so}
 use Rattle.percpu_lib.proofs.ShareTests.{all_shares, none_other, shares_so}
 use Rattle.percpu_lib.proofs.UseTests.{all_can_begin, always_begins_freely, are_fine}
 
@@ -182,9 +182,6 @@ pub begins_anew : (file adding 1 (history adding earlier)).pc ≡ at
 unfolding decide history done meaning row_of rows lui_rows auipc_rows jal_rows jalr_rows branch_rows load_rows store_rows op_imm_rows op_imm_32_rows op_rows op_32_rows misc_mem_rows amo_rows system_rows are_readable number_at
 begins_anew = refl
 
-instruction : (h : ℕ) → h ≡ 0 → (kind.Exec ≡ kind.Exec) ⊎ (kind.Exec ≡ kind.Drain)
-instruction h own = inl refl
-
 shares_fine : shares_so adding (add_form slots) (add_tested slots) at area 1 [] (history adding log) ≡ true
 unfolding decide history done meaning row_of rows lui_rows auipc_rows jal_rows jalr_rows branch_rows load_rows store_rows op_imm_rows op_imm_32_rows op_rows op_32_rows misc_mem_rows amo_rows system_rows are_readable number_at
 shares_fine = refl
@@ -194,87 +191,19 @@ pub shares : SharesArea adding (history adding log) slots at area 1 []
 shares = all_shares adding (add_form slots) (add_tested slots) at area 1 [] (history adding log) is_run.allowed fine shares_fine (λ other has. absurd (none_other other has))
 
 pub undisturbed : IsUndisturbed 0 rest
-undisturbed = (
-  instruction 0,
-  (
-    instruction 0,
-    (
-      instruction 0,
-      (
-        instruction 0,
-        (
-          instruction 0,
-          (
-            instruction 0,
-            (
-              (λ own. inr refl),
-              (instruction 0, (instruction 0, (instruction 0, (instruction 0, (instruction 0, tt))))),
-            ),
-          ),
-        ),
-      ),
-    ),
-  ),
-)
+undisturbed = calm_so rest refl
 
 -- before that it was at the retry label a first time. From there it walked to the seventh word of the block; it was
 -- preempted there, and began to run again at the abort handler; and from there it walked back
 abbrev pub first_time : List Entry
 first_time = take 9 log
 
-abbrev to_seventh : List Entry
-to_seventh = take 7 (drop 9 log)
-
-abbrev interrupted : List Entry
-interrupted = take 2 (drop 16 log)
-
-abbrev back : List Entry
-back = take 1 (drop 18 log)
-
-runs_first : running adding 0 (history adding first_time) ≡ Some 1
+comes_back : is_retried adding (placed_add slots at area) 1 first_time (take 7 (drop 9 log)) (take 2 (drop 16 log))
+    (take 1 (drop 18 log)) ≡ true
 unfolding decide history done meaning row_of rows lui_rows auipc_rows jal_rows jalr_rows branch_rows load_rows store_rows op_imm_rows op_imm_32_rows op_rows op_32_rows misc_mem_rows amo_rows system_rows are_readable number_at
-runs_first = refl
-
-at_first : (file adding 1 (history adding first_time)).pc ≡ at
-unfolding decide history done meaning row_of rows lui_rows auipc_rows jal_rows jalr_rows branch_rows load_rows store_rows op_imm_rows op_imm_32_rows op_rows op_32_rows misc_mem_rows amo_rows system_rows are_readable number_at
-at_first = refl
-
-walks_on : walks_at_work adding (placed_add slots at area) 0 1 first_time to_seventh ≡ true
-unfolding decide history done meaning row_of rows lui_rows auipc_rows jal_rows jalr_rows branch_rows load_rows store_rows op_imm_rows op_imm_32_rows op_rows op_32_rows misc_mem_rows amo_rows system_rows are_readable number_at
-walks_on = refl
-
-registers_stay : same_registers (file adding 1 (history adding (first_time ++ to_seventh ++ interrupted))).file
-    (file adding 1 (history adding (first_time ++ to_seventh))).file ≡ true
-unfolding decide history done meaning row_of rows lui_rows auipc_rows jal_rows jalr_rows branch_rows load_rows store_rows op_imm_rows op_imm_32_rows op_rows op_32_rows misc_mem_rows amo_rows system_rows are_readable number_at
-registers_stay = refl
-
-in_sequence : is_inside (add_range at) (file adding 1 (history adding (first_time ++ to_seventh))).pc ≡ true
-unfolding decide history done meaning row_of rows lui_rows auipc_rows jal_rows jalr_rows branch_rows load_rows store_rows op_imm_rows op_imm_32_rows op_rows op_32_rows misc_mem_rows amo_rows system_rows are_readable number_at
-in_sequence = refl
-
-at_handler : (file adding 1 (history adding (first_time ++ to_seventh ++ interrupted))).pc ≡ (add_range at).abort
-unfolding decide history done meaning row_of rows lui_rows auipc_rows jal_rows jalr_rows branch_rows load_rows store_rows op_imm_rows op_imm_32_rows op_rows op_32_rows misc_mem_rows amo_rows system_rows are_readable number_at
-at_handler = refl
-
-runs_again : running adding 0 (history adding (first_time ++ to_seventh ++ interrupted)) ≡ Some 1
-unfolding decide history done meaning row_of rows lui_rows auipc_rows jal_rows jalr_rows branch_rows load_rows store_rows op_imm_rows op_imm_32_rows op_rows op_32_rows misc_mem_rows amo_rows system_rows are_readable number_at
-runs_again = refl
-
-walks_back : walks_at_work adding (placed_add slots at area) 0 1 (first_time ++ to_seventh ++ interrupted) back
-    ≡ true
-unfolding decide history done meaning row_of rows lui_rows auipc_rows jal_rows jalr_rows branch_rows load_rows store_rows op_imm_rows op_imm_32_rows op_rows op_32_rows misc_mem_rows amo_rows system_rows are_readable number_at
-walks_back = refl
+comes_back = refl
 
 pub retried : Retries adding (placed_add slots at area) 1 first_time earlier
 retried =
-    walks 0 (first_time ++ to_seventh ++ interrupted) back
-    (goes_on (first_time ++ to_seventh) interrupted
-    (walks 0 first_time to_seventh (begins at_first)
-    (walk_found adding (placed_add slots at area) 0 1 to_seventh first_time runs_first walks_on))
-    (record {
-      registers = registers_are (file adding 1 (history adding (first_time ++ to_seventh ++ interrupted))).file
-          (file adding 1 (history adding (first_time ++ to_seventh))).file registers_stay;
-      pc = inr (in_sequence, at_handler);
-    }))
-    (walk_found adding (placed_add slots at area) 0 1 back (first_time ++ to_seventh ++ interrupted) runs_again
-    walks_back)
+    retried_so adding (placed_add slots at area) 1 first_time (take 7 (drop 9 log)) (take 2 (drop 16 log))
+    (take 1 (drop 18 log)) comes_back

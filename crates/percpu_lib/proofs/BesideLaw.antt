@@ -2,7 +2,7 @@
 -- x5, a LUI, an ADDI and a store, maybe behind a copy, and a sequence begins with a load into x6, ends with a store and
 -- has neither of the first two.
 use Rattle.std.proofs.Common.{◌≡◌, ℕ, zero, suc, ◌+◌, ◌*◌, ◌-◌, ◌/◌, ◌%◌, ◌<◌, ◌≤◌, ◌^◌, List, [], ◌∷◌, length, refl, sym, ap, ◌∙◌}
-use Rattle.std.proofs.Common.{arith, Bool, true, false, eqb, Option, Some, slice_get, pos, inl, inr, ◌⊎◌}
+use Rattle.std.proofs.Common.{◌++◌, arith, Bool, true, false, eqb, Option, Some, slice_get, pos, inl, inr, ◌⊎◌}
 use Rattle.std.specs.Option.{option_map}
 use Rattle.std.proofs.lemmas.Bool.{cases_lt, false≢true, ltb-true}
 use Rattle.elf_load.specs.declared.image.ImagePage.{ImagePage}
@@ -16,12 +16,14 @@ use Rattle.alone_laws.specs.Spans.{code_of}
 use Rattle.alone_laws.specs.Uses.{Placed, is_before}
 use Rattle.percpu_lib.specs.Adds.{add_steps}
 use Rattle.percpu_lib.specs.Allocs.{alloc_steps}
-use Rattle.percpu_lib.specs.Beside.{HoldsSequence, IsOfLibrary, is_add, is_alloc, is_free, is_pop, is_push, sequence_lines}
+use Rattle.percpu_lib.specs.Beside.{HoldsSequence, IsOfLibrary, is_add, is_alloc, is_free, is_pop, is_push, is_ring_get, is_ring_put, sequence_lines}
 use Rattle.percpu_lib.specs.Forms.{Form, placed_of}
 use Rattle.percpu_lib.specs.Frees.{free_steps}
 use Rattle.percpu_lib.specs.Lines.{instructions}
 use Rattle.percpu_lib.specs.Pops.{pop_steps}
 use Rattle.percpu_lib.specs.Pushes.{push_steps}
+use Rattle.percpu_lib.specs.Rings.{get_steps, get_word, get_words, put_steps, put_word, put_words}
+use Rattle.percpu_lib.specs.declared.lines.Line.TheVariants as line
 use Rattle.percpu_lib.specs.Words.{AreHeld, lower, upper}
 use Rattle.percpu_lib.specs.declared.lines.Line.{Line}
 use Rattle.percpu_lib.specs.declared.slots.Slots.{Slots}
@@ -69,6 +71,129 @@ to_leave a b o n to bound = record {
   is = ap (option_map (λ t. aimed (inst.Beq a b (pos 0)) (distance n t))) bound;
   late = refl;
 }
+
+to_leave_not : (a b : ℕ) (o : Option ℕ) (n to : ℕ) → o ≡ Some to
+    → IsLate (option_map (λ t. aimed (inst.Bne a b (pos 0)) (distance n t)) o)
+to_leave_not a b o n to bound = record {
+  instruction = inst.Bne a b (distance n to);
+  is = ap (option_map (λ t. aimed (inst.Bne a b (pos 0)) (distance n t))) bound;
+  late = refl;
+}
+
+-- lines of instructions that aren't early
+abbrev AreLateLines : List Line → Type 0
+AreLateLines [] = Unit {0}
+AreLateLines (line.Label n ∷ rest) = ⊥
+AreLateLines (line.Plain i ∷ rest) = (is_early i ≡ false) × AreLateLines rest
+AreLateLines (line.Branch i n ∷ rest) = ⊥
+AreLateLines (line.Data w ∷ rest) = ⊥
+
+late_joined : (xs ys : List Line) → AreLateLines xs → AreLateLines ys → AreLateLines (xs ++ ys)
+late_joined [] ys are rest = rest
+late_joined (line.Label n ∷ xs) ys are rest = absurd are
+late_joined (line.Plain i ∷ xs) ys are rest = (are.0, late_joined xs ys are.1 rest)
+late_joined (line.Branch i n ∷ xs) ys are rest = absurd are
+late_joined (line.Data w ∷ xs) ys are rest = absurd are
+
+lines_late : (labels : List (Option ℕ)) (n : ℕ) (xs : List Line) → AreLateLines xs → AreLate (instructions labels n xs)
+lines_late labels n [] are = tt
+lines_late labels n (line.Label l ∷ xs) are = absurd are
+lines_late labels n (line.Plain i ∷ xs) are = (late i are.0, lines_late labels (n + 1) xs are.1)
+lines_late labels n (line.Branch i l ∷ xs) are = absurd are
+lines_late labels n (line.Data w ∷ xs) are = absurd are
+
+put_late : (q : Slots) (k : ℕ) → AreLateLines (put_words q k)
+put_late q zero = tt
+put_late q (suc k) =
+    late_joined (put_words q k) (put_word q k) (put_late q k) (refl, (refl, (refl, (refl, (refl, (refl, tt))))))
+
+get_late : (q : Slots) (k : ℕ) → AreLateLines (get_words q k)
+get_late q zero = tt
+get_late q (suc k) =
+    late_joined (get_words q k) (get_word q k) (get_late q k) (refl, (refl, (refl, (refl, (refl, (refl, tt))))))
+
+-- the sequence of a ring block
+put_sequence : (q : Slots) (labels : List (Option ℕ)) (first retry leave base count : ℕ)
+    → index_of labels base ≡ Some retry → index_of labels (base + 2) ≡ Some leave
+    → AreLate (instructions labels first (sequence_lines q base 13 (put_steps q base count)))
+put_sequence q labels first retry leave base count to_start to_end =
+    let words = lines_late labels (first + 1 + 1 + 1 + 1 + 1 + 1 + 1 + 1 + 1 + 1 + 1)
+    (line.Plain (inst.Addi q.value 28 (pos 0)) ∷ (put_words q count ++ line.Plain (inst.Sd 5 6 (pos 8)) ∷ []))
+    (refl, late_joined (put_words q count) (line.Plain (inst.Sd 5 6 (pos 8)) ∷ []) (put_late q count) (refl, tt)) in (
+      late _ refl,
+      (
+        to_retry (index_of labels base) (first + 1) retry to_start,
+        (
+          late _ refl,
+          (
+            late _ refl,
+            (
+              late _ refl,
+              (
+                late _ refl,
+                (
+                  late _ refl,
+                  (
+                    late _ refl,
+                    (
+                      late _ refl,
+                      (
+                        late _ refl,
+                        (
+                          to_leave 7 0 (index_of labels (base + 2)) (first + 1 + 1 + 1 + 1 + 1 + 1 + 1 + 1 + 1 + 1) leave to_end,
+                          words,
+                        ),
+                      ),
+                    ),
+                  ),
+                ),
+              ),
+            ),
+          ),
+        ),
+      ),
+    )
+
+get_sequence : (q : Slots) (labels : List (Option ℕ)) (first retry leave base count : ℕ)
+    → index_of labels base ≡ Some retry → index_of labels (base + 2) ≡ Some leave
+    → AreLate (instructions labels first (sequence_lines q base 13 (get_steps q base count)))
+get_sequence q labels first retry leave base count to_start to_end =
+    let words = lines_late labels (first + 1 + 1 + 1 + 1 + 1 + 1 + 1 + 1 + 1 + 1 + 1)
+    (line.Plain (inst.Addi q.value 28 (pos 0)) ∷ (get_words q count ++ line.Plain (inst.Sd 5 6 (pos 0)) ∷ []))
+    (refl, late_joined (get_words q count) (line.Plain (inst.Sd 5 6 (pos 0)) ∷ []) (get_late q count) (refl, tt)) in (
+      late _ refl,
+      (
+        to_retry (index_of labels base) (first + 1) retry to_start,
+        (
+          late _ refl,
+          (
+            late _ refl,
+            (
+              late _ refl,
+              (
+                late _ refl,
+                (
+                  late _ refl,
+                  (
+                    late _ refl,
+                    (
+                      late _ refl,
+                      (
+                        late _ refl,
+                        (
+                          to_leave_not 7 0 (index_of labels (base + 2)) (first + 1 + 1 + 1 + 1 + 1 + 1 + 1 + 1 + 1 + 1) leave to_end,
+                          words,
+                        ),
+                      ),
+                    ),
+                  ),
+                ),
+              ),
+            ),
+          ),
+        ),
+      ),
+    )
 
 each_late : (ws : List (Option Inst)) → AreLate ws → (k : ℕ) → k < length ws
     → (i : Inst) × (slice_get ws k ≡ Some (Some i)) × (is_early i ≡ false)
@@ -359,3 +484,87 @@ module _ (pages : List ImagePage) (form : Form) (lead : ℕ) (asks : AsksFirst f
         ends = refl;
         stores = refl;
       })
+  beside (is_ring_put q base zero some few its) = absurd (omega arith)
+  beside (is_ring_put q base (suc zero) some few its) =
+      of_sequence q base 13 (put_steps q base 1) its (record {
+        few = omega arith;
+        some = omega arith;
+        late = put_sequence q its.labels its.first its.retry its.leave base 1 its.bound_retry its.bound_leave;
+        starts = refl;
+        last = inst.Sd 5 6 (pos 8);
+        ends = refl;
+        stores = refl;
+      })
+  beside (is_ring_put q base (suc (suc zero)) some few its) =
+      of_sequence q base 13 (put_steps q base 2) its (record {
+        few = omega arith;
+        some = omega arith;
+        late = put_sequence q its.labels its.first its.retry its.leave base 2 its.bound_retry its.bound_leave;
+        starts = refl;
+        last = inst.Sd 5 6 (pos 8);
+        ends = refl;
+        stores = refl;
+      })
+  beside (is_ring_put q base (suc (suc (suc zero))) some few its) =
+      of_sequence q base 13 (put_steps q base 3) its (record {
+        few = omega arith;
+        some = omega arith;
+        late = put_sequence q its.labels its.first its.retry its.leave base 3 its.bound_retry its.bound_leave;
+        starts = refl;
+        last = inst.Sd 5 6 (pos 8);
+        ends = refl;
+        stores = refl;
+      })
+  beside (is_ring_put q base (suc (suc (suc (suc zero)))) some few its) =
+      of_sequence q base 13 (put_steps q base 4) its (record {
+        few = omega arith;
+        some = omega arith;
+        late = put_sequence q its.labels its.first its.retry its.leave base 4 its.bound_retry its.bound_leave;
+        starts = refl;
+        last = inst.Sd 5 6 (pos 8);
+        ends = refl;
+        stores = refl;
+      })
+  beside (is_ring_put q base (suc (suc (suc (suc (suc count))))) some few its) = absurd (omega arith)
+  beside (is_ring_get q base zero some few its) = absurd (omega arith)
+  beside (is_ring_get q base (suc zero) some few its) =
+      of_sequence q base 13 (get_steps q base 1) its (record {
+        few = omega arith;
+        some = omega arith;
+        late = get_sequence q its.labels its.first its.retry its.leave base 1 its.bound_retry its.bound_leave;
+        starts = refl;
+        last = inst.Sd 5 6 (pos 0);
+        ends = refl;
+        stores = refl;
+      })
+  beside (is_ring_get q base (suc (suc zero)) some few its) =
+      of_sequence q base 13 (get_steps q base 2) its (record {
+        few = omega arith;
+        some = omega arith;
+        late = get_sequence q its.labels its.first its.retry its.leave base 2 its.bound_retry its.bound_leave;
+        starts = refl;
+        last = inst.Sd 5 6 (pos 0);
+        ends = refl;
+        stores = refl;
+      })
+  beside (is_ring_get q base (suc (suc (suc zero))) some few its) =
+      of_sequence q base 13 (get_steps q base 3) its (record {
+        few = omega arith;
+        some = omega arith;
+        late = get_sequence q its.labels its.first its.retry its.leave base 3 its.bound_retry its.bound_leave;
+        starts = refl;
+        last = inst.Sd 5 6 (pos 0);
+        ends = refl;
+        stores = refl;
+      })
+  beside (is_ring_get q base (suc (suc (suc (suc zero)))) some few its) =
+      of_sequence q base 13 (get_steps q base 4) its (record {
+        few = omega arith;
+        some = omega arith;
+        late = get_sequence q its.labels its.first its.retry its.leave base 4 its.bound_retry its.bound_leave;
+        starts = refl;
+        last = inst.Sd 5 6 (pos 0);
+        ends = refl;
+        stores = refl;
+      })
+  beside (is_ring_get q base (suc (suc (suc (suc (suc count))))) some few its) = absurd (omega arith)

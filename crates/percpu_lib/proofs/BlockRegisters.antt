@@ -21,11 +21,9 @@ use Rattle.block_model.specs.Run.{IsRunHistory}
 use Rattle.block_model.specs.Setting.{Setting}
 use Rattle.block_model.proofs.Laws.{step_of}
 use Rattle.percpu_lib.specs.Forms.{Form, HoldsBlock, placed_of}
-use Rattle.percpu_lib.proofs.BlockCode.{KnowsTable, registers_at}
-use Rattle.percpu_lib.proofs.Courses.{HasCourse}
-use Rattle.percpu_lib.proofs.UsesLaw.{is_code, is_placed}
+use Rattle.percpu_lib.proofs.BlockCode.{IsFormed, KnowsTable, block_code, block_placed, registers_at}
 
-module _ (s : Setting) (form : Form) (at : ℕ) (area : Area) (t : ℕ) (law : HasCourse form) (e : Event)
+module _ (s : Setting) (form : Form) (at : ℕ) (area : Area) (t : ℕ) (formed : IsFormed form) (e : Event)
     (before : History) (run : IsRunHistory s (e ∷ before)) (holds : HoldsBlock s (e ∷ before) form at area t)
     (exec : e.entry.kind ≡ kind.Exec) (runs : running s e.entry.hart.0 before ≡ Some t)
     (inside : in_block (placed_of form at area) (file s t before).pc ≡ true) (x : ℕ)
@@ -60,8 +58,9 @@ module _ (s : Setting) (form : Form) (at : ℕ) (area : Area) (t : ℕ) (law : H
   pub registers_kept : register (file s t (e ∷ before)).file x ≡ register now.file x
   registers_kept =
       let b = placed_of form at area in
-      let code = is_code s form at area t law (e ∷ before) holds in
-      let placed = is_placed s form at area t law (e ∷ before) holds in
+      let code = block_code s form at area formed holds.stands holds.low_table holds.low holds.low_area in
+      let placed = block_placed s form at area formed holds.stands holds.low_table holds.low holds.low_area
+      holds.some_table in
       let went = goes_there s b.range t e.entry.hart.0 e before run in
       let at_it = (sound s b t (KnowsTable form) placed code before run.0 holds.uses.0 went).word inside in
       let step = step_of s e before run in
@@ -70,5 +69,5 @@ module _ (s : Setting) (form : Form) (at : ℕ) (area : Area) (t : ℕ) (law : H
       ap (λ (d : Done). register (file_among d.files t now).file x) did
       ∙ effect_keeps (next_fault here t) (next_effect here t)
       (λ y is. code.no_call now y at_it is)
-      (λ y is. registers_at s form at area law.formed holds.stands holds.low_table holds.low holds.low_area now y
+      (λ y is. registers_at s form at area formed holds.stands holds.low_table holds.low holds.low_area now y
       (view here) here.reserved is at_it.word at_it.pc at_it.below at_it.know x kept)

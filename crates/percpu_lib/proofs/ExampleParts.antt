@@ -212,6 +212,13 @@ pub record IsGood (s : Setting) (log : List Entry) (form : Form) (at : ℕ) (are
   pub used : IsWellUsed s log form at area others sequence
   pub passes : fits sequence ≡ true
 
+pub record IsUsedSo (s : Setting) (log : List Entry) (form : Form) (at : ℕ) (area : Area) (t : ℕ) (others : List Placed)
+    : Type 0 where
+  pub run : IsBlockRun s log
+  pub holds : HoldsBlock s (history s log) form at area t
+  pub begins : CanAlwaysBegin s (placed_of form at area) t (history s log)
+  pub shares : SharesAreaWith s (history s log) (placed_of form at area) t others
+
 module _ (s : Setting) (log : List Entry) (form : Form) (tested : IsTested form) (at : ℕ) (area : Area) (t : ℕ)
     (others : List Placed) (fits : Sequence → Bool) (run : IsBlockRun s log)
     (good : is_good s form tested at area t others fits (history s log) ≡ true) (low : is_low s form at area ≡ true)
@@ -235,6 +242,16 @@ module _ (s : Setting) (log : List Entry) (form : Form) (tested : IsTested form)
         × (option_map_or (commits_so s form at t fits) (sequence_on s 0 past) false ≡ true)
     three = and_parts (shares_so s form tested at area t others past) _ two.1
 
+    -- what holds of the thread, whichever its last sequence is
+    pub used_so : IsUsedSo s log form at area t others
+    used_so = record {
+      run = run;
+      holds = holds_so s form tested at area t past run.allowed one.0 low there;
+      begins = all_can_begin s form tested at area t past run.allowed two.0;
+      shares = all_shares s form tested at area t others past run.allowed one.0 three.0
+          (each_beside (placed_of form at area) others apart);
+    }
+
     found : (o : Option Sequence) → sequence_on s 0 past ≡ o → option_map_or (commits_so s form at t fits) o false ≡ true
         → IsGood s log form at area others fits
     found None is test = absurd (false≢true test)
@@ -247,13 +264,9 @@ module _ (s : Setting) (log : List Entry) (form : Form) (tested : IsTested form)
           sequence = q;
           used = record {
             run = run;
-            holds = subst (λ n. HoldsBlock s past form at area n) same
-                (holds_so s form tested at area t past run.allowed one.0 low there);
-            begins = subst (λ n. CanAlwaysBegin s (placed_of form at area) n past) same
-                (all_can_begin s form tested at area t past run.allowed two.0);
-            shares = subst (λ n. SharesAreaWith s past (placed_of form at area) n others) same
-                (all_shares s form tested at area t others past run.allowed one.0 three.0
-                (each_beside (placed_of form at area) others apart));
+            holds = subst (λ n. HoldsBlock s past form at area n) same used_so.holds;
+            begins = subst (λ n. CanAlwaysBegin s (placed_of form at area) n past) same used_so.begins;
+            shares = subst (λ n. SharesAreaWith s past (placed_of form at area) n others) same used_so.shares;
             is = is;
             inside = subst (λ n. IsIn s (range_of form at) n q.begun) same second.0;
             commits = subst (λ n. (file s n q.reached).pc ≡ at + 4 * committed form) same
@@ -264,3 +277,21 @@ module _ (s : Setting) (log : List Entry) (form : Form) (tested : IsTested form)
 
     pub found_good : IsGood s log form at area others fits
     found_good = found (sequence_on s 0 past) refl three.1
+
+-- a last sequence on hart 0 that passes a test
+abbrev pub is_found : Setting → List Entry → (Sequence → Bool) → Bool
+is_found s log fits = option_map_or fits (sequence_on s 0 (history s log)) false
+
+pub record IsFound (s : Setting) (log : List Entry) (fits : Sequence → Bool) : Type 0 where
+  pub sequence : Sequence
+  pub is : sequence_on s 0 (history s log) ≡ Some sequence
+  pub passes : fits sequence ≡ true
+
+pub sequence_found : (s : Setting) (log : List Entry) (fits : Sequence → Bool) → is_found s log fits ≡ true
+    → IsFound s log fits
+sequence_found s log fits there = by_what (sequence_on s 0 (history s log)) refl there
+  where
+    by_what : (o : Option Sequence) → sequence_on s 0 (history s log) ≡ o → option_map_or fits o false ≡ true
+        → IsFound s log fits
+    by_what None is test = absurd (false≢true test)
+    by_what (Some q) is test = record { sequence = q; is = is; passes = test }

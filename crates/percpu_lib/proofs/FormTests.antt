@@ -1,5 +1,5 @@
 -- What is tested of each block on hart 0, by computation.
-use Rattle.std.proofs.Common.{◌≡◌, ◌≢◌, ℕ, ◌+◌, ◌-◌, ◌^◌, List, [], ◌∷◌, refl, sym, ◌∙◌, Bool, true, false, not, cond}
+use Rattle.std.proofs.Common.{◌≡◌, ◌≢◌, ℕ, ◌+◌, ◌-◌, ◌*◌, ◌^◌, List, [], ◌∷◌, refl, sym, ◌∙◌, Bool, true, false, not, cond}
 use Rattle.std.proofs.Common.{◌&&◌, ◌||◌, ◌⊎◌, inl, inr, ⊎_elim, eqb, leb}
 use Rattle.std.proofs.lemmas.Bool.{and_parts, false≢true, leb-true, ne_eqb}
 use Rattle.alone_laws.specs.Blocks.{among}
@@ -7,10 +7,11 @@ use Rattle.block_model.specs.History.{History}
 use Rattle.block_model.specs.Setting.{Setting}
 use Rattle.percpu_lib.specs.Adds.{IsCellApart, cell_at}
 use Rattle.percpu_lib.specs.Allocs.{alloc_form}
-use Rattle.percpu_lib.specs.Frees.{IsFreeApart, free_form}
+use Rattle.percpu_lib.specs.Frees.{IsFreeApart, free_form, value_of}
 use Rattle.percpu_lib.specs.Pools.{IsPool, count_of, pool_at, slot_at}
 use Rattle.percpu_lib.specs.Pops.{head_of, pop_form}
 use Rattle.percpu_lib.specs.Pushes.{IsNodeApart, LieBeside, node_of, push_form}
+use Rattle.percpu_lib.specs.RingForms.{IsRingApart, LieBesideRing, held as ring_held, ring_at, ring_get_form, ring_put_form}
 use Rattle.percpu_lib.specs.Uses.{add_form, cells_of}
 use Rattle.percpu_lib.specs.declared.slots.Slots.{Slots}
 use Rattle.percpu_lib.proofs.UseTests.{IsTested, either, is_among}
@@ -172,4 +173,71 @@ free_tested p = record {
       (eqb (count_of s 0 (cells_of s p t begun) begun) 512) (slot_behind s (cells_of s p t begun) begun) 8 a has;
   is_apart = λ s area t begun. is_free_apart s area.at (cells_of s p t begun) begun;
   apart = λ s area t begun is. free_apart s area.at (cells_of s p t begun) begun is;
+}
+
+-- THE RING
+
+pub last_three : (x y z u : Bool) → x || (y || (z || u)) ≡ true → x || (y || (z || (u || false))) ≡ true
+last_three true y z u is = refl
+last_three false y z u is = last_two y z u is
+
+abbrev lies_beside_ring : ℕ → ℕ → ℕ → Bool
+lies_beside_ring at n ring = lie_beside at n ring 16 && lie_beside at n (ring + 64) 4096
+
+ring_beside : (at n ring : ℕ) → lies_beside_ring at n ring ≡ true → LieBesideRing at n ring
+ring_beside at n ring is =
+    let both = and_parts (lie_beside at n ring 16) (lie_beside at n (ring + 64) 4096) is in
+    record { ends = they_lie at n ring 16 both.0; slots = they_lie at n (ring + 64) 4096 both.1 }
+
+abbrev is_ring_apart : Setting → ℕ → ℕ → ℕ → ℕ → History → Bool
+is_ring_apart s area ring value count begun =
+    leb (ring + 4160) (2 ^ 64)
+    && (leb (ring_held s 0 ring begun) 512
+    && (leb (value + 8 * count) (2 ^ 64)
+    && (lies_beside_ring area 32 ring
+    && (lie_beside value (8 * count) area 32 && lies_beside_ring value (8 * count) ring))))
+
+pub ring_apart : (s : Setting) (area ring value count : ℕ) (begun : History)
+    → is_ring_apart s area ring value count begun ≡ true → IsRingApart s area ring value count 0 begun
+ring_apart s area ring value count begun is =
+    let one = and_parts (leb (ring + 4160) (2 ^ 64)) _ is in
+    let two = and_parts (leb (ring_held s 0 ring begun) 512) _ one.1 in
+    let three = and_parts (leb (value + 8 * count) (2 ^ 64)) _ two.1 in
+    let four = and_parts (lies_beside_ring area 32 ring) _ three.1 in
+    let five = and_parts (lie_beside value (8 * count) area 32) _ four.1 in
+    record {
+      low_ring = leb-true (ring + 4160) (2 ^ 64) one.0;
+      at_most = leb-true (ring_held s 0 ring begun) 512 two.0;
+      low_words = leb-true (value + 8 * count) (2 ^ 64) three.0;
+      area_ring = ring_beside area 32 ring four.0;
+      words_area = they_lie value (8 * count) area 32 five.0;
+      words_ring = ring_beside value (8 * count) ring five.1;
+    }
+
+-- the ring and the words at the value, which both kinds use
+abbrev ring_spans : ℕ → ℕ → ℕ → List (ℕ × ℕ)
+ring_spans ring value count = (ring, 16) ∷ (ring + 64, 4096) ∷ (value, 8 * count) ∷ []
+
+abbrev pub ring_put_tested : (count : ℕ) (p : Slots) → IsTested (ring_put_form count p)
+ring_put_tested count p = record {
+  spans = λ s t begun. ring_spans (ring_at (cells_of s p t begun) 0) (value_of s p t begun) count;
+  covers = λ s area t begun a has.
+      last_three (among area.at 32 a) (among (ring_at (cells_of s p t begun) 0) 16 a)
+      (among (ring_at (cells_of s p t begun) 0 + 64) 4096 a) (among (value_of s p t begun) (8 * count) a) has;
+  is_apart = λ s area t begun.
+      is_ring_apart s area.at (ring_at (cells_of s p t begun) 0) (value_of s p t begun) count begun;
+  apart = λ s area t begun is.
+      ring_apart s area.at (ring_at (cells_of s p t begun) 0) (value_of s p t begun) count begun is;
+}
+
+abbrev pub ring_get_tested : (count : ℕ) (p : Slots) → IsTested (ring_get_form count p)
+ring_get_tested count p = record {
+  spans = λ s t begun. ring_spans (ring_at (cells_of s p t begun) 0) (value_of s p t begun) count;
+  covers = λ s area t begun a has.
+      last_three (among area.at 32 a) (among (ring_at (cells_of s p t begun) 0) 16 a)
+      (among (ring_at (cells_of s p t begun) 0 + 64) 4096 a) (among (value_of s p t begun) (8 * count) a) has;
+  is_apart = λ s area t begun.
+      is_ring_apart s area.at (ring_at (cells_of s p t begun) 0) (value_of s p t begun) count begun;
+  apart = λ s area t begun is.
+      ring_apart s area.at (ring_at (cells_of s p t begun) 0) (value_of s p t begun) count begun is;
 }

@@ -7,9 +7,9 @@ use Rattle.rv_inst.specs.declared.instruction.Inst.{Inst}
 use Rattle.rv_inst.specs.declared.instruction.Inst.TheVariants as inst
 use Rattle.percpu_lib.specs.Forms.{Form, committed}
 use Rattle.percpu_lib.proofs.BlockCode.{AreWords}
-use Rattle.percpu_lib.proofs.WordLaws.{IsStraight, IsTame, IsWord, beq_out, bne_anew, jal_anew, jal_out, straight_add, straight_addi}
-use Rattle.percpu_lib.proofs.WordLaws.{straight_ld, straight_lui, straight_lw, straight_sd, straight_slli}
-use Rattle.percpu_lib.proofs.WordLaws.{straight_word}
+use Rattle.percpu_lib.proofs.WordLaws.{IsStraight, IsTame, IsWord, beq_out, bne_anew, bne_out, jal_anew, jal_out}
+use Rattle.percpu_lib.proofs.WordLaws.{straight_add, straight_addi, straight_andi, straight_ld, straight_lui, straight_lw}
+use Rattle.percpu_lib.proofs.WordLaws.{straight_sd, straight_slli, straight_sltiu, straight_sub, straight_word}
 
 -- not the word at the post-commit address
 abbrev pub IsInner : Form → ℕ → Type 0
@@ -24,8 +24,12 @@ Fits form k (inst.Lui rd imm) = IsInner form k × (form.may rd ≡ true)
 Fits form k (inst.Addi rd rs imm) = IsInner form k × (form.may rd ≡ true)
 Fits form k (inst.Slli rd rs shamt) = IsInner form k × (form.may rd ≡ true)
 Fits form k (inst.Add rd rs1 rs2) = IsInner form k × (form.may rd ≡ true)
+Fits form k (inst.Sub rd rs1 rs2) = IsInner form k × (form.may rd ≡ true)
+Fits form k (inst.Sltiu rd rs imm) = IsInner form k × (form.may rd ≡ true)
+Fits form k (inst.Andi rd rs imm) = IsInner form k × (form.may rd ≡ true)
 Fits form k (inst.Sd rs1 rs2 imm) = IsInner form k
 Fits form k (inst.Bne rs1 rs2 (negsuc n)) = IsInner form k × (n + 1 ≡ 4 * k)
+Fits form k (inst.Bne rs1 rs2 (pos n)) = IsInner form k × (4 * k + n ≡ 4 * committed form)
 Fits form k (inst.Beq rs1 rs2 (pos n)) = IsInner form k × (4 * k + n ≡ 4 * committed form)
 Fits form k (inst.Jal rd (negsuc n)) = (rd ≡ 0) × (n + 1 ≡ 4 * k)
 Fits form k (inst.Jal rd (pos n)) = (rd ≡ 0) × (4 * k + n ≡ 4 * length form.words)
@@ -81,9 +85,17 @@ module _ (form : Form) (all : length form.words < 2 ^ 8) (within : committed for
       straight k short (inst.Slli rd rs shamt) is.0 (straight_slli form.may rd rs shamt is.1)
   word_fits k short (inst.Add rd rs1 rs2) is =
       straight k short (inst.Add rd rs1 rs2) is.0 (straight_add form.may rd rs1 rs2 is.1)
+  word_fits k short (inst.Sub rd rs1 rs2) is =
+      straight k short (inst.Sub rd rs1 rs2) is.0 (straight_sub form.may rd rs1 rs2 is.1)
+  word_fits k short (inst.Sltiu rd rs imm) is =
+      straight k short (inst.Sltiu rd rs imm) is.0 (straight_sltiu form.may rd rs imm is.1)
+  word_fits k short (inst.Andi rd rs imm) is =
+      straight k short (inst.Andi rd rs imm) is.0 (straight_andi form.may rd rs imm is.1)
   word_fits k short (inst.Sd rs1 rs2 imm) is = straight k short (inst.Sd rs1 rs2 imm) is (straight_sd form.may rs1 rs2 imm)
   word_fits k short (inst.Bne rs1 rs2 (negsuc n)) is =
       bne_anew form k short rs1 rs2 n is.1 (eqb-false k (committed form) is.0)
+  word_fits k short (inst.Bne rs1 rs2 (pos n)) is =
+      bne_out form k short rs1 rs2 n is.1 within (eqb-false k (committed form) is.0)
   word_fits k short (inst.Beq rs1 rs2 (pos n)) is =
       beq_out form k short rs1 rs2 n is.1 within (eqb-false k (committed form) is.0)
   word_fits k short (inst.Jal rd (negsuc n)) is =

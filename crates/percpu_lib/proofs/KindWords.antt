@@ -25,21 +25,21 @@ use Rattle.percpu_lib.proofs.HeldBlocks.{end_at, file_holds, held, leave_at, ret
 -- BRANCHES
 
 -- so many words back, and so many on
-back : (n m k j : ℕ) → m ≡ n + k → j + 1 ≡ 4 * k → pos (4 * n) -ℤ pos (4 * m) ≡ negsuc j
+pub back : (n m k j : ℕ) → m ≡ n + k → j + 1 ≡ 4 * k → pos (4 * n) -ℤ pos (4 * m) ≡ negsuc j
 back n m k j from far = by_sign (pos (4 * n) -ℤ pos (4 * m)) refl
   where
     by_sign : (z : ℤ) → z ≡ pos (4 * n) -ℤ pos (4 * m) → z ≡ negsuc j
     by_sign (pos i) is = absurd (omega (arith, ints))
     by_sign (negsuc i) is = ap negsuc (omega (arith, ints))
 
-forth : (n m k j : ℕ) → n ≡ m + k → j ≡ 4 * k → pos (4 * n) -ℤ pos (4 * m) ≡ pos j
+pub forth : (n m k j : ℕ) → n ≡ m + k → j ≡ 4 * k → pos (4 * n) -ℤ pos (4 * m) ≡ pos j
 forth n m k j from far = by_sign (pos (4 * n) -ℤ pos (4 * m)) refl
   where
     by_sign : (z : ℤ) → z ≡ pos (4 * n) -ℤ pos (4 * m) → z ≡ pos j
     by_sign (pos i) is = ap pos (omega (arith, ints))
     by_sign (negsuc i) is = absurd (omega (arith, ints))
 
-branch_is : (labels : List (Option ℕ)) (j i : Inst) (m l to : ℕ) (z : ℤ) → index_of labels l ≡ Some to
+pub branch_is : (labels : List (Option ℕ)) (j i : Inst) (m l to : ℕ) (z : ℤ) → index_of labels l ≡ Some to
     → distance m to ≡ z → aimed j z ≡ i
     → option_map (λ to. aimed j (distance m to)) (index_of labels l) ≡ Some i
 branch_is labels j i m l to z bound far is =

@@ -1,17 +1,21 @@
 -- A block whose words stand in a program is one of the library there.
-use Rattle.std.proofs.Common.{◌≡◌, ℕ, zero, suc, ◌+◌, ◌*◌, ◌<◌, ◌^◌, List, [], ◌∷◌, ◌++◌, length, slice_get, take, drop, refl, sym}
+use Rattle.std.proofs.Common.{◌≡◌, ℕ, zero, suc, ◌+◌, ◌*◌, ◌<◌, ◌≤◌, ◌^◌, List, [], ◌∷◌, ◌++◌, length, slice_get, take, drop, refl, sym}
 use Rattle.std.proofs.Common.{ap, ◌∙◌, arith, Option, Some, None}
 use Rattle.mach_types.specs.declared.sequences.Area.{Area}
 use Rattle.rv_inst.specs.declared.instruction.Inst.{Inst}
 use Rattle.percpu_lib.specs.Adds.{add_steps}
 use Rattle.percpu_lib.specs.Allocs.{alloc_steps}
-use Rattle.percpu_lib.specs.Beside.{HoldsSequence, IsOfLibrary, is_add, is_alloc, is_free, is_pop, is_push, sequence_lines}
+use Rattle.percpu_lib.specs.Beside.{HoldsSequence, IsOfLibrary, is_add, is_alloc, is_free, is_pop, is_push}
+use Rattle.percpu_lib.specs.Beside.{is_ring_get, is_ring_put, sequence_lines}
 use Rattle.percpu_lib.specs.Forms.{Form, committed, placed_of, range_of}
 use Rattle.percpu_lib.specs.Frees.{free_steps}
 use Rattle.percpu_lib.specs.Kinds.{Kind, adds, allocs, form_of, frees, pops, pushes}
 use Rattle.percpu_lib.specs.Lines.{instructions}
 use Rattle.percpu_lib.specs.Pops.{pop_steps}
 use Rattle.percpu_lib.specs.Pushes.{push_steps}
+use Rattle.percpu_lib.specs.RingForms.{ring_get_form, ring_put_form}
+use Rattle.percpu_lib.specs.RingKinds.{RingKind, gets, puts, ring_form_of}
+use Rattle.percpu_lib.specs.Rings.{get_steps, put_steps}
 use Rattle.percpu_lib.specs.Words.{AreHeld}
 use Rattle.percpu_lib.specs.declared.lines.Line.{Line}
 use Rattle.percpu_lib.specs.declared.slots.Slots.{Slots}
@@ -81,3 +85,37 @@ of_library allocs code p at area held low low_table =
     is_alloc p 0 (holds_sequence (form_of allocs p) p 13 (alloc_steps p 0) code at area refl refl refl held low low_table)
 of_library frees code p at area held low low_table =
     is_free p 0 (holds_sequence (form_of frees p) p 13 (free_steps p 0) code at area refl refl refl held low low_table)
+
+-- the same of ring blocks
+pub ring_of_library : (k : RingKind) (count : ℕ) (code : ℕ → Option Inst) (p : Slots) (at : ℕ) (area : Area)
+    → 1 ≤ count → count ≤ 4 → AreHeld code at (ring_form_of k count p).words
+    → (range_of (ring_form_of k count p) at).start < 2 ^ 37 → p.table < 0x7FFFF800
+    → IsOfLibrary code (placed_of (ring_form_of k count p) at area)
+ring_of_library puts zero code p at area some few held low low_table = absurd (omega arith)
+ring_of_library puts (suc zero) code p at area some few held low low_table =
+    is_ring_put p 0 1 some few
+    (holds_sequence (ring_put_form 1 p) p 13 (put_steps p 0 1) code at area refl refl refl held low low_table)
+ring_of_library puts (suc (suc zero)) code p at area some few held low low_table =
+    is_ring_put p 0 2 some few
+    (holds_sequence (ring_put_form 2 p) p 13 (put_steps p 0 2) code at area refl refl refl held low low_table)
+ring_of_library puts (suc (suc (suc zero))) code p at area some few held low low_table =
+    is_ring_put p 0 3 some few
+    (holds_sequence (ring_put_form 3 p) p 13 (put_steps p 0 3) code at area refl refl refl held low low_table)
+ring_of_library puts (suc (suc (suc (suc zero)))) code p at area some few held low low_table =
+    is_ring_put p 0 4 some few
+    (holds_sequence (ring_put_form 4 p) p 13 (put_steps p 0 4) code at area refl refl refl held low low_table)
+ring_of_library puts (suc (suc (suc (suc (suc n))))) code p at area some few held low low_table = absurd (omega arith)
+ring_of_library gets zero code p at area some few held low low_table = absurd (omega arith)
+ring_of_library gets (suc zero) code p at area some few held low low_table =
+    is_ring_get p 0 1 some few
+    (holds_sequence (ring_get_form 1 p) p 13 (get_steps p 0 1) code at area refl refl refl held low low_table)
+ring_of_library gets (suc (suc zero)) code p at area some few held low low_table =
+    is_ring_get p 0 2 some few
+    (holds_sequence (ring_get_form 2 p) p 13 (get_steps p 0 2) code at area refl refl refl held low low_table)
+ring_of_library gets (suc (suc (suc zero))) code p at area some few held low low_table =
+    is_ring_get p 0 3 some few
+    (holds_sequence (ring_get_form 3 p) p 13 (get_steps p 0 3) code at area refl refl refl held low low_table)
+ring_of_library gets (suc (suc (suc (suc zero)))) code p at area some few held low low_table =
+    is_ring_get p 0 4 some few
+    (holds_sequence (ring_get_form 4 p) p 13 (get_steps p 0 4) code at area refl refl refl held low low_table)
+ring_of_library gets (suc (suc (suc (suc (suc n))))) code p at area some few held low low_table = absurd (omega arith)

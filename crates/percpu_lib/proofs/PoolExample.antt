@@ -2,10 +2,10 @@
 -- is preempted inside, once its value is 0, begins anew at the abort handler, which brings the value back, and puts it in
 -- once. Then it takes it out by an alloc block, and finds the pool empty by another sequence of that. And a log of a pool that
 -- is full.
-use Rattle.std.proofs.Common.{◌≡◌, ℕ, ◌<◌, ◌^◌, List, [], ◌∷◌, ◌++◌, replicate, take, drop, refl, Some, inr, ltb}
-use Rattle.std.proofs.lemmas.Bool.{and_parts, ltb-true}
+use Rattle.std.proofs.Common.{◌≡◌, ℕ, ◌<◌, ◌^◌, List, [], ◌∷◌, ◌++◌, replicate, take, drop, refl, ltb}
+use Rattle.std.proofs.lemmas.Bool.{ltb-true}
 use Rattle.std.proofs.Common.{Bool, true, ◌&&◌, eqb, Ok}
-use Rattle.mach_types.specs.Kernel.Areas.{are_readable, is_inside, number_at}
+use Rattle.mach_types.specs.Kernel.Areas.{are_readable, number_at}
 use Rattle.mach_types.specs.Registers.{register}
 use Rattle.mach_types.specs.declared.events.Choice.TheVariants as asked
 use Rattle.mach_types.specs.declared.events.Entry.{Entry}
@@ -16,25 +16,25 @@ use Rattle.rv_inst.specs.Table.{row_of, rows, lui_rows, auipc_rows, jal_rows, ja
 use Rattle.rv_inst.specs.Table.{op_imm_rows, op_imm_32_rows, op_rows, op_32_rows, misc_mem_rows, amo_rows, system_rows}
 use Rattle.block_model.specs.Acts.{Sequence}
 use Rattle.block_model.specs.Deciding.{decide, done, history}
-use Rattle.block_model.specs.History.{file, running}
+use Rattle.block_model.specs.History.{file}
 use Rattle.block_model.specs.Replay.{Ask, played}
 use Rattle.block_model.specs.Run.{IsBlockRun}
 use Rattle.block_model.specs.Setting.{Setting}
 use Rattle.block_model.proofs.Laws.{played_is_run, run_before}
-use Rattle.alone_laws.specs.Retries.{Retries, begins, goes_on, walks}
+use Rattle.alone_laws.specs.Retries.{Retries}
 use Rattle.alone_laws.specs.Spans.{code_of}
 use Rattle.alone_laws.specs.Uses.{Placed}
-use Rattle.percpu_lib.specs.Forms.{HoldsBlock, placed_of}
+use Rattle.percpu_lib.specs.Forms.{placed_of}
 use Rattle.percpu_lib.specs.Allocs.{alloc_block, alloc_form}
 use Rattle.percpu_lib.specs.Frees.{free_block, free_form}
 use Rattle.percpu_lib.specs.Pools.{count_seen, pool_at, slot_at}
 use Rattle.percpu_lib.specs.Pushes.{word_seen}
 use Rattle.percpu_lib.specs.Uses.{cells_of}
 use Rattle.percpu_lib.specs.declared.slots.Slots.{Slots}
-use Rattle.percpu_lib.proofs.ExampleParts.{AreThere, IsGood, entry, found_good, holds_so, is_good, line}
+use Rattle.percpu_lib.proofs.ExampleParts.{AreThere, IsGood, IsUsedSo, entry, found_good, is_good, line, used_so}
 use Rattle.percpu_lib.proofs.FormTests.{alloc_tested, free_tested}
-use Rattle.percpu_lib.proofs.RetryTests.{registers_are, same_registers, walk_found, walks_at_work}
-use Rattle.percpu_lib.proofs.UseTests.{are_fine, is_just}
+use Rattle.percpu_lib.proofs.RetryParts.{is_retried, retried_so}
+use Rattle.percpu_lib.proofs.UseTests.{is_just}
 
 -- `lui x8, 0x20`, `addi x10, x8, 0`, `addi x11, x0, 32`, `lui x13, 0xF1401`, `addi x13, x13, 0x73`, `addi x17, x0, 293`,
 -- `ecall`, `addi x9, x8, 64`, `addi x18, x0, 42`; from 0x100D4 on the free block, from 0x1012C on the alloc block, and
@@ -267,76 +267,26 @@ none_used =
 abbrev pub first_time : List Entry
 first_time = take 10 log
 
-abbrev to_last : List Entry
-to_last = take 19 (drop 10 log)
-
-abbrev interrupted : List Entry
-interrupted = take 2 (drop 29 log)
-
-abbrev back : List Entry
-back = take 2 (drop 31 log)
-
 abbrev pub anew : List Entry
 anew = take 33 log
 
 abbrev pub rest : List Entry
 rest = take 18 (drop 33 log)
 
-runs_first : running setting 0 (history setting first_time) ≡ Some 1
+comes_back : is_retried setting the_free 1 first_time (take 19 (drop 10 log)) (take 2 (drop 29 log))
+    (take 2 (drop 31 log)) ≡ true
 unfolding decide history done meaning row_of rows lui_rows auipc_rows jal_rows jalr_rows branch_rows load_rows store_rows op_imm_rows op_imm_32_rows op_rows op_32_rows misc_mem_rows amo_rows system_rows are_readable number_at
-runs_first = refl
-
-at_first : (file setting 1 (history setting first_time)).pc ≡ free_at
-unfolding decide history done meaning row_of rows lui_rows auipc_rows jal_rows jalr_rows branch_rows load_rows store_rows op_imm_rows op_imm_32_rows op_rows op_32_rows misc_mem_rows amo_rows system_rows are_readable number_at
-at_first = refl
-
-walks_on : walks_at_work setting the_free 0 1 first_time to_last ≡ true
-unfolding decide history done meaning row_of rows lui_rows auipc_rows jal_rows jalr_rows branch_rows load_rows store_rows op_imm_rows op_imm_32_rows op_rows op_32_rows misc_mem_rows amo_rows system_rows are_readable number_at
-walks_on = refl
-
-registers_stay : same_registers (file setting 1 (history setting (first_time ++ to_last ++ interrupted))).file
-    (file setting 1 (history setting (first_time ++ to_last))).file ≡ true
-unfolding decide history done meaning row_of rows lui_rows auipc_rows jal_rows jalr_rows branch_rows load_rows store_rows op_imm_rows op_imm_32_rows op_rows op_32_rows misc_mem_rows amo_rows system_rows are_readable number_at
-registers_stay = refl
-
-in_sequence : is_inside the_free.range (file setting 1 (history setting (first_time ++ to_last))).pc ≡ true
-unfolding decide history done meaning row_of rows lui_rows auipc_rows jal_rows jalr_rows branch_rows load_rows store_rows op_imm_rows op_imm_32_rows op_rows op_32_rows misc_mem_rows amo_rows system_rows are_readable number_at
-in_sequence = refl
-
-at_handler : (file setting 1 (history setting (first_time ++ to_last ++ interrupted))).pc ≡ the_free.range.abort
-unfolding decide history done meaning row_of rows lui_rows auipc_rows jal_rows jalr_rows branch_rows load_rows store_rows op_imm_rows op_imm_32_rows op_rows op_32_rows misc_mem_rows amo_rows system_rows are_readable number_at
-at_handler = refl
-
-runs_again : running setting 0 (history setting (first_time ++ to_last ++ interrupted)) ≡ Some 1
-unfolding decide history done meaning row_of rows lui_rows auipc_rows jal_rows jalr_rows branch_rows load_rows store_rows op_imm_rows op_imm_32_rows op_rows op_32_rows misc_mem_rows amo_rows system_rows are_readable number_at
-runs_again = refl
-
-walks_back : walks_at_work setting the_free 0 1 (first_time ++ to_last ++ interrupted) back ≡ true
-unfolding decide history done meaning row_of rows lui_rows auipc_rows jal_rows jalr_rows branch_rows load_rows store_rows op_imm_rows op_imm_32_rows op_rows op_32_rows misc_mem_rows amo_rows system_rows are_readable number_at
-walks_back = refl
+comes_back = refl
 
 pub retried : Retries setting the_free 1 first_time anew
 retried =
-    walks 0 (first_time ++ to_last ++ interrupted) back
-    (goes_on (first_time ++ to_last) interrupted
-    (walks 0 first_time to_last (begins at_first)
-    (walk_found setting the_free 0 1 to_last first_time runs_first walks_on))
-    (record {
-      registers = registers_are (file setting 1 (history setting (first_time ++ to_last ++ interrupted))).file
-          (file setting 1 (history setting (first_time ++ to_last))).file registers_stay;
-      pc = inr (in_sequence, at_handler);
-    }))
-    (walk_found setting the_free 0 1 back (first_time ++ to_last ++ interrupted) runs_again walks_back)
+    retried_so setting the_free 1 first_time (take 19 (drop 10 log)) (take 2 (drop 29 log)) (take 2 (drop 31 log))
+    comes_back
 
-pub retry_run : IsBlockRun setting free_log
-retry_run = run_before setting (take 51 log) (drop 51 log) is_run
-
-pub retry_holds : HoldsBlock setting (history setting free_log) (free_form free_slots) free_at area 1
-retry_holds =
-    holds_so setting (free_form free_slots) (free_tested free_slots) free_at area 1 (history setting free_log)
-    retry_run.allowed
-    (and_parts (are_fine setting (free_form free_slots) (free_tested free_slots) free_at area 1 (history setting free_log)) _
-    free_good).0 refl free_there
+pub used_again : IsUsedSo setting free_log (free_form free_slots) free_at area 1 (the_alloc ∷ [])
+used_again =
+    used_so setting free_log (free_form free_slots) (free_tested free_slots) free_at area 1 (the_alloc ∷ []) free_fits
+    (run_before setting (take 51 log) (drop 51 log) is_run) free_good refl free_there refl
 
 small_there : ltb (register (file setting 1 (history setting first_time)).file 18) (2 ^ 64) ≡ true
 unfolding decide history done meaning row_of rows lui_rows auipc_rows jal_rows jalr_rows branch_rows load_rows store_rows op_imm_rows op_imm_32_rows op_rows op_32_rows misc_mem_rows amo_rows system_rows are_readable number_at

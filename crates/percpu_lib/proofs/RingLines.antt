@@ -1,9 +1,9 @@
 -- Each line of a ring block has a word or is aimed at a label that is there, and none of them inside is a label.
-use Rattle.std.proofs.Common.{◌≡◌, ℕ, zero, suc, ◌+◌, ◌-◌, ◌*◌, ◌<◌, ◌≤◌, List, [], ◌∷◌, ◌++◌, refl, arith}
+use Rattle.std.proofs.Common.{◌≡◌, ℕ, zero, suc, ◌+◌, ◌-◌, ◌*◌, ◌<◌, ◌≤◌, List, [], ◌∷◌, ◌++◌, refl, ap, ◌∙◌, arith}
 use Rattle.std.proofs.Common.{true, ◌&&◌, ltb, All, pos}
 use Rattle.std.proofs.lemmas.Bool.{lt-ltb}
 use Rattle.rv_asm.specs.Fields.{has_signed_bits}
-use Rattle.percpu_lib.specs.BlockLines.{HasNoLabel}
+use Rattle.percpu_lib.specs.BlockLines.{HasNoLabel, block_lines}
 use Rattle.percpu_lib.specs.Lines.{IsEmittable}
 use Rattle.percpu_lib.specs.Rings.{get_steps, get_test, get_word, get_words, put_steps, put_test, put_word}
 use Rattle.percpu_lib.specs.Rings.{put_words, ring_aborted, ring_first, ring_get_lines, ring_put_lines}
@@ -91,11 +91,13 @@ module _ (p : Slots) (base labels : ℕ) (slots : AreSlots p) (low : p.table < 0
 
   put_test_emittable : (count : ℕ) → Emittable (put_test p base count)
   put_test_emittable count =
-      (refl, (refl, (refl, (room_fits count, (is_written, ((refl, omega arith), (is_written, tt)))))))
+      let copy = second p base labels slots low room in
+      (copy, (refl, (refl, (refl, (room_fits count, (is_written, ((refl, omega arith), (is_written, tt))))))))
 
   get_test_emittable : (count : ℕ) → count ≤ 4 → Emittable (get_test p base count)
   get_test_emittable count few =
-      (refl, (refl, (refl, (count_fits count few, (is_written, ((refl, omega arith), (is_written, tt)))))))
+      let copy = second p base labels slots low room in
+      (copy, (refl, (refl, (refl, (count_fits count few, (is_written, ((refl, omega arith), (is_written, tt))))))))
 
   pub ring_put_emittable : (count : ℕ) → count ≤ 4 → All (IsEmittable labels) (ring_put_lines p base count)
   ring_put_emittable count few =
@@ -110,3 +112,10 @@ module _ (p : Slots) (base labels : ℕ) (slots : AreSlots p) (low : p.table < 0
       block_emittable p base labels slots low room 13 (ring_first p) (get_steps p base count) (ring_aborted p) refl
       first_emittable (all_joined (IsEmittable labels) (get_test p base count) _ (get_test_emittable count few) behind)
       aborted_emittable
+
+-- the lines of a block that does this inside
+pub lines_made : (p : Slots) (base : ℕ) (lines inside steps : List Line)
+    → lines ≡ block_lines p base 13 (ring_first p) inside (ring_aborted p) → inside ≡ steps
+    → lines ≡ block_lines p base 13 (ring_first p) steps (ring_aborted p)
+lines_made p base lines inside steps made same =
+    made ∙ ap (λ (xs : List Line). block_lines p base 13 (ring_first p) xs (ring_aborted p)) same

@@ -13,9 +13,9 @@ use Rattle.alone_laws.specs.Pointers.{LiesBeside}
 use Rattle.alone_laws.specs.Uses.{AlwaysOutside, CanAlwaysBegin, Placed, is_before}
 use Rattle.alone_laws.proofs.Pointers.{always_outside}
 use Rattle.percpu_lib.specs.Forms.{Form, HoldsBlock, SharesAreaWith, placed_of, range_of}
-use Rattle.percpu_lib.proofs.Courses.{HasCourse}
+use Rattle.percpu_lib.proofs.BlockCode.{IsFormed}
 
-module _ (s : Setting) (form : Form) (at : ℕ) (area : Area) (t : ℕ) (law : HasCourse form) (history : History)
+module _ (s : Setting) (form : Form) (at : ℕ) (area : Area) (t : ℕ) (formed : IsFormed form) (history : History)
     (held : HoldsBlock s history form at area t) where
   abbrev b : Placed
   b = placed_of form at area
@@ -24,8 +24,8 @@ module _ (s : Setting) (form : Form) (at : ℕ) (area : Area) (t : ℕ) (law : H
   own_apart : (pc : ℕ) → is_before b pc ≡ true → is_inside (range_of form at) pc ≡ false
   own_apart pc here =
       let low = held.low in
-      let all = law.formed.short in
-      let within = law.formed.within in
+      let all = formed.short in
+      let within = formed.within in
       let near = ltb-true ((pc + (2 ^ 64 - at)) % 2 ^ 64) ((at + 4 * form.first + (2 ^ 64 - at)) % 2 ^ 64) here in
       le-ltb ((pc + (2 ^ 64 - (at + 4 * form.first))) % 2 ^ 64) (4 * form.inside) (omega arith)
 

@@ -1,6 +1,6 @@
 -- Tests of each event of a run on hart 0 that find from its history that a thread uses a block as it should: what
 -- HoldsBlock asks of each event, by computation. They ask for more than it does.
-use Rattle.std.proofs.Common.{◌≡◌, ◌≢◌, ℕ, zero, suc, ◌+◌, ◌*◌, ◌<◌, ◌≤◌, List, [], ◌∷◌, refl, sym, ap}
+use Rattle.std.proofs.Common.{◌≡◌, ◌≢◌, ℕ, zero, suc, ◌+◌, ◌-◌, ◌*◌, ◌/◌, ◌<◌, ◌≤◌, List, [], ◌∷◌, refl, sym, ap}
 use Rattle.std.proofs.Common.{◌∙◌, arith, subst, Bool, true, false, not, ◌&&◌, ◌||◌, ◌⊎◌, inl, inr, ⊎_elim, cond}
 use Rattle.std.proofs.Common.{eqb, leb, Option, Some, None}
 use Rattle.std.specs.Option.{option_map_or}
@@ -11,7 +11,7 @@ use Rattle.std.proofs.lemmas.Bool.{not-true}
 use Rattle.mach_types.specs.Bytes.{byte_over, each_byte, overlay, written}
 use Rattle.mach_types.specs.Kernel.Areas.{area_of, can_read_area, can_read_descriptor, descriptor_at}
 use Rattle.mach_types.specs.Kernel.Areas.{has_flags, is_inside, is_signed, sequence_of}
-use Rattle.mach_types.specs.Kernel.Pages.{can_read, can_write, permission_at}
+use Rattle.mach_types.specs.Kernel.Pages.{can_read, can_write, permission_at, permission_of}
 use Rattle.mach_types.specs.Kernel.Threads.{is_live, is_ready}
 use Rattle.mach_types.specs.Registers.{register}
 use Rattle.mach_types.specs.declared.events.Kind.TheVariants as kind
@@ -88,12 +88,6 @@ each_holds test at (suc n) a all low high =
 in_either : (goal x y : Bool) → x || y ≡ true → (x ≡ true → goal ≡ true) → (y ≡ true → goal ≡ true)
     → goal ≡ true
 in_either goal x y has first second = ⊎_elim first second (either x y has)
-
-each_among : (test : ℕ → Bool) (at n : ℕ) → each_byte test at n ≡ true → (a : ℕ) → among at n a ≡ true
-    → test a ≡ true
-each_among test at n all a has =
-    let place = among_low at n a has in
-    each_holds test at n a all place.0 place.1
 
 -- a store beside some bytes, and stores beside them
 abbrev pub is_beside : ℕ → ℕ → Store → Bool
@@ -200,8 +194,20 @@ module _ (s : Setting) (form : Form) (tested : IsTested form) (at : ℕ) (area :
   abbrev writes : History → ℕ → Bool
   writes before a = can_write (permission_at (kernel s before).pages a)
 
+  -- which a test of each of their pages tells
+  abbrev page_reads : History → ℕ → Bool
+  page_reads before page = can_read (permission_of (kernel s before).pages.runs page)
+
+  abbrev page_writes : History → ℕ → Bool
+  page_writes before page = can_write (permission_of (kernel s before).pages.runs page)
+
+  abbrev pages_of : ℕ → ℕ → ℕ
+  pages_of from n = (from + n - 1) / 4096 + 1 - from / 4096
+
   abbrev are_usable : History → ℕ → ℕ → Bool
-  are_usable before from n = each_byte (reads before) from n && each_byte (writes before) from n
+  are_usable before from n =
+      each_byte (page_reads before) (from / 4096) (pages_of from n)
+      && each_byte (page_writes before) (from / 4096) (pages_of from n)
 
   -- the descriptor stands where these bytes are read
   abbrev is_described : (ℕ → Option ℕ) → Bool
@@ -387,15 +393,21 @@ module _ (s : Setting) (form : Form) (tested : IsTested form) (at : ℕ) (area :
 
   reads_are : (before : History) (from n : ℕ) → are_usable before from n ≡ true → (a : ℕ)
       → among from n a ≡ true → reads before a ≡ true
-  reads_are before from n is =
-      each_among (reads before) from n
-      (and_parts (each_byte (reads before) from n) (each_byte (writes before) from n) is).0
+  reads_are before from n is a has =
+      let place = among_low from n a has in
+      let low = place.0 in
+      let high = place.1 in
+      each_holds (page_reads before) (from / 4096) (pages_of from n) (a / 4096)
+      (and_parts (each_byte (page_reads before) (from / 4096) (pages_of from n)) _ is).0 (omega arith) (omega arith)
 
   writes_are : (before : History) (from n : ℕ) → are_usable before from n ≡ true → (a : ℕ)
       → among from n a ≡ true → writes before a ≡ true
-  writes_are before from n is =
-      each_among (writes before) from n
-      (and_parts (each_byte (reads before) from n) (each_byte (writes before) from n) is).1
+  writes_are before from n is a has =
+      let place = among_low from n a has in
+      let low = place.0 in
+      let high = place.1 in
+      each_holds (page_writes before) (from / 4096) (pages_of from n) (a / 4096)
+      (and_parts (each_byte (page_reads before) (from / 4096) (pages_of from n)) _ is).1 (omega arith) (omega arith)
 
   all_are : (before : History) (ranges : List (ℕ × ℕ)) → all_usable before ranges ≡ true → (a : ℕ)
       → is_among ranges a ≡ true → (reads before a ≡ true) × (writes before a ≡ true)

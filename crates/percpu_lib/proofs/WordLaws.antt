@@ -91,6 +91,36 @@ module _ (may : ℕ → Bool) where
     on = λ seen f pc r. refl;
   }
 
+  pub straight_sub : (rd rs1 rs2 : ℕ) → may rd ≡ true → IsStraight may (inst.Sub rd rs1 rs2)
+  unfolding meaning
+  straight_sub rd rs1 rs2 allowed = record {
+    tame = record {
+      plain = λ f pc. refl;
+      keeps = λ seen f pc r x other. written_other f rd _ x (another may x rd other allowed);
+    };
+    on = λ seen f pc r. refl;
+  }
+
+  pub straight_sltiu : (rd rs : ℕ) (imm : ℤ) → may rd ≡ true → IsStraight may (inst.Sltiu rd rs imm)
+  unfolding meaning
+  straight_sltiu rd rs imm allowed = record {
+    tame = record {
+      plain = λ f pc. refl;
+      keeps = λ seen f pc r x other. written_other f rd _ x (another may x rd other allowed);
+    };
+    on = λ seen f pc r. refl;
+  }
+
+  pub straight_andi : (rd rs : ℕ) (imm : ℤ) → may rd ≡ true → IsStraight may (inst.Andi rd rs imm)
+  unfolding meaning
+  straight_andi rd rs imm allowed = record {
+    tame = record {
+      plain = λ f pc. refl;
+      keeps = λ seen f pc r x other. written_other f rd _ x (another may x rd other allowed);
+    };
+    on = λ seen f pc r. refl;
+  }
+
   pub straight_add : (rd rs1 rs2 : ℕ) → may rd ≡ true → IsStraight may (inst.Add rd rs1 rs2)
   unfolding meaning
   straight_add rd rs1 rs2 allowed = record {
@@ -109,7 +139,7 @@ either_pc seen f pc to r true aligned =
     inl (ap (λ n. (outcome seen f pc r (cond (eqb n 0) (effect.Next 0 0 to) effect.Misaligned)).pc) aligned)
 either_pc seen f pc to r false aligned = inr refl
 
-bne_pc : (seen : ℕ → Option ℕ) (f : Regs) (pc to : ℕ) (r : Option ℕ) (rs1 rs2 : ℕ) (imm : ℤ)
+pub bne_pc : (seen : ℕ → Option ℕ) (f : Regs) (pc to : ℕ) (r : Option ℕ) (rs1 rs2 : ℕ) (imm : ℤ)
     → sum_64 pc (word imm) ≡ to → to % 4 ≡ 0
     → ((outcome seen f pc r (meaning (inst.Bne rs1 rs2 imm) f pc)).pc ≡ to)
     ⊎ ((outcome seen f pc r (meaning (inst.Bne rs1 rs2 imm) f pc)).pc ≡ sum_64 pc 4)
@@ -120,7 +150,7 @@ bne_pc seen f pc to r rs1 rs2 imm target aligned =
     (sym target)
     (either_pc seen f pc to r (not (eqb (register f rs1) (register f rs2))) aligned)
 
-beq_pc : (seen : ℕ → Option ℕ) (f : Regs) (pc to : ℕ) (r : Option ℕ) (rs1 rs2 : ℕ) (imm : ℤ)
+pub beq_pc : (seen : ℕ → Option ℕ) (f : Regs) (pc to : ℕ) (r : Option ℕ) (rs1 rs2 : ℕ) (imm : ℤ)
     → sum_64 pc (word imm) ≡ to → to % 4 ≡ 0
     → ((outcome seen f pc r (meaning (inst.Beq rs1 rs2 imm) f pc)).pc ≡ to)
     ⊎ ((outcome seen f pc r (meaning (inst.Beq rs1 rs2 imm) f pc)).pc ≡ sum_64 pc 4)
@@ -238,6 +268,17 @@ module _ (form : Form) (k : ℕ) (short : k < 2 ^ 8) where
         either_word seen at pc (outcome seen f pc r (meaning (inst.Beq rs1 rs2 (pos n)) f pc)).pc (committed form)
         is low inner (leads_out refl)
         (beq_pc seen f pc (at + 4 * committed form) r rs1 rs2 (pos n) (omega (arith, ints))
+        (omega arith));
+  }
+
+  pub bne_out : (rs1 rs2 n : ℕ) → 4 * k + n ≡ 4 * committed form → committed form < 2 ^ 8 → k ≢ committed form
+      → IsWord form k (inst.Bne rs1 rs2 (pos n))
+  bne_out rs1 rs2 n far near inner = record {
+    tame = tame_bne form.may rs1 rs2 (pos n);
+    leads = λ seen f pc at r is aligned low.
+        either_word seen at pc (outcome seen f pc r (meaning (inst.Bne rs1 rs2 (pos n)) f pc)).pc (committed form)
+        is low inner (leads_out refl)
+        (bne_pc seen f pc (at + 4 * committed form) r rs1 rs2 (pos n) (omega (arith, ints))
         (omega arith));
   }
 

@@ -1,5 +1,5 @@
 -- The sequences of the library's blocks as they stand in a program (own).
-use Rattle.std.specs.Prelude.{ℕ, ◌≡◌, ◌+◌, ◌*◌, ◌<◌, ◌^◌, List, ◌∷◌, length, Option, Some, pos}
+use Rattle.std.specs.Prelude.{ℕ, ◌≡◌, ◌+◌, ◌*◌, ◌<◌, ◌≤◌, ◌^◌, List, ◌∷◌, length, Option, Some, pos}
 use Rattle.rv_asm.specs.Assembly.{index_of}
 use Rattle.rv_inst.specs.declared.instruction.Inst.{Inst}
 use Rattle.rv_inst.specs.declared.instruction.Inst.TheVariants as inst
@@ -10,6 +10,7 @@ use Rattle.percpu_lib.specs.Frees.{free_steps}
 use Rattle.percpu_lib.specs.Lines.{instructions}
 use Rattle.percpu_lib.specs.Pops.{pop_steps}
 use Rattle.percpu_lib.specs.Pushes.{push_steps}
+use Rattle.percpu_lib.specs.Rings.{get_steps, put_steps}
 use Rattle.percpu_lib.specs.Words.{AreHeld}
 use Rattle.percpu_lib.specs.declared.lines.Line.{Line}
 use Rattle.percpu_lib.specs.declared.lines.Line.TheVariants as line
@@ -39,10 +40,14 @@ pub record HoldsSequence (code : ℕ → Option Inst) (b : Placed) (p : Slots) (
   pub low : b.range.start < 2 ^ 37
   pub low_table : b.table < 0x7FFFF800
 
--- a block is one of the five
+-- a block is one of the seven
 pub data IsOfLibrary (code : ℕ → Option Inst) (b : Placed) : Type 0 where
   is_add : (p : Slots) (base : ℕ) → HoldsSequence code b p base 6 (add_steps p) → IsOfLibrary code b
   is_push : (p : Slots) (base : ℕ) → HoldsSequence code b p base 6 (push_steps p) → IsOfLibrary code b
   is_pop : (p : Slots) (base : ℕ) → HoldsSequence code b p base 6 (pop_steps p base) → IsOfLibrary code b
   is_alloc : (p : Slots) (base : ℕ) → HoldsSequence code b p base 13 (alloc_steps p base) → IsOfLibrary code b
   is_free : (p : Slots) (base : ℕ) → HoldsSequence code b p base 13 (free_steps p base) → IsOfLibrary code b
+  is_ring_put : (p : Slots) (base count : ℕ) → 1 ≤ count → count ≤ 4
+      → HoldsSequence code b p base 13 (put_steps p base count) → IsOfLibrary code b
+  is_ring_get : (p : Slots) (base count : ℕ) → 1 ≤ count → count ≤ 4
+      → HoldsSequence code b p base 13 (get_steps p base count) → IsOfLibrary code b

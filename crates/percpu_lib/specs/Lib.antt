@@ -11,6 +11,8 @@ pub mod Lines
 pub mod Pools
 pub mod Pops
 pub mod Pushes
+pub mod RingForms
+pub mod RingKinds
 pub mod Rings
 pub mod Used
 pub mod Uses

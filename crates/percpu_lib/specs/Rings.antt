@@ -8,7 +8,9 @@ use Rattle.percpu_lib.specs.declared.lines.Line.{Line}
 use Rattle.percpu_lib.specs.declared.lines.Line.TheVariants as line
 use Rattle.percpu_lib.specs.declared.slots.Slots.{Slots}
 
--- the address of the words is kept in x28, and brought back where the block was aborted
+-- the address of the words is copied into x28, and brought back from there where the block was aborted. The
+-- sequence copies it once more before it sets the value to 0: so what it does follows from its own words,
+-- whatever stands before them
 abbrev pub ring_first : Slots → List Line
 ring_first p = line.Plain (inst.Addi 28 p.value (pos 0)) ∷ []
 
@@ -18,8 +20,10 @@ ring_aborted p = line.Plain (inst.Addi p.value 28 (pos 0)) ∷ []
 -- whether there is room for so many more words: where there isn't, the value is 0 and that is all
 abbrev pub put_test : Slots → ℕ → ℕ → List Line
 put_test p base count =
+    -- x28 is the address that came in
+    line.Plain (inst.Addi 28 p.value (pos 0))
     -- x6 is the tail
-    line.Plain (inst.Ld 6 5 (pos 8))
+    ∷ line.Plain (inst.Ld 6 5 (pos 8))
     -- x7 is the head
     ∷ line.Plain (inst.Ld 7 5 (pos 0))
     -- x7 is how many words the ring holds
@@ -69,8 +73,10 @@ ring_put_lines p base count =
 -- whether the ring holds so many words: where it doesn't, the value is 0 and that is all
 abbrev pub get_test : Slots → ℕ → ℕ → List Line
 get_test p base count =
+    -- x28 is the address that came in
+    line.Plain (inst.Addi 28 p.value (pos 0))
     -- x6 is the head
-    line.Plain (inst.Ld 6 5 (pos 0))
+    ∷ line.Plain (inst.Ld 6 5 (pos 0))
     -- x7 is the tail
     ∷ line.Plain (inst.Ld 7 5 (pos 8))
     -- x7 is how many words the ring holds

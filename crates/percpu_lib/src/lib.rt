@@ -20,6 +20,7 @@ mod pop_theorems;
 mod pops;
 mod push_theorems;
 mod pushes;
+mod ring_theorems;
 mod rings;
 mod room;
 mod slots;
@@ -46,6 +47,12 @@ pub use push_theorems::{
     pushes_that_commit_are_left, retries_of_push_keep_its_value,
 };
 pub use pushes::emit_push;
+pub use ring_theorems::{
+    files_hold_ring, finished_code_holds_ring, labels_of_rings_are_those_of_their_sequences,
+    retries_of_rings_work_on_the_value, ring_blocks_are_used, ring_blocks_lie_beside,
+    rings_are_done, rings_are_of_the_library, rings_are_signed, rings_begin_outside,
+    rings_keep_registers, rings_that_commit_are_left, rings_work_once_or_not_at_all,
+};
 pub use rings::{emit_ring_get, emit_ring_put};
 pub use slots::Slots;
 pub use theorems::{

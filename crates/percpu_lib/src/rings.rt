@@ -27,6 +27,7 @@ fn steps_of_put(alloc: Global, base: u32, slots: Slots, count: u8) -> Result<Vec
 {
     let mut lines = Vec::new(alloc);
     lines.extend_from_slice(&[
+        inst!(Addi rd = 28, rs1 = slots.value, imm = 0),
         inst!(Ld rd = 6, rs1 = 5, imm = 8),
         inst!(Ld rd = 7, rs1 = 5, imm = 0),
         inst!(Sub rd = 7, rs1 = 6, rs2 = 7),
@@ -64,6 +65,7 @@ fn steps_of_get(alloc: Global, base: u32, slots: Slots, count: u8) -> Result<Vec
 {
     let mut lines = Vec::new(alloc);
     lines.extend_from_slice(&[
+        inst!(Addi rd = 28, rs1 = slots.value, imm = 0),
         inst!(Ld rd = 6, rs1 = 5, imm = 0),
         inst!(Ld rd = 7, rs1 = 5, imm = 8),
         inst!(Sub rd = 7, rs1 = 7, rs2 = 6),

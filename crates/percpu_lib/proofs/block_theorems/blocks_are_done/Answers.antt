@@ -10,7 +10,7 @@ returns c = record {
   few = few_words;
   shared = λ k s log stretch p at area h t others run held can shares runs pc calm many.
       comes_to_end k s p at area h t log stretch run held can
-      (outside_before s (form_of k p) at area t (course_of_kind k p) (history s (log ++ stretch)) held others run.allowed
+      (outside_before s (form_of k p) at area t (course_of_kind k p).formed (history s (log ++ stretch)) held others run.allowed
       shares can)
       runs pc calm many;
   outside = λ k s log stretch p at area h t run held can outside runs pc calm many.

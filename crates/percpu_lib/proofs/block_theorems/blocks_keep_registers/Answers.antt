@@ -16,5 +16,5 @@ returns c k s log entry p at area t r run holds exec runs inside kept =
     let e : Event = event s before entry in
     let more = history-append s log entry in
     ap (λ (x : History). register (file s t x).file r) more
-    ∙ registers_kept s (form_of k p) at area t (course_of_kind k p) e before (subst (IsRunHistory s) more run.allowed)
+    ∙ registers_kept s (form_of k p) at area t (course_of_kind k p).formed e before (subst (IsRunHistory s) more run.allowed)
     (subst (λ (x : History). HoldsBlock s x (form_of k p) at area t) more holds) exec runs inside r kept

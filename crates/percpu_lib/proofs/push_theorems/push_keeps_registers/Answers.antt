@@ -15,5 +15,5 @@ returns c s log entry p at area t r run holds exec runs inside kept =
     let e : Event = event s before entry in
     let more = history-append s log entry in
     ap (λ (x : History). register (file s t x).file r) more
-    ∙ registers_kept s (push_form p) at area t (push_course p) e before (subst (IsRunHistory s) more run.allowed)
+    ∙ registers_kept s (push_form p) at area t (push_course p).formed e before (subst (IsRunHistory s) more run.allowed)
     (subst (λ (x : History). HoldsPush s x p at area t) more holds) exec runs inside r kept

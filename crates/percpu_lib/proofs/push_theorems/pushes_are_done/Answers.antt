@@ -11,7 +11,7 @@ pub returns : goal.returns
 returns c = record {
   shared = λ s log stretch p at area h t others run held can shares runs pc calm many.
       comes_to_end pushes s p at area h t log stretch run held can
-      (outside_before s (push_form p) at area t (push_course p) (history s (log ++ stretch)) held others run.allowed
+      (outside_before s (push_form p) at area t (push_course p).formed (history s (log ++ stretch)) held others run.allowed
       shares can)
       runs pc calm many;
   outside = λ s log stretch p at area h t run held can outside runs pc calm many.

@@ -6,4 +6,4 @@ use Rattle.percpu_lib.proofs.theorems.adds_begin_outside.Goals as goal
 
 pub returns : goal.returns
 returns c s log p at area t others run held can shares =
-    outside_before s (add_form p) at area t (add_course p) (history s log) held others run.allowed shares can
+    outside_before s (add_form p) at area t (add_course p).formed (history s log) held others run.allowed shares can

@@ -1,0 +1,425 @@
+-- Worked logs, by computation. A thread registers its area and puts the words 7 and 9 into the ring of its
+-- processor by a ring put block, where head and tail are 2^64 - 1. It is preempted inside, once the first
+-- word is in its slot, begins anew at the abort handler, and puts both in once. Then it gets them by a ring
+-- get block, and finds the ring empty by another sequence of that. The value of both blocks is in a0. In
+-- the other log a thread is to put a word into a ring that is full.
+use Rattle.std.proofs.Common.{◌≡◌, ℕ, ◌+◌, ◌-◌, ◌^◌, ◌<◌, ◌≤◌, List, [], ◌∷◌, ◌++◌, replicate, take, drop}
+use Rattle.std.proofs.Common.{length, refl, Bool, true, ◌&&◌, Some, eqb, ltb, Ok}
+use Rattle.std.proofs.lemmas.Bool.{leb-true, ltb-true}
+use Rattle.mach_types.specs.Kernel.Areas.{are_readable, is_inside, number_at}
+use Rattle.mach_types.specs.declared.events.Choice.TheVariants as asked
+use Rattle.mach_types.specs.declared.events.Entry.{Entry}
+use Rattle.mach_types.specs.declared.events.Kind.TheVariants as kind
+use Rattle.mach_types.specs.declared.sequences.Area.{Area}
+use Rattle.rv_inst.specs.Meaning.{meaning}
+use Rattle.rv_inst.specs.Table.{row_of, rows, lui_rows, auipc_rows, jal_rows, jalr_rows, branch_rows, load_rows, store_rows}
+use Rattle.rv_inst.specs.Table.{op_imm_rows, op_imm_32_rows, op_rows, op_32_rows, misc_mem_rows, amo_rows, system_rows}
+use Rattle.block_model.specs.Acts.{Sequence}
+use Rattle.block_model.specs.Deciding.{decide, done, history}
+use Rattle.block_model.specs.History.{file, running, stores}
+use Rattle.block_model.specs.Replay.{Ask, played}
+use Rattle.block_model.specs.Run.{IsBlockRun}
+use Rattle.block_model.specs.Setting.{Setting}
+use Rattle.block_model.proofs.Laws.{played_is_run, run_before}
+use Rattle.alone_laws.specs.Retries.{Retries}
+use Rattle.alone_laws.specs.Spans.{code_of}
+use Rattle.alone_laws.specs.Undisturbed.{IsUndisturbed, executed_on}
+use Rattle.alone_laws.specs.Uses.{Placed}
+use Rattle.percpu_lib.specs.Forms.{Form, placed_of}
+use Rattle.percpu_lib.specs.Frees.{value_of}
+use Rattle.percpu_lib.specs.Pushes.{word_seen}
+use Rattle.percpu_lib.specs.RingForms.{get_block, put_block, ring_at, ring_get_form, ring_put_form, slot_of}
+use Rattle.percpu_lib.specs.Uses.{cells_of}
+use Rattle.percpu_lib.specs.declared.slots.Slots.{Slots}
+use Rattle.percpu_lib.proofs.ExampleParts.{AreThere, IsFound, IsGood, IsUsedSo, entry, found_good, is_found}
+use Rattle.percpu_lib.proofs.ExampleParts.{is_good, line, is_found, sequence_found, used_so}
+use Rattle.percpu_lib.proofs.FormTests.{ring_get_tested, ring_put_tested}
+use Rattle.percpu_lib.proofs.RetryParts.{calm_so, is_retried, retried_so}
+use Rattle.percpu_lib.proofs.UseTests.{IsTested, is_just}
+
+-- the ring of the thread of a sequence
+abbrev pub ring_of : Setting → Slots → Sequence → ℕ
+ring_of s p q = ring_at (cells_of s p q.thread q.begun) 0
+
+-- a sequence executed no store
+abbrev pub stores_none : Sequence → Bool
+stores_none q = eqb (length (stores 0 q.reached)) (length (stores 0 q.begun))
+
+-- a program with these bytes of code, from 0x100B0 on, and of a ring at 0x20040; the words 7 and 9 stand at
+-- 0x21100
+abbrev setting_of : List ℕ → List ℕ → Setting
+setting_of code ring = record {
+  program = record {
+    pages = record { number = 0x10; perm = 5; bytes = replicate 0xB0 0 ++ code }
+        ∷ record { number = 0x20; perm = 6; bytes = replicate 0x40 0 ++ ring }
+        ∷ record { number = 0x21; perm = 6; bytes = replicate 0x100 0 ++ 7 ∷ (replicate 7 0 ++ 9 ∷ []) } ∷ [];
+    entry = 0x100B0;
+    phdr = 0x10040;
+    phnum = 2;
+    break_at = 0x22000;
+  };
+  limits = record { harts = 1; frames = 128; steps = 200 };
+}
+
+abbrev pub area : Area
+area = record { at = 0x20000; sig = 0xF1401073 }
+
+-- TWO WORDS
+
+-- `lui x8, 0x20`, `addi x10, x8, 0`, `addi x11, x0, 32`, `lui x13, 0xF1401`, `addi x13, x13, 0x73`, `addi
+-- x17, x0, 293`, `ecall`, `addi x9, x8, 64`, `lui x18, 0x21`, `addi x10, x18, 0x100`; from 0x100D8 on a block
+-- that puts two words, `addi x10, x18, 0x120`, from 0x10164 on one that gets two, and a jump back to that; at
+-- 0x10200 and 0x10220 their descriptors
+abbrev code : List ℕ
+code =
+    0x37 ∷ 0x04 ∷ 0x02 ∷ 0x00 ∷ 0x13 ∷ 0x05 ∷ 0x04 ∷ 0x00 ∷ 0x93 ∷ 0x05 ∷ 0x00 ∷ 0x02 ∷ 0xB7 ∷ 0x16 ∷ 0x40
+    ∷ 0xF1 ∷ 0x93 ∷ 0x86 ∷ 0x36 ∷ 0x07 ∷ 0x93 ∷ 0x08 ∷ 0x50 ∷ 0x12 ∷ 0x73 ∷ 0x00 ∷ 0x00 ∷ 0x00 ∷ 0x93 ∷ 0x04
+    ∷ 0x04 ∷ 0x04 ∷ 0x37 ∷ 0x19 ∷ 0x02 ∷ 0x00 ∷ 0x13 ∷ 0x05 ∷ 0x09 ∷ 0x10 ∷ 0x13 ∷ 0x0E ∷ 0x05 ∷ 0x00 ∷ 0x83
+    ∷ 0x22 ∷ 0x04 ∷ 0x00 ∷ 0x37 ∷ 0x03 ∷ 0x01 ∷ 0x00 ∷ 0x13 ∷ 0x03 ∷ 0x03 ∷ 0x20 ∷ 0x23 ∷ 0x34 ∷ 0x64 ∷ 0x00
+    ∷ 0x03 ∷ 0x23 ∷ 0x44 ∷ 0x00 ∷ 0xE3 ∷ 0x14 ∷ 0x53 ∷ 0xFE ∷ 0x93 ∷ 0x92 ∷ 0xD2 ∷ 0x00 ∷ 0xB3 ∷ 0x82 ∷ 0x92
+    ∷ 0x00 ∷ 0x13 ∷ 0x0E ∷ 0x05 ∷ 0x00 ∷ 0x03 ∷ 0xB3 ∷ 0x82 ∷ 0x00 ∷ 0x83 ∷ 0xB3 ∷ 0x02 ∷ 0x00 ∷ 0xB3 ∷ 0x03
+    ∷ 0x73 ∷ 0x40 ∷ 0x93 ∷ 0xB3 ∷ 0xF3 ∷ 0x1F ∷ 0x13 ∷ 0x05 ∷ 0x00 ∷ 0x00 ∷ 0x63 ∷ 0x8E ∷ 0x03 ∷ 0x02 ∷ 0x13
+    ∷ 0x05 ∷ 0x0E ∷ 0x00 ∷ 0x93 ∷ 0x73 ∷ 0xF3 ∷ 0x1F ∷ 0x93 ∷ 0x93 ∷ 0x33 ∷ 0x00 ∷ 0xB3 ∷ 0x83 ∷ 0x53 ∷ 0x00
+    ∷ 0x83 ∷ 0x3E ∷ 0x05 ∷ 0x00 ∷ 0x23 ∷ 0xB0 ∷ 0xD3 ∷ 0x05 ∷ 0x13 ∷ 0x03 ∷ 0x13 ∷ 0x00 ∷ 0x93 ∷ 0x73 ∷ 0xF3
+    ∷ 0x1F ∷ 0x93 ∷ 0x93 ∷ 0x33 ∷ 0x00 ∷ 0xB3 ∷ 0x83 ∷ 0x53 ∷ 0x00 ∷ 0x83 ∷ 0x3E ∷ 0x85 ∷ 0x00 ∷ 0x23 ∷ 0xB0
+    ∷ 0xD3 ∷ 0x05 ∷ 0x13 ∷ 0x03 ∷ 0x13 ∷ 0x00 ∷ 0x23 ∷ 0xB4 ∷ 0x62 ∷ 0x00 ∷ 0x6F ∷ 0x00 ∷ 0x00 ∷ 0x01 ∷ 0x73
+    ∷ 0x10 ∷ 0x40 ∷ 0xF1 ∷ 0x13 ∷ 0x05 ∷ 0x0E ∷ 0x00 ∷ 0x6F ∷ 0xF0 ∷ 0xDF ∷ 0xF7 ∷ 0x13 ∷ 0x05 ∷ 0x09 ∷ 0x12
+    ∷ 0x13 ∷ 0x0E ∷ 0x05 ∷ 0x00 ∷ 0x83 ∷ 0x22 ∷ 0x04 ∷ 0x00 ∷ 0x37 ∷ 0x03 ∷ 0x01 ∷ 0x00 ∷ 0x13 ∷ 0x03 ∷ 0x03
+    ∷ 0x22 ∷ 0x23 ∷ 0x34 ∷ 0x64 ∷ 0x00 ∷ 0x03 ∷ 0x23 ∷ 0x44 ∷ 0x00 ∷ 0xE3 ∷ 0x14 ∷ 0x53 ∷ 0xFE ∷ 0x93 ∷ 0x92
+    ∷ 0xD2 ∷ 0x00 ∷ 0xB3 ∷ 0x82 ∷ 0x92 ∷ 0x00 ∷ 0x13 ∷ 0x0E ∷ 0x05 ∷ 0x00 ∷ 0x03 ∷ 0xB3 ∷ 0x02 ∷ 0x00 ∷ 0x83
+    ∷ 0xB3 ∷ 0x82 ∷ 0x00 ∷ 0xB3 ∷ 0x83 ∷ 0x63 ∷ 0x40 ∷ 0x93 ∷ 0xB3 ∷ 0x23 ∷ 0x00 ∷ 0x13 ∷ 0x05 ∷ 0x00 ∷ 0x00
+    ∷ 0x63 ∷ 0x9E ∷ 0x03 ∷ 0x02 ∷ 0x13 ∷ 0x05 ∷ 0x0E ∷ 0x00 ∷ 0x93 ∷ 0x73 ∷ 0xF3 ∷ 0x1F ∷ 0x93 ∷ 0x93 ∷ 0x33
+    ∷ 0x00 ∷ 0xB3 ∷ 0x83 ∷ 0x53 ∷ 0x00 ∷ 0x83 ∷ 0xBE ∷ 0x03 ∷ 0x04 ∷ 0x23 ∷ 0x30 ∷ 0xD5 ∷ 0x01 ∷ 0x13 ∷ 0x03
+    ∷ 0x13 ∷ 0x00 ∷ 0x93 ∷ 0x73 ∷ 0xF3 ∷ 0x1F ∷ 0x93 ∷ 0x93 ∷ 0x33 ∷ 0x00 ∷ 0xB3 ∷ 0x83 ∷ 0x53 ∷ 0x00 ∷ 0x83
+    ∷ 0xBE ∷ 0x03 ∷ 0x04 ∷ 0x23 ∷ 0x34 ∷ 0xD5 ∷ 0x01 ∷ 0x13 ∷ 0x03 ∷ 0x13 ∷ 0x00 ∷ 0x23 ∷ 0xB0 ∷ 0x62 ∷ 0x00
+    ∷ 0x6F ∷ 0x00 ∷ 0x00 ∷ 0x01 ∷ 0x73 ∷ 0x10 ∷ 0x40 ∷ 0xF1 ∷ 0x13 ∷ 0x05 ∷ 0x0E ∷ 0x00 ∷ 0x6F ∷ 0xF0 ∷ 0xDF
+    ∷ 0xF7 ∷ 0x6F ∷ 0xF0 ∷ 0x9F ∷ 0xF7 ∷ 0x00 ∷ 0x00 ∷ 0x00 ∷ 0x00 ∷ 0x00 ∷ 0x00 ∷ 0x00 ∷ 0x00 ∷ 0x00 ∷ 0x00
+    ∷ 0x00 ∷ 0x00 ∷ 0x00 ∷ 0x00 ∷ 0x00 ∷ 0x00 ∷ 0x00 ∷ 0x00 ∷ 0x00 ∷ 0x00 ∷ 0x00 ∷ 0x00 ∷ 0x00 ∷ 0x00 ∷ 0xEC
+    ∷ 0x00 ∷ 0x01 ∷ 0x00 ∷ 0x00 ∷ 0x00 ∷ 0x00 ∷ 0x00 ∷ 0x64 ∷ 0x00 ∷ 0x00 ∷ 0x00 ∷ 0x00 ∷ 0x00 ∷ 0x00 ∷ 0x00
+    ∷ 0x58 ∷ 0x01 ∷ 0x01 ∷ 0x00 ∷ 0x00 ∷ 0x00 ∷ 0x00 ∷ 0x00 ∷ 0x00 ∷ 0x00 ∷ 0x00 ∷ 0x00 ∷ 0x00 ∷ 0x00 ∷ 0x00
+    ∷ 0x00 ∷ 0x78 ∷ 0x01 ∷ 0x01 ∷ 0x00 ∷ 0x00 ∷ 0x00 ∷ 0x00 ∷ 0x00 ∷ 0x64 ∷ 0x00 ∷ 0x00 ∷ 0x00 ∷ 0x00 ∷ 0x00
+    ∷ 0x00 ∷ 0x00 ∷ 0xE4 ∷ 0x01 ∷ 0x01 ∷ 0x00 ∷ 0x00 ∷ 0x00 ∷ 0x00 ∷ 0x00 ∷ []
+
+abbrev pub setting : Setting
+setting = setting_of code (replicate 16 0xFF)
+
+abbrev pub put_slots : Slots
+put_slots = record { area = 8; cells = 9; value = 10; table = 0x10200 }
+
+abbrev pub get_slots : Slots
+get_slots = record { area = 8; cells = 9; value = 10; table = 0x10220 }
+
+abbrev pub put_at : ℕ
+put_at = 0x100D8
+
+abbrev pub get_at : ℕ
+get_at = 0x10164
+
+abbrev put : Form
+put = ring_put_form 2 put_slots
+
+abbrev get : Form
+get = ring_get_form 2 get_slots
+
+abbrev pub the_put : Placed
+the_put = placed_of put put_at area
+
+abbrev pub the_get : Placed
+the_get = placed_of get get_at area
+
+-- the thread runs, and executes the first 10 instructions and 22 words of the put, whose two stores then
+-- enter memory. It is preempted and runs again; it executes the two words of the abort handler and 30 words
+-- of the block. Their stores enter memory, and it executes the jump behind it, the instruction between the
+-- blocks, and 30 words of the get, whose stores enter memory; and again the jump, the one back, and 16
+-- words
+abbrev lines : List Ask
+lines =
+    line (asked.Run (record { 0 = 1 }))
+    ∷ (replicate 32 (line asked.Exec)
+    ++ (replicate 2 (line asked.Drain)
+    ++ line asked.Preempt
+    ∷ line (asked.Run (record { 0 = 1 }))
+    ∷ (replicate 32 (line asked.Exec)
+    ++ (replicate 4 (line asked.Drain)
+    ++ (replicate 32 (line asked.Exec)
+    ++ (replicate 4 (line asked.Drain)
+    ++ (replicate 18 (line asked.Exec)
+    ++ [])))))))
+
+abbrev log : List Entry
+log =
+    entry kind.Run 1 0x100B0 ∷ entry kind.Exec 1 0x100B0 ∷ entry kind.Exec 1 0x100B4
+    ∷ entry kind.Exec 1 0x100B8 ∷ entry kind.Exec 1 0x100BC ∷ entry kind.Exec 1 0x100C0
+    ∷ entry kind.Exec 1 0x100C4 ∷ entry kind.Exec 1 0x100C8 ∷ entry kind.Exec 1 0x100CC
+    ∷ entry kind.Exec 1 0x100D0 ∷ entry kind.Exec 1 0x100D4 ∷ entry kind.Exec 1 0x100D8
+    ∷ entry kind.Exec 1 0x100DC ∷ entry kind.Exec 1 0x100E0 ∷ entry kind.Exec 1 0x100E4
+    ∷ entry kind.Exec 1 0x100E8 ∷ entry kind.Exec 1 0x100EC ∷ entry kind.Exec 1 0x100F0
+    ∷ entry kind.Exec 1 0x100F4 ∷ entry kind.Exec 1 0x100F8 ∷ entry kind.Exec 1 0x100FC
+    ∷ entry kind.Exec 1 0x10100 ∷ entry kind.Exec 1 0x10104 ∷ entry kind.Exec 1 0x10108
+    ∷ entry kind.Exec 1 0x1010C ∷ entry kind.Exec 1 0x10110 ∷ entry kind.Exec 1 0x10114
+    ∷ entry kind.Exec 1 0x10118 ∷ entry kind.Exec 1 0x1011C ∷ entry kind.Exec 1 0x10120
+    ∷ entry kind.Exec 1 0x10124 ∷ entry kind.Exec 1 0x10128 ∷ entry kind.Exec 1 0x1012C
+    ∷ entry kind.Drain 1 0x10130 ∷ entry kind.Drain 1 0x10130 ∷ entry kind.Preempt 1 0x10130
+    ∷ entry kind.Run 1 0x10130 ∷ entry kind.Exec 1 0x10158 ∷ entry kind.Exec 1 0x1015C
+    ∷ entry kind.Exec 1 0x100D8 ∷ entry kind.Exec 1 0x100DC ∷ entry kind.Exec 1 0x100E0
+    ∷ entry kind.Exec 1 0x100E4 ∷ entry kind.Exec 1 0x100E8 ∷ entry kind.Exec 1 0x100EC
+    ∷ entry kind.Exec 1 0x100F0 ∷ entry kind.Exec 1 0x100F4 ∷ entry kind.Exec 1 0x100F8
+    ∷ entry kind.Exec 1 0x100FC ∷ entry kind.Exec 1 0x10100 ∷ entry kind.Exec 1 0x10104
+    ∷ entry kind.Exec 1 0x10108 ∷ entry kind.Exec 1 0x1010C ∷ entry kind.Exec 1 0x10110
+    ∷ entry kind.Exec 1 0x10114 ∷ entry kind.Exec 1 0x10118 ∷ entry kind.Exec 1 0x1011C
+    ∷ entry kind.Exec 1 0x10120 ∷ entry kind.Exec 1 0x10124 ∷ entry kind.Exec 1 0x10128
+    ∷ entry kind.Exec 1 0x1012C ∷ entry kind.Exec 1 0x10130 ∷ entry kind.Exec 1 0x10134
+    ∷ entry kind.Exec 1 0x10138 ∷ entry kind.Exec 1 0x1013C ∷ entry kind.Exec 1 0x10140
+    ∷ entry kind.Exec 1 0x10144 ∷ entry kind.Exec 1 0x10148 ∷ entry kind.Exec 1 0x1014C
+    ∷ entry kind.Drain 1 0x10150 ∷ entry kind.Drain 1 0x10150 ∷ entry kind.Drain 1 0x10150
+    ∷ entry kind.Drain 1 0x10150 ∷ entry kind.Exec 1 0x10150 ∷ entry kind.Exec 1 0x10160
+    ∷ entry kind.Exec 1 0x10164 ∷ entry kind.Exec 1 0x10168 ∷ entry kind.Exec 1 0x1016C
+    ∷ entry kind.Exec 1 0x10170 ∷ entry kind.Exec 1 0x10174 ∷ entry kind.Exec 1 0x10178
+    ∷ entry kind.Exec 1 0x1017C ∷ entry kind.Exec 1 0x10180 ∷ entry kind.Exec 1 0x10184
+    ∷ entry kind.Exec 1 0x10188 ∷ entry kind.Exec 1 0x1018C ∷ entry kind.Exec 1 0x10190
+    ∷ entry kind.Exec 1 0x10194 ∷ entry kind.Exec 1 0x10198 ∷ entry kind.Exec 1 0x1019C
+    ∷ entry kind.Exec 1 0x101A0 ∷ entry kind.Exec 1 0x101A4 ∷ entry kind.Exec 1 0x101A8
+    ∷ entry kind.Exec 1 0x101AC ∷ entry kind.Exec 1 0x101B0 ∷ entry kind.Exec 1 0x101B4
+    ∷ entry kind.Exec 1 0x101B8 ∷ entry kind.Exec 1 0x101BC ∷ entry kind.Exec 1 0x101C0
+    ∷ entry kind.Exec 1 0x101C4 ∷ entry kind.Exec 1 0x101C8 ∷ entry kind.Exec 1 0x101CC
+    ∷ entry kind.Exec 1 0x101D0 ∷ entry kind.Exec 1 0x101D4 ∷ entry kind.Exec 1 0x101D8
+    ∷ entry kind.Drain 1 0x101DC ∷ entry kind.Drain 1 0x101DC ∷ entry kind.Drain 1 0x101DC
+    ∷ entry kind.Drain 1 0x101DC ∷ entry kind.Exec 1 0x101DC ∷ entry kind.Exec 1 0x101EC
+    ∷ entry kind.Exec 1 0x10164 ∷ entry kind.Exec 1 0x10168 ∷ entry kind.Exec 1 0x1016C
+    ∷ entry kind.Exec 1 0x10170 ∷ entry kind.Exec 1 0x10174 ∷ entry kind.Exec 1 0x10178
+    ∷ entry kind.Exec 1 0x1017C ∷ entry kind.Exec 1 0x10180 ∷ entry kind.Exec 1 0x10184
+    ∷ entry kind.Exec 1 0x10188 ∷ entry kind.Exec 1 0x1018C ∷ entry kind.Exec 1 0x10190
+    ∷ entry kind.Exec 1 0x10194 ∷ entry kind.Exec 1 0x10198 ∷ entry kind.Exec 1 0x1019C
+    ∷ entry kind.Exec 1 0x101A0 ∷ []
+
+is_played : played setting lines ≡ Ok log
+unfolding played decide history done meaning row_of rows lui_rows auipc_rows jal_rows jalr_rows branch_rows load_rows store_rows op_imm_rows op_imm_32_rows op_rows op_32_rows misc_mem_rows amo_rows system_rows are_readable number_at
+is_played = refl
+
+is_run : IsBlockRun setting log
+is_run = (played_is_run setting lines log is_played).0
+
+put_there : AreThere (code_of setting.program.pages) put_at (put_block put_slots 2)
+unfolding row_of rows lui_rows auipc_rows jal_rows jalr_rows branch_rows load_rows store_rows op_imm_rows op_imm_32_rows op_rows op_32_rows misc_mem_rows amo_rows system_rows
+put_there = (refl, (refl, (refl, (refl, (refl, (refl, (refl, (refl, (refl, (refl, (refl, (refl, (refl, (refl, (refl, (refl, (refl, (refl, (refl, (refl, (refl, (refl, (refl, (refl, (refl, (refl, (refl, (refl, (refl, (refl, (refl, (refl, (refl, (refl, tt))))))))))))))))))))))))))))))))))
+
+get_there : AreThere (code_of setting.program.pages) get_at (get_block get_slots 2)
+unfolding row_of rows lui_rows auipc_rows jal_rows jalr_rows branch_rows load_rows store_rows op_imm_rows op_imm_32_rows op_rows op_32_rows misc_mem_rows amo_rows system_rows
+get_there = (refl, (refl, (refl, (refl, (refl, (refl, (refl, (refl, (refl, (refl, (refl, (refl, (refl, (refl, (refl, (refl, (refl, (refl, (refl, (refl, (refl, (refl, (refl, (refl, (refl, (refl, (refl, (refl, (refl, (refl, (refl, (refl, (refl, (refl, tt))))))))))))))))))))))))))))))))))
+
+abbrev put_tested : IsTested put
+put_tested = ring_put_tested 2 put_slots
+
+abbrev get_tested : IsTested get
+get_tested = ring_get_tested 2 get_slots
+
+-- the put: slots 511 and 0 are 7 and 9, and the tail is 1
+abbrev pub put_log : List Entry
+put_log = take 69 log
+
+abbrev pub put_fits : Sequence → Bool
+put_fits q =
+    eqb q.thread 1
+    && (is_just (word_seen setting 0 (slot_of (ring_of setting put_slots q) 511) q.reached) 7
+    && (is_just (word_seen setting 0 (slot_of (ring_of setting put_slots q) 0) q.reached) 9
+    && is_just (word_seen setting 0 (ring_of setting put_slots q + 8) q.reached) 1))
+
+put_good : is_good setting put put_tested put_at area 1 (the_get ∷ []) put_fits (history setting put_log)
+    ≡ true
+unfolding decide history done meaning row_of rows lui_rows auipc_rows jal_rows jalr_rows branch_rows load_rows store_rows op_imm_rows op_imm_32_rows op_rows op_32_rows misc_mem_rows amo_rows system_rows are_readable number_at
+put_good = refl
+
+put_run : IsBlockRun setting put_log
+put_run = run_before setting (take 69 log) (drop 69 log) is_run
+
+pub put_used : IsGood setting put_log put put_at area (the_get ∷ []) put_fits
+put_used =
+    found_good setting put_log put put_tested put_at area 1 (the_get ∷ []) put_fits put_run put_good refl
+    put_there refl
+
+-- its first sequence, which was cut: slot 511 is 7, and the tail is as it was
+abbrev pub cut : List Entry
+cut = take 35 log
+
+abbrev pub cut_rest : List Entry
+cut_rest = take 34 (drop 35 log)
+
+abbrev pub cut_fits : Sequence → Bool
+cut_fits q =
+    eqb q.thread 1
+    && (is_inside the_put.range (file setting q.thread q.begun).pc
+    && (eqb (file setting q.thread q.reached).pc (put_at + 88)
+    && (is_just (word_seen setting 0 (slot_of (ring_of setting put_slots q) 511) q.reached) 7
+    && is_just (word_seen setting 0 (ring_of setting put_slots q + 8) q.reached) (2 ^ 64 - 1))))
+
+cut_found : is_found setting cut cut_fits ≡ true
+unfolding decide history done meaning row_of rows lui_rows auipc_rows jal_rows jalr_rows branch_rows load_rows store_rows op_imm_rows op_imm_32_rows op_rows op_32_rows misc_mem_rows amo_rows system_rows are_readable number_at
+cut_found = refl
+
+pub was_cut : IsFound setting cut cut_fits
+was_cut = sequence_found setting cut cut_fits cut_found
+
+-- the get: the words at 0x21120 are 7 and 9, and the head is 1
+abbrev pub get_log : List Entry
+get_log = take 105 log
+
+abbrev pub get_fits : Sequence → Bool
+get_fits q =
+    is_just (word_seen setting 0 (value_of setting get_slots q.thread q.begun) q.reached) 7
+    && (is_just (word_seen setting 0 (value_of setting get_slots q.thread q.begun + 8) q.reached) 9
+    && is_just (word_seen setting 0 (ring_of setting get_slots q) q.reached) 1)
+
+get_good : is_good setting get get_tested get_at area 1 (the_put ∷ []) get_fits (history setting get_log)
+    ≡ true
+unfolding decide history done meaning row_of rows lui_rows auipc_rows jal_rows jalr_rows branch_rows load_rows store_rows op_imm_rows op_imm_32_rows op_rows op_32_rows misc_mem_rows amo_rows system_rows are_readable number_at
+get_good = refl
+
+pub get_used : IsGood setting get_log get get_at area (the_put ∷ []) get_fits
+get_used =
+    found_good setting get_log get get_tested get_at area 1 (the_put ∷ []) get_fits
+    (run_before setting (take 105 log) (drop 105 log) is_run) get_good refl get_there refl
+
+-- the get from an empty ring: the value is 0, and no store was executed
+abbrev pub none_log : List Entry
+none_log = log
+
+abbrev pub none_fits : Sequence → Bool
+none_fits q = eqb (value_of setting get_slots q.thread q.reached) 0 && stores_none q
+
+none_good : is_good setting get get_tested get_at area 1 (the_put ∷ []) none_fits (history setting none_log)
+    ≡ true
+unfolding decide history done meaning row_of rows lui_rows auipc_rows jal_rows jalr_rows branch_rows load_rows store_rows op_imm_rows op_imm_32_rows op_rows op_32_rows misc_mem_rows amo_rows system_rows are_readable number_at
+none_good = refl
+
+pub none_used : IsGood setting none_log get get_at area (the_put ∷ []) none_fits
+none_used =
+    found_good setting none_log get get_tested get_at area 1 (the_put ∷ []) none_fits is_run none_good refl
+    get_there refl
+
+-- A RETRY
+
+-- the thread was at the retry label of the put a first time. From there it walked to the word behind the
+-- store to slot 511; it was preempted there, and began to run again at the abort handler; and from there it
+-- walked back, and is undisturbed then
+abbrev pub first_time : List Entry
+first_time = take 11 log
+
+abbrev pub anew : List Entry
+anew = take 39 log
+
+abbrev pub rest : List Entry
+rest = take 30 (drop 39 log)
+
+comes_back : is_retried setting the_put 1 first_time (take 24 (drop 11 log)) (take 2 (drop 35 log))
+    (take 2 (drop 37 log)) ≡ true
+unfolding decide history done meaning row_of rows lui_rows auipc_rows jal_rows jalr_rows branch_rows load_rows store_rows op_imm_rows op_imm_32_rows op_rows op_32_rows misc_mem_rows amo_rows system_rows are_readable number_at
+comes_back = refl
+
+pub retried : Retries setting the_put 1 first_time anew
+retried =
+    retried_so setting the_put 1 first_time (take 24 (drop 11 log)) (take 2 (drop 35 log))
+    (take 2 (drop 37 log)) comes_back
+
+pub used_again : IsUsedSo setting put_log put put_at area 1 (the_get ∷ [])
+used_again =
+    used_so setting put_log put put_tested put_at area 1 (the_get ∷ []) put_fits put_run put_good refl put_there
+    refl
+
+small_there : ltb (value_of setting put_slots 1 (history setting first_time)) (2 ^ 64) ≡ true
+unfolding decide history done meaning row_of rows lui_rows auipc_rows jal_rows jalr_rows branch_rows load_rows store_rows op_imm_rows op_imm_32_rows op_rows op_32_rows misc_mem_rows amo_rows system_rows are_readable number_at
+small_there = refl
+
+pub small_value : value_of setting put_slots 1 (history setting first_time) < 2 ^ 64
+small_value = ltb-true (value_of setting put_slots 1 (history setting first_time)) (2 ^ 64) small_there
+
+pub runs_anew : running setting 0 (history setting anew) ≡ Some 1
+unfolding decide history done meaning row_of rows lui_rows auipc_rows jal_rows jalr_rows branch_rows load_rows store_rows op_imm_rows op_imm_32_rows op_rows op_32_rows misc_mem_rows amo_rows system_rows are_readable number_at
+runs_anew = refl
+
+pub at_label : (file setting 1 (history setting anew)).pc ≡ put_at
+unfolding decide history done meaning row_of rows lui_rows auipc_rows jal_rows jalr_rows branch_rows load_rows store_rows op_imm_rows op_imm_32_rows op_rows op_32_rows misc_mem_rows amo_rows system_rows are_readable number_at
+at_label = refl
+
+pub undisturbed : IsUndisturbed 0 rest
+undisturbed = calm_so rest refl
+
+pub enough : 30 ≤ executed_on 0 rest
+enough = leb-true 30 (executed_on 0 rest) refl
+
+-- ONE WORD AND A FULL RING
+
+-- the same instructions but for the last, `addi x18, x18, 0x100`; from 0x100D8 on a block that puts one
+-- word, and at 0x10160 its descriptor
+abbrev full_code : List ℕ
+full_code =
+    0x37 ∷ 0x04 ∷ 0x02 ∷ 0x00 ∷ 0x13 ∷ 0x05 ∷ 0x04 ∷ 0x00 ∷ 0x93 ∷ 0x05 ∷ 0x00 ∷ 0x02 ∷ 0xB7 ∷ 0x16 ∷ 0x40
+    ∷ 0xF1 ∷ 0x93 ∷ 0x86 ∷ 0x36 ∷ 0x07 ∷ 0x93 ∷ 0x08 ∷ 0x50 ∷ 0x12 ∷ 0x73 ∷ 0x00 ∷ 0x00 ∷ 0x00 ∷ 0x93 ∷ 0x04
+    ∷ 0x04 ∷ 0x04 ∷ 0x37 ∷ 0x19 ∷ 0x02 ∷ 0x00 ∷ 0x13 ∷ 0x09 ∷ 0x09 ∷ 0x10 ∷ 0x13 ∷ 0x0E ∷ 0x09 ∷ 0x00 ∷ 0x83
+    ∷ 0x22 ∷ 0x04 ∷ 0x00 ∷ 0x37 ∷ 0x03 ∷ 0x01 ∷ 0x00 ∷ 0x13 ∷ 0x03 ∷ 0x03 ∷ 0x16 ∷ 0x23 ∷ 0x34 ∷ 0x64 ∷ 0x00
+    ∷ 0x03 ∷ 0x23 ∷ 0x44 ∷ 0x00 ∷ 0xE3 ∷ 0x14 ∷ 0x53 ∷ 0xFE ∷ 0x93 ∷ 0x92 ∷ 0xD2 ∷ 0x00 ∷ 0xB3 ∷ 0x82 ∷ 0x92
+    ∷ 0x00 ∷ 0x13 ∷ 0x0E ∷ 0x09 ∷ 0x00 ∷ 0x03 ∷ 0xB3 ∷ 0x82 ∷ 0x00 ∷ 0x83 ∷ 0xB3 ∷ 0x02 ∷ 0x00 ∷ 0xB3 ∷ 0x03
+    ∷ 0x73 ∷ 0x40 ∷ 0x93 ∷ 0xB3 ∷ 0x03 ∷ 0x20 ∷ 0x13 ∷ 0x09 ∷ 0x00 ∷ 0x00 ∷ 0x63 ∷ 0x82 ∷ 0x03 ∷ 0x02 ∷ 0x13
+    ∷ 0x09 ∷ 0x0E ∷ 0x00 ∷ 0x93 ∷ 0x73 ∷ 0xF3 ∷ 0x1F ∷ 0x93 ∷ 0x93 ∷ 0x33 ∷ 0x00 ∷ 0xB3 ∷ 0x83 ∷ 0x53 ∷ 0x00
+    ∷ 0x83 ∷ 0x3E ∷ 0x09 ∷ 0x00 ∷ 0x23 ∷ 0xB0 ∷ 0xD3 ∷ 0x05 ∷ 0x13 ∷ 0x03 ∷ 0x13 ∷ 0x00 ∷ 0x23 ∷ 0xB4 ∷ 0x62
+    ∷ 0x00 ∷ 0x6F ∷ 0x00 ∷ 0x00 ∷ 0x01 ∷ 0x73 ∷ 0x10 ∷ 0x40 ∷ 0xF1 ∷ 0x13 ∷ 0x09 ∷ 0x0E ∷ 0x00 ∷ 0x6F ∷ 0xF0
+    ∷ 0x5F ∷ 0xF9 ∷ 0x00 ∷ 0x00 ∷ 0x00 ∷ 0x00 ∷ 0x00 ∷ 0x00 ∷ 0x00 ∷ 0x00 ∷ 0x00 ∷ 0x00 ∷ 0x00 ∷ 0x00 ∷ 0x00
+    ∷ 0x00 ∷ 0x00 ∷ 0x00 ∷ 0x00 ∷ 0x00 ∷ 0x00 ∷ 0x00 ∷ 0x00 ∷ 0x00 ∷ 0x00 ∷ 0x00 ∷ 0x00 ∷ 0x00 ∷ 0x00 ∷ 0x00
+    ∷ 0x00 ∷ 0x00 ∷ 0x00 ∷ 0x00 ∷ 0xEC ∷ 0x00 ∷ 0x01 ∷ 0x00 ∷ 0x00 ∷ 0x00 ∷ 0x00 ∷ 0x00 ∷ 0x4C ∷ 0x00 ∷ 0x00
+    ∷ 0x00 ∷ 0x00 ∷ 0x00 ∷ 0x00 ∷ 0x00 ∷ 0x40 ∷ 0x01 ∷ 0x01 ∷ 0x00 ∷ 0x00 ∷ 0x00 ∷ 0x00 ∷ 0x00 ∷ []
+
+-- the head is 2^64 - 1, and the tail 511
+abbrev pub full_setting : Setting
+full_setting = setting_of full_code (replicate 8 0xFF ++ 0xFF ∷ 0x01 ∷ [])
+
+abbrev pub full_slots : Slots
+full_slots = record { area = 8; cells = 9; value = 18; table = 0x10160 }
+
+abbrev pub full_at : ℕ
+full_at = 0x100D8
+
+abbrev full_put : Form
+full_put = ring_put_form 1 full_slots
+
+abbrev full_tested : IsTested full_put
+full_tested = ring_put_tested 1 full_slots
+
+abbrev full_lines : List Ask
+full_lines = line (asked.Run (record { 0 = 1 })) ∷ replicate 26 (line asked.Exec)
+
+abbrev pub full_log : List Entry
+full_log =
+    entry kind.Run 1 0x100B0 ∷ entry kind.Exec 1 0x100B0 ∷ entry kind.Exec 1 0x100B4
+    ∷ entry kind.Exec 1 0x100B8 ∷ entry kind.Exec 1 0x100BC ∷ entry kind.Exec 1 0x100C0
+    ∷ entry kind.Exec 1 0x100C4 ∷ entry kind.Exec 1 0x100C8 ∷ entry kind.Exec 1 0x100CC
+    ∷ entry kind.Exec 1 0x100D0 ∷ entry kind.Exec 1 0x100D4 ∷ entry kind.Exec 1 0x100D8
+    ∷ entry kind.Exec 1 0x100DC ∷ entry kind.Exec 1 0x100E0 ∷ entry kind.Exec 1 0x100E4
+    ∷ entry kind.Exec 1 0x100E8 ∷ entry kind.Exec 1 0x100EC ∷ entry kind.Exec 1 0x100F0
+    ∷ entry kind.Exec 1 0x100F4 ∷ entry kind.Exec 1 0x100F8 ∷ entry kind.Exec 1 0x100FC
+    ∷ entry kind.Exec 1 0x10100 ∷ entry kind.Exec 1 0x10104 ∷ entry kind.Exec 1 0x10108
+    ∷ entry kind.Exec 1 0x1010C ∷ entry kind.Exec 1 0x10110 ∷ entry kind.Exec 1 0x10114 ∷ []
+
+full_played : played full_setting full_lines ≡ Ok full_log
+unfolding played decide history done meaning row_of rows lui_rows auipc_rows jal_rows jalr_rows branch_rows load_rows store_rows op_imm_rows op_imm_32_rows op_rows op_32_rows misc_mem_rows amo_rows system_rows are_readable number_at
+full_played = refl
+
+full_there : AreThere (code_of full_setting.program.pages) full_at (put_block full_slots 1)
+unfolding row_of rows lui_rows auipc_rows jal_rows jalr_rows branch_rows load_rows store_rows op_imm_rows op_imm_32_rows op_rows op_32_rows misc_mem_rows amo_rows system_rows
+full_there = (refl, (refl, (refl, (refl, (refl, (refl, (refl, (refl, (refl, (refl, (refl, (refl, (refl, (refl, (refl, (refl, (refl, (refl, (refl, (refl, (refl, (refl, (refl, (refl, (refl, (refl, (refl, (refl, tt))))))))))))))))))))))))))))
+
+-- the value is 0, head and tail are as they were, and no store was executed
+abbrev pub full_fits : Sequence → Bool
+full_fits q =
+    eqb (value_of full_setting full_slots q.thread q.reached) 0
+    && (is_just (word_seen full_setting 0 (ring_of full_setting full_slots q) q.reached) (2 ^ 64 - 1)
+    && (is_just (word_seen full_setting 0 (ring_of full_setting full_slots q + 8) q.reached) 511
+    && stores_none q))
+
+full_good : is_good full_setting full_put full_tested full_at area 1 [] full_fits
+    (history full_setting full_log) ≡ true
+unfolding decide history done meaning row_of rows lui_rows auipc_rows jal_rows jalr_rows branch_rows load_rows store_rows op_imm_rows op_imm_32_rows op_rows op_32_rows misc_mem_rows amo_rows system_rows are_readable number_at
+full_good = refl
+
+pub full_used : IsGood full_setting full_log full_put full_at area [] full_fits
+full_used =
+    found_good full_setting full_log full_put full_tested full_at area 1 [] full_fits
+    (played_is_run full_setting full_lines full_log full_played).0 full_good refl full_there refl
