@@ -1,9 +1,7 @@
 -- A drawn run goes on by each event that is drawn: one is where the run hasn't ended, and it is allowed.
-use Rattle.std.proofs.Common.{◌≡◌, ◌≢◌, ℕ, ◌+◌, ◌<◌, ◌≤◌, ◌||◌, Bool, true, false, cond, leb, List, [], ◌∷◌, ◌++◌, length, length-append, take, Option, Some, None, Result, Ok, is_some, refl, sym, ap, ◌∙◌, subst, arith}
-use mir.Val.{bool_byte}
-use Rattle.std.specs.Prelude.{IfOk, IsSome}
+use Rattle.std.proofs.Common.{◌≡◌, ◌≢◌, ◌+◌, ◌-◌, ◌<◌, ◌≤◌, ◌||◌, Bool, true, false, cond, leb, List, [], ◌∷◌, ◌++◌, length, length-append, take, Option, Some, None, Result, Ok, Err, is_some, refl, sym, ap, ◌∙◌, subst, arith}
+use Rattle.std.specs.Prelude.{IsSome}
 use Rattle.std.specs.Option.{option_map}
-use Rattle.std.specs.Result.{is_ok}
 use Rattle.std.proofs.lemmas.Bool.{false≢true, le-ltb, lt-leb, lt-ltb}
 use Rattle.std.proofs.lemmas.List.{take-append-le, take_all}
 use Rattle.std.proofs.lemmas.Option.{same_Some}
@@ -20,23 +18,14 @@ use Rattle.block_model.specs.History.{History}
 use Rattle.block_model.specs.Run.{IsBlockRun}
 use Rattle.block_model.specs.Setting.{Seen, Setting}
 use Rattle.block_model.specs.declared.refusals.Refused.{Refused}
-use Rattle.block_model.proofs.Laws.{history-append, is_open, length-history, within_limit}
-use Rattle.drawn_runs.specs.DrawnRuns.{IsDrawn, drawing_at, drawn_at, drawn_entry, entry_of, first_drawing, scene_at}
+use Rattle.block_model.proofs.Laws.{history-append, is_open, length-history}
+use Rattle.drawn_runs.specs.DrawnRuns.{drawing_at, drawn_at, drawn_entry, entry_of, first_drawing, scene_at}
 use Rattle.drawn_runs.specs.WholeRuns.{IsDrawnRun}
 use Rattle.drawn_runs.specs.declared.manner.Manner.{Manner}
 use Rattle.drawn_runs.proofs.Laws.{drawing_is_for, drawn_is_allowed, drawn_more, drawn_start, drawn_where_open}
+use Rattle.drawn_machine.specs.OnTheWay.{IsOnItsWay}
 use Rattle.drawn_machine.specs.Scenes.{scene_of}
-use Rattle.drawn_machine.proofs.Inside.{IsCounted, as_number, of_the_machine, one_at_most}
-
--- a machine on its way from this setting and this log, and what is kept between its events
-pub record IsDrawnSoFar (s : Setting) (m : Manner) (first : List Entry) (now : Seen) (d : Drawing) : Type 0 where
-  pub setting : now.setting ≡ s
-  pub begins : take (length first) now.log ≡ first
-  pub longer : length first ≤ length now.log
-  pub scripted : m.scripted ≤ length now.log
-  pub block_run : IsBlockRun now.setting now.log
-  pub drawn : IsDrawn now.setting m now.log
-  pub kept : d ≡ drawing_at now.setting m (history now.setting now.log)
+use Rattle.drawn_machine.proofs.Inside.{of_the_machine}
 
 -- what each draw leaves
 abbrev drawing_kept : Setting → Manner → History → Drawing
@@ -50,12 +39,9 @@ behind_script s m (e ∷ before) few =
     (λ (b : Bool). cond b (first_drawing s m) (drawing_kept s m before))
     (lt-ltb (length before) m.scripted (omega arith))
 
-pub so_far_first : (m : Manner) (now : Seen) (d : Drawing) → IsBlockRun now.setting now.log → m.scripted ≡ length now.log
-    → d ≡ first_drawing now.setting m → IsDrawnSoFar now.setting m now.log now d
-so_far_first m now d run all is = record {
-  setting = refl;
-  begins = take_all (length now.log) now.log (omega arith);
-  longer = omega arith;
+pub way_first : (m : Manner) (now : Seen) (d : Drawing) → IsBlockRun now.setting now.log → m.scripted ≡ length now.log
+    → d ≡ first_drawing now.setting m → IsOnItsWay m now d
+way_first m now d run all is = record {
   scripted = omega (arith, all);
   block_run = run;
   drawn = drawn_start now.setting m now.log (omega (arith, all));
@@ -72,15 +58,10 @@ goes_on s log run unended =
     ap (λ (o : Option End). is_some o || leb s.limits.steps (length before)) parts.0
     ∙ lt-leb s.limits.steps (length before) parts.1
 
-pub has_room : (s : Setting) (log : List Entry) → IsBlockRun s log → end_of s (history s log) ≡ Unended → length log < s.limits.steps
+has_room : (s : Setting) (log : List Entry) → IsBlockRun s log → end_of s (history s log) ≡ Unended → length log < s.limits.steps
 has_room s log run unended =
     let room = (is_open s (history s log) run.allowed unended).1 in
     omega (arith, room, length-history s log)
-
--- the limits stay as they are
-in_range : (s : Setting) (m : Manner) (first : List Entry) (now : Seen) (d : Drawing) → InRange s.limits
-    → IsDrawnSoFar s m first now d → InRange now.setting.limits
-in_range s m first now d range far = subst (λ (t : Setting). InRange t.limits) (sym far.setting) range
 
 -- there an event is drawn
 record IsDue (m : Manner) (now : Seen) (d : Drawing) (x : Drawn) : Type 0 where
@@ -103,28 +84,25 @@ due_at s m log range run unended =
     comes (has_ended s before) (draw (scene_at s before) (drawing_at s m before)) (entry_of s before) goes
     (drawn_where_open s m log range.some_hart range.eight_harts run goes)
 
-due : (s : Setting) (m : Manner) (first : List Entry) (now : Seen) (d : Drawing) → InRange s.limits
-    → IsDrawnSoFar s m first now d → end_of now.setting (history now.setting now.log) ≡ Unended → (x : Drawn) × IsDue m now d x
-due s m first now d range far unended =
-    let found = due_at now.setting m now.log (in_range s m first now d range far) far.block_run unended in (
+due : (m : Manner) (now : Seen) (d : Drawing) → InRange now.setting.limits → IsOnItsWay m now d
+    → end_of now.setting (history now.setting now.log) ≡ Unended → (x : Drawn) × IsDue m now d x
+due m now d range way unended =
+    let found = due_at now.setting m now.log range way.block_run unended in (
       found.0,
-      record { is = ap (λ (e : Drawing). draw (scene_of now) e) far.kept ∙ found.1; at = found.2 },
+      record { is = ap (λ (e : Drawing). draw (scene_of now) e) way.kept ∙ found.1; at = found.2 },
     )
 
 -- the drawing speaks of harts of the machine
-pub is_for : (s : Setting) (m : Manner) (first : List Entry) (now : Seen) (d : Drawing) → InRange s.limits
-    → IsDrawnSoFar s m first now d → IsFor now.setting.limits.harts d
-is_for s m first now d range far =
-    let limits = in_range s m first now d range far in
-    subst (IsFor now.setting.limits.harts) (sym far.kept)
-    (drawing_is_for now.setting m (history now.setting now.log) limits.some_hart limits.eight_harts)
+pub is_for : (m : Manner) (now : Seen) (d : Drawing) → InRange now.setting.limits → IsOnItsWay m now d → IsFor now.setting.limits.harts d
+is_for m now d range way =
+    subst (IsFor now.setting.limits.harts) (sym way.kept)
+    (drawing_is_for now.setting m (history now.setting now.log) range.some_hart range.eight_harts)
 
 -- so one is there
-pub some_event : (s : Setting) (m : Manner) (first : List Entry) (now : Seen) (d : Drawing) (o : Option DrawnEvent)
-    → InRange s.limits → IsDrawnSoFar s m first now d → end_of now.setting (history now.setting now.log) ≡ Unended
-    → o ≡ option_map event_of (draw (scene_of now) d) → o ≢ None
-some_event s m first now d o range far unended is none =
-    let x = due s m first now d range far unended in
+pub some_event : (m : Manner) (now : Seen) (d : Drawing) (o : Option DrawnEvent) → InRange now.setting.limits → IsOnItsWay m now d
+    → end_of now.setting (history now.setting now.log) ≡ Unended → o ≡ option_map event_of (draw (scene_of now) d) → o ≢ None
+some_event m now d o range way unended is none =
+    let x = due m now d range way unended in
     let some : o ≡ Some (event_of x.0) = is ∙ ap (option_map event_of) x.1.is in
     none_or_some (sym none ∙ some)
   where
@@ -152,45 +130,32 @@ made m now d x e r range run is same answer =
 the_event : (o : Option Drawn) (x : Drawn) (e : DrawnEvent) → Some e ≡ option_map event_of o → o ≡ Some x → e ≡ event_of x
 the_event o x e is some = same_Some e (event_of x) (is ∙ ap (option_map event_of) some)
 
-pub never_refused : (s : Setting) (m : Manner) (first : List Entry) (now : Seen) (d : Drawing) (e : DrawnEvent) (r : Result Entry Refused)
-    → InRange s.limits → IsDrawnSoFar s m first now d → end_of now.setting (history now.setting now.log) ≡ Unended
-    → Some e ≡ option_map event_of (draw (scene_of now) d) → Answers now e r → is_ok r ≡ true
-never_refused s m first now d e r range far unended is answer =
-    let x = due s m first now d range far unended in
-    ap is_ok (made m now d x.0 e r (in_range s m first now d range far) far.block_run x.1 (the_event (draw (scene_of now) d) x.0 e is x.1.is) answer)
+-- an event that is drawn where the run goes on
+pub record IsDrawnNext (m : Manner) (now : Seen) (d : Drawing) (e : DrawnEvent) : Type 0 where
+  pub range : InRange now.setting.limits
+  pub way : IsOnItsWay m now d
+  pub unended : end_of now.setting (history now.setting now.log) ≡ Unended
+  pub drawn : Some e ≡ option_map event_of (draw (scene_of now) d)
+
+pub never_refused : (m : Manner) (now : Seen) (d : Drawing) (e : DrawnEvent) (why : Refused) → IsDrawnNext m now d e
+    → Answers now e (Err why) → ⊥
+never_refused m now d e why next answer =
+    let x = due m now d next.range next.way next.unended in
+    let ok : Err why ≡ Ok (entry_of now.setting (history now.setting now.log) x.0) =
+    made m now d x.0 e (Err why) next.range next.way.block_run x.1 (the_event (draw (scene_of now) d) x.0 e next.drawn x.1.is) answer in
+    absurd cc
 
 -- its hart is one of the machine
-pub of_its_machine : (s : Setting) (m : Manner) (first : List Entry) (now : Seen) (d : Drawing) (e : DrawnEvent)
-    → InRange s.limits → IsDrawnSoFar s m first now d → end_of now.setting (history now.setting now.log) ≡ Unended
-    → Some e ≡ option_map event_of (draw (scene_of now) d) → e.hart.0 < now.setting.limits.harts
-of_its_machine s m first now d e range far unended is =
-    let x = due s m first now d range far unended in
+pub of_its_machine : (m : Manner) (now : Seen) (d : Drawing) (e : DrawnEvent) → IsDrawnNext m now d e → e.hart.0 < now.setting.limits.harts
+of_its_machine m now d e next =
+    let x = due m now d next.range next.way next.unended in
     let before = history now.setting now.log in
-    let same = the_event (draw (scene_of now) d) x.0 e is x.1.is in
+    let same = the_event (draw (scene_of now) d) x.0 e next.drawn x.1.is in
     subst (λ (f : DrawnEvent). f.hart.0 < now.setting.limits.harts) (sym same)
     (of_the_machine now.setting before x.0.hart x.0.choice (entry_of now.setting before x.0)
-    (allowed m now d x.0 (in_range s m first now d range far) far.block_run x.1))
-
--- there are at most 8
-pub few_harts : (s : Setting) (m : Manner) (first : List Entry) (now : Seen) (d : Drawing) → InRange s.limits
-    → IsDrawnSoFar s m first now d → now.setting.limits.harts ≤ 8
-few_harts s m first now d range far = (in_range s m first now d range far).eight_harts
-
--- so one more preemption is a number of 32 bits
-pub small_count : (s : Setting) (m : Manner) (first : List Entry) (now : Seen) (d : Drawing) (inside : ℕ) (b : Bool) (n : ℕ)
-    → InRange s.limits → IsDrawnSoFar s m first now d → IsCounted s first now inside → n ≡ bool_byte b → inside + n < 4294967296
-small_count s m first now d inside b n range far so_far number =
-    let limits = in_range s m first now d range far in
-    let steps = within_limit now.setting now.log far.block_run in
-    let most = limits.most_steps in
-    let few = so_far.few in
-    omega (arith, steps, most, few, number, as_number b, one_at_most b)
+    (allowed m now d x.0 next.range next.way.block_run x.1))
 
 -- and the run goes on by it
-grown : (now next : Seen) (r : Result Entry Refused) (e : Entry) → r ≡ Ok e
-    → IfOk r (λ e. next ≡ record now { log = now.log ++ e ∷ [] }) → next ≡ record now { log = now.log ++ e ∷ [] }
-grown now next r e is ok = subst (λ (r : Result Entry Refused). IfOk r (λ e. next ≡ record now { log = now.log ++ e ∷ [] })) is ok
-
 entry_drawn : (s : Setting) (m : Manner) (before : History) (x : Drawn) → drawn_at s m before ≡ Some x
     → drawn_entry s m before ≡ Some (entry_of s before x)
 unfolding drawn_entry
@@ -208,40 +173,67 @@ kept_same : (now : Seen) (m : Manner) (d : Drawing) → d ≡ drawing_at now.set
     → kept_after (draw (scene_of now) d) d ≡ drawing_kept now.setting m (history now.setting now.log)
 kept_same now m d is = ap (λ (d : Drawing). kept_after (draw (scene_of now) d) d) is
 
-longer_by : (s : Setting) (m : Manner) (first : List Entry) (now : Seen) (d after : Drawing) (e : Entry) → InRange now.setting.limits
-    → IsDrawnSoFar s m first now d → drawn_entry now.setting m (history now.setting now.log) ≡ Some e
-    → after ≡ kept_after (draw (scene_of now) d) d
-    → IsDrawnSoFar s m first (record now { log = now.log ++ e ∷ [] }) after
-longer_by s m first now d after e range far entry is =
-    let more = drawn_more now.setting m now.log e range.some_hart range.eight_harts far.block_run far.drawn entry in
+longer_by : (m : Manner) (now : Seen) (d after : Drawing) (e : Entry) → InRange now.setting.limits → IsOnItsWay m now d
+    → drawn_entry now.setting m (history now.setting now.log) ≡ Some e → after ≡ kept_after (draw (scene_of now) d) d
+    → IsOnItsWay m (record now { log = now.log ++ e ∷ [] }) after
+longer_by m now d after e range way entry is =
+    let more = drawn_more now.setting m now.log e range.some_hart range.eight_harts way.block_run way.drawn entry in
     record {
-      setting = far.setting;
-      begins = take-append-le (length first) now.log (e ∷ []) far.longer ∙ far.begins;
-      longer = omega (arith, far.longer, length-append now.log (e ∷ []));
-      scripted = omega (arith, far.scripted, length-append now.log (e ∷ []));
+      scripted = omega (arith, way.scripted, length-append now.log (e ∷ []));
       block_run = more.0;
       drawn = more.1;
-      kept = is ∙ kept_same now m d far.kept ∙ sym (kept_next now.setting m now.log e far.scripted);
+      kept = is ∙ kept_same now m d way.kept ∙ sym (kept_next now.setting m now.log e way.scripted);
     }
 
-pub so_far_more : (s : Setting) (m : Manner) (first : List Entry) (now next : Seen) (d after : Drawing) (e : DrawnEvent)
-    (r : Result Entry Refused)
-    → InRange s.limits → IsDrawnSoFar s m first now d → end_of now.setting (history now.setting now.log) ≡ Unended
-    → Some e ≡ option_map event_of (draw (scene_of now) d) → after ≡ kept_after (draw (scene_of now) d) d → Answers now e r
-    → IfOk r (λ e. next ≡ record now { log = now.log ++ e ∷ [] })
-    → IsDrawnSoFar s m first next after × (length next.log ≡ length now.log + 1)
-so_far_more s m first now next d after e r range far unended is kept answer ok =
-    let x = due s m first now d range far unended in
-    let before = history now.setting now.log in
-    let entry = entry_of now.setting before x.0 in
-    let made_it = made m now d x.0 e r (in_range s m first now d range far) far.block_run x.1 (the_event (draw (scene_of now) d) x.0 e is x.1.is) answer in
-    let same = grown now next r entry made_it ok in (
-      subst (λ (v : Seen). IsDrawnSoFar s m first v after) (sym same)
-          (longer_by s m first now d after entry (in_range s m first now d range far) far (entry_drawn now.setting m before x.0 x.1.at) kept),
-      ap (λ (v : Seen). length v.log) same ∙ length-append now.log (entry ∷ []),
-    )
+same_entry : (x y : Entry) (r : Result Entry Refused) → r ≡ Ok x → r ≡ Ok y → x ≡ y
+same_entry x y r one other = let both : Ok x ≡ Ok y = sym one ∙ other in cc
 
--- and where it is over it is a whole drawn run
-pub whole : (s : Setting) (m : Manner) (first : List Entry) (now : Seen) (d : Drawing) → IsDrawnSoFar s m first now d
-    → end_of now.setting (history now.setting now.log) ≢ Unended → IsDrawnRun now.setting m now.log
-whole s m first now d far over = record { block_run = far.block_run; drawn = far.drawn; over = over }
+pub way_more : (m : Manner) (now : Seen) (d after : Drawing) (e : DrawnEvent) (entry : Entry) → IsDrawnNext m now d e
+    → after ≡ kept_after (draw (scene_of now) d) d → Answers now e (Ok entry)
+    → IsOnItsWay m (record now { log = now.log ++ entry ∷ [] }) after
+way_more m now d after e entry next kept answer =
+    let x = due m now d next.range next.way next.unended in
+    let before = history now.setting now.log in
+    let its = entry_of now.setting before x.0 in
+    let is : Ok entry ≡ Ok its =
+    made m now d x.0 e (Ok entry) next.range next.way.block_run x.1 (the_event (draw (scene_of now) d) x.0 e next.drawn x.1.is) answer in
+    let same : its ≡ entry = same_entry its entry (Ok its) refl (sym is) in
+    subst (λ (y : Entry). IsOnItsWay m (record now { log = now.log ++ y ∷ [] }) after) same
+    (longer_by m now d after its next.range next.way (entry_drawn now.setting m before x.0 x.1.at) kept)
+
+-- where it is over it is a whole drawn run
+pub whole : (m : Manner) (now : Seen) (d : Drawing) → IsOnItsWay m now d → end_of now.setting (history now.setting now.log) ≢ Unended
+    → IsDrawnRun now.setting m now.log
+whole m now d way over = record { block_run = way.block_run; drawn = way.drawn; over = over }
+
+-- behind the entries that a machine had at first
+
+pub record IsBehind (s : Setting) (first : List Entry) (now : Seen) : Type 0 where
+  pub setting : now.setting ≡ s
+  pub begins : take (length first) now.log ≡ first
+  pub longer : length first ≤ length now.log
+
+pub behind_first : (now : Seen) → IsBehind now.setting now.log now
+behind_first now = record { setting = refl; begins = take_all (length now.log) now.log (omega arith); longer = omega arith }
+
+behind_by : (s : Setting) (first : List Entry) (now : Seen) (e : Entry) → IsBehind s first now
+    → IsBehind s first (record now { log = now.log ++ e ∷ [] })
+behind_by s first now e is = record {
+  setting = is.setting;
+  begins = take-append-le (length first) now.log (e ∷ []) is.longer ∙ is.begins;
+  longer = omega (arith, is.longer, length-append now.log (e ∷ []));
+}
+
+pub behind_more : (s : Setting) (first : List Entry) (now next : Seen) (e : Entry) → next ≡ record now { log = now.log ++ e ∷ [] }
+    → IsBehind s first now → IsBehind s first next
+behind_more s first now next e is so_far = subst (λ (v : Seen). IsBehind s first v) (sym is) (behind_by s first now e so_far)
+
+-- each event leaves one step less
+pub less_left : (m : Manner) (now next : Seen) (d : Drawing) (e : Entry) → IsOnItsWay m now d
+    → end_of now.setting (history now.setting now.log) ≡ Unended → next ≡ record now { log = now.log ++ e ∷ [] }
+    → next.setting.limits.steps - length next.log < now.setting.limits.steps - length now.log
+less_left m now next d e way unended is =
+    let longer : length next.log ≡ length now.log + 1 = ap (λ (v : Seen). length v.log) is ∙ length-append now.log (e ∷ []) in
+    let room = has_room now.setting now.log way.block_run unended in
+    let same : next.setting.limits.steps ≡ now.setting.limits.steps = ap (λ (v : Seen). v.setting.limits.steps) is in
+    omega (arith, longer, room, same)

@@ -1,9 +1,7 @@
 -- How often a thread left its hart inside a sequence, as a run goes on.
 use Rattle.std.proofs.Common.{◌≡◌, ℕ, ◌+◌, ◌<◌, ◌≤◌, Bool, true, false, cond, leb, List, [], ◌∷◌, ◌++◌, length, length-append, Option, Some, None, Result, Ok, Err, refl, sym, ap, ap₂, ◌∙◌, subst, arith}
 use mir.Val.{bool_byte}
-use Rattle.std.specs.Prelude.{IfOk}
-use Rattle.std.specs.Result.{is_ok}
-use Rattle.std.proofs.lemmas.Bool.{false≢true, leb-false}
+use Rattle.std.proofs.lemmas.Bool.{leb-false}
 use Rattle.mach_types.specs.Events.{choice_of, kind_of}
 use Rattle.mach_types.specs.declared.events.Choice.{Choice}
 use Rattle.mach_types.specs.declared.events.Entry.{Entry}
@@ -23,23 +21,22 @@ use Rattle.block_model.specs.declared.refusals.Refused.TheVariants.{Full, NotEna
 use Rattle.block_model.proofs.Laws.{history-append}
 use Rattle.drawn_machine.specs.Preemptions.{leaves_inside, left_inside, left_inside_in}
 
--- so often by the events behind those of a first log
-pub record IsCounted (s : Setting) (first : List Entry) (now : Seen) (inside : ℕ) : Type 0 where
-  pub count : left_inside_in now ≡ left_inside s (history s first) + inside
+-- so often so far
+pub record IsCounted (now : Seen) (inside : ℕ) : Type 0 where
+  pub count : left_inside_in now ≡ inside
   pub few : inside ≤ length now.log
-
-pub counted_first : (now : Seen) → IsCounted now.setting now.log now 0
-counted_first now = record { count = omega arith; few = omega arith }
 
 -- no event, no preemption
 history_nil : (s : Setting) → history s [] ≡ []
 unfolding history
 history_nil s = refl
 
-pub none_at_boot : (m : Seen) → m.log ≡ [] → left_inside_in m ≡ 0
-none_at_boot m empty =
-    ap (λ (log : List Entry). left_inside m.setting (history m.setting log)) empty
-    ∙ ap (left_inside m.setting) (history_nil m.setting)
+pub none_at_boot : (m : Seen) → m.log ≡ [] → IsCounted m 0
+none_at_boot m empty = record {
+  count = ap (λ (log : List Entry). left_inside m.setting (history m.setting log)) empty
+      ∙ ap (left_inside m.setting) (history_nil m.setting);
+  few = omega arith;
+}
 
 -- an event that is made is of a hart of the machine
 by_tests : (full none : Bool) (r : Result Entry Refused) (entry : Entry)
@@ -62,7 +59,7 @@ unfolding decide
 of_the_machine s before h c entry is = by_decision (length before) (over_at s before) c (here_in_history s before h) entry is
 
 -- the kind of an entry is that of its choice
-kind_again : (e : Entry) (k : Kind) → e.kind ≡ k → kind_of (choice_of e) ≡ e.kind
+pub kind_again : (e : Entry) (k : Kind) → e.kind ≡ k → kind_of (choice_of e) ≡ e.kind
 kind_again e kind.Exec is = rw is refl
 kind_again e kind.Drain is = rw is refl
 kind_again e kind.Take is = rw is refl
@@ -83,35 +80,38 @@ pub as_number : (b : Bool) → bool_byte b ≡ one_if b
 as_number true = refl
 as_number false = refl
 
--- one event more
-counted_next : (s : Setting) (first : List Entry) (now : Seen) (inside : ℕ) (e : DrawnEvent) (x : Entry) (b : Bool) (n : ℕ)
-    → now.setting ≡ s → n ≡ one_if b
-    → IsCounted s first now inside → x.hart ≡ e.hart → choice_of x ≡ e.choice
-    → b ≡ leaves_inside now.setting (history now.setting now.log) e.hart.0 (kind_of e.choice)
-    → IsCounted s first (record now { log = now.log ++ x ∷ [] }) (inside + n)
-counted_next s first now inside e x b n same number so_far hart choice is =
-    let before = history now.setting now.log in
+-- what is seen of the event that was drawn is seen of its entry
+pub leaves_as_entry : (s : Setting) (before : History) (x : Entry) (e : DrawnEvent) (b : Bool) → x.hart ≡ e.hart → choice_of x ≡ e.choice
+    → b ≡ leaves_inside s before e.hart.0 (kind_of e.choice) → b ≡ leaves_inside s before x.hart.0 x.kind
+leaves_as_entry s before x e b hart choice is =
     let kind : x.kind ≡ kind_of e.choice = sym (kind_again x x.kind refl) ∙ ap kind_of choice in
-    let leaves : leaves_inside now.setting before x.hart.0 x.kind ≡ b =
-    ap₂ (λ (h : Hart) (k : Kind). leaves_inside now.setting before h.0 k) hart kind ∙ sym is in
+    is ∙ sym (ap₂ (λ (h : Hart) (k : Kind). leaves_inside s before h.0 k) hart kind)
+
+-- so one more is a number of 32 bits
+pub small_count : (now : Seen) (inside : ℕ) (b : Bool) (n : ℕ) → length now.log ≤ 1000000 → IsCounted now inside → n ≡ bool_byte b
+    → inside + n < 4294967296
+small_count now inside b n short so_far number =
+    let few = so_far.few in omega (arith, few, short, number, as_number b, one_at_most b)
+
+-- one event more
+counted_by : (now : Seen) (inside : ℕ) (x : Entry) (b : Bool) (n : ℕ) → n ≡ bool_byte b → IsCounted now inside
+    → b ≡ leaves_inside now.setting (history now.setting now.log) x.hart.0 x.kind
+    → IsCounted (record now { log = now.log ++ x ∷ [] }) (inside + n)
+counted_by now inside x b n number so_far is =
+    let before = history now.setting now.log in
     let next : left_inside now.setting (history now.setting (now.log ++ x ∷ []))
     ≡ left_inside now.setting before + one_if (leaves_inside now.setting before x.hart.0 x.kind) =
     ap (left_inside now.setting) (history-append now.setting now.log x) in
-    let by_b : one_if (leaves_inside now.setting before x.hart.0 x.kind) ≡ one_if b = ap one_if leaves in
+    let by_b : one_if (leaves_inside now.setting before x.hart.0 x.kind) ≡ one_if b = ap one_if (sym is) in
     let count = so_far.count in
     let few = so_far.few in
     record {
-      count = omega (arith, next, by_b, count, number);
-      few = omega (arith, few, number, one_at_most b, length-append now.log (x ∷ []));
+      count = omega (arith, next, by_b, count, number, as_number b);
+      few = omega (arith, few, number, as_number b, one_at_most b, length-append now.log (x ∷ []));
     }
 
-pub counted_more : (s : Setting) (first : List Entry) (now next : Seen) (inside : ℕ) (e : DrawnEvent) (r : Result Entry Refused) (b : Bool) (n : ℕ)
-    → now.setting ≡ s → n ≡ bool_byte b
-    → IsCounted s first now inside → is_ok r ≡ true → IfOk r (λ x. (x.hart ≡ e.hart) × (choice_of x ≡ e.choice))
-    → IfOk r (λ x. next ≡ record now { log = now.log ++ x ∷ [] })
-    → b ≡ leaves_inside now.setting (history now.setting now.log) e.hart.0 (kind_of e.choice)
-    → IsCounted s first next (inside + n)
-counted_more s first now next inside e (Ok x) b n same number so_far made of ok is =
-    subst (λ (v : Seen). IsCounted s first v (inside + n)) (sym ok)
-    (counted_next s first now inside e x b n same (number ∙ as_number b) so_far of.0 of.1 is)
-counted_more s first now next inside e (Err refused) b n same number so_far made of ok is = absurd (false≢true made)
+pub counted_more : (now next : Seen) (inside : ℕ) (x : Entry) (b : Bool) (n : ℕ) → n ≡ bool_byte b → IsCounted now inside
+    → b ≡ leaves_inside now.setting (history now.setting now.log) x.hart.0 x.kind → next ≡ record now { log = now.log ++ x ∷ [] }
+    → IsCounted next (inside + n)
+counted_more now next inside x b n number so_far leaves is =
+    subst (λ (v : Seen). IsCounted v (inside + n)) (sym is) (counted_by now inside x b n number so_far leaves)

@@ -1,3 +1,5 @@
 mod DrawnSteps
 mod Inside
 mod Starting
+mod WaitExamples
+pub mod Waiting

@@ -1,2 +1,4 @@
+pub mod OnTheWay
 pub mod Preemptions
 pub mod Scenes
+pub mod Waits

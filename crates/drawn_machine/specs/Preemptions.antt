@@ -1,7 +1,6 @@
 -- Preemptions inside restartable sequences (own): how often a thread left its hart while it was inside a good sequence, as its hart sees
 -- memory.
 use Rattle.std.specs.Prelude.{ℕ, ◌+◌, ◌&&◌, Bool, true, false, [], ◌∷◌, if◌then◌else◌}
-use Rattle.mach_types.specs.declared.events.Entry.{Entry}
 use Rattle.mach_types.specs.declared.events.Kind.{Kind}
 use Rattle.mach_types.specs.declared.events.Kind.TheVariants as kind
 use Rattle.block_model.specs.Deciding.{history}

@@ -1,21 +1,26 @@
 //! The loop of a drawn run.
 
-ghost use Rattle.std.specs.Prelude.{◌≡◌, ◌≤◌, ◌<◌, ◌+◌, ◌↔◌, IfOk, IsTrue, length, take};
+ghost use Rattle.std.specs.Prelude.{◌≡◌, ◌≤◌, ◌<◌, ◌++◌, ◌∷◌, [], ◌↔◌, IfOk, IsTrue, length, take};
 ghost use Rattle.mach_types.specs.Events.{kind_of};
 ghost use Rattle.mach_types.specs.Limits.{InRange};
 ghost use Rattle.mach_types.specs.declared.limits.End.TheVariants.{Unended};
 ghost use Rattle.elf_load.specs.Images.{IsBootable};
 ghost use Rattle.block_model.specs.Deciding.{end_of, history};
+ghost use Rattle.block_model.specs.History.{waiting};
 ghost use Rattle.block_model.specs.Run.{IsBlockRun};
 ghost use Rattle.block_model.specs.Setting.{setting_of};
+ghost use Rattle.drawn_runs.specs.DrawnRuns.{first_drawing};
 ghost use Rattle.drawn_runs.specs.WholeRuns.{IsDrawnRun, IsWholeDrawn};
+ghost use Rattle.drawn_machine.specs.OnTheWay.{GoesOn, IsOnAWay};
 ghost use Rattle.drawn_machine.specs.Preemptions.{leaves_inside, left_inside_in};
+ghost use Rattle.drawn_machine.specs.Waits.{wait_counts_in};
 
 use crate::seen_harts::SeenHarts;
+use crate::store_waits::StoreWaits;
 use drawings::{Drawing, DrawnEvent, Harts};
 use drawn_runs::Manner;
 use elf_load::Image;
-use mach_types::{Choice, End, Limits};
+use mach_types::{Choice, End, Entry, Hart, Limits};
 use machine_core::Machine;
 use std::alloc::{AllocError, Global};
 
@@ -26,6 +31,18 @@ pub struct DrawnRun {
     pub machine: Machine,
     /// How often a thread left its hart inside a good restartable sequence.
     pub left_inside: u32,
+    /// By the number of instructions that a hart executed behind one of its stores until that entered memory, 0 to 255: how many
+    /// stores waited so long, at the last place for [`crate::LONG_WAIT`] instructions or more.
+    pub waits: [u32; 256],
+}
+
+/// An event that was drawn and made.
+#[derive(Clone, Copy, Drop)]
+struct MadeEvent {
+    /// Its entry in the log.
+    entry: Entry,
+    /// Whether a thread left its hart by it, inside a good restartable sequence.
+    left_inside: bool,
 }
 
 /// Runs an image in this manner, until the run has ended or the log is full.
@@ -42,38 +59,77 @@ pub fn run_drawn(
     requires unscripted { manner.now.scripted ≡ 0 }
     ensures run { IfOk result (λ run. IsWholeDrawn (setting_of image.now limits) manner.now run.machine) }
     ensures inside { IfOk result (λ run. run.left_inside ≡ left_inside_in run.machine) }
+    ensures waits { IfOk result (λ run. run.waits ≡ wait_counts_in run.machine) }
 {
     let mut machine = Machine::boot(alloc, image, limits, manner.seed)?;
-    let left_inside = draw_on(&mut machine, manner);
+    let mut waits = StoreWaits::new(alloc, limits.harts)?;
+    let mut drawing = first_drawing(&machine, manner);
+    let mut left_inside = 0;
+    'events: while goes_on(&machine) {
+        let made = draw_event(&mut machine, &mut drawing);
+        left_inside += u32::from(made.left_inside);
+        waits.count(made.entry, waiting_on(&machine, made.entry.hart));
+    }
     Ok(DrawnRun {
         machine,
         left_inside,
+        waits: waits.counts,
     })
 }
 
 /// Draws the events of a machine from where it stands, until the run has ended or the log is full. The log so far has the
-/// entries of the manner's script. Returns how often a thread left its hart inside a good restartable sequence by these events.
-pub fn draw_on(machine: &mut Machine, manner: &Manner) -> u32
+/// entries of the manner's script.
+pub fn draw_on(machine: &mut Machine, manner: &Manner)
     requires limits { InRange machine.old.setting.limits }
     requires block_run { IsBlockRun machine.old.setting machine.old.log }
     requires scripted { manner.now.scripted ≡ length machine.old.log }
     ensures setting { machine.new.setting ≡ machine.old.setting }
     ensures begins { take (length machine.old.log) machine.new.log ≡ machine.old.log }
     ensures drawn { IsDrawnRun machine.new.setting manner.now machine.new.log }
-    ensures inside { left_inside_in machine.new ≡ left_inside_in machine.old + result }
 {
-    let mut drawing = Drawing::new(manner.policy, machine.harts(), manner.seed, manner.calm);
-    let mut inside = 0;
+    let mut drawing = first_drawing(machine, manner);
     'events: while goes_on(machine) {
-        let Some(event) = drawing.next(&SeenHarts { machine }) else {
-            unreachable!()
-        };
-        inside += u32::from(leaves_inside(machine, event));
-        if machine.step(event.hart, event.choice).is_err() {
-            unreachable!()
-        }
+        draw_event(machine, &mut drawing);
     }
-    inside
+}
+
+/// What events are drawn from where none is drawn yet.
+fn first_drawing(machine: &Machine, manner: &Manner) -> Drawing
+    requires { machine.now.setting.limits.harts ≤ 8 }
+    ensures { result ≡ first_drawing machine.now.setting manner.now }
+{
+    Drawing::new(manner.policy, machine.harts(), manner.seed, manner.calm)
+}
+
+/// Draws the next event of a machine whose run goes on, and makes it.
+#[inline]
+fn draw_event(machine: &mut Machine, drawing: &mut Drawing) -> MadeEvent
+    requires limits { InRange machine.old.setting.limits }
+    requires unended { end_of machine.old.setting (history machine.old.setting machine.old.log) ≡ Unended }
+    requires drawn { IsOnAWay machine.old drawing.old }
+    ensures made { machine.new ≡ record machine.old { log = machine.old.log ++ result.entry ∷ [] } }
+    ensures drawn { GoesOn machine.old drawing.old machine.new drawing.new }
+    ensures inside { let before = history machine.old.setting machine.old.log in
+        result.left_inside
+        ≡ leaves_inside machine.old.setting before result.entry.hart.0 result.entry.kind }
+{
+    let Some(event) = drawing.next(&SeenHarts { machine }) else {
+        unreachable!()
+    };
+    let left_inside = leaves_inside(machine, event);
+    match machine.step(event.hart, event.choice) {
+        Ok(entry) => MadeEvent { entry, left_inside },
+        Err(_) => unreachable!(),
+    }
+}
+
+/// How many stores wait on a hart.
+fn waiting_on(machine: &Machine, hart: Hart) -> u8
+    requires { hart.0 < machine.now.setting.limits.harts }
+    ensures count { result ≡ length (waiting hart.0 (history machine.now.setting machine.now.log)) }
+    ensures few { result ≤ 8 }
+{
+    machine.hart(hart).buffer.len()
 }
 
 /// Whether a thread leaves its hart by an event, inside a good sequence as the hart sees memory.

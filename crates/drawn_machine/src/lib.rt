@@ -4,8 +4,11 @@
 #![tactic(auto)]
 
 mod drawn_run;
+mod hart_clock;
 mod seen_harts;
 mod starting_threads;
+mod store_waits;
 
 pub use drawn_run::{DrawnRun, draw_on, run_drawn};
 pub use seen_harts::SeenHarts;
+pub use store_waits::LONG_WAIT;

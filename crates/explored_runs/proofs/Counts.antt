@@ -1,21 +1,23 @@
 -- The counts of what is told are no greater than the runs.
-use Rattle.std.proofs.Common.{◌≡◌, ◌≤◌, ◌*◌, ℕ, ◌+◌, ◌<◌, zero, suc, Bool, true, false, cond, List, [], ◌∷◌, ◌++◌, Option, Some, None, length, get_or, set, refl, sym, subst, arith, All}
-use Rattle.std.specs.List.{AllByRecursion, count_by}
+use Rattle.std.proofs.Common.{◌≡◌, ◌≤◌, ◌*◌, ℕ, ◌+◌, zero, suc, Bool, true, false, cond, List, [], ◌∷◌, ◌++◌, Option, Some, None, length, sym, subst, arith, All}
+use Rattle.std.specs.List.{AllByRecursion}
 use Rattle.std.specs.Option.{IfSome}
 use Rattle.std.specs.Prelude.{◌==◌}
-use Rattle.std.proofs.lemmas.List.Elements.{All-from_recursion, All-push, All-set, All-weaker, recursion_from_All}
+use Rattle.std.proofs.lemmas.List.Elements.{All-from_recursion, All-push, All-weaker, recursion_from_All}
 use Rattle.std.proofs.lemmas.List.Sums.{count_by-le-length}
 use Rattle.mach_types.specs.declared.events.Entry.{Entry}
 use Rattle.explored_runs.specs.declared.explored.Found.{Found}
 use Rattle.explored_runs.specs.declared.explored.Others.{Others}
 use Rattle.explored_runs.specs.declared.made.Made.{Made}
 use Rattle.explored_runs.specs.declared.tallies.Tally.{Tally}
-use Rattle.explored_runs.specs.Accounts.{Account, IsWithin, came_to, counted, first_of, found_after, is_full, is_known, told, with_other}
+use Rattle.explored_runs.specs.Accounts.{Account, IsWithin, added, came_to, counted, first_of, is_full, is_known, told, with_other}
 use Rattle.block_model.specs.Deciding.{history}
 use Rattle.block_model.specs.History.{History}
+use Rattle.block_model.specs.Run.{IsBlockRun}
 use Rattle.block_model.specs.Setting.{Setting}
 use Rattle.block_model.proofs.Laws.{length-history}
 use Rattle.drawn_machine.specs.Preemptions.{is_preempt, leaves_inside, left_inside}
+use Rattle.drawn_machine.proofs.Waiting.{few_more, few_wait_counts}
 use Rattle.explored_runs.specs.Tallies.{IsShort, harts_in, ran_on, switches_from, switches_in, tally_of}
 use Rattle.explored_runs.proofs.Outcomes.{once_more}
 
@@ -52,14 +54,15 @@ few_inside s (e ∷ before) =
 pub short_inside : (s : Setting) (log : List Entry) → length log ≤ 1000000 → left_inside s (history s log) ≤ 1000000
 short_inside s log short = omega (arith, short, few_inside s (history s log), length-history s log)
 
-pub short_tally : (s : Setting) (log : List Entry) (t : Tally) → t ≡ tally_of s log → s.limits.harts ≤ 8 → length log ≤ 1000000
-    → IsShort t
-short_tally s log t is few short =
+pub short_tally : (s : Setting) (log : List Entry) (t : Tally) → t ≡ tally_of s log → IsBlockRun s log → s.limits.harts ≤ 8
+    → length log ≤ 1000000 → IsShort t
+short_tally s log t is run few short =
     let tally : IsShort (tally_of s log) = record {
       harts = (let h = few_harts log s.limits.harts in omega arith);
       switches = (let n = few_switches log in omega arith);
       preemptions = omega (arith, count_by-le-length (λ (e : Entry). is_preempt e.kind) log);
       inside = short_inside s log short;
+      waits = few_wait_counts s log run short;
     } in
     subst IsShort (sym is) tally
 
@@ -107,24 +110,33 @@ few_others m n true full o few = few_same n o few
 few_others m n false true o few = few_other m n o few
 few_others m n false false o few = few_same n o few
 
-few_at : (n : ℕ) (harts : List ℕ) (h : ℕ) → AllByRecursion (λ (runs : ℕ). runs ≤ n) harts → get_or harts h 0 ≤ n
-few_at n [] h few = omega arith
-few_at n (runs ∷ harts) zero few = few.0
-few_at n (runs ∷ harts) (suc h) few = few_at n harts h few.1
+-- sums of counts
 
-few_runs : (n : ℕ) (harts : List ℕ) (h : ℕ) → All (λ (runs : ℕ). runs ≤ n) harts
-    → All (λ (runs : ℕ). runs ≤ n + 1) (set harts h (get_or harts h 0 + 1))
-few_runs n harts h few =
-    let at = few_at n harts h (recursion_from_All (λ (runs : ℕ). runs ≤ n) harts few) in
-    All-set (λ (runs : ℕ). runs ≤ n + 1) harts h (get_or harts h 0 + 1) (omega arith)
-    (All-weaker (λ (runs : ℕ). runs ≤ n) (λ (runs : ℕ). runs ≤ n + 1) (λ runs is. omega (arith, is)) harts few)
+few_added : (n m : ℕ) (sums counts : List ℕ) → AllByRecursion (λ (k : ℕ). k ≤ n) sums → AllByRecursion (λ (k : ℕ). k ≤ m) counts
+    → AllByRecursion (λ (k : ℕ). k ≤ n + m) (added sums counts)
+few_added n m [] counts few more = tt
+few_added n m (sum ∷ sums) [] few more = (omega (arith, few.0), weaker sums few.1)
+  where
+    weaker : (sums : List ℕ) → AllByRecursion (λ (k : ℕ). k ≤ n) sums → AllByRecursion (λ (k : ℕ). k ≤ n + m) sums
+    weaker [] few = tt
+    weaker (sum ∷ sums) few = (omega (arith, few.0), weaker sums few.1)
+few_added n m (sum ∷ sums) (count ∷ counts) few more = (omega (arith, few.0, more.0), few_added n m sums counts few.1 more.1)
+
+few_stores : (n : ℕ) (sums counts : List ℕ) → All (λ (k : ℕ). k ≤ 1000000 * n) sums → All (λ (k : ℕ). k ≤ 1000000) counts
+    → All (λ (k : ℕ). k ≤ 1000000 * (n + 1)) (added sums counts)
+few_stores n sums counts few more =
+    All-weaker (λ (k : ℕ). k ≤ 1000000 * n + 1000000) (λ (k : ℕ). k ≤ 1000000 * (n + 1)) (λ k is. omega (arith, is)) (added sums counts)
+    (All-from_recursion (λ (k : ℕ). k ≤ 1000000 * n + 1000000) (added sums counts)
+    (few_added (1000000 * n) 1000000 sums counts (recursion_from_All (λ (k : ℕ). k ≤ 1000000 * n) sums few)
+    (recursion_from_All (λ (k : ℕ). k ≤ 1000000) counts more)))
 
 pub within_told : (a : Account) (m : Made) → IsWithin a → IsShort m.tally → IsWithin (told a m)
 within_told a m within short = record {
   found = few_found m a.runs a.found (is_known m a.found) (is_full a.found) within.found;
   others = few_others m a.runs (is_known m a.found) (is_full a.found) a.others within.others;
-  harts = few_runs a.runs a.tried.harts m.tally.harts within.harts;
+  harts = few_more a.runs a.tried.harts m.tally.harts within.harts;
   switches = omega (arith, within.switches, short.switches);
   preemptions = omega (arith, within.preemptions, short.preemptions);
   inside = omega (arith, within.inside, short.inside);
+  waits = few_stores a.runs a.tried.waits m.tally.waits within.waits short.waits;
 }

@@ -1,10 +1,11 @@
 -- Worked examples: seeds, what is told of a few runs, and the text of that.
-use Rattle.std.proofs.Common.{◌≡◌, ℕ, List, [], ◌∷◌, ◌++◌, Some, None, fold, refl}
+use Rattle.std.proofs.Common.{◌≡◌, ℕ, List, [], ◌∷◌, ◌++◌, Some, fold, refl}
 use Rattle.std.specs.Fmt.{digits}
 use Rattle.std.specs.Prelude.{codes}
 use Rattle.mach_types.specs.declared.limits.End.{End}
 use Rattle.mach_types.specs.declared.limits.End.TheVariants.{Exit, Stuck}
 use Rattle.draw_policies.specs.declared.policies.Policy.TheVariants as policy
+use Rattle.drawn_machine.specs.Waits.{counts_of, no_waits}
 use Rattle.explored_runs.specs.declared.exploration.Apart.TheVariants.{ByText, ByEnd}
 use Rattle.explored_runs.specs.declared.made.Made.{Made}
 use Rattle.explored_runs.specs.Accounts.{Account, nothing, told}
@@ -23,7 +24,7 @@ run seed console end = record {
   steps = 100;
   console = console;
   end = end;
-  tally = record { harts = 2; switches = 5; preemptions = 1; inside = 1 };
+  tally = record { harts = 2; switches = 5; preemptions = 1; inside = 1; waits = counts_of (0 ∷ 2 ∷ 0 ∷ 300 ∷ []) };
 }
 
 abbrev three : Account
@@ -32,13 +33,13 @@ three = fold told nothing (run 7 (codes "ab") (Exit 0) ∷ run 8 (codes "ab") St
 text_of_three : explored_text ByText three
     ≡ codes "outcomes 2\nruns 2 seed 7 policy short steps 100\nconsole 2\nab\nend exit 0\n"
     ++ codes "runs 1 seed 8 policy short steps 100\nconsole 2\nab\nend stuck\n"
-    ++ codes "runs 3\nharts 2 3\nswitches 15\npreemptions 3 inside 3\n"
-unfolding explored_text digits
+    ++ codes "runs 3\nharts 2 3\nswitches 15\npreemptions 3 inside 3\nwaited 0 0 0 0 0 0 2 2 2 255+ 255+\n"
+unfolding explored_text digits no_waits
 text_of_three = refl
 
 -- by their ends alone, and with others
 text_with_others : explored_text ByEnd (record three { others = Some (record { runs = 4; seed = 10 }) })
     ≡ codes "outcomes 2\nruns 2 seed 7 policy short steps 100\nend exit 0\nruns 1 seed 8 policy short steps 100\nend stuck\n"
-    ++ codes "others 4 seed 10\nruns 3\nharts 2 3\nswitches 15\npreemptions 3 inside 3\n"
-unfolding explored_text digits
+    ++ codes "others 4 seed 10\nruns 3\nharts 2 3\nswitches 15\npreemptions 3 inside 3\nwaited 0 0 0 0 0 0 2 2 2 255+ 255+\n"
+unfolding explored_text digits no_waits
 text_with_others = refl

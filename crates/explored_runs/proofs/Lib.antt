@@ -1,5 +1,8 @@
+mod Added
 pub mod Counts
+mod DecileExamples
 pub mod Examples
+mod Fields
 pub mod OneExploration
 pub mod Outcomes
 pub mod Telling

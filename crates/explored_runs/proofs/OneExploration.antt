@@ -1,6 +1,5 @@
 -- An exploration of a setting comes to one thing.
-use Rattle.std.proofs.Common.{◌≡◌, ◌≤◌, ℕ, ◌<◌, zero, suc, Bool, true, false, List, [], ◌++◌, refl, sym, ap, ap₂, ◌∙◌, subst, inl, inr, arith}
-use Rattle.std.specs.Prelude.{◌⊎◌}
+use Rattle.std.proofs.Common.{◌≡◌, ◌≤◌, ℕ, ◌<◌, zero, suc, false, List, [], sym, ap, ap₂, ◌∙◌, subst, inl, inr, arith}
 use Rattle.std.proofs.Math.Nat.{eq-or-lt_of_le}
 use Rattle.std.proofs.lemmas.Bool.{cases_order}
 use Rattle.mach_types.specs.declared.events.Entry.{Entry}
@@ -10,7 +9,7 @@ use Rattle.explored_runs.specs.declared.exploration.Exploration.{Exploration}
 use Rattle.explored_runs.specs.declared.made.Made.{Made}
 use Rattle.explored_runs.specs.Accounts.{Account, has_enough, told}
 use Rattle.explored_runs.specs.Explorations.{manner_at}
-use Rattle.explored_runs.specs.Explored.{IsExploredAs, IsToldAfter, IsToldNext}
+use Rattle.explored_runs.specs.Explored.{IsExploredAs, IsToldAfter}
 use Rattle.explored_runs.specs.Made.{IsMadeAt, made_by}
 
 -- the run of a place comes to one thing, since it has one log

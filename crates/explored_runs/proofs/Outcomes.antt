@@ -1,7 +1,7 @@
 -- What a run that is told does to the outcomes that were found, by the place of its own.
 use Rattle.std.proofs.Common.{◌≡◌, ◌≤◌, ℕ, ◌+◌, ◌<◌, zero, suc, Bool, true, false, cond, List, [], ◌∷◌, ◌++◌, Option, Some, None, length, get_or, set, refl, sym, ap, ◌∙◌, arith, ltb}
 use Rattle.std.specs.Prelude.{◌||◌}
-use Rattle.std.specs.List.{All, list_any, position, position_or_len}
+use Rattle.std.specs.List.{position, position_or_len}
 use Rattle.std.proofs.lemmas.Bool.{le-leb, lt-leb, ltb-false}
 use Rattle.std.proofs.lemmas.List.Elements.{All-from_get_or}
 use Rattle.std.proofs.lemmas.List.Folds.{list_any_none}

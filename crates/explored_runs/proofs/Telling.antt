@@ -1,16 +1,22 @@
 -- What is told of one run more.
-use Rattle.std.proofs.Common.{◌≡◌, ◌≤◌, ℕ, ◌+◌, ◌<◌, zero, suc, false, List, [], ◌∷◌, Option, Some, None, get_or, set, length, refl, sym, ap, ◌∙◌, subst, add-one, arith}
+use Rattle.std.proofs.Common.{◌≡◌, ◌≤◌, ℕ, ◌+◌, ◌*◌, ◌<◌, zero, suc, false, List, [], ◌∷◌, Option, Some, None, get_or, set, length, refl, sym, ap, subst, add-one, arith, All}
 use Rattle.std.specs.Option.{IfSome}
+use Rattle.std.proofs.lemmas.List.Elements.{All-nil, All-replicate}
 use Rattle.mach_types.specs.Limits.{InRange}
+use Rattle.block_model.specs.Run.{IsBlockRun}
 use Rattle.block_model.specs.Setting.{Seen, Setting}
 use Rattle.block_model.proofs.Laws.{within_limit}
 use Rattle.drawn_runs.specs.WholeRuns.{IsWholeDrawn}
 use Rattle.drawn_machine.specs.Preemptions.{left_inside_in}
+use Rattle.drawn_machine.specs.Waits.{no_waits, wait_counts_in}
+use Rattle.drawn_machine.specs.declared.store_waits.TheConstants.{LONG_WAIT}
+use Rattle.drawn_machine.proofs.Waiting.{few_wait_counts}
 use Rattle.drawn_runs.specs.declared.manner.Manner.{Manner}
 use Rattle.explored_runs.specs.declared.exploration.Exploration.{Exploration}
+use Rattle.explored_runs.specs.declared.explored.Found.{Found}
 use Rattle.explored_runs.specs.declared.made.Made.{Made}
-use Rattle.explored_runs.specs.Accounts.{Account, has_enough, told}
-use Rattle.explored_runs.specs.Explored.{AreMadeFrom, IsExploring, IsToldAfter, IsToldNext}
+use Rattle.explored_runs.specs.Accounts.{Account, IsWithin, has_enough, nothing, told}
+use Rattle.explored_runs.specs.Explored.{AreMadeFrom, IsExploring, IsToldAfter}
 use Rattle.explored_runs.specs.Made.{IsMadeAt}
 use Rattle.explored_runs.specs.Tallies.{IsShort}
 use Rattle.explored_runs.proofs.Counts.{short_inside, short_tally, within_told}
@@ -25,10 +31,35 @@ pub short_left : (s : Setting) (m : Manner) (seen : Seen) (inside : ℕ) → InR
 short_left s m seen inside limits whole is =
     let few = short_inside seen.setting seen.log (short_log s m seen limits whole) in omega (arith, few, is)
 
+pub short_waits : (s : Setting) (m : Manner) (seen : Seen) (waits : List ℕ) → InRange s.limits → IsWholeDrawn s m seen
+    → waits ≡ wait_counts_in seen → All (λ (stores : ℕ). stores ≤ 1000000) waits
+short_waits s m seen waits limits whole is =
+    subst (All (λ (stores : ℕ). stores ≤ 1000000)) (sym is)
+    (few_wait_counts seen.setting seen.log
+    (subst (λ (t : Setting). IsBlockRun t seen.log) (sym whole.setting) whole.run.block_run) (short_log s m seen limits whole))
+
 pub short_run : (s : Setting) (x : Exploration) (place : ℕ) (m : Made) → InRange s.limits → IsMadeAt s x place m → IsShort m.tally
 short_run s x place m limits made =
-    short_tally s made.log m.tally (ap (λ (n : Made). n.tally) made.made) limits.eight_harts
+    short_tally s made.log m.tally (ap (λ (n : Made). n.tally) made.made) made.run.block_run limits.eight_harts
     (let steps = within_limit s made.log made.run.block_run in omega (arith, limits.most_steps))
+
+-- before the first run
+within_nothing : IsWithin nothing
+unfolding no_waits
+within_nothing = record {
+  found = All-nil (λ (f : Found). f.runs ≤ 0);
+  others = tt;
+  harts = All-replicate (λ (runs : ℕ). runs ≤ 0) 9 0 (omega arith);
+  switches = omega arith;
+  preemptions = omega arith;
+  inside = omega arith;
+  waits = All-replicate (λ (stores : ℕ). stores ≤ 1000000 * 0) (LONG_WAIT + 1) 0 (omega arith);
+}
+
+pub begins : (s : Setting) (x : Exploration) (a : Account) → a ≡ nothing → IsExploring s x a
+begins s x a is =
+    let first : IsExploring s x nothing = record { told = refl; within = within_nothing; few = omega arith } in
+    subst (IsExploring s x) (sym is) first
 
 -- an exploration goes on by the run of the next place
 pub goes_on : (s : Setting) (x : Exploration) (a b : Account) (place : ℕ) (m : Made) → InRange s.limits → IsExploring s x a

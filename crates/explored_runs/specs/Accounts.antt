@@ -4,6 +4,7 @@ use Rattle.std.specs.Prelude.{ℕ, ◌≤◌, ◌+◌, ◌*◌, ◌==◌, ◌&&�
 use Rattle.std.specs.List.{list_any}
 use Rattle.mach_types.specs.declared.limits.End.{End}
 use Rattle.mach_types.specs.declared.limits.End.TheVariants.{Exit, Killed, Stuck, Limit, Unended}
+use Rattle.drawn_machine.specs.Waits.{no_waits}
 use Rattle.explored_runs.specs.declared.explored.Explored.{Explored}
 use Rattle.explored_runs.specs.declared.explored.Found.{Found}
 use Rattle.explored_runs.specs.declared.explored.Others.{Others}
@@ -25,7 +26,7 @@ nothing = record {
   found = [];
   others = None;
   runs = 0;
-  tried = record { harts = replicate 9 0; switches = 0; preemptions = 0; inside = 0 };
+  tried = record { harts = replicate 9 0; switches = 0; preemptions = 0; inside = 0; waits = no_waits };
 }
 
 -- whether two ends are one
@@ -71,14 +72,21 @@ with_other m (Some others) = record others { runs = others.runs + 1 }
 abbrev pub others_after : Made → List Found → Option Others → Option Others
 others_after m found others = if is_known m found then others else if is_full found then Some (with_other m others) else others
 
--- how many runs had threads on exactly so many harts, with one run more; and the sums of the switches, of the preemptions, and of
--- those inside sequences
+-- counts added to the sums at their places
+abbrev pub added : List ℕ → List ℕ → List ℕ
+added [] counts = []
+added (sum ∷ sums) [] = sum ∷ sums
+added (sum ∷ sums) (count ∷ counts) = (sum + count) ∷ added sums counts
+
+-- how many runs had threads on exactly so many harts, with one run more; and the sums of the switches, of the preemptions, of those
+-- inside sequences, and of the stores that waited so long
 abbrev pub tried_after : Tally → Tried → Tried
 tried_after t tried = record {
   harts = slice_set tried.harts t.harts (slice_index tried.harts t.harts + 1);
   switches = tried.switches + t.switches;
   preemptions = tried.preemptions + t.preemptions;
   inside = tried.inside + t.inside;
+  waits = added tried.waits t.waits;
 }
 
 -- what is told after one run more
@@ -98,6 +106,7 @@ pub record IsWithin (a : Account) : Type 0 where
   pub switches : a.tried.switches ≤ 1000000 * a.runs
   pub preemptions : a.tried.preemptions ≤ 1000000 * a.runs
   pub inside : a.tried.inside ≤ 1000000 * a.runs
+  pub waits : All (λ (stores : ℕ). stores ≤ 1000000 * a.runs) a.tried.waits
 
 -- whether as many outcomes were found as were asked for
 abbrev pub has_enough : Option ℕ → Account → Bool

@@ -1,4 +1,5 @@
 pub mod Accounts
+pub mod Deciles
 pub mod Explorations
 pub mod Explored
 pub mod Made

@@ -1,6 +1,6 @@
--- What was tried in a run (own): on how many harts threads ran, how often another hart went on, and how often a thread was preempted,
--- and inside a restartable sequence.
-use Rattle.std.specs.Prelude.{ℕ, zero, suc, ◌≤◌, ◌+◌, ◌==◌, ◌&&◌, Bool, true, false, List, [], ◌∷◌, count_by, if◌then◌else◌}
+-- What was tried in a run (own): on how many harts threads ran, how often another hart went on, how often a thread was preempted, and
+-- inside a restartable sequence, and how many stores waited how long.
+use Rattle.std.specs.Prelude.{ℕ, zero, suc, ◌≤◌, ◌+◌, ◌==◌, ◌&&◌, Bool, true, false, List, [], ◌∷◌, All, count_by, if◌then◌else◌}
 use Rattle.std.specs.List.{list_any}
 use Rattle.mach_types.specs.declared.events.Entry.{Entry}
 use Rattle.mach_types.specs.declared.events.Kind.{Kind}
@@ -8,6 +8,7 @@ use Rattle.mach_types.specs.declared.events.Kind.TheVariants as kind
 use Rattle.block_model.specs.Deciding.{history}
 use Rattle.block_model.specs.Setting.{Setting}
 use Rattle.drawn_machine.specs.Preemptions.{is_preempt, left_inside}
+use Rattle.drawn_machine.specs.Waits.{wait_counts}
 use Rattle.explored_runs.specs.declared.tallies.Tally.{Tally}
 
 -- whether a thread begins to run by an event of this kind
@@ -48,16 +49,18 @@ pub record IsShort (t : Tally) : Type 0 where
   pub switches : t.switches ≤ 1000000
   pub preemptions : t.preemptions ≤ 1000000
   pub inside : t.inside ≤ 1000000
+  pub waits : All (λ (stores : ℕ). stores ≤ 1000000) t.waits
 
--- what was tried in a run on so many harts, where so often a thread left its hart inside a sequence
-abbrev pub tally_with : ℕ → List Entry → ℕ → Tally
-tally_with harts log inside = record {
+-- what was tried in a run on so many harts, where so often a thread left its hart inside a sequence, and so many stores waited so long
+abbrev pub tally_with : ℕ → List Entry → ℕ → List ℕ → Tally
+tally_with harts log inside waits = record {
   harts = harts_in log harts;
   switches = switches_in log;
   preemptions = preemptions_in log;
   inside = inside;
+  waits = waits;
 }
 
 -- what was tried in a run
 abbrev pub tally_of : Setting → List Entry → Tally
-tally_of s log = tally_with s.limits.harts log (left_inside s (history s log))
+tally_of s log = tally_with s.limits.harts log (left_inside s (history s log)) (wait_counts (history s log))

@@ -1,8 +1,9 @@
 -- The text of an exploration (own). Characters are ASCII codes, and numbers are decimal.
-use Rattle.std.specs.Prelude.{ℕ, ◌+◌, ◌==◌, List, [], ◌∷◌, ◌++◌, Option, Some, None, length, codes, if◌then◌else◌}
+use Rattle.std.specs.Prelude.{ℕ, ◌+◌, ◌==◌, List, [], ◌∷◌, ◌++◌, Option, Some, None, length, map, codes, nat_lt, if◌then◌else◌}
 use Rattle.std.specs.Fmt.{decimal}
 use Rattle.std.specs.List.{flat_map}
 use Rattle.draw_policies.specs.Policies.{word_of}
+use Rattle.drawn_machine.specs.declared.store_waits.TheConstants.{LONG_WAIT}
 use Rattle.place_text.specs.Ends.{end_line, number_line}
 use Rattle.place_text.specs.Fields.{line}
 use Rattle.step_log.specs.Text.{newline}
@@ -11,6 +12,7 @@ use Rattle.explored_runs.specs.declared.exploration.Apart.TheVariants.{ByText, B
 use Rattle.explored_runs.specs.declared.explored.Found.{Found}
 use Rattle.explored_runs.specs.declared.explored.Others.{Others}
 use Rattle.explored_runs.specs.Accounts.{Account}
+use Rattle.explored_runs.specs.Deciles.{deciles}
 
 -- `runs N seed S policy NAME steps M`: how many runs came to an outcome, and of the first of them its seed, its policy and how many
 -- entries its log has
@@ -44,9 +46,18 @@ abbrev pub preemptions_line : ℕ → ℕ → List ℕ
 preemptions_line preemptions inside =
     line (codes "preemptions") (decimal preemptions ∷ codes "inside" ∷ decimal inside ∷ [])
 
+-- how many instructions a store waited for; from LONG_WAIT on it isn't told how many more
+abbrev pub wait_field : ℕ → List ℕ
+wait_field wait = if nat_lt wait LONG_WAIT then decimal wait else decimal wait ++ codes "+"
+
+-- `waited D0 D1 .. D10`: the deciles of that, over the stores that entered memory; the word alone where none did
+abbrev pub waited_line : List ℕ → List ℕ
+waited_line counts = line (codes "waited") (map wait_field (deciles counts))
+
 -- the whole text
 unfoldable pub explored_text : Apart → Account → List ℕ
 explored_text apart a =
     number_line (codes "outcomes") (length a.found) ++ flat_map (found_text apart) a.found ++ others_text a.others
     ++ number_line (codes "runs") a.runs ++ line (codes "harts") (harts_fields 0 a.tried.harts)
     ++ number_line (codes "switches") a.tried.switches ++ preemptions_line a.tried.preemptions a.tried.inside
+    ++ waited_line a.tried.waits

@@ -84,7 +84,7 @@ impl Explored {
         ensures { OnOk result (account_of self.new ≡ told (account_of self.old) made) }
     {
         self.runs += 1;
-        self.tried.count(made.tally);
+        self.tried.count(&made.tally);
         tell_outcome(&mut self.found, &mut self.others, made)
     }
 }

@@ -3,6 +3,7 @@
 //! A run is the one that `drawn_machine` makes of its seed. Nothing is kept of it but what it came to.
 #![tactic(auto)]
 
+mod deciles;
 mod exploration;
 mod explored;
 mod exploring;

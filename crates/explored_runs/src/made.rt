@@ -1,10 +1,11 @@
 //! What one run came to.
 
-ghost use Rattle.std.specs.Prelude.{◌≡◌, ◌≤◌, length, IfOk};
+ghost use Rattle.std.specs.Prelude.{◌≡◌, ◌≤◌, length, All, IfOk};
 ghost use Rattle.mach_types.specs.Limits.{InRange};
 ghost use Rattle.elf_load.specs.Images.{IsBootable};
 ghost use Rattle.block_model.specs.Setting.{setting_of};
 ghost use Rattle.drawn_machine.specs.Preemptions.{left_inside_in};
+ghost use Rattle.drawn_machine.specs.Waits.{wait_counts_in};
 ghost use Rattle.explored_runs.specs.Made.{IsMadeAt, kept, made_by};
 
 use crate::exploration::{Apart, Exploration};
@@ -57,6 +58,8 @@ fn made_by(alloc: Global, apart: Apart, manner: &Manner, run: &DrawnRun) -> Resu
     requires log { length run.now.machine.log ≤ 1000000 }
     requires inside { run.now.left_inside ≡ left_inside_in run.now.machine }
     requires few { run.now.left_inside ≤ 1000000 }
+    requires waits { run.now.waits ≡ wait_counts_in run.now.machine }
+    requires few_waits { All (λ stores. stores ≤ 1000000) run.now.waits }
     ensures { IfOk result
         (λ made. made ≡ made_by apart manner.now run.now.machine.setting run.now.machine.log) }
 {
@@ -68,7 +71,7 @@ fn made_by(alloc: Global, apart: Apart, manner: &Manner, run: &DrawnRun) -> Resu
         steps: log.len() as u32,
         console: Printed::copied(alloc, kept(apart, machine.console()))?,
         end: machine.end(),
-        tally: Tally::of(machine.harts(), log, run.left_inside),
+        tally: Tally::of(machine.harts(), log, run.left_inside, &run.waits),
     })
 }
 

@@ -1,7 +1,7 @@
 //! What was tried in a run, and in all runs.
 
 /// What was tried in one run.
-#[derive(Clone, Copy, Drop)]
+#[derive(Drop)]
 pub(crate) struct Tally {
     /// On how many harts a thread ran, 0 to 8.
     pub(crate) harts: u8,
@@ -11,10 +11,13 @@ pub(crate) struct Tally {
     pub(crate) preemptions: u64,
     /// How often inside a restartable sequence.
     pub(crate) inside: u64,
+    /// By the number of instructions that a hart executed behind one of its stores until that entered memory, 0 to 255: how many
+    /// stores waited so long, at the last place for [`drawn_machine::LONG_WAIT`] instructions or more.
+    pub(crate) waits: [u32; 256],
 }
 
 /// What was tried in all runs.
-#[derive(Clone, Copy, Drop)]
+#[derive(Drop)]
 pub struct Tried {
     /// By the number of harts, 0 to 8: in how many runs a thread ran on exactly so many.
     pub harts: [u64; 9],
@@ -24,4 +27,7 @@ pub struct Tried {
     pub preemptions: u64,
     /// How often inside a restartable sequence.
     pub inside: u64,
+    /// By the number of instructions that a hart executed behind one of its stores until that entered memory, 0 to 255: how many
+    /// stores waited so long, at the last place for [`drawn_machine::LONG_WAIT`] instructions or more.
+    pub waits: [u64; 256],
 }

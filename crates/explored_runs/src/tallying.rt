@@ -1,19 +1,21 @@
 //! How what was tried is counted.
 
 ghost use Rattle.std.specs.Prelude.{◌≡◌, ◌≤◌, ◌<◌, ◌^◌, length, All};
-ghost use Rattle.explored_runs.specs.Accounts.{nothing, tried_after};
+ghost use Rattle.explored_runs.specs.Accounts.{added, nothing, tried_after};
 ghost use Rattle.explored_runs.specs.Tallies.{IsShort, harts_in, preemptions_in, ran_on, switches_from, switches_in, tally_with};
 
 use crate::tallies::{Tally, Tried};
 use mach_types::{Entry, Hart, Kind};
 
 impl Tally {
-    /// What was tried in the run of a log, on so many harts, where so often a thread was preempted inside a sequence.
-    pub(crate) fn of(harts: u8, log: &[Entry], inside: u32) -> Tally
+    /// What was tried in the run of a log, on so many harts, where so often a thread was preempted inside a sequence, and so many
+    /// stores waited so long.
+    pub(crate) fn of(harts: u8, log: &[Entry], inside: u32, waits: &[u32; 256]) -> Tally
         requires harts { harts ≤ 8 }
         requires log { length log.now ≤ 1000000 }
         requires inside { inside ≤ 1000000 }
-        ensures is { result ≡ tally_with harts log.now inside }
+        requires waits { All (λ stores. stores ≤ 1000000) waits.now }
+        ensures is { result ≡ tally_with harts log.now inside waits.now }
         ensures short { IsShort result }
     {
         Tally {
@@ -21,6 +23,7 @@ impl Tally {
             switches: switches(log) as u64,
             preemptions: preemptions(log) as u64,
             inside: u64::from(inside),
+            waits: *waits,
         }
     }
 }
@@ -82,6 +85,7 @@ fn preemptions(log: &[Entry]) -> usize
 
 impl Tried {
     /// Nothing.
+    #[tactic(auto, unfolding(drawn_machine::specs::Waits::no_waits))]
     pub(crate) fn nothing() -> Tried
         ensures { result ≡ nothing.tried }
     {
@@ -90,21 +94,35 @@ impl Tried {
             switches: 0,
             preemptions: 0,
             inside: 0,
+            waits: [0; 256],
         }
     }
 
     /// Counts one run more.
-    pub(crate) fn count(&mut self, tally: Tally)
-        requires short { IsShort tally }
+    pub(crate) fn count(&mut self, tally: &Tally)
+        requires short { IsShort tally.now }
         requires harts { All (λ runs. runs < 2 ^ 63) self.old.harts }
         requires switches { self.old.switches < 2 ^ 63 }
         requires preemptions { self.old.preemptions < 2 ^ 63 }
         requires inside { self.old.inside < 2 ^ 63 }
-        ensures { self.new ≡ tried_after tally self.old }
+        requires waits { All (λ stores. stores < 2 ^ 63) self.old.waits }
+        ensures { self.new ≡ tried_after tally.now self.old }
     {
         self.harts[tally.harts as usize] += 1;
         self.switches += tally.switches;
         self.preemptions += tally.preemptions;
         self.inside += tally.inside;
+        add_counts(&mut self.waits, &tally.waits);
+    }
+}
+
+/// Adds counts to the sums at their places.
+fn add_counts(sums: &mut [u64], counts: &[u32])
+    requires length { length sums.old ≡ length counts.now }
+    requires few { All (λ stores. stores < 2 ^ 63) sums.old }
+    ensures { sums.new ≡ added sums.old counts.now }
+{
+    for (place, count) in counts.iter().enumerate() {
+        sums[place] += u64::from(*count);
     }
 }

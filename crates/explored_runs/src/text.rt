@@ -1,16 +1,19 @@
 //! The text of an exploration.
 
-ghost use Rattle.std.specs.Prelude.{◌≡◌, ◌++◌, ◌∷◌, [], IfOk, OnOk, codes};
+ghost use Rattle.std.specs.Prelude.{◌≡◌, ◌≤◌, ◌++◌, ◌∷◌, [], IfOk, OnOk, codes, length, map};
 ghost use Rattle.std.specs.Fmt.{decimal};
 ghost use Rattle.std.specs.List.{flat_map};
 ghost use Rattle.place_text.specs.Ends.{number_line};
 ghost use Rattle.place_text.specs.Fields.{behind, line};
+ghost use Rattle.step_log.specs.Text.{space};
 ghost use Rattle.explored_runs.specs.Accounts.{account_of};
-ghost use Rattle.explored_runs.specs.Text.{console_part, explored_text, found_line, found_text, harts_fields, others_text};
+ghost use Rattle.explored_runs.specs.Deciles.{deciles};
+ghost use Rattle.explored_runs.specs.Text.{console_part, explored_text, found_line, found_text, harts_fields, others_text, wait_field, waited_line};
 
+use crate::deciles::{TENTHS, decile, total_of};
 use crate::exploration::Apart;
 use crate::explored::{Explored, Found, Others};
-use crate::tallies::Tried;
+use drawn_machine::LONG_WAIT;
 use place_text::fields::{begin_line, push_named_number, push_number, push_word};
 use place_text::push_end;
 use std::alloc::{AllocError, Global};
@@ -33,12 +36,10 @@ pub fn explored_text(
     push_count(&mut text, b"runs", explored.runs)?;
     push_harts(&mut text, &explored.tried.harts)?;
     push_count(&mut text, b"switches", explored.tried.switches)?;
-    let Tried {
-        preemptions,
-        inside,
-        ..
-    } = explored.tried;
+    let preemptions = explored.tried.preemptions;
+    let inside = explored.tried.inside;
     push_two_counts(&mut text, b"preemptions", preemptions, b"inside", inside)?;
+    push_waited(&mut text, &explored.tried.waits)?;
     Ok(text)
 }
 
@@ -147,6 +148,44 @@ fn push_harts_fields(text: &mut Vec<u8>, harts: &[u64]) -> Result<(), AllocError
             push_number(text, number as u64)?;
             push_number(text, *runs)?;
         }
+    }
+    Ok(())
+}
+
+/// Appends the line of how long stores waited.
+fn push_waited(text: &mut Vec<u8>, waits: &[u64]) -> Result<(), AllocError>
+    requires { length waits.now ≤ 256 }
+    ensures { OnOk result (text.new.items ≡ text.old.items ++ waited_line waits.now) }
+{
+    text.extend_from_slice(b"waited")?;
+    push_deciles(text, waits)?;
+    text.push(b'\n')?;
+    Ok(())
+}
+
+/// Appends its fields.
+fn push_deciles(text: &mut Vec<u8>, waits: &[u64]) -> Result<(), AllocError>
+    requires { length waits.now ≤ 256 }
+    ensures { OnOk result (text.new.items
+        ≡ text.old.items ++ behind (map wait_field (deciles waits.now))) }
+{
+    let total = total_of(waits);
+    if total == 0 {
+        return Ok(());
+    }
+    for tenths in &TENTHS {
+        push_wait(text, decile(waits, total, *tenths))?;
+    }
+    Ok(())
+}
+
+/// Appends how many instructions a store waited for, as a field.
+fn push_wait(text: &mut Vec<u8>, wait: u64) -> Result<(), AllocError>
+    ensures { OnOk result (text.new.items ≡ text.old.items ++ space ∷ wait_field wait) }
+{
+    push_number(text, wait)?;
+    if wait >= u64::from(LONG_WAIT) {
+        text.push(b'+')?;
     }
     Ok(())
 }

@@ -52,7 +52,7 @@ def explore(runs, first, count):
         counts[end] = counts.get(end, 0) + 1
     parts = ''.join(f'runs {counts[end]} {text}' for end, text in texts.items())
     others = 'others 1 seed 1\n' if 'others' in runs.words else ''
-    return f'outcomes {len(texts)}\n{parts}{others}runs {count}\nharts 1 {count}\nswitches 0\npreemptions 0 inside 0\n'
+    return f'outcomes {len(texts)}\n{parts}{others}runs {count}\nharts 1 {count}\nswitches 0\npreemptions 0 inside 0\nwaited\n'
 
 
 def main():

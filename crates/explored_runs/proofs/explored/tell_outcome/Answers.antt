@@ -1,4 +1,4 @@
-use Rattle.std.proofs.Common.{sym, ◌∙◌, ap, arith, ◌≡◌, ◌≤◌, ◌<◌, ◌++◌, List, [], ◌∷◌, Some, None, length, position}
+use Rattle.std.proofs.Common.{◌∙◌, ap, arith, ◌≡◌, ◌≤◌, ◌<◌, ◌++◌, [], ◌∷◌, Some, None, length, position}
 use Rattle.explored_runs.specs.declared.explored.Found.{Found}
 use Rattle.explored_runs.specs.declared.explored.Others.{Others}
 use Rattle.explored_runs.specs.Accounts.{came_to}

@@ -1,8 +1,13 @@
-use Rattle.std.proofs.Common.{◌≡◌, false, refl, sym, ◌∙◌}
+use Rattle.std.proofs.Common.{◌≡◌, false, refl}
 use Rattle.block_model.specs.Setting.{setting_of}
 use Rattle.explored_runs.specs.Accounts.{account_of, has_enough}
-use Rattle.explored_runs.proofs.Telling.{goes_on, short_run}
+use Rattle.explored_runs.proofs.Telling.{begins, goes_on, short_run}
 use Rattle.explored_runs.proofs.exploring.explore.Goals as goal
+
+pub runs-init : goal.runs-init
+runs-init c =
+    begins (setting_of c.args.image.now c.args.limits) c.args.exploration.now (account_of c.in_ok-explored.explored)
+    c.in_ok-explored.ensures
 
 pub tell-requires-clause-short : goal.tell-requires-clause-short
 tell-requires-clause-short c =

@@ -1,7 +1,7 @@
-use Rattle.std.proofs.Common.{◌≡◌, ◌<◌, ◌+◌, false, sym, ◌∙◌, ap, arith, length}
+use Rattle.std.proofs.Common.{◌≡◌, ◌<◌, ◌+◌, sym, ◌∙◌, ap, arith, length}
 use Rattle.std.proofs.Math.ListN.{length-set}
 use Rattle.block_model.specs.Setting.{setting_of}
-use Rattle.explored_runs.specs.Accounts.{Account, account_of, has_enough}
+use Rattle.explored_runs.specs.Accounts.{Account, account_of}
 use Rattle.explored_runs.proofs.Telling.{goes_on_taken, left, short_taken}
 use Rattle.explored_runs.proofs.sharing.tell_round.Goals as goal
 

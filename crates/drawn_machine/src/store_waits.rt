@@ -1,0 +1,67 @@
+//! How long the stores of all harts wait, counted while a run is made.
+
+ghost use Rattle.std.specs.Prelude.{◌≡◌, ◌<◌, ◌≤◌, ◌+◌, ◌^◌, All, IfOk, length, replicate, slice_index_or, slice_set};
+ghost use Rattle.drawn_machine.specs.Waits.{clock_behind, first_clock, no_waits, waits_behind, with_wait, with_waits};
+
+use crate::hart_clock::HartClock;
+use mach_types::Entry;
+use std::alloc::{AllocError, Global};
+
+/// From so many instructions on it isn't told how long a store waited, but that it was so long.
+pub const LONG_WAIT: u32 = 255;
+
+/// What is counted of the stores of a run while it is made.
+#[derive(Drop)]
+pub(crate) struct StoreWaits {
+    /// Of each hart, what is counted of it.
+    clocks: Vec<HartClock>,
+    /// By the number of instructions, 0 to 255: how many stores waited for so many, at the last place for [`LONG_WAIT`] or more.
+    pub(crate) counts: [u32; 256],
+}
+
+impl StoreWaits {
+    /// Before the first event of so many harts.
+    #[tactic(auto, unfolding(crate::specs::Waits::no_waits))]
+    pub(crate) fn new(alloc: Global, harts: u8) -> Result<StoreWaits, AllocError>
+        ensures clocks { IfOk result (λ waits. waits.clocks.items ≡ replicate harts first_clock) }
+        ensures counts { IfOk result (λ waits. waits.counts ≡ no_waits) }
+    {
+        let mut clocks = Vec::with_capacity(alloc, usize::from(harts))?;
+        for _ in 0..harts {
+            clocks.push(HartClock::new())?;
+        }
+        Ok(StoreWaits {
+            clocks,
+            counts: [0; 256],
+        })
+    }
+
+    /// Counts an event, behind which so many stores of its hart wait.
+    pub(crate) fn count(&mut self, entry: Entry, waiting: u8)
+        requires hart { entry.hart.0 < length self.old.clocks.items }
+        requires instructions { (slice_index_or self.old.clocks.items entry.hart.0 first_clock).instructions < 1000000 }
+        requires waiting { waiting ≤ 8 }
+        requires one { waiting
+            ≤ length (slice_index_or self.old.clocks.items entry.hart.0 first_clock).marks + 1 }
+        requires few { All (λ stores. stores < 1000000) self.old.counts }
+        ensures clocks { let before = slice_index_or self.old.clocks.items entry.hart.0 first_clock in
+            self.new.clocks.items
+            ≡ slice_set self.old.clocks.items entry.hart.0 (clock_behind entry.kind waiting before) }
+        ensures counts { let before = slice_index_or self.old.clocks.items entry.hart.0 first_clock in
+            self.new.counts ≡ with_waits (waits_behind entry.kind before) self.old.counts }
+    {
+        let clock = &mut self.clocks[usize::from(entry.hart.0)];
+        if let Some(wait) = clock.count(entry.kind, waiting) {
+            count_wait(&mut self.counts, wait);
+        }
+    }
+}
+
+/// Counts a store that waited for so many instructions.
+fn count_wait(counts: &mut [u32], wait: u32)
+    requires length { length counts.old ≡ 256 }
+    requires few { All (λ stores. stores < 1000000) counts.old }
+    ensures { counts.new ≡ with_wait wait counts.old }
+{
+    counts[wait.min(LONG_WAIT) as usize] += 1;
+}
