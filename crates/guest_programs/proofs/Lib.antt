@@ -1,3 +1,4 @@
+pub mod AllowedLogs
 pub mod AssembledCode
 pub mod Blocks
 pub mod CounterCode

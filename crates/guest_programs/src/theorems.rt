@@ -16,6 +16,7 @@ ghost use Rattle.alone_laws.specs.Entering.{IsIn};
 ghost use Rattle.alone_laws.specs.Uses.{CanAlwaysBegin, Placed};
 ghost use Rattle.percpu_lib.specs.Adds.{add_range, cell_seen, placed_add};
 ghost use Rattle.percpu_lib.specs.Lines.{AreEmitted};
+ghost use Rattle.percpu_lib.specs.Pops.{pop_form};
 ghost use Rattle.percpu_lib.specs.Pushes.{node_of, push_form};
 ghost use Rattle.percpu_lib.specs.Used.{IsWellUsed};
 ghost use Rattle.percpu_lib.specs.Uses.{HoldsAdd, SharesArea, cells_of};
@@ -63,15 +64,24 @@ pub fn counters_use_their_block()
         × (cell_seen s h (cells_of s p q.thread q.begun) q.reached ≡ Some 1) }
 {}
 
-/// What `HoldsPush` asks is met by a made guest: there are a block run of the list guest for the size 1 and a thread of it
-/// that uses its push block so, beside the pop block, and comes to the post-commit address by a sequence of the block. The
-/// cell of its processor is then its node.
+/// What the laws of push and pop ask is met by a made guest, the list guest for the size 1: there is a block run of it
+/// in which its second thread uses the push block so, beside the pop block; and one in which its first thread, once
+/// both have pushed a node, uses the pop block so, beside the push block.
 pub fn lists_use_their_block()
-    ensures { (asm : Assembly) × (code : List ℕ) × (s : Setting) × (log : List Entry) × (p : Slots) × (at : ℕ)
+    // the cell of its processor is its node
+    ensures push { (asm : Assembly) × (code : List ℕ) × (s : Setting) × (log : List Entry) × (p : Slots) × (at : ℕ)
         × (area : Area) × (others : List Placed) × (q : Sequence)
         × AreEmitted (guest_lines Lists) (empty CODE LABELS) asm × AreAssembled asm.labels asm.items code
         × (s.program ≡ guest_program code (data_bytes asm 1)) × IsWellUsed s log (push_form p) at area others q
         × (cell_seen s 0 (cells_of s p q.thread q.begun) q.reached ≡ Some (node_of s p q.thread q.begun)) }
+    // the cell was the first thread's node, which is the value, and is the second's
+    ensures pop { (asm : Assembly) × (code : List ℕ) × (s : Setting) × (log : List Entry) × (p : Slots) × (at : ℕ)
+        × (area : Area) × (others : List Placed) × (q : Sequence)
+        × AreEmitted (guest_lines Lists) (empty CODE LABELS) asm × AreAssembled asm.labels asm.items code
+        × (s.program ≡ guest_program code (data_bytes asm 1)) × IsWellUsed s log (pop_form p) at area others q
+        × (cell_seen s 0 (cells_of s p q.thread q.begun) q.begun ≡ Some 0x40000)
+        × (node_of s p q.thread q.reached ≡ 0x40000)
+        × (cell_seen s 0 (cells_of s p q.thread q.begun) q.reached ≡ Some 0x44000) }
 {}
 
 /// What `HoldsUrcu` asks is met by a made guest: there is a block run of the guest urcu for the size 1 that uses its

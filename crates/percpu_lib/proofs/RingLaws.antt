@@ -2,7 +2,6 @@
 use Rattle.std.proofs.Common.{◌≡◌, ℕ, zero, suc, ◌+◌, ◌*◌, ◌<◌, ◌≤◌, ◌^◌, List, ◌++◌, refl, arith, subst, Some, pos}
 use Rattle.mach_types.specs.declared.events.Entry.{Entry}
 use Rattle.mach_types.specs.declared.sequences.Area.{Area}
-use Rattle.rv_inst.specs.declared.instruction.Inst.TheVariants as inst
 use Rattle.block_model.specs.Deciding.{history}
 use Rattle.block_model.specs.History.{file, running}
 use Rattle.block_model.specs.Run.{IsBlockRun}

@@ -19,13 +19,13 @@ use Rattle.block_model.specs.Setting.{Setting}
 use Rattle.block_model.proofs.Laws.{IsStep, runs_apart, step_of}
 use Rattle.alone_laws.specs.Pointers.{AlwaysDescribed, AreDescribed, KeepsPointer, LiesBeside, PointerIs, PointerKept}
 use Rattle.alone_laws.specs.Pointers.{StoresTable, WritesPointer, has_area, has_had, pointer_at}
-use Rattle.alone_laws.specs.Spans.{seen_at}
+use Rattle.alone_laws.specs.Spans.{Leaves, seen_at}
 use Rattle.alone_laws.specs.Uses.{Placed, is_before}
 use Rattle.alone_laws.proofs.EventKinds.{is_kind}
 use Rattle.percpu_lib.specs.Forms.{Form, SharesAreaWith, placed_of}
-use Rattle.percpu_lib.proofs.UseTests.{IsTested, are_beside, are_fine, begins_to_run, either, follows, implies, is_empty}
-use Rattle.percpu_lib.proofs.UseTests.{is_fine, is_just, just_is, leaves_all, not_both, not_named, on_own}
-use Rattle.percpu_lib.proofs.UseTests.{only_hart, overlay_beside, own_hart, runs_there}
+use Rattle.percpu_lib.proofs.UseTests.{IsTested, are_beside, are_fine, begins_to_run, either, follows, implies}
+use Rattle.percpu_lib.proofs.UseTests.{is_fine, is_just, just_is, not_both, not_named, not_own, on_own}
+use Rattle.percpu_lib.proofs.UseTests.{only_hart, overlay_beside, own_hart, runs_there, strange_beside, strange_leaves, writes_beside, writes_leave}
 
 -- the stores of an event are this one
 abbrev is_store : ℕ → ℕ → List Store → Bool
@@ -120,12 +120,19 @@ module _ (s : Setting) (form : Form) (tested : IsTested form) (at : ℕ) (area :
   abbrev starts_running : Event → History → Bool
   starts_running e before = begins_to_run s form tested at area t e before
 
+  abbrev strange : Event → History → Bool
+  strange e before = strange_beside s form tested at area t (area.at + 8) 8 e before
+
   -- the pointer is 0 where the thread runs on hart 0
   abbrev is_zero : History → Bool
   is_zero before = runs_here before && is_just (word_at (seen_at s 0 before) (area.at + RSEQ_CS) 8) 0
 
-  -- once the area was registered: it is the thread's, which runs on hart 0 or begins to run. It stores to the
-  -- pointer just before the start alone, no signal is delivered, and no instruction writes memory at once
+  abbrev spares_pointer : Event → Bool
+  spares_pointer e = writes_beside (area.at + 8) 8 e.done.entered
+
+  -- once the area was registered: it is the thread's, which runs on hart 0 or begins to run, or the event is
+  -- another's and writes beside the pointer. The thread stores to the pointer just before the start alone, no
+  -- signal is delivered, and what an instruction writes at once lies beside the pointer
   abbrev stores_well : Event → History → Bool
   stores_well e before =
       are_beside (area.at + 8) 8 e.done.executed
@@ -135,11 +142,12 @@ module _ (s : Setting) (form : Form) (tested : IsTested form) (at : ℕ) (area :
   runs_well e before =
       runs_here before
       && (not (is_kind e.entry.kind kind.Signal)
-      && (implies (is_instruction e.entry.kind) (is_empty e.done.entered) && stores_well e before))
+      && (implies (is_instruction e.entry.kind) (spares_pointer e) && stores_well e before))
 
   abbrev writes_well : Event → History → Bool
   writes_well e before =
-      has_area t area.at (kernel s before).areas && (runs_well e before || starts_running e before)
+      has_area t area.at (kernel s before).areas
+      && (runs_well e before || (starts_running e before || strange e before))
 
   abbrev is_new : Event → History → Bool
   is_new e before = not (has_had s t area.at before) && has_area t area.at e.done.kernel.areas
@@ -198,28 +206,37 @@ module _ (s : Setting) (form : Form) (tested : IsTested form) (at : ℕ) (area :
 
     -- later
     abbrev How : Type 0
-    How = (runs_well e before ≡ true) ⊎ (starts_running e before ≡ true)
+    How = (runs_well e before ≡ true) ⊎ ((starts_running e before ≡ true) ⊎ (strange e before ≡ true))
 
     well : has_had s t area.at before ≡ true → (has_area t area.at (kernel s before).areas ≡ true) × How
     well had =
         let one = and_parts (has_area t area.at (kernel s before).areas) _
         (follows (has_had s t area.at before) (writes_well e before) more.0 had) in
-        (one.0, either (runs_well e before) (starts_running e before) one.1)
+        (one.0, by_two (either (runs_well e before) (starts_running e before || strange e before) one.1))
+      where
+        by_two : (runs_well e before ≡ true) ⊎ (starts_running e before || strange e before ≡ true) → How
+        by_two (inl runs) = inl runs
+        by_two (inr rest) = inr (either (starts_running e before) (strange e before) rest)
 
-    no_other : How → running s e.entry.hart.0 before ≢ Some t → (e.entry.kind ≡ kind.Run → e.entry.tid.0 ≢ t) → ⊥
-    no_other (inl runs) apart begins =
-        apart (on_own s form tested at area t e before step fine (and_parts (runs_here before) _ runs).0)
-    no_other (inr starts) apart begins = not_named s form tested at area t e before step fine starts begins
+    by_other : How → running s e.entry.hart.0 before ≢ Some t → (e.entry.kind ≡ kind.Run → e.entry.tid.0 ≢ t)
+        → Leaves (pointer_at area.at) e.done.entered
+    by_other (inl runs) apart begins =
+        absurd (apart (on_own s form tested at area t e before step fine (and_parts (runs_here before) _ runs).0))
+    by_other (inr (inl starts)) apart begins = absurd (not_named s form tested at area t e before step fine starts begins)
+    by_other (inr (inr other)) apart begins =
+        strange_leaves s form tested at area t e before step fine (area.at + 8) 8 other
 
     runs_so : How → running s e.entry.hart.0 before ≡ Some t
         → (not (is_kind e.entry.kind kind.Signal) ≡ true)
-        × (implies (is_instruction e.entry.kind) (is_empty e.done.entered) ≡ true) × (stores_well e before ≡ true)
-    runs_so (inr starts) at_own =
+        × (implies (is_instruction e.entry.kind) (spares_pointer e) ≡ true) × (stores_well e before ≡ true)
+    runs_so (inr (inl starts)) at_own =
         absurd (not_both s form tested at area t e before step fine starts e.entry.hart.0 at_own)
+    runs_so (inr (inr other)) at_own =
+        absurd (not_own s form tested at area t e before step fine (area.at + 8) 8 other at_own)
     runs_so (inl runs) at_own =
         let one = and_parts (runs_here before) _ runs in
         let two = and_parts (not (is_kind e.entry.kind kind.Signal)) _ one.1 in
-        let three = and_parts (implies (is_instruction e.entry.kind) (is_empty e.done.entered)) _ two.1 in
+        let three = and_parts (implies (is_instruction e.entry.kind) (spares_pointer e)) _ two.1 in
         (two.0, three.0, three.1)
 
     by_stores : stores_well e before ≡ true
@@ -238,11 +255,10 @@ module _ (s : Setting) (form : Form) (tested : IsTested form) (at : ℕ) (area :
     writes had =
         let how = (well had).1 in
         record {
-          others = λ apart begins. absurd (no_other how apart begins);
+          others = λ apart begins. by_other how apart begins;
           own = λ runs is.
-              leaves_all (pointer_at area.at) e.done.entered
-              (follows (is_instruction e.entry.kind) (is_empty e.done.entered) (runs_so how runs).1
-              (ap is_instruction is));
+              writes_leave (area.at + 8) 8 e.done.entered
+              (follows (is_instruction e.entry.kind) (spares_pointer e) (runs_so how runs).1 (ap is_instruction is));
           stores = λ runs. by_stores (runs_so how runs).2;
           frame = λ ws runs is same. absurd (false≢true
               (sym (ap (λ k. not (is_kind k kind.Signal)) is) ∙ (runs_so how runs).0));

@@ -129,7 +129,7 @@ writes_beside at n [] = true
 writes_beside at n (write.Stored w ∷ ws) = is_beside at n w && writes_beside at n ws
 writes_beside at n (write.Zeroed from k ∷ ws) = false
 
-writes_leave : (at n : ℕ) (ws : List Write) → writes_beside at n ws ≡ true → Leaves (among at n) ws
+pub writes_leave : (at n : ℕ) (ws : List Write) → writes_beside at n ws ≡ true → Leaves (among at n) ws
 writes_leave at n [] is a c has = refl
 writes_leave at n (write.Stored w ∷ ws) is a c has =
     let parts = and_parts (is_beside at n w) (writes_beside at n ws) is in
@@ -297,12 +297,24 @@ module _ (s : Setting) (form : Form) (tested : IsTested form) (at : ℕ) (area :
   abbrev is_kept : Event → History → Bool
   is_kept e before = implies (in_sequence (file s t before).pc) (goes_on e before)
 
+  -- an event of another thread, which writes beside some bytes
+  abbrev is_stranger : Event → History → Bool
+  is_stranger e before =
+      not (is_just (running s e.entry.hart.0 before) t)
+      && not (is_kind e.entry.kind kind.Run && eqb e.entry.tid.0 t)
+
+  abbrev pub strange_beside : ℕ → ℕ → Event → History → Bool
+  strange_beside from n e before = is_stranger e before && writes_beside from n e.done.entered
+
   -- from the registration on nothing stores to the processor's words, and nothing but a store that enters memory
   -- or the thread's beginning to run writes them
-  abbrev leaves_words : Event → History → Bool
-  leaves_words e before =
+  abbrev own_leaves : Event → History → Bool
+  own_leaves e before =
       are_beside area.at 8 e.done.executed
       && ((runs_there before && (is_kind e.entry.kind kind.Drain || writes_beside area.at 8 e.done.entered)) || begins_to_run e before)
+
+  abbrev leaves_words : Event → History → Bool
+  leaves_words e before = own_leaves e before || strange_beside area.at 8 e before
 
   abbrev is_told : Event → History → Bool
   is_told e before = implies (has_area before) (leaves_words e before)
@@ -315,9 +327,15 @@ module _ (s : Setting) (form : Form) (tested : IsTested form) (at : ℕ) (area :
   abbrev is_begun : History → Bool
   is_begun before = implies (eqb (file s t before).pc (at + 4 * form.first)) (starts before)
 
+  -- a sequence of the thread that began at the start
+  abbrev is_own : Sequence → Bool
+  is_own q = runs_there q.begun && eqb (file s t q.begun).pc (at + 4 * form.first)
+
+  abbrev is_fair_since : Sequence → History → Bool
+  is_fair_since q before = implies (is_own q) (is_fair (tested.spans s t q.begun) before)
+
   abbrev is_open : History → Bool
-  is_open before =
-      option_map_or (λ q. is_fair (tested.spans s t q.begun) before) (sequence_on s 0 before) true
+  is_open before = option_map_or (λ q. is_fair_since q before) (sequence_on s 0 before) true
 
   abbrev pub is_fine : Event → History → Bool
   is_fine e before =
@@ -600,14 +618,32 @@ module _ (s : Setting) (form : Form) (tested : IsTested form) (at : ℕ) (area :
         ap (λ (o : Option Area). option_map_or is_area o false) is
         ∙ and_from (eqb area.at area.at) (eqb area.sig area.sig) (eqb_same area.at) (eqb_same area.sig)
 
+    -- a stranger's event isn't one of the thread
+    pub not_own : (from n : ℕ) → strange_beside from n e before ≡ true → running s e.entry.hart.0 before ≡ Some t → ⊥
+    not_own from n strange runs =
+        let one = and_parts (is_stranger e before) (writes_beside from n e.done.entered) strange in
+        let two = and_parts (not (is_just (running s e.entry.hart.0 before) t)) _ one.0 in
+        false≢true (sym (ap (λ (o : Option ℕ). not (is_just o t)) runs ∙ ap not (eqb_same t)) ∙ two.0)
+
+    pub strange_leaves : (from n : ℕ) → strange_beside from n e before ≡ true → Leaves (among from n) e.done.entered
+    strange_leaves from n strange =
+        writes_leave from n e.done.entered (and_parts (is_stranger e before) (writes_beside from n e.done.entered) strange).1
+
     abbrev Tells : Type 0
     Tells = (runs_there before && (is_kind e.entry.kind kind.Drain || writes_beside area.at 8 e.done.entered) ≡ true)
         ⊎ (begins_to_run e before ≡ true)
 
-    tells : has_area before ≡ true → (are_beside area.at 8 e.done.executed ≡ true) × Tells
-    tells had =
-        let one = and_parts (are_beside area.at 8 e.done.executed) _
-        (follows (has_area before) (leaves_words e before) told_is had) in (
+    abbrev Told : Type 0
+    Told = (own_leaves e before ≡ true) ⊎ (strange_beside area.at 8 e before ≡ true)
+
+    told : has_area before ≡ true → Told
+    told had =
+        either (own_leaves e before) (strange_beside area.at 8 e before)
+        (follows (has_area before) (leaves_words e before) told_is had)
+
+    tells : own_leaves e before ≡ true → (are_beside area.at 8 e.done.executed ≡ true) × Tells
+    tells own =
+        let one = and_parts (are_beside area.at 8 e.done.executed) _ own in (
           one.0,
           either (runs_there before && (is_kind e.entry.kind kind.Drain || writes_beside area.at 8 e.done.entered))
               (begins_to_run e before) one.1,
@@ -635,11 +671,25 @@ module _ (s : Setting) (form : Form) (tested : IsTested form) (at : ℕ) (area :
 
     processor_kept : LeavesProcessor s t area e before
     processor_kept = record {
-      others = λ had elsewhere begins. absurd (no_stranger (tells (registered_is had)).1 elsewhere begins);
-      own = λ runs had has other. words_left (tells (registered_is had)).1 runs other;
-      stores = λ runs had a c inside.
-          overlay_beside area.at 8 e.done.executed (tells (registered_is had)).0 a c inside;
+      others = λ had elsewhere begins. by_stranger elsewhere begins (told (registered_is had));
+      own = λ runs had has other. by_thread runs other (told (registered_is had));
+      stores = λ runs had a c inside. by_stores runs a c inside (told (registered_is had));
     }
+      where
+        by_stranger : running s e.entry.hart.0 before ≢ Some t → (e.entry.kind ≡ kind.Run → e.entry.tid.0 ≢ t) → Told
+            → Leaves (among area.at 8) e.done.entered
+        by_stranger elsewhere begins (inl own) = absurd (no_stranger (tells own).1 elsewhere begins)
+        by_stranger elsewhere begins (inr strange) = strange_leaves area.at 8 strange
+
+        by_thread : running s e.entry.hart.0 before ≡ Some t → e.entry.kind ≢ kind.Drain → Told
+            → Leaves (among area.at 8) e.done.entered
+        by_thread runs other (inl own) = words_left (tells own).1 runs other
+        by_thread runs other (inr strange) = absurd (not_own area.at 8 strange runs)
+
+        by_stores : running s e.entry.hart.0 before ≡ Some t → (a c : ℕ) → among area.at 8 a ≡ true → Told
+            → overlay e.done.executed a c ≡ c
+        by_stores runs a c inside (inl own) = overlay_beside area.at 8 e.done.executed (tells own).0 a c inside
+        by_stores runs a c inside (inr strange) = absurd (not_own area.at 8 strange runs)
 
     -- THE DATA
 
@@ -681,10 +731,18 @@ module _ (s : Setting) (form : Form) (tested : IsTested form) (at : ℕ) (area :
         and_parts (is_fair (tested.spans s t before) before) (tested.is_apart s area t before) test
 
     -- and as long as it is open
-    open_is : (q : Sequence) → sequence_on s 0 before ≡ Some q → is_fair (tested.spans s t q.begun) before ≡ true
-    open_is q is =
-        sym (ap (λ (o : Option Sequence). option_map_or (λ (r : Sequence). is_fair (tested.spans s t r.begun) before) o true) is)
-        ∙ (and_parts (is_begun before) (is_open before) last).1
+    own_is : (q : Sequence) → IsAtStart s (at + 4 * form.first) 0 t q.begun → is_own q ≡ true
+    own_is q start =
+        and_from (runs_there q.begun) (eqb (file s t q.begun).pc (at + 4 * form.first))
+        (ap (λ (o : Option ℕ). is_just o t) start.runs ∙ eqb_same t)
+        (ap (λ n. eqb n (at + 4 * form.first)) start.pc ∙ eqb_same (at + 4 * form.first))
+
+    open_is : (q : Sequence) → sequence_on s 0 before ≡ Some q → IsAtStart s (at + 4 * form.first) 0 t q.begun
+        → is_fair (tested.spans s t q.begun) before ≡ true
+    open_is q is start =
+        follows (is_own q) (is_fair (tested.spans s t q.begun) before)
+        (sym (ap (λ (o : Option Sequence). option_map_or (λ (r : Sequence). is_fair_since r before) o true) is)
+        ∙ (and_parts (is_begun before) (is_open before) last).1) (own_is q start)
 
     abbrev Fair : ℕ → History → Type 0
     Fair h begun = IsFair s (block_of s form at area h t begun) h t e before
@@ -698,10 +756,12 @@ module _ (s : Setting) (form : Form) (tested : IsTested form) (at : ℕ) (area :
         subst (λ (x : History). Fair h x) here
         (subst (λ n. Fair n before) (only_hart runs h there_now.runs) (fair before test))
 
-    fair_later : (begun : History) (q : Sequence) → sequence_on s 0 before ≡ Some q → q.begun ≡ begun
-        → Fair 0 begun
-    fair_later begun q is from =
-        subst (λ (x : History). Fair 0 x) from (fair q.begun (open_is q is))
+    fair_later : (begun : History) (q : Sequence) → IsAtStart s (at + 4 * form.first) 0 t begun
+        → sequence_on s 0 before ≡ Some q → q.begun ≡ begun → Fair 0 begun
+    fair_later begun q start is from =
+        subst (λ (x : History). Fair 0 x) from
+        (fair q.begun
+        (open_is q is (subst (λ (x : History). IsAtStart s (at + 4 * form.first) 0 t x) (sym from) start)))
 
     block_used : ((h : ℕ) (q : Sequence) → sequence_on s h before ≡ Some q → 0 ≡ h) → IsBlockUsed s form at area t e before
     block_used sole = record {
@@ -709,7 +769,9 @@ module _ (s : Setting) (form : Form) (tested : IsTested form) (at : ℕ) (area :
           ⊎_elim (λ (here : before ≡ begun). fair_first h begun start here)
           (λ (that : (q : Sequence) × (sequence_on s h before ≡ Some q) × (q.begun ≡ begun)).
           subst (λ n. Fair n begun) (sole h that.0 that.1)
-          (fair_later begun that.0 (ap (λ n. sequence_on s n before) (sole h that.0 that.1) ∙ that.1) that.2))
+          (fair_later begun that.0
+          (subst (λ n. IsAtStart s (at + 4 * form.first) n t begun) (sym (sole h that.0 that.1)) start)
+          (ap (λ n. sequence_on s n before) (sole h that.0 that.1) ∙ that.1) that.2))
           opened;
       begins = λ h start.
           let test = begun_is start.pc in

@@ -1,29 +1,55 @@
-use Rattle.std.proofs.Common.{[], ◌∷◌, refl}
+use Rattle.std.proofs.Common.{[], ◌∷◌, eqb, refl}
+use Rattle.std.proofs.lemmas.Bool.{and_parts, eqb-true}
 use Rattle.percpu_lib.specs.Adds.{cell_seen}
 use Rattle.percpu_lib.specs.Pushes.{node_of}
 use Rattle.percpu_lib.specs.Uses.{cells_of}
-use Rattle.percpu_lib.proofs.UseTests.{just_is}
+use Rattle.percpu_lib.proofs.UseTests.{is_just, just_is}
 use Rattle.guest_programs.proofs.ListCode.{assembled, assembler, code, emitted}
 use Rattle.guest_programs.proofs.ListLog as example
 use Rattle.guest_programs.proofs.theorems.lists_use_their_block.Goals as goal
 
 pub returns : goal.returns
-returns c =
-    let its = example.pushes_well in (
-      assembler,
-      code,
-      example.listing,
-      example.log,
-      example.push_slots,
-      example.push_at,
-      example.area,
-      example.the_pop ∷ [],
-      its.sequence,
-      emitted,
-      assembled,
-      refl,
-      its.used,
-      just_is (cell_seen example.listing 0
-          (cells_of example.listing example.push_slots its.sequence.thread its.sequence.begun) its.sequence.reached)
-          (node_of example.listing example.push_slots its.sequence.thread its.sequence.begun) its.passes,
-    )
+returns c = record {
+  push =
+      let its = example.pushes_well in
+      let q = its.sequence in (
+        assembler,
+        code,
+        example.listing,
+        example.push_log,
+        example.push_slots,
+        example.push_at,
+        example.push_area,
+        example.the_pop ∷ [],
+        q,
+        emitted,
+        assembled,
+        refl,
+        its.used,
+        just_is (cell_seen example.listing 0 (cells_of example.listing example.push_slots q.thread q.begun) q.reached)
+            (node_of example.listing example.push_slots q.thread q.begun) its.passes,
+      );
+  pop =
+      let its = example.pops_well in
+      let q = its.sequence in
+      let cells = cells_of example.listing example.pop_slots q.thread q.begun in
+      let one = and_parts (is_just (cell_seen example.listing 0 cells q.begun) 0x40000) _ its.passes in
+      let two = and_parts (eqb (node_of example.listing example.pop_slots q.thread q.reached) 0x40000) _ one.1 in (
+        assembler,
+        code,
+        example.listing,
+        example.log,
+        example.pop_slots,
+        example.pop_at,
+        example.pop_area,
+        example.the_push ∷ [],
+        q,
+        emitted,
+        assembled,
+        refl,
+        its.used,
+        just_is (cell_seen example.listing 0 cells q.begun) 0x40000 one.0,
+        eqb-true (node_of example.listing example.pop_slots q.thread q.reached) 0x40000 two.0,
+        just_is (cell_seen example.listing 0 cells q.reached) 0x44000 two.1,
+      );
+}
