@@ -28,7 +28,7 @@ use Rattle.alone_laws.specs.Retries.{Retries}
 use Rattle.alone_laws.specs.Spans.{code_of}
 use Rattle.alone_laws.specs.Uses.{Placed}
 use Rattle.alone_laws.proofs.Arrivals.{IsCode, KnowsAt}
-use Rattle.alone_laws.proofs.Retrying.{IsKept, first_place, known_throughout}
+use Rattle.alone_laws.proofs.Retrying.{AsksNothing, IsKept, asks_nothing, first_place, known_throughout}
 use Rattle.percpu_lib.specs.Forms.{Form, HoldsBlock, placed_of, range_of}
 use Rattle.percpu_lib.specs.Frees.{free_block, free_form}
 use Rattle.percpu_lib.specs.Words.{AreSlots, is_changed}
@@ -345,10 +345,10 @@ module _ (s : Setting) (past : History) (p : Slots) (at : ℕ) (area : Area) (t 
           by_word (inl before) = known_value (omega arith) (omega arith) (inl (omega arith))
           by_word (inr from) = behind from (cases_eq k 20) (cases_eq k 21) (cases_eq k 16) (cases_eq k 17) here
 
-  kept : IsKept s b Know
+  kept : IsKept s b AsksNothing Know
   kept = record {
     plain = λ f e at_it is. code.no_call f e (without f at_it) is;
-    goes = λ f e seen r many at_it is inside uncommitted.
+    goes = λ f e seen r many asked at_it is inside uncommitted.
         let now = code.goes f e seen r many (without f at_it) is inside in
         let to = now.word in
         let other : to ≢ 18 = (λ same. uncommitted (now.pc ∙ ap (λ n. at + 4 * n) same ∙ omega arith)) in
@@ -363,7 +363,7 @@ module _ (s : Setting) (past : History) (p : Slots) (at : ℕ) (area : Area) (t 
             uncommitted = other;
           };
         };
-    cut = λ f at_it inside. record {
+    cut = λ f asked at_it inside. record {
       word = 20;
       below = omega arith;
       pc = refl;
@@ -374,6 +374,8 @@ module _ (s : Setting) (past : History) (p : Slots) (at : ℕ) (area : Area) (t 
         uncommitted = λ same. absurd (omega arith);
       };
     };
+    retry = λ f at. tt;
+    handler = λ f at. tt;
   }
     where
       handler_is : code.handler ≡ 20
@@ -416,8 +418,8 @@ freed_value_stays s p at area t first log later run held retries small there =
         uncommitted = λ same. absurd (omega arith);
       };
     } in
-    let known = known_throughout s b t (Know s past p at area t v small held) (kept s past p at area t v small held)
-    first log retries later run start in
+    let known = known_throughout s b t AsksNothing (Know s past p at area t v small held)
+    (kept s past p at area t v small held) first log retries later (asks_nothing s t (log ++ later) run) start in
     known.know.value (inl (early known.word known.pc there))
   where
     early : (k : ℕ) → (file s t (history s log)).pc ≡ at + 4 * k
