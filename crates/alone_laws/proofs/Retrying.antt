@@ -25,26 +25,42 @@ use Rattle.block_model.specs.Setting.{Setting}
 use Rattle.block_model.specs.Walks.{AreOfWalk, IsOfWalk}
 use Rattle.block_model.proofs.Laws.{HasRegisters, IsStep, file_apart, has_registers, history-append, run_before}
 use Rattle.block_model.proofs.Laws.{runs_apart, step_of}
-use Rattle.alone_laws.specs.Retries.{IsAtWork, Retries, begins, goes_on, post_commit}
+use Rattle.alone_laws.specs.Retries.{IsAtWork, IsBetween, IsWalkAtWork, Retries, begins, goes_on, post_commit}
 use Rattle.alone_laws.specs.Retries.{walks}
 use Rattle.alone_laws.specs.Spans.{code_of}
 use Rattle.alone_laws.specs.Uses.{Placed, in_block}
 use Rattle.alone_laws.proofs.Arrivals.{KnowsAt}
 use Rattle.alone_laws.proofs.Steps.{IsIdle, drain_idle, take_idle}
 
--- what is known at the words of a block stays known: behind a word that is no call and doesn't commit, and at
--- the abort handler after an interruption
-pub record IsKept (s : Setting) (b : Placed) (Know : ℕ → Regs → Type 0) : Type 0 where
+-- what is known at the words of a block stays known, where the thread is as is asked at each place from which a log
+-- goes on: behind a word that is no call and doesn't commit, and at the abort handler after an interruption. Nothing
+-- is asked at the retry label and at the abort handler
+pub record IsKept (s : Setting) (b : Placed) (Asked : Saved → Type 0) (Know : ℕ → Regs → Type 0) : Type 0 where
   pub plain : (f : Saved) (e : Effect) → KnowsAt b Know f → effect_at (code_of s.program.pages) f ≡ Some e
       → is_call e ≡ false
-  pub goes : (f : Saved) (e : Effect) (seen : ℕ → Option ℕ) (r : Option ℕ) → HasRegisters f → KnowsAt b Know f
-      → effect_at (code_of s.program.pages) f ≡ Some e
+  pub goes : (f : Saved) (e : Effect) (seen : ℕ → Option ℕ) (r : Option ℕ) → HasRegisters f → Asked f
+      → KnowsAt b Know f → effect_at (code_of s.program.pages) f ≡ Some e
       → in_block b (outcome seen f.file f.pc r e).pc ≡ true
       → (outcome seen f.file f.pc r e).pc ≢ post_commit b
       → KnowsAt b Know (record
       { file = (outcome seen f.file f.pc r e).regs; pc = (outcome seen f.file f.pc r e).pc })
-  pub cut : (f : Saved) → KnowsAt b Know f → is_inside b.range f.pc ≡ true
+  pub cut : (f : Saved) → Asked f → KnowsAt b Know f → is_inside b.range f.pc ≡ true
       → KnowsAt b Know (record f { pc = b.range.abort })
+  pub retry : (f : Saved) → f.pc ≡ b.at → Asked f
+  pub handler : (f : Saved) → f.pc ≡ b.range.abort → Asked f
+
+-- a block run in which thread t is as is asked at each place from which the log goes on and at which it runs
+pub record IsAskedRun (s : Setting) (t : ℕ) (Asked : Saved → Type 0) (log : List Entry) : Type 0 where
+  pub run : IsBlockRun s log
+  pub asked : (h : ℕ) (earlier : List Entry) (x : Entry) (rest : List Entry) → log ≡ earlier ++ x ∷ rest
+      → running s h (history s earlier) ≡ Some t → Asked (file s t (history s earlier))
+
+-- where nothing is asked, every block run is one
+abbrev pub AsksNothing : Saved → Type 0
+AsksNothing f = Unit {0}
+
+pub asks_nothing : (s : Setting) (t : ℕ) (log : List Entry) → IsBlockRun s log → IsAskedRun s t AsksNothing log
+asks_nothing s t log run = record { run = run; asked = λ h earlier x rest same runs. tt }
 
 -- where retries begin the thread is at the retry label
 pub first_place : (s : Setting) (b : Placed) (t : ℕ) (first log : List Entry) → Retries s b t first log
@@ -53,7 +69,11 @@ first_place s b t first log (begins at) = at
 first_place s b t first now (walks h log stretch earlier walk) = first_place s b t first log earlier
 first_place s b t first now (goes_on log gap earlier between) = first_place s b t first log earlier
 
-module _ (s : Setting) (b : Placed) (t : ℕ) (Know : ℕ → Regs → Type 0) (kept : IsKept s b Know) where
+module _ (s : Setting) (b : Placed) (t : ℕ) (Asked : Saved → Type 0) (Know : ℕ → Regs → Type 0)
+    (kept : IsKept s b Asked Know) where
+  abbrev Runs : List Entry → Type 0
+  Runs log = IsAskedRun s t Asked log
+
   abbrev Knows : Saved → Type 0
   Knows f = KnowsAt b Know f
 
@@ -63,7 +83,7 @@ module _ (s : Setting) (b : Placed) (t : ℕ) (Know : ℕ → Regs → Type 0) (
     knows : Knows (file s t before)
 
   module _ (h : ℕ) (e : Event) (before : History) (run : IsRunHistory s (e ∷ before)) (was : Stands h before)
-      (works : IsAtWork s b t (e ∷ before)) where
+      (asked : Asked (file s t before)) (works : IsAtWork s b t (e ∷ before)) where
     step : IsStep s e before
     step = step_of s e before run
 
@@ -110,7 +130,8 @@ module _ (s : Setting) (b : Placed) (t : ℕ) (Know : ℕ → Regs → Type 0) (
               record {
                 runs_there = ap (λ (d : Done). running_on h d.kernel.threads) plain ∙ was.runs_there;
                 knows = subst Knows (sym now)
-                    (kept.goes f x (view here) here.reserved (has_registers s before run.0 t) was.knows next
+                    (kept.goes f x (view here) here.reserved (has_registers s before run.0 t) asked was.knows
+                    next
                     (sym (ap (λ (g : Saved). in_block b g.pc) now) ∙ works.in_it)
                     (λ at. works.uncommitted (ap (λ (g : Saved). g.pc) now ∙ at)));
               }
@@ -134,7 +155,7 @@ module _ (s : Setting) (b : Placed) (t : ℕ) (Know : ℕ → Regs → Type 0) (
         by_hart false apart = apart_step apart
 
   -- a walk, entry by entry
-  walked : (h : ℕ) (rest log later : List Entry) → IsBlockRun s (log ++ (rest ++ later))
+  walked : (h : ℕ) (rest log later : List Entry) → Runs (log ++ (rest ++ later))
       → AreOfWalk s h t (history s log) rest
       → ((first more : List Entry) → rest ≡ first ++ more → IsAtWork s b t (history s (log ++ first)))
       → Stands h (history s log) → Stands h (history s (log ++ rest))
@@ -143,9 +164,10 @@ module _ (s : Setting) (b : Placed) (t : ℕ) (Know : ℕ → Regs → Type 0) (
   walked h (x ∷ rest) log later run each works was =
       let one = log ++ x ∷ [] in
       let next : history s one ≡ event s (history s log) x ∷ history s log = history-append s log x in
-      let run_on = subst (IsBlockRun s) (sym (append_assoc log (x ∷ []) (rest ++ later))) run in
-      let here = subst (IsRunHistory s) next (run_before s one (rest ++ later) run_on).allowed in
+      let run_on = subst Runs (sym (append_assoc log (x ∷ []) (rest ++ later))) run in
+      let here = subst (IsRunHistory s) next (run_before s one (rest ++ later) run_on.run).allowed in
       let now = one_step h (event s (history s log) x) (history s log) here was
+      (run.asked h log x (rest ++ later) refl was.runs_there)
       (subst (IsAtWork s b t) next (works (x ∷ []) rest refl)) each.0 in
       subst (λ (l : List Entry). Stands h (history s l)) (append_assoc log (x ∷ []) rest)
       (walked h rest one later run_on
@@ -154,31 +176,69 @@ module _ (s : Setting) (b : Placed) (t : ℕ) (Know : ℕ → Regs → Type 0) (
       (sym (append_assoc log (x ∷ []) first)) (works (x ∷ first) more (ap (λ (l : List Entry). x ∷ l) same)))
       (subst (Stands h) (sym next) now))
 
-  -- and the retries
-  pub known_throughout : (first log : List Entry) → Retries s b t first log → (later : List Entry)
-      → IsBlockRun s (log ++ later) → Knows (file s t (history s first)) → Knows (file s t (history s log))
-  known_throughout first log (begins at) later run knows = knows
-  known_throughout first now (walks h log stretch earlier walk) later run knows =
-      let run_here = subst (IsBlockRun s) (append_assoc log stretch later) run in
-      let before = known_throughout first log earlier (stretch ++ later) run_here knows in
-      (walked h stretch log later run_here walk.walk.each walk.works
-      (record { runs_there = walk.walk.starts; knows = before })).knows
-  known_throughout first now (goes_on log gap earlier between) later run knows =
-      let run_here = subst (IsBlockRun s) (append_assoc log gap later) run in
-      by_pc (known_throughout first log earlier (gap ++ later) run_here knows) between.pc
-    where
-      same_file : (f g : Saved) → g.file ≡ f.file → g.pc ≡ f.pc → f ≡ g
-      same_file f g one two = sym (ap (λ (r : Regs). record g { file = r }) one ∙ ap (λ n. record f { pc = n }) two)
+  -- what is known of a place of the retries, and what is asked where the log goes on from it
+  record Comes (log later : List Entry) : Type 0 where
+    knows : Knows (file s t (history s log))
+    asked : (x : Entry) (more : List Entry) → later ≡ x ∷ more → Asked (file s t (history s log))
 
-      by_pc : Knows (file s t (history s log))
-          → ((file s t (history s (log ++ gap))).pc ≡ (file s t (history s log)).pc)
-          ⊎ ((is_inside b.range (file s t (history s log)).pc ≡ true)
-          × ((file s t (history s (log ++ gap))).pc ≡ b.range.abort))
-          → Knows (file s t (history s (log ++ gap)))
-      by_pc before (inl stays) =
-          subst Knows (same_file (file s t (history s log)) (file s t (history s (log ++ gap))) between.registers
-          stays) before
-      by_pc before (inr cut) =
-          subst Knows (same_file (record (file s t (history s log)) { pc = b.range.abort })
-          (file s t (history s (log ++ gap))) between.registers cut.1)
-          (kept.cut (file s t (history s log)) before cut.0)
+  -- behind a walk
+  behind : (h : ℕ) (stretch log later : List Entry) → Runs (log ++ (stretch ++ later)) → IsWalkAtWork s b h t log stretch
+      → Comes log (stretch ++ later) → Comes (log ++ stretch) later
+  behind h [] log later run walk was =
+      subst (λ (l : List Entry). Comes l later) (sym (append-nil log)) was
+  behind h (x ∷ rest) log later run walk was =
+      let stretch = x ∷ rest in
+      let now = walked h stretch log later run walk.walk.each walk.works
+      (record { runs_there = walk.walk.starts; knows = was.knows }) in
+      record {
+        knows = now.knows;
+        asked = λ y more same.
+            run.asked h (log ++ stretch) y more
+            (sym (append_assoc log stretch later) ∙ ap (λ (l : List Entry). (log ++ stretch) ++ l) same)
+            now.runs_there;
+      }
+
+  same_file : (f g : Saved) → g.file ≡ f.file → g.pc ≡ f.pc → f ≡ g
+  same_file f g one two = sym (ap (λ (r : Regs). record g { file = r }) one ∙ ap (λ n. record f { pc = n }) two)
+
+  -- behind a gap between two walks
+  past : (gap log later : List Entry) → IsBetween s b t (history s log) (history s (log ++ gap))
+      → Comes log (gap ++ later) → Comes (log ++ gap) later
+  past [] log later between was = subst (λ (l : List Entry). Comes l later) (sym (append-nil log)) was
+  past (x ∷ rest) log later between was = by_pc between.pc
+    where
+      f : Saved
+      f = file s t (history s log)
+
+      g : Saved
+      g = file s t (history s (log ++ x ∷ rest))
+
+      asked : Asked f
+      asked = was.asked x (rest ++ later) refl
+
+      by_pc : (g.pc ≡ f.pc) ⊎ ((is_inside b.range f.pc ≡ true) × (g.pc ≡ b.range.abort)) → Comes (log ++ x ∷ rest) later
+      by_pc (inl stays) =
+          let same = same_file f g between.registers stays in
+          record { knows = subst Knows same was.knows; asked = λ y more is. subst Asked same asked }
+      by_pc (inr cut) =
+          let same = same_file (record f { pc = b.range.abort }) g between.registers cut.1 in
+          record {
+            knows = subst Knows same (kept.cut f asked was.knows cut.0);
+            asked = λ y more is. kept.handler g cut.1;
+          }
+
+  -- and the retries
+  comes_throughout : (first log : List Entry) → Retries s b t first log → (later : List Entry) → Runs (log ++ later)
+      → Knows (file s t (history s first)) → Comes log later
+  comes_throughout first log (begins at) later run knows =
+      record { knows = knows; asked = λ x more is. kept.retry (file s t (history s log)) at }
+  comes_throughout first now (walks h log stretch earlier walk) later run knows =
+      let run_here = subst Runs (append_assoc log stretch later) run in
+      behind h stretch log later run_here walk (comes_throughout first log earlier (stretch ++ later) run_here knows)
+  comes_throughout first now (goes_on log gap earlier between) later run knows =
+      let run_here = subst Runs (append_assoc log gap later) run in
+      past gap log later between (comes_throughout first log earlier (gap ++ later) run_here knows)
+
+  pub known_throughout : (first log : List Entry) → Retries s b t first log → (later : List Entry)
+      → Runs (log ++ later) → Knows (file s t (history s first)) → Knows (file s t (history s log))
+  known_throughout first log retries later run knows = (comes_throughout first log retries later run knows).knows

@@ -13,7 +13,7 @@ use Rattle.block_model.specs.Setting.{Setting}
 use Rattle.alone_laws.specs.Retries.{Retries}
 use Rattle.alone_laws.specs.Uses.{Placed}
 use Rattle.alone_laws.proofs.Arrivals.{IsCode, KnowsAt}
-use Rattle.alone_laws.proofs.Retrying.{IsKept, first_place, known_throughout}
+use Rattle.alone_laws.proofs.Retrying.{AsksNothing, IsKept, asks_nothing, first_place, known_throughout}
 use Rattle.percpu_lib.specs.Forms.{Form, HoldsBlock, placed_of}
 use Rattle.percpu_lib.proofs.BlockCode.{KnowsTable, registers_at}
 use Rattle.percpu_lib.proofs.Courses.{HasCourse}
@@ -46,20 +46,22 @@ module _ (s : Setting) (past : History) (form : Form) (at : ℕ) (area : Area) (
     know = record { table = at_it.know; value = is };
   }
 
-  value_kept : IsKept s b Know
+  value_kept : IsKept s b AsksNothing Know
   value_kept = record {
     plain = λ f e at_it is. code.no_call f e (without f at_it) is;
-    goes = λ f e seen r many at_it is inside uncommitted.
+    goes = λ f e seen r many asked at_it is inside uncommitted.
         with_value (record { file = (outcome seen f.file f.pc r e).regs; pc = (outcome seen f.file f.pc r e).pc })
         (registers_at s form at area law.formed held.stands held.low_table held.low held.low_area f e seen r is
         at_it.word at_it.pc at_it.below at_it.know.table form.slots.value keeps ∙ at_it.know.value)
         (code.goes f e seen r many (without f at_it) is inside);
-    cut = λ f at_it inside. record {
+    cut = λ f asked at_it inside. record {
       word = code.handler;
       below = code.handler_below;
       pc = code.handler_at;
       know = record { table = code.handled f.file; value = at_it.know.value };
     };
+    retry = λ f at. tt;
+    handler = λ f at. tt;
   }
 
 -- at each place of the retries the value is what it was at the first
@@ -80,6 +82,6 @@ value_stays s form at area t law keeps first log later run held retries =
       pc = first_place s b t first log retries ∙ omega arith;
       know = (code s past form at area t v law keeps held).first f.file;
     } in
-    (known_throughout s b t (Know s past form at area t v law keeps held)
-    (value_kept s past form at area t v law keeps held) first log retries later run
+    (known_throughout s b t AsksNothing (Know s past form at area t v law keeps held)
+    (value_kept s past form at area t v law keeps held) first log retries later (asks_nothing s t (log ++ later) run)
     (with_value s past form at area t v law keeps held f refl start)).know.value

@@ -1,6 +1,6 @@
--- Each retry of a free block works on the value that came in: it is copied into x28 at the retry label, and an abort brings
--- it back from there.
-use Rattle.std.proofs.Common.{◌≡◌, ◌≢◌, ℕ, ◌+◌, ◌*◌, ◌<◌, ◌≤◌, ◌^◌, ◌⊎◌, inl, inr, List, ◌++◌, refl, sym, ap, ◌∙◌}
+-- Each retry of a free block works on the value that came in: its 64 bits are copied into x28 at the retry label, and an
+-- abort brings them back from there.
+use Rattle.std.proofs.Common.{◌≡◌, ◌≢◌, ℕ, ◌+◌, ◌*◌, ◌<◌, ◌≤◌, ◌^◌, ◌⊎◌, inl, inr, List, ◌++◌, refl, sym, ap, ◌∙◌, ◌%◌}
 use Rattle.std.proofs.Common.{arith, Bool, true, not, ◌||◌, eqb, slice_get, subst, Option, Some, pos}
 use Rattle.std.proofs.lemmas.Bool.{cases_eq, cases_lt, false≢true, ne_eqb}
 use Rattle.mach_types.proofs.Laws.{eqb_same}
@@ -28,7 +28,7 @@ use Rattle.alone_laws.specs.Retries.{Retries}
 use Rattle.alone_laws.specs.Spans.{code_of}
 use Rattle.alone_laws.specs.Uses.{Placed}
 use Rattle.alone_laws.proofs.Arrivals.{IsCode, KnowsAt}
-use Rattle.alone_laws.proofs.Retrying.{IsKept, first_place, known_throughout}
+use Rattle.alone_laws.proofs.Retrying.{AsksNothing, IsKept, asks_nothing, first_place, known_throughout}
 use Rattle.percpu_lib.specs.Forms.{Form, HoldsBlock, placed_of, range_of}
 use Rattle.percpu_lib.specs.Frees.{free_block, free_form}
 use Rattle.percpu_lib.specs.Words.{AreSlots, is_changed}
@@ -190,15 +190,19 @@ module _ (p : Slots) (slots : AreSlots p) where
 
 -- WHAT IS KNOWN
 
--- what is known of x6; that the value v is in x28 behind the first word; and that it is the value up to the word that sets
--- the value to 0, and behind the abort handler
+-- a number is v, or its 64 bits
+abbrev IsOf : ℕ → ℕ → Type 0
+IsOf v n = (n ≡ v) ⊎ (n ≡ v % 2 ^ 64)
+
+-- what is known of x6; that the 64 bits of the value v are in x28 behind the first word; and that the value is v or its 64
+-- bits up to the word that sets the value to 0, and behind the abort handler
 record KnowsCopy (p : Slots) (v k : ℕ) (regs : Regs) : Type 0 where
   table : KnowsTable (free_form p) k regs
-  copy : 1 ≤ k → register regs 28 ≡ v
-  value : (k ≤ 16) ⊎ (k ≡ 21) → register regs p.value ≡ v
+  copy : 1 ≤ k → register regs 28 ≡ v % 2 ^ 64
+  value : (k ≤ 16) ⊎ (k ≡ 21) → IsOf v (register regs p.value)
   uncommitted : k ≢ 18
 
-module _ (s : Setting) (past : History) (p : Slots) (at : ℕ) (area : Area) (t v : ℕ) (small : v < 2 ^ 64)
+module _ (s : Setting) (past : History) (p : Slots) (at : ℕ) (area : Area) (t v : ℕ)
     (held : HoldsBlock s past (free_form p) at area t) where
   abbrev form : Form
   form = free_form p
@@ -252,24 +256,38 @@ module _ (s : Setting) (past : History) (p : Slots) (at : ℕ) (area : Area) (t 
         (ap not (eqb_same p.value))
 
     -- the copy, and the way back
-    sum_is : sum_64 v (word (pos 0)) ≡ v
+    abbrev bits : ℕ
+    bits = v % 2 ^ 64
+
+    sum_is : sum_64 v (word (pos 0)) ≡ bits
     sum_is = omega arith
 
-    copy_made : k ≡ 0 → register o.regs 28 ≡ v
-    copy_made first =
+    sum_again : sum_64 bits (word (pos 0)) ≡ bits
+    sum_again = omega arith
+
+    copied_from : (a : ℕ) → register f.file p.value ≡ a → sum_64 a (word (pos 0)) ≡ bits → k ≡ 0
+        → register o.regs 28 ≡ bits
+    copied_from a is sum first =
         let i : Inst = inst.Addi 28 p.value (pos 0) in
         ap (λ (x : Outcome). register x.regs 28) (does_word 0 i first refl)
         ∙ ap (λ d. register (outcome seen f.file f.pc r d).regs 28)
-        (means_addi f.file f.pc (sum_64 f.pc 4) refl 28 p.value (pos 0) v v (know.value (inl (omega arith))) sum_is)
-        ∙ written_same f.file 28 v refl (subst (λ n. 28 < n) (sym many) (omega arith))
+        (means_addi f.file f.pc (sum_64 f.pc 4) refl 28 p.value (pos 0) a bits is sum)
+        ∙ written_same f.file 28 bits refl (subst (λ n. 28 < n) (sym many) (omega arith))
 
-    brought_back : k ≡ 20 → register o.regs p.value ≡ v
+    copy_made : k ≡ 0 → register o.regs 28 ≡ bits
+    copy_made first = by_value (know.value (inl (omega arith)))
+      where
+        by_value : IsOf v (register f.file p.value) → register o.regs 28 ≡ bits
+        by_value (inl same) = copied_from v same sum_is first
+        by_value (inr same) = copied_from bits same sum_again first
+
+    brought_back : k ≡ 20 → register o.regs p.value ≡ bits
     brought_back handler =
         let i : Inst = inst.Addi p.value 28 (pos 0) in
         ap (λ (x : Outcome). register x.regs p.value) (does_word 20 i handler refl)
         ∙ ap (λ d. register (outcome seen f.file f.pc r d).regs p.value)
-        (means_addi f.file f.pc (sum_64 f.pc 4) refl p.value 28 (pos 0) v v (know.copy (omega arith)) sum_is)
-        ∙ written_same f.file p.value v (some_value p held.slots)
+        (means_addi f.file f.pc (sum_64 f.pc 4) refl p.value 28 (pos 0) bits bits (know.copy (omega arith)) sum_again)
+        ∙ written_same f.file p.value bits (some_value p held.slots)
         (subst (λ n. p.value < n) (sym many) held.slots.low_value)
 
     -- where it comes to
@@ -298,10 +316,10 @@ module _ (s : Setting) (past : History) (p : Slots) (at : ℕ) (area : Area) (t 
           let far : sum_64 f.pc 4 ≡ at + 4 * k + 4 = ap (λ n. sum_64 n 4) pc ∙ omega arith in
           omega (arith, next, far, goes)
 
-      copy_there : 1 ≤ to → register o.regs 28 ≡ v
+      copy_there : 1 ≤ to → register o.regs 28 ≡ bits
       copy_there some = by_word (cases_eq k 0)
         where
-          by_word : (k ≡ 0) ⊎ (k ≢ 0) → register o.regs 28 ≡ v
+          by_word : (k ≡ 0) ⊎ (k ≢ 0) → register o.regs 28 ≡ bits
           by_word (inl first) = copy_made first
           by_word (inr later) = copy_stays later ∙ know.copy (omega arith)
 
@@ -318,15 +336,15 @@ module _ (s : Setting) (past : History) (p : Slots) (at : ℕ) (area : Area) (t 
           ((straight_sd (is_changed p) 5 6 (pos 0)).on seen f.file f.pc r) in
           omega arith
 
-      known_value : k ≢ 16 → k ≢ 20 → (k ≤ 16) ⊎ (k ≡ 21) → register o.regs p.value ≡ v
-      known_value no_clear no_abort at_it = value_stays no_clear no_abort ∙ know.value at_it
+      known_value : k ≢ 16 → k ≢ 20 → (k ≤ 16) ⊎ (k ≡ 21) → IsOf v (register o.regs p.value)
+      known_value no_clear no_abort at_it = subst (IsOf v) (sym (value_stays no_clear no_abort)) (know.value at_it)
 
-      value_there : (to ≤ 16) ⊎ (to ≡ 21) → register o.regs p.value ≡ v
+      value_there : (to ≤ 16) ⊎ (to ≡ 21) → IsOf v (register o.regs p.value)
       value_there here = by_word (cases_lt k 16)
         where
           behind : 16 ≤ k → (k ≡ 20) ⊎ (k ≢ 20) → (k ≡ 21) ⊎ (k ≢ 21) → (k ≡ 16) ⊎ (k ≢ 16) → (k ≡ 17) ⊎ (k ≢ 17)
-              → (to ≤ 16) ⊎ (to ≡ 21) → register o.regs p.value ≡ v
-          behind from (inl handler) last clear commit at_to = brought_back handler
+              → (to ≤ 16) ⊎ (to ≡ 21) → IsOf v (register o.regs p.value)
+          behind from (inl handler) last clear commit at_to = inr (brought_back handler)
           behind from (inr no_abort) (inl last) clear commit at_to = known_value (omega arith) no_abort (inr last)
           behind from (inr no_abort) (inr no_last) (inl clear) commit (inl early) =
               let on = after_clear clear in
@@ -341,14 +359,14 @@ module _ (s : Setting) (past : History) (p : Slots) (at : ℕ) (area : Area) (t 
               let signature = know.table.code in
               absurd (omega arith)
 
-          by_word : (k < 16) ⊎ (16 ≤ k) → register o.regs p.value ≡ v
+          by_word : (k < 16) ⊎ (16 ≤ k) → IsOf v (register o.regs p.value)
           by_word (inl before) = known_value (omega arith) (omega arith) (inl (omega arith))
           by_word (inr from) = behind from (cases_eq k 20) (cases_eq k 21) (cases_eq k 16) (cases_eq k 17) here
 
-  kept : IsKept s b Know
+  kept : IsKept s b AsksNothing Know
   kept = record {
     plain = λ f e at_it is. code.no_call f e (without f at_it) is;
-    goes = λ f e seen r many at_it is inside uncommitted.
+    goes = λ f e seen r many asked at_it is inside uncommitted.
         let now = code.goes f e seen r many (without f at_it) is inside in
         let to = now.word in
         let other : to ≢ 18 = (λ same. uncommitted (now.pc ∙ ap (λ n. at + 4 * n) same ∙ omega arith)) in
@@ -363,7 +381,7 @@ module _ (s : Setting) (past : History) (p : Slots) (at : ℕ) (area : Area) (t 
             uncommitted = other;
           };
         };
-    cut = λ f at_it inside. record {
+    cut = λ f asked at_it inside. record {
       word = 20;
       below = omega arith;
       pc = refl;
@@ -374,6 +392,8 @@ module _ (s : Setting) (past : History) (p : Slots) (at : ℕ) (area : Area) (t 
         uncommitted = λ same. absurd (omega arith);
       };
     };
+    retry = λ f at. tt;
+    handler = λ f at. tt;
   }
     where
       handler_is : code.handler ≡ 20
@@ -393,34 +413,58 @@ module _ (s : Setting) (past : History) (p : Slots) (at : ℕ) (area : Area) (t 
           ∙ sym (ap (is_inside (range_of form at)) at_it.pc) ∙ inside))
       not_first f at_it inside (inr late) = omega arith
 
--- where the thread is at the retry label or at the start, the value is what it was where the retries began
-pub freed_value_stays : (s : Setting) (p : Slots) (at : ℕ) (area : Area) (t : ℕ) (first log later : List Entry)
+-- where the thread is at the retry label or at the start, the value is what it was where the retries began, or its 64 bits
+value_is : (s : Setting) (p : Slots) (at : ℕ) (area : Area) (t : ℕ) (first log later : List Entry)
     → IsBlockRun s (log ++ later) → HoldsBlock s (history s (log ++ later)) (free_form p) at area t
     → Retries s (placed_of (free_form p) at area) t first log
-    → register (file s t (history s first)).file p.value < 2 ^ 64
     → ((file s t (history s log)).pc ≡ at) ⊎ ((file s t (history s log)).pc ≡ at + 20)
-    → register (file s t (history s log)).file p.value ≡ register (file s t (history s first)).file p.value
-freed_value_stays s p at area t first log later run held retries small there =
+    → IsOf (register (file s t (history s first)).file p.value) (register (file s t (history s log)).file p.value)
+value_is s p at area t first log later run held retries there =
     let b = placed_of (free_form p) at area in
     let v = register (file s t (history s first)).file p.value in
     let past = history s (log ++ later) in
     let f = file s t (history s first) in
-    let start : KnowsAt b (Know s past p at area t v small held) f = record {
+    let start : KnowsAt b (Know s past p at area t v held) f = record {
       word = 0;
-      below = (code s past p at area t v small held).some;
+      below = (code s past p at area t v held).some;
       pc = first_place s b t first log retries ∙ omega arith;
       know = record {
-        table = (code s past p at area t v small held).first f.file;
+        table = (code s past p at area t v held).first f.file;
         copy = λ some. absurd (omega arith);
-        value = λ here. refl;
+        value = λ here. inl refl;
         uncommitted = λ same. absurd (omega arith);
       };
     } in
-    let known = known_throughout s b t (Know s past p at area t v small held) (kept s past p at area t v small held)
-    first log retries later run start in
+    let known = known_throughout s b t AsksNothing (Know s past p at area t v held) (kept s past p at area t v held) first
+    log retries later (asks_nothing s t (log ++ later) run) start in
     known.know.value (inl (early known.word known.pc there))
   where
     early : (k : ℕ) → (file s t (history s log)).pc ≡ at + 4 * k
         → ((file s t (history s log)).pc ≡ at) ⊎ ((file s t (history s log)).pc ≡ at + 20) → k ≤ 16
     early k pc (inl retry) = omega arith
     early k pc (inr start) = omega arith
+
+-- so its 64 bits are what they were; and so is the value, where it is a number of 64 bits
+module _ (s : Setting) (p : Slots) (at : ℕ) (area : Area) (t : ℕ) (first log later : List Entry)
+    (run : IsBlockRun s (log ++ later)) (held : HoldsBlock s (history s (log ++ later)) (free_form p) at area t)
+    (retries : Retries s (placed_of (free_form p) at area) t first log)
+    (there : ((file s t (history s log)).pc ≡ at) ⊎ ((file s t (history s log)).pc ≡ at + 20)) where
+  same_bits : (v n : ℕ) → IsOf v n → n % 2 ^ 64 ≡ v % 2 ^ 64
+  same_bits v n (inl same) = ap (λ m. m % 2 ^ 64) same
+  same_bits v n (inr same) = omega (arith, same)
+
+  same_number : (v n : ℕ) → v < 2 ^ 64 → IsOf v n → n ≡ v
+  same_number v n small (inl same) = same
+  same_number v n small (inr same) = omega (arith, same)
+
+  abbrev was : ℕ
+  was = register (file s t (history s first)).file p.value
+
+  abbrev now : ℕ
+  now = register (file s t (history s log)).file p.value
+
+  pub freed_bits_stay : now % 2 ^ 64 ≡ was % 2 ^ 64
+  freed_bits_stay = same_bits was now (value_is s p at area t first log later run held retries there)
+
+  pub freed_value_stays : was < 2 ^ 64 → now ≡ was
+  freed_value_stays small = same_number was now small (value_is s p at area t first log later run held retries there)

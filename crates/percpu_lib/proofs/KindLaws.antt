@@ -1,5 +1,5 @@
 -- The courses of all blocks, when they are done, and on what their retries work.
-use Rattle.std.proofs.Common.{◌≡◌, ℕ, zero, suc, ◌+◌, ◌*◌, ◌<◌, ◌≤◌, ◌^◌, ◌⊎◌, List, ◌++◌, refl, arith, subst, true, Some, pos}
+use Rattle.std.proofs.Common.{◌≡◌, ℕ, zero, suc, ◌+◌, ◌*◌, ◌<◌, ◌≤◌, ◌%◌, ◌^◌, ◌⊎◌, List, ◌++◌, refl, ap, arith, subst, true, Some, pos}
 use Rattle.std.proofs.lemmas.Bool.{false≢true}
 use Rattle.mach_types.specs.Registers.{register}
 use Rattle.mach_types.specs.declared.events.Entry.{Entry}
@@ -29,7 +29,7 @@ use Rattle.percpu_lib.proofs.BlockCourse.{AsksFirst, IsCopy, comes_to_commit}
 use Rattle.percpu_lib.proofs.BlockRetries.{value_stays}
 use Rattle.percpu_lib.proofs.Courses.{HasCourse}
 use Rattle.percpu_lib.proofs.FreeLaw.{free_course}
-use Rattle.percpu_lib.proofs.FreeRetries.{freed_value_stays}
+use Rattle.percpu_lib.proofs.FreeRetries.{freed_bits_stay, freed_value_stays}
 use Rattle.percpu_lib.proofs.PopLaw.{pop_course}
 use Rattle.percpu_lib.proofs.PushLaw.{push_course}
 
@@ -115,7 +115,24 @@ value_comes_in pushes s first log later p at area t takes run held retries small
 value_comes_in pops s first log later p at area t takes run held retries small there = absurd (false≢true takes)
 value_comes_in allocs s first log later p at area t takes run held retries small there = absurd (false≢true takes)
 value_comes_in frees s first log later p at area t takes run held retries small there =
-    freed_value_stays s p at area t first log later run held retries (small refl) there
+    freed_value_stays s p at area t first log later run held retries there (small refl)
+
+-- and so are its 64 bits
+pub bits_come_in : (k : Kind) (s : Setting) (first log later : List Entry) (p : Slots) (at : ℕ) (area : Area) (t : ℕ)
+    → takes_in k ≡ true → IsBlockRun s (log ++ later) → HoldsBlock s (history s (log ++ later)) (form_of k p) at area t
+    → Retries s (placed_of (form_of k p) at area) t first log
+    → ((file s t (history s log)).pc ≡ at) ⊎ ((file s t (history s log)).pc ≡ at + 4 * (form_of k p).first)
+    → register (file s t (history s log)).file p.value % 2 ^ 64 ≡ register (file s t (history s first)).file p.value % 2 ^ 64
+bits_come_in adds s first log later p at area t takes run held retries there =
+    ap (λ n. n % 2 ^ 64)
+    (value_stays s (add_form p) at area t (add_course p) held.slots.value first log later run held retries)
+bits_come_in pushes s first log later p at area t takes run held retries there =
+    ap (λ n. n % 2 ^ 64)
+    (value_stays s (push_form p) at area t (push_course p) held.slots.value first log later run held retries)
+bits_come_in pops s first log later p at area t takes run held retries there = absurd (false≢true takes)
+bits_come_in allocs s first log later p at area t takes run held retries there = absurd (false≢true takes)
+bits_come_in frees s first log later p at area t takes run held retries there =
+    freed_bits_stay s p at area t first log later run held retries there
 
 -- no sequence of a block of the library has a word of another before its sequence
 few_copies : (k : Kind) → lead_of k ≤ 1

@@ -3,9 +3,9 @@
 -- word is in its slot, begins anew at the abort handler, and puts both in once. Then it gets them by a ring
 -- get block, and finds the ring empty by another sequence of that. The value of both blocks is in a0. In
 -- the other log a thread is to put a word into a ring that is full.
-use Rattle.std.proofs.Common.{◌≡◌, ℕ, ◌+◌, ◌-◌, ◌^◌, ◌<◌, ◌≤◌, List, [], ◌∷◌, ◌++◌, replicate, take, drop}
-use Rattle.std.proofs.Common.{length, refl, Bool, true, ◌&&◌, Some, eqb, ltb, Ok}
-use Rattle.std.proofs.lemmas.Bool.{leb-true, ltb-true}
+use Rattle.std.proofs.Common.{◌≡◌, ℕ, ◌+◌, ◌-◌, ◌^◌, ◌≤◌, List, [], ◌∷◌, ◌++◌, replicate, take, drop}
+use Rattle.std.proofs.Common.{length, refl, Bool, true, ◌&&◌, Some, eqb, Ok}
+use Rattle.std.proofs.lemmas.Bool.{leb-true}
 use Rattle.mach_types.specs.Kernel.Areas.{are_readable, is_inside, number_at}
 use Rattle.mach_types.specs.declared.events.Choice.TheVariants as asked
 use Rattle.mach_types.specs.declared.events.Entry.{Entry}
@@ -324,13 +324,6 @@ pub used_again : IsUsedSo setting put_log put put_at area 1 (the_get ∷ [])
 used_again =
     used_so setting put_log put put_tested put_at area 1 (the_get ∷ []) put_fits put_run put_good refl put_there
     refl
-
-small_there : ltb (value_of setting put_slots 1 (history setting first_time)) (2 ^ 64) ≡ true
-unfolding decide history done meaning row_of rows lui_rows auipc_rows jal_rows jalr_rows branch_rows load_rows store_rows op_imm_rows op_imm_32_rows op_rows op_32_rows misc_mem_rows amo_rows system_rows are_readable number_at
-small_there = refl
-
-pub small_value : value_of setting put_slots 1 (history setting first_time) < 2 ^ 64
-small_value = ltb-true (value_of setting put_slots 1 (history setting first_time)) (2 ^ 64) small_there
 
 pub runs_anew : running setting 0 (history setting anew) ≡ Some 1
 unfolding decide history done meaning row_of rows lui_rows auipc_rows jal_rows jalr_rows branch_rows load_rows store_rows op_imm_rows op_imm_32_rows op_rows op_32_rows misc_mem_rows amo_rows system_rows are_readable number_at

@@ -2,6 +2,7 @@
 -- more inside, and brought back from there inside, and where the block was aborted.
 use Rattle.std.proofs.Common.{◌≡◌, ◌≢◌, ℕ, zero, suc, ◌+◌, ◌*◌, ◌<◌, ◌≤◌, ◌^◌, ◌⊎◌, inl, inr, List, [], ◌∷◌, ◌++◌, refl, sym}
 use Rattle.std.proofs.Common.{◌%◌, ap, ◌∙◌, arith, Bool, true, false, not, ◌||◌, eqb, slice_get, subst, Option, Some, None, pos, length}
+use Rattle.std.proofs.Common.{append_assoc, append-nil}
 use Rattle.std.proofs.lemmas.Bool.{cases_eq, cases_lt, false≢true, ne_eqb}
 use Rattle.mach_types.proofs.Laws.{eqb_same}
 use Rattle.mach_types.specs.Kernel.Areas.{is_inside}
@@ -19,17 +20,17 @@ use Rattle.rv_inst.specs.declared.instruction.Inst.TheVariants as inst
 use Rattle.alone.specs.Alone.{effect_at}
 use Rattle.alone.proofs.Laws.{written_same}
 use Rattle.alone.proofs.Means.{means_addi}
-use Rattle.block_model.specs.Deciding.{history}
+use Rattle.block_model.specs.Deciding.{event, history}
 use Rattle.block_model.specs.History.{History, file}
 use Rattle.block_model.specs.Run.{IsBlockRun}
 use Rattle.block_model.specs.Setting.{Setting}
-use Rattle.block_model.proofs.Laws.{HasRegisters}
+use Rattle.block_model.proofs.Laws.{HasRegisters, history-append}
 use Rattle.alone_laws.specs.Retries.{Retries}
 use Rattle.alone_laws.specs.Spans.{code_of}
 use Rattle.alone_laws.specs.Uses.{Placed}
 use Rattle.alone_laws.proofs.Arrivals.{IsCode, KnowsAt}
-use Rattle.alone_laws.proofs.Retrying.{IsKept, first_place, known_throughout}
-use Rattle.percpu_lib.specs.Forms.{Form, HoldsBlock, committed, placed_of, range_of}
+use Rattle.alone_laws.proofs.Retrying.{IsAskedRun, IsKept, first_place, known_throughout}
+use Rattle.percpu_lib.specs.Forms.{AreBlockUsed, Form, HoldsBlock, IsBlockUsed, committed, placed_of, range_of}
 use Rattle.percpu_lib.specs.RingForms.{get_front, get_insts, put_front, put_insts, repeated, ring_end, ring_get_form, ring_put_form}
 use Rattle.percpu_lib.specs.RingKinds.{RingKind, gets, puts, ring_form_of}
 use Rattle.percpu_lib.specs.Words.{AreSlots}
@@ -513,6 +514,9 @@ pub record IsRing (form : Form) (count : ℕ) : Type 0 where
       ⊎ ((outcome seen f pc r (meaning tests f pc)).pc ≡ sum_64 pc 4)
   pub copy_kept : AreFitBut but_copy (keeping form 28) 0 form.words
   pub value_kept : AreFitBut (but_value count) (keeping form form.slots.value) 0 form.words
+  -- what is asked of the data where its sequence is about to begin: the words at the value don't pass 2^64
+  pub low_words : (s : Setting) (area : Area) (h t : ℕ) (begun : History) → form.Apart s area h t begun
+      → register (file s t begun).file form.slots.value + 8 * count ≤ 2 ^ 64
 
 module _ (count : ℕ) (few : count ≤ 4) (p : Slots) (slots : AreSlots p) where
   small : word (pos (12 + 24 * count)) ≡ 12 + 24 * count
@@ -539,6 +543,7 @@ module _ (count : ℕ) (few : count ≤ 4) (p : Slots) (slots : AreSlots p) wher
         beq_pc seen f pc to r 7 0 (pos (12 + 24 * count)) (ap (sum_64 pc) small ∙ is) even;
     copy_kept = put_copy_kept count few p slots;
     value_kept = put_value_kept count few p slots;
+    low_words = λ s area h t begun apart. apart.low_words;
   }
 
   pub get_is_ring : IsRing (ring_get_form count p) count
@@ -559,7 +564,27 @@ module _ (count : ℕ) (few : count ≤ 4) (p : Slots) (slots : AreSlots p) wher
         bne_pc seen f pc to r 7 0 (pos (12 + 24 * count)) (ap (sum_64 pc) small ∙ is) even;
     copy_kept = get_copy_kept count few p slots;
     value_kept = get_value_kept count few p slots;
+    low_words = λ s area h t begun apart. apart.low_words;
   }
+
+-- WHAT IS ASKED OF THE DATA
+
+module _ (s : Setting) (form : Form) (at : ℕ) (area : Area) (t : ℕ) where
+  abbrev Used : List Entry → Type 0
+  Used log = AreBlockUsed s form at area t (history s log)
+
+  used_before : (log more : List Entry) → Used (log ++ more) → Used log
+  used_before log [] used = subst Used (append-nil log) used
+  used_before log (x ∷ more) used =
+      (subst (AreBlockUsed s form at area t) (history-append s log x)
+      (used_before (log ++ x ∷ []) more (subst Used (sym (append_assoc log (x ∷ []) more)) used))).0
+
+  -- a block is used as it is to be at each place from which a log goes on
+  used_at : (log : List Entry) (x : Entry) (more : List Entry) → Used (log ++ x ∷ more)
+      → IsBlockUsed s form at area t (event s (history s log) x) (history s log)
+  used_at log x more used =
+      (subst (AreBlockUsed s form at area t) (history-append s log x)
+      (used_before (log ++ x ∷ []) more (subst Used (sym (append_assoc log (x ∷ []) more)) used))).1
 
 -- WHAT IS KNOWN
 
@@ -568,15 +593,17 @@ module _ (count : ℕ) (few : count ≤ 4) (p : Slots) (slots : AreSlots p) wher
 abbrev HasValue : ℕ → ℕ → Type 0
 HasValue count k = (k ≤ 14) ⊎ (((17 ≤ k) × (k < 18 + 6 * count)) ⊎ (k ≡ 21 + 6 * count))
 
--- what is known of x6; that the value v is in x28 behind the first word; and that it is the value there
+-- what is known of x6; that the 64 bits of the value v are in x28 behind the first word; that v is the value there;
+-- and that it has no more bits behind the first word of the sequence
 record KnowsValue (form : Form) (count v k : ℕ) (regs : Regs) : Type 0 where
   table : KnowsTable form k regs
-  copy : 1 ≤ k → register regs 28 ≡ v
+  copy : 1 ≤ k → register regs 28 ≡ v % 2 ^ 64
   value : HasValue count k → register regs form.slots.value ≡ v
+  small : 6 ≤ k → v < 2 ^ 64
   uncommitted : k ≢ 18 + 6 * count
 
-module _ (s : Setting) (past : History) (form : Form) (count : ℕ) (many_words : count ≤ 4) (at : ℕ) (area : Area)
-    (t v : ℕ) (small_value : v < 2 ^ 64) (formed : IsFormed form) (ring : IsRing form count)
+module _ (s : Setting) (past : History) (form : Form) (count : ℕ) (some_words : 1 ≤ count) (many_words : count ≤ 4)
+    (at : ℕ) (area : Area) (t v : ℕ) (formed : IsFormed form) (ring : IsRing form count)
     (held : HoldsBlock s past form at area t) where
   abbrev b : Placed
   b = placed_of form at area
@@ -586,6 +613,23 @@ module _ (s : Setting) (past : History) (form : Form) (count : ℕ) (many_words 
 
   abbrev Know : ℕ → Regs → Type 0
   Know k regs = KnowsValue form count v k regs
+
+  -- what is asked where the thread is at the start
+  abbrev Asked : Saved → Type 0
+  Asked f = f.pc ≡ at + 4 * form.first → register f.file form.slots.value + 8 * count ≤ 2 ^ 64
+
+  -- so there the value has 64 bits
+  small_at : (f : Saved) (k : ℕ) → Asked f → f.pc ≡ at + 4 * k → Know k f.file → 5 ≤ k → v < 2 ^ 64
+  small_at f k asked pc know from = by_word (cases_lt k 6)
+    where
+      by_word : (k < 6) ⊎ (6 ≤ k) → v < 2 ^ 64
+      by_word (inl start) =
+          let some = some_words in
+          let first = ring.first in
+          let is = know.value (inl (omega arith)) in
+          let low = asked (pc ∙ omega arith) in
+          omega arith
+      by_word (inr later) = know.small later
 
   code : IsCode s b (KnowsTable form)
   code = block_code s form at area formed held.stands held.low_table held.low held.low_area
@@ -602,7 +646,7 @@ module _ (s : Setting) (past : History) (form : Form) (count : ℕ) (many_words 
   -- a thread at word k executes it, and comes to another word
   module _ (f : Saved) (e : Effect) (seen : ℕ → Option ℕ) (r : Option ℕ) (many : HasRegisters f)
       (is : effect_at (code_of s.program.pages) f ≡ Some e) (k : ℕ) (pc : f.pc ≡ at + 4 * k)
-      (below : k < length form.words) (know : Know k f.file) where
+      (below : k < length form.words) (asked : Asked f) (know : Know k f.file) where
     abbrev o : Outcome
     o = outcome seen f.file f.pc r e
 
@@ -643,25 +687,30 @@ module _ (s : Setting) (past : History) (form : Form) (count : ℕ) (many_words 
         f.file f.pc r value (ap not (eqb_same value))
 
     -- the copy, and the way back
-    sum_is : sum_64 v (word (pos 0)) ≡ v
+    sum_is : sum_64 v (word (pos 0)) ≡ v % 2 ^ 64
     sum_is = omega arith
 
+    sum_back : v < 2 ^ 64 → sum_64 (v % 2 ^ 64) (word (pos 0)) ≡ v
+    sum_back small = omega arith
+
     copy_made : (n : ℕ) → slice_get form.words n ≡ Some (Some (inst.Addi 28 value (pos 0))) → k ≡ n → n ≤ 14
-        → register o.regs 28 ≡ v
+        → register o.regs 28 ≡ v % 2 ^ 64
     copy_made n there same early =
         let i : Inst = inst.Addi 28 value (pos 0) in
         ap (λ (x : Outcome). register x.regs 28) (does_word n i same there)
         ∙ ap (λ d. register (outcome seen f.file f.pc r d).regs 28)
-        (means_addi f.file f.pc (sum_64 f.pc 4) refl 28 value (pos 0) v v (know.value (inl (omega arith))) sum_is)
-        ∙ written_same f.file 28 v refl (subst (λ n. 28 < n) (sym many) (omega arith))
+        (means_addi f.file f.pc (sum_64 f.pc 4) refl 28 value (pos 0) v (v % 2 ^ 64) (know.value (inl (omega arith)))
+        sum_is)
+        ∙ written_same f.file 28 (v % 2 ^ 64) refl (subst (λ n. 28 < n) (sym many) (omega arith))
 
-    brought_back : (n : ℕ) → slice_get form.words n ≡ Some (Some (inst.Addi value 28 (pos 0))) → k ≡ n → 1 ≤ n
+    brought_back : (n : ℕ) → slice_get form.words n ≡ Some (Some (inst.Addi value 28 (pos 0))) → k ≡ n → 6 ≤ n
         → register o.regs value ≡ v
     brought_back n there same some =
         let i : Inst = inst.Addi value 28 (pos 0) in
         ap (λ (x : Outcome). register x.regs value) (does_word n i same there)
         ∙ ap (λ d. register (outcome seen f.file f.pc r d).regs value)
-        (means_addi f.file f.pc (sum_64 f.pc 4) refl value 28 (pos 0) v v (know.copy (omega arith)) sum_is)
+        (means_addi f.file f.pc (sum_64 f.pc 4) refl value 28 (pos 0) (v % 2 ^ 64) v (know.copy (omega arith))
+        (sum_back (know.small (omega arith))))
         ∙ written_same f.file value v (some_value form.slots held.slots)
         (subst (λ n. value < n) (sym many) held.slots.low_value)
 
@@ -680,10 +729,17 @@ module _ (s : Setting) (past : History) (form : Form) (count : ℕ) (many_words 
           by_way n (leads_out out) same = let commits = ring.commits in absurd (uncommitted (omega arith))
           by_way n (leaves_block behind) same = absurd (omega arith)
 
-      copy_there : 1 ≤ to → register o.regs 28 ≡ v
+      small_there : 6 ≤ to → v < 2 ^ 64
+      small_there from = by_way led
+        where
+          by_way : (to ≡ k + 1) ⊎ (to ≡ 0) → v < 2 ^ 64
+          by_way (inl next) = small_at f k asked pc know (omega arith)
+          by_way (inr first) = absurd (omega arith)
+
+      copy_there : 1 ≤ to → register o.regs 28 ≡ v % 2 ^ 64
       copy_there some = by_word (cases_eq k 0) (cases_eq k 9)
         where
-          by_word : (k ≡ 0) ⊎ (k ≢ 0) → (k ≡ 9) ⊎ (k ≢ 9) → register o.regs 28 ≡ v
+          by_word : (k ≡ 0) ⊎ (k ≢ 0) → (k ≡ 9) ⊎ (k ≢ 9) → register o.regs 28 ≡ v % 2 ^ 64
           by_word (inl first) again = copy_made 0 ring.copies first (omega arith)
           by_word (inr later) (inl again) = copy_made 9 ring.copies_again again (omega arith)
           by_word (inr later) (inr other) = copy_stays later other ∙ know.copy (omega arith)
@@ -752,10 +808,10 @@ module _ (s : Setting) (past : History) (form : Form) (count : ℕ) (many_words 
               value_stays no_clear no_restore no_abort
               ∙ know.value (had (cases_lt k 14) (cases_lt k (18 + 6 * count)) no_clear no_test no_restore no_abort)
 
-  kept : IsKept s b Know
+  kept : IsKept s b Asked Know
   kept = record {
     plain = λ f e at_it is. code.no_call f e (without f at_it) is;
-    goes = λ f e seen r many at_it is inside uncommitted.
+    goes = λ f e seen r many asked at_it is inside uncommitted.
         let now = code.goes f e seen r many (without f at_it) is inside in
         let to = now.word in
         let other : to ≢ 18 + 6 * count = (λ same. uncommitted (now.pc ∙ post to same)) in
@@ -765,22 +821,35 @@ module _ (s : Setting) (past : History) (form : Form) (count : ℕ) (many_words 
           pc = now.pc;
           know = record {
             table = now.know;
-            copy = copy_there f e seen r many is at_it.word at_it.pc at_it.below at_it.know to now.pc now.below other;
-            value = value_there f e seen r many is at_it.word at_it.pc at_it.below at_it.know to now.pc now.below other;
+            copy = copy_there f e seen r many is at_it.word at_it.pc at_it.below asked at_it.know to now.pc now.below
+                other;
+            value = value_there f e seen r many is at_it.word at_it.pc at_it.below asked at_it.know to now.pc now.below
+                other;
+            small = small_there f e seen r many is at_it.word at_it.pc at_it.below asked at_it.know to now.pc now.below
+                other;
             uncommitted = other;
           };
         };
-    cut = λ f at_it inside. record {
+    cut = λ f asked at_it inside. record {
       word = 20 + 6 * count;
       below = let long = ring.long in omega arith;
       pc = let commits = ring.commits in omega arith;
       know = record {
         table = subst (λ n. KnowsTable form n f.file) handler_is (code.handled f.file);
-        copy = λ some. at_it.know.copy (not_first f at_it inside (cases_lt at_it.word 5));
+        copy = λ some.
+            let from = in_sequence f at_it inside (cases_lt at_it.word 5) in
+            at_it.know.copy (omega arith);
         value = λ here_it. absurd (not_there here_it);
+        small = λ from.
+            small_at f at_it.word asked at_it.pc at_it.know (in_sequence f at_it inside (cases_lt at_it.word 5));
         uncommitted = λ same. absurd (omega arith);
       };
     };
+    retry = λ f is start. let first = ring.first in absurd (omega (arith, is, start));
+    handler = λ f is start.
+        let first = ring.first in
+        let commits = ring.commits in
+        absurd (omega (arith, is, start));
   }
     where
       post : (to : ℕ) → to ≡ 18 + 6 * count → at + 4 * to ≡ at + 4 * form.first + 4 * form.inside
@@ -797,23 +866,23 @@ module _ (s : Setting) (past : History) (form : Form) (count : ℕ) (many_words 
       not_there (inr (inl later)) = let before = later.1 in omega arith
       not_there (inr (inr last)) = omega arith
 
-      not_first : (f : Saved) (at_it : KnowsAt b Know f) → is_inside (range_of form at) f.pc ≡ true
-          → (at_it.word < 5) ⊎ (5 ≤ at_it.word) → 1 ≤ at_it.word
-      not_first f at_it inside (inl early) =
+      in_sequence : (f : Saved) (at_it : KnowsAt b Know f) → is_inside (range_of form at) f.pc ≡ true
+          → (at_it.word < 5) ⊎ (5 ≤ at_it.word) → 5 ≤ at_it.word
+      in_sequence f at_it inside (inl early) =
           let close = held.low in
           let first = ring.first in
           let all = formed.short in
           let within = formed.within in
           absurd (false≢true (sym (before_range form at at_it.word close (omega arith) (omega arith))
           ∙ sym (ap (is_inside (range_of form at)) at_it.pc) ∙ inside))
-      not_first f at_it inside (inr late) = omega arith
+      in_sequence f at_it inside (inr late) = late
 
   -- where the thread is at the retry label or at the start, the value is what it was where the retries began
-  pub value_came_in : (first log later : List Entry) → IsBlockRun s (log ++ later) → Retries s b t first log
-      → v ≡ register (file s t (history s first)).file value
+  pub value_came_in : (first log later : List Entry) → IsBlockRun s (log ++ later) → history s (log ++ later) ≡ past
+      → Retries s b t first log → v ≡ register (file s t (history s first)).file value
       → ((file s t (history s log)).pc ≡ at) ⊎ ((file s t (history s log)).pc ≡ at + 4 * form.first)
       → register (file s t (history s log)).file value ≡ v
-  value_came_in first log later run retries is there =
+  value_came_in first log later run whole retries is there =
       let f = file s t (history s first) in
       let start : KnowsAt b Know f = record {
         word = 0;
@@ -823,10 +892,20 @@ module _ (s : Setting) (past : History) (form : Form) (count : ℕ) (many_words 
           table = code.first f.file;
           copy = λ some. absurd (omega arith);
           value = λ here_it. sym is;
+          small = λ from. absurd (omega arith);
           uncommitted = λ same. absurd (omega arith);
         };
       } in
-      let known = known_throughout s b t Know kept first log retries later run start in
+      let used = subst (AreBlockUsed s form at area t) (sym whole) held.used in
+      let asked_run : IsAskedRun s t Asked (log ++ later) = record {
+        run = run;
+        asked = λ h earlier x rest same runs begins.
+            ring.low_words s area h t (history s earlier)
+            ((used_at s form at area t earlier x rest
+            (subst (λ (l : List Entry). AreBlockUsed s form at area t (history s l)) same used)).begins h
+            (record { runs = runs; pc = begins }));
+      } in
+      let known = known_throughout s b t Asked Know kept first log retries later asked_run start in
       known.know.value (inl (early known.word known.pc there))
     where
       early : (k : ℕ) → (file s t (history s log)).pc ≡ at + 4 * k
@@ -835,17 +914,16 @@ module _ (s : Setting) (past : History) (form : Form) (count : ℕ) (many_words 
       early k pc (inr start) = let first = ring.first in omega arith
 
 pub ring_value_comes_in : (k : RingKind) (count : ℕ) (s : Setting) (first log later : List Entry) (p : Slots) (at : ℕ)
-    (area : Area) (t : ℕ) → count ≤ 4 → IsBlockRun s (log ++ later)
+    (area : Area) (t : ℕ) → 1 ≤ count → count ≤ 4 → IsBlockRun s (log ++ later)
     → HoldsBlock s (history s (log ++ later)) (ring_form_of k count p) at area t
     → Retries s (placed_of (ring_form_of k count p) at area) t first log
-    → register (file s t (history s first)).file p.value < 2 ^ 64
     → ((file s t (history s log)).pc ≡ at) ⊎ ((file s t (history s log)).pc ≡ at + 4 * (ring_form_of k count p).first)
     → register (file s t (history s log)).file p.value ≡ register (file s t (history s first)).file p.value
-ring_value_comes_in puts count s first log later p at area t few run held retries low there =
-    value_came_in s (history s (log ++ later)) (ring_put_form count p) count few at area t
-    (register (file s t (history s first)).file p.value) low (put_formed count few p) (put_is_ring count few p held.slots)
-    held first log later run retries refl there
-ring_value_comes_in gets count s first log later p at area t few run held retries low there =
-    value_came_in s (history s (log ++ later)) (ring_get_form count p) count few at area t
-    (register (file s t (history s first)).file p.value) low (get_formed count few p) (get_is_ring count few p held.slots)
-    held first log later run retries refl there
+ring_value_comes_in puts count s first log later p at area t some few run held retries there =
+    value_came_in s (history s (log ++ later)) (ring_put_form count p) count some few at area t
+    (register (file s t (history s first)).file p.value) (put_formed count few p) (put_is_ring count few p held.slots)
+    held first log later run refl retries refl there
+ring_value_comes_in gets count s first log later p at area t some few run held retries there =
+    value_came_in s (history s (log ++ later)) (ring_get_form count p) count some few at area t
+    (register (file s t (history s first)).file p.value) (get_formed count few p) (get_is_ring count few p held.slots)
+    held first log later run refl retries refl there

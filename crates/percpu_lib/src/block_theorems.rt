@@ -1,7 +1,7 @@
 //! Laws of all blocks of the library in runs, each as the contract of a function that does nothing.
 
 ghost use Rattle.std.specs.Prelude.{ℕ, List, [], ◌∷◌, ◌++◌, Some, false, true, length, slice_get};
-ghost use Rattle.std.specs.Prelude.{◌+◌, ◌*◌, ◌^◌, ◌<◌, ◌≡◌, ◌≢◌, ◌≤◌, ◌⊎◌};
+ghost use Rattle.std.specs.Prelude.{◌+◌, ◌*◌, ◌%◌, ◌^◌, ◌<◌, ◌≡◌, ◌≢◌, ◌≤◌, ◌⊎◌};
 ghost use Rattle.mach_types.specs.Registers.{register};
 ghost use Rattle.mach_types.specs.declared.events.Entry.{Entry};
 ghost use Rattle.mach_types.specs.declared.events.Kind.TheVariants as event_kind;
@@ -120,10 +120,17 @@ pub fn blocks_are_done()
 
 /// In a block run each retry of a block that takes a value in works on the value that came in: wherever the
 /// thread, in its walks in the block, one after another from its retry label on, is at the retry label or at
-/// the start, the value is what it was there. A free copies the 64 bits of its value, so there it is asked to be a
-/// number of 64 bits.
+/// the start, the value is what it was there: the 64 bits of it that a machine's register has (RISC-V, RV64I).
 pub fn retries_work_on_the_value()
-    ensures { (k : Kind) (s : Setting) (first log later : List Entry) (p : Slots) (at : ℕ) (area : Area) (t : ℕ)
+    ensures bits { (k : Kind) (s : Setting) (first log later : List Entry) (p : Slots) (at : ℕ) (area : Area) (t : ℕ)
+        → takes_in k ≡ true → IsBlockRun s (log ++ later)
+        → HoldsBlock s (history s (log ++ later)) (form_of k p) at area t
+        → Retries s (placed_of (form_of k p) at area) t first log
+        → ((file s t (history s log)).pc ≡ at) ⊎ ((file s t (history s log)).pc ≡ at + 4 * (form_of k p).first)
+        → register (file s t (history s log)).file p.value % 2 ^ 64
+        ≡ register (file s t (history s first)).file p.value % 2 ^ 64 }
+    // and so is the number in the register: that of a free, which brings 64 bits back, where it has no more
+    ensures number { (k : Kind) (s : Setting) (first log later : List Entry) (p : Slots) (at : ℕ) (area : Area) (t : ℕ)
         → takes_in k ≡ true → IsBlockRun s (log ++ later)
         → HoldsBlock s (history s (log ++ later)) (form_of k p) at area t
         → Retries s (placed_of (form_of k p) at area) t first log

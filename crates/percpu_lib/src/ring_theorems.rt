@@ -141,14 +141,13 @@ pub fn rings_are_done()
 
 /// In a block run each retry of a ring block works on the value that came in: wherever the thread, in its
 /// walks in the block, one after another from its retry label on, is at the retry label or at the start,
-/// the value is what it was there, a number of 64 bits.
+/// the value is what it was there.
 pub fn retries_of_rings_work_on_the_value()
     ensures { (k : RingKind) (count : ℕ) (s : Setting) (first log later : List Entry) (p : Slots) (at : ℕ) (area : Area)
         (t : ℕ)
-        → count ≤ 4 → IsBlockRun s (log ++ later)
+        → 1 ≤ count → count ≤ 4 → IsBlockRun s (log ++ later)
         → HoldsBlock s (history s (log ++ later)) (ring_form_of k count p) at area t
         → Retries s (placed_of (ring_form_of k count p) at area) t first log
-        → register (file s t (history s first)).file p.value < 2 ^ 64
         → ((file s t (history s log)).pc ≡ at)
         ⊎ ((file s t (history s log)).pc ≡ at + 4 * (ring_form_of k count p).first)
         → register (file s t (history s log)).file p.value ≡ register (file s t (history s first)).file p.value }
@@ -259,7 +258,6 @@ pub fn ring_blocks_are_used()
         × CanAlwaysBegin s (placed_of (ring_put_form 2 p) at area) t (history s (log ++ later))
         × SharesAreaWith s (history s (log ++ later)) (placed_of (ring_put_form 2 p) at area) t others
         × Retries s (placed_of (ring_put_form 2 p) at area) t first log
-        × (value_of s p t (history s first) < 2 ^ 64)
         × (running s 0 (history s log) ≡ Some t) × ((file s t (history s log)).pc ≡ at)
         × IsUndisturbed 0 later × (committed (ring_put_form 2 p) ≤ executed_on 0 later) }
 {}

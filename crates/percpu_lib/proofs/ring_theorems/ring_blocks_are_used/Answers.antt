@@ -124,7 +124,6 @@ returns c = record {
         its.begins,
         its.shares,
         example.retried,
-        example.small_value,
         example.runs_anew,
         example.at_label,
         example.undisturbed,
