@@ -22,7 +22,7 @@ use Rattle.mach_types.specs.declared.sequences.Outcome.TheVariants as comes_to
 use Rattle.mach_types.specs.declared.sequences.Seq.{Seq}
 use Rattle.mach_types.specs.Kernel.Areas as areas
 use Rattle.mach_types.specs.Kernel.Areas.{can_read_area, can_read_descriptor, descriptor_at, has_flags, interruption, is_clearable, is_inside, is_out_of_range, is_signed, named, named_by, pointer_of, sequence_of}
-use Rattle.block_model.specs.Here.{Here, Done, is_writable, memory, view}
+use Rattle.block_model.specs.Here.{Here, Done, is_writable, memory, view_of_all}
 use Rattle.block_model.specs.Instruction.{fetched}
 use Rattle.block_model.specs.Events.{done_of}
 use Rattle.block_model.specs.Events.Exec.{by_call}
@@ -31,8 +31,8 @@ use Rattle.block_model.specs.Events.Take.{killed_by}
 use Rattle.block_model.specs.Sequences.{area_here, files_interrupted, interruption_here}
 use Rattle.block_model.specs.Calls.{called}
 use Rattle.block_model.specs.Calls.Answers.{CallDone}
+use Rattle.block_model.specs.Standing.{IsSound}
 use Rattle.block_model.proofs.EventEffects.{CallKills, Calls, EventDeed, Executes, FaultKills, Handles, Preempts, Restarts, Returns, RunKills, Runs, SignalKills, deed_of}
-use Rattle.block_model.proofs.PlaceInvariant.{IsSound}
 use Rattle.block_model.proofs.Pcs.{outcome_stands}
 use Rattle.block_model.proofs.AddressesOfCalls.{AllStand, FilesStand, IsProperCall, NotOpen, SomeLive, not_ended, proper_called}
 use Rattle.block_model.proofs.SignalTables.{HandlersStand, action_stands, handled_stand, same_stand}
@@ -153,7 +153,7 @@ module _ (here : Here) (tid : ℕ) where
   proper_deed (Calls t e next calls outside) = by_proper_call here (called here t) (proper_called here t)
   proper_deed (Executes t e next) =
       let word = fetched here.setting.program.pages (here.file t).pc in
-      quiet here _ (λ stand. (outcome_stands (view here) (here.file t) here.reserved e (stand.threads t) word next.is, tt)) refl refl refl
+      quiet here _ (λ stand. (outcome_stands (view_of_all here) (here.file t) here.reserved e (stand.threads t) word next.is, tt)) refl refl refl
   proper_deed (Restarts t at) = record {
     files = λ stand. stands_after t;
     handlers = λ stand. stand.handlers;

@@ -18,11 +18,11 @@ use Rattle.block_model.specs.Calls.Answers.{CallDone, argument}
 use Rattle.block_model.specs.Calls.Cloning.{clone_child_cleartid, has_flag}
 use Rattle.block_model.specs.Calls.Ending.{clears, woken_at_exit}
 use Rattle.block_model.specs.Calls.Futexes.{answered_wait, wake}
+use Rattle.block_model.specs.Standing.{IsSound}
 use Rattle.block_model.proofs.Images.{frame_small}
 use Rattle.block_model.proofs.CallEffects.{Answers, Bears, Begins, Breaks, CallDeed, Clears, Ends, Exits, Leaves, MovesOff, Resumes, Says, Signalled, TableStep, Waits, Wakes}
 pub use Rattle.block_model.proofs.CallEffects.{AllStand, NotOpen}
 use Rattle.block_model.proofs.CallEffects.EachCall.{deed_called}
-use Rattle.block_model.proofs.PlaceInvariant.{IsSound}
 use Rattle.block_model.proofs.Invariants.Calls.Futexes.{kept_wake, wake_keeps}
 use Rattle.block_model.proofs.Pcs.{StandsIn, in_word}
 use Rattle.block_model.proofs.SignalTables.{HandlersStand}

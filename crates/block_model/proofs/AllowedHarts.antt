@@ -10,12 +10,8 @@ use Rattle.mach_types.specs.Kernel.Scheduling.{Scheduling, is_of, has_hart, hart
 use Rattle.mach_types.specs.Kernel.Threads.{Thread, Threads, is_live, is_thread, thread_of, running_on, new_thread, start_threads, with_child, without}
 use Rattle.mach_types.specs.declared.threads.ThreadState.{ThreadState}
 use Rattle.mach_types.proofs.Laws.{differs, filtered_same, filtered_other, found_at_end, not_at_end, eqb_same, eqb_other}
-use Rattle.block_model.specs.Tables.{IsTables, on}
+use Rattle.block_model.specs.Tables.{AllAllowed, IsTables, on}
 use Rattle.block_model.proofs.KernelTables.{running_is}
-
--- each live thread may run on some hart of the machine
-abbrev pub AllAllowed : ℕ → Threads → Scheduling → Type 0
-AllAllowed harts ts sc = 0 < harts → (t : ℕ) → is_live t ts ≡ true → (h : ℕ) × (h < harts) × (has_hart (affinity_of t sc) h ≡ true)
 
 -- the affinities tell who is live
 pub same_live : (harts t : ℕ) (ts us : Threads) (sc sd : Scheduling) → IsTables harts ts sc → IsTables harts us sd → sd.affinities ≡ sc.affinities → is_live t us ≡ is_live t ts

@@ -1,12 +1,14 @@
 -- Worked examples, proved by computation: membarrier(2), the requests of a barrier and the harts that take them, the return of a
 -- barrier, and what a thread that waits in one may not do.
-use Rattle.std.proofs.Common.{◌≡◌, ℕ, Bool, true, false, cond, eqb, List, [], ◌∷◌, ◌++◌, replicate, length, map, refl, Option, Some, None, Result, Ok, Err, inl, inr}
+use Rattle.std.proofs.Common.{◌≡◌, ℕ, pos, Bool, true, false, cond, eqb, List, [], ◌∷◌, ◌++◌, replicate, length, map, refl, Option, Some, None, Result, Ok, Err, inl, inr}
 use Rattle.std.specs.Option.{option_map}
 use Rattle.mach_types.specs.Kernel.Areas.{are_readable, number_at}
 use Rattle.mach_types.specs.Kernel.Barriers as barriers
 use Rattle.mach_types.specs.Kernel.Signals.{all_signals, start_signalling, with_pending}
 use Rattle.mach_types.specs.Kernel.Threads.{Threads, start_threads, with_child, with_state}
 use Rattle.mach_types.specs.Registers.{no_registers, register, with_register}
+use Rattle.mach_types.specs.declared.barriers.Answer.{Answer}
+use Rattle.mach_types.specs.declared.barriers.Answer.TheVariants.{Begin, Value}
 use Rattle.mach_types.specs.declared.barriers.Registered.{Registered}
 use Rattle.mach_types.specs.declared.errors.TheConstants.{EINVAL, EPERM}
 use Rattle.mach_types.specs.declared.events.Choice.{Choice}
@@ -29,6 +31,7 @@ use Rattle.rv_inst.specs.Meaning.{meaning}
 use Rattle.rv_inst.specs.Table.{row_of, rows, lui_rows, auipc_rows, jal_rows, jalr_rows, branch_rows, load_rows, store_rows, op_imm_rows, op_imm_32_rows, op_rows, op_32_rows, misc_mem_rows, amo_rows, system_rows}
 use Rattle.block_model.specs.Calls.{called}
 use Rattle.block_model.specs.Calls.Answers.{double_written, negative}
+use Rattle.block_model.specs.Calls.TwoProcesses.{command_two}
 use Rattle.block_model.specs.Choosing.{choice_at, has_ended}
 use Rattle.block_model.specs.Deciding.{decide, done, history}
 use Rattle.block_model.specs.Events.{refusal_of}
@@ -157,6 +160,27 @@ about_one = refl
 about_each_without_flag : (called (asks for_all 128 0 3) 1).barrier ≡ barrier_at 10 true
 unfolding barriers.asked
 about_each_without_flag = refl
+
+-- with another process on the machine, whose threads run on harts 1 and 2, while those of the caller's run on harts 0 and 3: a barrier
+-- on all processes is about both; an expedited one about each that registered for it, whether the caller did or not; a private one
+-- about the caller's own
+abbrev asks_two : Registered × Registered × ℕ → Answer
+asks_two ask = command_two ask.0 ask.1 (pos ask.2) 0 (pos 0) 0 9 6 4
+
+abbrev for_global : Registered
+for_global = registered_for true false false
+
+about_two_processes : map asks_two
+    ((for_none, for_none, 1) ∷ (for_none, for_none, 2) ∷ (for_global, for_none, 2) ∷ (for_none, for_global, 2) ∷ (for_global, for_global, 2) ∷ (for_all, for_all, 8) ∷ (for_all, for_all, 128) ∷ [])
+    ≡ Begin 14 false ∷ Value (pos 0) ∷ Begin 8 false ∷ Begin 6 false ∷ Begin 14 false ∷ Begin 8 false ∷ Begin 8 true ∷ []
+unfolding barriers.asked
+about_two_processes = refl
+
+-- registrations are the caller's own, and so is what a private barrier wants
+own_registrations : map asks_two ((for_none, for_all, 512) ∷ (for_all, for_none, 512) ∷ (for_none, for_all, 8) ∷ (for_none, for_all, 4) ∷ (for_none, for_all, 3) ∷ [])
+    ≡ Value (pos 0) ∷ Value (pos 276) ∷ barriers.refusal EPERM ∷ Value (pos 0) ∷ barriers.refusal EINVAL ∷ []
+unfolding barriers.asked
+own_registrations = refl
 
 -- where a barrier begins a0 stays and the pc goes on, and the record stays; one that is about no hart answers 0 at once
 begun_barrier :

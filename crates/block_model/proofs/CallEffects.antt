@@ -26,8 +26,8 @@ use Rattle.block_model.specs.Ids.{id_of}
 use Rattle.block_model.specs.Kernel.{cleared, for_barriers, left, next_number, paged, printed, registered, restricted, signalled, unregistered, waited, woken}
 use Rattle.block_model.specs.Record.{Kernel}
 use Rattle.block_model.specs.Sequences.{area_here}
+use Rattle.block_model.specs.Standing.{IsGoodHere}
 use Rattle.block_model.proofs.Barriers.Events.{IsAtOthers}
-use Rattle.block_model.proofs.PlaceInvariant.{IsGoodHere}
 use Rattle.block_model.proofs.Invariants.Calls.Conditions.{StaysWritable}
 use Rattle.block_model.proofs.IgnoredSignals.{AllHeeded}
 use Rattle.block_model.proofs.Pages.{IsPaged}

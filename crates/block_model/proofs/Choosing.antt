@@ -41,16 +41,17 @@ use Rattle.block_model.specs.Events.Drain.{refusal_drain_of}
 use Rattle.block_model.specs.Events.Finish.{refusal_done_by, refusal_return}
 use Rattle.block_model.specs.Events.Exec.{is_held, next_effect, next_fault, others_gate, refusal_exec, refusal_exec_by}
 use Rattle.block_model.specs.Events.Preempt.{refusal_preempt_by, unless_waiting}
-use Rattle.block_model.specs.Here.{Here, is_writable, memory, runs, waiting_here}
+use Rattle.block_model.specs.Here.{Here, is_storable, reached, runs, waiting_here}
 use Rattle.block_model.specs.History.{History, awaits, ended, here_in_history, is_of_hart, kernel, ran, requests, waiting}
 use Rattle.block_model.specs.Instruction.{fault_by, fetched, instruction_of}
 use Rattle.block_model.specs.Run.{IsAllowedLog, IsRunHistory}
 use Rattle.block_model.specs.Setting.{Setting}
 use Rattle.block_model.specs.Sights.{first_ready, is_all_taken, is_deliverable_on, is_local_on, sight_in, thread}
+use Rattle.block_model.specs.Standing.{IsGoodHere, IsSound}
 use Rattle.block_model.proofs.Runs.{decided_is, IsAllowedLog-append, history-append, history-nil, settled}
 use Rattle.block_model.proofs.PlainEvents.{plain_of}
 use Rattle.block_model.proofs.RunEnds.{some_live, IsOpen, decide-open}
-use Rattle.block_model.proofs.PlaceInvariant.{IsGoodHere, IsSound, good_here}
+use Rattle.block_model.proofs.PlaceInvariant.{good_here}
 use Rattle.block_model.proofs.HartSets.{some_hart, some_in}
 use Rattle.block_model.proofs.KernelTables.{found_passes, found_sorted, running_there}
 use Rattle.block_model.proofs.FixedRule.{ended_parts, allowed_where_none_waits, in_no_barrier, found_where, found_where_any, goes_somewhere, run_free, signal_free}
@@ -106,8 +107,8 @@ local_free here t apart busy is =
     ap (refusal_exec_by here) busy
     ∙ in_no_barrier here.awaits _ apart
     ∙ none_of_both (instruction_gate (length (waiting_here here)) (next_effect here t) (is_some (next_fault here t))) (others_gate (is_held here t) (next_effect here t))
-    (free_row (length (waiting_here here)) (memory here) (is_writable here) word (here.file t) (instruction_of word) only)
-    (free_others (is_held here t) (memory here) (is_writable here) word (here.file t) (instruction_of word) only)
+    (free_row (length (waiting_here here)) (reached here) (is_storable here) word (here.file t) (instruction_of word) only)
+    (free_others (is_held here t) (reached here) (is_storable here) word (here.file t) (instruction_of word) only)
 
 -- a test for no value
 none_is : {A : Type 0} (o : Option A) → is_none o ≡ true → o ≡ None

@@ -18,10 +18,10 @@ use Rattle.block_model.specs.Events.{refusal_of}
 use Rattle.block_model.specs.History.{Event, History, byte, file, file_among, here_in_history, kernel}
 use Rattle.block_model.specs.Deciding.{event, history, number_of, pc_in, thread_in}
 use Rattle.block_model.specs.Run.{IsRunHistory, IsAllowedLog}
+use Rattle.block_model.specs.Standing.{IsSound}
 use Rattle.block_model.proofs.Runs.{allowed_at, length-history, settled}
 use Rattle.block_model.proofs.Images.{HaveBytes, start_small, written_small}
 use Rattle.block_model.proofs.RunEnds.{proper_at}
-use Rattle.block_model.proofs.PlaceInvariant.{IsSound}
 use Rattle.block_model.proofs.Invariants.Events.{run_ready}
 use Rattle.block_model.proofs.KernelTables.{ready_state, running_is}
 use Rattle.block_model.proofs.Pcs.{StandsIn}

@@ -23,6 +23,7 @@ use Rattle.rv_inst.specs.Class.{is_call}
 use Rattle.mach_types.specs.declared.events.Why.TheVariants.{Others}
 use Rattle.mach_types.specs.Kernel.Pages.{PageRun}
 use Rattle.block_model.specs.Calls.Answers.{call_number}
+use Rattle.block_model.specs.Beside.{Neighbour}
 use Rattle.block_model.specs.Calls.Memory.{lies_waiting_on, taken_by}
 use Rattle.block_model.specs.Setting.{Setting}
 use Rattle.block_model.specs.Here.{Here, runs, waiting_here}
@@ -38,10 +39,10 @@ use Rattle.block_model.specs.Run.{IsAllowedLog, IsRunHistory}
 use Rattle.block_model.specs.Sequences.{is_inside_here}
 use Rattle.block_model.specs.Sights.{is_deliverable_on, thread}
 use Rattle.block_model.specs.Solo.{solo_choice}
+use Rattle.block_model.specs.Standing.{IsSound}
 use Rattle.block_model.proofs.Runs.{allowed_at, settled}
 use Rattle.block_model.proofs.Barriers.Requests.{IsAwaited, alone_awaits}
 use Rattle.block_model.proofs.RunEnds.{some_live, decide-open, is_open}
-use Rattle.block_model.proofs.PlaceInvariant.{IsSound}
 use Rattle.block_model.specs.Tables.{IsTables, on}
 use Rattle.block_model.proofs.KernelTables.{found_passes, found_sorted, running_none}
 use Rattle.mach_types.proofs.Laws.{eqb_same, times_cons}
@@ -146,9 +147,10 @@ in_no_barrier None why free = refl
 in_no_barrier (Some left) why free = absurd cc
 
 -- where no store waits on any hart of the machine, and the thread waits in no barrier, an instruction is allowed
-none_lies : (r : PageRun) (waiting : ℕ → List Store) (n : ℕ) → ((k : ℕ) → k < n → waiting k ≡ []) → lies_waiting_on r waiting n ≡ false
-none_lies r waiting zero none = refl
-none_lies r waiting (suc n) none = rw (none n (omega arith)) (none_lies r waiting n (λ k lt. none k (omega arith)))
+none_lies : (beside : Option Neighbour) (r : PageRun) (waiting : ℕ → List Store) (n : ℕ) → ((k : ℕ) → k < n → waiting k ≡ [])
+    → lies_waiting_on beside r waiting n ≡ false
+none_lies beside r waiting zero none = refl
+none_lies beside r waiting (suc n) none = rw (none n (omega arith)) (none_lies beside r waiting n (λ k lt. none k (omega arith)))
 
 call_goes : (call held : Bool) → held ≡ false → cond (call && held) (Some Others) None ≡ None
 call_goes true held is = rw is refl
@@ -162,7 +164,7 @@ pub allowed_where_none_waits : (here : Here) (t : ℕ) → here.awaits ≡ None 
     → ((k : ℕ) → k < here.setting.limits.harts → here.waiting k ≡ []) → refusal_exec_by here (Some t) ≡ None
 allowed_where_none_waits here t free own none =
     let held : is_held here t ≡ false =
-    and_false (not (is_inside_here here t)) _ (none_lies (taken_by (call_number here t) here t) here.waiting here.setting.limits.harts none) in
+    and_false (not (is_inside_here here t)) _ (none_lies here.beside (taken_by (call_number here t) here t) here.waiting here.setting.limits.harts none) in
     let o = next_effect here t in
     let faults = is_some (next_fault here t) in
     let gate : instruction_gate (length (waiting_here here)) o faults ≡ None = ap (λ (ws : List Store). instruction_gate (length ws) o faults) own in

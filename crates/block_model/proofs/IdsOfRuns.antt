@@ -19,9 +19,10 @@ use Rattle.block_model.specs.Ids.{AreIdsApart, IsLeastFree, id_of, next_id}
 use Rattle.block_model.specs.Run.{IsAllowedLog, IsRunHistory}
 use Rattle.block_model.specs.Sequences.{interruption_here}
 use Rattle.block_model.specs.Setting.{Setting}
+use Rattle.block_model.specs.Tables.{IsHeld}
 use Rattle.block_model.proofs.Runs.{allowed_at, fit_at, history-append, settled}
 use Rattle.block_model.proofs.Invariants.Events.{run_ready}
-use Rattle.block_model.proofs.ThreadRecords.{IsHeld, held_start}
+use Rattle.block_model.proofs.ThreadRecords.{held_start}
 use Rattle.block_model.proofs.Ids.{fewer_than_harts, fewer_than_live, id_now, its_run, next_is, next_low}
 use Rattle.block_model.proofs.KernelTables.{ready_state}
 

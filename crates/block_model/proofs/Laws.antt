@@ -16,10 +16,11 @@ use Rattle.elf_load.specs.declared.image.Image.{Image}
 use Rattle.elf_load.specs.Images.{IsImage}
 use Rattle.block_model.specs.declared.refusals.Refused.TheVariants.{Ended, Full, NotEnabled}
 use Rattle.block_model.specs.Setting.{Setting, Seen, setting_of}
+use Rattle.block_model.specs.Stands.{stand_of}
 use Rattle.mach_types.specs.Kernel.Scheduling.{Scheduling}
 use Rattle.mach_types.specs.Kernel.Threads.{Threads, is_ready, running_on, with_state}
 use Rattle.block_model.specs.Ids.{AreIdsApart, IsLeastFree, held_ids, is_taken, next_id}
-use Rattle.block_model.specs.Tables.{AreOfLive, AreSignalsOfLive, IsTables, on}
+use Rattle.block_model.specs.Tables.{AreOfLive, AreSignalsOfLive, IsHeld, IsTables, on}
 use Rattle.block_model.specs.Here.{Here, Done, runs}
 use Rattle.block_model.specs.Events.Run.{refusal_run}
 use Rattle.block_model.specs.Events.{refusal_of, done_of}
@@ -45,7 +46,6 @@ use Rattle.block_model.proofs.KernelTables as tables_laws
 use Rattle.block_model.proofs.RunEnds as ends
 use Rattle.block_model.proofs.Entries as entries
 use Rattle.block_model.proofs.PlaceInvariant.{good_here}
-use Rattle.block_model.proofs.ThreadRecords.{IsHeld}
 use Rattle.block_model.proofs.Ids as ids
 use Rattle.block_model.proofs.IdsOfRuns as run_ids
 use Rattle.block_model.proofs.IdsOnHarts as on_harts
@@ -63,7 +63,8 @@ pub use Rattle.block_model.proofs.Choosing.{no_call_held, none_of_both, some_har
 pub use Rattle.block_model.proofs.EventEffects.{IsNext as IsNextInstruction}
 pub use Rattle.block_model.proofs.FileSteps.{Aborts, Answered, AtBirth, AtHandler, AtRun, AtTake, ByCall, ByInstruction}
 pub use Rattle.block_model.proofs.FileSteps.{FileStays, FileStep, IsInterrupted, file_step}
-pub use Rattle.block_model.proofs.PlaceInvariant.{IsFit, IsGood, IsGoodHere, IsSound, MayEnter}
+pub use Rattle.block_model.specs.Standing.{IsGoodHere, IsSound, IsStanding, MayEnter}
+pub use Rattle.block_model.proofs.PlaceInvariant.{IsFit, IsGood}
 pub use Rattle.block_model.proofs.HartSets.{harts_fit, same_sets, some_hart, with_hart-fits, with_hart-itself, with_hart-or, with_hart-other, without_hart-and, without_hart-fits, without_hart-has, without_hart-itself, without_hart-other}
 pub use Rattle.block_model.proofs.KernelCalls.{as_many_held, child_not_held, child_same, ended_idle, order_has, tables_allowed, tables_child, tables_ended, tables_waited, tables_woken, waited_idle, woken_same}
 pub use Rattle.block_model.proofs.IdsOnHarts.{IsHeldOnHart, has_hart-set, is_held_below, is_held_by}
@@ -72,6 +73,7 @@ pub use Rattle.block_model.proofs.OwnEvents.{IsAreaAfter, new_area, no_area, own
 pub use Rattle.block_model.proofs.ReadyFiles.{area_stays, ready_file_stays, ready_stays}
 pub use Rattle.block_model.proofs.RegisterFiles.{HasRegisters, has_registers}
 pub use Rattle.block_model.proofs.RunSteps.{IsStep, drains_none, file_apart, not_ready, one_hart, runs_apart, step_of, waits_apart}
+pub use Rattle.block_model.proofs.Standing.{HasFreeId, SameSegment, fit_entered, stand_aside, stand_fit, stand_free_id, stand_next, stand_taken}
 pub use Rattle.block_model.proofs.Sequences.{Begins, Elsewhere, IsOf, Own, SequenceStep, TakesIn, sequence_step}
 pub use Rattle.block_model.proofs.Stretches.{HasStayed, HasSteps, IsLent, Steps, is_lent, stays, steps_of, worked_keeps}
 pub use Rattle.block_model.proofs.ThreadRecords.{areas_changed, areas_fit, live_changed, registered_areas, signals_stay}
@@ -93,6 +95,10 @@ start_run s = block_run s [] (run_laws.IsAllowedLog-nil s)
 
 pub start_plain : (s : Setting) → plain_after s [] ≡ plain_start s
 start_plain s = agrees.plain-nil s
+
+-- as many events were made as the log has entries
+pub plain_made : (v : Seen) → IsBlockRun v.setting v.log → (plain_seen v).made ≡ length v.log
+plain_made v run = plain-made v.setting v.log run.allowed
 
 -- what is decided hangs on the plain machine alone
 pub decided : (v : Seen) (h : ℕ) (c : Choice) → IsBlockRun v.setting v.log → decide v.setting (history v.setting v.log) h c ≡ decide_in (length v.log) (plain_over (plain_seen v)) c (here_of v h)
@@ -399,26 +405,25 @@ live_signals v run = (held_at v run).signals
 pub ids_apart_at : (v : Seen) → IsBlockRun v.setting v.log → v.setting.limits.harts ≤ 8 → AreIdsApart (plain_seen v).kernel.threads (plain_seen v).kernel.ids
 ids_apart_at v run few = (held_at v run).ids few
 
--- where a thread may begin to run, the next id is the least that no thread holds and below the number of harts, so not all are held
-pub record HasFreeId (harts : ℕ) (ids : List (ℕ × ℕ)) : Type 0 where
-  pub least : IsLeastFree ids (next_id ids)
-  pub below : next_id ids < harts
-  pub some : held_ids ids ≢ 255
+-- where a block run has come to its process stands
+pub standing : (v : Seen) → IsBlockRun v.setting v.log → IsStanding (stand_of v)
+standing v run =
+    let made : (plain_seen v).made ≡ length v.log = plain_made v run in
+    record {
+      good = λ h lt. place_good v h run lt;
+      sound = (good_at v run).kernel;
+      held = held_at v run;
+      events = λ h. let few = events_few v h run in omega arith;
+      ran = λ h. let few = ran_few v h run in omega arith;
+      given = (good_at v run).given;
+    }
 
+-- so the next id is free where a thread may begin to run
 pub id_is_free : (v : Seen) (h t : ℕ) → IsBlockRun v.setting v.log → v.setting.limits.harts ≤ 8 → h < v.setting.limits.harts → refusal_run (here_of v h) t ≡ None
     → HasFreeId v.setting.limits.harts (plain_seen v).kernel.ids
-id_is_free v h t run few lt free =
-    let k = (plain_seen v).kernel in
-    let tables = (good_at v run).kernel.tables in
-    let idle = (run_laws_of.run_ready (here_of v h) t free).0 in
-    let fewer = ids.fewer_than_harts v.setting.limits.harts h t k.threads k.scheduling k.ids tables (ids_apart_at v run few) idle lt in
-    let low = ids.next_low k.ids (omega arith) in
-    let least = ids.next_is k.ids (omega arith) in
-    record { least = least; below = omega arith; some = on_harts.not_full k.ids (next_id k.ids) (omega arith) least.free }
+id_is_free v h t run few lt free = stand_free_id (stand_of v) h t (standing v run) few lt free
 
--- so an id is taken where a thread on one of the machine's harts holds it, looked for hart by hart
+-- and an id is taken where a thread on one of the machine's harts holds it, looked for hart by hart
 pub taken_on_harts : (v : Seen) (n : ℕ) → IsBlockRun v.setting v.log → v.setting.limits.harts ≤ 8
     → is_taken (plain_seen v).kernel.ids n ≡ is_held_below (plain_seen v).kernel.threads (plain_seen v).kernel.ids n v.setting.limits.harts
-taken_on_harts v n run few =
-    let k = (plain_seen v).kernel in
-    on_harts.taken_on_harts v.setting.limits.harts k.threads k.scheduling k.ids (good_at v run).kernel.tables (ids_apart_at v run few) n
+taken_on_harts v n run few = stand_taken (stand_of v) n (standing v run) few

@@ -53,6 +53,7 @@ mod SignalExamples
 mod SignalTables
 mod SignalsOfWaiters
 mod SignalsOfWaitersInRuns
+mod Standing
 mod Stretches
 pub mod Swaps
 mod TablesOfCalls

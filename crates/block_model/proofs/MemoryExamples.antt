@@ -1,21 +1,23 @@
 -- Worked examples, proved by computation: calls that map, remove and protect pages, and what holds them up.
-use Rattle.std.proofs.Common.{◌≡◌, ℕ, ◌-◌, ◌^◌, List, [], ◌∷◌, ◌++◌, replicate, refl, cond, eqb, Option, Some, None, Ok}
+use Rattle.std.proofs.Common.{◌≡◌, ℕ, ◌-◌, ◌^◌, List, [], ◌∷◌, ◌++◌, map, replicate, refl, true, false, cond, eqb, Option, Some, None, Ok}
 use Rattle.mach_types.specs.declared.events.Choice.TheVariants as asked
 use Rattle.mach_types.specs.declared.events.Why.{Why}
 use Rattle.mach_types.specs.declared.events.Why.TheVariants.{Others}
 use Rattle.mach_types.specs.declared.limits.End.TheVariants as over
 use Rattle.mach_types.specs.declared.threads.Saved.{Saved}
 use Rattle.mach_types.specs.declared.user_memory.Write.TheVariants.{Zeroed}
+use Rattle.mach_types.specs.Kernel.Barriers.{none_registered}
 use Rattle.mach_types.specs.Kernel.PageCalls.{break_moved}
 use Rattle.mach_types.specs.Kernel.Pages.{count_pages, each_page, first_page, lowest_hole, permission_at}
 use Rattle.mach_types.specs.Registers.{no_registers, register, with_register}
 use Rattle.rv_inst.specs.declared.effects.Effect.TheVariants as effect
 use Rattle.rv_inst.specs.Meaning.{meaning}
 use Rattle.rv_inst.specs.Table.{row_of, rows, lui_rows, auipc_rows, jal_rows, jalr_rows, branch_rows, load_rows, store_rows, op_imm_rows, op_imm_32_rows, op_rows, op_32_rows, misc_mem_rows, amo_rows, system_rows}
+use Rattle.block_model.specs.Beside.{Neighbour}
 use Rattle.block_model.specs.Calls.{called}
 use Rattle.block_model.specs.Deciding.{decide, done, end_of, history}
 use Rattle.block_model.specs.Events.Exec.{is_held, others_gate}
-use Rattle.block_model.specs.Here.{Here}
+use Rattle.block_model.specs.Here.{Here, is_storable, memory, reached}
 use Rattle.block_model.specs.Kernel.{paged}
 use Rattle.block_model.specs.History.{here_in_history}
 use Rattle.block_model.specs.Replay.{Ask, played}
@@ -169,3 +171,38 @@ brk_held_up :
     × (held_grown (calls 214 0x20000 0 0 0) ≡ None)  -- refused brk is not held
 unfolding lowest_hole first_page each_page count_pages
 brk_held_up = (refl, refl, refl)
+
+-- BESIDE ANOTHER PROCESS
+
+-- with another process on the machine, the bytes of whose segment are 7; and a store of 8 bytes to the segment waits on hart 1
+abbrev neighbour : Neighbour
+neighbour = record { shared = λ a. 7; registered = none_registered; running = 2 }
+
+abbrev shares : Here → Here
+shares here = record here {
+  waiting = λ k. cond (eqb k 1) (record { at = 0x3FFFF8FFF8; size = 8; value = 9 } ∷ []) [];
+  beside = Some neighbour;
+}
+
+-- instructions reach each byte of the segment and no other one past the pages; a call finds no page there
+abbrev at_edges : (ℕ → Option ℕ) → List (Option ℕ)
+at_edges byte = map byte (0x3FFFF7FFFF ∷ 0x3FFFF80000 ∷ 0x3FFFF8FFFF ∷ 0x3FFFF90000 ∷ [])
+
+the_segment :
+    (at_edges (reached (shares (calls 64 0 0 0 0))) ≡ None ∷ Some 7 ∷ Some 7 ∷ None ∷ [])  -- is read
+    × (map (is_storable (shares (calls 64 0 0 0 0))) (0x3FFFF7FFFF ∷ 0x3FFFF80000 ∷ 0x3FFFF8FFFF ∷ 0x3FFFF90000 ∷ []) ≡ false ∷ true ∷ true ∷ false ∷ [])  -- is written
+    × (at_edges (memory (shares (calls 64 0 0 0 0))) ≡ replicate 4 None)  -- has no page
+    × (answer (shares (calls 64 1 0x3FFFF80000 8 0)) ≡ error 14)  -- write(2) of it
+the_segment = (refl, refl, refl, refl)
+
+-- munmap of where it lies removes nothing, so that no store there holds it up; one of a page is held up as ever
+munmap_of_segment :
+    (others_gate (is_held (shares (calls 215 0x3FFFF80000 0x10000 0 0)) 1) (Some effect.Call) ≡ None)  -- not held
+    × (answer (shares (calls 215 0x3FFFF80000 0x10000 0 0)) ≡ 0)  -- answers
+    × (others_gate (is_held (record (beside_store (calls 215 0x20000 4096 0 0)) { beside = Some neighbour }) 1) (Some effect.Call) ≡ Some Others)  -- page held
+unfolding lowest_hole first_page each_page count_pages
+munmap_of_segment = (refl, refl, refl)
+
+-- rseq(2) isn't there
+no_areas : answer (shares (calls 293 0x20000 32 0 0x53053053)) ≡ error 38
+no_areas = refl

@@ -19,7 +19,7 @@ use Rattle.block_model.specs.Here.{Here, runs}
 use Rattle.block_model.specs.History.{file_among}
 use Rattle.block_model.specs.Kernel.{cleared, gone, had_child, left, registered, signalled, unregistered, waited, woken, next_number, restricted}
 use Rattle.block_model.specs.Record.{Kernel}
-use Rattle.block_model.proofs.PlaceInvariant.{IsGoodHere}
+use Rattle.block_model.specs.Standing.{IsGoodHere}
 use Rattle.block_model.proofs.Invariants.Calls.Futexes.{answered, wake_by, wake_keeps}
 use Rattle.block_model.proofs.Invariants.Events.{ready_apart}
 use Rattle.block_model.proofs.KernelTables.{its_ready}

@@ -30,12 +30,12 @@ use Rattle.block_model.specs.Kernel.{cleared, had_child, left, next_number, sign
 use Rattle.block_model.specs.Record.{Kernel}
 use Rattle.block_model.specs.Run.{IsRunHistory}
 use Rattle.block_model.specs.Setting.{Setting}
+use Rattle.block_model.specs.Standing.{IsGoodHere}
 use Rattle.block_model.proofs.Runs.{allowed_at}
 use Rattle.block_model.proofs.CallEffects.{Answers, Bears, Breaks, CallDeed, Clears, Exits, Leaves}
 use Rattle.block_model.proofs.CallEffects.{MovesOff, Registers, TableStep, Unregisters, Waits, Wakes}
 use Rattle.block_model.proofs.CallEffects.EachCall.{deed_called}
 use Rattle.block_model.proofs.EventEffects.{Calls, EventDeed, IsNext, Preempts, RunKills, Runs, deed_of}
-use Rattle.block_model.proofs.PlaceInvariant.{IsGoodHere}
 use Rattle.block_model.proofs.Invariants.Calls.Cloning.{kept_child, running_child, sound_child}
 use Rattle.block_model.proofs.Invariants.Calls.Futexes.{kept_wake, wake_keeps}
 use Rattle.block_model.proofs.Invariants.Calls.RecordSteps.{kept_cleared, kept_signalled, kept_woken}

@@ -3,11 +3,7 @@ use Rattle.std.proofs.Common.{◌≡◌, ◌≢◌, ℕ, ◌+◌, ◌≤◌, ◌
 use Rattle.std.specs.List.{AllByRecursion}
 use Rattle.std.specs.Option.{option_map}
 use Rattle.std.proofs.lemmas.Bool.{eqb-true, eqb-false}
-use Rattle.mach_types.specs.Bytes.{each_byte}
-use Rattle.mach_types.specs.Kernel.Pages.{Pages, permission_at, can_write}
-use Rattle.block_model.specs.Record.{Kernel}
 use Rattle.mach_types.specs.Kernel.Threads.{running_on}
-use Rattle.mach_types.specs.declared.kernel_words.TheConstants.{CONSOLE_ROOM}
 use Rattle.mach_types.specs.declared.user_memory.Store.{Store}
 use Rattle.mach_types.specs.declared.user_memory.TheConstants.{STORE_BUFFER_CAPACITY}
 use Rattle.mach_types.specs.declared.threads.Saved.{Saved}
@@ -16,28 +12,17 @@ use Rattle.block_model.specs.History.{file_among}
 use Rattle.block_model.specs.Here.{Here, Done, runs, waiting_here}
 use Rattle.block_model.specs.Plain.{Plain, here_in_plain, apply}
 use Rattle.block_model.specs.Requests.{awaits_of_own, without_hart}
-use Rattle.block_model.proofs.AllowedHarts.{AllAllowed}
 use Rattle.block_model.proofs.Barriers.Requests.{IsAwaited}
-use Rattle.block_model.proofs.Barriers.Events.{IsFitBarriers, awaited_next, own_still, restart_next, waited_before}
-use Rattle.block_model.proofs.ThreadRecords.{IsHeld}
+use Rattle.block_model.proofs.Barriers.Events.{IsFitBarriers, IsStill, awaited_next, own_still, restart_next, waited_before}
 use Rattle.block_model.proofs.Pages.{IsPaged}
-use Rattle.block_model.specs.Tables.{IsTables}
-
--- a store whose bytes can all be written
-abbrev pub MayEnter : Pages → Store → Type 0
-MayEnter p w = each_byte (λ a. can_write (permission_at p a)) w.at w.size ≡ true
-
--- the kernel's record, by concern: its tables; the affinities; the console
-pub record IsSound (s : Setting) (k : Kernel) : Type 0 where
-  pub tables : IsTables s.limits.harts k.threads k.scheduling
-  pub allowed : AllAllowed s.limits.harts k.threads k.scheduling
-  pub console : length k.console ≤ CONSOLE_ROOM
+use Rattle.block_model.specs.Standing.{IsGoodHere, IsSound, MayEnter}
+use Rattle.block_model.specs.Tables.{IsHeld}
 
 -- what waits may enter memory, and as many stores wait as a buffer holds; an idle hart has no waiting store;
 -- an event gives at most one number to a thread. A hart whose thread waits in a barrier runs a thread, and has no waiting store; what
 -- holds of barriers that are waited in and of requests; and where a request asks for a restart, one is pending
 pub record IsGood (s : Setting) (m : Plain) : Type 0 where
-  pub within : (h : ℕ) → AllByRecursion (MayEnter m.kernel.pages) (m.waiting h)
+  pub within : (h : ℕ) → AllByRecursion (MayEnter None m.kernel.pages) (m.waiting h)
   pub few : (h : ℕ) → length (m.waiting h) ≤ STORE_BUFFER_CAPACITY
   pub idle : (h : ℕ) → running_on h m.kernel.threads ≡ None → m.waiting h ≡ []
   pub given : m.kernel.threads.given ≤ m.made + 1
@@ -47,21 +32,11 @@ pub record IsGood (s : Setting) (m : Plain) : Type 0 where
   pub restart : (k : ℕ) → m.restart k ≡ true → m.requests k ≢ 0
   pub kernel : IsSound s m.kernel
 
--- the same, at a hart of the machine
-pub record IsGoodHere (here : Here) : Type 0 where
-  pub lt : here.hart < here.setting.limits.harts
-  pub within : (k : ℕ) → AllByRecursion (MayEnter here.kernel.pages) (here.waiting k)
-  pub few : length (waiting_here here) ≤ STORE_BUFFER_CAPACITY
-  pub idle : (k : ℕ) → running_on k here.kernel.threads ≡ None → here.waiting k ≡ []
-  pub busy : (left : ℕ) → here.awaits ≡ Some left → runs here ≢ None
-  pub empty : (left : ℕ) → here.awaits ≡ Some left → waiting_here here ≡ []
-  pub kernel : IsSound here.setting here.kernel
-
 -- what an event does that keeps it; and it sets no file of a thread that runs on another hart. What the record holds for threads
 -- stays so too
 pub record IsFit (here : Here) (d : Done) : Type 0 where
-  pub executed : AllByRecursion (MayEnter d.kernel.pages) d.executed
-  pub within : (k : ℕ) → AllByRecursion (MayEnter d.kernel.pages) (here.waiting k)
+  pub executed : AllByRecursion (MayEnter here.beside d.kernel.pages) d.executed
+  pub within : (k : ℕ) → AllByRecursion (MayEnter here.beside d.kernel.pages) (here.waiting k)
   pub few : length (waiting_here here) + length d.executed ≤ STORE_BUFFER_CAPACITY
   pub drained : d.drained ≤ length (waiting_here here)
   pub idle : running_on here.hart d.kernel.threads ≡ None → drop d.drained (waiting_here here ++ d.executed) ≡ []
@@ -103,47 +78,67 @@ good_here s m h lt good = record {
 abbrev AwaitsNext : ℕ → Done → Option ℕ → ℕ → Bool → Type 0
 AwaitsNext h d awaits left own = cond own (awaits_of_own d awaits) (cond d.took (option_map (without_hart h) awaits) awaits) ≡ Some left
 
+-- what an event makes of each part: hart k is its own where `own` says so. Each hart's thread waits in a barrier for what `awaits` says
+module _ (here : Here) (d : Done) (awaits : ℕ → Option ℕ) (same : awaits here.hart ≡ here.awaits) (fit : IsFit here d) where
+  abbrev waits_after : ℕ → Bool → List Store
+  waits_after k own = cond own (drop d.drained (here.waiting k ++ d.executed)) (here.waiting k)
+
+  pub within_next : (k : ℕ) (own : Bool) → AllByRecursion (MayEnter here.beside d.kernel.pages) (waits_after k own)
+  within_next k true =
+      let may = MayEnter here.beside d.kernel.pages in
+      all_drop may d.drained (here.waiting k ++ d.executed) (all_append may (here.waiting k) d.executed (fit.within k) fit.executed)
+  within_next k false = fit.within k
+
+  pub few_next : (k : ℕ) (own : Bool) → eqb here.hart k ≡ own → length (here.waiting k) ≤ STORE_BUFFER_CAPACITY
+      → length (waits_after k own) ≤ STORE_BUFFER_CAPACITY
+  few_next k true is was =
+      let one : length (here.waiting k) + length d.executed ≤ STORE_BUFFER_CAPACITY = subst (λ j. length (here.waiting j) + length d.executed ≤ STORE_BUFFER_CAPACITY) (eqb-true here.hart k is) fit.few in
+      omega (arith, length-drop d.drained (here.waiting k ++ d.executed), length-append (here.waiting k) d.executed)
+  few_next k false is was = was
+
+  stays_idle : (k : ℕ) → eqb here.hart k ≡ false → running_on k d.kernel.threads ≡ None → running_on k here.kernel.threads ≡ None
+  stays_idle k is none = sym (fit.others k (λ e. eqb-false here.hart k is (sym e))) ∙ none
+
+  pub idle_next : (k : ℕ) (own : Bool) → eqb here.hart k ≡ own → (running_on k here.kernel.threads ≡ None → here.waiting k ≡ [])
+      → running_on k d.kernel.threads ≡ None → waits_after k own ≡ []
+  idle_next k true is was none =
+      let it : here.hart ≡ k = eqb-true here.hart k is in
+      subst (λ j. drop d.drained (here.waiting j ++ d.executed) ≡ []) it (fit.idle (ap (λ j. running_on j d.kernel.threads) it ∙ none))
+  idle_next k false is was none = was (stays_idle k is none)
+
+  its_still : (k left : ℕ) → here.hart ≡ k → awaits_of_own d (awaits k) ≡ Some left → IsStill here d
+  its_still k left it waits =
+      own_still here d left fit.barriers (ap (awaits_of_own d) (sym same) ∙ ap (λ j. awaits_of_own d (awaits j)) it ∙ waits)
+
+  pub busy_next : (k left : ℕ) (own : Bool) → eqb here.hart k ≡ own → ((left : ℕ) → awaits k ≡ Some left → running_on k here.kernel.threads ≢ None)
+      → AwaitsNext here.hart d (awaits k) left own → running_on k d.kernel.threads ≢ None
+  busy_next k left true is was waits =
+      let it : here.hart ≡ k = eqb-true here.hart k is in
+      subst (λ j. running_on j d.kernel.threads ≢ None) it (its_still k left it waits).running
+  busy_next k left false is was waits =
+      let before = waited_before here.hart left (awaits k) d.took waits in
+      λ none. was before.0 before.1 (stays_idle k is none)
+
+  pub empty_next : (k left : ℕ) (own : Bool) → eqb here.hart k ≡ own → ((left : ℕ) → awaits k ≡ Some left → here.waiting k ≡ [])
+      → AwaitsNext here.hart d (awaits k) left own → waits_after k own ≡ []
+  empty_next k left true is was waits =
+      let it : here.hart ≡ k = eqb-true here.hart k is in
+      subst (λ j. drop d.drained (here.waiting j ++ d.executed) ≡ []) it (its_still k left it waits).empty
+  empty_next k left false is was waits =
+      let before = waited_before here.hart left (awaits k) d.took waits in
+      was before.0 before.1
+
 pub good_next : (s : Setting) (m : Plain) (h : ℕ) (d : Done) → IsGood s m → IsFit (here_in_plain s m h) d → IsGood s (apply h d m)
-good_next s m h d good fit = record {
-  within = λ k. within k (eqb h k) refl;
-  few = λ k. few k (eqb h k) refl;
-  idle = λ k none. idle k (eqb h k) refl none;
-  given = let was = good.given in let now = fit.given in omega arith;
-  busy = λ k left waits. busy k left (eqb h k) refl waits;
-  empty = λ k left waits. empty k left (eqb h k) refl waits;
-  awaited = awaited_next (here_in_plain s m h) d m.requests m.awaits refl fit.barriers good.awaited;
-  restart = λ k is. restart_next k h (m.requests k) (m.restart k) d (good.restart k) is;
-  kernel = fit.kernel;
-}
-  where
-    within : (k : ℕ) (b : Bool) → eqb h k ≡ b → AllByRecursion (MayEnter d.kernel.pages) (cond b (drop d.drained (m.waiting k ++ d.executed)) (m.waiting k))
-    within k true is = all_drop (MayEnter d.kernel.pages) d.drained (m.waiting k ++ d.executed) (all_append (MayEnter d.kernel.pages) (m.waiting k) d.executed (fit.within k) fit.executed)
-    within k false is = fit.within k
-
-    few : (k : ℕ) (b : Bool) → eqb h k ≡ b → length (cond b (drop d.drained (m.waiting k ++ d.executed)) (m.waiting k)) ≤ STORE_BUFFER_CAPACITY
-    few k true is =
-        let one : length (m.waiting k) + length d.executed ≤ STORE_BUFFER_CAPACITY = subst (λ j. length (m.waiting j) + length d.executed ≤ STORE_BUFFER_CAPACITY) (eqb-true h k is) fit.few in
-        omega (arith, length-drop d.drained (m.waiting k ++ d.executed), length-append (m.waiting k) d.executed)
-    few k false is = good.few k
-
-    idle : (k : ℕ) (b : Bool) → eqb h k ≡ b → running_on k d.kernel.threads ≡ None → cond b (drop d.drained (m.waiting k ++ d.executed)) (m.waiting k) ≡ []
-    idle k true is none =
-        let same : h ≡ k = eqb-true h k is in
-        subst (λ j. drop d.drained (m.waiting j ++ d.executed) ≡ []) same (fit.idle (ap (λ j. running_on j d.kernel.threads) same ∙ none))
-    idle k false is none = good.idle k (sym (fit.others k (λ e. eqb-false h k is (sym e))) ∙ none)
-
-    busy : (k left : ℕ) (b : Bool) → eqb h k ≡ b → AwaitsNext h d (m.awaits k) left b → running_on k d.kernel.threads ≢ None
-    busy k left true is waits =
-        let same : h ≡ k = eqb-true h k is in
-        let own : awaits_of_own d (m.awaits h) ≡ Some left = ap (λ j. awaits_of_own d (m.awaits j)) same ∙ waits in
-        subst (λ j. running_on j d.kernel.threads ≢ None) same (own_still (here_in_plain s m h) d left fit.barriers own).running
-    busy k left false is waits =
-        let was = waited_before h left (m.awaits k) d.took waits in
-        λ none. good.busy k was.0 was.1 (sym (fit.others k (λ e. eqb-false h k is (sym e))) ∙ none)
-
-    empty : (k left : ℕ) (b : Bool) → eqb h k ≡ b → AwaitsNext h d (m.awaits k) left b → cond b (drop d.drained (m.waiting k ++ d.executed)) (m.waiting k) ≡ []
-    empty k left true is waits =
-        let same : h ≡ k = eqb-true h k is in
-        let own : awaits_of_own d (m.awaits h) ≡ Some left = ap (λ j. awaits_of_own d (m.awaits j)) same ∙ waits in
-        subst (λ j. drop d.drained (m.waiting j ++ d.executed) ≡ []) same (own_still (here_in_plain s m h) d left fit.barriers own).empty
-    empty k left false is waits = let was = waited_before h left (m.awaits k) d.took waits in good.empty k was.0 was.1
+good_next s m h d good fit =
+    let here = here_in_plain s m h in
+    record {
+      within = λ k. within_next here d m.awaits refl fit k (eqb h k);
+      few = λ k. few_next here d m.awaits refl fit k (eqb h k) refl (good.few k);
+      idle = λ k none. idle_next here d m.awaits refl fit k (eqb h k) refl (good.idle k) none;
+      given = let was = good.given in let now = fit.given in omega arith;
+      busy = λ k left waits. busy_next here d m.awaits refl fit k left (eqb h k) refl (good.busy k) waits;
+      empty = λ k left waits. empty_next here d m.awaits refl fit k left (eqb h k) refl (good.empty k) waits;
+      awaited = awaited_next here d m.requests m.awaits refl fit.barriers good.awaited;
+      restart = λ k is. restart_next k h (m.requests k) (m.restart k) d (good.restart k) is;
+      kernel = fit.kernel;
+    }

@@ -15,11 +15,12 @@ use Rattle.block_model.specs.Run.{IsRunHistory}
 use Rattle.block_model.specs.Sequences.{files_interrupted, interruption_here}
 use Rattle.block_model.specs.Setting.{Setting}
 use Rattle.block_model.specs.Tables.{on}
+use Rattle.block_model.specs.Standing.{IsGoodHere}
 use Rattle.block_model.proofs.Runs.{allowed_at, settled}
 use Rattle.block_model.proofs.PlainEvents.{plain_of}
 use Rattle.block_model.proofs.OtherThreads.{beside_left, caller_apart, aside_called}
 use Rattle.block_model.proofs.EventEffects.{Calls, EventDeed, Executes, Handles, Preempts, Restarts, Returns, RunKills, Runs, SignalKills, deed_of}
-use Rattle.block_model.proofs.PlaceInvariant.{IsGoodHere, good_here}
+use Rattle.block_model.proofs.PlaceInvariant.{good_here}
 use Rattle.block_model.proofs.KernelTables.{its_ready}
 use Rattle.block_model.proofs.SignalTables.{interrupted_file}
 

@@ -22,7 +22,7 @@ use Rattle.block_model.specs.Calls.Cloning.{child_file, clone_settls, has_flag, 
 use Rattle.block_model.specs.Calls.Ending.{woken_at_exit}
 use Rattle.block_model.specs.Calls.Futexes.{answered_wait, wake}
 use Rattle.block_model.specs.Deciding.{done}
-use Rattle.block_model.specs.Here.{Done, Here, memory, view}
+use Rattle.block_model.specs.Here.{Done, Here, memory, view_of_all}
 use Rattle.block_model.specs.History.{Event, History, file, file_among, here_in_history}
 use Rattle.block_model.specs.Run.{IsRunHistory}
 use Rattle.block_model.specs.Sequences.{files_interrupted, interruption_here}
@@ -152,7 +152,7 @@ module _ (here : Here) (all : (t : ℕ) → HasRegisters (here.file t)) where
   event_has : {tid : ℕ} {k : Kind} {d : Done} → EventDeed here tid k d → HaveRegisters d.files
   event_has (Calls t e next calls outside) = call_has (deed_called here t)
   event_has (Executes t e next) =
-      (as_many_after (view here) (here.file t).file (here.file t).pc here.reserved e ∙ all t, tt)
+      (as_many_after (view_of_all here) (here.file t).file (here.file t).pc here.reserved e ∙ all t, tt)
   event_has (Restarts t at) = interrupted_has t (interruption_here here t)
   event_has (Returns t at) = (as_many (here.file t).file 10 0 ∙ all t, tt)
   event_has {tid = tid} Runs = interrupted_has tid (interruption_here here tid)

@@ -20,10 +20,11 @@ use Rattle.block_model.specs.Record.{Kernel}
 use Rattle.block_model.specs.Run.{IsRunHistory}
 use Rattle.block_model.specs.Setting.{Setting}
 use Rattle.block_model.specs.Tables.{on}
+use Rattle.block_model.specs.Standing.{IsGoodHere}
 use Rattle.block_model.proofs.Runs.{allowed_at}
 use Rattle.block_model.proofs.PlainEvents.{drop_more}
 use Rattle.block_model.proofs.EventEffects.{Drains, EventDeed, deed_of}
-use Rattle.block_model.proofs.PlaceInvariant.{IsFit, IsGoodHere}
+use Rattle.block_model.proofs.PlaceInvariant.{IsFit}
 use Rattle.block_model.proofs.KernelTables.{running_is, same_hart}
 use Rattle.block_model.proofs.ReadyFiles.{good_at}
 use Rattle.block_model.proofs.Runs.{fit_at, settled}

@@ -20,11 +20,12 @@ use Rattle.std.specs.List.{fold, All}
 use Rattle.std.proofs.lemmas.List.Sums.{fold-append}
 use Rattle.block_model.specs.Run.{IsRunHistory, IsAllowedLog}
 use Rattle.block_model.specs.Plain.{plain_start, plain_next}
+use Rattle.block_model.specs.Standing.{IsGoodHere, IsSound}
 use Rattle.block_model.proofs.PlainEvents.{plain_of, IsCounted, counted_next, applied}
 use Rattle.block_model.proofs.AllowedHarts.{start_allowed}
 use Rattle.block_model.proofs.Barriers.Requests.{awaited_start}
 use Rattle.block_model.proofs.KernelTables.{tables_start, running_is, same_hart}
-use Rattle.block_model.proofs.PlaceInvariant.{IsGood, IsGoodHere, IsFit, good_here, good_next, IsSound}
+use Rattle.block_model.proofs.PlaceInvariant.{IsGood, IsFit, good_here, good_next}
 use Rattle.block_model.proofs.Invariants.Instructions.{good_exec}
 use Rattle.block_model.proofs.Invariants.Events.{good_drain, good_done, good_preempt, good_run, good_signal, good_take}
 use Rattle.std.proofs.lemmas.List.Elements.{All-from_recursion}

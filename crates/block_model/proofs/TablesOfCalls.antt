@@ -13,11 +13,11 @@ use Rattle.block_model.specs.Calls.Futexes.{wake}
 use Rattle.block_model.specs.Here.{Here, runs}
 use Rattle.block_model.specs.Kernel.{cleared, gone, had_child, left, next_number, restricted, signalled, woken}
 use Rattle.block_model.specs.Record.{Kernel}
-use Rattle.block_model.specs.Tables.{AreOfLive, AreSignalsOfLive, IsTables}
+use Rattle.block_model.specs.Tables.{AreOfLive, AreSignalsOfLive, IsHeld, IsTables}
 use Rattle.block_model.proofs.CallEffects.{Answers, Bears, Begins, Breaks, CallDeed, Clears, Ends, EnrolsFor, Exits, Leaves, MovesOff, Prints, Registers, Remaps, Resumes, Same, Says, Signalled, Stays, TableStep, Unregisters, Waits, Wakes}
 use Rattle.block_model.proofs.CallEffects.EachCall.{deed_called}
 use Rattle.block_model.proofs.Invariants.Calls.Futexes.{wake_keeps}
-use Rattle.block_model.proofs.ThreadRecords.{IsHeld, has_state, held_child, held_cleared, held_for_barriers, held_gone, held_left, held_paged, held_printed, held_registered, held_restricted, held_signalled, held_unregistered, held_waited, held_woken}
+use Rattle.block_model.proofs.ThreadRecords.{has_state, held_child, held_cleared, held_for_barriers, held_gone, held_left, held_paged, held_printed, held_registered, held_restricted, held_signalled, held_unregistered, held_waited, held_woken}
 use Rattle.block_model.proofs.KernelCalls.{tables_allowed, tables_child, tables_ended, tables_waited, tables_woken, woken_same}
 use Rattle.block_model.proofs.KernelTables.{running_is, tables_cleared, tables_left}
 use Rattle.block_model.proofs.SignalTables.{returned_keeps}

@@ -20,7 +20,7 @@ use Rattle.mach_types.specs.declared.threads.ThreadState.TheVariants.{Ready, Wai
 use Rattle.block_model.specs.Kernel.{cleared, first_kernel, for_barriers, gone, had_child, left, next_number, paged, printed, ran, registered, restricted, signalled, unregistered, waited, woken}
 use Rattle.block_model.specs.Record.{Kernel}
 use Rattle.block_model.specs.Setting.{Setting}
-use Rattle.block_model.specs.Tables.{AreOfLive, AreSignalsOfLive, on}
+use Rattle.block_model.specs.Tables.{AreOfLive, AreSignalsOfLive, IsHeld, on}
 use Rattle.block_model.specs.Ids.{AreIdsApart}
 use Rattle.block_model.proofs.KernelTables.{once, any_of}
 use Rattle.block_model.proofs.SignalTables.{KeepsThreads}
@@ -45,12 +45,6 @@ LiveOn ts us = (t : ℕ) → has_state t ts ≡ true → has_state t us ≡ true
 -- the threads that have areas
 abbrev owners : List (ℕ × Area) → List ℕ
 owners areas = map (λ pair. pair.0) areas
-
--- on a machine of at most 8 harts, as many as there are ids
-pub record IsHeld (harts : ℕ) (k : Kernel) : Type 0 where
-  pub ids : harts ≤ 8 → AreIdsApart k.threads k.ids
-  pub areas : AreOfLive k.threads k.areas
-  pub signals : AreSignalsOfLive k.threads k.signals
 
 pub held_start : (harts : ℕ) → (s : Setting) → IsHeld harts (first_kernel s)
 held_start harts s = record { ids = λ small. ids_start; areas = record { live = λ t is. absurd (false≢true is); one = λ t. omega arith }; signals = refl }

@@ -5,18 +5,18 @@ use Rattle.mach_types.specs.declared.errors.TheConstants.{ENOSYS}
 use Rattle.block_model.specs.Here.{Here}
 use Rattle.block_model.specs.Calls.Answers.{CallDone, call_number, refused}
 use Rattle.block_model.specs.Calls.Affinity.{getcpu, sched_getaffinity, sched_setaffinity, sched_yield}
-use Rattle.block_model.specs.Calls.Barriers.{membarrier}
+use Rattle.block_model.specs.Calls.Beside.{barrier_call, sequence_call}
 use Rattle.block_model.specs.Calls.Cloning.{clone}
 use Rattle.block_model.specs.Calls.Console.{write, writev}
 use Rattle.block_model.specs.Calls.Ending.{exit, exit_group}
 use Rattle.block_model.specs.Calls.Futexes.{futex}
 use Rattle.block_model.specs.Calls.Memory.{brk, mmap, mprotect, munmap}
 use Rattle.block_model.specs.Calls.Numbers.{getpid, gettid, set_tid_address}
-use Rattle.block_model.specs.Calls.Sequences.{rseq}
 use Rattle.block_model.specs.Calls.Signals.{rt_sigaction, rt_sigprocmask, rt_sigreturn, tgkill, tkill}
 pub mod Affinity
 pub mod Answers
 pub mod Barriers
+pub mod Beside
 pub mod Cloning
 pub mod Console
 pub mod Ending
@@ -25,6 +25,7 @@ pub mod Memory
 pub mod Numbers
 pub mod Sequences
 pub mod Signals
+pub mod TwoProcesses
 
 -- the call of this number; one that isn't there answers ENOSYS
 abbrev pub call_of : ℕ → Here → ℕ → CallDone
@@ -51,8 +52,8 @@ call_of number here t =
     else if number == 220 then clone here t
     else if number == 222 then mmap here t
     else if number == 226 then mprotect here t
-    else if number == 283 then membarrier here t
-    else if number == 293 then rseq here t
+    else if number == 283 then barrier_call here.beside here t
+    else if number == 293 then sequence_call here.beside here t
     else refused here t ENOSYS
 
 -- what the call of thread t does

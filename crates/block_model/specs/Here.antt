@@ -5,6 +5,7 @@ use Rattle.mach_types.specs.declared.sequences.Outcome.{Outcome}
 use Rattle.mach_types.specs.declared.threads.Saved.{Saved}
 use Rattle.mach_types.specs.declared.user_memory.Store.{Store}
 use Rattle.mach_types.specs.declared.user_memory.Write.{Write}
+use Rattle.block_model.specs.Beside.{Neighbour, or_in_segment, with_segment}
 use Rattle.block_model.specs.Record.{Kernel}
 use Rattle.mach_types.specs.Kernel.Pages.{permission_at, can_read, can_write}
 use Rattle.mach_types.specs.Kernel.Threads.{running_on}
@@ -19,7 +20,7 @@ pub record Barrier : Type 0 where
 -- the setting; the hart that is asked; the file of each thread; each byte of memory; the waiting stores of each hart, the oldest
 -- first; where the aligned 8 bytes begin that the hart has reserved; the harts whose barriers have requests pending at the hart, and
 -- whether one of these asks for a restart; the harts that the barrier of the hart's thread waits for, where the thread waits in one;
--- and the kernel's record
+-- the kernel's record; and what stands beside the process on its machine
 pub record Here : Type 0 where
   pub setting : Setting
   pub hart : ℕ
@@ -31,6 +32,7 @@ pub record Here : Type 0 where
   pub restart : Bool
   pub awaits : Option ℕ
   pub kernel : Kernel
+  pub beside : Option Neighbour
 
 -- a byte of memory, where it can be read
 abbrev pub memory_in : Kernel → (ℕ → ℕ) → ℕ → Option ℕ
@@ -46,6 +48,13 @@ writable_in k a = can_write (permission_at k.pages a)
 abbrev pub is_writable : Here → ℕ → Bool
 is_writable here = writable_in here.kernel
 
+-- the same for instructions, which reach the bytes of a segment too
+abbrev pub reached : Here → ℕ → Option ℕ
+reached here = with_segment here.beside (memory here)
+
+abbrev pub is_storable : Here → ℕ → Bool
+is_storable here = or_in_segment here.beside (is_writable here)
+
 -- the stores that wait on the hart
 abbrev pub waiting_here : Here → List Store
 waiting_here here = here.waiting here.hart
@@ -53,6 +62,10 @@ waiting_here here = here.waiting here.hart
 -- a byte as the hart sees it: its youngest waiting store that has it, or else memory's
 abbrev pub view : Here → ℕ → Option ℕ
 view here = seen_byte (waiting_here here) (memory here)
+
+-- the same as an instruction sees it
+abbrev pub view_of_all : Here → ℕ → Option ℕ
+view_of_all here = seen_byte (waiting_here here) (reached here)
 
 -- the thread that runs on the hart
 abbrev pub runs : Here → Option ℕ

@@ -133,4 +133,5 @@ here_in_history s before h = record {
   restart = restart h before;
   awaits = awaits h before;
   kernel = kernel s before;
+  beside = None;
 }

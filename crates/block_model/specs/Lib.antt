@@ -1,5 +1,6 @@
 pub mod Acts
 pub mod Barriers
+pub mod Beside
 pub mod Calls
 pub mod Choosing
 pub mod Deciding
@@ -24,6 +25,8 @@ pub mod Sequences
 pub mod Setting
 pub mod Sights
 pub mod Solo
+pub mod Standing
+pub mod Stands
 pub mod Stretches
 pub mod Swaps
 pub mod Tables

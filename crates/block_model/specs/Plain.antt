@@ -71,6 +71,7 @@ here_in_plain s m h = record {
   restart = m.restart h;
   awaits = m.awaits h;
   kernel = m.kernel;
+  beside = None;
 }
 
 -- the machine after an event of hart h that did this

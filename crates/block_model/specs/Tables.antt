@@ -7,8 +7,10 @@ use Rattle.mach_types.specs.declared.threads.ThreadState.TheVariants.{Running}
 use Rattle.mach_types.specs.Kernel.Areas.{is_area_of}
 use Rattle.mach_types.specs.declared.sequences.Area.{Area}
 use Rattle.mach_types.specs.Kernel.Threads.{Threads, IsThreads, state_of, is_ready, is_live, numbers, times}
-use Rattle.mach_types.specs.Kernel.Scheduling.{Scheduling, is_of}
+use Rattle.mach_types.specs.Kernel.Scheduling.{Scheduling, affinity_of, has_hart, is_of}
 use Rattle.mach_types.specs.Kernel.Signals.{Signalling}
+use Rattle.block_model.specs.Ids.{AreIdsApart}
+use Rattle.block_model.specs.Record.{Kernel}
 
 -- the state of a thread that runs on hart h
 abbrev pub on : ℕ → ThreadState
@@ -32,3 +34,15 @@ pub record AreOfLive (ts : Threads) (areas : List (ℕ × Area)) : Type 0 where
 -- the threads of which a mask and pending signals are kept are the live ones, in the same order
 abbrev pub AreSignalsOfLive : Threads → Signalling → Type 0
 AreSignalsOfLive ts g = map (λ th. th.tid) g.threads ≡ numbers ts.live
+
+-- each live thread may run on some hart of the machine
+abbrev pub AllAllowed : ℕ → Threads → Scheduling → Type 0
+AllAllowed harts ts sc =
+    0 < harts → (t : ℕ) → is_live t ts ≡ true → (h : ℕ) × (h < harts) × (has_hart (affinity_of t sc) h ≡ true)
+
+-- what the kernel's record holds for threads: ids for those that run, on a machine of at most 8 harts, as many as
+-- there are ids; and areas and signals for live ones alone
+pub record IsHeld (harts : ℕ) (k : Kernel) : Type 0 where
+  pub ids : harts ≤ 8 → AreIdsApart k.threads k.ids
+  pub areas : AreOfLive k.threads k.areas
+  pub signals : AreSignalsOfLive k.threads k.signals

@@ -14,7 +14,7 @@ use Rattle.rv_inst.specs.declared.effects.Effect.TheVariants.{Call}
 use Rattle.block_model.specs.Deciding.{event}
 use Rattle.block_model.specs.Events.Exec.{next_effect, next_fault}
 use Rattle.block_model.specs.Events.Take.{done_take}
-use Rattle.block_model.specs.Here.{Here, view}
+use Rattle.block_model.specs.Here.{Here, view_of_all}
 use Rattle.block_model.specs.History.{History, here_in_history, running}
 use Rattle.block_model.specs.Instruction as instruction
 use Rattle.block_model.specs.Setting.{Setting}
@@ -54,7 +54,7 @@ pub record Answer : Type 0 where
   pub reserved : Option ℕ
 
 abbrev pub answer_in : Here → Answer
-answer_in here = record { seen = view here; reserved = here.reserved }
+answer_in here = record { seen = view_of_all here; reserved = here.reserved }
 
 -- whether a choice is to execute an instruction
 abbrev pub is_exec : Choice → Bool

@@ -21,6 +21,7 @@ use Rattle.rv_inst.specs.Execution.{instruction_gate}
 use Rattle.draw_policies.specs.Acting.{can_act}
 use Rattle.drawings.specs.Scenes.{is_able, may_begin, startable}
 use Rattle.block_model.specs.Calls.Answers.{call_number}
+use Rattle.block_model.specs.Beside.{Neighbour}
 use Rattle.block_model.specs.Calls.Memory.{lies_waiting_on, taken_by}
 use Rattle.block_model.specs.Deciding.{history}
 use Rattle.block_model.specs.Events.Exec.{is_held, next_effect, next_fault, others_gate, refusal_exec, refusal_exec_by}
@@ -43,9 +44,11 @@ use Rattle.drawn_runs.proofs.ReadyNumbers.{ready_is_listed}
 abbrev NoneWaits : Here → Type 0
 NoneWaits here = (k : ℕ) → k < here.setting.limits.harts → here.waiting k ≡ []
 
-none_lies : (r : PageRun) (stores : ℕ → List Store) (n : ℕ) → ((k : ℕ) → k < n → stores k ≡ []) → lies_waiting_on r stores n ≡ false
-none_lies r stores zero none = refl
-none_lies r stores (suc n) none = rw (none n (omega arith)) (none_lies r stores n (λ k below. none k (omega arith)))
+none_lies : (beside : Option Neighbour) (r : PageRun) (stores : ℕ → List Store) (n : ℕ)
+    → ((k : ℕ) → k < n → stores k ≡ []) → lies_waiting_on beside r stores n ≡ false
+none_lies beside r stores zero none = refl
+none_lies beside r stores (suc n) none =
+    rw (none n (omega arith)) (none_lies beside r stores n (λ k below. none k (omega arith)))
 
 off_by_second : (a b : Bool) → b ≡ false → (a && b) ≡ false
 off_by_second true b is = is
@@ -60,7 +63,7 @@ exec_free : (here : Here) (t : ℕ) → runs here ≡ Some t → here.awaits ≡
 exec_free here t busy apart own none =
     let held : is_held here t ≡ false =
     off_by_second (not (is_inside_here here t)) _
-    (none_lies (taken_by (call_number here t) here t) here.waiting here.setting.limits.harts none) in
+    (none_lies here.beside (taken_by (call_number here t) here t) here.waiting here.setting.limits.harts none) in
     let effect = next_effect here t in
     let faults = is_some (next_fault here t) in
     let gate : instruction_gate (length (waiting_here here)) effect faults ≡ None =

@@ -18,7 +18,7 @@ use Rattle.block_model.specs.Events.{done_of}
 use Rattle.block_model.specs.Events.Exec.{next_effect}
 use Rattle.rv_inst.specs.Accesses.{reserved_by}
 use Rattle.block_model.specs.Footprints.{bytes_of_all}
-use Rattle.block_model.specs.Here.{Done, Here, runs, view, waiting_here}
+use Rattle.block_model.specs.Here.{Done, Here, runs, view_of_all, waiting_here}
 use Rattle.block_model.specs.History.{lost_after}
 use Rattle.block_model.specs.PlainEvents.{is_plain, reserved_exec, reserved_of}
 use Rattle.block_model.specs.Setting.{Setting}
@@ -51,7 +51,7 @@ outcome_reserves f regs pc r effect.Misaligned = refl
 
 effect_reserves : (here : Here) (t : ℕ) (o : Option Effect) → (plain_effect here t o).reserved ≡ unwrap_or (option_and_then reserved_by o) here.reserved
 effect_reserves here t None = refl
-effect_reserves here t (Some e) = outcome_reserves (view here) (here.file t).file (here.file t).pc here.reserved e
+effect_reserves here t (Some e) = outcome_reserves (view_of_all here) (here.file t).file (here.file t).pc here.reserved e
 
 drain_reserves : (r : Option ℕ) (ws : List Store) → (plain_drain r ws).reserved ≡ r
 drain_reserves r [] = refl

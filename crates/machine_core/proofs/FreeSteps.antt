@@ -1,12 +1,12 @@
 -- A hart goes freely where a thread runs that waits in no barrier, and its next instruction sets a register and does nothing else.
 use Rattle.std.proofs.Common.{◌≡◌, ℕ, ◌&&◌, length, sym, ap, ◌∙◌, refl, not, Bool, true, false, is_none, is_some, Option, Some, None}
 use Rattle.std.specs.Option.{option_map, option_map_or, option_or}
-use Rattle.machine_core.proofs.Common.{HartState, Here, is_writable, memory, runs, sets_register, thread}
+use Rattle.machine_core.proofs.Common.{HartState, Here, runs, sets_register, thread}
 use Rattle.rv_inst.specs.Execution.{instruction_gate}
 use Rattle.rv_inst.specs.declared.effects.Effect.{Effect}
 use Rattle.block_model.specs.Events.Exec.{is_held, next_effect as effect_at, next_fault as fault_at, others_gate, refusal_exec_by}
 use Rattle.block_model.specs.Events.Preempt.{unless_in_barrier}
-use Rattle.block_model.specs.Here.{waiting_here}
+use Rattle.block_model.specs.Here.{is_storable, reached, waiting_here}
 use Rattle.block_model.specs.Instruction.{fault_by, fetched, next_effect}
 use Rattle.block_model.specs.Sights.{is_local_on}
 use Rattle.process.proofs.Laws.{gate_of_free, no_fault_of_free, others_of_free}
@@ -30,7 +30,7 @@ module _ (here : Here) (t : ℕ) where
   is_local = option_map_or sets_register (next_effect here.setting.program.pages (here.file t)) false
 
   local_is : is_local ≡ is_local_on here (Some t)
-  local_is = next_local (memory here) (is_writable here) here.setting.program.pages (here.file t)
+  local_is = next_local (reached here) (is_storable here) here.setting.program.pages (here.file t)
 
   by_barrier : (waits : Option ℕ) (b : Bool) → is_local ≡ b
       → (b && true && not (is_some waits))
@@ -39,7 +39,7 @@ module _ (here : Here) (t : ℕ) where
   by_barrier (Some left) true sets = refl
   by_barrier None true sets =
       let gate : instruction_gate (length (waiting_here here)) (effect_at here t) (is_some (fault_at here t)) ≡ None =
-      gate_is_open (length (waiting_here here)) (memory here) (is_writable here) (here.file t).pc (fetched here.setting.program.pages (here.file t).pc) (effect_at here t) sets in
+      gate_is_open (length (waiting_here here)) (reached here) (is_storable here) (here.file t).pc (fetched here.setting.program.pages (here.file t).pc) (effect_at here t) sets in
       let none : option_or (instruction_gate (length (waiting_here here)) (effect_at here t) (is_some (fault_at here t))) (others_gate (is_held here t) (effect_at here t)) ≡ None =
       ap (λ g. option_or g (others_gate (is_held here t) (effect_at here t))) gate ∙ sym (others_of_free (is_held here t) (effect_at here t) sets) in
       rw none refl

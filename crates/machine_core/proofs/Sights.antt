@@ -1,13 +1,14 @@
 -- What a scheduler sees of a hart, told by the hart's state.
 use Rattle.std.proofs.Common.{◌≡◌, ℕ, ◌&&◌, List, sym, ap, ◌∙◌, refl, not, Bool, true, false, is_none, is_some, Option, Some, None}
 use Rattle.std.specs.Option.{option_and_then, option_map, option_map_or}
-use Rattle.machine_core.proofs.Common.{HartState, Here, ImagePage, Saved, Sight, is_writable, memory, runs, sets_register}
+use Rattle.machine_core.proofs.Common.{HartState, Here, ImagePage, Saved, Sight, runs, sets_register}
 use Rattle.mach_types.specs.declared.events.Tid.{Tid}
 use Rattle.mach_types.specs.Kernel.Signals.{next_for}
 use Rattle.rv_inst.proofs.Laws.{local-rows}
 use Rattle.rv_inst.specs.Local.{is_register_only}
 use Rattle.rv_inst.specs.Meaning.{meaning}
 use Rattle.rv_inst.specs.declared.instruction.Inst.{Inst}
+use Rattle.block_model.specs.Here.{is_storable, reached}
 use Rattle.block_model.specs.Instruction.{fault_by, fetched, instruction_of, next_effect, next_fault, next_instruction}
 use Rattle.block_model.specs.Sights.{effect_here, effect_on, fault_here, fault_on, is_deliverable_on, is_local_on, thread}
 use Rattle.process.specs.Delivering.{next_on}
@@ -32,16 +33,16 @@ pub no_effect_read : (here : Here) (x : HartState) (n k credit : ℕ) → x ≡ 
 no_effect_read here x n k credit own idle is on = no_effect_by here (runs here) idle (is ∙ ap (λ (y : HartState). not (is_some y.running)) own) on
 
 -- the fault of the next instruction, read from the file of a hart with a thread; an idle hart makes none
-fault_if : (here : Here) (o : Option ℕ) → is_some (option_map thread o) ≡ true → next_fault here.setting.program.pages (memory here) (is_writable here) (file_on here o) ≡ fault_on here o
+fault_if : (here : Here) (o : Option ℕ) → is_some (option_map thread o) ≡ true → next_fault here.setting.program.pages (reached here) (is_storable here) (file_on here o) ≡ fault_on here o
 fault_if here None busy = cc
 fault_if here (Some t) busy = refl
 
-pub fault_read : (here : Here) (x : HartState) (n k credit : ℕ) (byte : ℕ → Option ℕ) (can_write : ℕ → Bool) → x ≡ hart_in here n k credit → byte ≡ memory here → can_write ≡ is_writable here
+pub fault_read : (here : Here) (x : HartState) (n k credit : ℕ) (byte : ℕ → Option ℕ) (can_write : ℕ → Bool) → x ≡ hart_in here n k credit → byte ≡ reached here → can_write ≡ is_storable here
     → is_some x.running ≡ true → next_fault here.setting.program.pages byte can_write (file_of x) ≡ fault_here here
 fault_read here x n k credit byte can_write is bytes writable busy =
     ap (λ (y : HartState). next_fault here.setting.program.pages byte can_write (file_of y)) is
     ∙ ap (λ b. next_fault here.setting.program.pages b can_write (file_on here (runs here))) bytes
-    ∙ ap (λ w. next_fault here.setting.program.pages (memory here) w (file_on here (runs here))) writable
+    ∙ ap (λ w. next_fault here.setting.program.pages (reached here) w (file_on here (runs here))) writable
     ∙ fault_if here (runs here) (sym (ap (λ (y : HartState). is_some y.running) is) ∙ busy)
 
 no_fault_by : (here : Here) (o : Option ℕ) (idle : Bool) → idle ≡ not (is_some (option_map thread o)) → idle ≡ true → None ≡ fault_on here o
@@ -71,7 +72,7 @@ next_local byte writable pages f = row_local byte writable (fetched pages f.pc) 
 
 local_by : (here : Here) (o : Option ℕ) → (is_some (option_map thread o) && option_map_or sets_register (next_effect here.setting.program.pages (file_on here o)) false) ≡ is_local_on here o
 local_by here None = refl
-local_by here (Some t) = next_local (memory here) (is_writable here) here.setting.program.pages (here.file t)
+local_by here (Some t) = next_local (reached here) (is_storable here) here.setting.program.pages (here.file t)
 
 pub local_read : (here : Here) (x : HartState) (n k credit : ℕ) → x ≡ hart_in here n k credit → (is_some x.running && option_map_or sets_register (next_effect here.setting.program.pages (file_of x)) false) ≡ is_local_on here (runs here)
 local_read here x n k credit is = ap (λ (y : HartState). is_some y.running && option_map_or sets_register (next_effect here.setting.program.pages (file_of y)) false) is ∙ local_by here (runs here)

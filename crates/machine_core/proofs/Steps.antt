@@ -1,5 +1,5 @@
 -- One step: what is decided at a place, and a machine that made the event.
-use Rattle.std.proofs.Common.{◌≡◌, ℕ, ◌<◌, [], ◌∷◌, ◌++◌, length, sym, ap, ◌∙◌, subst, Option, Some, None, Ok, Err, Result, IfOk}
+use Rattle.std.proofs.Common.{◌≡◌, ℕ, ◌<◌, [], ◌∷◌, ◌++◌, length, sym, ap, ◌∙◌, subst, arith, Option, Some, None, Ok, Err, Result, IfOk}
 use Rattle.std.proofs.lemmas.Result.{IfOk-at_ok}
 use Rattle.mach_types.specs.Events.{choice_of}
 use Rattle.machine_core.proofs.Common.{Choice, Entry, Hart, Inside, IsBlockRun, IsMachine, Parts, Seen, seen}
@@ -8,7 +8,8 @@ use Rattle.block_model.specs.declared.refusals.Refused.TheVariants.{NotEnabled}
 use Rattle.block_model.specs.Deciding.{decide, entry_in, history, unless}
 use Rattle.block_model.specs.Events.{done_of, refusal_of}
 use Rattle.block_model.specs.Plain.{apply, here_of, plain_after, plain_seen}
-use Rattle.block_model.proofs.Laws.{at_kind, decided_is, next_event, run_on}
+use Rattle.block_model.specs.Stands.{stand_of}
+use Rattle.block_model.proofs.Laws.{at_kind, decided_is, next_event, plain_made, run_on, standing}
 use Rattle.process.specs.Refinement.{IsAfter, IsPlace, IsTied, answer_to, answered}
 
 answer_ok : (made e : Entry) (o : Option Why) → answered made o ≡ Ok e → unless made o ≡ Ok e
@@ -19,15 +20,28 @@ answer_err : (made : Entry) (why : Why) (o : Option Why) → answered made o ≡
 answer_err made why None is = cc
 answer_err made why (Some found) is = cc
 
+-- a block run, and the parts stand at the place that it has come to
+pub record IsLogPlace (v : Seen) (m : Parts) (h : ℕ) : Type 0 where
+  pub run : IsBlockRun v.setting v.log
+  pub at : IsPlace (stand_of v) m h
+
+-- what is decided there
+decided_at : (v : Seen) (m : Parts) (h : ℕ) (c : Choice) → IsLogPlace v m h
+    → decide v.setting (history v.setting v.log) h c ≡ unless (entry_in c (here_of v h)) (refusal_of c (here_of v h))
+decided_at v m h c place =
+    let made = plain_made v place.run in
+    let room = place.at.room in
+    at_kind v h c place.run place.at.goes (omega (arith, made, room)) place.at.lt
+
 -- a choice that is refused
-pub refused : (v : Seen) (m : Parts) (h : ℕ) (c : Choice) (r : Result Entry Why) (why : Why) → IsPlace v m h → r ≡ answer_to v h c → r ≡ Err why → decide v.setting (history v.setting v.log) h c ≡ Err (NotEnabled why)
+pub refused : (v : Seen) (m : Parts) (h : ℕ) (c : Choice) (r : Result Entry Why) (why : Why) → IsLogPlace v m h → r ≡ answer_to (stand_of v) h c → r ≡ Err why → decide v.setting (history v.setting v.log) h c ≡ Err (NotEnabled why)
 refused v m h c r why place answer is =
-    at_kind v h c place.run place.goes place.room place.lt ∙ answer_err (entry_in c (here_of v h)) why (refusal_of c (here_of v h)) (sym answer ∙ is)
+    decided_at v m h c place ∙ answer_err (entry_in c (here_of v h)) why (refusal_of c (here_of v h)) (sym answer ∙ is)
 
 -- a choice that is allowed
-pub allowed : (v : Seen) (m : Parts) (h : ℕ) (c : Choice) (r : Result Entry Why) (e : Entry) → IsPlace v m h → r ≡ answer_to v h c → r ≡ Ok e → decide v.setting (history v.setting v.log) h c ≡ Ok e
+pub allowed : (v : Seen) (m : Parts) (h : ℕ) (c : Choice) (r : Result Entry Why) (e : Entry) → IsLogPlace v m h → r ≡ answer_to (stand_of v) h c → r ≡ Ok e → decide v.setting (history v.setting v.log) h c ≡ Ok e
 allowed v m h c r e place answer is =
-    at_kind v h c place.run place.goes place.room place.lt ∙ answer_ok (entry_in c (here_of v h)) e (refusal_of c (here_of v h)) (sym answer ∙ is)
+    decided_at v m h c place ∙ answer_ok (entry_in c (here_of v h)) e (refusal_of c (here_of v h)) (sym answer ∙ is)
 
 -- a choice that is made
 pub record IsStep (v : Seen) (h : Hart) (c : Choice) (e : Entry) (m' : Parts) : Type 0 where
@@ -37,7 +51,7 @@ pub record IsStep (v : Seen) (h : Hart) (c : Choice) (e : Entry) (m' : Parts) : 
   pub run : IsBlockRun v.setting (v.log ++ e ∷ [])
   pub tied : IsTied v.setting (plain_after v.setting (v.log ++ e ∷ [])) m'
 
-pub stepped : (v : Seen) (m m' : Parts) (h : Hart) (c : Choice) (r : Result Entry Why) (e : Entry) → IsPlace v m h.0 → r ≡ answer_to v h.0 c → r ≡ Ok e → IsAfter v h.0 (done_of c (here_of v h.0)) m m' → IsStep v h c e m'
+pub stepped : (v : Seen) (m m' : Parts) (h : Hart) (c : Choice) (r : Result Entry Why) (e : Entry) → IsLogPlace v m h.0 → r ≡ answer_to (stand_of v) h.0 c → r ≡ Ok e → IsAfter (stand_of v) h.0 (done_of c (here_of v h.0)) m m' → IsStep v h c e m'
 stepped v m m' h c r e place answer is after =
     let decided = allowed v m h.0 c r e place answer is in
     let of = decided_is v.setting (history v.setting v.log) h.0 c e decided in
@@ -53,17 +67,20 @@ stepped v m m' h c r e place answer is after =
       tied = subst (λ p. IsTied v.setting p m') (sym next) after.tied;
     }
 
-pub stepped_so : (v : Seen) (m m' : Parts) (h : Hart) (c : Choice) (r : Result Entry Why) (e : Entry) → IsPlace v m h.0 → r ≡ answer_to v h.0 c → r ≡ Ok e
-    → IfOk r (λ _. IsAfter v h.0 (done_of c (here_of v h.0)) m m') → IsStep v h c e m'
-stepped_so v m m' h c r e place answer is after = stepped v m m' h c r e place answer is (IfOk-at_ok (λ _. IsAfter v h.0 (done_of c (here_of v h.0)) m m') is after)
+pub stepped_so : (v : Seen) (m m' : Parts) (h : Hart) (c : Choice) (r : Result Entry Why) (e : Entry) → IsLogPlace v m h.0 → r ≡ answer_to (stand_of v) h.0 c → r ≡ Ok e
+    → IfOk r (λ _. IsAfter (stand_of v) h.0 (done_of c (here_of v h.0)) m m') → IsStep v h c e m'
+stepped_so v m m' h c r e place answer is after = stepped v m m' h c r e place answer is (IfOk-at_ok (λ _. IsAfter (stand_of v) h.0 (done_of c (here_of v h.0)) m m') is after)
 
 -- the place of a machine whose run goes on
-pub place_of : (m : Inside) (h : ℕ) → IsMachine m → m.parts.ended ≡ None → length m.log.items < m.limits.steps → h < m.limits.harts → IsPlace (seen m) m.parts h
+pub place_of : (m : Inside) (h : ℕ) → IsMachine m → m.parts.ended ≡ None → length m.log.items < m.limits.steps → h < m.limits.harts → IsLogPlace (seen m) m.parts h
 place_of m h machine goes room lt = record {
   run = machine.run;
-  tied = machine.tied;
-  limits = machine.limits;
-  goes = sym machine.tied.ended ∙ goes;
-  room = room;
-  lt = lt;
+  at = record {
+    stands = standing (seen m) machine.run;
+    tied = machine.tied;
+    limits = machine.limits;
+    goes = sym machine.tied.ended ∙ goes;
+    room = let made = plain_made (seen m) machine.run in omega (arith, made, room);
+    lt = lt;
+  };
 }

@@ -9,17 +9,18 @@ use Rattle.mach_types.specs.declared.limits.End.{End}
 use Rattle.block_model.specs.Choosing.{IsChosen, Luck, all_chosen, has_ended}
 use Rattle.block_model.specs.Deciding.{history, over_at}
 use Rattle.block_model.specs.History.{History, awaits, events}
+use Rattle.block_model.specs.Stands.{stand_of}
 use Rattle.block_model.specs.Stretches.{IsStretchOf, Stretch, advanced, appended, stepped}
 use Rattle.block_model.proofs.Laws.{HasStayed, Steps, events_few, is_lent, length-history, ran_few, stays, steps_of, worked_keeps}
 use Rattle.process.specs.Harts.{credit_of, file_of, file_on, hart_at}
-use Rattle.process.specs.Refinement.{HasCode, IsPlace}
+use Rattle.process.specs.Refinement.{HasCode, IsAlone}
 use Rattle.machine_core.specs.Stretches.{executed, taken_in}
 use Rattle.machine_core.proofs.AdvanceAnswers.{all_of}
 use Rattle.machine_core.proofs.StretchSteps.{AreAllOn, IsOnWay, all_on, own_is, settled_alike}
 use Rattle.machine_core.proofs.ChoiceCredits.{credit_read}
 use Rattle.machine_core.proofs.Readings.{hart_read, here_read, over_read}
 use Rattle.machine_core.proofs.MachineCredits.{IsSettled, machine_settled}
-use Rattle.machine_core.proofs.Steps.{place_of}
+use Rattle.machine_core.proofs.Steps.{IsLogPlace, place_of}
 
 -- the hart of a stretch is one of the machine's
 pub of_machine : (m : Inside) (h : Hart) (l : Stretch) → IsStretchOf (setting_of m) m.seed h.0 m.log.items l → h.0 < m.limits.harts
@@ -177,8 +178,12 @@ pub appended_is : (s : Setting) (h : ℕ) (before : History) (l : Stretch) → e
 appended_is s h before l some goes same = rw (some, goes, eq-eqb (events h before) l.events same) refl
 
 -- the place of a machine whose run hasn't ended
-pub place_open : (m : Inside) (h : ℕ) → IsMachine m → has_ended (setting_of m) (past_of m) ≡ false → h < m.limits.harts → IsPlace (seen m) m.parts h
+pub place_open : (m : Inside) (h : ℕ) → IsMachine m → has_ended (setting_of m) (past_of m) ≡ false → h < m.limits.harts → IsLogPlace (seen m) m.parts h
 place_open m h machine goes lt = place_of m h machine (goes_on m machine goes) (has_room m goes) lt
 
+-- whose process is alone
+pub is_alone : (m : Inside) → IsAlone m.code (stand_of (seen m))
+is_alone m = record { none = refl; pages = refl }
+
 pub code_open : (m : Inside) (h : ℕ) → IsMachine m → has_ended (setting_of m) (past_of m) ≡ false → h < m.limits.harts → HasCode m.code m.parts h
-code_open m h machine goes lt = record { seen = seen m; place = place_open m h machine goes lt; pages = refl }
+code_open m h machine goes lt = record { stand = stand_of (seen m); place = (place_open m h machine goes lt).at; alone = is_alone m }

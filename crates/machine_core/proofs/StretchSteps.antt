@@ -30,14 +30,15 @@ use Rattle.block_model.specs.Deciding.{entry_in, history, over_at}
 use Rattle.block_model.specs.Events.{done_of, refusal_of}
 use Rattle.block_model.specs.Events.Exec.{by_outcome, is_held, next_effect as effect_at, next_fault as fault_at, others_gate, refusal_exec_by}
 use Rattle.block_model.specs.Events.Preempt.{unless_in_barrier}
-use Rattle.block_model.specs.Here.{Here, is_writable, memory, runs, waiting_here}
+use Rattle.block_model.specs.Here.{Here, is_storable, is_writable, memory, reached, runs, waiting_here}
 use Rattle.block_model.specs.Instruction.{fault_by, fetched, next_effect}
 use Rattle.block_model.specs.Plain.{here_of, plain_after, plain_over, plain_seen}
 use Rattle.block_model.specs.Sights.{is_local_on, sight_in, thread}
+use Rattle.block_model.specs.Stands.{stand_of}
 use Rattle.block_model.specs.Stretches.{Stretch, advanced, file_after, goes_on, longest, stepped}
-use Rattle.block_model.proofs.Laws.{Steps, none_of_both, length-history, same_here, same_state}
+use Rattle.block_model.proofs.Laws.{Steps, none_of_both, length-history, plain_made, same_here, same_state, standing}
 use Rattle.process.specs.Harts.{credit_of, file_of, file_on, hart_at}
-use Rattle.process.specs.Refinement.{IsAfter, IsPlace, answer_to, answered}
+use Rattle.process.specs.Refinement.{IsAfter, answer_to, answered}
 use Rattle.machine_core.specs.Credits.{credited, followed, generators_after, is_followed, is_picked}
 use Rattle.process.specs.EventOutcomes.{entry_from}
 use Rattle.process.specs.Planned.{IsPlanned}
@@ -45,7 +46,7 @@ use Rattle.machine_core.proofs.ChoiceCredits.{choice_where, pick_read}
 use Rattle.process.proofs.Laws.{changed_as, entry_exec, get_set_other, get_set_same, in_list, none_beside, performing, plain_next, plain_own, runs_there, saved_plain, thread_is}
 use Rattle.machine_core.proofs.MachineCredits.{IsSettled, mapped_itself, not_ended, settled_next, tied_with}
 use Rattle.machine_core.proofs.Sights.{next_local}
-use Rattle.machine_core.proofs.Steps.{stepped as stepped_by}
+use Rattle.machine_core.proofs.Steps.{IsLogPlace, stepped as stepped_by}
 
 -- an instruction that sets a register and the pc, and does nothing else
 pub record IsLocal (pages : List ImagePage) (f : Saved) : Type 0 where
@@ -98,14 +99,17 @@ abbrev at_log : Setting → ℕ → List Entry → Seen
 at_log s seed log = record { setting = s; seed = seed; log = log }
 
 place_on : (s : Setting) (seed : ℕ) (log : List Entry) (m : Parts) (words : List Generator) (h : Hart) (t : Tid) (x : HartState) → IsOnWay s seed log m words h t x → length log < s.limits.steps
-    → IsPlace (at_log s seed log) m h.0
+    → IsLogPlace (at_log s seed log) m h.0
 place_on s seed log m words h t x way room = record {
   run = way.run;
-  tied = way.settled.tied;
-  limits = way.limits;
-  goes = sym way.settled.tied.ended ∙ way.goes;
-  room = room;
-  lt = way.lt;
+  at = record {
+    stands = standing (at_log s seed log) way.run;
+    tied = way.settled.tied;
+    limits = way.limits;
+    goes = sym way.settled.tied.ended ∙ way.goes;
+    room = let made = plain_made (at_log s seed log) way.run in omega (arith, made, room);
+    lt = way.lt;
+  };
 }
 
 -- the hart's state is the plain machine's
@@ -134,7 +138,7 @@ waits_is s seed log m words h t x way = sym (ap (λ (y : HartState). y.waits) (o
 -- the next instruction there, which makes no fault and may be executed
 fault_by_effect : (here : Here) (t : ℕ) (rd value to : ℕ) → effect_at here t ≡ Some (effect.Next rd value to) → fault_at here t ≡ None
 fault_by_effect here t rd value to is =
-    ap (λ o. fault_by (memory here) (is_writable here) (here.file t).pc (fetched here.setting.program.pages (here.file t).pc) o) is
+    ap (λ o. fault_by (reached here) (is_storable here) (here.file t).pc (fetched here.setting.program.pages (here.file t).pc) o) is
 
 free_by_effect : (here : Here) (t : ℕ) (rd value to : ℕ) → runs here ≡ Some t → here.awaits ≡ None → effect_at here t ≡ Some (effect.Next rd value to) → refusal_of asked.Exec here ≡ None
 free_by_effect here t rd value to at none is =
@@ -168,7 +172,7 @@ with_state m h y = record m { harts = with_item m.harts h y }
 record IsMoved (v : Seen) (m : Parts) (h : Hart) (t : Tid) (x : HartState) (rd value to : ℕ) : Type 0 where
   pub free : refusal_of asked.Exec (here_of v h.0) ≡ None
   pub entry : entry_in asked.Exec (here_of v h.0) ≡ executed h t x.pc
-  pub after : IsAfter v h.0 (done_of asked.Exec (here_of v h.0)) m (with_state m h.0 (moved x rd value to))
+  pub after : IsAfter (stand_of v) h.0 (done_of asked.Exec (here_of v h.0)) m (with_state m h.0 (moved x rd value to))
 
 move : (s : Setting) (seed : ℕ) (log : List Entry) (m : Parts) (words : List Generator) (h : Hart) (t : Tid) (x : HartState) (rd value to : ℕ)
     → IsOnWay s seed log m words h t x → length log < s.limits.steps → next_effect s.program.pages (file_of x) ≡ Some (effect.Next rd value to)
@@ -181,22 +185,23 @@ move s seed log m words h t x rd value to way room is =
     let at = runs_is s seed log m words h t x way in
     let its : effect_at here t.0 ≡ Some e = sym (ap (next_effect s.program.pages) (file_is s seed log m words h t x way)) ∙ is in
     let free = free_by_effect here t.0 rd value to at (waits_is s seed log m words h t x way) its in
-    let plan : IsPlanned v h.0 (plain_next e) = record {
+    let plan : IsPlanned (stand_of v) h.0 (plain_next e) = record {
       thread = t.0;
       at = at;
       effect = sym its;
       fault = sym (fault_by_effect here t.0 rd value to its);
       sizes = tt;
       free = free;
+      own = inl refl;
     } in
-    let got : x ≡ get_or m.harts.items h.0 x = same_Some x (get_or m.harts.items h.0 x) (sym way.there ∙ slice_get-get_or m.harts.items h.0 x (in_list v m h.0 place)) in
-    let done = performing v m h.0 x e place plan refl got in
+    let got : x ≡ get_or m.harts.items h.0 x = same_Some x (get_or m.harts.items h.0 x) (sym way.there ∙ slice_get-get_or m.harts.items h.0 x (in_list (stand_of v) m h.0 place.at)) in
+    let done = performing (stand_of v) m h.0 x e place.at plan refl got in
     let none : done.outcome.entered ≡ [] = ap (λ (o : Outcome). o.entered) (sym done.same) in
     let y = moved x rd value to in
     record {
       free = free;
       entry = sym (entry_exec (credit_of m.harts.items h.0) s (plain_after s log) h x (own_is s seed log m words h t x way)) ∙ entry_busy h x.running t x.pc way.busy;
-      after = changed_as v h.0 asked.Exec (by_outcome here t.0 done.outcome) m (with_state m h.0 y) y place free done.done (record {
+      after = changed_as (stand_of v) h.0 asked.Exec (by_outcome here t.0 done.outcome) m (with_state m h.0 y) y place.at free done.done (record {
         own = plain_own (credit_of m.harts.items h.0) s (plain_after s log) h.0 t.0 done.outcome x y done.own at
             (same_buffer x rd value to ∙ ap (λ (o : Outcome). record (hart_after x o) { ran = x.ran + 1; events = x.events + 1 }) done.same);
         harts = none_beside h.0 (by_outcome here t.0 done.outcome) (set m.harts.items h.0 y) (record { none_begun = refl; none_taken = refl }) (ap all_stored none);
@@ -204,7 +209,7 @@ move s seed log m words h t x rd value to way room is =
         readable = way.settled.tied.readable;
         tables = way.settled.tied.tables;
         ids = λ k u ne at. refl;
-        saved = saved_plain (plain_seen v).file t.0 (record { file = done.outcome.regs; pc = done.outcome.pc }) h m.kernel.threads way.settled.tied.table (runs_there v m h t.0 place at) way.settled.tied.saved;
+        saved = saved_plain (plain_seen v).file t.0 (record { file = done.outcome.regs; pc = done.outcome.pc }) h m.kernel.threads way.settled.tied.table (runs_there (stand_of v) m h t.0 place.at at) way.settled.tied.saved;
         table = way.settled.tied.table;
         ended = done.ended;
       });
@@ -284,7 +289,7 @@ one_on s seed log m words h t x a way room file credit goes =
     let place = place_on s seed log m words h t x way room in
     let e = executed h t x.pc in
     let y1 = moved x i.rd i.value i.to in
-    let answer : Ok e ≡ answer_to v h.0 asked.Exec = ap Ok (sym is.entry) ∙ ap (answered (entry_in asked.Exec (here_of v h.0))) (sym is.free) in
+    let answer : Ok e ≡ answer_to (stand_of v) h.0 asked.Exec = ap Ok (sym is.entry) ∙ ap (answered (entry_in asked.Exec (here_of v h.0))) (sym is.free) in
     let step = stepped_by v m (with_state m h.0 y1) h asked.Exec (Ok e) e place answer refl is.after in
     let going = not_ended_on s seed log m words h t x way room in
     -- what is seen

@@ -5,10 +5,11 @@ pub use Rattle.block_model.specs.Events.Exec.{by_call, by_outcome}
 pub use Rattle.block_model.specs.Here.{Done, Here, is_writable, memory, runs}
 pub use Rattle.block_model.specs.History.{file_among}
 pub use Rattle.block_model.specs.Ids.{id_of, next_id}
-pub use Rattle.block_model.specs.Plain.{Plain, here_in_plain, here_of, plain_seen}
+pub use Rattle.block_model.specs.Plain.{Plain, here_in_plain}
 pub use Rattle.block_model.specs.Sequences.{area_here, files_interrupted, interruption_here}
-pub use Rattle.block_model.specs.Setting.{Seen, Setting}
+pub use Rattle.block_model.specs.Setting.{Setting}
 pub use Rattle.block_model.specs.Sights.{thread}
+pub use Rattle.block_model.specs.Stands.{Stand, here_at}
 pub use Rattle.block_model.specs.Tables.{IsTables}
 pub use Rattle.elf_load.specs.declared.image.ImagePage.{ImagePage}
 pub use Rattle.hart_state.specs.State.{exec_refusal}

@@ -8,13 +8,13 @@ use Rattle.std.proofs.Math.Seq.{take-length}
 use Rattle.std.proofs.lemmas.List.Folds.{list_any_more}
 use Rattle.std.proofs.lemmas.Option.{slice_get-get_or}
 use Rattle.mach_types.proofs.Laws.{eqb_other, eqb_same, filtered_other, found_at_end, harts_that-fits, not_at_end}
-use Rattle.process.proofs.Common.{HartState, IsPlace, IsTables, IsTied, Parts, Plain, Seen, Setting, credit_of, hart_at, harts_that, here_in_plain, holds, id_on, plain_seen, thread}
+use Rattle.process.proofs.Common.{HartState, IsPlace, IsTables, IsTied, Parts, Plain, Setting, Stand, credit_of, hart_at, harts_that, here_in_plain, holds, id_on, thread}
 use Rattle.mach_types.specs.Kernel.Scheduling.{Scheduling}
 use Rattle.mach_types.specs.Kernel.Threads.{Threads, is_ready, is_ready_state, running_on, state_of, times}
 use Rattle.mach_types.specs.declared.threads.ThreadState.{ThreadState}
 use Rattle.hart_state.specs.State.{idle_hart}
 use Rattle.block_model.specs.Ids.{held_ids, id_of, is_id_of, next_id, with_id, without_id}
-use Rattle.block_model.proofs.Laws.{is_held_below, is_held_by, running_is, taken_on_harts}
+use Rattle.block_model.proofs.Laws.{is_held_below, is_held_by, running_is, stand_taken}
 use Rattle.process.proofs.HartStates.{hart_there}
 
 -- the ids of other threads stay
@@ -82,15 +82,15 @@ first_hold s p m id some tied (suc n) few =
     ∙ ap (λ b. b || holds id (get_or xs n some)) (first_hold s p m id some tied n (omega arith))
     ∙ ap (λ b. is_held_below p.kernel.threads p.kernel.ids id n || b) (ap (holds id) at ∙ holds_is s p n id (credit_of xs n))
 
-pub held_here : (v : Seen) (m : Parts) (h : ℕ) → IsPlace v m h
-    → harts_that (λ id. list_any (holds id) m.harts.items) 8 ≡ held_ids (plain_seen v).kernel.ids
+pub held_here : (v : Stand) (m : Parts) (h : ℕ) → IsPlace v m h
+    → harts_that (λ id. list_any (holds id) m.harts.items) 8 ≡ held_ids v.plain.kernel.ids
 held_here v m h place =
-    let p = plain_seen v in
+    let p = v.plain in
     ap (λ (test : ℕ → Bool). harts_that test 8) (fun_ext (λ id.
     ap (list_any (holds id)) (sym (take-length m.harts.items))
     ∙ first_hold v.setting p m id idle_hart place.tied (length m.harts.items) (omega arith)
     ∙ ap (is_held_below p.kernel.threads p.kernel.ids id) place.tied.all_harts
-    ∙ sym (taken_on_harts v id place.run place.limits.eight_harts)))
+    ∙ sym (stand_taken v id place.stands place.limits.eight_harts)))
 
 -- a set of the smaller ids has room for one more
 pub one_more_fits : (test : ℕ → Bool) (n set : ℕ) → n < 8 → set ≡ harts_that test n → Fits w8 (set + 1 * 2 ^ n % 256)

@@ -2,7 +2,7 @@
 use Rattle.std.proofs.Common.{◌≡◌, ℕ, List, [], ◌∷◌, get_or, set, refl, sym, ap, subst, Option, Some, None, option_map}
 use Rattle.mach_types.specs.declared.events.Choice.{Choice}
 use Rattle.mach_types.specs.declared.events.Choice.TheVariants as asked
-use Rattle.process.proofs.Common.{Hart, HartState, Parts, Plain, Seen, Setting, Store, counted, credit_of, done_of, entry_from, file_on, hart_at, here_in_plain, here_of, id_of, plain_seen, refusal_of, thread}
+use Rattle.process.proofs.Common.{Hart, HartState, Parts, Plain, Setting, Stand, Store, counted, credit_of, done_of, entry_from, file_on, hart_at, here_at, here_in_plain, id_of, refusal_of, thread}
 use Rattle.mach_types.specs.declared.events.Kind.{Kind}
 use Rattle.mach_types.specs.declared.events.Kind.TheVariants as kind
 use Rattle.block_model.specs.Here.{Done, Here, runs, waiting_here}
@@ -26,11 +26,11 @@ pub entry_exec : (credit : ℕ) (s : Setting) (p : Plain) (h : Hart) (x : HartSt
 entry_exec credit s p h x is = entry_own (here_in_plain s p h.0) h kind.Exec (runs (here_in_plain s p h.0)) x refl (ap (λ (y : HartState). y.running) is) (ap (λ (y : HartState). y.pc) is)
 
 -- the entry of a hart of a place
-pub entry_here : (v : Seen) (m : Parts) (h : Hart) (k : Kind) (x : HartState) → IsPlace v m h.0 → x ≡ get_or m.harts.items h.0 x
-    → entry_from h k x.running x.pc ≡ record { hart = record { 0 = h.0 }; kind = k; tid = record { 0 = number_of (runs (here_of v h.0)) }; pc = pc_in (here_of v h.0) (runs (here_of v h.0)) }
+pub entry_here : (v : Stand) (m : Parts) (h : Hart) (k : Kind) (x : HartState) → IsPlace v m h.0 → x ≡ get_or m.harts.items h.0 x
+    → entry_from h k x.running x.pc ≡ record { hart = record { 0 = h.0 }; kind = k; tid = record { 0 = number_of (runs (here_at v h.0)) }; pc = pc_in (here_at v h.0) (runs (here_at v h.0)) }
 entry_here v m h k x place value =
     let own = hart_is v m h.0 x place value in
-    entry_own (here_of v h.0) h k (runs (here_of v h.0)) x refl (ap (λ (y : HartState). y.running) own) (ap (λ (y : HartState). y.pc) own)
+    entry_own (here_at v h.0) h k (runs (here_at v h.0)) x refl (ap (λ (y : HartState). y.running) own) (ap (λ (y : HartState). y.pc) own)
 
 -- where a thread can leave a hart, one runs there
 pub leaver : (here : Here) → refusal_of asked.Preempt here ≡ None → (t : ℕ) × (runs here ≡ Some t)
@@ -49,21 +49,21 @@ oldest here free = go (waiting_here here) refl free
     go (w ∷ ws) at e = (w, (ws, at))
 
 -- the parts after an event that is known to have done this
-pub changed_as : (v : Seen) (h : ℕ) (c : Choice) (d : Done) (m m' : Parts) (y : HartState) → IsPlace v m h → refusal_of c (here_of v h) ≡ None → done_of c (here_of v h) ≡ d → IsChange v h d m m' y → IsAfter v h (done_of c (here_of v h)) m m'
+pub changed_as : (v : Stand) (h : ℕ) (c : Choice) (d : Done) (m m' : Parts) (y : HartState) → IsPlace v m h → refusal_of c (here_at v h) ≡ None → done_of c (here_at v h) ≡ d → IsChange v h d m m' y → IsAfter v h (done_of c (here_at v h)) m m'
 changed_as v h c d m m' y place free same is =
-    subst (λ e. IsAfter v h e m m') (sym same) (changed v h d m m' y place (subst (IsFit (here_of v h)) same (fit_at v m h c place free)) is)
+    subst (λ e. IsAfter v h e m m') (sym same) (changed v h d m m' y place (subst (IsFit (here_at v h)) same (fit_at v m h c place free)) is)
 
-pub uncounted_as : (v : Seen) (h : ℕ) (c : Choice) (d : Done) (m m' : Parts) (z : HartState) → IsPlace v m h → refusal_of c (here_of v h) ≡ None → done_of c (here_of v h) ≡ d
-    → IsMade v h d m m' (counted z) z → IsUncounted v h (done_of c (here_of v h)) m m'
+pub uncounted_as : (v : Stand) (h : ℕ) (c : Choice) (d : Done) (m m' : Parts) (z : HartState) → IsPlace v m h → refusal_of c (here_at v h) ≡ None → done_of c (here_at v h) ≡ d
+    → IsMade v h d m m' (counted z) z → IsUncounted v h (done_of c (here_at v h)) m m'
 uncounted_as v h c d m m' z place free same is =
-    subst (λ e. IsUncounted v h e m m') (sym same) (uncounted v h d m m' z place (subst (IsFit (here_of v h)) same (fit_at v m h c place free)) is)
+    subst (λ e. IsUncounted v h e m m') (sym same) (uncounted v h d m m' z place (subst (IsFit (here_at v h)) same (fit_at v m h c place free)) is)
 
 -- one that ended the process, and changed of the parts nothing else but its hart
-pub killed_as : (v : Seen) (h : ℕ) (c : Choice) (d : Done) (m m' : Parts) (z : HartState) → IsPlace v m h → refusal_of c (here_of v h) ≡ None → done_of c (here_of v h) ≡ d
-    → IsQuiet d → d.entered ≡ [] → d.files ≡ [] → d.kernel ≡ (plain_seen v).kernel → m' ≡ record m { harts = m'.harts; ended = final d.ended d.kernel }
-    → m'.harts.items ≡ set m.harts.items h z → counted z ≡ own_after v.setting (plain_seen v) h d (credit_of m.harts.items h) → IsUncounted v h (done_of c (here_of v h)) m m'
+pub killed_as : (v : Stand) (h : ℕ) (c : Choice) (d : Done) (m m' : Parts) (z : HartState) → IsPlace v m h → refusal_of c (here_at v h) ≡ None → done_of c (here_at v h) ≡ d
+    → IsQuiet d → d.entered ≡ [] → d.files ≡ [] → d.kernel ≡ v.plain.kernel → m' ≡ record m { harts = m'.harts; ended = final d.ended d.kernel }
+    → m'.harts.items ≡ set m.harts.items h z → counted z ≡ own_after v.setting v.plain h d (credit_of m.harts.items h) → IsUncounted v h (done_of c (here_at v h)) m m'
 killed_as v h c d m m' z place free same quiet silent kept still others harts own =
-    let p = plain_seen v in
+    let p = v.plain in
     uncounted_as v h c d m m' z place free same (record {
       own = own;
       harts = subst (AreBeside h d (set m.harts.items h z)) (sym harts) (none_beside h d (set m.harts.items h z) quiet silent);

@@ -4,12 +4,13 @@ use Rattle.std.specs.Option.{option_map, option_or}
 use Rattle.std.proofs.lemmas.Bool.{cases_eq, ne_eqb}
 use Rattle.std.proofs.lemmas.List.{length-set}
 use Rattle.mach_types.specs.Bytes.{written}
-use Rattle.process.proofs.Common.{Done, End, HartState, IsTable, Parts, Seen, counted, credit_of, file_among, final, hart_at, is_stuck}
+use Rattle.process.proofs.Common.{Done, End, HartState, IsTable, Parts, Stand, counted, credit_of, file_among, final, hart_at, is_stuck}
 use Rattle.mach_types.specs.declared.limits.End.TheVariants as over
 use Rattle.sys_calls.specs.Made.{AreSaved, HoldsPages}
 use Rattle.sys_calls.specs.Tables.{HoldsTables}
-use Rattle.block_model.specs.Plain.{Plain, apply, here_of, plain_seen}
-use Rattle.block_model.proofs.Laws.{IsFit, events_few}
+use Rattle.block_model.specs.Plain.{Plain, apply}
+use Rattle.block_model.specs.Stands.{here_at}
+use Rattle.block_model.proofs.Laws.{IsFit}
 use Rattle.process.specs.Reservations.{lost_by_all, lost_unless}
 use Rattle.process.specs.Refinement.{IsAfter, IsCounted, IsPlace, IsReadable, IsTied, IsUncounted}
 use Rattle.process.proofs.HartStates.{KeepsIds, beside, beside_unless, credits_kept, get_set_other, get_set_same, harts_tied, of_each, own_after}
@@ -68,18 +69,18 @@ pub none_beside : (h : ℕ) (d : Done) (xs : List HartState) → IsQuiet d → d
 none_beside h d xs quiet none = quietly h d xs xs quiet (none_lost h d xs none)
 
 -- the parts changed as an event does: its hart is to be y, and is z so far
-pub record IsMade (v : Seen) (h : ℕ) (d : Done) (m m' : Parts) (y z : HartState) : Type 0 where
-  pub own : y ≡ own_after v.setting (plain_seen v) h d (credit_of m.harts.items h)
+pub record IsMade (v : Stand) (h : ℕ) (d : Done) (m m' : Parts) (y z : HartState) : Type 0 where
+  pub own : y ≡ own_after v.setting v.plain h d (credit_of m.harts.items h)
   pub harts : AreBeside h d (set m.harts.items h z) m'.harts.items
-  pub pages : HoldsPages d.kernel.pages v.setting.program.break_at (λ a. written d.entered a ((plain_seen v).byte a)) m'.pages
+  pub pages : HoldsPages d.kernel.pages v.setting.program.break_at (λ a. written d.entered a (v.plain.byte a)) m'.pages
   pub readable : IsReadable m'.pages
   pub tables : HoldsTables m'.kernel d.kernel
-  pub ids : KeepsIds (plain_seen v) h d
+  pub ids : KeepsIds v.plain h d
   pub table : IsTable m'.kernel.threads
-  pub saved : AreSaved (λ t. file_among d.files t ((plain_seen v).file t)) m'.kernel.threads
+  pub saved : AreSaved (λ t. file_among d.files t (v.plain.file t)) m'.kernel.threads
   pub ended : m'.ended ≡ final d.ended d.kernel
 
-abbrev pub IsChange : Seen → ℕ → Done → Parts → Parts → HartState → Type 0
+abbrev pub IsChange : Stand → ℕ → Done → Parts → Parts → HartState → Type 0
 IsChange v h d m m' y = IsMade v h d m m' y y
 
 -- no event has ended the process where the run goes on
@@ -91,11 +92,11 @@ or_none : (o p : Option End) → p ≡ None → option_or o p ≡ o
 or_none None p none = none
 or_none (Some e) p none = refl
 
-pub changed : (v : Seen) (h : ℕ) (d : Done) (m m' : Parts) (y : HartState) → IsPlace v m h → IsFit (here_of v h) d → IsChange v h d m m' y → IsAfter v h d m m'
+pub changed : (v : Stand) (h : ℕ) (d : Done) (m m' : Parts) (y : HartState) → IsPlace v m h → IsFit (here_at v h) d → IsChange v h d m m' y → IsAfter v h d m m'
 changed v h d m m' y place fit is = record { tied = tied; credits = credits_kept h d m.harts.items m'.harts.items y (ap (λ (x : HartState). x.credit) is.own) is.harts }
   where
     p : Plain
-    p = plain_seen v
+    p = v.plain
 
     if_stuck : Bool → Option End
     if_stuck b = cond b (Some over.Stuck) None
@@ -103,7 +104,7 @@ changed v h d m m' y place fit is = record { tied = tied; credits = credits_kept
     tied : IsTied v.setting (apply h d p) m'
     tied = record {
       all_harts = same_length (set m.harts.items h y) m'.harts.items (λ k. ap is_some (is.harts k) ∙ mapped_is (beside_unless (eqb k h) k h d) (slice_get (set m.harts.items h y) k)) ∙ (length-set m.harts.items h y ∙ place.tied.all_harts);
-      harts = harts_tied v.setting p h d m.harts.items m'.harts.items y place.tied.harts place.lt fit is.ids is.own is.harts;
+      harts = harts_tied v.setting p h d m.harts.items m'.harts.items y place.tied.harts place.lt (record { others = fit.others; apart = fit.apart }) is.ids is.own is.harts;
       pages = is.pages;
       readable = is.readable;
       tables = is.tables;
@@ -113,7 +114,7 @@ changed v h d m m' y place fit is = record { tied = tied; credits = credits_kept
     }
 
 -- all of an event but its count
-pub uncounted : (v : Seen) (h : ℕ) (d : Done) (m m' : Parts) (z : HartState) → IsPlace v m h → IsFit (here_of v h) d → IsMade v h d m m' (counted z) z → IsUncounted v h d m m'
+pub uncounted : (v : Stand) (h : ℕ) (d : Done) (m m' : Parts) (z : HartState) → IsPlace v m h → IsFit (here_at v h) d → IsMade v h d m m' (counted z) z → IsUncounted v h d m m'
 uncounted v h d m m' z place fit is = record {
   room = (z, there, few);
   after = λ m'' then. changed v h d m m'' (counted z) place fit (record {
@@ -130,15 +131,15 @@ uncounted v h d m m' z place fit is = record {
 }
   where
     x : HartState
-    x = hart_at v.setting (plain_seen v) h (credit_of m.harts.items h)
+    x = hart_at v.setting v.plain h (credit_of m.harts.items h)
 
     there : slice_get m'.harts.items h ≡ Some z
     there = is.harts h ∙ rw (eq-eqb h h refl, get_set_same m.harts.items h x z (place.tied.harts h place.lt)) refl
 
     few : z.events + 1 < 2 ^ 32
     few =
-        let made : z.events + 1 ≡ (plain_seen v).events h + 1 = ap (λ (y : HartState). y.events) is.own in
-        let most = events_few v h place.run in
+        let made : z.events + 1 ≡ v.plain.events h + 1 = ap (λ (y : HartState). y.events) is.own in
+        let most = place.stands.events h in
         let room = place.room in
         let steps = place.limits.most_steps in
         omega (arith, made, most, room, steps)

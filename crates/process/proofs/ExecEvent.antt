@@ -1,7 +1,7 @@
 -- What the next instruction of a thread does, by its effect and its fault.
 use Rattle.std.proofs.Common.{◌≡◌, ◌≢◌, ℕ, refl, sym, ap, ◌∙◌, Bool, true, false, cond, is_some, Option, Some, None, length}
 use Rattle.std.specs.Option.{option_or}
-use Rattle.process.proofs.Common.{Done, Effect, HartState, Here, Plain, Setting, Why, done_of, hart_at, here_in_plain, is_writable, memory, refusal_of, runs}
+use Rattle.process.proofs.Common.{Done, Effect, HartState, Here, Plain, Setting, Why, done_of, hart_at, here_in_plain, memory, refusal_of, runs}
 use Rattle.mach_types.specs.declared.events.Why.TheVariants.{InBarrier}
 use Rattle.rv_inst.specs.Class.{is_call}
 use Rattle.rv_inst.specs.Execution.{fault_in, instruction_gate}
@@ -13,6 +13,7 @@ use Rattle.block_model.specs.Sequences.{is_inside_here}
 use Rattle.mach_types.specs.declared.events.Choice.TheVariants as asked
 use Rattle.block_model.specs.Events.Exec.{by_call, by_fault, by_outcome, has_handler, is_held, next_effect, next_fault, one_instruction, others_gate, outcome_of, refusal_exec_by}
 use Rattle.block_model.specs.Events.Preempt.{unless_in_barrier}
+use Rattle.block_model.specs.Here.{is_storable, reached}
 use Rattle.block_model.specs.Instruction as instruction
 use Rattle.block_model.specs.Kernel.{signalled}
 use Rattle.mach_types.specs.Kernel.Signals.{with_pending}
@@ -73,11 +74,11 @@ not_refused credit s p h t x e at runs fault is free = rw (at, runs) (gate (rw r
     gate : refusal_exec_by (here_in_plain s p h) (Some t) ≡ None → cond (is_some (p.awaits h)) (Some InBarrier) (instruction_gate (length (p.waiting h)) (Some e) false) ≡ None
     gate free = by_barrier (p.awaits h) free
 
-pub no_fault : (here : Here) (t : ℕ) (byte : ℕ → Option ℕ) (writable : ℕ → Bool) (e : Effect) → byte ≡ memory here → writable ≡ is_writable here → next_fault here t ≡ None → next_effect here t ≡ Some e → fault_in byte writable e ≡ None
+pub no_fault : (here : Here) (t : ℕ) (byte : ℕ → Option ℕ) (writable : ℕ → Bool) (e : Effect) → byte ≡ reached here → writable ≡ is_storable here → next_fault here t ≡ None → next_effect here t ≡ Some e → fault_in byte writable e ≡ None
 no_fault here t byte writable e same can fault is = rw (same, can) (by_effect_of (next_effect here t) is fault)
   where
-    by_effect_of : (o : Option Effect) → o ≡ Some e → instruction.fault_by (memory here) (is_writable here) (here.file t).pc (instruction.fetched here.setting.program.pages (here.file t).pc) o ≡ None → fault_in (memory here) (is_writable here) e ≡ None
-    by_effect_of o same none = ap (λ z. instruction.fault_by (memory here) (is_writable here) (here.file t).pc (instruction.fetched here.setting.program.pages (here.file t).pc) z) (sym same) ∙ none
+    by_effect_of : (o : Option Effect) → o ≡ Some e → instruction.fault_by (reached here) (is_storable here) (here.file t).pc (instruction.fetched here.setting.program.pages (here.file t).pc) o ≡ None → fault_in (reached here) (is_storable here) e ≡ None
+    by_effect_of o same none = ap (λ z. instruction.fault_by (reached here) (is_storable here) (here.file t).pc (instruction.fetched here.setting.program.pages (here.file t).pc) z) (sym same) ∙ none
 
 pub no_call : (e : Effect) → is_call e ≡ false → e ≢ effect.Call
 no_call e is same = let bad : true ≡ false = ap is_call (sym same) ∙ is in absurd (cc)

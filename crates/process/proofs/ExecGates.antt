@@ -103,11 +103,11 @@ touches_is pages ws r told = same_truth r (list_any (lies_in pages) ws)
     (λ is. let has = Any-from_list_any (lies_in pages) ws is in told.1 (has.0, has.1, has.2, has.3, lies_among pages has.1 has.4))
 
 -- pages by which a store lies on them are those of a run
-lies_same : (pages : PageSpan) (r : PageRun) (w : Store) → ((n : ℕ) → has_page pages n ≡ is_in r n) → lies_in pages w ≡ lies_on r w
+lies_same : (pages : PageSpan) (r : PageRun) (w : Store) → ((n : ℕ) → has_page pages n ≡ is_in r n) → lies_in pages w ≡ lies_on None r w
 lies_same pages r w same =
     ap not (each_byte-same (λ a. not (is_in r (a / 4096))) (λ a. not (has_page pages (a / 4096))) (λ a. ap not (same (a / 4096))) w.at w.size)
 
-any_same : (pages : PageSpan) (r : PageRun) (ws : List Store) → ((n : ℕ) → has_page pages n ≡ is_in r n) → list_any (lies_in pages) ws ≡ list_any (lies_on r) ws
+any_same : (pages : PageSpan) (r : PageRun) (ws : List Store) → ((n : ℕ) → has_page pages n ≡ is_in r n) → list_any (lies_in pages) ws ≡ list_any (lies_on None r) ws
 any_same pages r ws same = ap (λ (test : Store → Bool). list_any test ws) (λ i w. lies_same pages r w same i)
 
 -- the harts' buffers are the plain machine's
@@ -123,7 +123,7 @@ module _ (pages : PageSpan) (r : PageRun) (waiting : ℕ → List Store) (xs : L
     abbrev waits : HartState → Bool
     waits x = list_any (lies_in pages) x.buffer
 
-    pub first_wait : (n : ℕ) → n ≤ length xs → list_any waits (take n xs) ≡ lies_waiting_on r waiting n
+    pub first_wait : (n : ℕ) → n ≤ length xs → list_any waits (take n xs) ≡ lies_waiting_on None r waiting n
     first_wait zero few = refl
     first_wait (suc n) few =
         let lt : n < length xs = omega arith in
@@ -132,7 +132,7 @@ module _ (pages : PageSpan) (r : PageRun) (waiting : ℕ → List Store) (xs : L
         ∙ list_any_more waits xs n some lt
         ∙ or_swapped (list_any waits (take n xs)) (waits (get_or xs n some))
         ∙ ap (λ b. b || list_any waits (take n xs)) (ap (list_any (lies_in pages)) (harts n lt) ∙ any_same pages r (waiting n) same)
-        ∙ ap (λ b. list_any (lies_on r) (waiting n) || b) (first_wait n (omega arith))
+        ∙ ap (λ b. list_any (lies_on None r) (waiting n) || b) (first_wait n (omega arith))
 
 -- a hart's buffer
 buffer_of : (s : Setting) (p : Plain) (m : Parts) (k : ℕ) (some : HartState) → IsTied s p m → k < length m.harts.items → (get_or m.harts.items k some).buffer ≡ p.waiting k
@@ -142,11 +142,11 @@ buffer_of s p m k some tied lt =
 
 -- whether a store waits on one of them
 pub held_is : (s : Setting) (p : Plain) (m : Parts) (pages : PageSpan) (r : PageRun) (some : HartState) → IsTied s p m → ((n : ℕ) → has_page pages n ≡ is_in r n)
-    → list_any (λ (x : HartState). list_any (lies_in pages) x.buffer) m.harts.items ≡ lies_waiting_on r p.waiting s.limits.harts
+    → list_any (λ (x : HartState). list_any (lies_in pages) x.buffer) m.harts.items ≡ lies_waiting_on None r p.waiting s.limits.harts
 held_is s p m pages r some tied same =
     ap (list_any (λ (x : HartState). list_any (lies_in pages) x.buffer)) (sym (take-length m.harts.items))
     ∙ first_wait pages r p.waiting m.harts.items some same (λ k lt. buffer_of s p m k some tied lt) (length m.harts.items) (omega arith)
-    ∙ ap (lies_waiting_on r p.waiting) tied.all_harts
+    ∙ ap (lies_waiting_on None r p.waiting) tied.all_harts
 
 -- the gate of the next instruction is the place's
 pub gate_is : (s : Setting) (p : Plain) (h credit : ℕ) (x : HartState) (next : Next) (o r : Option Why) → x ≡ hart_at s p h credit → IsNextAt (here_in_plain s p h) next

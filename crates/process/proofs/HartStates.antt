@@ -7,7 +7,6 @@ use Rattle.process.proofs.Common.{Done, HartState, IsTied, Parts, Saved, Setting
 use Rattle.block_model.specs.History.{file_among, lost_after}
 use Rattle.block_model.specs.Plain.{Plain, apply, here_in_plain}
 use Rattle.block_model.specs.Requests.{awaits_after, awaits_of_own, is_about, requests_after, restart_after, restarts_at, with_hart, without_hart}
-use Rattle.block_model.proofs.Laws.{IsFit}
 
 -- a hart in the list is the plain machine's
 pub hart_there : (s : Setting) (p : Plain) (m : Parts) (h : ℕ) (x : HartState) → IsTied s p m → h < s.limits.harts → slice_get m.harts.items h ≡ Some x → x ≡ hart_at s p h (credit_of m.harts.items h)
@@ -47,6 +46,11 @@ hart_own s p h d credit = rw (eq-eqb h h refl) refl
 abbrev pub KeepsIds : Plain → ℕ → Done → Type 0
 KeepsIds p h d = (k u : ℕ) → k ≢ h → running_on k p.kernel.threads ≡ Some u → id_of u d.kernel.ids ≡ id_of u p.kernel.ids
 
+-- they stay where they are, and keep their files
+pub record KeepsOthers (p : Plain) (h : ℕ) (d : Done) : Type 0 where
+  pub others : (k : ℕ) → k ≢ h → running_on k d.kernel.threads ≡ running_on k p.kernel.threads
+  pub apart : (k u : ℕ) (f : Saved) → k ≢ h → running_on k p.kernel.threads ≡ Some u → file_among d.files u f ≡ f
+
 -- it lost what was written, it has a request where the event began a barrier that is about it, and where the event took requests its
 -- own barrier waits for that hart no longer
 abbrev pub beside : ℕ → ℕ → Done → HartState → HartState
@@ -61,7 +65,7 @@ beside k h d x = record x {
 abbrev pub beside_unless : Bool → ℕ → ℕ → Done → HartState → HartState
 beside_unless is_own k h d x = cond is_own x (beside k h d x)
 
-pub hart_other : (s : Setting) (p : Plain) (h k : ℕ) (d : Done) (credit : ℕ) → k ≢ h → IsFit (here_in_plain s p h) d → KeepsIds p h d → hart_at s (apply h d p) k credit ≡ beside k h d (hart_at s p k credit)
+pub hart_other : (s : Setting) (p : Plain) (h k : ℕ) (d : Done) (credit : ℕ) → k ≢ h → KeepsOthers p h d → KeepsIds p h d → hart_at s (apply h d p) k credit ≡ beside k h d (hart_at s p k credit)
 hart_other s p h k d credit ne fit ids = rw (ne_eqb h k (λ e. ne (sym e)), fit.others k ne) (go (running_on k p.kernel.threads) refl)
   where
     state : Saved → Option ℕ → ℕ → HartState
@@ -121,7 +125,7 @@ credits_kept h d xs ys y same lose k =
     ∙ (credit_beside (eqb k h) k h d (slice_get (set xs h y) k) ∙ credit_set xs h k y same)
 
 -- all harts
-pub harts_tied : (s : Setting) (p : Plain) (h : ℕ) (d : Done) (xs ys : List HartState) (y : HartState) → AreHarts s p xs → h < s.limits.harts → IsFit (here_in_plain s p h) d → KeepsIds p h d → y ≡ own_after s p h d (credit_of xs h) →
+pub harts_tied : (s : Setting) (p : Plain) (h : ℕ) (d : Done) (xs ys : List HartState) (y : HartState) → AreHarts s p xs → h < s.limits.harts → KeepsOthers p h d → KeepsIds p h d → y ≡ own_after s p h d (credit_of xs h) →
     ((k : ℕ) → slice_get ys k ≡ option_map (beside_unless (eqb k h) k h d) (slice_get (set xs h y) k)) → AreHarts s (apply h d p) ys
 harts_tied s p h d xs ys y tied lt fit ids own lose k below =
     of_each (λ j. slice_get ys j ≡ Some (hart_at s (apply h d p) j (credit_of xs j))) h k

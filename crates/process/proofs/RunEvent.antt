@@ -7,7 +7,7 @@ use Rattle.std.proofs.lemmas.Bool.{cases_eq, eqb-true, ne_eqb}
 use Rattle.std.proofs.lemmas.List.Kept.{AllPairs-from_increasing}
 use Rattle.mach_types.proofs.Laws.{state_of-with_state_same}
 use Rattle.mach_types.specs.Kernel.Areas.{area_of, lowest_cid}
-use Rattle.process.proofs.Common.{AreSaved, Area, Done, Hart, HartState, Here, IsPlace, IsUncounted, IsWritten, Kernel, Map, Outcome, Parts, Saved, Seen, Write, counted, credit_of, file_among, files_interrupted, hart_at, harts_that, here_of, holds, interruption_here, lost_unless, plain_seen, refusal_of}
+use Rattle.process.proofs.Common.{AreSaved, Area, Done, Hart, HartState, Here, IsPlace, IsUncounted, IsWritten, Kernel, Map, Outcome, Parts, Saved, Stand, Write, counted, credit_of, file_among, files_interrupted, hart_at, harts_that, here_at, holds, interruption_here, lost_unless, refusal_of}
 use Rattle.mach_types.specs.Kernel.Scheduling.{Scheduling, without_ready}
 use Rattle.mach_types.specs.Kernel.Threads.{Thread, Threads, is_ready, is_ready_state, is_running_state, is_thread, numbers, state_if, state_of, with_state}
 use Rattle.mach_types.specs.declared.events.Choice.TheVariants as asked
@@ -27,7 +27,7 @@ use Rattle.sys_calls.proofs.Laws.{holds_past_ids, holds_scheduling, holds_thread
 use Rattle.block_model.specs.Events.Run.{done_killed, done_run, done_running, lives_on}
 use Rattle.block_model.specs.Ids.{id_of, is_running, next_id, with_id}
 use Rattle.block_model.specs.Kernel.{ran}
-use Rattle.block_model.proofs.Laws.{id_is_free, ids_apart_at, ready_listed, run_ready}
+use Rattle.block_model.proofs.Laws.{ready_listed, run_ready, stand_free_id}
 use Rattle.process.specs.ContextSwitch.{HasHart, IsChanged, IsReadied, IsWaiting, begun_without}
 use Rattle.process.proofs.Entries.{uncounted_as}
 use Rattle.process.proofs.HartEvents.{killed_own, run_own}
@@ -89,11 +89,11 @@ state_ready t ts is = go (state_of t ts) is
     go (Some (ThreadState.Waiting at)) e = cc
 
 -- something is saved of a thread that may begin to run
-pub starter_is_saved : (v : Seen) (m : Parts) (h : Hart) (t : Tid) → IsPlace v m h.0 → refusal_of (asked.Run t) (here_of v h.0) ≡ None
+pub starter_is_saved : (v : Stand) (m : Parts) (h : Hart) (t : Tid) → IsPlace v m h.0 → refusal_of (asked.Run t) (here_at v h.0) ≡ None
     → (o : Option Saved) → o ≡ saved_of t.0 m.kernel.threads.saved → o ≡ None → ⊥
 starter_is_saved v m h t place free o read none =
     let ready : state_of t.0 m.kernel.threads.threads ≡ Some Ready =
-    ap (state_of t.0) place.tied.tables.threads ∙ state_ready t.0 (plain_seen v).kernel.threads (run_ready (here_of v h.0) t.0 free).1 in
+    ap (state_of t.0) place.tied.tables.threads ∙ state_ready t.0 v.plain.kernel.threads (run_ready (here_at v h.0) t.0 free).1 in
     missing o none (subst IsSome (sym read) (ready_saves_something t.0 m.kernel.threads place.tied.table ready))
   where
     missing : (o : Option Saved) → o ≡ None → IsSome o → ⊥
@@ -129,24 +129,24 @@ kept_again f g t y old mid new was is own same saved u x at = go (cases_eq u t)
 
 -- THE PARTS AFTER IT
 
-module _ (v : Seen) (m : Parts) (h : Hart) (t : Tid) (place : IsPlace v m h.0) (free : refusal_of (asked.Run t) (here_of v h.0) ≡ None) where
+module _ (v : Stand) (m : Parts) (h : Hart) (t : Tid) (place : IsPlace v m h.0) (free : refusal_of (asked.Run t) (here_at v h.0) ≡ None) where
   abbrev here : Here
-  here = here_of v h.0
+  here = here_at v h.0
 
   abbrev comes : Outcome
   comes = interruption_here here t.0
 
   abbrev own_hart : HartState
-  own_hart = hart_at v.setting (plain_seen v) h.0 (credit_of m.harts.items h.0)
+  own_hart = hart_at v.setting v.plain h.0 (credit_of m.harts.items h.0)
 
-  ready : is_ready t.0 (plain_seen v).kernel.threads ≡ true
+  ready : is_ready t.0 v.plain.kernel.threads ≡ true
   ready = (run_ready here t.0 free).1
 
-  its_next : id_of t.0 (with_id t.0 (plain_seen v).kernel.ids) ≡ next_id (plain_seen v).kernel.ids
+  its_next : id_of t.0 (with_id t.0 v.plain.kernel.ids) ≡ next_id v.plain.kernel.ids
   its_next =
-      let k = (plain_seen v).kernel in
+      let k = v.plain.kernel in
       let stands : is_running t.0 k.threads ≡ false = ap (λ o. option_map_or is_running_state o false) (state_ready t.0 k.threads ready) in
-      id_with_same t.0 k.ids ((ids_apart_at v place.run place.limits.eight_harts).held t.0 ∙ ap (λ b. cond b 1 0) stands)
+      id_with_same t.0 k.ids ((place.stands.held.ids place.limits.eight_harts).held t.0 ∙ ap (λ b. cond b 1 0) stands)
 
   -- how it waits
   pub waiting : (a : Option Area) (n : ℕ) (x : Saved) → a ≡ area_of t.0 (areas_by_number m.kernel.areas.items)
@@ -162,7 +162,7 @@ module _ (v : Seen) (m : Parts) (h : Hart) (t : Tid) (place : IsPlace v m h.0) (
 
   -- not all ids are held
   pub some_free : harts_that (λ id. list_any (holds id) m.harts.items) 8 ≢ 255
-  some_free all = (id_is_free v h.0 t.0 place.run place.limits.eight_harts place.lt free).some (sym (held_here v m h.0 place) ∙ all)
+  some_free all = (stand_free_id v h.0 t.0 place.stands place.limits.eight_harts place.lt free).some (sym (held_here v m h.0 place) ∙ all)
 
   -- what it comes to
   pub readied : (k : Kernel) (a : Option Area) (n : ℕ) (x y : Saved) (alive : Bool) (m1 : Parts) → a ≡ area_of t.0 (areas_by_number m.kernel.areas.items)
@@ -180,21 +180,21 @@ module _ (v : Seen) (m : Parts) (h : Hart) (t : Tid) (place : IsPlace v m h.0) (
 
   -- it is in the ready list, and runs once it was taken to
   pub listed : is_listed t.0 m.kernel.ready ≡ true
-  listed = ap (is_listed t.0) place.tied.tables.scheduling ∙ ready_listed v.setting.limits.harts t.0 (plain_seen v).kernel.threads (plain_seen v).kernel.scheduling (tables_at v m h.0 place) ∙ ready
+  listed = ap (is_listed t.0) place.tied.tables.scheduling ∙ ready_listed v.setting.limits.harts t.0 v.plain.kernel.threads v.plain.kernel.scheduling (tables_at v m h.0 place) ∙ ready
 
   pub runs_then : state_of t.0 (with_state t.0 (Running h) m.kernel.threads.threads) ≡ Some (Running h)
   runs_then =
       state_of-with_state_same t.0 (Running h) m.kernel.threads.threads
-      ∙ ap (option_map (λ (_ : ThreadState). Running h)) (ap (state_of t.0) place.tied.tables.threads ∙ state_ready t.0 (plain_seen v).kernel.threads ready)
+      ∙ ap (option_map (λ (_ : ThreadState). Running h)) (ap (state_of t.0) place.tied.tables.threads ∙ state_ready t.0 v.plain.kernel.threads ready)
 
   -- it runs
-  pub begun_running : (m1 m2 : Parts) (x : Saved) (id : ℕ) (file : Table) (order : Scheduling) → IsReadied here t.0 true x m m1 → id ≡ next_id (plain_seen v).kernel.ids
+  pub begun_running : (m1 m2 : Parts) (x : Saved) (id : ℕ) (file : Table) (order : Scheduling) → IsReadied here t.0 true x m m1 → id ≡ next_id v.plain.kernel.ids
       → IsChanged h.0 (entered t x id) m1.harts.items m2.harts.items → m2.pages ≡ m1.pages
       → m2.kernel ≡ record m.kernel { threads = file; ready = order } → file.threads ≡ with_state t.0 (Running h) m.kernel.threads.threads
       → file.saved ≡ with_saved t.0 None m.kernel.threads.saved → IsTable file → order ≡ without_ready t.0 m.kernel.ready → m2.ended ≡ m.ended
       → IsUncounted v h.0 (done_run here t.0) m m2
   begun_running m1 m2 x id file order is its changed pages kernel threads saved table taken ended =
-      let p = plain_seen v in
+      let p = v.plain in
       let tables = tables_at v m h.0 place in
       let d = done_running here t.0 comes in
       let lives : lives_on here t.0 comes ≡ true = sym is.lives in
@@ -226,7 +226,7 @@ module _ (v : Seen) (m : Parts) (h : Hart) (t : Tid) (place : IsPlace v m h.0) (
       → m2.kernel ≡ record m.kernel { threads = m2.kernel.threads } → m2.ended ≡ Some (Killed SIGSEGV)
       → IsUncounted v h.0 (done_run here t.0) m m2
   begun_killed m1 m2 x mid is changed pages ran_threads ran_saved threads saved table others ended =
-      let p = plain_seen v in
+      let p = v.plain in
       let tables = tables_at v m h.0 place in
       let d = done_killed here t.0 comes in
       let dies : lives_on here t.0 comes ≡ false = sym is.lives in

@@ -2,7 +2,7 @@
 use Rattle.std.proofs.Common.{◌≡◌, ◌≢◌, ℕ, List, [], ◌∷◌, append-nil, refl, sym, ap, ◌∙◌, subst, Bool, cond, eqb, not, is_some, length, Option, Some, None, slice_get, ◌⊎◌, inl, inr, option_and_then, option_map}
 use Rattle.std.proofs.lemmas.Bool.{cases_eq, ne_eqb}
 use Rattle.std.proofs.lemmas.Option.{same_Some}
-use Rattle.process.proofs.Common.{AreSaved, Done, Hart, HartState, Here, IsPlace, IsUncounted, IsWritten, Kernel, Map, Outcome, Parts, Plain, Running, Saved, Seen, Setting, Store, Why, Write, area_of, counted, credit_of, done_of, file_among, file_on, hart_at, hart_in, here_in_plain, here_of, interruption_here, lost_unless, plain_seen, refusal_of, runs, state_of, thread}
+use Rattle.process.proofs.Common.{AreSaved, Done, Hart, HartState, Here, IsPlace, IsUncounted, IsWritten, Kernel, Map, Outcome, Parts, Plain, Running, Saved, Setting, Stand, Store, Why, Write, area_of, counted, credit_of, done_of, file_among, file_on, hart_at, hart_in, here_at, here_in_plain, interruption_here, lost_unless, refusal_of, runs, state_of, thread}
 use Rattle.mach_types.specs.declared.events.Choice.TheVariants as asked
 use Rattle.mach_types.specs.declared.events.Why.TheVariants.{Idle, InBarrier, NoSignal, Waiting}
 use Rattle.mach_types.specs.Kernel.Signals.{next_for}
@@ -118,15 +118,15 @@ pub record IsOver (here : Here) (h t s : ℕ) (killer : Option ℕ) (x : Saved) 
   pub others : m1.kernel ≡ record m.kernel { signals = m1.kernel.signals }
   pub ended : m2.ended ≡ ended_unless killer m.ended
 
-module _ (v : Seen) (m : Parts) (h : Hart) (place : IsPlace v m h.0) (free : refusal_of asked.Signal (here_of v h.0) ≡ None) (is : IsReceiving (here_of v h.0)) where
+module _ (v : Stand) (m : Parts) (h : Hart) (place : IsPlace v m h.0) (free : refusal_of asked.Signal (here_at v h.0) ≡ None) (is : IsReceiving (here_at v h.0)) where
   abbrev here : Here
-  here = here_of v h.0
+  here = here_at v h.0
 
   abbrev comes : Outcome
   comes = interruption_here here is.thread
 
   abbrev own_hart : HartState
-  own_hart = hart_at v.setting (plain_seen v) h.0 (credit_of m.harts.items h.0)
+  own_hart = hart_at v.setting v.plain h.0 (credit_of m.harts.items h.0)
 
   abbrev done_with : Option ℕ → Done
   done_with killer = handled_unless_killed here is.thread is.signal comes killer
@@ -134,6 +134,12 @@ module _ (v : Seen) (m : Parts) (h : Hart) (place : IsPlace v m h.0) (free : ref
   -- the signal that the hart tells is the one that is delivered
   pub same_signal : (o : Option ℕ) (s : ℕ) → o ≡ next_on here → o ≡ Some s → s ≡ is.signal
   same_signal o s told at = same_Some s is.signal (sym at ∙ told ∙ ap (option_and_then (λ t. next_for t here.kernel.signals)) is.at ∙ is.next)
+
+  -- so there is one
+  pub some_signal : (o : Option ℕ) → o ≡ next_on here → o ≡ None → ⊥
+  some_signal o told none =
+      let bad : None ≡ Some is.signal = sym none ∙ told ∙ ap (option_and_then (λ t. next_for t here.kernel.signals)) is.at ∙ is.next in
+      cc
 
   -- the place at which its thread, which is named so, is interrupted
   pub interrupted_there : (x : HartState) (t : ℕ) → t ≡ is.thread → x ≡ own_hart → IsInterrupted here t h.0 m (record { file = x.file; pc = x.pc })
@@ -155,12 +161,12 @@ module _ (v : Seen) (m : Parts) (h : Hart) (place : IsPlace v m h.0) (free : ref
       subst (λ (ws : List Write). IsWritten ws m.pages m2.pages) (ap (λ (e : Done). e.entered) same)
       (subst (λ (n : Map). IsWritten (done_here here is.thread is.signal).entered m.pages n) (sym over.same_pages) over.made.pages)
 
-  own_file : (killer : Option ℕ) (x : Saved) (m1 m2 : Parts) (over : IsOver here h.0 is.thread is.signal killer x m m1 m2) → x ≡ file_among (done_with killer).files is.thread ((plain_seen v).file is.thread)
-  own_file killer x m1 m2 over = over.made.file ∙ ap (λ (e : Done). file_among e.files is.thread ((plain_seen v).file is.thread)) (same_done killer over.made.dies)
+  own_file : (killer : Option ℕ) (x : Saved) (m1 m2 : Parts) (over : IsOver here h.0 is.thread is.signal killer x m m1 m2) → x ≡ file_among (done_with killer).files is.thread (v.plain.file is.thread)
+  own_file killer x m1 m2 over = over.made.file ∙ ap (λ (e : Done). file_among e.files is.thread (v.plain.file is.thread)) (same_done killer over.made.dies)
 
-  kept : (killer : Option ℕ) (x : Saved) (m1 m2 : Parts) (over : IsOver here h.0 is.thread is.signal killer x m m1 m2) → AreSaved (λ u. file_among (done_with killer).files u ((plain_seen v).file u)) m2.kernel.threads
+  kept : (killer : Option ℕ) (x : Saved) (m1 m2 : Parts) (over : IsOver here h.0 is.thread is.signal killer x m m1 m2) → AreSaved (λ u. file_among (done_with killer).files u (v.plain.file u)) m2.kernel.threads
   kept killer x m1 m2 over =
-      let p = plain_seen v in
+      let p = v.plain in
       let before : AreSaved (λ u. file_among (done_with killer).files u (p.file u)) m.kernel.threads =
       kept_running p.file (λ u. file_among (done_with killer).files u (p.file u)) is.thread h m.kernel.threads place.tied.table (runs_there v m h is.thread place is.at)
       (λ u other. file_apart here is.thread is.signal u comes killer (p.file u) other) place.tied.saved in
@@ -168,7 +174,7 @@ module _ (v : Seen) (m : Parts) (h : Hart) (place : IsPlace v m h.0) (free : ref
 
   event_by : (killer : Option ℕ) (x : Saved) (m1 m2 : Parts) → IsOver here h.0 is.thread is.signal killer x m m1 m2 → IsUncounted v h.0 (done_of asked.Signal here) m m2
   event_by None x m1 m2 over =
-      let p = plain_seen v in
+      let p = v.plain in
       let d = done_with None in
       let same = same_done None over.made.dies in
       uncounted_as v h.0 asked.Signal d m m2 (gone_on_with x own_hart) place free (is.done ∙ same) (record {
@@ -185,7 +191,7 @@ module _ (v : Seen) (m : Parts) (h : Hart) (place : IsPlace v m h.0) (free : ref
         ended = over.ended ∙ goes_on v m h.0 d.kernel place (was_not_stuck v m h.0 place);
       })
   event_by (Some killer) x m1 m2 over =
-      let p = plain_seen v in
+      let p = v.plain in
       let d = done_with (Some killer) in
       let same = same_done (Some killer) over.made.dies in
       uncounted_as v h.0 asked.Signal d m m2 (gone_on_with x own_hart) place free (is.done ∙ same) (record {

@@ -2,7 +2,7 @@
 use Rattle.std.proofs.Common.{◌≡◌, ℕ, ◌≤◌, ◌<◌, List, [], ◌∷◌, map, find, refl, sym, ap, ◌∙◌, arith, Bool, true, false, not, cond, eqb, ◌&&◌, ◌||◌, Option, Some, None, is_some, get_or, subst, ◌%◌, option_map}
 use Rattle.std.specs.List.{list_any}
 use Rattle.mach_types.specs.declared.events.Entry.{Entry}
-use Rattle.process.proofs.Common.{Effect, Hart, HartState, ImagePage, IsPlace, IsPlanned, IsTied, Next, Parts, Running, Saved, Seen, entry_from, here_of, is_writable, memory, plain_seen, runs, thread}
+use Rattle.process.proofs.Common.{Effect, Hart, HartState, ImagePage, IsPlace, IsPlanned, IsTied, Next, Parts, Running, Saved, Stand, entry_from, here_at, runs, thread}
 use Rattle.mach_types.specs.declared.events.Kind.{Kind}
 use Rattle.mach_types.specs.declared.signal_words.Action.{Action}
 use Rattle.mach_types.specs.declared.signal_words.ThreadSignals.{ThreadSignals}
@@ -14,9 +14,10 @@ use Rattle.rv_inst.specs.Execution.{access_fault, fault_in, is_allowed, unless_a
 use Rattle.rv_inst.specs.declared.class.Access.{Access}
 use Rattle.rv_inst.specs.declared.effects.Effect.TheVariants as effect
 use Rattle.block_model.specs.Instruction.{fault_by, fetch_fault, fetched, next_effect, next_fault}
-use Rattle.block_model.specs.Run.{IsBlockRun}
+use Rattle.block_model.specs.Here.{is_storable, reached}
+use Rattle.block_model.specs.Standing.{IsStanding}
 use Rattle.block_model.specs.Tables.{AreSignalsOfLive}
-use Rattle.block_model.proofs.Laws.{live_signals, place_good, running_is}
+use Rattle.block_model.proofs.Laws.{running_is}
 use Rattle.process.specs.Delivering.{HasSignals}
 use Rattle.process.proofs.HartStates.{hart_there}
 use Rattle.process.proofs.Places.{hart_is, thread_is}
@@ -41,30 +42,30 @@ pub held_as_live : (t : ℕ) (ts : Threads) (g : Signalling) → AreSignalsOfLiv
 held_as_live t ts g of = any_numbered t g.threads ∙ ap (list_any (λ u. eqb u t)) of ∙ sym (live_numbered t ts.live)
 
 -- a thread that runs on a hart of the machine is live, and so its signals are kept
-pub held_where_run : (v : Seen) (m : Parts) (h t : ℕ) → IsBlockRun v.setting v.log → IsTied v.setting (plain_seen v) m → h < v.setting.limits.harts
-    → runs (here_of v h) ≡ Some t → is_held t m.kernel.signals ≡ true
-held_where_run v m h t run tied lt at =
-    let k = (plain_seen v).kernel in
-    let state = running_is v.setting.limits.harts h t k.threads k.scheduling (place_good v h run lt).kernel.tables at in
-    ap (is_held t) tied.tables.signals ∙ held_as_live t k.threads k.signals (live_signals v run) ∙ live_with t (Running (record { 0 = h })) k.threads state
+pub held_where_run : (v : Stand) (m : Parts) (h t : ℕ) → IsStanding v → IsTied v.setting v.plain m → h < v.setting.limits.harts
+    → runs (here_at v h) ≡ Some t → is_held t m.kernel.signals ≡ true
+held_where_run v m h t stands tied lt at =
+    let k = v.plain.kernel in
+    let state = running_is v.setting.limits.harts h t k.threads k.scheduling stands.sound.tables at in
+    ap (is_held t) tied.tables.signals ∙ held_as_live t k.threads k.signals stands.held.signals ∙ live_with t (Running (record { 0 = h })) k.threads state
 
-pub held_at : (v : Seen) (m : Parts) (h t : ℕ) → IsPlace v m h → runs (here_of v h) ≡ Some t → is_held t m.kernel.signals ≡ true
-held_at v m h t place at = held_where_run v m h t place.run place.tied place.lt at
+pub held_at : (v : Stand) (m : Parts) (h t : ℕ) → IsPlace v m h → runs (here_at v h) ≡ Some t → is_held t m.kernel.signals ≡ true
+held_at v m h t place at = held_where_run v m h t place.stands place.tied place.lt at
 
-pub has_signals : (v : Seen) (m : Parts) (h : ℕ) → IsBlockRun v.setting v.log → IsTied v.setting (plain_seen v) m → h < v.setting.limits.harts → HasSignals m h
-has_signals v m h run tied lt x t at busy =
-    let own = hart_there v.setting (plain_seen v) m h x tied lt at in
-    held_where_run v m h t.0 run tied lt (thread_is (runs (here_of v h)) t (sym busy ∙ ap (λ (y : HartState). y.running) own))
+pub has_signals : (v : Stand) (m : Parts) (h : ℕ) → IsStanding v → IsTied v.setting v.plain m → h < v.setting.limits.harts → HasSignals m h
+has_signals v m h stands tied lt x t at busy =
+    let own = hart_there v.setting v.plain m h x tied lt at in
+    held_where_run v m h t.0 stands tied lt (thread_is (runs (here_at v h)) t (sym busy ∙ ap (λ (y : HartState). y.running) own))
 
 -- the thread that an entry of a hart's event names is the one that runs there
-pub entry_runs : (v : Seen) (m : Parts) (h : Hart) (k : Kind) (t : ℕ) (x : HartState) (e : Entry) → IsPlace v m h.0 → runs (here_of v h.0) ≡ Some t → x ≡ get_or m.harts.items h.0 x
+pub entry_runs : (v : Stand) (m : Parts) (h : Hart) (k : Kind) (t : ℕ) (x : HartState) (e : Entry) → IsPlace v m h.0 → runs (here_at v h.0) ≡ Some t → x ≡ get_or m.harts.items h.0 x
     → e ≡ entry_from h k x.running x.pc → e.tid.0 ≡ t
 entry_runs v m h k t x e place at value is =
     let busy : x.running ≡ Some (thread t) = ap (λ (y : HartState). y.running) (hart_is v m h.0 x place value) ∙ ap (option_map thread) at in
     ap (λ (z : Entry). z.tid.0) (is ∙ ap (λ o. entry_from h k o x.pc) busy)
 
 -- so signals are kept of it
-pub held_named : (v : Seen) (m : Parts) (h : Hart) (k : Kind) (t : ℕ) (x : HartState) (e : Entry) → IsPlace v m h.0 → runs (here_of v h.0) ≡ Some t → x ≡ get_or m.harts.items h.0 x
+pub held_named : (v : Stand) (m : Parts) (h : Hart) (k : Kind) (t : ℕ) (x : HartState) (e : Entry) → IsPlace v m h.0 → runs (here_at v h.0) ≡ Some t → x ≡ get_or m.harts.items h.0 x
     → e ≡ entry_from h k x.running x.pc → is_held e.tid.0 m.kernel.signals ≡ true
 held_named v m h k t x e place at value is = ap (λ n. is_held n m.kernel.signals) (entry_runs v m h k t x e place at value is) ∙ held_at v m h.0 t place at
 
@@ -119,9 +120,9 @@ of_next byte can_write pc word (Some e) = of_effect byte can_write e
 fault_is_signal : (pages : List ImagePage) (byte : ℕ → Option ℕ) (can_write : ℕ → Bool) (f : Saved) (o : Option ℕ) → o ≡ next_fault pages byte can_write f → IsSignal o
 fault_is_signal pages byte can_write f o is = subst IsSignal (sym is) (of_next byte can_write f.pc (fetched pages f.pc) (next_effect pages f))
 
-pub planned_fault : (v : Seen) (h : ℕ) (next : Next) → IsPlanned v h next → IsSignal next.fault
+pub planned_fault : (v : Stand) (h : ℕ) (next : Next) → IsPlanned v h next → IsSignal next.fault
 planned_fault v h next plan =
-    fault_is_signal v.setting.program.pages (memory (here_of v h)) (is_writable (here_of v h)) ((here_of v h).file plan.thread) next.fault plan.fault
+    fault_is_signal v.setting.program.pages (reached (here_at v h)) (is_storable (here_at v h)) ((here_at v h).file plan.thread) next.fault plan.fault
 
 -- HANDLERS
 

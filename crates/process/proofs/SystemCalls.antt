@@ -1,14 +1,14 @@
 -- A call of the thread on a hart.
-use Rattle.std.proofs.Common.{◌≡◌, ◌≢◌, ℕ, ◌+◌, ◌-◌, ◌<◌, ◌^◌, append-nil, length, refl, sym, ap, ◌∙◌, arith, Bool, true, false, cond, ◌||◌, Option, Some, None, get_or}
+use Rattle.std.proofs.Common.{◌≡◌, ◌≢◌, ℕ, ◌+◌, ◌-◌, ◌<◌, ◌^◌, append-nil, length, inl, inr, refl, subst, sym, ap, ◌∙◌, arith, Bool, true, false, cond, ◌||◌, Option, Some, None, get_or}
 use Rattle.std.specs.Option.{option_map, option_or}
-use Rattle.process.proofs.Common.{End, Hart, HartState, IsPlace, Next, Parts, Plain, Saved, Seen, Setting, Threads, asked_by, by_call, credit_of, done_of, file_among, file_on, hart_at, hart_in, harts_that, here_in_plain, here_of, id_on, is_busy, is_stuck, plain_seen, running_on}
+use Rattle.process.proofs.Common.{End, Hart, HartState, IsPlace, Next, Parts, Plain, Saved, Setting, Stand, Threads, asked_by, by_call, credit_of, done_of, file_among, file_on, hart_at, hart_in, harts_that, here_at, here_in_plain, id_on, is_busy, is_stuck, running_on}
 use Rattle.mach_types.specs.Registers.{no_registers}
 use Rattle.mach_types.specs.declared.events.Choice.TheVariants as asked
 use Rattle.mach_types.specs.declared.events.Entry.{Entry}
 use Rattle.mach_types.specs.declared.events.Kind.TheVariants as kind
 use Rattle.mach_types.specs.declared.limits.End.TheVariants as over
 use Rattle.rv_inst.specs.declared.effects.Effect.TheVariants as effect
-use Rattle.sys_calls.specs.Made.{IsAt, barrier_of, gives_up, process_end}
+use Rattle.sys_calls.specs.Made.{IsAt, IsOwnCall, barrier_of, gives_up, process_end}
 use Rattle.sys_calls.specs.declared.calling.CallEnd.{CallEnd}
 use Rattle.sys_calls.specs.declared.calling.CallEnd.TheVariants as ends
 use Rattle.block_model.specs.Calls.{called}
@@ -20,9 +20,8 @@ use Rattle.block_model.specs.Ids.{id_of, without_id}
 use Rattle.block_model.specs.Requests.{is_about, restarts_at, with_hart}
 use Rattle.block_model.specs.Tables.{AreOfLive, AreSignalsOfLive, IsTables}
 use Rattle.sys_calls.specs.Registered.{areas_by_number}
-use Rattle.block_model.proofs.Laws.{given_few, live_areas, live_signals}
 use Rattle.process.specs.EventOutcomes.{entry_from, hart_after_call, waits_after}
-use Rattle.process.specs.Planned.{IsInside, IsPlanned}
+use Rattle.process.specs.Planned.{IsInside, IsOwnStep, IsPlanned}
 use Rattle.process.proofs.Membarriers.{running_here}
 use Rattle.process.proofs.Entries.{entry_here}
 use Rattle.process.proofs.ExecEvent.{done_call}
@@ -78,22 +77,27 @@ pub ended_after : (end : CallEnd) (c : CallDone) (o : Option End) (b : Bool) →
 ended_after end c o b process stuck is = is ∙ rw (process, stuck) refl
 
 -- what a call finds
-pub record IsCalling (v : Seen) (m : Parts) (h : Hart) (running harts : ℕ) (x : HartState) (e : Entry) : Type 0 where
-  pub own : x ≡ hart_at v.setting (plain_seen v) h.0 (credit_of m.harts.items h.0)
-  pub runs : runs (here_of v h.0) ≡ Some e.tid.0
-  pub at : IsAt (here_of v h.0) m.kernel m.pages h running harts e.tid (record { file = x.file; pc = x.pc }) x.cid
-  pub done : done_of asked.Exec (here_of v h.0) ≡ by_call (here_of v h.0) (called (here_of v h.0) e.tid.0)
+pub record IsCalling (v : Stand) (m : Parts) (h : Hart) (running harts : ℕ) (x : HartState) (e : Entry) : Type 0 where
+  pub own : x ≡ hart_at v.setting v.plain h.0 (credit_of m.harts.items h.0)
+  pub runs : runs (here_at v h.0) ≡ Some e.tid.0
+  pub at : IsAt (here_at v h.0) m.kernel m.pages h running harts e.tid (record { file = x.file; pc = x.pc }) x.cid
+  pub done : done_of asked.Exec (here_at v h.0) ≡ by_call (here_at v h.0) (called (here_at v h.0) e.tid.0)
 
 abbrev pub call_next : Next
 call_next = record { effect = Some effect.Call; fault = None }
 
-pub calling : (v : Seen) (m : Parts) (h : Hart) (running harts : ℕ) (x : HartState) (e : Entry) → IsPlace v m h.0 → IsPlanned v h.0 call_next → IsInside false m h.0
+-- it reads nothing of another process
+own_call : (v : Stand) (h t : ℕ) → IsOwnStep v h t call_next → IsOwnCall (here_at v h) t
+own_call v h t (inl alone) = inl alone
+own_call v h t (inr own) = (own effect.Call refl refl).1
+
+pub calling : (v : Stand) (m : Parts) (h : Hart) (running harts : ℕ) (x : HartState) (e : Entry) → IsPlace v m h.0 → IsPlanned v h.0 call_next → IsInside false m h.0
     → running ≡ harts_that (is_busy m.harts.items) 8 → harts ≡ length m.harts.items → x ≡ get_or m.harts.items h.0 x → e ≡ entry_from h kind.Exec x.running x.pc → IsCalling v m h running harts x e
 calling v m h running harts x e place plan outside set all value is =
     let own = hart_is v m h.0 x place value in
-    let named : e.tid.0 ≡ number_of (runs (here_of v h.0)) = ap (λ (z : Entry). z.tid.0) (is ∙ entry_here v m h kind.Exec x place value) in
+    let named : e.tid.0 ≡ number_of (runs (here_at v h.0)) = ap (λ (z : Entry). z.tid.0) (is ∙ entry_here v m h kind.Exec x place value) in
     let its : plan.thread ≡ e.tid.0 = sym (named ∙ ap number_of plan.at) in
-    let at : runs (here_of v h.0) ≡ Some e.tid.0 = plan.at ∙ ap Some its in
+    let at : runs (here_at v h.0) ≡ Some e.tid.0 = plan.at ∙ ap Some its in
     record {
       own = own;
       runs = at;
@@ -102,26 +106,27 @@ calling v m h running harts x e place plan outside set all value is =
         count = sym (all ∙ place.tied.all_harts);
         tables = place.tied.tables;
         running = sym (set ∙ running_here v m h.0 place);
-        id = sym (ap (λ (y : HartState). y.cid) own ∙ ap (id_on (here_of v h.0)) at);
+        id = sym (ap (λ (y : HartState). y.cid) own ∙ ap (id_on (here_at v h.0)) at);
         pages = place.tied.pages;
-        file = ap (λ (y : HartState). record { file = y.file; pc = y.pc }) own ∙ ap (file_on (here_of v h.0)) at;
+        file = ap (λ (y : HartState). record { file = y.file; pc = y.pc }) own ∙ ap (file_on (here_at v h.0)) at;
+        own = subst (IsOwnCall (here_at v h.0)) its (own_call v h.0 plan.thread plan.own);
       };
-      done = done_call (here_of v h.0) plan.thread plan.at (sym plan.fault) (sym plan.effect) (outside v plan.thread place plan.at) ∙ ap (λ t. by_call (here_of v h.0) (called (here_of v h.0) t)) its;
+      done = done_call (here_at v h.0) plan.thread plan.at (sym plan.fault) (sym plan.effect) (outside v plan.thread place plan.at) ∙ ap (λ t. by_call (here_at v h.0) (called (here_at v h.0) t)) its;
     }
 
 -- a further number can be given
-pub numbers_left : (v : Seen) (m : Parts) (h : ℕ) → IsPlace v m h → m.kernel.threads.threads.given < 2 ^ 31 - 1
+pub numbers_left : (v : Stand) (m : Parts) (h : ℕ) → IsPlace v m h → m.kernel.threads.threads.given < 2 ^ 31 - 1
 numbers_left v m h place =
-    let few = given_few v place.run in let same = ap (λ (ts : Threads). ts.given) place.tied.tables.threads in
+    let few = place.stands.given in let same = ap (λ (ts : Threads). ts.given) place.tied.tables.threads in
     let room = place.room in let steps = place.limits.most_steps in omega arith
 
 -- the set of the harts that run threads
-pub running_found : (v : Seen) (m : Parts) (h running harts : ℕ) → IsPlace v m h → running ≡ harts_that (is_busy m.harts.items) 8 → harts ≡ length m.harts.items
+pub running_found : (v : Stand) (m : Parts) (h running harts : ℕ) → IsPlace v m h → running ≡ harts_that (is_busy m.harts.items) 8 → harts ≡ length m.harts.items
     → running_harts m.kernel.threads.threads harts ≡ running
 running_found v m h running harts place set all = rw (all, place.tied.all_harts, place.tied.tables.threads) (sym (set ∙ running_here v m h place))
 
 -- the tables that it finds
-pub tables_found : (v : Seen) (m : Parts) (h harts : ℕ) → IsPlace v m h → harts ≡ length m.harts.items → IsTables harts m.kernel.threads.threads m.kernel.ready
+pub tables_found : (v : Stand) (m : Parts) (h harts : ℕ) → IsPlace v m h → harts ≡ length m.harts.items → IsTables harts m.kernel.threads.threads m.kernel.ready
 tables_found v m h harts place all = rw (all, place.tied.all_harts, place.tied.tables.threads, place.tied.tables.scheduling) (tables_at v m h place)
 
 -- it counts nothing by itself
@@ -133,12 +138,12 @@ same_ran end saved x = go (gives_up end)
     go false = refl
 
 -- the signals that it finds
-pub signals_found : (v : Seen) (m : Parts) (h : ℕ) → IsPlace v m h → AreSignalsOfLive m.kernel.threads.threads m.kernel.signals
-signals_found v m h place = rw (place.tied.tables.threads, place.tied.tables.signals) (live_signals v place.run)
+pub signals_found : (v : Stand) (m : Parts) (h : ℕ) → IsPlace v m h → AreSignalsOfLive m.kernel.threads.threads m.kernel.signals
+signals_found v m h place = rw (place.tied.tables.threads, place.tied.tables.signals) place.stands.held.signals
 
 -- the areas that it finds
-pub areas_found : (v : Seen) (m : Parts) (h : ℕ) → IsPlace v m h → AreOfLive m.kernel.threads.threads (areas_by_number m.kernel.areas.items)
-areas_found v m h place = rw (place.tied.tables.threads, place.tied.tables.areas) (live_areas v place.run)
+pub areas_found : (v : Stand) (m : Parts) (h : ℕ) → IsPlace v m h → AreOfLive m.kernel.threads.threads (areas_by_number m.kernel.areas.items)
+areas_found v m h place = rw (place.tied.tables.threads, place.tied.tables.areas) place.stands.held.areas
 
 -- the ids of other threads stay
 pub ids_kept : (harts h t : ℕ) (b : Bool) (p : Plain) (c : CallDone) → IsTables harts p.kernel.threads p.kernel.scheduling → running_on h p.kernel.threads ≡ Some t

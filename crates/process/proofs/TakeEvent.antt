@@ -3,7 +3,7 @@ use Rattle.std.proofs.Common.{◌≡◌, ◌≢◌, ℕ, ◌+◌, List, [], appe
 use Rattle.std.specs.Option.{option_and_then, option_map, option_or}
 use Rattle.mach_types.specs.Kernel.Areas.{interruption, pc_after, writes_of}
 use Rattle.mach_types.specs.declared.events.Choice.TheVariants as asked
-use Rattle.process.proofs.Common.{AreSaved, Area, Done, End, Hart, HartState, Here, IsPlace, IsUncounted, IsWritten, Map, Outcome, Parts, Plain, Saved, Seen, Setting, Write, area_here, byte_in, can_write_in, counted, credit_of, done_of, file_among, file_on, files_interrupted, hart_at, hart_in, here_in_plain, here_of, interruption_here, is_writable, lost_unless, memory, plain_seen, refusal_of, runs}
+use Rattle.process.proofs.Common.{AreSaved, Area, Done, End, Hart, HartState, Here, IsPlace, IsUncounted, IsWritten, Map, Outcome, Parts, Plain, Saved, Setting, Stand, Write, area_here, byte_in, can_write_in, counted, credit_of, done_of, file_among, file_on, files_interrupted, hart_at, hart_in, here_at, here_in_plain, interruption_here, is_writable, lost_unless, memory, refusal_of, runs}
 use Rattle.mach_types.specs.declared.events.Why.TheVariants.{NoRequest}
 use Rattle.block_model.specs.Events.Preempt.{unless_waiting}
 use Rattle.block_model.specs.Events.Take.{done_take, done_take_by, killed_by, only_took, took_and_interrupted}
@@ -151,18 +151,18 @@ pub record IsTaken (here : Here) (h : ℕ) (came : Option Outcome) (m m1 m2 : Pa
   pub same_kernel : m2.kernel ≡ m.kernel
   pub ended : m2.ended ≡ ended_by came m.ended
 
-module _ (v : Seen) (m : Parts) (h : Hart) (place : IsPlace v m h.0) (free : refusal_of asked.Take (here_of v h.0) ≡ None) where
+module _ (v : Stand) (m : Parts) (h : Hart) (place : IsPlace v m h.0) (free : refusal_of asked.Take (here_at v h.0) ≡ None) where
   abbrev here : Here
-  here = here_of v h.0
+  here = here_at v h.0
 
   abbrev own_hart : HartState
-  own_hart = hart_at v.setting (plain_seen v) h.0 (credit_of m.harts.items h.0)
+  own_hart = hart_at v.setting v.plain h.0 (credit_of m.harts.items h.0)
 
   event_so : (files : List (ℕ × Saved)) (ws : List Write) (comes came : Option Outcome) (e : Option End) (m1 m2 : Parts) → done_of asked.Take here ≡ done_so here files ws comes e → IsTaken here h.0 came m m1 m2
-      → e ≡ option_and_then killed_by came → counted (taken_with came own_hart) ≡ own_after v.setting (plain_seen v) h.0 (done_so here files ws comes e) (credit_of m.harts.items h.0)
-      → AreSaved (λ u. file_among files u ((plain_seen v).file u)) m.kernel.threads → IsUncounted v h.0 (done_of asked.Take here) m m2
+      → e ≡ option_and_then killed_by came → counted (taken_with came own_hart) ≡ own_after v.setting v.plain h.0 (done_so here files ws comes e) (credit_of m.harts.items h.0)
+      → AreSaved (λ u. file_among files u (v.plain.file u)) m.kernel.threads → IsUncounted v h.0 (done_of asked.Take here) m m2
   event_so files ws comes came e m1 m2 same is over own kept =
-      let p = plain_seen v in
+      let p = v.plain in
       let d = done_so here files ws comes e in
       let its : (done_take here).entered ≡ ws = ap (λ (z : Done). z.entered) same in
       let wrote : IsWritten ws m.pages m2.pages =
@@ -182,14 +182,14 @@ module _ (v : Seen) (m : Parts) (h : Hart) (place : IsPlace v m h.0) (free : ref
 
   by_outcome : (r : Option ℕ) (came : Option Outcome) (m1 m2 : Parts) → runs here ≡ r → done_of asked.Take here ≡ done_with here r came → came ≡ restart_here here
       → IsTaken here h.0 came m m1 m2 → IsUncounted v h.0 (done_of asked.Take here) m m2
-  by_outcome None None m1 m2 at same comes is = event_so [] [] None None None m1 m2 same is refl (took_own _ v.setting (plain_seen v) h.0 None None own_hart refl) place.tied.saved
+  by_outcome None None m1 m2 at same comes is = event_so [] [] None None None m1 m2 same is refl (took_own _ v.setting v.plain h.0 None None own_hart refl) place.tied.saved
   by_outcome None (Some o) m1 m2 at same comes is = let bad : Some o ≡ None = comes ∙ none_runs here at in absurd (cc)
-  by_outcome (Some t) None m1 m2 at same comes is = event_so [] [] None None None m1 m2 same is refl (took_own _ v.setting (plain_seen v) h.0 None None own_hart refl) place.tied.saved
+  by_outcome (Some t) None m1 m2 at same comes is = event_so [] [] None None None m1 m2 same is refl (took_own _ v.setting v.plain h.0 None None own_hart refl) place.tied.saved
   by_outcome (Some t) (Some o) m1 m2 at same comes is =
       event_so (files_interrupted here t o) (writes_of (area_here here t) o) (Some o) (Some o) (killed_by o) m1 m2 same is refl
-      (interrupted_own _ v.setting (plain_seen v) h.0 t o (killed_by o) (writes_of (area_here here t) o) own_hart refl at)
-      (kept_running (plain_seen v).file (λ u. file_among (files_interrupted here t o) u ((plain_seen v).file u)) t h m.kernel.threads place.tied.table (runs_there v m h t place at)
-      (λ u other. file_other here t u o ((plain_seen v).file u) other) place.tied.saved)
+      (interrupted_own _ v.setting v.plain h.0 t o (killed_by o) (writes_of (area_here here t) o) own_hart refl at)
+      (kept_running v.plain.file (λ u. file_among (files_interrupted here t o) u (v.plain.file u)) t h m.kernel.threads place.tied.table (runs_there v m h t place at)
+      (λ u other. file_other here t u o (v.plain.file u) other) place.tied.saved)
 
   pub taken_event : (came : Option Outcome) (m1 m2 : Parts) → IsTaken here h.0 came m m1 m2 → IsUncounted v h.0 (done_of asked.Take here) m m2
   taken_event came m1 m2 is =

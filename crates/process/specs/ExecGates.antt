@@ -3,7 +3,7 @@ use Rattle.std.specs.Prelude.{◌≡◌, ◌/◌, Bool, not}
 use Rattle.mach_types.specs.Bytes.{each_byte}
 use Rattle.mach_types.specs.declared.address_space.TheConstants.{PAGE_SIZE}
 use Rattle.mach_types.specs.declared.user_memory.Store.{Store}
-use Rattle.block_model.specs.Here.{Here, is_writable, memory, runs}
+use Rattle.block_model.specs.Here.{Here, is_storable, reached, runs}
 use Rattle.block_model.specs.Instruction.{next_effect, next_fault}
 use Rattle.sys_calls.specs.Remapped.{has_page}
 use Rattle.sys_calls.specs.declared.memory_calls.PageSpan.{PageSpan}
@@ -17,4 +17,4 @@ lies_in pages w = not (each_byte (λ a. not (has_page pages (a / PAGE_SIZE))) w.
 -- this is the next instruction of the file that the hart of a place keeps
 pub record IsNextAt (here : Here) (next : Next) : Type 0 where
   pub effect : next.effect ≡ next_effect here.setting.program.pages (file_on here (runs here))
-  pub fault : next.fault ≡ next_fault here.setting.program.pages (memory here) (is_writable here) (file_on here (runs here))
+  pub fault : next.fault ≡ next_fault here.setting.program.pages (reached here) (is_storable here) (file_on here (runs here))

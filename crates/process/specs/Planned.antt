@@ -1,37 +1,46 @@
 -- The next instruction of a thread that may be executed.
-use Rattle.std.specs.Prelude.{ℕ, ◌≡◌, Bool, Some, None, IfSome}
+use Rattle.std.specs.Prelude.{ℕ, ◌≡◌, ◌⊎◌, Bool, true, Some, None, IfSome}
 use Rattle.mach_types.specs.declared.events.Choice.TheVariants as asked
+use Rattle.rv_inst.specs.Class.{is_call}
 use Rattle.rv_inst.specs.Sizes.{HasAccessSizes}
-use Rattle.block_model.specs.Setting.{Seen}
+use Rattle.rv_inst.specs.declared.effects.Effect.{Effect}
 use Rattle.block_model.specs.Here.{runs}
 use Rattle.block_model.specs.Events.{refusal_of, done_of}
 use Rattle.block_model.specs.Events.Exec.{next_effect, next_fault}
-use Rattle.block_model.specs.Plain.{here_of}
+use Rattle.block_model.specs.Stands.{Stand, here_at}
 use Rattle.block_model.specs.Sequences.{is_inside_here}
+use Rattle.sys_calls.specs.Made.{IsOwnCall}
 use Rattle.process.specs.Refinement.{IsPlace, IsUncounted}
 use Rattle.process.specs.declared.next.Next.{Next}
 use Rattle.process.specs.declared.parts.Parts.{Parts}
 
+-- the step of thread t reads and writes nothing of another process: there is none, or it is a fault, or a call of its own process
+abbrev pub IsOwnStep : Stand → ℕ → ℕ → Next → Type 0
+IsOwnStep v h t next =
+    (v.beside ≡ None)
+    ⊎ ((e : Effect) → next.effect ≡ Some e → next.fault ≡ None → (is_call e ≡ true) × IsOwnCall (here_at v h) t)
+
 -- this thread runs on hart h, this is its next instruction there, and it may be executed
-pub record IsPlanned (v : Seen) (h : ℕ) (next : Next) : Type 0 where
+pub record IsPlanned (v : Stand) (h : ℕ) (next : Next) : Type 0 where
   pub thread : ℕ
-  pub at : runs (here_of v h) ≡ Some thread
-  pub effect : next.effect ≡ next_effect (here_of v h) thread
-  pub fault : next.fault ≡ next_fault (here_of v h) thread
+  pub at : runs (here_at v h) ≡ Some thread
+  pub effect : next.effect ≡ next_effect (here_at v h) thread
+  pub fault : next.fault ≡ next_fault (here_at v h) thread
   pub sizes : IfSome next.effect HasAccessSizes
-  pub free : refusal_of asked.Exec (here_of v h) ≡ None
+  pub free : refusal_of asked.Exec (here_at v h) ≡ None
+  pub own : IsOwnStep v h thread next
 
 -- there is a place where it is
 pub record HasPlan (m : Parts) (h : ℕ) (next : Next) : Type 0 where
-  pub seen : Seen
-  pub place : IsPlace seen m h
-  pub plan : IsPlanned seen h next
+  pub stand : Stand
+  pub place : IsPlace stand m h
+  pub plan : IsPlanned stand h next
 
 -- whether the thread that runs on hart h at a place is inside a good sequence is this
 abbrev pub IsInside : Bool → Parts → ℕ → Type 0
 IsInside inside m h =
-    (v : Seen) (t : ℕ) → IsPlace v m h → runs (here_of v h) ≡ Some t → is_inside_here (here_of v h) t ≡ inside
+    (v : Stand) (t : ℕ) → IsPlace v m h → runs (here_at v h) ≡ Some t → is_inside_here (here_at v h) t ≡ inside
 
 -- at each place where this is planned the parts are those after its event, which is yet to be counted
 abbrev pub IsExecuted : Parts → ℕ → Next → Parts → Type 0
-IsExecuted m h next m' = (v : Seen) → IsPlace v m h → IsPlanned v h next → IsUncounted v h (done_of asked.Exec (here_of v h)) m m'
+IsExecuted m h next m' = (v : Stand) → IsPlace v m h → IsPlanned v h next → IsUncounted v h (done_of asked.Exec (here_at v h)) m m'

@@ -7,7 +7,7 @@ ghost use Rattle.hart_state.specs.State.{stores};
 ghost use Rattle.page_map.specs.Map.{can_write_in};
 ghost use Rattle.process.specs.Reservations.{lost_unless};
 ghost use Rattle.process.specs.Stored.{IsWritten};
-ghost use Rattle.process.specs.Refinement.{HasPlace, IsEvent, IsRefusal, MayMake};
+ghost use Rattle.process.specs.Refinement.{HasPlace, IsEvent, IsRefusal, MayDrain};
 
 use crate::parts::Parts;
 use crate::reservations::lose_others;
@@ -71,9 +71,9 @@ impl Parts {
         }
     }
 
-    /// The oldest waiting store of a hart enters memory.
+    /// The oldest waiting store of a hart, which lies on pages, enters memory.
     pub(crate) fn drained(&mut self, hart: Hart)
-        requires { MayMake self.old hart.0 Choice.Drain }
+        requires { MayDrain self.old hart.0 }
         ensures { IsEvent self.old hart.0 Choice.Drain self.new }
     {
         let state = &mut self.harts[hart.0 as usize];

@@ -2,13 +2,12 @@
 
 ghost use Rattle.std.specs.Prelude.{◌≡◌, Option, Some, None, true, false, IfOk, IfErr, OnErr};
 ghost use Rattle.rv_inst.specs.Class.{is_call};
-ghost use Rattle.block_model.specs.Setting.{Seen};
+ghost use Rattle.block_model.specs.Stands.{Stand, here_at};
 ghost use Rattle.block_model.specs.Events.{done_of, refusal_of};
-ghost use Rattle.block_model.specs.Plain.{here_of};
 ghost use Rattle.sys_calls.specs.Made.{process_end};
 ghost use Rattle.process.specs.EventOutcomes.{hart_after_call, over_after};
 ghost use Rattle.process.specs.Planned.{IsPlanned, IsInside, HasPlan, IsExecuted};
-ghost use Rattle.process.specs.Refinement.{IsPlace, HasCode, IsUncounted, answer_to};
+ghost use Rattle.process.specs.Refinement.{IsAlone, IsPlace, HasCode, IsUncounted, answer_to};
 
 use crate::code::Code;
 use crate::handlers::has_handler;
@@ -24,9 +23,9 @@ impl Parts {
     /// The next instruction of the thread on a hart, where it may be executed, or the condition that fails.
     fn planned(&self, code: &Code, hart: Hart) -> Result<Next, Why>
         requires { HasCode code.now self.now hart.0 }
-        ensures err { (v : Seen) → IsPlace v self.now hart.0 → code.now ≡ v.setting.program.pages
-            → IfErr result (λ why. refusal_of Choice.Exec (here_of v hart.0) ≡ Some why) }
-        ensures ok { (v : Seen) → IsPlace v self.now hart.0 → code.now ≡ v.setting.program.pages
+        ensures err { (v : Stand) → IsPlace v self.now hart.0 → IsAlone code.now v
+            → IfErr result (λ why. refusal_of Choice.Exec (here_at v hart.0) ≡ Some why) }
+        ensures ok { (v : Stand) → IsPlace v self.now hart.0 → IsAlone code.now v
             → IfOk result (IsPlanned v hart.0) }
     {
         let state = &self.harts[hart.0 as usize];
@@ -50,8 +49,8 @@ impl Parts {
     /// Why the thread on a hart may not execute its next instruction.
     pub(crate) fn refusal_exec(&self, code: &Code, hart: Hart) -> Option<Why>
         requires { HasCode code.now self.now hart.0 }
-        ensures { (v : Seen) → IsPlace v self.now hart.0 → code.now ≡ v.setting.program.pages
-            → result ≡ refusal_of Choice.Exec (here_of v hart.0) }
+        ensures { (v : Stand) → IsPlace v self.now hart.0 → IsAlone code.now v
+            → result ≡ refusal_of Choice.Exec (here_at v hart.0) }
     {
         let state = &self.harts[hart.0 as usize];
         let next = next_of(code, &self.pages, state);
@@ -171,11 +170,11 @@ impl Parts {
     /// `exec`, but for the count of its event.
     pub(crate) fn exec(&mut self, code: &Code, hart: Hart) -> Result<Entry, Why>
         requires { HasCode code.now self.old hart.0 }
-        ensures answer { (v : Seen) → IsPlace v self.old hart.0 → code.now ≡ v.setting.program.pages
+        ensures answer { (v : Stand) → IsPlace v self.old hart.0 → IsAlone code.now v
             → result ≡ answer_to v hart.0 Choice.Exec }
-        ensures made { (v : Seen) → IsPlace v self.old hart.0 → code.now ≡ v.setting.program.pages
+        ensures made { (v : Stand) → IsPlace v self.old hart.0 → IsAlone code.now v
             → IfOk result
-            (λ e. IsUncounted v hart.0 (done_of Choice.Exec (here_of v hart.0)) self.old self.new) }
+            (λ e. IsUncounted v hart.0 (done_of Choice.Exec (here_at v hart.0)) self.old self.new) }
         ensures err { OnErr result (self.new ≡ self.old) }
     {
         match self.planned(code, hart) {

@@ -1,5 +1,5 @@
 //! A process on its harts: its pages, the harts with their waiting stores, the kernel's tables, and the events that change
-//! them. It keeps no log: each contract is said at a place of one, for every log at which the parts may stand.
+//! them. It keeps no log: each contract is said at a place, for every place at which the parts may stand.
 #![tactic(auto)]
 
 mod code;

@@ -4,8 +4,7 @@
 ghost use Rattle.std.specs.Prelude.{◌≡◌, ◌<◌, ◌==◌, ℕ, slice_get};
 ghost use Rattle.std.specs.Option.{option_map};
 ghost use Rattle.mach_types.specs.Kernel.Barriers.{harts_that};
-ghost use Rattle.block_model.specs.Setting.{Seen};
-ghost use Rattle.block_model.specs.Plain.{here_of};
+ghost use Rattle.block_model.specs.Stands.{Stand, here_at};
 ghost use Rattle.sys_calls.specs.Made.{barrier_of};
 ghost use Rattle.process.specs.Barriers.{IsRestarted, asked_by, ended_by, is_busy, taken_or_noticed};
 ghost use Rattle.process.specs.ContextSwitch.{HasHart};
@@ -58,8 +57,8 @@ impl Parts {
     /// The thread on a hart that takes its requests is interrupted where one of them asks for it. Answers what that came to.
     fn restarted(&mut self, hart: Hart) -> Option<Outcome>
         requires { HasPlace self.old hart.0 }
-        ensures restarted { (v : Seen) → IsPlace v self.old hart.0
-            → IsRestarted (here_of v hart.0) result self.old self.new }
+        ensures restarted { (v : Stand) → IsPlace v self.old hart.0
+            → IsRestarted (here_at v hart.0) result self.old self.new }
         ensures kernel { self.new.kernel ≡ self.old.kernel }
         ensures ended { self.new.ended ≡ self.old.ended }
     {

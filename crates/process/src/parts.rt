@@ -2,14 +2,13 @@
 
 ghost use Rattle.std.specs.Prelude.{◌≡◌, ◌≢◌, None, IfOk, OnErr};
 ghost use Rattle.mach_types.specs.Kernel.Threads.{is_ready};
-ghost use Rattle.block_model.specs.Setting.{Seen};
 ghost use Rattle.block_model.specs.Deciding.{entry_in};
 ghost use Rattle.block_model.specs.Events.{done_of, refusal_of};
-ghost use Rattle.block_model.specs.Plain.{here_of};
+ghost use Rattle.block_model.specs.Stands.{Stand, here_at};
 ghost use Rattle.process.specs.ContextSwitch.{HasEvent, IsChanged};
 ghost use Rattle.process.specs.EventOutcomes.{entry_from};
 ghost use Rattle.process.specs.Harts.{counted};
-ghost use Rattle.process.specs.Refinement.{HasCode, IsAfter, IsEvent, IsPlace, IsUncounted, MayMake, answer_to};
+ghost use Rattle.process.specs.Refinement.{HasCode, IsAfter, IsAlone, IsEvent, IsPlace, IsUncounted, MayDrain, MayMake, answer_to};
 
 use crate::code::Code;
 use hart_state::HartState;
@@ -60,16 +59,16 @@ impl Parts {
 
     /// Makes the event of a choice on a hart, and answers its entry, or the first condition that fails; then nothing changes.
     ///
-    /// The parts must stand at a place of some log that goes on and has room for one more entry, of a program with these pages
-    /// of code, and the hart must be one of the machine's (`HasCode`). At whichever such place that is, the answer is the one
-    /// that is due there, and the parts are then those after its event.
+    /// The parts must stand at some place at which their process goes on, has room for one more entry and is alone on its
+    /// machine, with these pages of code, and the hart must be one of the machine's (`HasCode`). At whichever such place that
+    /// is, the answer is the one that is due there, and the parts are then those after its event.
     #[inline]
     pub fn make(&mut self, code: &Code, hart: Hart, choice: Choice) -> Result<Entry, Why>
         requires { HasCode code.now self.old hart.0 }
-        ensures answer { (v : Seen) → IsPlace v self.old hart.0 → code.now ≡ v.setting.program.pages
+        ensures answer { (v : Stand) → IsPlace v self.old hart.0 → IsAlone code.now v
             → result ≡ answer_to v hart.0 choice }
-        ensures after { (v : Seen) → IsPlace v self.old hart.0 → code.now ≡ v.setting.program.pages
-            → IfOk result (λ e. IsAfter v hart.0 (done_of choice (here_of v hart.0)) self.old self.new) }
+        ensures after { (v : Stand) → IsPlace v self.old hart.0 → IsAlone code.now v
+            → IfOk result (λ e. IsAfter v hart.0 (done_of choice (here_at v hart.0)) self.old self.new) }
         ensures err { OnErr result (self.new ≡ self.old) }
     {
         match self.made(code, hart, choice) {
@@ -98,10 +97,10 @@ impl Parts {
     #[inline]
     fn made(&mut self, code: &Code, hart: Hart, choice: Choice) -> Result<Entry, Why>
         requires { HasCode code.now self.old hart.0 }
-        ensures answer { (v : Seen) → IsPlace v self.old hart.0 → code.now ≡ v.setting.program.pages
+        ensures answer { (v : Stand) → IsPlace v self.old hart.0 → IsAlone code.now v
             → result ≡ answer_to v hart.0 choice }
-        ensures made { (v : Seen) → IsPlace v self.old hart.0 → code.now ≡ v.setting.program.pages
-            → IfOk result (λ e. IsUncounted v hart.0 (done_of choice (here_of v hart.0)) self.old self.new) }
+        ensures made { (v : Stand) → IsPlace v self.old hart.0 → IsAlone code.now v
+            → IfOk result (λ e. IsUncounted v hart.0 (done_of choice (here_at v hart.0)) self.old self.new) }
         ensures err { OnErr result (self.new ≡ self.old) }
     {
         if let Choice::Exec = choice {
@@ -121,6 +120,7 @@ impl Parts {
     fn event(&mut self, hart: Hart, choice: Choice)
         requires free { MayMake self.old hart.0 choice }
         requires other { choice ≢ Choice.Exec }
+        requires drains { choice ≡ Choice.Drain → MayDrain self.old hart.0 }
         ensures { IsEvent self.old hart.0 choice self.new }
     {
         match choice {
@@ -137,8 +137,8 @@ impl Parts {
     /// The first condition of a choice on a hart that fails; None exactly where the choice is allowed.
     pub(crate) fn refusal(&self, code: &Code, hart: Hart, choice: Choice) -> Option<Why>
         requires { HasCode code.now self.now hart.0 }
-        ensures { (v : Seen) → IsPlace v self.now hart.0 → code.now ≡ v.setting.program.pages
-            → result ≡ refusal_of choice (here_of v hart.0) }
+        ensures { (v : Stand) → IsPlace v self.now hart.0 → IsAlone code.now v
+            → result ≡ refusal_of choice (here_at v hart.0) }
     {
         match choice {
             Choice::Exec => self.refusal_exec(code, hart),
@@ -154,8 +154,8 @@ impl Parts {
     /// The entry of a ready thread that may begin to run on a hart.
     fn entry_of_run(&self, hart: Hart, tid: Tid) -> Entry
         requires { MayMake self.now hart.0 (Choice.Run tid) }
-        ensures { (v : Seen) → IsPlace v self.now hart.0
-            → result ≡ entry_in (Choice.Run tid) (here_of v hart.0) }
+        ensures { (v : Stand) → IsPlace v self.now hart.0
+            → result ≡ entry_in (Choice.Run tid) (here_at v hart.0) }
     {
         let Some(saved) = self.kernel.threads.saved(tid) else {
             unreachable!()
@@ -171,7 +171,7 @@ impl Parts {
     /// The entry of a choice on a hart that is allowed.
     pub(crate) fn entry(&self, hart: Hart, choice: Choice) -> Entry
         requires { MayMake self.now hart.0 choice }
-        ensures { (v : Seen) → IsPlace v self.now hart.0 → result ≡ entry_in choice (here_of v hart.0) }
+        ensures { (v : Stand) → IsPlace v self.now hart.0 → result ≡ entry_in choice (here_at v hart.0) }
     {
         match choice {
             Choice::Run(tid) => self.entry_of_run(hart, tid),
@@ -183,7 +183,7 @@ impl Parts {
     /// condition that fails. Nothing changes.
     pub fn answer(&self, code: &Code, hart: Hart, choice: Choice) -> Result<Entry, Why>
         requires { HasCode code.now self.now hart.0 }
-        ensures { (v : Seen) → IsPlace v self.now hart.0 → code.now ≡ v.setting.program.pages
+        ensures { (v : Stand) → IsPlace v self.now hart.0 → IsAlone code.now v
             → result ≡ answer_to v hart.0 choice }
     {
         match self.refusal(code, hart, choice) {

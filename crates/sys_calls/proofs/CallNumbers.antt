@@ -1,12 +1,15 @@
 -- The calls by their numbers, and which of them write nothing.
-use Rattle.std.proofs.Common.{◌≡◌, ℕ, Bool, true, false, cond, eqb, List, [], Option, Some, None, refl, sym, ap, ◌∙◌, ◌∷◌, Result, subst}
+use Rattle.std.proofs.Common.{◌≡◌, ◌≢◌, inl, inr, ℕ, Bool, true, false, cond, eqb, List, [], Option, Some, None, refl, sym, ap, ◌∙◌, ◌∷◌, Result, subst}
 use Rattle.sys_calls.proofs.Common.{CallDone, CallEnd, Errno, Errors, Here, IsAnswered, IsMade, Kernel, Map, Saved, Write, argument, int_argument, memory, refused, register, said, unless}
+use Rattle.block_model.specs.Beside.{Neighbour}
 use Rattle.block_model.specs.Calls.{call_of, called}
+use Rattle.block_model.specs.Calls.Answers.{call_number}
 use Rattle.block_model.specs.Calls.Affinity.{moved_off, sched_setaffinity, set_given, setaffinity_errors}
 use Rattle.block_model.specs.Calls.Futexes.{futex, futex_wait, futex_wake, operation, futex_errors, wait_errors}
 use Rattle.block_model.specs.Calls.Signals.{resumed, rt_sigreturn}
 use Rattle.block_model.specs.Kernel.{waited}
 use Rattle.mach_types.specs.Kernel.SignalFrames.{frame_read}
+use Rattle.sys_calls.specs.Made.{IsOwnCall}
 
 -- the call that the number names
 pub numbered : (h : Here) (t n i : ℕ) (saved : Saved) → saved ≡ h.file t → n ≡ register saved.file 17 → n ≡ i → called h t ≡ call_of i h t
@@ -22,6 +25,18 @@ pub told_numbered : (h : Here) (t : ℕ) {saved : Saved} {ws : List Write} {n i 
     → saved ≡ h.file t → n ≡ register saved.file 17 → n ≡ i → ws ≡ (call_of i h t).entered → ws ≡ (called h t).entered
 told_numbered h t {saved = saved} {n = n} {i = i} file is e told =
     told ∙ ap (λ (d : CallDone). d.entered) (sym (numbered h t n i saved file is e))
+
+-- a call that another process would change is of a process that is alone
+pub alone_by : (h : Here) (t : ℕ) {n i : ℕ} {saved : Saved} → saved ≡ h.file t → n ≡ register saved.file 17 → n ≡ i → IsOwnCall h t
+    → ((call_number h t ≢ 283) × (call_number h t ≢ 293) → call_number h t ≡ i → ⊥) → h.beside ≡ None
+alone_by h t file is e (inl alone) other = alone
+alone_by h t file is e (inr numbers) other =
+    absurd (other numbers (sym (ap (λ (f : Saved). register f.file 17) file) ∙ sym is ∙ e))
+
+pub made_alone : {h : Here} {t : ℕ} {k k' : Kernel} {m m' : Map} {saved' : Saved} {end : CallEnd} (call : Option Neighbour → CallDone) → h.beside ≡ None
+    → IsMade h t k m k' m' saved' end (call None) → IsMade h t k m k' m' saved' end (call h.beside)
+made_alone {h = h} {t = t} {k = k} {k' = k'} {m = m} {m' = m'} {saved' = saved'} {end = end} call alone made =
+    subst (λ (o : Option Neighbour). IsMade h t k m k' m' saved' end (call o)) (sym alone) made
 
 -- what it came to, where the number is this one; and where it wrote nothing
 pub by_number : {h : Here} {t : ℕ} {k k' : Kernel} {m m' : Map} {ws : List Write} {answer : Result ℕ Errno} {n i : ℕ} → n ≡ i

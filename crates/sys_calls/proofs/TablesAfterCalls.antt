@@ -107,6 +107,7 @@ module _ (k : Kernel) (m : Map) (here : Hart) (busy harts : ℕ) (tid : Tid) (sa
       ids = (tid.0, cid) ∷ [];
       pages = record { runs = all_runs m; free = free_in m; break_at = break_in m };
     });
+    beside = None;
   }
 
   its_pages : HasPages place m
@@ -133,6 +134,7 @@ module _ (k : Kernel) (m : Map) (here : Hart) (busy harts : ℕ) (tid : Tid) (sa
     pages = its_pages;
     file = refl;
     id = its_id;
+    own = inl refl;
   }
 
   -- so where each place says what a call made of the tables, they agree after it

@@ -1,5 +1,5 @@
 -- A call over the tables, the page map and the caller's registers, as the definitions of calls say it.
-use Rattle.std.specs.Prelude.{ℕ, ◌≡◌, ◌/◌, Bool, true, false, if◌then◌else◌, Option, Some, None}
+use Rattle.std.specs.Prelude.{ℕ, ◌≡◌, ◌≢◌, ◌⊎◌, ◌/◌, Bool, true, false, if◌then◌else◌, Option, Some, None}
 use Rattle.std.specs.Option.{option_map}
 use Rattle.std.specs.Int.{cast_unsigned, w64}
 use Rattle.mach_types.specs.Bytes.{written}
@@ -17,7 +17,7 @@ use Rattle.page_map.specs.Map.{Map, break_in, break_start_in, code_in, free_in, 
 use Rattle.block_model.specs.Here.{Barrier, Here}
 use Rattle.block_model.specs.History.{file_among}
 use Rattle.block_model.specs.Ids.{id_of, without_id}
-use Rattle.block_model.specs.Calls.Answers.{CallDone}
+use Rattle.block_model.specs.Calls.Answers.{CallDone, call_number}
 use Rattle.block_model.specs.Calls.Barriers.{running_harts}
 use Rattle.sys_calls.specs.Tables.{HoldsTables}
 use Rattle.sys_calls.specs.declared.kernel.Kernel.{Kernel}
@@ -40,6 +40,10 @@ pub record HoldsPages (pages : Pages) (lowest_break : ℕ) (byte : ℕ → ℕ) 
 abbrev pub HasPages : Here → Map → Type 0
 HasPages h m = HoldsPages h.kernel.pages h.setting.program.break_at h.byte m
 
+-- the call of thread t reads nothing of another process: there is none, or it is neither membarrier(2) nor rseq(2)
+abbrev pub IsOwnCall : Here → ℕ → Type 0
+IsOwnCall h t = (h.beside ≡ None) ⊎ ((call_number h t ≢ 283) × (call_number h t ≢ 293))
+
 -- a rule may read here what the tables, the page map and the caller's registers hold; threads run on this set of harts, and the
 -- caller holds this concurrency id
 pub record IsAt (h : Here) (k : Kernel) (m : Map) (here : Hart) (busy : ℕ) (harts : ℕ) (tid : Tid) (saved : Saved) (cid : ℕ) : Type 0 where
@@ -50,6 +54,7 @@ pub record IsAt (h : Here) (k : Kernel) (m : Map) (here : Hart) (busy : ℕ) (ha
   pub pages : HasPages h m
   pub file : saved ≡ h.file tid.0
   pub id : id_of tid.0 h.kernel.ids ≡ cid
+  pub own : IsOwnCall h tid.0
 
 -- whether the thread gave up its hart
 abbrev pub gives_up : CallEnd → Bool

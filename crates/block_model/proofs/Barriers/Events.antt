@@ -1,9 +1,10 @@
 -- What an event has to do so that what holds of barriers goes on to hold, and what it then makes of requests and of barriers that are
 -- waited in. No kind of event occurs here.
-use Rattle.std.proofs.Common.{◌≡◌, ◌≢◌, ℕ, ◌<◌, ◌++◌, drop, [], Bool, true, false, cond, eqb, ◌&&◌, ◌||◌, Option, Some, None, refl, sym, ap, ◌∙◌}
+use Rattle.std.proofs.Common.{◌≡◌, ◌≢◌, ◌⊎◌, ℕ, ◌<◌, ◌++◌, drop, [], Bool, true, false, cond, eqb, ◌&&◌, ◌||◌, Option, Some, None, refl, sym, ap, ◌∙◌}
 use Rattle.std.specs.Option.{option_map, option_or}
 use Rattle.mach_types.specs.Kernel.Scheduling.{has_hart}
-use Rattle.mach_types.specs.Kernel.Threads.{running_on}
+use Rattle.mach_types.specs.Kernel.Threads.{Threads, running_on}
+use Rattle.block_model.specs.Beside.{Neighbour}
 use Rattle.block_model.specs.Here.{Barrier, Done, Here, runs, waiting_here}
 use Rattle.block_model.specs.Requests.{awaits_after, awaits_of_own, is_about, requests_after, restart_after, restarts_at, with_hart, without_hart}
 use Rattle.block_model.proofs.Barriers.Requests.{IsAwaited, awaited_begun, awaited_returned, awaited_same, awaited_taken}
@@ -14,12 +15,17 @@ pub record IsStill (here : Here) (d : Done) : Type 0 where
   pub running : running_on here.hart d.kernel.threads ≢ None
   pub empty : drop d.drained (waiting_here here ++ d.executed) ≡ []
 
+-- a thread of the process runs on a hart, or one of the other process where there is one
+abbrev pub RunsOn : Option Neighbour → Threads → ℕ → Type 0
+RunsOn None ts k = running_on k ts ≢ None
+RunsOn (Some other) ts k = (running_on k ts ≢ None) ⊎ (has_hart other.running k ≡ true)
+
 -- a barrier of the thread on the hart is about other harts of the machine, which has several, and a thread runs on each of them
 pub record IsAtOthers (here : Here) (b : Barrier) : Type 0 where
   pub several : 1 < here.setting.limits.harts
   pub apart : (k : ℕ) → has_hart b.targets k ≡ true → k ≢ here.hart
   pub below : (k : ℕ) → has_hart b.targets k ≡ true → k < here.setting.limits.harts
-  pub ran : (k : ℕ) → has_hart b.targets k ≡ true → running_on k here.kernel.threads ≢ None
+  pub ran : (k : ℕ) → has_hart b.targets k ≡ true → RunsOn here.beside here.kernel.threads k
 
 -- a barrier begins where the thread waits in none, the thread stays on its hart, and nothing else comes of barriers then
 pub record IsBegun (here : Here) (d : Done) (b : Barrier) : Type 0 where

@@ -1,5 +1,5 @@
--- membarrier(2): its answer is one at once, or its barrier is about other harts of the machine.
-use Rattle.std.proofs.Common.{◌≡◌, ◌≢◌, ℕ, ℤ, pos, ◌+◌, ◌-◌, ◌*◌, ◌%◌, ◌^◌, ◌<◌, ◌≤◌, [], Bool, true, false, not, cond, eqb, ltb, ◌&&◌, Option, Some, None, is_some, refl, sym, ap, ◌∙◌, subst, arith}
+-- membarrier(2): its answer is one at once, or its barrier is about other harts of the machine. So it is beside another process.
+use Rattle.std.proofs.Common.{◌≡◌, ◌≢◌, ◌⊎◌, inl, inr, ℕ, ℤ, pos, ◌+◌, ◌-◌, ◌*◌, ◌%◌, ◌^◌, ◌<◌, ◌≤◌, [], Bool, true, false, not, cond, eqb, ltb, ◌&&◌, ◌||◌, Option, Some, None, is_some, refl, sym, ap, ◌∙◌, subst, arith}
 use Rattle.std.specs.Option.{option_map_or}
 use Rattle.std.specs.Int.{w32, cast_unsigned}
 use Rattle.std.specs.Ordering.{int_eq}
@@ -21,15 +21,18 @@ use Rattle.mach_types.specs.declared.barriers.Registered.{Registered}
 use Rattle.mach_types.specs.declared.errors.Errno.{Errno}
 use Rattle.mach_types.specs.declared.errors.TheConstants.{EINVAL, EPERM}
 use Rattle.rv_inst.specs.Words.{signed_32, word}
+use Rattle.block_model.specs.Beside.{Neighbour}
 use Rattle.block_model.specs.Calls.Answers.{CallDone, argument, int_argument, negative, said}
-use Rattle.block_model.specs.Calls.Barriers.{answers, membarrier, running_harts}
+use Rattle.block_model.specs.Calls.Barriers.{answers, running_harts}
+use Rattle.block_model.specs.Calls.Beside.{barrier_call}
+use Rattle.block_model.specs.Calls.TwoProcesses.{answer_beside, concerned, is_concerned}
 use Rattle.block_model.specs.ErrorCalls.{IsError}
 use Rattle.block_model.specs.Here.{Here}
 use Rattle.block_model.specs.Kernel.{for_barriers}
-use Rattle.block_model.proofs.Barriers.Events.{IsAtOthers}
+use Rattle.block_model.specs.Standing.{IsGoodHere}
+use Rattle.block_model.proofs.Barriers.Events.{IsAtOthers, RunsOn}
 use Rattle.block_model.proofs.HartSets.{some_hart}
 use Rattle.block_model.proofs.CallEffects.{CallDeed, Answers, Begins, EnrolsFor, Says, small_no_error}
-use Rattle.block_model.proofs.PlaceInvariant.{IsGoodHere}
 use Rattle.block_model.proofs.KernelTables.{found_passes}
 
 -- a thread runs on each hart that is in the set of those
@@ -39,6 +42,44 @@ runs_there ts harts k is none =
     let all = sym (has_hart-harts_that (λ h. is_some (running_on h ts)) harts k) ∙ is in
     let some = (and_parts (is_some (running_on k ts)) (ltb k harts) all).0 in
     absurd (false≢true (sym (ap (λ (o : Option ℕ). is_some o) none) ∙ some))
+
+-- one of two processes runs a thread on a hart that a command is about
+either_part : (a b c d : Bool) → (a && b || c && d) ≡ true → (b ≡ true) ⊎ (d ≡ true)
+either_part true true c d is = inl refl
+either_part true false true d is = inr is
+either_part true false false d is = cc
+either_part false b true d is = inr is
+either_part false b false d is = cc
+
+either_runs : (a b : Bool) → (a || b) ≡ true → (a ≡ true) ⊎ (b ≡ true)
+either_runs true b is = inl refl
+either_runs false b is = inr is
+
+concerns_running : (c : BarrierCommand) (mine other : Registered) (own others : Bool) → is_concerned c mine other own others ≡ true
+    → (own ≡ true) ⊎ (others ≡ true)
+concerns_running Query mine other own others is = inl is
+concerns_running Global mine other own others is = either_runs own others is
+concerns_running GlobalExpedited mine other own others is = either_part mine.global own other.global others is
+concerns_running RegisterGlobalExpedited mine other own others is = inl is
+concerns_running PrivateExpedited mine other own others is = inl is
+concerns_running RegisterPrivateExpedited mine other own others is = inl is
+concerns_running PrivateExpeditedRseq mine other own others is = inl is
+concerns_running RegisterPrivateExpeditedRseq mine other own others is = inl is
+concerns_running GetRegistrations mine other own others is = inl is
+
+module _ (c : BarrierCommand) (mine : Registered) (o : Neighbour) (ts : Threads) (harts k : ℕ) where
+  abbrev concerns : ℕ → Bool
+  concerns h = is_concerned c mine o.registered (has_hart (running_harts ts harts) h) (has_hart o.running h)
+
+  runs_concerned : has_hart (concerned c mine o.registered (running_harts ts harts) o.running harts) k ≡ true → RunsOn (Some o) ts k
+  runs_concerned is = one_of (concerns_running c mine o.registered (has_hart (running_harts ts harts) k) (has_hart o.running k) both.0)
+    where
+      both : (concerns k ≡ true) × (ltb k harts ≡ true)
+      both = and_parts (concerns k) (ltb k harts) (sym (has_hart-harts_that concerns harts k) ∙ is)
+
+      one_of : (has_hart (running_harts ts harts) k ≡ true) ⊎ (has_hart o.running k ≡ true) → RunsOn (Some o) ts k
+      one_of (inl own) = inl (runs_there ts harts k own)
+      one_of (inr other) = inr other
 
 -- a target is another hart of the machine, and in the set of those on which threads run
 module _ (flags : ℕ) (cpu : ℤ) (here running harts k : ℕ)
@@ -65,13 +106,12 @@ module _ (flags : ℕ) (cpu : ℤ) (here running harts k : ℕ)
   target_below : k < harts
   target_below = ltb-true k harts in_both.1
 
-at_targets : (here : Here) (flags : ℕ) (cpu : ℤ) (set : ℕ) (restart : Bool) → IsGoodHere here
-    → set ≡ targets flags cpu here.hart
-    (running_harts here.kernel.threads here.setting.limits.harts) here.setting.limits.harts → set ≢ 0
+at_targets : (here : Here) (flags : ℕ) (cpu : ℤ) (running set : ℕ) (restart : Bool) → IsGoodHere here
+    → ((k : ℕ) → has_hart running k ≡ true → RunsOn here.beside here.kernel.threads k)
+    → set ≡ targets flags cpu here.hart running here.setting.limits.harts → set ≢ 0
     → IsAtOthers here (record { targets = set; restart = restart })
-at_targets here flags cpu set restart good is some =
+at_targets here flags cpu running set restart good runs is some =
     let harts = here.setting.limits.harts in
-    let running = running_harts here.kernel.threads harts in
     let in_targets = λ (k : ℕ) (has : has_hart set k ≡ true). ap (λ n. has_hart n k) (sym is) ∙ has in
     record {
       several =
@@ -82,8 +122,7 @@ at_targets here flags cpu set restart good is some =
           omega arith;
       apart = λ k has. target_apart flags cpu here.hart running harts k (in_targets k has);
       below = λ k has. target_below flags cpu here.hart running harts k (in_targets k has);
-      ran = λ k has. runs_there here.kernel.threads harts k
-          (target_runs flags cpu here.hart running harts k (in_targets k has));
+      ran = λ k has. runs k (target_runs flags cpu here.hart running harts k (in_targets k has));
     }
 
 -- the command that a call asks for is the low 32 bits of a0
@@ -136,9 +175,22 @@ module _ (here : Here) (t number : ℕ) where
   abbrev barriers_after : Registered
   barriers_after = registered_after here.kernel.barriers cmd flags
 
-  abbrev set : ℕ
-  set = targets flags (signed_32 (argument here t 2)) here.hart
-      (running_harts here.kernel.threads here.setting.limits.harts) here.setting.limits.harts
+  abbrev cpu : ℤ
+  cpu = signed_32 (argument here t 2)
+
+  abbrev harts : ℕ
+  harts = here.setting.limits.harts
+
+  -- the harts on which threads of the process run
+  abbrev own_running : ℕ
+  own_running = running_harts here.kernel.threads harts
+
+  -- the targets, of harts on each of which a thread runs
+  abbrev set : ℕ → ℕ
+  set running = targets flags cpu here.hart running harts
+
+  abbrev AllRun : ℕ → Type 0
+  AllRun running = (k : ℕ) → has_hart running k ≡ true → RunsOn here.beside here.kernel.threads k
 
   either_answer : (b : Bool) (x y : Answer) → (b ≡ true → CallDeed here t number (answers here t x))
       → (b ≡ false → CallDeed here t number (answers here t y))
@@ -163,41 +215,82 @@ module _ (here : Here) (t number : ℕ) where
   kept c is same = ap (λ o. option_map_or (registered_by here.kernel.barriers) o here.kernel.barriers) is
       ∙ same
 
-  deed_barrier : (c : BarrierCommand) (restart : Bool) → asked cmd flags ≡ Some c
-      → CallDeed here t number (answers here t (barrier_at set restart))
-  deed_barrier c restart is =
-      either_answer (eqb set 0) _ _ (λ _. deed_value 0 (omega arith)) (λ some.
+  deed_barrier : (running : ℕ) → AllRun running → (c : BarrierCommand) (restart : Bool)
+      → asked cmd flags ≡ Some c → CallDeed here t number (answers here t (barrier_at (set running) restart))
+  deed_barrier running run c restart is =
+      either_answer (eqb (set running) 0) _ _ (λ _. deed_value 0 (omega arith)) (λ some.
       let low = low_number (argument here t 0) (number_of c) (asked_number cmd flags c is) in
-      Begins set restart (λ good. at_targets here flags (signed_32 (argument here t 2)) set restart good refl
-      (eqb-false set 0 some))
+      Begins (set running) restart (λ good. at_targets here flags cpu running (set running) restart good run refl
+      (eqb-false (set running) 0 some))
       (number_no_error (argument here t 0) (number_of c) low (number_low c)))
 
-  deed_command : (c : BarrierCommand) → asked cmd flags ≡ Some c
-      → CallDeed here t number (answers here t (answer_of here.kernel.barriers set c))
-  deed_command Query is = deed_value query_value (omega arith)
-  deed_command Global is = deed_barrier Global false is
-  deed_command GlobalExpedited is =
-      either_answer here.kernel.barriers.global _ _ (λ _. deed_barrier GlobalExpedited false is)
+  deed_command : (running : ℕ) → AllRun running → (c : BarrierCommand) → asked cmd flags ≡ Some c
+      → CallDeed here t number (answers here t (answer_of here.kernel.barriers (set running) c))
+  deed_command running run Query is = deed_value query_value (omega arith)
+  deed_command running run Global is = deed_barrier running run Global false is
+  deed_command running run GlobalExpedited is =
+      either_answer here.kernel.barriers.global _ _ (λ _. deed_barrier running run GlobalExpedited false is)
       (λ _. deed_value 0 (omega arith))
-  deed_command RegisterGlobalExpedited is = deed_value 0 (omega arith)
-  deed_command PrivateExpedited is =
-      either_answer here.kernel.barriers.private _ _ (λ _. deed_barrier PrivateExpedited false is)
+  deed_command running run RegisterGlobalExpedited is = deed_value 0 (omega arith)
+  deed_command running run PrivateExpedited is =
+      either_answer here.kernel.barriers.private _ _
+      (λ _. deed_barrier running run PrivateExpedited false is)
       (λ _. deed_refusal EPERM refl (kept PrivateExpedited is refl))
-  deed_command RegisterPrivateExpedited is = deed_value 0 (omega arith)
-  deed_command PrivateExpeditedRseq is =
-      either_answer here.kernel.barriers.rseq _ _ (λ _. deed_barrier PrivateExpeditedRseq true is)
+  deed_command running run RegisterPrivateExpedited is = deed_value 0 (omega arith)
+  deed_command running run PrivateExpeditedRseq is =
+      either_answer here.kernel.barriers.rseq _ _
+      (λ _. deed_barrier running run PrivateExpeditedRseq true is)
       (λ _. deed_refusal EPERM refl (kept PrivateExpeditedRseq is refl))
-  deed_command RegisterPrivateExpeditedRseq is = deed_value 0 (omega arith)
-  deed_command GetRegistrations is =
+  deed_command running run RegisterPrivateExpeditedRseq is = deed_value 0 (omega arith)
+  deed_command running run GetRegistrations is =
       deed_value (registrations here.kernel.barriers) (registrations_low here.kernel.barriers)
 
-  deed_found : (o : Option BarrierCommand) → asked cmd flags ≡ o
-      → CallDeed here t number
-      (answers here t (option_map_or (answer_of here.kernel.barriers set) o (refusal EINVAL)))
-  deed_found None is =
+  -- no command has the number, or none takes the flags
+  deed_unknown : asked cmd flags ≡ None → CallDeed here t number (answers here t (refusal EINVAL))
+  deed_unknown is =
       deed_refusal EINVAL refl
       (ap (λ o. option_map_or (registered_by here.kernel.barriers) o here.kernel.barriers) is)
-  deed_found (Some c) is = deed_command c is
 
-  pub deed_membarrier : CallDeed here t number (membarrier here t)
-  deed_membarrier = deed_found (asked cmd flags) refl
+  deed_found : AllRun own_running → (o : Option BarrierCommand) → asked cmd flags ≡ o
+      → CallDeed here t number
+      (answers here t (option_map_or (answer_of here.kernel.barriers (set own_running)) o (refusal EINVAL)))
+  deed_found run None is = deed_unknown is
+  deed_found run (Some c) is = deed_command own_running run c is
+
+  -- beside another process GLOBAL_EXPEDITED alone answers otherwise
+  deed_command_beside : (running : ℕ) → AllRun running → (c : BarrierCommand) → asked cmd flags ≡ Some c
+      → CallDeed here t number (answers here t (answer_beside here.kernel.barriers (set running) c))
+  deed_command_beside running run Query is = deed_command running run Query is
+  deed_command_beside running run Global is = deed_command running run Global is
+  deed_command_beside running run GlobalExpedited is = deed_barrier running run GlobalExpedited false is
+  deed_command_beside running run RegisterGlobalExpedited is = deed_command running run RegisterGlobalExpedited is
+  deed_command_beside running run PrivateExpedited is = deed_command running run PrivateExpedited is
+  deed_command_beside running run RegisterPrivateExpedited is = deed_command running run RegisterPrivateExpedited is
+  deed_command_beside running run PrivateExpeditedRseq is = deed_command running run PrivateExpeditedRseq is
+  deed_command_beside running run RegisterPrivateExpeditedRseq is =
+      deed_command running run RegisterPrivateExpeditedRseq is
+  deed_command_beside running run GetRegistrations is = deed_command running run GetRegistrations is
+
+  module _ (other : Neighbour) (there : here.beside ≡ Some other) where
+    abbrev about : BarrierCommand → ℕ
+    about c = concerned c here.kernel.barriers other.registered own_running other.running harts
+
+    all_run : (c : BarrierCommand) → AllRun (about c)
+    all_run c k has =
+        subst (λ (o : Option Neighbour). RunsOn o here.kernel.threads k) (sym there)
+        (runs_concerned c here.kernel.barriers other here.kernel.threads harts k has)
+
+    deed_found_beside : (o : Option BarrierCommand) → asked cmd flags ≡ o
+        → CallDeed here t number
+        (answers here t
+        (option_map_or (λ c. answer_beside here.kernel.barriers (set (about c)) c) o (refusal EINVAL)))
+    deed_found_beside None is = deed_unknown is
+    deed_found_beside (Some c) is = deed_command_beside (about c) (all_run c) c is
+
+  pub deed_barrier_call : (o : Option Neighbour) → here.beside ≡ o → CallDeed here t number (barrier_call o here t)
+  deed_barrier_call None alone =
+      deed_found
+      (λ k has. subst (λ (o : Option Neighbour). RunsOn o here.kernel.threads k) (sym alone)
+      (runs_there here.kernel.threads harts k has))
+      (asked cmd flags) refl
+  deed_barrier_call (Some other) there = deed_found_beside other there (asked cmd flags) refl

@@ -1,19 +1,19 @@
 -- Each call of the table is one of the deeds.
-use Rattle.std.proofs.Common.{◌≡◌, ℕ, eqb, sym, subst, true}
+use Rattle.std.proofs.Common.{◌≡◌, ℕ, eqb, refl, sym, subst, true}
 use Rattle.std.proofs.lemmas.Bool.{eqb-true}
 use Rattle.block_model.specs.Calls.{call_of, called}
 use Rattle.block_model.specs.Calls.Answers.{CallDone, call_number}
 use Rattle.block_model.specs.Here.{Here}
 use Rattle.block_model.proofs.CallEffects.{CallDeed, Says, either}
 use Rattle.block_model.proofs.CallEffects.Affinity.{deed_getaffinity, deed_getcpu, deed_setaffinity, deed_yield}
-use Rattle.block_model.proofs.CallEffects.Barriers.{deed_membarrier}
+use Rattle.block_model.proofs.CallEffects.Barriers.{deed_barrier_call}
 use Rattle.block_model.proofs.CallEffects.Cloning.{deed_clone}
 use Rattle.block_model.proofs.CallEffects.Console.{deed_write, deed_writev}
 use Rattle.block_model.proofs.CallEffects.Ending.{deed_exit, deed_exit_group}
 use Rattle.block_model.proofs.CallEffects.Futexes.{deed_futex}
 use Rattle.block_model.proofs.CallEffects.Memory.{deed_brk, deed_mmap, deed_mprotect, deed_munmap}
 use Rattle.block_model.proofs.CallEffects.Numbers.{deed_getpid, deed_gettid, deed_set_tid_address}
-use Rattle.block_model.proofs.CallEffects.Sequences.{deed_rseq}
+use Rattle.block_model.proofs.CallEffects.Sequences.{deed_sequence_call}
 use Rattle.block_model.proofs.CallEffects.Signals.{deed_sigaction, deed_sigprocmask, deed_sigreturn, deed_tgkill, deed_tkill}
 
 -- a call that takes pages, or goes on from a frame, by its number
@@ -45,8 +45,8 @@ deed_call_of here t number =
     either (eqb number 220) (λ _. deed_clone here t number) (λ _.
     either (eqb number 222) (λ is. at_number here t number 222 _ is (deed_mmap here t)) (λ _.
     either (eqb number 226) (λ is. at_number here t number 226 _ is (deed_mprotect here t)) (λ _.
-    either (eqb number 283) (λ _. deed_membarrier here t number) (λ _.
-    either (eqb number 293) (λ _. deed_rseq here t number) (λ _.
+    either (eqb number 283) (λ _. deed_barrier_call here t number here.beside refl) (λ _.
+    either (eqb number 293) (λ _. deed_sequence_call here t number here.beside) (λ _.
     Says _))))))))))))))))))))))))
 
 pub deed_called : (here : Here) (t : ℕ) → CallDeed here t (call_number here t) (called here t)

@@ -1,11 +1,13 @@
--- rseq(2).
+-- rseq(2), which isn't there beside another process.
 use Rattle.std.proofs.Common.{◌≡◌, ℕ, ◌%◌, Bool, cond, eqb, not, true, false, refl, Option, Some, None, Result, Ok, Err}
 use Rattle.std.specs.Option.{option_map_or}
 use Rattle.mach_types.specs.declared.errors.Errno.{Errno}
 use Rattle.mach_types.specs.declared.errors.TheConstants.{EINVAL}
 use Rattle.mach_types.specs.declared.sequences.Area.{Area}
 use Rattle.mach_types.specs.Kernel.Areas.{are_words_writable, registered_again, registered_first, registration, unregistration}
+use Rattle.block_model.specs.Beside.{Neighbour}
 use Rattle.block_model.specs.Calls.Answers.{argument, int_argument}
+use Rattle.block_model.specs.Calls.Beside.{sequence_call}
 use Rattle.block_model.specs.Calls.Sequences.{registers_or_refused, rseq, unregisters, unregisters_or_refused}
 use Rattle.block_model.specs.Here.{Here, is_writable}
 use Rattle.block_model.specs.Sequences.{area_here}
@@ -47,7 +49,7 @@ module _ (here : Here) (t number : ℕ) where
   deed_unregisters_or (Err e) = Says _
   deed_unregisters_or (Ok done) = deed_unregisters (area_here here t)
 
-  pub deed_rseq : CallDeed here t number (rseq here t)
+  deed_rseq : CallDeed here t number (rseq here t)
   deed_rseq =
       let at = argument here t 0 in
       let len = int_argument here t 1 in
@@ -56,3 +58,7 @@ module _ (here : Here) (t number : ℕ) where
       let old = area_here here t in
       either (eqb (flags % 2) 1) (λ _. deed_unregisters_or (unregistration old at len flags sig))
       (λ _. deed_registers (registration old at len flags sig) (registers_first old at len flags sig))
+
+  pub deed_sequence_call : (o : Option Neighbour) → CallDeed here t number (sequence_call o here t)
+  deed_sequence_call None = deed_rseq
+  deed_sequence_call (Some other) = Says _

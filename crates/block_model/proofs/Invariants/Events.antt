@@ -5,8 +5,9 @@ use Rattle.mach_types.specs.Kernel.Pages.{Pages}
 use Rattle.mach_types.specs.Kernel.Threads.{running_on, Threads, is_ready, state_of}
 use Rattle.mach_types.specs.declared.user_memory.Store.{Store}
 use Rattle.block_model.specs.Here.{Done, Here, waiting_here, runs}
+use Rattle.block_model.specs.Standing.{IsGoodHere, MayEnter}
 use Rattle.block_model.proofs.Barriers.Events.{IsFitBarriers, quiet_still, quiet_free}
-use Rattle.block_model.proofs.PlaceInvariant.{IsFit, IsGoodHere, MayEnter, fit_either}
+use Rattle.block_model.proofs.PlaceInvariant.{IsFit, fit_either}
 use Rattle.block_model.proofs.Invariants.Calls.Conditions.{IsApart, apart_one, apart_none}
 use Rattle.block_model.proofs.Invariants.Calls.RecordSteps.{IsKept, IsMoved, kept_moved, kept_still, moved_left, kept_signalled}
 use Rattle.block_model.proofs.Pages.{IsPaged}
@@ -44,7 +45,7 @@ module _ (here : Here) (d : Done) (good : IsGoodHere here) (no_store : d.execute
       → (running_on here.hart d.kernel.threads ≡ None → waiting_here here ≡ []) → IsFit here d
   fit_moving moved idle = record {
     executed = rw no_store tt;
-    within = subst (λ (p : Pages). (k : ℕ) → AllByRecursion (MayEnter p) (here.waiting k))
+    within = subst (λ (p : Pages). (k : ℕ) → AllByRecursion (MayEnter here.beside p) (here.waiting k))
         (sym moved.pages) good.within;
     few = rw no_store (let w = good.few in omega arith);
     drained = rw no_drain (omega arith);

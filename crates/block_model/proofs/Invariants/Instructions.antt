@@ -15,15 +15,17 @@ use Rattle.rv_inst.specs.declared.effects.Effect.{Effect}
 use Rattle.rv_inst.specs.declared.effects.Effect.TheVariants as effect
 use Rattle.rv_inst.specs.Class.{is_call, is_plain_store, wants_empty}
 use Rattle.rv_inst.specs.Execution.{Outcome, outcome, fault_in, instruction_gate, is_reserved, unless_allowed}
-use Rattle.block_model.specs.Here.{Here, runs, memory, view, waiting_here}
+use Rattle.block_model.specs.Beside.{Neighbour, or_in_segment}
+use Rattle.block_model.specs.Here.{Here, is_storable, reached, runs, view_of_all, waiting_here}
 use Rattle.block_model.specs.Instruction.{fault_by, fetched}
 use Rattle.block_model.specs.Calls.{called}
 use Rattle.block_model.specs.Calls.Answers.{call_number, killed_in_call}
 use Rattle.block_model.specs.Calls.Memory.{lies_waiting_on, taken_by}
 use Rattle.block_model.specs.Events.Exec.{refusal_exec, refusal_exec_by, done_exec, done_exec_by, by_fault, by_call, called_here, by_effect, by_outcome, outcome_of, next_effect, next_fault, has_handler, is_held, others_gate}
 use Rattle.block_model.specs.Sequences.{is_inside_here}
+use Rattle.block_model.specs.Standing.{IsGoodHere, MayEnter}
 use Rattle.block_model.proofs.Barriers.Events.{quiet_free}
-use Rattle.block_model.proofs.PlaceInvariant.{IsGoodHere, IsFit, MayEnter, fit_either}
+use Rattle.block_model.proofs.PlaceInvariant.{IsFit, fit_either}
 use Rattle.block_model.proofs.Invariants.Calls.Conditions.{fit_by_call, own_apart, apart_none}
 use Rattle.block_model.proofs.Invariants.Calls.RecordSteps.{kept_signalled, kept_still}
 use Rattle.block_model.proofs.Invariants.Calls.EachCall.{fit_called}
@@ -31,12 +33,12 @@ use Rattle.block_model.proofs.Invariants.Events.{out_of_barrier, fit_keeping}
 use Rattle.block_model.proofs.SignalTables.{pending_keeps}
 
 -- what a plain store executes, where it doesn't fault: one store that may enter; no other instruction executes one
-pub record IsExecuted (p : Pages) (e : Effect) (o : Outcome) : Type 0 where
-  pub may : AllByRecursion (MayEnter p) o.executed
+pub record IsExecuted (beside : Option Neighbour) (p : Pages) (e : Effect) (o : Outcome) : Type 0 where
+  pub may : AllByRecursion (MayEnter beside p) o.executed
   pub one : length o.executed ≤ cond (is_plain_store e) 1 0
 
-none_executed : (p : Pages) (e : Effect) (o : Outcome) → o.executed ≡ [] → IsExecuted p e o
-none_executed p e o none = record { may = rw none tt; one = rw none (omega arith) }
+none_executed : (beside : Option Neighbour) (p : Pages) (e : Effect) (o : Outcome) → o.executed ≡ [] → IsExecuted beside p e o
+none_executed beside p e o none = record { may = rw none tt; one = rw none (omega arith) }
 
 either_outcome : (b : Bool) (x y : Outcome) → x.executed ≡ [] → y.executed ≡ [] → (cond b x y).executed ≡ []
 either_outcome true x y p q = p
@@ -46,18 +48,19 @@ allowed_true : (b : Bool) → unless_allowed b ≡ None → b ≡ true
 allowed_true true e = refl
 allowed_true false e = cc
 
-executed_by : (p : Pages) (byte seen : ℕ → Option ℕ) (regs : Regs) (pc : ℕ) (r : Option ℕ) (e : Effect) → fault_in byte (λ a. can_write (permission_at p a)) e ≡ None → IsExecuted p e (outcome seen regs pc r e)
-executed_by p byte seen regs pc r (effect.Next rd value to) fine = none_executed p (effect.Next rd value to) _ refl
-executed_by p byte seen regs pc r (effect.Load at size is_signed rd) fine = none_executed p (effect.Load at size is_signed rd) _ refl
-executed_by p byte seen regs pc r (effect.Store at size value) fine = record { may = (allowed_true (each_byte (λ a. can_write (permission_at p a)) at size) fine, tt); one = omega arith }
-executed_by p byte seen regs pc r (effect.Amo op at size value rd) fine = none_executed p (effect.Amo op at size value rd) _ refl
-executed_by p byte seen regs pc r (effect.Lr at size rd) fine = none_executed p (effect.Lr at size rd) _ refl
-executed_by p byte seen regs pc r (effect.Sc at size value rd) fine = none_executed p (effect.Sc at size value rd) _ (either_outcome (is_reserved r at) _ _ refl refl)
-executed_by p byte seen regs pc r (effect.Fence full) fine = none_executed p (effect.Fence full) _ refl
-executed_by p byte seen regs pc r effect.FenceI fine = none_executed p effect.FenceI _ refl
-executed_by p byte seen regs pc r effect.Call fine = none_executed p effect.Call _ refl
-executed_by p byte seen regs pc r effect.Break fine = none_executed p effect.Break _ refl
-executed_by p byte seen regs pc r effect.Misaligned fine = none_executed p effect.Misaligned _ refl
+executed_by : (beside : Option Neighbour) (p : Pages) (byte seen : ℕ → Option ℕ) (regs : Regs) (pc : ℕ) (r : Option ℕ) (e : Effect)
+    → fault_in byte (or_in_segment beside (λ a. can_write (permission_at p a))) e ≡ None → IsExecuted beside p e (outcome seen regs pc r e)
+executed_by beside p byte seen regs pc r (effect.Next rd value to) fine = none_executed beside p (effect.Next rd value to) _ refl
+executed_by beside p byte seen regs pc r (effect.Load at size is_signed rd) fine = none_executed beside p (effect.Load at size is_signed rd) _ refl
+executed_by beside p byte seen regs pc r (effect.Store at size value) fine = record { may = (allowed_true (each_byte (or_in_segment beside (λ a. can_write (permission_at p a))) at size) fine, tt); one = omega arith }
+executed_by beside p byte seen regs pc r (effect.Amo op at size value rd) fine = none_executed beside p (effect.Amo op at size value rd) _ refl
+executed_by beside p byte seen regs pc r (effect.Lr at size rd) fine = none_executed beside p (effect.Lr at size rd) _ refl
+executed_by beside p byte seen regs pc r (effect.Sc at size value rd) fine = none_executed beside p (effect.Sc at size value rd) _ (either_outcome (is_reserved r at) _ _ refl refl)
+executed_by beside p byte seen regs pc r (effect.Fence full) fine = none_executed beside p (effect.Fence full) _ refl
+executed_by beside p byte seen regs pc r effect.FenceI fine = none_executed beside p effect.FenceI _ refl
+executed_by beside p byte seen regs pc r effect.Call fine = none_executed beside p effect.Call _ refl
+executed_by beside p byte seen regs pc r effect.Break fine = none_executed beside p effect.Break _ refl
+executed_by beside p byte seen regs pc r effect.Misaligned fine = none_executed beside p effect.Misaligned _ refl
 
 -- the gate leaves room for a plain store
 room_by : (a b c : Bool) (n : ℕ) → (leb STORE_BUFFER_CAPACITY n ≡ b) → n ≤ STORE_BUFFER_CAPACITY → cond a (Some Waiting) (cond (b && c) (Some FullBuffer) None) ≡ None → n + cond c 1 0 ≤ STORE_BUFFER_CAPACITY
@@ -78,7 +81,7 @@ still here t signal good out =
     (fit_keeping here _ good refl refl (omega arith) (apart_none here) (quiet_free here _ refl refl refl out) kept)
     (fit_keeping here _ good refl refl (omega arith) (apart_none here) (quiet_free here _ refl refl refl out) (kept_still here.setting here.kernel good.kernel))
 
-plain : (here : Here) (t : ℕ) (e : Effect) → IsGoodHere here → runs here ≡ Some t → here.awaits ≡ None → IsExecuted here.kernel.pages e (outcome_of here t e) → length (waiting_here here) + cond (is_plain_store e) 1 0 ≤ STORE_BUFFER_CAPACITY → IsFit here (by_outcome here t (outcome_of here t e))
+plain : (here : Here) (t : ℕ) (e : Effect) → IsGoodHere here → runs here ≡ Some t → here.awaits ≡ None → IsExecuted here.beside here.kernel.pages e (outcome_of here t e) → length (waiting_here here) + cond (is_plain_store e) 1 0 ≤ STORE_BUFFER_CAPACITY → IsFit here (by_outcome here t (outcome_of here t e))
 plain here t e good at out is room = record {
   executed = is.may;
   few = let one = is.one in omega arith;
@@ -126,25 +129,25 @@ killed here good out =
     fit_keeping here _ good refl refl (omega arith) (apart_none here) (quiet_free here _ refl refl refl out) (kept_still here.setting here.kernel good.kernel)
 
 call_by : (here : Here) (t : ℕ) (b : Bool) → IsGoodHere here → runs here ≡ Some t → here.awaits ≡ None → waiting_here here ≡ []
-    → (not b && lies_waiting_on (taken_by (call_number here t) here t) here.waiting here.setting.limits.harts) ≡ false
+    → (not b && lies_waiting_on here.beside (taken_by (call_number here t) here t) here.waiting here.setting.limits.harts) ≡ false
     → IsFit here (by_call here (cond b (killed_in_call here) (called here t)))
 call_by here t true good at out none clear = killed here good out
 call_by here t false good at out none clear =
     fit_by_call here (taken_by (call_number here t) here t) (called here t) good out none clear (fit_called here t good at)
 
 call_or_plain : (here : Here) (t : ℕ) (e : Effect) (b : Bool) → is_call e ≡ b → IsGoodHere here → runs here ≡ Some t → here.awaits ≡ None → (is_call e ≡ true → is_held here t ≡ false) → instruction_gate (length (waiting_here here)) (Some e) false ≡ None →
-    IsExecuted here.kernel.pages e (outcome_of here t e) → IsFit here (cond b (by_call here (called_here here t)) (by_outcome here t (outcome_of here t e)))
+    IsExecuted here.beside here.kernel.pages e (outcome_of here t e) → IsFit here (cond b (by_call here (called_here here t)) (by_outcome here t (outcome_of here t e)))
 call_or_plain here t e true is good at out clear free done =
     call_by here t (is_inside_here here t) good at out (none_waits (waiting_here here) e (call_wants_empty e is) free) (clear is)
 call_or_plain here t e false is good at out clear free done = plain here t e good at out done (gate_room (length (waiting_here here)) e false good.few free)
 
 fit_effect : (here : Here) (t : ℕ) (f : Option ℕ) (o : Option Effect) → IsGoodHere here → runs here ≡ Some t → here.awaits ≡ None →
-    fault_by (memory here) (λ a. can_write (permission_at here.kernel.pages a)) (here.file t).pc (fetched here.setting.program.pages (here.file t).pc) o ≡ f →
+    fault_by (reached here) (is_storable here) (here.file t).pc (fetched here.setting.program.pages (here.file t).pc) o ≡ f →
     instruction_gate (length (waiting_here here)) o (is_some f) ≡ None → others_gate (is_held here t) o ≡ None → IsFit here (by_effect here t f o)
 fit_effect here t (Some signal) o good at out fault e clear = still here t signal good out
 fit_effect here t None None good at out fault e clear = cc
 fit_effect here t None (Some x) good at out fault e clear =
-    call_or_plain here t x (is_call x) refl good at out (call_held (is_call x) (is_held here t) clear) e (executed_by here.kernel.pages (memory here) (view here) (here.file t).file (here.file t).pc here.reserved x fault)
+    call_or_plain here t x (is_call x) refl good at out (call_held (is_call x) (is_held here t) clear) e (executed_by here.beside here.kernel.pages (reached here) (view_of_all here) (here.file t).file (here.file t).pc here.reserved x fault)
 
 pub good_exec : (here : Here) → IsGoodHere here → refusal_exec here ≡ None → IsFit here (done_exec here)
 good_exec here good free = go (runs here) refl free

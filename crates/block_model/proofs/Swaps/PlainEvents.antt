@@ -23,7 +23,8 @@ use Rattle.block_model.specs.Events.{done_of, refusal_of}
 use Rattle.block_model.specs.Events.Exec.{by_call, by_effect, by_outcome, called_here, done_exec_by, is_held, next_effect, next_fault, others_gate, outcome_of, refusal_exec_by}
 use Rattle.block_model.specs.Events.Drain.{done_drain_of, refusal_drain_of}
 use Rattle.block_model.specs.Events.Preempt.{unless_in_barrier}
-use Rattle.block_model.specs.Here.{Here, is_writable, memory, memory_in, runs, view, waiting_here}
+use Rattle.block_model.specs.Beside.{with_segment}
+use Rattle.block_model.specs.Here.{Here, is_storable, memory, memory_in, reached, runs, view, view_of_all, waiting_here}
 use Rattle.block_model.specs.History.{lost_after}
 use Rattle.block_model.specs.Instruction.{fault_by, fetched, instruction_of}
 use Rattle.block_model.specs.Instruction as instruction
@@ -32,7 +33,7 @@ use Rattle.block_model.specs.Footprints.{Footprint, bytes_of_all, have_byte}
 use Rattle.block_model.specs.PlainEvents.{footprint, footprint_drain, footprint_exec, footprint_of, is_plain, is_plain_exec_by, is_plain_exec_of, reserved_exec, reserved_of}
 use Rattle.block_model.proofs.Swaps.PlainDone.{PlainDone, as_done, plain_drain, plain_effect, plain_exec, plain_done, plain_outcome}
 use Rattle.block_model.proofs.Swaps.Outcomes.{IsFine, IsUnseen, entered_within, lost_outcome, outcome_same}
-use Rattle.block_model.proofs.Swaps.Untouched.{fault_same}
+use Rattle.block_model.proofs.Swaps.Untouched.{fault_same, reached_same, reached_some}
 
 -- what is around a hart after events of others: of these writes its reservation may have been lost
 pub record Around : Type 0 where
@@ -73,13 +74,14 @@ effect_passes : (here : Here) (a : Around) (t : ℕ) → a.file t ≡ here.file 
 effect_passes here a t same = ap (instruction.next_effect here.setting.program.pages) same
 
 fault_by_same : (here : Here) (byte : ℕ → ℕ) (pc : ℕ) (word : Option ℕ) (o : Option Effect)
-    → fault_by (memory_in here.kernel byte) (is_writable here) pc word o ≡ fault_by (memory here) (is_writable here) pc word o
+    → fault_by (with_segment here.beside (memory_in here.kernel byte)) (is_storable here) pc word o ≡ fault_by (reached here) (is_storable here) pc word o
 fault_by_same here byte pc word None = refl
-fault_by_same here byte pc word (Some e) = fault_same here.kernel byte here.byte (is_writable here) e
+fault_by_same here byte pc word (Some e) =
+    fault_same (with_segment here.beside (memory_in here.kernel byte)) (reached here) (reached_some here.beside here.kernel byte here.byte) (is_storable here) e
 
 fault_passes : (here : Here) (a : Around) (t : ℕ) → a.file t ≡ here.file t → next_fault (passed here a) t ≡ next_fault here t
 fault_passes here a t same =
-    ap (instruction.next_fault here.setting.program.pages (memory_in here.kernel a.byte) (is_writable here)) same
+    ap (instruction.next_fault here.setting.program.pages (with_segment here.beside (memory_in here.kernel a.byte)) (is_storable here)) same
     ∙ fault_by_same here a.byte (here.file t).pc (fetched here.setting.program.pages (here.file t).pc) (next_effect here t)
 
 -- IS IT PLAIN, AND WHAT DOES ITS ACCESS TOUCH
@@ -205,24 +207,36 @@ sized_effect (Some i) regs pc e is = let same : meaning i regs pc ≡ e = cc in 
 pub fine_effect : (here : Here) (t : ℕ) (e : Effect) → next_effect here t ≡ Some e → next_fault here t ≡ None → IsFine e
 fine_effect here t e is none = record {
   sized = sized_effect (instruction_of (fetched here.setting.program.pages (here.file t).pc)) (here.file t).file (here.file t).pc e is;
-  byte = memory here;
-  can_write = is_writable here;
-  none = sym (ap (fault_by (memory here) (is_writable here) (here.file t).pc (fetched here.setting.program.pages (here.file t).pc)) is) ∙ none;
+  byte = reached here;
+  can_write = is_storable here;
+  none = sym (ap (fault_by (reached here) (is_storable here) (here.file t).pc (fetched here.setting.program.pages (here.file t).pc)) is) ∙ none;
 }
 
--- a byte as the hart sees it
+-- a byte as the hart sees it, and as an instruction does
+memory_passes : (here : Here) (a : Around) (x : ℕ) → IsPassed here a → have_byte (bytes_of_all a.lost) x ≡ false → memory here x ≡ memory (passed here a) x
+memory_passes here a x by out = ap (λ b. if can_read (permission_at here.kernel.pages x) then Some b else None) (sym (by.byte x out))
+
+view_of_passes : (here : Here) (a : Around) (x : ℕ) (old new : Option ℕ) → IsPassed here a → old ≡ new
+    → option_map (overlay (waiting_here here) x) old ≡ option_map (overlay (a.waiting here.hart) x) new
+view_of_passes here a x old new by same =
+    ap (λ (ws : List Store). option_map (overlay ws x) old) (sym by.waiting) ∙ ap (option_map (overlay (a.waiting here.hart) x)) same
+
 pub view_passes : (here : Here) (a : Around) (x : ℕ) → IsPassed here a → have_byte (bytes_of_all a.lost) x ≡ false → view here x ≡ view (passed here a) x
-view_passes here a x by out =
-    ap (λ (ws : List Store). option_map (overlay ws x) (memory here x)) (sym by.waiting)
-    ∙ ap (λ b. option_map (overlay (a.waiting here.hart) x) (if can_read (permission_at here.kernel.pages x) then Some b else None)) (sym (by.byte x out))
+view_passes here a x by out = view_of_passes here a x (memory here x) (memory (passed here a) x) by (memory_passes here a x by out)
+
+view_of_all_passes : (here : Here) (a : Around) (x : ℕ) → IsPassed here a → have_byte (bytes_of_all a.lost) x ≡ false
+    → view_of_all here x ≡ view_of_all (passed here a) x
+view_of_all_passes here a x by out =
+    view_of_passes here a x (reached here x) (reached (passed here a) x) by
+    (reached_same here.beside (memory here) (memory (passed here a)) x (memory_passes here a x by out))
 
 pub out_of : (x y : Bool) → y ≡ true → (x ≡ true → y ≡ false) → x ≡ false
 out_of true y is apart = absurd (false≢true (sym (apart refl) ∙ is))
 out_of false y is apart = refl
 
-unseen : (here : Here) (a : Around) (e : Effect) → IsPassed here a → IsClear a.lost (footprint_of (Some e)) → IsUnseen a.lost (view here) (view (passed here a)) e
+unseen : (here : Here) (a : Around) (e : Effect) → IsPassed here a → IsClear a.lost (footprint_of (Some e)) → IsUnseen a.lost (view_of_all here) (view_of_all (passed here a)) e
 unseen here a e by clear = record {
-  same = λ x is. view_passes here a x by (out_of (have_byte (bytes_of_all a.lost) x) (have_byte (read_by e) x) is (clear.unread x));
+  same = λ x is. view_of_all_passes here a x by (out_of (have_byte (bytes_of_all a.lost) x) (have_byte (read_by e) x) is (clear.unread x));
   unread = clear.unread;
   unwritten = clear.unwritten;
 }
@@ -230,8 +244,8 @@ unseen here a e by clear = record {
 outcome_passes : (here : Here) (a : Around) (t : ℕ) (e : Effect) → IsPassed here a → a.file t ≡ here.file t → IsFine e → IsClear a.lost (footprint_of (Some e))
     → outcome_of (passed here a) t e ≡ lost_outcome a.lost (outcome_of here t e)
 outcome_passes here a t e by same fine clear =
-    ap (λ (f : Saved). outcome (view (passed here a)) f.file f.pc (lost_after a.lost here.reserved) e) same
-    ∙ outcome_same a.lost (view here) (view (passed here a)) (here.file t).file (here.file t).pc here.reserved e fine (unseen here a e by clear)
+    ap (λ (f : Saved). outcome (view_of_all (passed here a)) f.file f.pc (lost_after a.lost here.reserved) e) same
+    ∙ outcome_same a.lost (view_of_all here) (view_of_all (passed here a)) (here.file t).file (here.file t).pc here.reserved e fine (unseen here a e by clear)
 
 exec_done_passes : (here : Here) (a : Around) (o : Option ℕ) → RunsAs here a o → IsPassed here a → is_plain_exec_by here o ≡ true → IsClear a.lost (footprint_exec here o)
     → plain_exec (passed here a) o ≡ with_lost a.lost (plain_exec here o)
@@ -295,7 +309,7 @@ exec_enters here None plain = λ a is. is
 exec_enters here (Some t) plain =
     let is = plain_parts (next_fault here t) (next_effect here t) plain in
     let fine = fine_effect here t is.effect is.is is.none in
-    subst (λ o. EntersWithin (plain_effect here t o) (footprint_of o)) (sym is.is) (entered_within (view here) (here.file t).file (here.file t).pc here.reserved is.effect fine)
+    subst (λ o. EntersWithin (plain_effect here t o) (footprint_of o)) (sym is.is) (entered_within (view_of_all here) (here.file t).file (here.file t).pc here.reserved is.effect fine)
 
 drain_enters : (r : Option ℕ) (ws : List Store) → EntersWithin (plain_drain r ws) (footprint_drain ws)
 drain_enters r [] = λ a is. is

@@ -10,6 +10,7 @@ use Rattle.rv_inst.specs.Class.{asks}
 use Rattle.rv_inst.specs.Execution.{access_fault, fault_in, has_reserved}
 use Rattle.rv_inst.specs.declared.class.Access.{Access}
 use Rattle.rv_inst.specs.declared.effects.Effect.{Effect}
+use Rattle.block_model.specs.Beside.{Neighbour, is_in_segment, with_segment}
 use Rattle.block_model.specs.Here.{memory_in}
 use Rattle.block_model.specs.History.{lost_after, lost_to}
 use Rattle.block_model.specs.Record.{Kernel}
@@ -45,23 +46,36 @@ readable_by : (c : Bool) (x y : ℕ) → is_some (cond c (Some x) None) ≡ is_s
 readable_by true x y = refl
 readable_by false x y = refl
 
-readable_same : (k : Kernel) (f g : ℕ → ℕ) (at n : ℕ) → is_some (word_at (memory_in k f) at n) ≡ is_some (word_at (memory_in k g) at n)
-readable_same k f g at zero = refl
-readable_same k f g at (suc n) =
-    let p = joined_some (memory_in k f at) (word_at (memory_in k f) (at + 1) n) in
-    let q = joined_some (memory_in k g at) (word_at (memory_in k g) (at + 1) n) in
-    let first = readable_by (can_read (permission_at k.pages at)) (f at) (g at) in
-    let rest = readable_same k f g (at + 1) n in
-    p ∙ ap (λ b. b && is_some (word_at (memory_in k f) (at + 1) n)) first
-    ∙ ap (λ b. is_some (memory_in k g at) && b) rest ∙ sym q
+readable_same : (f g : ℕ → Option ℕ) → ((a : ℕ) → is_some (f a) ≡ is_some (g a)) → (at n : ℕ) → is_some (word_at f at n) ≡ is_some (word_at g at n)
+readable_same f g same at zero = refl
+readable_same f g same at (suc n) =
+    let p = joined_some (f at) (word_at f (at + 1) n) in
+    let q = joined_some (g at) (word_at g (at + 1) n) in
+    p ∙ ap (λ b. b && is_some (word_at f (at + 1) n)) (same at)
+    ∙ ap (λ b. is_some (g at) && b) (readable_same f g same (at + 1) n) ∙ sym q
 
-access_same : (k : Kernel) (f g : ℕ → ℕ) (w : ℕ → Bool) (x : Option Access)
-    → option_and_then (access_fault (memory_in k f) w) x ≡ option_and_then (access_fault (memory_in k g) w) x
-access_same k f g w None = refl
-access_same k f g w (Some x) = rw (readable_same k f g x.at x.size) refl
+access_same : (f g : ℕ → Option ℕ) → ((a : ℕ) → is_some (f a) ≡ is_some (g a)) → (w : ℕ → Bool) (x : Option Access)
+    → option_and_then (access_fault f w) x ≡ option_and_then (access_fault g w) x
+access_same f g same w None = refl
+access_same f g same w (Some x) = rw (readable_same f g same x.at x.size) refl
 
-pub fault_same : (k : Kernel) (f g : ℕ → ℕ) (w : ℕ → Bool) (e : Effect) → fault_in (memory_in k f) w e ≡ fault_in (memory_in k g) w e
-fault_same k f g w e = ap (option_or (asks e).fault) (access_same k f g w (asks e).access)
+pub fault_same : (f g : ℕ → Option ℕ) → ((a : ℕ) → is_some (f a) ≡ is_some (g a)) → (w : ℕ → Bool) (e : Effect) → fault_in f w e ≡ fault_in g w e
+fault_same f g same w e = ap (option_or (asks e).fault) (access_same f g same w (asks e).access)
+
+-- so it is with the bytes that an instruction reaches, on pages or in a segment
+either_some : (b : Bool) (z x y : Option ℕ) → is_some x ≡ is_some y → is_some (cond b z x) ≡ is_some (cond b z y)
+either_some true z x y same = refl
+either_some false z x y same = same
+
+pub reached_some : (o : Option Neighbour) (k : Kernel) (f g : ℕ → ℕ) (a : ℕ) → is_some (with_segment o (memory_in k f) a) ≡ is_some (with_segment o (memory_in k g) a)
+reached_some None k f g a = readable_by (can_read (permission_at k.pages a)) (f a) (g a)
+reached_some (Some other) k f g a =
+    either_some (is_in_segment a) (Some (other.shared a)) (memory_in k f a) (memory_in k g a) (readable_by (can_read (permission_at k.pages a)) (f a) (g a))
+
+-- and with a byte of memory that is the same
+pub reached_same : (o : Option Neighbour) (f g : ℕ → Option ℕ) (a : ℕ) → f a ≡ g a → with_segment o f a ≡ with_segment o g a
+reached_same None f g a same = same
+reached_same (Some other) f g a same = ap (cond (is_in_segment a) (Some (other.shared a))) same
 
 -- reservations
 pub lost_none : (ws : List Write) → lost_after ws None ≡ None

@@ -11,6 +11,7 @@ use Rattle.mach_types.specs.declared.user_memory.Store.{Store}
 use Rattle.mach_types.specs.declared.user_memory.Write.{Write}
 use Rattle.mach_types.specs.Kernel.Pages.{PageRun, Pages, is_in, pages_of, permission_of, run, zeros_of}
 use Rattle.mach_types.specs.Kernel.PageCalls.{break_moved, break_run, mapped_at, may_move_break, mmap_answer, mprotect_refusal, munmap_refusal, permission_for, protected, unmapped}
+use Rattle.block_model.specs.Beside.{Neighbour, or_in_segment}
 use Rattle.block_model.specs.Here.{Here}
 use Rattle.block_model.specs.Kernel.{paged}
 use Rattle.block_model.specs.Calls.Answers.{CallDone, Errors, argument, refused, said, unless}
@@ -123,11 +124,13 @@ taken_by number here t =
     else if number == 226 then taken_by_mprotect here t
     else no_pages
 
--- whether a byte of a store lies on one of the pages of a run
-abbrev pub lies_on : PageRun → Store → Bool
-lies_on r w = not (each_byte (λ a. not (is_in r (a / PAGE_SIZE))) w.at w.size)
+-- whether a byte of a store lies on one of the pages of a run; none does that lies in the segment that the process
+-- shares, where it shares one
+abbrev pub lies_on : Option Neighbour → PageRun → Store → Bool
+lies_on beside r w = not (each_byte (or_in_segment beside (λ a. not (is_in r (a / PAGE_SIZE)))) w.at w.size)
 
 -- whether a byte of a store that waits on one of so many harts does
-abbrev pub lies_waiting_on : PageRun → (ℕ → List Store) → ℕ → Bool
-lies_waiting_on r waiting zero = false
-lies_waiting_on r waiting (suc h) = list_any (lies_on r) (waiting h) || lies_waiting_on r waiting h
+abbrev pub lies_waiting_on : Option Neighbour → PageRun → (ℕ → List Store) → ℕ → Bool
+lies_waiting_on beside r waiting zero = false
+lies_waiting_on beside r waiting (suc h) =
+    list_any (lies_on beside r) (waiting h) || lies_waiting_on beside r waiting h

@@ -9,7 +9,7 @@ use Rattle.mach_types.specs.declared.limits.End.TheVariants.{Killed}
 use Rattle.rv_inst.specs.declared.effects.Effect.{Effect}
 use Rattle.rv_inst.specs.Execution.{Outcome, outcome, instruction_gate}
 use Rattle.rv_inst.specs.Class.{is_call}
-use Rattle.block_model.specs.Here.{Here, Done, nothing, memory, is_writable, view, runs, waiting_here}
+use Rattle.block_model.specs.Here.{Here, Done, nothing, reached, is_storable, view_of_all, runs, waiting_here}
 use Rattle.block_model.specs.Instruction as instruction
 use Rattle.block_model.specs.Kernel.{signalled}
 use Rattle.block_model.specs.Calls.{called}
@@ -23,12 +23,14 @@ abbrev pub next_effect : Here → ℕ → Option Effect
 next_effect here t = instruction.next_effect here.setting.program.pages (here.file t)
 
 abbrev pub next_fault : Here → ℕ → Option ℕ
-next_fault here t = instruction.next_fault here.setting.program.pages (memory here) (is_writable here) (here.file t)
+next_fault here t = instruction.next_fault here.setting.program.pages (reached here) (is_storable here) (here.file t)
 
 -- whether a byte of a store that waits on some hart of the machine lies on a page that the call of thread t would take (own: so
 -- a store that was executed can always enter memory). A call inside a sequence takes none
 abbrev pub is_held : Here → ℕ → Bool
-is_held here t = not (is_inside_here here t) && lies_waiting_on (taken_by (call_number here t) here t) here.waiting here.setting.limits.harts
+is_held here t =
+    not (is_inside_here here t)
+    && lies_waiting_on here.beside (taken_by (call_number here t) here t) here.waiting here.setting.limits.harts
 
 -- a call waits until no such store does
 abbrev pub others_gate : Bool → Option Effect → Option Why
@@ -84,7 +86,7 @@ by_outcome here t o = record (one_instruction here) {
 }
 
 abbrev pub outcome_of : Here → ℕ → Effect → Outcome
-outcome_of here t e = outcome (view here) (here.file t).file (here.file t).pc here.reserved e
+outcome_of here t e = outcome (view_of_all here) (here.file t).file (here.file t).pc here.reserved e
 
 -- no call may be made inside a restartable sequence: the process is killed (own; Linux does so where it checks, CONFIG_DEBUG_RSEQ)
 abbrev pub called_here : Here → ℕ → CallDone

@@ -11,12 +11,12 @@ use Rattle.block_model.specs.Here.{Here, runs}
 use Rattle.block_model.specs.Kernel.{cleared, had_child, next_number}
 use Rattle.block_model.specs.Calls.Answers.{CallDone, argument, returned}
 use Rattle.block_model.specs.Calls.Cloning.{child_file, clone_child_cleartid, has_flag, with_new_child}
+use Rattle.block_model.specs.Standing.{IsGoodHere, IsSound}
 use Rattle.block_model.proofs.AllowedHarts.{child_allowed, running_live}
 use Rattle.block_model.specs.Tables.{on}
 use Rattle.block_model.proofs.KernelTables.{running_is}
 use Rattle.block_model.proofs.KernelCalls.{child_not_held, child_same, tables_child}
 use Rattle.mach_types.proofs.Laws.{next_is_new}
-use Rattle.block_model.proofs.PlaceInvariant.{IsGoodHere, IsSound}
 use Rattle.block_model.proofs.ThreadRecords.{held_child}
 use Rattle.block_model.proofs.Invariants.Calls.Conditions.{IsFitCall, IsApart, apart_own}
 use Rattle.block_model.proofs.Invariants.Calls.RecordSteps.{IsKept, kept_cleared, kept_still}

@@ -8,17 +8,18 @@ use Rattle.mach_types.specs.Kernel.Pages.{PageRun, Pages, can_write, is_in, perm
 use Rattle.mach_types.specs.declared.threads.Saved.{Saved}
 use Rattle.mach_types.specs.declared.user_memory.Store.{Store}
 use Rattle.mach_types.specs.Kernel.Threads.{Threads, running_on}
+use Rattle.block_model.specs.Beside.{Neighbour, is_in_segment, or_in_segment}
 use Rattle.block_model.specs.Here.{Barrier, Here, runs, waiting_here}
 use Rattle.block_model.specs.History.{file_among}
 use Rattle.block_model.specs.Calls.Answers.{CallDone}
 use Rattle.block_model.specs.Calls.Memory.{lies_on, lies_waiting_on}
 use Rattle.block_model.specs.Events.Exec.{by_call}
-use Rattle.block_model.specs.Tables.{IsTables}
+use Rattle.block_model.specs.Tables.{IsHeld, IsTables}
+use Rattle.block_model.specs.Standing.{IsGoodHere, IsSound, MayEnter}
 use Rattle.block_model.proofs.KernelTables.{running_is, runs_once}
 use Rattle.block_model.proofs.Pages.{IsPaged}
 use Rattle.block_model.proofs.Barriers.Events.{IsAtOthers, IsFitBarriers}
-use Rattle.block_model.proofs.PlaceInvariant.{IsGoodHere, IsFit, IsSound, MayEnter}
-use Rattle.block_model.proofs.ThreadRecords.{IsHeld}
+use Rattle.block_model.proofs.PlaceInvariant.{IsFit}
 use Rattle.block_model.proofs.Invariants.Calls.RecordSteps.{IsKept, IsMoved, kept_moved}
 
 not_true : (b : Bool) → not b ≡ true → b ≡ false
@@ -88,34 +89,51 @@ takes_none here r c fit = record {
   held = fit.held;
 }
 
+-- a byte that passes a test or lies in the segment passes another one or lies there, where it passes a third or lies there
+or_passes : (segment a b c : Bool) → (a ≡ true → b ≡ true → c ≡ true) → (segment || a) ≡ true → (segment || b) ≡ true → (segment || c) ≡ true
+or_passes true a b c step p q = refl
+or_passes false a b c step p q = step p q
+
+pub segment_passes : (beside : Option Neighbour) (f g k : ℕ → Bool) (at : ℕ) → (f at ≡ true → g at ≡ true → k at ≡ true)
+    → or_in_segment beside f at ≡ true → or_in_segment beside g at ≡ true → or_in_segment beside k at ≡ true
+segment_passes None f g k at step p q = step p q
+segment_passes (Some other) f g k at step p q = or_passes (is_in_segment at) (f at) (g at) (k at) step p q
+
 -- a store that has no byte on the pages of the run may enter still
-module _ (before after : Pages) (r : PageRun) (stays : StaysWritable before r after) where
-  byte_stays : (at : ℕ) → not (is_in r (at / 4096)) ≡ true → can_write (permission_at before at) ≡ true → can_write (permission_at after at) ≡ true
-  byte_stays at outside may = stays (at / 4096) (not_true (is_in r (at / 4096)) outside) may
+module _ (beside : Option Neighbour) (before after : Pages) (r : PageRun) (stays : StaysWritable before r after) where
+  abbrev outside : ℕ → Bool
+  outside = or_in_segment beside (λ a. not (is_in r (a / 4096)))
 
-  bytes_stay : (at size : ℕ) → each_byte (λ a. not (is_in r (a / 4096))) at size ≡ true
-      → each_byte (λ a. can_write (permission_at before a)) at size ≡ true
-      → each_byte (λ a. can_write (permission_at after a)) at size ≡ true
-  bytes_stay at zero outside may = refl
-  bytes_stay at (suc n) outside may =
-      let out = and_parts (not (is_in r (at / 4096))) (each_byte (λ a. not (is_in r (a / 4096))) (at + 1) n) outside in
-      let can = and_parts (can_write (permission_at before at)) (each_byte (λ a. can_write (permission_at before a)) (at + 1) n) may in
-      rw (byte_stays at out.0 can.0) (bytes_stay (at + 1) n out.1 can.1)
+  abbrev can_in : Pages → ℕ → Bool
+  can_in p = or_in_segment beside (λ a. can_write (permission_at p a))
 
-  stores_stay : (ws : List Store) → list_any (lies_on r) ws ≡ false → AllByRecursion (MayEnter before) ws → AllByRecursion (MayEnter after) ws
+  byte_stays : (at : ℕ) → outside at ≡ true → can_in before at ≡ true → can_in after at ≡ true
+  byte_stays at =
+      segment_passes beside (λ a. not (is_in r (a / 4096))) (λ a. can_write (permission_at before a)) (λ a. can_write (permission_at after a)) at
+      (λ out may. stays (at / 4096) (not_true (is_in r (at / 4096)) out) may)
+
+  bytes_stay : (at size : ℕ) → each_byte outside at size ≡ true → each_byte (can_in before) at size ≡ true → each_byte (can_in after) at size ≡ true
+  bytes_stay at zero out may = refl
+  bytes_stay at (suc n) out may =
+      let apart = and_parts (outside at) (each_byte outside (at + 1) n) out in
+      let can = and_parts (can_in before at) (each_byte (can_in before) (at + 1) n) may in
+      rw (byte_stays at apart.0 can.0) (bytes_stay (at + 1) n apart.1 can.1)
+
+  stores_stay : (ws : List Store) → list_any (lies_on beside r) ws ≡ false → AllByRecursion (MayEnter beside before) ws → AllByRecursion (MayEnter beside after) ws
   stores_stay [] none may = tt
   stores_stay (w ∷ ws) none may =
-      let apart = or_parts (lies_on r w) (list_any (lies_on r) ws) none in
-      (bytes_stay w.at w.size (not_false (each_byte (λ a. not (is_in r (a / 4096))) w.at w.size) apart.0) may.0, stores_stay ws apart.1 may.1)
+      let apart = or_parts (lies_on beside r w) (list_any (lies_on beside r) ws) none in
+      (bytes_stay w.at w.size (not_false (each_byte outside w.at w.size) apart.0) may.0, stores_stay ws apart.1 may.1)
 
 -- what isn't found among the first harts isn't on one of them
-pub none_on : (r : PageRun) (waiting : ℕ → List Store) (n k : ℕ) → lies_waiting_on r waiting n ≡ false → k < n → list_any (lies_on r) (waiting k) ≡ false
-none_on r waiting zero k none lt = absurd (omega arith)
-none_on r waiting (suc n) k none lt =
-    let both = or_parts (list_any (lies_on r) (waiting n)) (lies_waiting_on r waiting n) none in
+pub none_on : (beside : Option Neighbour) (r : PageRun) (waiting : ℕ → List Store) (n k : ℕ) → lies_waiting_on beside r waiting n ≡ false → k < n
+    → list_any (lies_on beside r) (waiting k) ≡ false
+none_on beside r waiting zero k none lt = absurd (omega arith)
+none_on beside r waiting (suc n) k none lt =
+    let both = or_parts (list_any (lies_on beside r) (waiting n)) (lies_waiting_on beside r waiting n) none in
     elim (cases_eq k n) [
-      | inl same ↦ ap (λ j. list_any (lies_on r) (waiting j)) same ∙ both.0
-      | inr two ↦ none_on r waiting n k both.1 (omega arith)
+      | inl same ↦ ap (λ j. list_any (lies_on beside r) (waiting j)) same ∙ both.0
+      | inr two ↦ none_on beside r waiting n k both.1 (omega arith)
     ]
 
 -- no thread runs past the machine's harts
@@ -128,7 +146,7 @@ nobody_past harts k ts sc tables past = go (running_on k ts) refl
 
 -- a call is made where no store waits, and no store of another hart on a page that it takes
 pub fit_by_call : (here : Here) (r : PageRun) (c : CallDone) → IsGoodHere here → here.awaits ≡ None → waiting_here here ≡ []
-    → lies_waiting_on r here.waiting here.setting.limits.harts ≡ false → IsFitTaking here r c → IsFit here (by_call here c)
+    → lies_waiting_on here.beside r here.waiting here.setting.limits.harts ≡ false → IsFitTaking here r c → IsFit here (by_call here c)
 fit_by_call here r c good free none clear fit = record {
   executed = tt;
   few = let w = good.few in omega arith;
@@ -162,11 +180,11 @@ fit_by_call here r c good free none clear fit = record {
       returned = λ is. absurd cc;
     }
 
-    within : (k : ℕ) → AllByRecursion (MayEnter c.kernel.pages) (here.waiting k)
+    within : (k : ℕ) → AllByRecursion (MayEnter here.beside c.kernel.pages) (here.waiting k)
     within k = elim (cases_lt k here.setting.limits.harts) [
       | inl lt ↦
-          stores_stay here.kernel.pages c.kernel.pages r fit.pages (here.waiting k)
-          (none_on r here.waiting here.setting.limits.harts k clear lt) (good.within k)
+          stores_stay here.beside here.kernel.pages c.kernel.pages r fit.pages (here.waiting k)
+          (none_on here.beside r here.waiting here.setting.limits.harts k clear lt) (good.within k)
       | inr past ↦
           let idle = nobody_past here.setting.limits.harts k here.kernel.threads here.kernel.scheduling good.kernel.tables past in
           rw (good.idle k idle) tt

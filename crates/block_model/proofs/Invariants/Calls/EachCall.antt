@@ -17,10 +17,10 @@ use Rattle.block_model.specs.Here.{Here, runs}
 use Rattle.block_model.specs.Kernel.{gone, left, restricted, signalled, woken, registered, unregistered}
 use Rattle.block_model.specs.Record.{Kernel}
 use Rattle.block_model.specs.Setting.{Setting}
+use Rattle.block_model.specs.Standing.{IsGoodHere}
 use Rattle.block_model.proofs.Barriers.Events.{IsAtOthers}
 use Rattle.block_model.proofs.CallEffects.{Answers, Bears, Begins, Breaks, CallDeed, Clears, Ends, EnrolsFor, Exits, Leaves, MovesOff, Prints, Registers, Remaps, Resumes, Same, Says, Signalled, Stays, TableStep, Unregisters, Waits, Wakes}
 use Rattle.block_model.proofs.CallEffects.EachCall.{deed_called}
-use Rattle.block_model.proofs.PlaceInvariant.{IsGoodHere}
 use Rattle.block_model.proofs.Invariants.Calls.Cloning.{fit_child}
 use Rattle.block_model.proofs.Invariants.Calls.Conditions.{IsFitTaking, takes_none, IsApart, apart_none, apart_one, apart_own, fit_kept, fit_moved}
 use Rattle.block_model.proofs.Invariants.Calls.Futexes.{apart_woken, kept_wake}

@@ -12,8 +12,8 @@ use Rattle.block_model.specs.Here.{Here}
 use Rattle.block_model.specs.History.{file_among}
 use Rattle.block_model.specs.Kernel.{woken}
 use Rattle.block_model.specs.Calls.Futexes.{Woken, answered_wait, wake, woken_first}
+use Rattle.block_model.specs.Standing.{IsGoodHere, IsSound}
 use Rattle.block_model.proofs.KernelTables.{found_passes, waits_elsewhere}
-use Rattle.block_model.proofs.PlaceInvariant.{IsGoodHere, IsSound}
 use Rattle.block_model.proofs.Invariants.Calls.Conditions.{IsApart}
 use Rattle.block_model.proofs.Invariants.Calls.RecordSteps.{IsKept, kept_still, kept_twice, kept_woken}
 

@@ -7,13 +7,13 @@ use Rattle.mach_types.specs.Kernel.Signals.{Signalling}
 use Rattle.mach_types.specs.Kernel.Threads.{running_on, waits, Threads}
 use Rattle.block_model.specs.Setting.{Setting}
 use Rattle.block_model.specs.Kernel.{cleared, for_barriers, gone, left, printed, restricted, signalled, waited, woken}
+use Rattle.block_model.specs.Standing.{IsSound}
 use Rattle.block_model.proofs.AllowedHarts.{kept_allowed, restricted_allowed, ended_allowed}
-use Rattle.block_model.specs.Tables.{IsTables}
+use Rattle.block_model.specs.Tables.{IsHeld, IsTables}
 use Rattle.block_model.proofs.KernelTables.{tables_cleared, cleared_same, tables_left, left_others}
 use Rattle.block_model.proofs.KernelCalls.{tables_allowed, tables_woken, woken_same, tables_waited, waited_others, tables_ended, ended_others}
-use Rattle.block_model.proofs.PlaceInvariant.{IsSound}
 use Rattle.block_model.proofs.SignalTables.{KeepsThreads}
-use Rattle.block_model.proofs.ThreadRecords.{IsHeld, held_cleared, held_for_barriers, held_gone, held_left, held_printed, held_restricted, held_signalled, held_waited, held_woken}
+use Rattle.block_model.proofs.ThreadRecords.{held_cleared, held_for_barriers, held_gone, held_left, held_printed, held_restricted, held_signalled, held_waited, held_woken}
 use Rattle.mach_types.specs.Kernel.Scheduling.{Scheduling}
 
 -- each hart runs the thread that it ran, the pages stay, no number is given, and the record stays sound

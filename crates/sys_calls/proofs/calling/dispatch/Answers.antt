@@ -2,9 +2,10 @@
 use Rattle.std.proofs.Common.{refl, sym, ap, subst, ◌∙◌, []}
 use Rattle.sys_calls.proofs.Common.{CallEnd, IsAnswered, IsMade, running_on}
 use Rattle.block_model.specs.Calls.{called}
+use Rattle.block_model.specs.Calls.Beside.{barrier_call, sequence_call}
 use Rattle.block_model.specs.Calls.Ending.{ended_with, exit_group}
 use Rattle.sys_calls.proofs.Barriers.{silent_membarrier}
-use Rattle.sys_calls.proofs.CallNumbers.{made_numbered, numbered, silent_futex, silent_setaffinity, silent_sigreturn, told_numbered}
+use Rattle.sys_calls.proofs.CallNumbers.{alone_by, made_alone, made_numbered, numbered, silent_futex, silent_setaffinity, silent_sigreturn, told_numbered}
 use Rattle.sys_calls.proofs.CallAnswers.{made_answered, made_ended}
 use Rattle.sys_calls.proofs.TablesAfterCalls.{agreed_after}
 use Rattle.sys_calls.proofs.CallerTables.{caller_lives}
@@ -69,22 +70,32 @@ returns-in-139-clause-told c = λ h at.
 
 pub returns-in-283-clause-made : goal.returns-in-283-clause-made
 returns-in-283-clause-made c = λ h at.
+    let alone = alone_by h c.args.caller.tid.0 at.file c.call_number.ensures c.in-283.is at.own (λ others. others.0) in
     made_numbered at.file c.call_number.ensures c.in-283.is
-    (c.membarrier.ensures.made h c.args.pages.now at.hart at.count at.running at.tables at.pages at.file)
+    (made_alone (λ o. barrier_call o h c.args.caller.tid.0) alone
+    (c.membarrier.ensures.made h c.args.pages.now at.hart at.count at.running at.tables at.pages at.file))
 
 pub returns-in-283-clause-told : goal.returns-in-283-clause-told
 returns-in-283-clause-told c = λ h at.
-    told_numbered h c.args.caller.tid.0 at.file c.call_number.ensures c.in-283.is (c.requires.fresh ∙ sym (silent_membarrier h c.args.caller.tid.0))
+    let t = c.args.caller.tid.0 in
+    let alone = alone_by h c.args.caller.tid.0 at.file c.call_number.ensures c.in-283.is at.own (λ others. others.0) in
+    told_numbered h t at.file c.call_number.ensures c.in-283.is
+    (c.requires.fresh ∙ sym (silent_membarrier h t) ∙ ap (λ o. (barrier_call o h t).entered) (sym alone))
 
 pub returns-in-293-clause-made : goal.returns-in-293-clause-made
 returns-in-293-clause-made c = λ h at.
+    let alone = alone_by h c.args.caller.tid.0 at.file c.call_number.ensures c.in-293.is at.own (λ others. others.1) in
     made_numbered at.file c.call_number.ensures c.in-293.is
-    (c.rseq.ensures.made h at.hart at.tables at.pages (c.shows_pages.ensures h c.args.caller.tid.0 c.args.saved.now at.pages at.file) at.id)
+    (made_alone (λ o. sequence_call o h c.args.caller.tid.0) alone
+    (c.rseq.ensures.made h at.hart at.tables at.pages (c.shows_pages.ensures h c.args.caller.tid.0 c.args.saved.now at.pages at.file) at.id))
 
 pub returns-in-293-clause-told : goal.returns-in-293-clause-told
 returns-in-293-clause-told c = λ h at.
-    told_numbered h c.args.caller.tid.0 at.file c.call_number.ensures c.in-293.is
-    (c.rseq.ensures.told h at.hart at.tables (c.shows_pages.ensures h c.args.caller.tid.0 c.args.saved.now at.pages at.file) at.id)
+    let t = c.args.caller.tid.0 in
+    let alone = alone_by h c.args.caller.tid.0 at.file c.call_number.ensures c.in-293.is at.own (λ others. others.1) in
+    told_numbered h t at.file c.call_number.ensures c.in-293.is
+    (c.rseq.ensures.told h at.hart at.tables (c.shows_pages.ensures h t c.args.saved.now at.pages at.file) at.id
+    ∙ ap (λ o. (sequence_call o h t).entered) (sym alone))
 
 pub returns-in_default-clause-made : goal.returns-in_default-clause-made
 returns-in_default-clause-made c = λ h at.

@@ -1,7 +1,8 @@
 -- What would be answered to a choice.
 use Rattle.std.proofs.Common.{refl, sym}
+use Rattle.block_model.specs.Stands.{stand_of}
 use Rattle.machine_core.specs.Machines.{seen}
-use Rattle.machine_core.proofs.StretchAppends.{code_open, place_open}
+use Rattle.machine_core.proofs.StretchAppends.{code_open, is_alone, place_open}
 use Rattle.machine_core.proofs.Steps.{allowed, refused}
 use Rattle.machine_core.proofs.machine.Machine.answer.Goals as goal
 
@@ -13,10 +14,10 @@ pub returns-in-Ok : goal.returns-in-Ok
 returns-in-Ok c =
     let m = c.self.inside in
     let place = place_open m c.args.hart.0 c.self.invariant (rw (← c.self.view_is) at c.in_default.ensures.goes) (rw (← c.self.view_is) at c.in_default.ensures.hart) in
-    rw (← c.self.view_is) (sym (allowed (seen m) m.parts c.args.hart.0 c.args.choice c.answer.result c.in-Ok.entry place (c.answer.ensures (seen m) place refl) c.in-Ok.is))
+    rw (← c.self.view_is) (sym (allowed (seen m) m.parts c.args.hart.0 c.args.choice c.answer.result c.in-Ok.entry place (c.answer.ensures (stand_of (seen m)) place.at (is_alone m)) c.in-Ok.is))
 
 pub returns-in-Err : goal.returns-in-Err
 returns-in-Err c =
     let m = c.self.inside in
     let place = place_open m c.args.hart.0 c.self.invariant (rw (← c.self.view_is) at c.in_default.ensures.goes) (rw (← c.self.view_is) at c.in_default.ensures.hart) in
-    rw (← c.self.view_is) (sym (refused (seen m) m.parts c.args.hart.0 c.args.choice c.answer.result c.in-Err.why place (c.answer.ensures (seen m) place refl) c.in-Err.is))
+    rw (← c.self.view_is) (sym (refused (seen m) m.parts c.args.hart.0 c.args.choice c.answer.result c.in-Err.why place (c.answer.ensures (stand_of (seen m)) place.at (is_alone m)) c.in-Err.is))

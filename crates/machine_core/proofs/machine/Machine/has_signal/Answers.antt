@@ -2,14 +2,15 @@
 use Rattle.std.proofs.Common.{◌<◌, ap, ◌∙◌}
 use Rattle.machine_core.proofs.Common.{Here, here_of, plain_seen, runs, seen, setting_of}
 use Rattle.block_model.specs.Sights.{is_deliverable_on}
-use Rattle.block_model.proofs.Laws.{same_here}
+use Rattle.block_model.specs.Stands.{stand_of}
+use Rattle.block_model.proofs.Laws.{same_here, standing}
 use Rattle.machine_core.proofs.Sights.{deliverable_read}
 use Rattle.process.proofs.Laws.{has_signals}
 use Rattle.machine_core.proofs.machine.Machine.has_signal.Goals as goal
 
 pub deliverable-requires-clause-held : goal.deliverable-requires-clause-held
 deliverable-requires-clause-held c =
-    has_signals (seen c.self.inside) c.self.inside.parts c.args.hart.0 c.self.invariant.run c.self.invariant.tied (rw (← c.self.view_is) at c.requires)
+    has_signals (stand_of (seen c.self.inside)) c.self.inside.parts c.args.hart.0 (standing (seen c.self.inside) c.self.invariant.run) c.self.invariant.tied (rw (← c.self.view_is) at c.requires)
 
 pub returns : goal.returns
 returns c =

@@ -9,7 +9,8 @@ use Rattle.rv_inst.specs.declared.effects.Effect.{Effect}
 use Rattle.block_model.specs.Choosing.{credit_at}
 use Rattle.block_model.specs.Events.Exec.{refusal_exec}
 use Rattle.block_model.specs.Sights.{is_all_taken, is_deliverable_on, thread}
-use Rattle.block_model.proofs.Laws.{same_here}
+use Rattle.block_model.specs.Stands.{stand_of}
+use Rattle.block_model.proofs.Laws.{same_here, standing}
 use Rattle.process.specs.ExecGates.{IsNextAt}
 use Rattle.process.proofs.Laws.{has_signals, next_at}
 use Rattle.machine_core.proofs.Readings.{bytes_read, here_read, history_of, scheduling_read, writable_read}
@@ -19,7 +20,7 @@ use Rattle.machine_core.proofs.machine.Machine.sight.Goals as goal
 
 pub deliverable-requires-clause-held : goal.deliverable-requires-clause-held
 deliverable-requires-clause-held c =
-    has_signals (seen c.self.inside) c.self.inside.parts c.args.hart.0 c.self.invariant.run c.self.invariant.tied (rw (← c.self.view_is) at c.requires)
+    has_signals (stand_of (seen c.self.inside)) c.self.inside.parts c.args.hart.0 (standing (seen c.self.inside) c.self.invariant.run) c.self.invariant.tied (rw (← c.self.view_is) at c.requires)
 
 pub exec_gate-refusal-requires : goal.exec_gate-refusal-requires
 exec_gate-refusal-requires c =

@@ -2,8 +2,9 @@ use Rattle.std.proofs.Common.{◌≡◌, ◌<◌, Option, None, false, refl, rul
 use Rattle.machine_core.proofs.Common.{IsAfter, Parts, Sight, done_of, here_of, past_of, seen, seen_if, setting_of}
 use Rattle.std.proofs.lemmas.Result.{IfOk-at_ok}
 use Rattle.block_model.specs.Choosing.{has_ended}
+use Rattle.block_model.specs.Stands.{stand_of}
 use Rattle.machine_core.proofs.AdvanceAnswers.{chosen_of}
-use Rattle.machine_core.proofs.StretchAppends.{code_open, goes_on, has_room, place_open}
+use Rattle.machine_core.proofs.StretchAppends.{code_open, goes_on, has_room, is_alone, place_open}
 use Rattle.machine_core.proofs.MachineCredits.{settled, unfollowed}
 use Rattle.machine_core.proofs.Steps.{refused, stepped, stepped_so}
 use Rattle.machine_core.proofs.machine.Machine.step.Goals as goal
@@ -29,8 +30,8 @@ invariant_of-self c =
     let goes : has_ended (setting_of m) (past_of m) ≡ false = rw (← c.self.view_is) at c.in_default.ensures.goes in
     let lt : c.args.hart.0 < m.limits.harts = rw (← c.self.view_is) at c.in_default.ensures.hart in
     let place = place_open m c.args.hart.0 c.self.invariant goes lt in
-    let after = IfOk-at_ok (λ e. IsAfter (seen m) c.args.hart.0 (done_of c.args.choice (here_of (seen m) c.args.hart.0)) m.parts c.make.new.self) c.in-Ok.is (c.make.ensures.after (seen m) place refl) in
-    let step = stepped (seen m) m.parts c.make.new.self c.args.hart c.args.choice c.make.result c.in-Ok.entry place (c.make.ensures.answer (seen m) place refl) c.in-Ok.is after in
+    let after = IfOk-at_ok (λ e. IsAfter (stand_of (seen m)) c.args.hart.0 (done_of c.args.choice (here_of (seen m) c.args.hart.0)) m.parts c.make.new.self) c.in-Ok.is (c.make.ensures.after (stand_of (seen m)) place.at (is_alone m)) in
+    let step = stepped (seen m) m.parts c.make.new.self c.args.hart c.args.choice c.make.result c.in-Ok.entry place (c.make.ensures.answer (stand_of (seen m)) place.at (is_alone m)) c.in-Ok.is after in
     let p' : Parts = c.make.new.self in
     let apart : m.chosen ≡ false = c.self.invariant.chosen ∙ (rw (← c.self.view_is) at (sym c.is_chosen.ensures ∙ c.if-is_chosen.false)) in
     let sees : (let none : Option Sight = None in none) ≡ seen_if m.chosen (setting_of m) m.seed c.args.hart.0 (past_of m) = rw apart refl in
@@ -51,11 +52,11 @@ pub returns-in-Ok : goal.returns-in-Ok
 returns-in-Ok c =
     let m = c.self.inside in
     let place = place_open m c.args.hart.0 c.self.invariant (rw (← c.self.view_is) at c.in_default.ensures.goes) (rw (← c.self.view_is) at c.in_default.ensures.hart) in
-    let step = stepped_so (seen m) m.parts c.make.new.self c.args.hart c.args.choice c.make.result c.in-Ok.entry place (c.make.ensures.answer (seen m) place refl) c.in-Ok.is (c.make.ensures.after (seen m) place refl) in
+    let step = stepped_so (seen m) m.parts c.make.new.self c.args.hart c.args.choice c.make.result c.in-Ok.entry place (c.make.ensures.answer (stand_of (seen m)) place.at (is_alone m)) c.in-Ok.is (c.make.ensures.after (stand_of (seen m)) place.at (is_alone m)) in
     record { answer = rw (← c.self.view_is) (sym step.decided); of = (step.hart, step.choice); ok = search rules; err = search rules; block_run = rw c.append.ensures.items step.run }
 
 pub returns-in-Err-clause-answer : goal.returns-in-Err-clause-answer
 returns-in-Err-clause-answer c =
     let m = c.self.inside in
     let place = place_open m c.args.hart.0 c.self.invariant (rw (← c.self.view_is) at c.in_default.ensures.goes) (rw (← c.self.view_is) at c.in_default.ensures.hart) in
-    rw (← c.self.view_is) (sym (refused (seen m) m.parts c.args.hart.0 c.args.choice c.make.result c.in-Err.why place (c.make.ensures.answer (seen m) place refl) c.in-Err.is))
+    rw (← c.self.view_is) (sym (refused (seen m) m.parts c.args.hart.0 c.args.choice c.make.result c.in-Err.why place (c.make.ensures.answer (stand_of (seen m)) place.at (is_alone m)) c.in-Err.is))

@@ -1,8 +1,9 @@
 use Rattle.std.proofs.Common.{◌≡◌, ◌<◌, Some, true, ap, length, refl, rules, sym, ◌∙◌, arith}
 use Rattle.std.proofs.lemmas.Result.{IfOk-at_ok}
 use Rattle.machine_core.proofs.Common.{IsAfter, Parts, done_of, here_of, past_of, seen, seen_if, setting_of}
+use Rattle.block_model.specs.Stands.{stand_of}
 use Rattle.machine_core.proofs.AdvanceAnswers.{all_of}
-use Rattle.machine_core.proofs.StretchAppends.{code_open, goes_on, has_room, place_open}
+use Rattle.machine_core.proofs.StretchAppends.{code_open, goes_on, has_room, is_alone, place_open}
 use Rattle.machine_core.proofs.MachineCredits.{settled}
 use Rattle.machine_core.proofs.Steps.{refused, stepped, stepped_so}
 use Rattle.machine_core.proofs.machine.Machine.step_seen.Goals as goal
@@ -15,8 +16,8 @@ invariant_of-self c =
     let m = c.self.inside in
     let room : length m.log.items < m.limits.steps = (has_room m (rw (← c.self.view_is) at c.requires.goes)) in
     let place = place_open m c.args.hart.0 c.self.invariant (rw (← c.self.view_is) at c.requires.goes) (rw (← c.self.view_is) at c.requires.hart) in
-    let after = IfOk-at_ok (λ e. IsAfter (seen m) c.args.hart.0 (done_of c.args.choice (here_of (seen m) c.args.hart.0)) m.parts c.make.new.self) c.in-Ok.is (c.make.ensures.after (seen m) place refl) in
-    let step = stepped (seen m) m.parts c.make.new.self c.args.hart c.args.choice c.make.result c.in-Ok.entry place (c.make.ensures.answer (seen m) place refl) c.in-Ok.is after in
+    let after = IfOk-at_ok (λ e. IsAfter (stand_of (seen m)) c.args.hart.0 (done_of c.args.choice (here_of (seen m) c.args.hart.0)) m.parts c.make.new.self) c.in-Ok.is (c.make.ensures.after (stand_of (seen m)) place.at (is_alone m)) in
+    let step = stepped (seen m) m.parts c.make.new.self c.args.hart c.args.choice c.make.result c.in-Ok.entry place (c.make.ensures.answer (stand_of (seen m)) place.at (is_alone m)) c.in-Ok.is after in
     let all : m.chosen ≡ true = c.self.invariant.chosen ∙ sym (all_of (setting_of m) m.seed m.log.items (rw (← c.self.view_is) at c.requires.chosen)) in
     let sees : Some c.args.sight.now ≡ seen_if m.chosen (setting_of m) m.seed c.args.hart.0 (past_of m) = rw all (ap Some (rw (← c.self.view_is) at c.requires.sight)) in
     let p' : Parts = record c.make.new.self { harts = c.follow-self-inside.new.harts } in
@@ -36,14 +37,14 @@ pub returns-in-Ok : goal.returns-in-Ok
 returns-in-Ok c =
     let m = c.self.inside in
     let place = place_open m c.args.hart.0 c.self.invariant (rw (← c.self.view_is) at c.requires.goes) (rw (← c.self.view_is) at c.requires.hart) in
-    let step = stepped_so (seen m) m.parts c.make.new.self c.args.hart c.args.choice c.make.result c.in-Ok.entry place (c.make.ensures.answer (seen m) place refl) c.in-Ok.is (c.make.ensures.after (seen m) place refl) in
+    let step = stepped_so (seen m) m.parts c.make.new.self c.args.hart c.args.choice c.make.result c.in-Ok.entry place (c.make.ensures.answer (stand_of (seen m)) place.at (is_alone m)) c.in-Ok.is (c.make.ensures.after (stand_of (seen m)) place.at (is_alone m)) in
     record { answer = rw (← c.self.view_is) (sym step.decided); of = (step.hart, step.choice); ok = search rules; err = search rules; block_run = rw c.append.ensures.items step.run }
 
 pub returns-in-Err-clause-answer : goal.returns-in-Err-clause-answer
 returns-in-Err-clause-answer c =
     let m = c.self.inside in
     let place = place_open m c.args.hart.0 c.self.invariant (rw (← c.self.view_is) at c.requires.goes) (rw (← c.self.view_is) at c.requires.hart) in
-    rw (← c.self.view_is) (sym (refused (seen m) m.parts c.args.hart.0 c.args.choice c.make.result c.in-Err.why place (c.make.ensures.answer (seen m) place refl) c.in-Err.is))
+    rw (← c.self.view_is) (sym (refused (seen m) m.parts c.args.hart.0 c.args.choice c.make.result c.in-Err.why place (c.make.ensures.answer (stand_of (seen m)) place.at (is_alone m)) c.in-Err.is))
 
 pub append-requires : goal.append-requires
 append-requires c =
@@ -55,5 +56,5 @@ pub follow-self-inside-requires-clause-held : goal.follow-self-inside-requires-c
 follow-self-inside-requires-clause-held c =
     let m = c.self.inside in
     let place = place_open m c.args.hart.0 c.self.invariant (rw (← c.self.view_is) at c.requires.goes) (rw (← c.self.view_is) at c.requires.hart) in
-    let after = IfOk-at_ok (λ e. IsAfter (seen m) c.args.hart.0 (done_of c.args.choice (here_of (seen m) c.args.hart.0)) m.parts c.make.new.self) c.in-Ok.is (c.make.ensures.after (seen m) place refl) in
-    omega (arith, after.tied.all_harts, place.lt)
+    let after = IfOk-at_ok (λ e. IsAfter (stand_of (seen m)) c.args.hart.0 (done_of c.args.choice (here_of (seen m) c.args.hart.0)) m.parts c.make.new.self) c.in-Ok.is (c.make.ensures.after (stand_of (seen m)) place.at (is_alone m)) in
+    omega (arith, after.tied.all_harts, place.at.lt)

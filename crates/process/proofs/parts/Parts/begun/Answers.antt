@@ -1,7 +1,7 @@
 use Rattle.std.proofs.Common.{◌≡◌, ap, ◌∙◌, subst}
 use Rattle.mach_types.specs.Kernel.Areas.{lowest_cid}
 use Rattle.mach_types.specs.Kernel.Scheduling.{without_ready}
-use Rattle.process.proofs.Common.{Kernel, Table, here_of, next_id, plain_seen, state_of}
+use Rattle.process.proofs.Common.{Kernel, Table, here_at, next_id, state_of}
 use Rattle.scheduler.specs.Holding.{is_ready}
 use Rattle.process.specs.ContextSwitch.{IsReadied}
 use Rattle.process.proofs.ConcurrencyIds.{held_here}
@@ -9,23 +9,23 @@ use Rattle.process.proofs.RunEvent.{begun_killed, begun_running, listed, readied
 use Rattle.process.proofs.parts.Parts.begun.Goals as goal
 
 pub next_id-id-requires : goal.next_id-id-requires
-next_id-id-requires c = some_free c.requires.seen c.args.self.now c.args.hart c.args.tid c.requires.place c.requires.free
+next_id-id-requires c = some_free c.requires.stand c.args.self.now c.args.hart c.args.tid c.requires.place c.requires.free
 
 pub take_up-requires-clause-listed : goal.take_up-requires-clause-listed
 take_up-requires-clause-listed c =
-    readied_there c.requires.seen c.args.self.now c.args.hart c.args.tid c.requires.place c.requires.free _ c.area_of-area.result c.next_id-id.result c.run-saved.result
+    readied_there c.requires.stand c.args.self.now c.args.hart c.args.tid c.requires.place c.requires.free _ c.area_of-area.result c.next_id-id.result c.run-saved.result
     c.readied.new.saved c.readied.result c.readied.new.self c.area_of-area.ensures c.next_id-id.ensures c.run-saved.ensures.answer
-    (c.readied.ensures.readied (here_of c.requires.seen c.args.hart.0) c.args.tid.0)
+    (c.readied.ensures.readied (here_at c.requires.stand c.args.hart.0) c.args.tid.0)
 
 pub kill-requires-clause-listed : goal.kill-requires-clause-listed
 kill-requires-clause-listed c =
-    readied_there c.requires.seen c.args.self.now c.args.hart c.args.tid c.requires.place c.requires.free _ c.area_of-area.result c.next_id-id.result c.run-saved.result
+    readied_there c.requires.stand c.args.self.now c.args.hart c.args.tid c.requires.place c.requires.free _ c.area_of-area.result c.next_id-id.result c.run-saved.result
     c.readied.new.saved c.readied.result c.readied.new.self c.area_of-area.ensures c.next_id-id.ensures c.run-saved.ensures.answer
-    (c.readied.ensures.readied (here_of c.requires.seen c.args.hart.0) c.args.tid.0)
+    (c.readied.ensures.readied (here_at c.requires.stand c.args.hart.0) c.args.tid.0)
 
 pub take_up-requires-clause-ready : goal.take_up-requires-clause-ready
 take_up-requires-clause-ready c =
-    ap (λ (k : Kernel). is_ready c.args.tid.0 k.ready) c.readied.ensures.kernel ∙ listed c.requires.seen c.args.self.now c.args.hart c.args.tid c.requires.place c.requires.free
+    ap (λ (k : Kernel). is_ready c.args.tid.0 k.ready) c.readied.ensures.kernel ∙ listed c.requires.stand c.args.self.now c.args.hart c.args.tid c.requires.place c.requires.free
 
 pub kill-requires-clause-runs : goal.kill-requires-clause-runs
 kill-requires-clause-runs c =
@@ -33,7 +33,7 @@ kill-requires-clause-runs c =
     let t = c.args.tid in (
       c.args.hart,
       ap (λ (k : Kernel). state_of t.0 k.threads.threads) c.readied.ensures.kernel ∙ ap (state_of t.0) c.run-saved.ensures.threads
-          ∙ runs_then c.requires.seen m c.args.hart t c.requires.place c.requires.free,
+          ∙ runs_then c.requires.stand m c.args.hart t c.requires.place c.requires.free,
     )
 
 pub returns-then-readied : goal.returns-then-readied
@@ -43,10 +43,10 @@ returns-then-readied c v place free =
     let t = c.args.tid in
     let m1 = c.readied.new.self in
     let m2 = c.take_up.new.self in
-    let is = subst (λ b. IsReadied (here_of v h.0) t.0 b c.readied.new.saved m m1) c.if-readied.true
+    let is = subst (λ b. IsReadied (here_at v h.0) t.0 b c.readied.new.saved m m1) c.if-readied.true
     (readied v m h t place free _ c.area_of-area.result c.next_id-id.result c.run-saved.result c.readied.new.saved c.readied.result m1
-    c.area_of-area.ensures c.next_id-id.ensures c.run-saved.ensures.answer (c.readied.ensures.readied (here_of v h.0) t.0)) in
-    let its : c.next_id-id.result ≡ next_id (plain_seen v).kernel.ids = c.next_id-id.ensures ∙ ap lowest_cid (held_here v m h.0 place) in
+    c.area_of-area.ensures c.next_id-id.ensures c.run-saved.ensures.answer (c.readied.ensures.readied (here_at v h.0) t.0)) in
+    let its : c.next_id-id.result ≡ next_id v.plain.kernel.ids = c.next_id-id.ensures ∙ ap lowest_cid (held_here v m h.0 place) in
     begun_running v m h t place free m1 m2 c.readied.new.saved c.next_id-id.result c.run-saved.new.self m2.kernel.ready is its c.take_up.ensures.harts c.take_up.ensures.pages
     (c.take_up.ensures.others ∙ ap (λ (k : Kernel). record k { ready = m2.kernel.ready }) c.readied.ensures.kernel)
     c.run-saved.ensures.threads c.run-saved.ensures.saved c.run-saved.ensures.table
@@ -58,9 +58,9 @@ returns-else-readied c v place free =
     let m = c.args.self.now in
     let m1 = c.readied.new.self in
     let m2 = c.kill.new.self in
-    let is = subst (λ b. IsReadied (here_of v c.args.hart.0) c.args.tid.0 b c.readied.new.saved m m1) c.if-readied.false
+    let is = subst (λ b. IsReadied (here_at v c.args.hart.0) c.args.tid.0 b c.readied.new.saved m m1) c.if-readied.false
     (readied v m c.args.hart c.args.tid place free _ c.area_of-area.result c.next_id-id.result c.run-saved.result c.readied.new.saved c.readied.result m1
-    c.area_of-area.ensures c.next_id-id.ensures c.run-saved.ensures.answer (c.readied.ensures.readied (here_of v c.args.hart.0) c.args.tid.0)) in
+    c.area_of-area.ensures c.next_id-id.ensures c.run-saved.ensures.answer (c.readied.ensures.readied (here_at v c.args.hart.0) c.args.tid.0)) in
     let threads : m1.kernel.threads ≡ c.run-saved.new.self = ap (λ (k : Kernel). k.threads) c.readied.ensures.kernel in
     begun_killed v m c.args.hart c.args.tid place free m1 m2 c.readied.new.saved m1.kernel.threads is c.kill.ensures.harts c.kill.ensures.pages
     (ap (λ (x : Table). x.threads) threads ∙ c.run-saved.ensures.threads) (ap (λ (x : Table). x.saved) threads ∙ c.run-saved.ensures.saved)

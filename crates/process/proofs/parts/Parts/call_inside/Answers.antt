@@ -1,6 +1,6 @@
 use Rattle.std.proofs.Common.{◌+◌, None, arith, refl, sym}
 use Rattle.mach_types.specs.declared.events.Choice.TheVariants as asked
-use Rattle.process.proofs.Common.{HartState, by_call, counted, here_of, plain_seen}
+use Rattle.process.proofs.Common.{HartState, by_call, counted, here_at}
 use Rattle.block_model.specs.Calls.Answers.{killed_in_call}
 use Rattle.process.proofs.Entries.{killed_as}
 use Rattle.process.proofs.ExecEvent.{done_inside}
@@ -9,16 +9,16 @@ use Rattle.process.proofs.Places.{hart_is, ran_fits}
 use Rattle.process.proofs.parts.Parts.call_inside.Goals as goal
 
 pub overflow_add-state : goal.overflow_add-state
-overflow_add-state c = let plan = c.requires.plan in let few = ran_fits plan.seen c.args.self.now c.args.hart.0 c.index_mut-state.result.now plan.place c.index_mut-state.ensures.value in omega (arith, few)
+overflow_add-state c = let plan = c.requires.plan in let few = ran_fits plan.stand c.args.self.now c.args.hart.0 c.index_mut-state.result.now plan.place c.index_mut-state.ensures.value in omega (arith, few)
 
 pub returns : goal.returns
 returns c v place plan =
     let h = c.args.hart.0 in
     let m = c.args.self.now in
     let x = c.index_mut-state.result.now in
-    let here = here_of v h in
+    let here = here_at v h in
     let t = plan.thread in
     let z : HartState = record x { reserved = None; ran = x.ran + 1 } in
     killed_as v h asked.Exec (by_call here (killed_in_call here)) m _ z place plan.free
     (done_inside here t plan.at (sym plan.fault) (sym plan.effect) (c.requires.inside v t place plan.at)) (record { none_begun = refl; none_taken = refl }) refl refl refl refl refl
-    (inside_own _ v.setting (plain_seen v) h t x (counted z) (hart_is v m h x place c.index_mut-state.ensures.value) plan.at refl)
+    (inside_own _ v.setting v.plain h t x (counted z) (hart_is v m h x place c.index_mut-state.ensures.value) plan.at refl)

@@ -1,7 +1,7 @@
 use Rattle.std.proofs.Common.{◌≡◌, refl, [], ◌+◌, List, ◌∷◌, eqb, set, slice_get, ap, ◌∙◌, subst, option_map}
 use Rattle.mach_types.specs.Bytes.{all_stored}
 use Rattle.mach_types.specs.declared.events.Choice.TheVariants as asked
-use Rattle.process.proofs.Common.{HartState, IsWritten, Store, counted, here_of, lost_unless, plain_seen}
+use Rattle.process.proofs.Common.{HartState, IsWritten, Store, counted, here_at, lost_unless}
 use Rattle.mach_types.specs.declared.user_memory.Write.TheVariants.{Stored}
 use Rattle.hart_state.specs.State.{stores}
 use Rattle.block_model.specs.Events.Drain.{done_drain_of}
@@ -15,15 +15,15 @@ use Rattle.process.proofs.parts.Parts.drained.Goals as goal
 
 pub enter_made-requires-clause-writable : goal.enter_made-requires-clause-writable
 enter_made-requires-clause-writable c =
-    can_enter c.requires.seen c.args.self.now c.args.hart.0 c.index_mut-state.result.now c.pop-oldest.result c.requires.place c.index_mut-state.ensures.value c.pop-oldest.ensures.oldest
+    can_enter c.requires.stand c.args.self.now c.args.hart.0 c.index_mut-state.result.now c.pop-oldest.result c.requires.place c.requires.paged c.index_mut-state.ensures.value c.pop-oldest.ensures.oldest
 
 pub returns : goal.returns
 returns c v place free =
     let h = c.args.hart.0 in
     let m = c.args.self.now in
     let x = c.index_mut-state.result.now in
-    let here = here_of v h in
-    let p = plain_seen v in
+    let here = here_at v h in
+    let p = v.plain in
     let m' = c.enter_made.new.self in
     let own = hart_is v m h x place c.index_mut-state.ensures.value in
     let first = oldest here free in

@@ -1,8 +1,23 @@
 use Rattle.std.proofs.Common.{rules, ◌≡◌, Some, sym, ap, ◌∙◌, subst}
 use Rattle.rv_inst.specs.declared.effects.Effect.TheVariants as effect
-use Rattle.process.specs.Planned.{IsExecuted}
+use Rattle.process.specs.Planned.{HasPlan, IsExecuted}
 use Rattle.process.specs.declared.next.Next.{Next}
 use Rattle.process.proofs.parts.Parts.execute.Goals as goal
+
+pub call-requires : goal.call-requires
+call-requires c =
+    let is : c.args.next.effect ≡ Some effect.Call = search rules in
+    subst (λ (n : Next). HasPlan c.args.self.now c.args.hart.0 n)
+    (ap (λ o. record { effect = o; fault = c.args.next.fault }) is
+    ∙ ap (λ o. record { effect = Some effect.Call; fault = o }) c.in-None-Some-Call.is-0) c.requires
+
+pub plain-requires : goal.plain-requires
+plain-requires c = record {
+  plan = subst (λ (n : Next). HasPlan c.args.self.now c.args.hart.0 n)
+      (ap (λ o. record { effect = o; fault = c.args.next.fault }) c.in-None-Some.is-1
+      ∙ ap (λ o. record { effect = Some c.in-None-Some.effect; fault = o }) c.in-None-Some.is-0) c.requires;
+  no_call = search rules;
+}
 
 pub returns-in-Some-default : goal.returns-in-Some-default
 returns-in-Some-default c =

@@ -1,4 +1,4 @@
-use Rattle.std.proofs.Common.{◌≡◌, sym, ap, ◌∙◌, not, ◌&&◌}
+use Rattle.std.proofs.Common.{◌≡◌, None, sym, ap, ◌∙◌, not, ◌&&◌}
 use Rattle.std.specs.List.{list_any}
 use Rattle.process.proofs.Common.{HartState, file_on, here_in_plain}
 use Rattle.block_model.specs.Calls.Answers.{call_number}
@@ -12,7 +12,7 @@ pub returns-then-is_inside : goal.returns-then-is_inside
 returns-then-is_inside c s p t tied lt at =
     let here = here_in_plain s p c.args.hart.0 in
     let inside = sym (c.is_inside.ensures s p t tied lt at) ∙ c.if-is_inside.true in
-    ap (λ b. not b && lies_waiting_on (taken_by (call_number here t) here t) here.waiting here.setting.limits.harts) (sym inside)
+    ap (λ b. not b && lies_waiting_on None (taken_by (call_number here t) here t) here.waiting here.setting.limits.harts) (sym inside)
 
 pub returns : goal.returns
 returns c s p t tied lt at =
@@ -27,4 +27,4 @@ returns c s p t tied lt at =
     c.waits_in_any.ensures
     ∙ ap (list_any (λ (y : HartState). list_any (lies_in taken) y.buffer)) c.deref.ensures.value
     ∙ held_is s p m taken (taken_by (call_number here t) here t) x tied (c.pages_taken-taken.ensures here t tied.pages file)
-    ∙ ap (λ b. not b && lies_waiting_on (taken_by (call_number here t) here t) here.waiting here.setting.limits.harts) (sym outside)
+    ∙ ap (λ b. not b && lies_waiting_on None (taken_by (call_number here t) here t) here.waiting here.setting.limits.harts) (sym outside)

@@ -1,7 +1,7 @@
 use Rattle.std.proofs.Common.{Some, ◌+◌, refl, ap, ◌∙◌}
 use Rattle.mach_types.specs.declared.events.Choice.TheVariants as asked
 use Rattle.mach_types.specs.declared.threads.ThreadState.TheVariants.{Ready}
-use Rattle.process.proofs.Common.{HartState, counted, here_of, plain_seen}
+use Rattle.process.proofs.Common.{HartState, counted, here_at}
 use Rattle.block_model.specs.Kernel.{left}
 use Rattle.block_model.specs.Events.Preempt.{done_preempt_by}
 use Rattle.sys_calls.proofs.Laws.{holds_left}
@@ -17,30 +17,30 @@ use Rattle.process.proofs.parts.Parts.left.Goals as goal
 
 pub leave-requires : goal.leave-requires
 leave-requires c =
-    let is = leaving c.requires.seen c.args.self.now c.args.hart c.index_mut-state.result.now c.entry_of-entry.result c.requires.place c.requires.free c.index_mut-state.ensures.value c.entry_of-entry.ensures in
+    let is = leaving c.requires.stand c.args.self.now c.args.hart c.index_mut-state.result.now c.entry_of-entry.result c.requires.place c.requires.free c.index_mut-state.ensures.value c.entry_of-entry.ensures in
     (c.args.hart, is.runs)
 
 pub push-requires-clause-held : goal.push-requires-clause-held
 push-requires-clause-held c =
-    let is = leaving c.requires.seen c.args.self.now c.args.hart c.index_mut-state.result.now c.entry_of-entry.result c.requires.place c.requires.free c.index_mut-state.ensures.value c.entry_of-entry.ensures in
+    let is = leaving c.requires.stand c.args.self.now c.args.hart c.index_mut-state.result.now c.entry_of-entry.result c.requires.place c.requires.free c.index_mut-state.ensures.value c.entry_of-entry.ensures in
     is.held
 
 pub push-requires-clause-not_ready : goal.push-requires-clause-not_ready
 push-requires-clause-not_ready c =
-    let is = leaving c.requires.seen c.args.self.now c.args.hart c.index_mut-state.result.now c.entry_of-entry.result c.requires.place c.requires.free c.index_mut-state.ensures.value c.entry_of-entry.ensures in
+    let is = leaving c.requires.stand c.args.self.now c.args.hart c.index_mut-state.result.now c.entry_of-entry.result c.requires.place c.requires.free c.index_mut-state.ensures.value c.entry_of-entry.ensures in
     is.not_ready
 
 pub returns : goal.returns
 returns c v place free =
     let h = c.args.hart.0 in
-    let p = plain_seen v in
+    let p = v.plain in
     let x = c.index_mut-state.result.now in
     let m = c.args.self.now in
     let is = leaving v m c.args.hart x c.entry_of-entry.result place free c.index_mut-state.ensures.value c.entry_of-entry.ensures in
     let t = c.entry_of-entry.result.tid.0 in
-    uncounted_as v h asked.Preempt (done_preempt_by (here_of v h) (Some t)) m _ c.leave-saved.new.self place free (ap (done_preempt_by (here_of v h)) is.at) (record {
+    uncounted_as v h asked.Preempt (done_preempt_by (here_at v h) (Some t)) m _ c.leave-saved.new.self place free (ap (done_preempt_by (here_at v h)) is.at) (record {
       own = preempt_own _ v.setting p h t x (counted c.leave-saved.new.self) is.own (tables_at v m h place) is.at (ap (λ (z : HartState). record z { events = z.events + 1 }) c.leave-saved.ensures.hart);
-      harts = none_beside h (done_preempt_by (here_of v h) (Some t)) _ (record { none_begun = refl; none_taken = refl }) refl;
+      harts = none_beside h (done_preempt_by (here_at v h) (Some t)) _ (record { none_begun = refl; none_taken = refl }) refl;
       pages = place.tied.pages;
       readable = place.tied.readable;
       tables = holds_left place.tied.tables t c.leave.new.self c.push.new.self c.leave.ensures.threads c.push.ensures;

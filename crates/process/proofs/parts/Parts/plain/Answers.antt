@@ -1,7 +1,7 @@
 use Rattle.std.proofs.Common.{refl, ◌≡◌, ◌+◌, List, eqb, arith, sym, ap, ◌∙◌, slice_get, set, subst, option_map}
 use Rattle.mach_types.specs.Bytes.{all_stored}
 use Rattle.mach_types.specs.declared.events.Choice.TheVariants as asked
-use Rattle.process.proofs.Common.{HartState, IsWritten, Store, by_outcome, counted, here_of, lost_unless, plain_seen}
+use Rattle.process.proofs.Common.{HartState, IsWritten, Store, by_outcome, counted, here_at, lost_unless}
 use Rattle.rv_inst.specs.Execution.{Outcome}
 use Rattle.hart_state.specs.State.{hart_after, stores}
 use Rattle.process.proofs.Entries.{uncounted_as}
@@ -16,12 +16,12 @@ use Rattle.process.proofs.parts.Parts.plain.Goals as goal
 pub execute-made-requires-clause-no_fault : goal.execute-made-requires-clause-no_fault
 execute-made-requires-clause-no_fault c =
     let plan = c.requires.plan in
-    (may_perform plan.seen c.args.self.now c.args.hart.0 c.index_mut-state.result.now c.args.effect.now plan.place plan.plan c.index_mut-state.ensures.value).no_fault
+    (may_perform plan.stand c.args.self.now c.args.hart.0 c.index_mut-state.result.now c.args.effect.now plan.place plan.plan c.requires.no_call c.index_mut-state.ensures.value).no_fault
 
 pub overflow_add-state : goal.overflow_add-state
 overflow_add-state c =
     let plan = c.requires.plan in
-    let few = ran_fits plan.seen c.args.self.now c.args.hart.0 c.index_mut-state.result.now plan.place c.index_mut-state.ensures.value in
+    let few = ran_fits plan.stand c.args.self.now c.args.hart.0 c.index_mut-state.result.now plan.place c.index_mut-state.ensures.value in
     let same : c.execute-made.new.self.ran ≡ c.index_mut-state.result.now.ran = ap (λ (z : HartState). z.ran) c.execute-made.ensures.hart in omega (arith, few, same)
 
 pub returns : goal.returns
@@ -29,8 +29,8 @@ returns c v place plan =
     let h = c.args.hart.0 in
     let m = c.args.self.now in
     let x = c.index_mut-state.result.now in
-    let here = here_of v h in
-    let p = plain_seen v in
+    let here = here_at v h in
+    let p = v.plain in
     let m' = c.enter_made.new.self in
     let is = performing v m h x c.args.effect.now place plan c.requires.no_call c.index_mut-state.ensures.value in
     let ws = all_stored is.outcome.entered in

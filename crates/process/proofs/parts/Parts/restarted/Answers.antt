@@ -1,6 +1,6 @@
 -- The thread on a hart is interrupted where a request asks for it.
 use Rattle.std.proofs.Common.{◌≡◌, true, Some, sym, ap, ◌∙◌}
-use Rattle.process.proofs.Common.{HartState, area_of, file_on, here_of, runs}
+use Rattle.process.proofs.Common.{HartState, area_of, file_on, here_at, runs}
 use Rattle.process.proofs.Places.{bytes_at, hart_is, thread_is, writable_at}
 use Rattle.process.proofs.TakeEvent.{restarted}
 use Rattle.process.proofs.parts.Parts.restarted.Goals as goal
@@ -10,7 +10,7 @@ returns-clause-restarted c v place =
     let m = c.args.self.now in
     let h = c.args.hart.0 in
     let x = c.index-state.result.now in
-    let here = here_of v h in
+    let here = here_at v h in
     let t = c.in-Some.tid in
     let own = hart_is v m h x place c.index-state.ensures in
     let at : runs here ≡ Some t.0 = thread_is (runs here) t (sym c.in-Some.is ∙ ap (λ (y : HartState). y.running) own) in

@@ -1,7 +1,7 @@
 -- A hart takes its requests.
 use Rattle.std.proofs.Common.{ap, ◌∙◌}
 use Rattle.block_model.specs.Events.Take.{done_take}
-use Rattle.block_model.specs.Plain.{here_of}
+use Rattle.block_model.specs.Stands.{here_at}
 use Rattle.process.specs.Barriers.{ended_by}
 use Rattle.process.proofs.Places.{still_there}
 use Rattle.process.proofs.TakeEvent.{taken_event}
@@ -9,9 +9,9 @@ use Rattle.process.proofs.parts.Parts.taken.Goals as goal
 
 pub end_take-requires-clause-listed : goal.end_take-requires-clause-listed
 end_take-requires-clause-listed c =
-    let v = c.requires.seen in
+    let v = c.requires.stand in
     let place = c.requires.place in
-    still_there v c.args.self.now c.args.hart.0 (done_take (here_of v c.args.hart.0)).entered c.restarted-came.new.self.harts.items place (c.restarted-came.ensures.restarted v place).harts
+    still_there v c.args.self.now c.args.hart.0 (done_take (here_at v c.args.hart.0)).entered c.restarted-came.new.self.harts.items place (c.restarted-came.ensures.restarted v place).harts
 
 pub returns : goal.returns
 returns c v place free = taken_event v c.args.self.now c.args.hart place free c.restarted-came.result c.restarted-came.new.self c.end_take.new.self (record {
