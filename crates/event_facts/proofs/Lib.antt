@@ -7,4 +7,5 @@ mod Lists
 mod PlainEffects
 mod PlainKinds
 mod ToldFacts
+mod ToldLines
 mod WrittenBytes

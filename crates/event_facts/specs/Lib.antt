@@ -5,4 +5,5 @@ pub mod Reservations
 pub mod Sources
 pub mod Telling
 pub mod Tied
+pub mod Told
 pub mod Written

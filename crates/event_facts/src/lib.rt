@@ -13,8 +13,10 @@ mod reads;
 mod registers;
 mod reservations;
 mod telling;
+mod theorems;
 mod written;
 
 pub use facts::{Fact, Source};
 pub use lines::{Lines, Numbered};
 pub use telling::{PlainEvent, plain_event, tell};
+pub use theorems::lines_are_told_rightly;
