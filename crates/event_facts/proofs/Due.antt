@@ -1,10 +1,10 @@
 -- An entry that is due on a machine, and the place behind it.
-use Rattle.std.proofs.Common.{◌≡◌, ℕ, ◌+◌, ◌<◌, ◌^◌, [], ◌∷◌, ◌++◌, length, refl, ap, ◌∙◌, subst, arith, None}
+use Rattle.std.proofs.Common.{◌≡◌, ◌+◌, ◌<◌, ◌^◌, [], ◌∷◌, ◌++◌, length, refl, ap, ◌∙◌, subst, arith}
 use Rattle.mach_types.specs.Events.{choice_of}
 use Rattle.mach_types.specs.Limits.{InRange}
 use Rattle.mach_types.specs.declared.events.Entry.{Entry}
-use Rattle.block_model.specs.Deciding.{done, entry_in, event, history}
-use Rattle.block_model.specs.Events.{done_of, refusal_of}
+use Rattle.block_model.specs.Deciding.{done, entry_in, event}
+use Rattle.block_model.specs.Events.{done_of}
 use Rattle.block_model.specs.Here.{Here}
 use Rattle.block_model.specs.History.{History, here_in_history}
 use Rattle.block_model.specs.Plain.{here_of}

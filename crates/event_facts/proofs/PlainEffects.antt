@@ -1,5 +1,5 @@
 -- The effect of the next instruction of a hart's thread, where it makes neither a fault nor a call; and the sizes of its accesses.
-use Rattle.std.proofs.Common.{◌≡◌, ℕ, refl, sym, ap, ◌∙◌, subst, Bool, true, false, not, ◌&&◌, cond, Option, Some, None, is_none, is_some}
+use Rattle.std.proofs.Common.{◌≡◌, ℕ, refl, ap, ◌∙◌, subst, Bool, true, false, not, ◌&&◌, cond, Option, Some, None, is_none}
 use Rattle.std.specs.Option.{IfSome, option_map}
 use Rattle.mach_types.specs.declared.events.Choice.TheVariants as asked
 use Rattle.mach_types.specs.declared.registers.Regs.{Regs}
@@ -9,7 +9,7 @@ use Rattle.rv_inst.specs.Sizes.{HasAccessSizes}
 use Rattle.rv_inst.specs.declared.effects.Effect.{Effect}
 use Rattle.rv_inst.specs.declared.instruction.Inst.{Inst}
 use Rattle.rv_inst.proofs.Laws.{meaning-sized}
-use Rattle.block_model.specs.Events.Exec.{next_effect, next_fault}
+use Rattle.block_model.specs.Events.Exec.{next_fault}
 use Rattle.block_model.specs.Here.{Here, runs}
 use Rattle.block_model.specs.Instruction.{fetched, instruction_of}
 use Rattle.block_model.specs.PlainEvents.{is_plain_exec_by, is_plain_exec_of}

@@ -1,5 +1,5 @@
 -- What is told of a plain event are its facts, and what is kept of lines afterwards are those of the longer log.
-use Rattle.std.proofs.Common.{◌≡◌, ◌≢◌, ℕ, ◌+◌, ◌<◌, List, [], ◌∷◌, ◌++◌, length, map, drop, refl, sym, ap, ◌∙◌, subst, eqb, Bool, true, false, cond, Option, Some, append-nil}
+use Rattle.std.proofs.Common.{◌≡◌, ◌≢◌, ℕ, ◌<◌, List, [], ◌∷◌, ◌++◌, length, map, drop, refl, sym, ap, ◌∙◌, subst, eqb, Bool, true, false, cond, Option, Some, append-nil}
 use Rattle.std.proofs.lemmas.Bool.{eqb-false, eqb-true}
 use Rattle.mach_types.proofs.Laws.{eqb_same}
 use Rattle.mach_types.specs.Events.{choice_of}
@@ -7,9 +7,8 @@ use Rattle.mach_types.specs.declared.events.Entry.{Entry}
 use Rattle.mach_types.specs.declared.registers.Regs.{Regs}
 use Rattle.mach_types.specs.declared.threads.Saved.{Saved}
 use Rattle.mach_types.specs.declared.user_memory.Store.{Store}
-use Rattle.mach_types.specs.declared.user_memory.Write.{Write}
 use Rattle.rv_inst.specs.declared.effects.Effect.{Effect}
-use Rattle.block_model.specs.Deciding.{done, entry_in, event, history, number_of, thread_in}
+use Rattle.block_model.specs.Deciding.{number_of, thread_in}
 use Rattle.block_model.specs.Events.{done_of}
 use Rattle.block_model.specs.Events.Exec.{outcome_of}
 use Rattle.block_model.specs.Footprints.{bytes_of_all, have_byte}
@@ -21,7 +20,7 @@ use Rattle.block_model.proofs.Laws.{history-append}
 use Rattle.block_model.proofs.Swaps.PlainDone.{as_done, plain_outcome}
 use Rattle.process.specs.Harts.{file_on}
 use Rattle.event_facts.specs.Deeds.{IsDeedOf, drained_in, entered_in, executed_in}
-use Rattle.event_facts.specs.Facts.{entered_facts, executed_by, facts_by, facts_of, file_facts, files_facts, memory_facts, reading_facts, register_facts}
+use Rattle.event_facts.specs.Facts.{entered_facts, facts_by, facts_of, file_facts, files_facts, memory_facts, reading_facts, register_facts}
 use Rattle.event_facts.specs.Lines.{line_behind, memory_source, next_line, numbered, waiting_on}
 use Rattle.event_facts.specs.Reservations.{all_lost, own_facts}
 use Rattle.event_facts.specs.Sources.{source_at, source_over}
@@ -31,7 +30,6 @@ use Rattle.event_facts.specs.Written.{line_at}
 use Rattle.event_facts.specs.declared.deeds.Deed.{Deed}
 use Rattle.event_facts.specs.declared.facts.Fact.{Fact}
 use Rattle.event_facts.specs.declared.facts.Fact.TheVariants.{Waits}
-use Rattle.event_facts.specs.declared.facts.Source.{Source}
 use Rattle.event_facts.specs.declared.lines.Lines.{Lines}
 use Rattle.event_facts.specs.declared.telling.PlainEvent.{PlainEvent}
 use Rattle.event_facts.specs.declared.telling.PlainEvent.TheVariants.{Instruction, Drain}

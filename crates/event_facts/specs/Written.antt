@@ -1,5 +1,5 @@
 -- In which line each byte of memory was written last, as it is kept: by the aligned 8 bytes in which the byte stands.
-use Rattle.std.specs.Prelude.{ℕ, ◌≡◌, ◌/◌, ◌%◌, ◌==◌, ◌&&◌, Bool, List, if◌then◌else◌, nat_eq, nat_le, nat_lt, replicate, slice_index, unwrap_or}
+use Rattle.std.specs.Prelude.{ℕ, ◌/◌, ◌%◌, ◌==◌, ◌&&◌, Bool, List, nat_eq, nat_le, nat_lt, replicate, slice_index, unwrap_or}
 use Rattle.std.specs.HashMap.{get}
 use Rattle.event_facts.specs.declared.written.Written.{Written}
 

@@ -74,8 +74,8 @@ fn store_executed(effect: &Effect) -> Option<Store>
     }
 }
 
-/// The store that an instruction with this effect makes at once, where this is the number that it reads, on a hart that has this
-/// reserved.
+/// The store that an instruction with this effect makes at once, where this is the number that it reads, on a
+/// hart that has this reserved.
 fn store_made(effect: &Effect, seen: u64, reserved: Option<u64>) -> Option<Store>
     requires { HasAccessSizes effect.now }
     ensures store { option_to_list result ≡ spec.store_made seen reserved effect.now }
@@ -110,7 +110,8 @@ fn store_made(effect: &Effect, seen: u64, reserved: Option<u64>) -> Option<Store
 }
 
 impl Deed {
-    /// That of an instruction with this effect, where this is the number that it reads, on a hart that has this reserved.
+    /// That of an instruction with this effect, where this is the number that it reads, on a hart that has
+    /// this reserved.
     pub(crate) fn of_effect(effect: &Effect, seen: u64, reserved: Option<u64>) -> Deed
         requires { HasAccessSizes effect.now }
         ensures executed { executed_in result ≡ spec.store_executed effect.now }

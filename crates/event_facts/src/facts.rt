@@ -70,7 +70,8 @@ pub enum Fact {
 }
 
 impl Source {
-    /// Where a byte of memory comes from that was written last in a line; in none since the start where that is 0.
+    /// Where a byte of memory comes from that was written last in a line; in none since the start where that
+    /// is 0.
     pub(crate) fn of_line(line: u32) -> Source
         ensures { result ≡ spec.memory_source line }
     {

@@ -45,7 +45,8 @@ impl Numbered {
     }
 }
 
-/// The lines of a log in which the stores were executed that wait, and in which each byte of memory was written last.
+/// The lines of a log in which the stores were executed that wait, and in which each byte of memory was
+/// written last.
 #[derive(Drop)]
 pub struct Lines {
     /// The stores that wait on each hart, the oldest first.
@@ -121,8 +122,8 @@ impl Lines {
         source_over(&self.waiting[usize::from(hart.0)], at, below)
     }
 
-    /// The line in which the store was executed that enters memory in a line: that of the oldest that waits on the hart, where it is
-    /// that one, and else this line.
+    /// The line in which the store was executed that enters memory in a line: that of the oldest that waits
+    /// on the hart, where it is that one, and else this line.
     pub(crate) fn line_behind(&self, hart: Hart, line: u32, drained: bool) -> u32
         requires { hart.0 < length self.now.waiting.items }
         ensures { result ≡ line_behind (kept_on self.now hart.0) line (if drained then 1 else 0) }

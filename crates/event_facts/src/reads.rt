@@ -94,7 +94,8 @@ fn push_each(
     Ok(())
 }
 
-/// Appends what was read, if anything was: one fact where all bytes come from one place, and else one for each.
+/// Appends what was read, if anything was: one fact where all bytes come from one place, and else one for
+/// each.
 #[tactic(auto, unfolding(crate::specs::Facts::read_facts))]
 pub(crate) fn push_reading(
     facts: &mut Vec<Fact>,

@@ -88,7 +88,8 @@ fn push_lost(
     Ok(())
 }
 
-/// Appends what a store of a hart, as it enters memory, makes of the reservation of one hart, its own or another one.
+/// Appends what a store of a hart, as it enters memory, makes of the reservation of one hart, its own or
+/// another one.
 fn push_lost_of(
     facts: &mut Vec<Fact>,
     machine: &Machine,
@@ -106,7 +107,8 @@ fn push_lost_of(
     push_lost(facts, other, machine.hart(other).reserved, store)
 }
 
-/// Appends what a store of a hart, as it enters memory, makes of the reservations of the other harts; nothing where none enters.
+/// Appends what a store of a hart, as it enters memory, makes of the reservations of the other harts; nothing
+/// where none enters.
 pub(crate) fn push_all_lost(
     facts: &mut Vec<Fact>,
     machine: &Machine,

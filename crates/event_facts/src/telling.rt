@@ -59,8 +59,8 @@ fn plain_effect(machine: &Machine, hart: Hart) -> Option<Effect>
     unless_fault_or_call(effect, machine.next_fault(hart))
 }
 
-/// The event of an entry, where it is plain: the next of its hart on a machine. None exactly where it isn't plain, or no store waits
-/// that could enter memory.
+/// The event of an entry, where it is plain: the next of its hart on a machine. None exactly where it isn't
+/// plain, or no store waits that could enter memory.
 pub fn plain_event(machine: &Machine, entry: Entry) -> Option<PlainEvent>
     requires { entry.hart.0 < machine.now.setting.limits.harts }
     ensures event { result ≡ plain_event_of (choice_of entry) (here_on machine.now entry.hart.0) }

@@ -12,7 +12,8 @@ use std::collections::HashMap;
 /// The line in which each byte of memory was written last, since the start of a log.
 #[derive(Drop)]
 pub(crate) struct Written {
-    /// The lines of 8 bytes from an address on that is a multiple of 8, by this address over 8; 0 for each byte that wasn't written.
+    /// The lines of 8 bytes from an address on that is a multiple of 8, by this address over 8; 0 for each
+    /// byte that wasn't written.
     pub(crate) words: HashMap<u64, [u32; 8]>,
 }
 

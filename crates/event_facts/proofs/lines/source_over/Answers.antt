@@ -1,4 +1,4 @@
-use Rattle.std.proofs.Common.{◌≡◌, ◌+◌, ◌∙◌, List, ap, sym, arith, drop}
+use Rattle.std.proofs.Common.{◌+◌, ◌∙◌, List, ap, sym, arith, drop}
 use Rattle.std.proofs.lemmas.List.{drop_all}
 use Rattle.event_facts.specs.Sources.{source_over}
 use Rattle.event_facts.specs.declared.lines.Numbered.{Numbered}

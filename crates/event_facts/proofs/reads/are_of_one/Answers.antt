@@ -2,7 +2,6 @@ use Rattle.std.proofs.Common.{◌≡◌, ◌∙◌, ◌&&◌, ap, rules}
 use Rattle.rv_inst.specs.Words.{sum_64}
 use Rattle.event_facts.specs.Sources.{same_source}
 use Rattle.event_facts.specs.Tied.{kept_source}
-use Rattle.event_facts.specs.declared.facts.Source.{Source}
 use Rattle.event_facts.proofs.Lists.{all_more}
 use Rattle.event_facts.proofs.reads.are_of_one.Goals as goal
 

@@ -1,4 +1,4 @@
-use Rattle.std.proofs.Common.{◌≡◌, ℕ, Bool}
+use Rattle.std.proofs.Common.{◌≡◌}
 use Rattle.std.specs.List.{list_all, range_with_len}
 use Rattle.rv_inst.specs.Words.{sum_64}
 use Rattle.event_facts.specs.Sources.{same_source}

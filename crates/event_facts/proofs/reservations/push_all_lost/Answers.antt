@@ -1,4 +1,4 @@
-use Rattle.std.proofs.Common.{◌≡◌, ◌∙◌, List, ◌∷◌, ◌++◌, [], Option, ap, sym, arith, append-nil}
+use Rattle.std.proofs.Common.{◌∙◌, List, ◌∷◌, ◌++◌, [], Option, ap, sym, arith, append-nil}
 use Rattle.std.specs.Option.{option_to_list}
 use Rattle.mach_types.specs.Bytes.{all_stored}
 use Rattle.mach_types.specs.declared.user_memory.Store.{Store}

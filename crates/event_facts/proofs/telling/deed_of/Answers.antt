@@ -1,4 +1,4 @@
-use Rattle.std.proofs.Common.{◌≡◌, ◌∙◌, Some, ap}
+use Rattle.std.proofs.Common.{◌∙◌, Some, ap}
 use Rattle.mach_types.specs.Events.{choice_of}
 use Rattle.event_facts.specs.Telling.{here_on}
 use Rattle.event_facts.proofs.EventDeeds.{drain_deed, instruction_deed}

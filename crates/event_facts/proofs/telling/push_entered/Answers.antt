@@ -1,4 +1,4 @@
-use Rattle.std.proofs.Common.{◌≡◌, ◌∙◌, ℕ, Option, ap, unwrap_or}
+use Rattle.std.proofs.Common.{◌∙◌, ℕ, Option, ap, unwrap_or}
 use Rattle.event_facts.specs.Telling.{here_on}
 use Rattle.event_facts.proofs.Entered.{entered_told}
 use Rattle.event_facts.proofs.telling.push_entered.Goals as goal

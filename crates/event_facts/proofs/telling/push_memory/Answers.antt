@@ -1,5 +1,4 @@
-use Rattle.std.proofs.Common.{◌≡◌, ap}
-use Rattle.event_facts.specs.Telling.{effect_in, here_on, past_of}
+use Rattle.event_facts.specs.Telling.{effect_in, past_of}
 use Rattle.event_facts.proofs.ToldFacts.{memory_told}
 use Rattle.event_facts.proofs.telling.push_memory.Goals as goal
 

@@ -1,4 +1,4 @@
-use Rattle.std.proofs.Common.{◌≡◌, ℕ, ◌∙◌, ap, arith, cond, get_or, refl, rules, set}
+use Rattle.std.proofs.Common.{◌≡◌, ◌∙◌, ap, arith, cond, get_or, rules, set}
 use Rattle.std.proofs.lemmas.List.{length-set}
 use Rattle.event_facts.specs.Written.{is_from_to}
 use Rattle.event_facts.proofs.WrittenBytes.{marked_more, none_marked}

@@ -1,4 +1,4 @@
-use Rattle.std.proofs.Common.{◌≡◌, ℕ, ◌∙◌, List, ap, cond, get_or}
+use Rattle.std.proofs.Common.{ℕ, ◌∙◌, List, ap, cond, get_or}
 use Rattle.event_facts.specs.Written.{is_from_to}
 use Rattle.event_facts.proofs.WrittenBytes.{mark_line}
 use Rattle.event_facts.proofs.written.Written.mark.Goals as goal

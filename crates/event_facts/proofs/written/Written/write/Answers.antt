@@ -1,4 +1,4 @@
-use Rattle.std.proofs.Common.{◌≡◌, ℕ, ◌+◌, ◌-◌, ◌/◌, ◌%◌, ◌∙◌, ap, cond, sym, arith}
+use Rattle.std.proofs.Common.{◌+◌, ◌-◌, ◌/◌, ◌%◌, ◌∙◌, ap, cond, sym, arith}
 use Rattle.event_facts.specs.Written.{is_among, line_at}
 use Rattle.event_facts.proofs.WrittenBytes.{in_one_word, in_two_words}
 use Rattle.event_facts.proofs.written.Written.write.Goals as goal
