@@ -7,12 +7,14 @@ use crate::fields::{begin_line, push_decimal, push_value, push_word};
 use mach_types::{Hart, Regs};
 use std::alloc::AllocError;
 
-/// The name of a register in the calling convention.
+/// The name of a register in the calling convention; none, where there is no such register.
 #[tactic(auto, unfolding(crate::specs::Registers::register_names))]
-fn register_name(number: u8) -> &'static [u8]
-    requires { number < 32 }
+pub fn register_name(number: u8) -> &'static [u8]
     ensures { result.now ≡ register_name number }
 {
+    if number > 31 {
+        return b"";
+    }
     match number {
         0 => b"zero",
         1 => b"ra",

@@ -10,7 +10,7 @@ ghost use Rattle.sys_calls.specs.Registered.{areas_by_number};
 ghost use Rattle.block_model.specs.Acts.{named_at};
 ghost use Rattle.block_model.specs.Choosing.{credit_at};
 ghost use Rattle.block_model.specs.Deciding.{decide, history};
-ghost use Rattle.block_model.specs.Here.{runs, view};
+ghost use Rattle.block_model.specs.Here.{memory, runs, view};
 ghost use Rattle.block_model.specs.History.{events, file, here_in_history, kernel, ran};
 ghost use Rattle.block_model.specs.Sights.{effect_here, fault_here, is_deliverable_on, sight_in};
 ghost use Rattle.process.specs.Harts.{hart_in};
@@ -20,7 +20,7 @@ ghost use Rattle.machine_core.specs.Free.{goes_freely};
 use crate::machine::Machine;
 use block_model::Refused;
 use hart_state::HartState;
-use mach_types::{Area, Choice, Entry, Hart, Named, Sight};
+use mach_types::{Area, Choice, Entry, Hart, Named, Sight, UserMem};
 use process::{effect_of_next, is_all_taken, is_free, is_local, next_of};
 use rseq_area::Lookups;
 use rv_inst::Effect;
@@ -56,6 +56,16 @@ impl Machine {
             (view (here_in_history self.now.setting (history self.now.setting self.now.log) hart.0)) at size }
     {
         self.hart(hart).buffer.look(&self.parts.pages, at, size)
+    }
+
+    /// The little-endian number of `size` bytes from `at` on in memory, whatever stores wait. None exactly where one
+    /// of them can't be read.
+    pub fn memory(&self, at: u64, size: u8) -> Option<u64>
+        requires { IsAccessSize size }
+        ensures { (h : ℕ) → result ≡ word_at
+            (memory (here_in_history self.now.setting (history self.now.setting self.now.log) h)) at size }
+    {
+        self.parts.pages.get(at, size)
     }
 
     /// What the next instruction of a hart's thread asks for. None exactly where the hart is idle, where nothing

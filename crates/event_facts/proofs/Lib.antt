@@ -1,0 +1,11 @@
+mod Due
+mod Entered
+mod EventDeeds
+mod FactExamples
+mod KeptLines
+mod Lists
+mod PlainEffects
+mod PlainKinds
+mod ToldFacts
+mod ToldLines
+mod WrittenBytes

@@ -1,0 +1,64 @@
+-- Lists of facts, the pieces of one number after those of the other.
+use Rattle.std.proofs.Common.{◌≡◌, ℕ, zero, suc, ◌+◌, Bool, true, false, ◌&&◌, List, [], ◌∷◌, ◌++◌, map, refl, sym, ap, ◌∙◌, arith, add-zero, add-one, append_assoc}
+use Rattle.std.specs.List.{flat_map, list_all, range_with_len}
+use Rattle.std.proofs.lemmas.List.{flat_map_more, map_push}
+
+-- one number more
+range_more : (a n : ℕ) → range_with_len a (suc n) ≡ range_with_len a n ++ (a + n) ∷ []
+range_more a zero = ap (λ x. x ∷ []) (sym (add-zero a))
+range_more a (suc n) =
+    let same : a + 1 + n ≡ a + suc n = omega arith in
+    ap (λ xs. a ∷ xs) (range_more (a + 1) n ∙ ap (λ x. range_with_len (a + 1) n ++ x ∷ []) same)
+
+pub range-more : (n : ℕ) → range_with_len 0 (n + 1) ≡ range_with_len 0 n ++ n ∷ []
+range-more n = rw (add-one n) (range_more 0 n ∙ ap (λ x. range_with_len 0 n ++ x ∷ []) (omega arith))
+
+-- a list that has the pieces of the first numbers, with that of the next one
+pub range_step : {A : Type 0} (f : ℕ → List A) (start had new : List A) (n : ℕ) → had ≡ start ++ flat_map f (range_with_len 0 n)
+    → new ≡ had ++ f n → new ≡ start ++ flat_map f (range_with_len 0 (n + 1))
+range_step f start had new n before after =
+    after ∙ ap (λ l. l ++ f n) before ∙ flat_map_more f start (range_with_len 0 n) n ∙ ap (λ xs. start ++ flat_map f xs) (sym (range-more n))
+
+-- all numbers below one
+pub all_numbers : {A : Type 0} (f : ℕ → List A) (start had : List A) (n most : ℕ) → n ≡ most → had ≡ start ++ flat_map f (range_with_len 0 n)
+    → had ≡ start ++ flat_map f (range_with_len 0 most)
+all_numbers f start had n most all before = before ∙ ap (λ k. start ++ flat_map f (range_with_len 0 k)) all
+
+-- pieces of which none has anything
+pub nothing_in_all : {X A : Type 0} (f : X → List A) (xs : List X) → ((x : X) → f x ≡ []) → flat_map f xs ≡ []
+nothing_in_all f [] none = refl
+nothing_in_all f (x ∷ xs) none = ap (λ l. l ++ flat_map f xs) (none x) ∙ nothing_in_all f xs none
+
+-- a list that got five pieces, one behind the other
+pub five_pieces : {A : Type 0} (start one two three four five a b c d e : List A) → one ≡ start ++ a → two ≡ one ++ b → three ≡ two ++ c → four ≡ three ++ d
+    → five ≡ four ++ e → five ≡ start ++ (a ++ b ++ c ++ d ++ e)
+five_pieces start one two three four five a b c d e p q r s t =
+    let regroup : ((((start ++ a) ++ b) ++ c) ++ d) ++ e ≡ start ++ (a ++ b ++ c ++ d ++ e) = simp append_assoc in
+    t ∙ ap (λ l. l ++ e) (s ∙ ap (λ l. l ++ d) (r ∙ ap (λ l. l ++ c) (q ∙ ap (λ l. l ++ b) p))) ∙ regroup
+
+-- one that got two
+pub two_pieces : {A : Type 0} (start one two a b : List A) → one ≡ start ++ a → two ≡ one ++ b → two ≡ start ++ (a ++ b)
+two_pieces start one two a b p q = q ∙ ap (λ l. l ++ b) p ∙ append_assoc start a b
+
+-- a map over one number more, behind others
+pub map_step : {A : Type 0} (f : ℕ → A) (start had new : List A) (n : ℕ) → had ≡ start ++ map f (range_with_len 0 n) → new ≡ had ++ f n ∷ []
+    → new ≡ start ++ map f (range_with_len 0 (n + 1))
+map_step f start had new n before after =
+    after ∙ ap (λ l. l ++ f n ∷ []) before ∙ append_assoc start (map f (range_with_len 0 n)) (f n ∷ [])
+    ∙ ap (λ l. start ++ l) (sym (ap (map f) (range-more n) ∙ map_push f (range_with_len 0 n) n))
+
+-- a test of all of the first numbers, and of the next one
+list_all_push : (p : ℕ → Bool) (xs : List ℕ) (x : ℕ) → list_all p (xs ++ x ∷ []) ≡ (list_all p xs && p x)
+list_all_push p [] x = and_true (p x)
+  where
+    and_true : (b : Bool) → (b && true) ≡ b
+    and_true true = refl
+    and_true false = refl
+list_all_push p (y ∷ ys) x = ap (λ b. p y && b) (list_all_push p ys x) ∙ regroup (p y) (list_all p ys) (p x)
+  where
+    regroup : (a b c : Bool) → (a && (b && c)) ≡ ((a && b) && c)
+    regroup true b c = refl
+    regroup false b c = refl
+
+pub all_more : (p : ℕ → Bool) (n : ℕ) (had : Bool) → had ≡ list_all p (range_with_len 0 n) → (had && p n) ≡ list_all p (range_with_len 0 (n + 1))
+all_more p n had before = ap (λ b. b && p n) before ∙ sym (ap (list_all p) (range-more n) ∙ list_all_push p (range_with_len 0 n) n)

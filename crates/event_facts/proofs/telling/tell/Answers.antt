@@ -1,0 +1,53 @@
+use Rattle.std.proofs.Common.{◌+◌, ◌<◌, ◌++◌, ◌∙◌, List, ap, arith, length, subst, sym}
+use Rattle.mach_types.specs.declared.events.Entry.{Entry}
+use Rattle.block_model.specs.Setting.{Seen}
+use Rattle.event_facts.specs.declared.facts.Fact.{Fact}
+use Rattle.event_facts.proofs.Due.{due, few_lines, line_is}
+use Rattle.event_facts.proofs.Lists.{two_pieces}
+use Rattle.event_facts.proofs.ToldFacts.{all_facts, lines_after}
+use Rattle.event_facts.proofs.telling.tell.Goals as goal
+
+pub overflow_cast-line : goal.overflow_cast-line
+overflow_cast-line c =
+    let few = few_lines c.args.machine.now c.args.entry c.requires.run c.requires.decided c.requires.limits in
+    omega (arith, ap length c.log.ensures)
+
+pub overflow_add-line : goal.overflow_add-line
+overflow_add-line c =
+    let few = few_lines c.args.machine.now c.args.entry c.requires.run c.requires.decided c.requires.limits in
+    omega (arith, ap length c.log.ensures)
+
+pub deed_of-deed-requires-clause-hart : goal.deed_of-deed-requires-clause-hart
+deed_of-deed-requires-clause-hart c = (due c.args.machine.now c.args.entry c.requires.run c.requires.decided).lt
+
+pub push_memory-requires-clause-hart : goal.push_memory-requires-clause-hart
+push_memory-requires-clause-hart c = (due c.args.machine.now c.args.entry c.requires.run c.requires.decided).lt
+
+pub push_memory-requires-clause-line : goal.push_memory-requires-clause-line
+push_memory-requires-clause-line c = ap (λ (l : List Entry). length l + 1) c.log.ensures ∙ line_is c.args.machine.now
+
+pub hart-requires : goal.hart-requires
+hart-requires c = (due c.args.machine.now c.args.entry c.requires.run c.requires.decided).lt
+
+pub push_changed-requires : goal.push_changed-requires
+push_changed-requires c =
+    subst (λ (m : Seen). c.args.entry.hart.0 < m.setting.limits.harts) (sym c.make.ensures.machine)
+    (due c.args.machine.now c.args.entry c.requires.run c.requires.decided).lt
+
+pub note-requires-clause-hart : goal.note-requires-clause-hart
+note-requires-clause-hart c =
+    subst (λ n. c.args.entry.hart.0 < n) (sym c.requires.lines.harts) (due c.args.machine.now c.args.entry c.requires.run c.requires.decided).lt
+
+pub returns-clause-facts : goal.returns-clause-facts
+returns-clause-facts c =
+    let told = all_facts c.args.machine.now c.make.new.machine c.args.entry c.requires.run c.requires.decided c.make.ensures.machine c.args.event.now c.deed_of-deed.result
+    c.hart.result.now.file c.requires.event c.deed_of-deed.ensures.deed (λ i. (c.hart.ensures i).file) in
+    two_pieces _ _ _ _ _ c.in_ok-push_memory.ensures c.in_ok-push_changed.ensures
+    ∙ ap (λ (l : List Fact). c.args.facts.now.items ++ l) (sym told)
+
+pub returns-clause-lines : goal.returns-clause-lines
+returns-clause-lines c =
+    let line = ap (λ (l : List Entry). length l + 1) c.log.ensures ∙ line_is c.args.machine.now in
+    lines_after c.args.machine.now c.make.new.machine c.args.entry c.requires.run c.requires.decided c.make.ensures.machine c.deed_of-deed.result _ c.args.lines.now
+    c.note.new.self c.deed_of-deed.ensures.deed line c.requires.lines c.in_ok-note.ensures.harts c.in_ok-note.ensures.own c.in_ok-note.ensures.others
+    c.in_ok-note.ensures.written

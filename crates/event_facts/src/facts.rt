@@ -1,0 +1,103 @@
+//! Facts: what came of an event.
+
+ghost use Rattle.std.specs.Prelude.{◌≡◌, ◌&&◌};
+ghost use Rattle.event_facts.specs.Lines as spec;
+ghost use Rattle.event_facts.specs.Sources.{same_source};
+
+use mach_types::{Hart, Store};
+
+/// Where a byte comes from that is read.
+#[derive(Clone, Copy, Drop)]
+pub enum Source {
+    /// It stands in memory since the start: no write has entered there.
+    Start,
+    /// It stands in memory, and the event of this line wrote it there.
+    Memory(u32),
+    /// It is that of a store that waits, which was executed in this line.
+    Waiting(u32),
+}
+
+/// One thing that came of an event.
+#[derive(Clone, Copy, Drop)]
+pub enum Fact {
+    /// The `size` bytes at `at` were read, all of which come from one place; `value` is their number.
+    Read {
+        at: u64,
+        size: u8,
+        value: u64,
+        source: Source,
+    },
+    /// A store was executed, and waits.
+    Waits(Store),
+    /// A store entered memory where the number `old` was; it was executed in line `line`.
+    Entered {
+        store: Store,
+        old: u64,
+        line: u32,
+    },
+    /// The `length` bytes at `at` became 0.
+    Zeroed {
+        at: u64,
+        length: u64,
+    },
+    /// An LR reserved the 8 bytes at `at`.
+    Reserved {
+        at: u64,
+    },
+    /// An SC used the reservation of the 8 bytes at `at`.
+    Used {
+        at: u64,
+    },
+    /// An SC at `at` failed, which wasn't reserved.
+    Failed {
+        at: u64,
+    },
+    /// The hart's reservation of the 8 bytes at `at` ended.
+    Ended {
+        at: u64,
+    },
+    /// Another hart lost its reservation of the 8 bytes at `at` to the write at `by`.
+    Lost {
+        hart: Hart,
+        at: u64,
+        by: u64,
+    },
+    /// Register `number` of the thread that made the event has another value: this.
+    Register {
+        number: u8,
+        value: u64,
+    },
+}
+
+impl Source {
+    /// Where a byte of memory comes from that was written last in a line; in none since the start where that
+    /// is 0.
+    pub(crate) fn of_line(line: u32) -> Source
+        ensures { result ≡ spec.memory_source line }
+    {
+        if line == 0 {
+            Source::Start
+        } else {
+            Source::Memory(line)
+        }
+    }
+
+    /// Whether two are the same.
+    pub(crate) fn is_same(self, other: Source) -> bool
+        ensures { result ≡ same_source self other }
+    {
+        match (self, other) {
+            (Source::Start, Source::Start) => true,
+            (Source::Memory(one), Source::Memory(two)) => one == two,
+            (Source::Waiting(one), Source::Waiting(two)) => one == two,
+            _ => false,
+        }
+    }
+
+    /// Whether a test holds, and two are the same.
+    pub(crate) fn is_same_if(self, test: bool, other: Source) -> bool
+        ensures { result ≡ (test && same_source self other) }
+    {
+        test && self.is_same(other)
+    }
+}

@@ -1,0 +1,159 @@
+//! Which line of a log did what: where the bytes come from that a hart reads.
+
+ghost use Rattle.std.specs.Prelude.{◌≡◌, ◌≢◌, ℕ, ◌==◌, ◌<◌, ◌≤◌, ◌++◌, [], map, drop, IfOk, IfSome, OnOk, if◌then◌else◌, length, option_to_list};
+ghost use Rattle.mach_types.specs.Bytes as memory;
+ghost use Rattle.block_model.specs.Footprints.{bytes_of_all, have_byte};
+ghost use Rattle.event_facts.specs.Deeds.{drained_in, entered_in, executed_in};
+ghost use Rattle.event_facts.specs.Lines.{line_behind, numbered};
+ghost use Rattle.event_facts.specs.Sources.{source_over};
+ghost use Rattle.event_facts.specs.Tied.{AreLinesOf, items_at, kept_on, kept_source};
+ghost use Rattle.event_facts.specs.Written.{line_at};
+
+use crate::deeds::Deed;
+use crate::facts::Source;
+use crate::written::Written;
+use mach_types::{Hart, Store};
+use std::alloc::{AllocError, Global};
+
+/// A store, with the line of the log in which it was executed.
+#[derive(Clone, Copy, Drop)]
+pub struct Numbered {
+    /// The number of the line, from 1 on.
+    pub line: u32,
+    /// The store.
+    pub store: Store,
+}
+
+impl Numbered {
+    /// Whether it has the byte at an address.
+    fn covers(&self, at: u64) -> bool
+        ensures { result ≡ memory.covers self.now.store at }
+    {
+        let end = u128::from(self.store.at) + u128::from(self.store.size);
+        self.store.at <= at && u128::from(at) < end
+    }
+
+    /// Where the byte at an address comes from behind it, where it comes from there below it.
+    fn over(&self, at: u64, below: Source) -> Source
+        ensures { result ≡ (if memory.covers self.now.store at then Source.Waiting self.now.line else below) }
+    {
+        if self.covers(at) {
+            Source::Waiting(self.line)
+        } else {
+            below
+        }
+    }
+}
+
+/// The lines of a log in which the stores were executed that wait, and in which each byte of memory was
+/// written last.
+#[derive(Drop)]
+pub struct Lines {
+    /// The stores that wait on each hart, the oldest first.
+    pub(crate) waiting: Vec<Vec<Numbered>>,
+    /// The bytes that were written.
+    pub(crate) written: Written,
+}
+
+/// No store waits on any of so many harts.
+fn none_waiting(alloc: Global, harts: u8) -> Result<Vec<Vec<Numbered>>, AllocError>
+    ensures count { IfOk result (λ waiting. length waiting.items ≡ harts) }
+    ensures none { IfOk result (λ waiting. (k : ℕ) → items_at waiting.items k ≡ []) }
+{
+    let mut waiting = Vec::new(alloc);
+    for _ in 0..harts {
+        waiting.push(Vec::new(alloc))?;
+    }
+    Ok(waiting)
+}
+
+/// Where the byte at an address comes from behind these stores, where it comes from there below them.
+fn source_over(waiting: &[Numbered], at: u64, below: Source) -> Source
+    ensures { result ≡ source_over waiting.now at below }
+{
+    let mut source = below;
+    for numbered in waiting {
+        source = numbered.over(at, source);
+    }
+    source
+}
+
+/// A store was executed, and waits behind the others.
+fn push_waiting(
+    waiting: &mut Vec<Numbered>,
+    executed: Option<Store>,
+    line: u32,
+) -> Result<(), AllocError>
+    ensures { OnOk result (waiting.new.items
+        ≡ waiting.old.items ++ map (numbered line) (option_to_list executed)) }
+{
+    if let Some(store) = executed {
+        waiting.push(Numbered { line, store })?;
+    }
+    Ok(())
+}
+
+/// The oldest entered memory, or none did.
+fn drop_waiting(waiting: &mut Vec<Numbered>, drained: bool)
+    ensures { waiting.new.items ≡ drop (if drained then 1 else 0) waiting.old.items }
+{
+    if drained && !waiting.is_empty() {
+        waiting.remove(0);
+    }
+}
+
+impl Lines {
+    /// Those of a log with no entries, on so many harts.
+    pub fn new(alloc: Global, harts: u8) -> Result<Lines, AllocError>
+        ensures { IfOk result (λ lines. AreLinesOf harts [] lines) }
+    {
+        Ok(Lines {
+            waiting: none_waiting(alloc, harts)?,
+            written: Written::new(alloc),
+        })
+    }
+
+    /// Where the byte at an address comes from that a hart reads.
+    pub(crate) fn source(&self, hart: Hart, at: u64) -> Source
+        requires { hart.0 < length self.now.waiting.items }
+        ensures { result ≡ kept_source self.now hart.0 at }
+    {
+        let below = Source::of_line(self.written.line_at(at));
+        source_over(&self.waiting[usize::from(hart.0)], at, below)
+    }
+
+    /// The line in which the store was executed that enters memory in a line: that of the oldest that waits
+    /// on the hart, where it is that one, and else this line.
+    pub(crate) fn line_behind(&self, hart: Hart, line: u32, drained: bool) -> u32
+        requires { hart.0 < length self.now.waiting.items }
+        ensures { result ≡ line_behind (kept_on self.now hart.0) line (if drained then 1 else 0) }
+    {
+        if !drained {
+            return line;
+        }
+        match self.waiting[usize::from(hart.0)].first() {
+            Some(oldest) => oldest.line,
+            None => line,
+        }
+    }
+
+    /// A plain event of a hart did this in a line.
+    pub(crate) fn note(&mut self, hart: Hart, deed: &Deed, line: u32) -> Result<(), AllocError>
+        requires hart { hart.0 < length self.old.waiting.items }
+        requires size { IfSome deed.now.entered (λ w. w.size ≤ 8) }
+        ensures harts { OnOk result (length self.new.waiting.items ≡ length self.old.waiting.items) }
+        ensures own { OnOk result (kept_on self.new hart.0
+            ≡ drop (drained_in deed.now) (kept_on self.old hart.0 ++ map (numbered line) (executed_in deed.now))) }
+        ensures others { OnOk result ((k : ℕ) → k ≢ hart.0 → kept_on self.new k ≡ kept_on self.old k) }
+        ensures written { OnOk result ((a : ℕ) → line_at self.new.written a
+            ≡ (if have_byte (bytes_of_all (entered_in deed.now)) a then line else line_at self.old.written a)) }
+    {
+        let own = &mut self.waiting[usize::from(hart.0)];
+        push_waiting(own, deed.executed, line)?;
+        drop_waiting(own, deed.drained);
+        if let Some(store) = deed.entered {
+            self.written.write(store, line)?;
+        }
+        Ok(())
+    }
+}
