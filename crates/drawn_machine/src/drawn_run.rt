@@ -1,10 +1,11 @@
 //! The loop of a drawn run.
 
-ghost use Rattle.std.specs.Prelude.{◌≡◌, ◌≤◌, ◌<◌, ◌+◌, ◌↔◌, IfOk, IsTrue, length, take};
+ghost use Rattle.std.specs.Prelude.{◌≡◌, ◌≤◌, ◌<◌, ◌+◌, ◌↔◌, IfOk, OnOk, IsTrue, length, take};
 ghost use Rattle.mach_types.specs.Events.{kind_of};
 ghost use Rattle.mach_types.specs.Limits.{InRange};
 ghost use Rattle.mach_types.specs.declared.limits.End.TheVariants.{Unended};
 ghost use Rattle.elf_load.specs.Images.{IsBootable};
+ghost use Rattle.elf_load.specs.Start.{program_of};
 ghost use Rattle.block_model.specs.Deciding.{end_of, history};
 ghost use Rattle.block_model.specs.Run.{IsBlockRun};
 ghost use Rattle.block_model.specs.Setting.{setting_of};
@@ -49,6 +50,28 @@ pub fn run_drawn(
         machine,
         left_inside,
     })
+}
+
+/// Runs an image once more in this manner, until the run has ended or the log is full, on a machine that was booted with the image:
+/// it begins anew. Returns how often a thread left its hart inside a good restartable sequence.
+///
+/// Fails only where memory is short.
+pub fn run_again(
+    alloc: Global,
+    machine: &mut Machine,
+    image: &Image,
+    manner: &Manner,
+) -> Result<u32, AllocError>
+    requires image { IsBootable machine.old.setting.limits.frames image.now }
+    requires program { machine.old.setting.program ≡ program_of image.now }
+    requires limits { InRange machine.old.setting.limits }
+    requires unscripted { manner.now.scripted ≡ 0 }
+    ensures run { OnOk result (IsWholeDrawn machine.old.setting manner.now machine.new) }
+    ensures inside { IfOk result (λ inside. inside ≡ left_inside_in machine.new) }
+    ensures setting { machine.new.setting ≡ machine.old.setting }
+{
+    machine.reset(alloc, image, manner.seed)?;
+    Ok(draw_on(machine, manner))
 }
 
 /// Draws the events of a machine from where it stands, until the run has ended or the log is full. The log so far has the

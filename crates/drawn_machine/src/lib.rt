@@ -7,5 +7,5 @@ mod drawn_run;
 mod seen_harts;
 mod starting_threads;
 
-pub use drawn_run::{DrawnRun, draw_on, run_drawn};
+pub use drawn_run::{DrawnRun, draw_on, run_again, run_drawn};
 pub use seen_harts::SeenHarts;

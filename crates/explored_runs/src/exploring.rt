@@ -11,6 +11,7 @@ use crate::explored::Explored;
 use crate::made::make_run;
 use elf_load::Image;
 use mach_types::Limits;
+use machine_core::Machine;
 use std::alloc::{AllocError, Global};
 
 /// Makes the runs of an exploration, one after the other, and tells what they come to.
@@ -28,8 +29,9 @@ pub fn explore(
     ensures { IfOk result (IsExplored (setting_of image.now limits) exploration.now) }
 {
     let mut explored = Explored::nothing(alloc)?;
+    let mut machine = Machine::boot(alloc, image, limits, exploration.first)?;
     'runs: while explored.runs < exploration.runs && !explored.has_enough(exploration.until) {
-        let made = make_run(alloc, image, limits, exploration, explored.runs)?;
+        let made = make_run(alloc, &mut machine, image, limits, exploration, explored.runs)?;
         explored.tell(made)?;
     }
     Ok(explored)

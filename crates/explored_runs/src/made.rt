@@ -11,10 +11,11 @@ use crate::exploration::{Apart, Exploration};
 use crate::printed::Printed;
 use crate::tallies::Tally;
 use draw_policies::Policy;
-use drawn_machine::{DrawnRun, run_drawn};
+use drawn_machine::run_again;
 use drawn_runs::Manner;
 use elf_load::Image;
 use mach_types::{End, Limits};
+use machine_core::Machine;
 use std::alloc::{AllocError, Global};
 
 /// What one run came to.
@@ -34,9 +35,10 @@ pub(crate) struct Made {
     pub(crate) tally: Tally,
 }
 
-/// Makes the run of a place, from 0 on.
+/// Makes the run of a place, from 0 on, on a machine that was booted with the image.
 pub(crate) fn make_run(
     alloc: Global,
+    machine: &mut Machine,
     image: &Image,
     limits: Limits,
     exploration: &Exploration,
@@ -44,23 +46,29 @@ pub(crate) fn make_run(
 ) -> Result<Made, AllocError>
     requires image { IsBootable limits.frames image.now }
     requires limits { InRange limits }
-    ensures { IfOk result (IsMadeAt (setting_of image.now limits) exploration.now place) }
+    requires machine { machine.old.setting ≡ setting_of image.now limits }
+    ensures made { IfOk result (IsMadeAt (setting_of image.now limits) exploration.now place) }
+    ensures machine { machine.new.setting ≡ setting_of image.now limits }
 {
     let manner = exploration.manner(place, limits.steps);
-    let drawn = run_drawn(alloc, image, limits, &manner)?;
-    made_by(alloc, exploration.apart, &manner, &drawn)
+    let left_inside = run_again(alloc, machine, image, &manner)?;
+    made_by(alloc, exploration.apart, &manner, machine, left_inside)
 }
 
 /// What a run in this manner came to.
-fn made_by(alloc: Global, apart: Apart, manner: &Manner, run: &DrawnRun) -> Result<Made, AllocError>
-    requires harts { run.now.machine.setting.limits.harts ≤ 8 }
-    requires log { length run.now.machine.log ≤ 1000000 }
-    requires inside { run.now.left_inside ≡ left_inside_in run.now.machine }
-    requires few { run.now.left_inside ≤ 1000000 }
-    ensures { IfOk result
-        (λ made. made ≡ made_by apart manner.now run.now.machine.setting run.now.machine.log) }
+fn made_by(
+    alloc: Global,
+    apart: Apart,
+    manner: &Manner,
+    machine: &Machine,
+    left_inside: u32,
+) -> Result<Made, AllocError>
+    requires harts { machine.now.setting.limits.harts ≤ 8 }
+    requires log { length machine.now.log ≤ 1000000 }
+    requires inside { left_inside ≡ left_inside_in machine.now }
+    requires few { left_inside ≤ 1000000 }
+    ensures { IfOk result (λ made. made ≡ made_by apart manner.now machine.now.setting machine.now.log) }
 {
-    let machine = &run.machine;
     let log = machine.log();
     Ok(Made {
         seed: manner.seed,
@@ -68,7 +76,7 @@ fn made_by(alloc: Global, apart: Apart, manner: &Manner, run: &DrawnRun) -> Resu
         steps: log.len() as u32,
         console: Printed::copied(alloc, kept(apart, machine.console()))?,
         end: machine.end(),
-        tally: Tally::of(machine.harts(), log, run.left_inside),
+        tally: Tally::of(machine.harts(), log, left_inside),
     })
 }
 
