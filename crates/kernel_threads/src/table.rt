@@ -57,14 +57,16 @@ fn answering(saved: Saved, value: u64) -> Saved
     Saved { file, pc: saved.pc }
 }
 
-/// The row of thread 1 alone, ready with `start`.
-fn start_over(slots: &mut Slots, start: Saved)
-    ensures rows { slots.new.rows.items ≡ record { number = 1; stage = Stage.Ready start; clear_at = 0 } ∷ [] }
-    ensures waiters { slots.new.waiters.items ≡ [] }
-{
-    slots.rows.clear();
-    slots.rows.push(Row::new(1, start));
-    slots.waiters.clear();
+impl Slots {
+    /// The row of thread 1 alone, ready with `start`, and no waiter.
+    fn start_over(&mut self, start: Saved)
+        ensures rows { self.new.rows.items ≡ record { number = 1; stage = Stage.Ready start; clear_at = 0 } ∷ [] }
+        ensures waiters { self.new.waiters.items ≡ [] }
+    {
+        self.rows.clear();
+        self.rows.push(Row::new(1, start));
+        self.waiters.clear();
+    }
 }
 
 impl Threads {
@@ -85,7 +87,7 @@ impl Threads {
         ensures start { self.new ≡ spec.start_table start }
         ensures table { spec.IsTable self.new }
     {
-        start_over(&mut self.slots, start);
+        self.slots.start_over(start);
         self.given = 1;
     }
 

@@ -108,9 +108,9 @@ fn empty_rows(alloc: Global, groups: usize) -> Result<Vec<u32>, AllocError>
 }
 
 /// Each group has the row of zeros.
-fn forget_rows(names: &mut [u32])
-    ensures length { length names.new ≡ length names.old }
-    ensures empty { (g : ℕ) → slice_index names.new g ≡ 0 }
+fn forget_rows(names: &mut Vec<u32>)
+    ensures length { length names.new.items ≡ length names.old.items }
+    ensures empty { (g : ℕ) → slice_index names.new.items g ≡ 0 }
 {
     names.fill(EMPTY_ROW);
 }

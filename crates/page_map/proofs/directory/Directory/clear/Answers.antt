@@ -15,14 +15,14 @@ one c =
 pub invariant_of-self : goal.invariant_of-self
 invariant_of-self c =
     let was = c.self.invariant in
-    new-rows 0 empty_row 256 c.forget_rows.new.names c.push.new.self.items (vec_capacity c.push.new.self) fresh-zeros
+    new-rows 0 empty_row 256 c.forget_rows.new.names.items c.push.new.self.items (vec_capacity c.push.new.self) fresh-zeros
     (c.forget_rows.ensures.length ∙ was.chunks) c.forget_rows.ensures.empty (one c)
     (omega (arith, was.room, c.clear.ensures.capacity, c.push.ensures.capacity))
 
 pub returns-clause-length : goal.returns-clause-length
-returns-clause-length c = numbers-length c.forget_rows.new.names c.push.new.self.items
+returns-clause-length c = numbers-length c.forget_rows.new.names.items c.push.new.self.items
 
 pub returns-clause-empty : goal.returns-clause-empty
 returns-clause-empty c =
-    numbers-zero c.forget_rows.new.names c.push.new.self.items
-    (new-entry 0 empty_row c.forget_rows.new.names c.push.new.self.items fresh-zeros c.forget_rows.ensures.empty (one c))
+    numbers-zero c.forget_rows.new.names.items c.push.new.self.items
+    (new-entry 0 empty_row c.forget_rows.new.names.items c.push.new.self.items fresh-zeros c.forget_rows.ensures.empty (one c))

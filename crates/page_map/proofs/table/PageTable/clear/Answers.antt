@@ -6,7 +6,7 @@ use Rattle.page_map.proofs.Tables.{fresh-leaf, new-filled, new-places}
 use Rattle.page_map.proofs.table.PageTable.clear.Goals as goal
 
 -- the leaf without entries is the only one
-one : (c : goal.After-push) → c.push.new.self.items ≡ empty_leaf ∷ []
+one : (c : goal.After-self-1) → c.push.new.self.items ≡ empty_leaf ∷ []
 one c =
     let room = c.self.invariant.0.room in
     let ok : is_ok c.push.result ≡ true = c.push.ensures.succeeds (omega (arith, c.clear-2.ensures.len, c.clear-2.ensures.capacity)) in
