@@ -52,8 +52,9 @@ pub fn run_drawn(
     })
 }
 
-/// Runs an image once more in this manner, until the run has ended or the log is full, on a machine that was booted with the image:
-/// it begins anew. Returns how often a thread left its hart inside a good restartable sequence.
+/// Runs an image once more in this manner, until the run has ended or the log is full: on a machine that
+/// was booted with the image, which begins anew. Returns how often a thread left its hart inside a good
+/// restartable sequence.
 ///
 /// Fails only where memory is short.
 pub fn run_again(

@@ -31,7 +31,14 @@ pub fn explore(
     let mut explored = Explored::nothing(alloc)?;
     let mut machine = Machine::boot(alloc, image, limits, exploration.first)?;
     'runs: while explored.runs < exploration.runs && !explored.has_enough(exploration.until) {
-        let made = make_run(alloc, &mut machine, image, limits, exploration, explored.runs)?;
+        let made = make_run(
+            alloc,
+            &mut machine,
+            image,
+            limits,
+            exploration,
+            explored.runs,
+        )?;
         explored.tell(made)?;
     }
     Ok(explored)

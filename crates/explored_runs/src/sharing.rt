@@ -111,7 +111,8 @@ fn make_round<R: Threads + Sync>(
             requires { IsBootable limits.frames image.now × InRange limits
                 × (from + start + length made.now < 2 ^ 64) }
             ensures { (length made.exit.now ≡ length made.entry.now)
-                × AreMadeFrom (setting_of image.entry.now limits) exploration.entry.now (from + start) made.exit.now }
+                × AreMadeFrom (setting_of image.entry.now limits) exploration.entry.now (from + start)
+                made.exit.now }
         {
             make_stretch(alloc, image, limits, exploration, from + start as u64, made);
         },
@@ -119,8 +120,8 @@ fn make_round<R: Threads + Sync>(
     Ok(round)
 }
 
-/// Makes the runs of the next places, one for each of these, one after the other on one machine. A run is absent where memory was
-/// short.
+/// Makes the runs of the next places, one for each of these, one after the other on one machine. A run is
+/// absent where memory was short.
 fn make_stretch(
     alloc: Global,
     image: &Image,

@@ -152,10 +152,11 @@ impl Machine {
         })
     }
 
-    /// Begins anew, over the image that the machine was booted with: it is then as [`Machine::boot`] makes it, with this seed.
-    /// It costs time in what is mapped and was written, and in the pages of the image.
+    /// Begins anew, over the image that the machine was booted with: it is then as [`Machine::boot`] makes
+    /// it, with this seed. It costs time in what is mapped and was written, and in the pages of the image.
     ///
-    /// Fails only where memory is short; then nothing changes. A machine that has a frame for each that its limits name takes none.
+    /// Fails only where memory is short; then nothing changes. A machine that has as many frames as its
+    /// limits name takes no memory.
     pub fn reset(&mut self, alloc: Global, image: &Image, seed: u64) -> Result<(), AllocError>
         requires image { IsBootable self.old.setting.limits.frames image.now }
         requires program { self.old.setting.program ≡ program_of image.now }

@@ -31,7 +31,8 @@ fn rest(harts: &mut [HartState])
     }
 }
 
-/// Thread 1 alone, ready with `start`, on so many harts: no signal, no area, no registration, and nothing on the console.
+/// Thread 1 alone, ready with `start`, on so many harts: no signal, no area, no registration, and nothing
+/// on the console.
 fn restart_kernel(kernel: &mut Kernel, start: Saved, harts: u8)
     requires some_hart { 1 ≤ harts }
     requires eight_harts { harts ≤ 8 }
@@ -55,13 +56,15 @@ fn restart_kernel(kernel: &mut Kernel, start: Saved, harts: u8)
     kernel.console.clear();
 }
 
-/// Makes the parts, of as many frames and harts, those of a loaded image that has done nothing yet. It takes no memory.
+/// Makes the parts, of as many frames and harts, those of a loaded image that has done nothing yet. It
+/// takes no memory.
 pub(crate) fn restart(parts: &mut Parts, image: &Image, limits: Limits)
     requires image { IsBootable limits.frames image.now }
     requires limits { InRange limits }
     requires frames { frames_in parts.old.pages ≡ limits.frames }
     requires harts { length parts.old.harts.items ≡ limits.harts }
-    ensures tied { IsTied (setting_by image.now limits) (plain_start (setting_by image.now limits)) parts.new }
+    ensures tied { IsTied (setting_by image.now limits) (plain_start (setting_by image.now limits))
+        parts.new }
     ensures idle { All (λ hart. hart ≡ idle_hart) parts.new.harts.items }
 {
     parts.pages.reset(image);
