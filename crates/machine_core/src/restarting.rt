@@ -31,6 +31,13 @@ fn rest(harts: &mut [HartState])
     }
 }
 
+/// The same of all harts of a machine.
+fn rest_all(harts: &mut Vec<HartState>)
+    ensures { harts.new.items ≡ map (λ _. idle_hart) harts.old.items }
+{
+    rest(harts);
+}
+
 /// Thread 1 alone, ready with `start`, on so many harts: no signal, no area, no registration, and nothing
 /// on the console.
 fn restart_kernel(kernel: &mut Kernel, start: Saved, harts: u8)
@@ -68,7 +75,7 @@ pub(crate) fn restart(parts: &mut Parts, image: &Image, limits: Limits)
     ensures idle { All (λ hart. hart ≡ idle_hart) parts.new.harts.items }
 {
     parts.pages.reset(image);
-    rest(&mut parts.harts);
+    rest_all(&mut parts.harts);
     restart_kernel(&mut parts.kernel, first_file(image), limits.harts);
     parts.ended = None;
 }
