@@ -17,7 +17,7 @@ returns-clause-tied c =
     let first : c.restart_kernel.new.kernel.threads ≡ start_table (start_file (program_of c.args.image.now)) =
     tables.threads ∙ ap start_table c.first_file.ensures in
     let count : length c.rest_all.new.harts.items ≡ c.args.limits.harts =
-    ap length c.rest_all.ensures ∙ length-map (λ (_ : HartState). idle_hart) c.args.parts.now.harts.items ∙ c.requires.harts in
+    ap length c.rest_all.ensures ∙ length-map c.args.parts.now.harts.items (λ (_ : HartState). idle_hart) ∙ c.requires.harts in
     tied-start c.args.image.now c.args.limits _ c.requires.image.permissions c.reset.ensures.permissions c.reset.ensures.held
     (c.reset.ensures.free ∙ c.requires.frames) c.reset.ensures.break_at c.reset.ensures.break_start count (returns-clause-idle c) first
     tables.signals tables.scheduling tables.registered tables.console (ap areas_by_number tables.areas) tables.table refl
