@@ -31,7 +31,7 @@ use Rattle.rv_inst.specs.Meaning.{meaning}
 use Rattle.rv_inst.specs.Table.{row_of, rows, lui_rows, auipc_rows, jal_rows, jalr_rows, branch_rows, load_rows, store_rows, op_imm_rows, op_imm_32_rows, op_rows, op_32_rows, misc_mem_rows, amo_rows, system_rows}
 use Rattle.block_model.specs.Calls.{called}
 use Rattle.block_model.specs.Calls.Answers.{double_written, negative}
-use Rattle.block_model.specs.Calls.TwoProcesses.{command_two}
+use Rattle.mach_types.specs.Kernel.PairBarriers.{command_two}
 use Rattle.block_model.specs.Choosing.{choice_at, has_ended}
 use Rattle.block_model.specs.Deciding.{decide, done, history}
 use Rattle.block_model.specs.Events.{refusal_of}

@@ -25,7 +25,6 @@ pub mod Memory
 pub mod Numbers
 pub mod Sequences
 pub mod Signals
-pub mod TwoProcesses
 
 -- the call of this number; one that isn't there answers ENOSYS
 abbrev pub call_of : ℕ → Here → ℕ → CallDone

@@ -50,7 +50,8 @@ preemptions_line preemptions inside =
 abbrev pub wait_field : ℕ → List ℕ
 wait_field wait = if nat_lt wait LONG_WAIT then decimal wait else decimal wait ++ codes "+"
 
--- `waited D0 D1 .. D10`: the deciles of that, over the stores that entered memory; the word alone where none did
+-- `waited` and eleven numbers: the deciles of that, from the least on, over the stores that entered memory; the
+-- word alone where none did
 abbrev pub waited_line : List ℕ → List ℕ
 waited_line counts = line (codes "waited") (map wait_field (deciles counts))
 

@@ -42,7 +42,9 @@ use Rattle.block_model.specs.Calls.Affinity.{getaffinity_errors, getcpu_errors}
 use Rattle.block_model.specs.Calls.Affinity.{sched_setaffinity, set_given, setaffinity_errors}
 use Rattle.block_model.specs.Calls.Answers.{CallDone, Errors, argument, call_number, int_argument}
 use Rattle.block_model.specs.Calls.Answers.{killed_in_call, returned, said, unless}
+use Rattle.block_model.specs.Beside.{Neighbour}
 use Rattle.block_model.specs.Calls.Barriers.{answers}
+use Rattle.block_model.specs.Calls.Beside.{barrier_call, sequence_call}
 use Rattle.block_model.specs.Calls.Cloning.{child_file, clone, clone_child_cleartid, clone_errors, cloned}
 use Rattle.block_model.specs.Calls.Cloning.{has_flag, with_new_child}
 use Rattle.block_model.specs.Calls.Console.{Span, span_errors, spans_at, total, write, write_errors}
@@ -406,6 +408,15 @@ module _ (here : Here) (t u number : ℕ) where
       (λ _. step_unregisters (unregistration old at len flags sig))
       (λ _. step_registers (registration old at len flags sig))
 
+  -- the two calls that another process on the machine changes
+  step_barrier : (beside : Option Neighbour) → CallStep (barrier_call beside here t)
+  step_barrier None = step_answers _
+  step_barrier (Some other) = step_answers _
+
+  step_sequence : (beside : Option Neighbour) → CallStep (sequence_call beside here t)
+  step_sequence None = step_rseq
+  step_sequence (Some other) = plain _ refl refl
+
   step_write : CallStep (write here t)
   step_write = by_errors (write_errors here t)
       (step_spans (record { at = argument here t 1; len = argument here t 2 } ∷ []))
@@ -452,8 +463,8 @@ module _ (here : Here) (t u number : ℕ) where
       either (eqb number 220) (λ is. step_clone (eqb-true number 220 is)) (λ _.
       either (eqb number 222) (λ _. step_mmap) (λ _.
       either (eqb number 226) (λ _. step_changed _ _) (λ _.
-      either (eqb number 283) (λ _. step_answers _) (λ _.
-      either (eqb number 293) (λ _. step_rseq) (λ _.
+      either (eqb number 283) (λ _. step_barrier here.beside) (λ _.
+      either (eqb number 293) (λ _. step_sequence here.beside) (λ _.
       plain _ refl refl))))))))))))))))))))))))
 
 -- EVENTS

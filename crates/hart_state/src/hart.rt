@@ -48,6 +48,13 @@ pub struct HartState {
     pub cid: u8,
 }
 
+/// Takes all waiting stores away.
+fn forget_stores(buffer: &mut StoreBuffer)
+    ensures { buffer.new ≡ [] }
+{
+    'stores: while let Some(_) = buffer.pop() {}
+}
+
 impl HartState {
     /// A hart on which no thread runs, with nothing waiting. Fails only where memory is short.
     pub fn new(alloc: Global) -> Result<HartState, AllocError>
@@ -67,6 +74,24 @@ impl HartState {
             events: 0,
             cid: 0,
         })
+    }
+
+    /// Makes the hart one on which no thread runs, with nothing waiting, as [`HartState::new`] makes one. It takes no memory.
+    pub fn reset(&mut self)
+        ensures { self.new ≡ idle_hart }
+    {
+        forget_stores(&mut self.buffer);
+        self.file = Regs::new();
+        self.pc = 0;
+        self.running = None;
+        self.requests = 0;
+        self.restart = false;
+        self.waits = None;
+        self.reserved = None;
+        self.ran = 0;
+        self.credit = 0;
+        self.events = 0;
+        self.cid = 0;
     }
 
     /// Whether no thread runs on the hart.

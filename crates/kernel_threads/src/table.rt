@@ -1,6 +1,6 @@
 //! The table of threads.
 
-ghost use Rattle.std.specs.Prelude.{◌≡◌, ◌+◌, ◌-◌, ◌^◌, ◌<◌, ◌↔◌, not, filter, length, IfOk, IfErr, OnOk, OnErr, IsErr, IfSome, IfNone, IsTrue, Some, None};
+ghost use Rattle.std.specs.Prelude.{◌≡◌, ◌∷◌, [], ◌+◌, ◌-◌, ◌^◌, ◌<◌, ◌↔◌, not, filter, length, IfOk, IfErr, OnOk, OnErr, IsErr, IfSome, IfNone, IsTrue, Some, None};
 ghost use Rattle.std.specs.Option.{option_map};
 ghost use Rattle.kernel_threads.specs.Table as spec;
 ghost use Rattle.mach_types.specs.Kernel.Threads as process;
@@ -57,6 +57,18 @@ fn answering(saved: Saved, value: u64) -> Saved
     Saved { file, pc: saved.pc }
 }
 
+impl Slots {
+    /// The row of thread 1 alone, ready with `start`, and no waiter.
+    fn start_over(&mut self, start: Saved)
+        ensures rows { self.new.rows.items ≡ record { number = 1; stage = Stage.Ready start; clear_at = 0 } ∷ [] }
+        ensures waiters { self.new.waiters.items ≡ [] }
+    {
+        self.rows.clear();
+        self.rows.push(Row::new(1, start));
+        self.waiters.clear();
+    }
+}
+
 impl Threads {
     /// Thread 1 alone, ready with `start`. Fails only where memory is short.
     pub fn new(alloc: Global, start: Saved) -> Result<Threads, AllocError>
@@ -68,6 +80,15 @@ impl Threads {
         let waiters = ArrayVec::new();
         let slots = Box::new(alloc, Slots { rows, waiters })?;
         Ok(Threads { slots, given: 1 })
+    }
+
+    /// Thread 1 alone again, ready with `start`. It takes no memory.
+    pub fn reset(&mut self, start: Saved)
+        ensures start { self.new ≡ spec.start_table start }
+        ensures table { spec.IsTable self.new }
+    {
+        self.slots.start_over(start);
+        self.given = 1;
     }
 
     /// Makes a child of a live thread, ready with `start`, and answers its number: the next one (clone(2)).

@@ -7,3 +7,4 @@ pub mod Signals
 pub mod SignalFrames
 pub mod Areas
 pub mod Barriers
+pub mod PairBarriers

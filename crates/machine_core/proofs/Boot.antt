@@ -1,6 +1,7 @@
 -- A machine that has done nothing yet.
 use Rattle.std.proofs.Common.{◌≡◌, ℕ, nat_eq, zero, suc, ◌+◌, ◌/◌, ◌<◌, arith, List, [], ◌∷◌, length, map, refl, sym, ap, ◌∙◌, cond, Bool, true, false, Option, Some, None, is_some, slice_get, All}
 use Rattle.std.proofs.lemmas.Bool.{and_parts}
+use Rattle.std.proofs.lemmas.List.Elements.{All-map}
 use Rattle.std.proofs.lemmas.Option.{same_Some}
 use Rattle.std.specs.Option.{option_and_then, option_map, option_map_or}
 use Rattle.mach_types.specs.Kernel.Signals.{start_signalling}
@@ -30,6 +31,10 @@ each : {X : Type 0} (x : X) (xs : List X) (i : ℕ) → All (λ y. y ≡ x) xs �
 each x [] i all lt = absurd (omega arith)
 each x (y ∷ ys) zero all lt = ap Some (all zero y (omega arith))
 each x (y ∷ ys) (suc i) all lt = each x ys i (λ k d less. all (suc k) d (omega arith)) (omega arith)
+
+-- harts of which each is idle
+pub all_idle : (harts : List HartState) → All (λ hart. hart ≡ idle_hart) (map (λ _. idle_hart) harts)
+all_idle harts = All-map (λ hart. hart ≡ idle_hart) (λ (_ : HartState). idle_hart) harts (λ k d lt. refl)
 
 -- an idle hart is what the plain machine says at its start
 idle : (s : Setting) (h : ℕ) → idle_hart ≡ hart_at s (plain_start s) h 0

@@ -5,6 +5,7 @@
 
 mod following;
 mod machine;
+mod restarting;
 mod stretches;
 mod theorems;
 

@@ -1,6 +1,6 @@
 //! The machine: boot, one event, and what is read of it.
 
-ghost use Rattle.std.specs.Prelude.{◌≡◌, ◌<◌, ◌≤◌, ◌++◌, [], ◌∷◌, false, All, Err, IfOk, IfNone, IfSome, OnErr, length, vec_len, vec_capacity};
+ghost use Rattle.std.specs.Prelude.{◌≡◌, ◌<◌, ◌≤◌, ◌++◌, [], ◌∷◌, false, All, Err, IfOk, IfNone, IfSome, OnErr, OnOk, length, vec_len, vec_capacity};
 ghost use Rattle.mach_types.specs.Events.{choice_of};
 ghost use Rattle.mach_types.specs.Limits.{InRange};
 ghost use Rattle.mach_types.specs.declared.events.Choice.{Choice};
@@ -17,6 +17,7 @@ mod choosing;
 mod lending;
 mod readers;
 
+use crate::restarting::restart;
 use arrayvec::ArrayVec;
 use block_model::Refused;
 use chooser::Chooser;
@@ -84,7 +85,7 @@ fn idle_harts(alloc: Global, count: u8) -> Result<Vec<HartState>, AllocError>
 }
 
 /// The first thread's file at its start.
-fn first_file(image: &Image) -> Saved
+pub(crate) fn first_file(image: &Image) -> Saved
     ensures { result ≡ start_file (program_of image.now) }
 {
     let mut file = Regs::new();
@@ -149,6 +150,30 @@ impl Machine {
             chooser,
             chosen: true,
         })
+    }
+
+    /// Begins anew, over the image that the machine was booted with: it is then as [`Machine::boot`] makes
+    /// it, with this seed. It costs time in what is mapped and was written, and in the pages of the image.
+    ///
+    /// Fails only where memory is short; then nothing changes. A machine that has as many frames as its
+    /// limits name takes no memory.
+    pub fn reset(&mut self, alloc: Global, image: &Image, seed: u64) -> Result<(), AllocError>
+        requires image { IsBootable self.old.setting.limits.frames image.now }
+        requires program { self.old.setting.program ≡ program_of image.now }
+        ensures ok { OnOk result
+            (self.new ≡ record { setting = self.old.setting; seed = seed; log = [] }) }
+        ensures err { OnErr result (self.new ≡ self.old) }
+    {
+        if self.parts.pages.frames() != self.limits.frames {
+            *self = Machine::boot(alloc, image, self.limits, seed)?;
+            return Ok(());
+        }
+        restart(&mut self.parts, image, self.limits);
+        self.log.clear();
+        self.seed = seed;
+        self.chooser = Chooser::new(seed);
+        self.chosen = true;
+        Ok(())
     }
 
     /// The log so far, the oldest entry first.

@@ -12,7 +12,7 @@ pub record IsFresh {A : Type 0} (none : A) (fresh : List A) : Type 0 where
   pub long : length fresh ≡ 512
   pub empty : (k : ℕ) → get_or fresh k none ≡ none
 
-none-at : {A : Type 0} (none : A) (n k : ℕ) → get_or (replicate n none) k none ≡ none
+pub none-at : {A : Type 0} (none : A) (n k : ℕ) → get_or (replicate n none) k none ≡ none
 none-at none zero k = refl
 none-at none (suc n) zero = refl
 none-at none (suc n) (suc k) = none-at none n k

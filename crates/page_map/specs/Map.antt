@@ -1,6 +1,6 @@
 -- What a page map shows: the permission and the bytes of each page that is mapped, how many frames are free, and the
 -- break.
-use Rattle.std.specs.Prelude.{ℕ, ◌≡◌, ◌/◌, ◌%◌, ◌&&◌, Bool, true, false, List, [], ◌∷◌, if◌then◌else◌, Option, Some, None, is_some, slice_get, slice_index}
+use Rattle.std.specs.Prelude.{ℕ, ◌≡◌, ◌+◌, ◌/◌, ◌%◌, ◌&&◌, Bool, true, false, List, [], ◌∷◌, if◌then◌else◌, Option, Some, None, is_some, length, slice_get, slice_index}
 use Rattle.std.specs.Option.{option_and_then, option_map}
 use Rattle.byte_views.specs.Words.{with_word}
 use Rattle.mach_types.specs.Bytes.{each_byte}
@@ -93,6 +93,10 @@ can_write_in m a = may_write (permission_in m (a / PAGE_SIZE))
 -- how many frames are free
 abbrev pub free_in : Map → ℕ
 free_in m = free_count m.pool
+
+-- how many frames there are: those that are free, and those of the pages
+abbrev pub frames_in : Map → ℕ
+frames_in m = free_count m.pool + length m.mapped
 
 -- the first address behind the data of the process
 abbrev pub break_in : Map → ℕ

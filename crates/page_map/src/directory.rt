@@ -53,6 +53,16 @@ impl Directory {
         Ok(Directory { names, rows })
     }
 
+    /// 0 for each chunk again. It takes no memory.
+    pub(crate) fn clear(&mut self)
+        ensures length { length self.new ≡ CHUNKS }
+        ensures empty { (c : ℕ) → slice_index self.new c ≡ 0 }
+    {
+        forget_rows(&mut self.names);
+        self.rows.clear();
+        let _ = self.rows.push(empty_row());
+    }
+
     /// The number of a chunk.
     pub(crate) fn number(&self, chunk: usize) -> u32
         requires { chunk < CHUNKS }
@@ -95,6 +105,14 @@ fn empty_rows(alloc: Global, groups: usize) -> Result<Vec<u32>, AllocError>
     ensures empty { IfOk result (λ names. (g : ℕ) → slice_index names.items g ≡ 0) }
 {
     vec![in alloc; EMPTY_ROW; groups]
+}
+
+/// Each group has the row of zeros.
+fn forget_rows(names: &mut Vec<u32>)
+    ensures length { length names.new.items ≡ length names.old.items }
+    ensures empty { (g : ℕ) → slice_index names.new.items g ≡ 0 }
+{
+    names.fill(EMPTY_ROW);
 }
 
 /// A row of zeros.

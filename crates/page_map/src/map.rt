@@ -8,7 +8,7 @@ ghost use Rattle.mach_types.specs.Kernel.Pages.{can_execute, can_read, can_write
 ghost use Rattle.elf_load.specs.Images.{IsPermission};
 ghost use Rattle.frame_pool.specs.Held.{AreHeld};
 ghost use Rattle.frame_pool.specs.Pool.{IsTaken, free_count, fresh};
-ghost use Rattle.page_map.specs.Map.{break_in, break_start_in, bytes_if, first_bytes, frame_bytes, free_in, page_at, page_in, page_with, permission_in, protected_page};
+ghost use Rattle.page_map.specs.Map.{break_in, break_start_in, bytes_if, first_bytes, frame_bytes, frames_in, free_in, page_at, page_in, page_with, permission_in, protected_page};
 ghost use Rattle.page_map.specs.Mapping.{CanLie, IsGap, frames_of};
 
 use crate::mapped_page::MappedPage;
@@ -81,14 +81,24 @@ impl Drop for PageMap {
     }
 }
 
-/// Gives the frames of pages back to their pool.
+/// Gives the frames of pages back to their pool, and frees the list of the pages.
 fn give_all(mut pool: FramePool, mut mapped: Vec<MappedPage>)
     requires { AreHeld pool (frames_of mapped.items) }
+{
+    give_back(&mut pool, &mut mapped);
+    mapped.destroy_empty();
+}
+
+/// Gives the frames of pages back to their pool, those of the last pages first.
+fn give_back(pool: &mut FramePool, mapped: &mut Vec<MappedPage>)
+    requires { AreHeld pool.old (frames_of mapped.old.items) }
+    ensures mapped { mapped.new.items ≡ [] }
+    ensures capacity { vec_capacity mapped.new ≡ vec_capacity mapped.old }
+    ensures free { free_count pool.new ≡ free_count pool.old + length mapped.old.items }
 {
     while let Some(page) = mapped.pop() {
         pool.give(page.into_frame());
     }
-    mapped.destroy_empty();
 }
 
 impl PageMap {
@@ -115,6 +125,20 @@ impl PageMap {
             break_at,
             break_start: break_at,
         })
+    }
+
+    /// No pages again, with this break, which is the lowest one. All frames are free, and no memory is taken.
+    pub(crate) fn clear(&mut self, break_at: u64)
+        requires { break_at ≤ MAPPING_START }
+        ensures pages { (n : ℕ) → page_in self.new n ≡ None }
+        ensures free { free_in self.new ≡ frames_in self.old }
+        ensures break_at { break_in self.new ≡ break_at }
+        ensures break_start { break_start_in self.new ≡ break_at }
+    {
+        give_back(&mut self.pool, &mut self.mapped);
+        self.table.clear();
+        self.break_at = break_at;
+        self.break_start = break_at;
     }
 
     /// Maps a page with these bytes, or with zeros where there are none.
@@ -305,6 +329,13 @@ impl PageMap {
         ensures { result ≡ free_in self.now }
     {
         self.pool.free()
+    }
+
+    /// How many frames there are: those that are free, and those of the pages.
+    pub fn frames(&self) -> u32
+        ensures { result ≡ frames_in self.now }
+    {
+        self.pool.free() + self.mapped.len() as u32
     }
 
     /// The break: the first address behind the data of the process.

@@ -63,6 +63,16 @@ impl PageTable {
         })
     }
 
+    /// A table without entries again. It takes no memory.
+    pub fn clear(&mut self)
+        ensures { (n : ℕ) → place_in self.new n ≡ None }
+    {
+        self.directory.clear();
+        self.leaves.clear();
+        let _ = self.leaves.push(empty_leaf());
+        self.filled_to = FIRST_MAPPING_PAGE;
+    }
+
     /// The place of a page; None exactly where it has none, as each page whose number is 2^26 or more.
     pub fn get(&self, page: u64) -> Option<u32>
         ensures { result ≡ place_in self.now page }

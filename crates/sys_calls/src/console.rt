@@ -38,6 +38,13 @@ impl Console {
         })
     }
 
+    /// An empty console again. It takes no memory.
+    pub fn clear(&mut self)
+        ensures { self.new ≡ [] }
+    {
+        self.bytes.clear();
+    }
+
     /// The bytes written so far.
     pub fn bytes(&self) -> &[u8]
         ensures bytes { result.now ≡ self.now }

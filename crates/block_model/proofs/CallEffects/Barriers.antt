@@ -25,7 +25,7 @@ use Rattle.block_model.specs.Beside.{Neighbour}
 use Rattle.block_model.specs.Calls.Answers.{CallDone, argument, int_argument, negative, said}
 use Rattle.block_model.specs.Calls.Barriers.{answers, running_harts}
 use Rattle.block_model.specs.Calls.Beside.{barrier_call}
-use Rattle.block_model.specs.Calls.TwoProcesses.{answer_beside, concerned, is_concerned}
+use Rattle.mach_types.specs.Kernel.PairBarriers.{answer_beside, concerned, is_concerned}
 use Rattle.block_model.specs.ErrorCalls.{IsError}
 use Rattle.block_model.specs.Here.{Here}
 use Rattle.block_model.specs.Kernel.{for_barriers}

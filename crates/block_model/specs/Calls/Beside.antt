@@ -8,7 +8,7 @@ use Rattle.block_model.specs.Here.{Here}
 use Rattle.block_model.specs.Calls.Answers.{CallDone, argument, int_argument, refused}
 use Rattle.block_model.specs.Calls.Barriers.{answers, membarrier, running_harts}
 use Rattle.block_model.specs.Calls.Sequences.{rseq}
-use Rattle.block_model.specs.Calls.TwoProcesses.{command_two}
+use Rattle.mach_types.specs.Kernel.PairBarriers.{command_two}
 
 -- membarrier(cmd, flags, cpu), number 283, beside another process
 abbrev pub membarrier_beside : Neighbour → Here → ℕ → CallDone

@@ -1,30 +1,8 @@
-use Rattle.std.proofs.Common.{◌∙◌, ◌/◌, ◌≤◌, ℕ, is_some, subst, sym}
-use Rattle.mach_types.specs.Kernel.Pages.{can_read, permission_of}
-use Rattle.elf_load.specs.Start.{program_of, start_runs}
-use Rattle.page_map.specs.Map.{byte_in, held_in}
-use Rattle.page_map.proofs.Starts.{booted, end-below, laid-byte, laid-held}
+use Rattle.std.proofs.Common.{◌≤◌, ℕ, subst, sym}
+use Rattle.page_map.proofs.Starts.{end-below}
 use Rattle.page_map.proofs.map.PageMap.boot.Goals as goal
 
 pub empty-requires : goal.empty-requires
 empty-requires c =
     let image = c.requires in
     subst (λ (at : ℕ). at ≤ 137438953472) (sym image.break_at) (end-below c.args.image.now.pages.items image.below image.some_page)
-
-pub returns-clause-bytes : goal.returns-clause-bytes
-returns-clause-bytes c a =
-    let pages = c.args.image.now.pages.items in
-    booted (byte_in c.lay_out.new.self a) (byte_in c.write_words.new.self a) (byte_in c.write_words-2.new.self a)
-    (can_read (permission_of (start_runs pages) (a / 4096))) (program_of c.args.image.now) c.stack_words-words.result a c.stack_words-words.ensures
-    (laid-byte 4 c.lay_out.new.self pages a (c.lay_out.ensures.pages (a / 4096))) (c.write_words.ensures.bytes a) (c.write_words-2.ensures.bytes a)
-
-pub returns-clause-held : goal.returns-clause-held
-returns-clause-held c a =
-    let pages = c.args.image.now.pages.items in
-    booted (held_in c.lay_out.new.self a) (held_in c.write_words.new.self a) (held_in c.write_words-2.new.self a)
-    (is_some (permission_of (start_runs pages) (a / 4096))) (program_of c.args.image.now) c.stack_words-words.result a c.stack_words-words.ensures
-    (laid-held c.lay_out.new.self pages a (c.lay_out.ensures.pages (a / 4096))) (c.write_words.ensures.held a) (c.write_words-2.ensures.held a)
-
-pub returns-clause-code : goal.returns-clause-code
-returns-clause-code c a =
-    c.write_words-2.ensures.code a ∙ c.write_words.ensures.code a
-    ∙ laid-byte 1 c.lay_out.new.self c.args.image.now.pages.items a (c.lay_out.ensures.pages (a / 4096))
