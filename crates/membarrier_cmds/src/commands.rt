@@ -36,14 +36,14 @@ pub fn command(
 }
 
 /// An error number, as a value.
-fn refusal(error: Errno) -> Answer
+pub fn refusal(error: Errno) -> Answer
     ensures { result ≡ barriers.refusal error }
 {
     Answer::Value(-i64::from(error.0))
 }
 
 /// What a command answers to a process with these registrations, over the targets of its barrier.
-fn answer_of(regs: &Registered, targets: u8, command: BarrierCommand) -> Answer
+pub fn answer_of(regs: &Registered, targets: u8, command: BarrierCommand) -> Answer
     ensures { result ≡ barriers.answer_of regs.now targets command }
 {
     match command {
@@ -65,7 +65,7 @@ fn answer_of(regs: &Registered, targets: u8, command: BarrierCommand) -> Answer
 const QUERY_VALUE: i64 = 1 + 2 + 4 + 8 + 16 + 128 + 256 + 512;
 
 /// A barrier on these harts: over at once where there are none.
-fn barrier_at(targets: u8, restart: bool) -> Answer
+pub fn barrier_at(targets: u8, restart: bool) -> Answer
     ensures { result ≡ barriers.barrier_at targets restart }
 {
     if targets == 0 {
@@ -90,7 +90,7 @@ fn counted_if(counts: bool, number: u32) -> u32
 }
 
 /// Registers the process, where the command asks for it.
-fn register(regs: &mut Registered, command: BarrierCommand)
+pub fn register(regs: &mut Registered, command: BarrierCommand)
     ensures { regs.new ≡ barriers.registered_by regs.old command }
 {
     match command {

@@ -8,6 +8,8 @@
 mod commands;
 mod numbers;
 mod targets;
+mod two_processes;
 
 pub use commands::command;
 pub use mach_types::{Answer, BarrierCommand, Registered};
+pub use two_processes::command_two;
