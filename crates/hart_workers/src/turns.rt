@@ -95,8 +95,22 @@ fn work_on<M: Chronicle>(code: &M::Code, stretch: &mut Option<M::Stretch>)
     }
 }
 
-/// Drives one hart until the run has ended, once all workers have come. Where the hart makes no event, the
-/// worker gives its processor away before its next turn.
+/// How many turns in a row in which its hart makes no event a worker takes before it gives its processor away
+/// between turns. (own)
+const IDLE_TURNS: u32 = 1_000;
+
+/// What a worker does behind so many turns in a row in which its hart made no event, and how many they are with
+/// this one: behind many of them it gives its processor away.
+fn rest(idle_turns: u32) -> u32 {
+    if idle_turns < IDLE_TURNS {
+        idle_turns + 1
+    } else {
+        thread::yield_now();
+        idle_turns
+    }
+}
+
+/// Drives one hart until the run has ended, once all workers have come.
 pub(crate) fn drive_one<R: Wait, M: Chronicle, G: Gate>(
     rt: &R,
     lock: &Turnstile<M>,
@@ -114,15 +128,18 @@ pub(crate) fn drive_one<R: Wait, M: Chronicle, G: Gate>(
 {
     start.meet();
     let mut stretch = None;
+    let mut idle_turns = 0;
     for _ in rt.forever() {
         gate.pass(hart);
         let advance = turn(rt, lock, pass, hart, &mut stretch);
         if advance == Advance::Ended {
             return;
         }
-        if advance == Advance::NoneNow {
-            thread::yield_now();
-        }
+        idle_turns = if advance == Advance::NoneNow {
+            rest(idle_turns)
+        } else {
+            0
+        };
         work_on::<M>(code, &mut stretch);
     }
     unreachable!()

@@ -115,7 +115,7 @@ where
 /// others. (own)
 ///
 /// No worker takes a turn before all have come, unless one looked for the others 10,000 times in vain. A
-/// worker whose hart made no event in a turn gives its processor away before the next one. (own)
+/// worker whose hart made no event in 1,000 turns in a row gives its processor away before the next one. (own)
 pub fn drive<R: Threads + Wait + Sync, M: Chronicle + Send + Drop, G: Gate + Sync>(
     alloc: Global,
     rt: &R,
