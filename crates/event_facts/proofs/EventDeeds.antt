@@ -11,7 +11,7 @@ use Rattle.rv_inst.specs.Memory.{amo_result}
 use Rattle.rv_inst.specs.declared.effects.Effect.{Effect}
 use Rattle.rv_inst.specs.declared.effects.Effect.TheVariants as effect
 use Rattle.block_model.specs.Events.{done_of}
-use Rattle.block_model.specs.Here.{Done, Here, view}
+use Rattle.block_model.specs.Here.{Done, Here, view_of_all}
 use Rattle.event_facts.specs.Deeds.{IsDeedOf, drained_in, store_made, entered_in, store_executed, executed_in, store}
 use Rattle.event_facts.specs.Facts.{loaded_by}
 use Rattle.event_facts.specs.Telling.{plain_event_of}
@@ -56,17 +56,17 @@ entered_as view regs pc seen r effect.Break reads = refl
 entered_as view regs pc seen r effect.Misaligned reads = refl
 
 pub instruction_deed : (c : Choice) (here : Here) (e : Effect) (seen : ℕ) (r : Option ℕ) (x : Deed) → plain_event_of c here ≡ Some (Instruction e) → r ≡ here.reserved
-    → IfSome (loaded_by e) (λ b. seen ≡ word_seen (view here) b.at b.count) → executed_in x ≡ store_executed e → drained_in x ≡ 0
+    → IfSome (loaded_by e) (λ b. seen ≡ word_seen (view_of_all here) b.at b.count) → executed_in x ≡ store_executed e → drained_in x ≡ 0
     → entered_in x ≡ all_stored (store_made seen r e) → IsDeedOf (done_of c here) x
 instruction_deed c here e seen r x is same reads executed drained entered =
     let at = executes c here e is in
     let did = instruction_done c here e at in
     let f = here.file at.thread in
     record {
-      executed = executed ∙ executed_as (view here) f.file f.pc here.reserved e ∙ sym (ap (λ (d : Done). d.executed) did);
+      executed = executed ∙ executed_as (view_of_all here) f.file f.pc here.reserved e ∙ sym (ap (λ (d : Done). d.executed) did);
       drained = drained ∙ sym (ap (λ (d : Done). d.drained) did);
       entered = entered ∙ ap (λ q. all_stored (store_made seen q e)) same
-          ∙ ap all_stored (entered_as (view here) f.file f.pc seen here.reserved e reads)
+          ∙ ap all_stored (entered_as (view_of_all here) f.file f.pc seen here.reserved e reads)
           ∙ sym (ap (λ (d : Done). d.entered) did);
     }
 
