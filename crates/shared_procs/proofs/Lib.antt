@@ -1,3 +1,4 @@
 mod Accesses
+mod PairExamples
 mod Segments
 mod Windows

@@ -1,2 +1,4 @@
+pub mod PairRuns
+pub mod Pairs
 pub mod Segments
 pub mod WindowLaws
