@@ -1,7 +1,7 @@
 -- A worked pair: one process stores to the segment and makes an expedited barrier on all processes; the other
 -- one registers for such barriers, stores to the segment too, and then reads what the first one stored. Its
 -- store and the first one's enter memory before the barrier returns.
-use Rattle.std.proofs.Common.{◌≡◌, ℕ, zero, suc, ◌+◌, List, [], ◌∷◌, ◌++◌, replicate, map, Bool, true, false, Option, Some, None, Result, Ok, Err, refl}
+use Rattle.std.proofs.Common.{◌≡◌, ℕ, zero, suc, ◌+◌, List, [], ◌∷◌, ◌++◌, replicate, true, false, Result, Ok, Err, refl}
 use Rattle.std.specs.List.{fold}
 use Rattle.std.specs.Int.{bytes_low_first}
 use Rattle.mach_types.specs.declared.events.Choice.{Choice}

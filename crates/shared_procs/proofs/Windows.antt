@@ -1,15 +1,15 @@
 -- Reads and writes of memory with a segment: an access that lies in the segment goes there, and any other one
 -- is one of the pages, since no page lies beside the segment.
-use Rattle.std.proofs.Common.{◌≡◌, ℕ, ◌+◌, ◌-◌, ◌*◌, ◌/◌, ◌%◌, ◌^◌, ◌<◌, ◌≤◌, ◌⊎◌, inl, inr, ◌&&◌, ◌||◌, Bool, true, false, cond, List, Option, Some, None, refl, sym, ap, ◌∙◌, arith}
+use Rattle.std.proofs.Common.{◌≡◌, ℕ, ◌+◌, ◌-◌, ◌/◌, ◌%◌, ◌<◌, ◌≤◌, inl, inr, ◌||◌, Bool, true, false, cond, List, Option, Some, None, refl, sym, ap, ◌∙◌, arith}
 use Rattle.std.specs.Option.{option_map}
 use Rattle.std.proofs.lemmas.Bool.{cases_lt}
 use Rattle.mach_types.specs.Bytes.{IsAccessSize, after_write, byte_over, each_byte, word_at}
 use Rattle.page_map.specs.Map.{Map, Page, byte_at, byte_in, bytes_if, can_write_in, may_write, page_in, permission_in}
 use Rattle.page_map.specs.Mapping.{IsGap}
-use Rattle.block_model.specs.Beside.{SEGMENT_AT, SEGMENT_SIZE, is_in_segment}
+use Rattle.block_model.specs.Beside.{SEGMENT_AT, is_in_segment}
 use Rattle.shared_procs.specs.Segments.{lies_within, reached_in, shared_in, storable_in}
 use Rattle.shared_procs.proofs.Accesses.{each_byte-all, each_byte-fails, each_byte-same, word_missing, word_same}
-use Rattle.shared_procs.proofs.Segments.{IsBeside, IsOutside, bytes_inside, inside_from, inside_to, outside, over-high, over-low, within_from, within_to}
+use Rattle.shared_procs.proofs.Segments.{IsBeside, IsOutside, bytes_inside, inside_from, over-high, over-low}
 
 -- an access has few bytes
 pub few_bytes : (n : ℕ) → IsAccessSize n → n ≤ 8

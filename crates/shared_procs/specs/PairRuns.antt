@@ -1,6 +1,6 @@
 -- Pair runs: logs of which every entry is allowed at its place. What happened is read step by step, newest
 -- event first.
-use Rattle.std.specs.Prelude.{ℕ, ◌≡◌, Bool, true, false, List, [], ◌∷◌, fold, if◌then◌else◌, Option, Some, None, is_some, nat_le, Result, Ok, Err, ◌&&◌}
+use Rattle.std.specs.Prelude.{ℕ, ◌≡◌, Bool, List, [], ◌∷◌, fold, if◌then◌else◌, Option, Some, None, is_some, nat_le, Result, Ok, Err, ◌&&◌}
 use Rattle.mach_types.specs.Events.{choice_of, kind_of}
 use Rattle.mach_types.specs.declared.events.Choice.{Choice}
 use Rattle.mach_types.specs.declared.events.Entry.{Entry}

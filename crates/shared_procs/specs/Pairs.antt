@@ -1,7 +1,7 @@
 -- Two processes on one machine: what a pair starts from, where it stands, and what an event makes of it. Each
 -- process has a plain machine of its own, in which the harts of the other one are idle. Both have the bytes of
 -- the segment in common, and each knows all requests of barriers.
-use Rattle.std.specs.Prelude.{ℕ, ◌+◌, ◌-◌, Bool, true, false, not, List, [], ◌∷◌, ◌++◌, suc, zero, if◌then◌else◌, Option, Some, None, is_some, is_none, nat_le}
+use Rattle.std.specs.Prelude.{ℕ, ◌+◌, ◌-◌, Bool, true, false, not, List, [], ◌++◌, suc, zero, if◌then◌else◌, Option, Some, None, is_some, is_none, nat_le}
 use Rattle.std.specs.List.{filter}
 use Rattle.mach_types.specs.Bytes.{all_stored, written}
 use Rattle.mach_types.specs.Kernel.Threads.{running_on}

@@ -1,6 +1,6 @@
 -- The segment that two processes share, and memory as their instructions reach it: where an address lies in
 -- the segment its byte stands there, and else on a page.
-use Rattle.std.specs.Prelude.{ℕ, ◌+◌, ◌-◌, ◌%◌, ◌&&◌, ◌||◌, Bool, List, if◌then◌else◌, Option, Some, None, nat_le, slice_index}
+use Rattle.std.specs.Prelude.{ℕ, ◌+◌, ◌-◌, ◌%◌, ◌&&◌, ◌||◌, Bool, List, if◌then◌else◌, Option, Some, nat_le, slice_index}
 use Rattle.page_map.specs.Map.{Map, byte_in, can_write_in}
 use Rattle.block_model.specs.Beside.{SEGMENT_AT, SEGMENT_SIZE, is_in_segment}
 

@@ -1,4 +1,4 @@
-use Rattle.std.proofs.Common.{◌≡◌, false, true, sym, ap, ◌∙◌}
+use Rattle.std.proofs.Common.{sym, ◌∙◌}
 use Rattle.shared_procs.proofs.Segments.{outside}
 use Rattle.shared_procs.proofs.Windows.{few_bytes, read_inside, read_outside}
 use Rattle.shared_procs.proofs.window.WindowUserMem.get.Goals as goal

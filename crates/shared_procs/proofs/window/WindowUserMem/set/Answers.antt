@@ -1,4 +1,4 @@
-use Rattle.std.proofs.Common.{◌≡◌, false, sym, ap, ◌∙◌}
+use Rattle.std.proofs.Common.{sym, ◌∙◌}
 use Rattle.shared_procs.proofs.Segments.{outside}
 use Rattle.shared_procs.proofs.Windows.{few_bytes, writable_inside, writable_outside, written_inside, written_outside}
 use Rattle.shared_procs.proofs.window.WindowUserMem.set.Goals as goal
