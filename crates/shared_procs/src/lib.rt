@@ -3,8 +3,10 @@
 
 mod outcomes;
 mod segment;
+mod theorems;
 mod window;
 
 pub use outcomes::{PairEnd, PairRefused, ProcState};
 pub use segment::Segment;
+pub use theorems::{idle_harts_hold_no_store, stores_enter_or_wait};
 pub use window::Window;
