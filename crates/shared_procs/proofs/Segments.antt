@@ -148,12 +148,15 @@ outside at size few fails =
           elim (cases_lt SEGMENT_AT (at + size)) [
             | inl over ↦
                 let there : at + (SEGMENT_AT - 1 - at) ≡ SEGMENT_AT - 1 = omega arith in
-                inr
-                (SEGMENT_AT - 1 - at, omega arith, record {
-                  from = omega arith;
-                  to = omega arith;
-                  out = is_below (at + (SEGMENT_AT - 1 - at)) (omega arith);
-                })
+                inr (
+                  SEGMENT_AT - 1 - at,
+                  omega arith,
+                  record {
+                    from = omega arith;
+                    to = omega arith;
+                    out = is_below (at + (SEGMENT_AT - 1 - at)) (omega arith);
+                  },
+                )
             | inr below ↦ inl (λ k lt. is_below (at + k) (omega arith))
           ]
       | inr from ↦
@@ -162,12 +165,15 @@ outside at size few fails =
                 elim (cases_lt at (SEGMENT_AT + SEGMENT_SIZE)) [
                   | inl on ↦
                       let there : at + (SEGMENT_AT + SEGMENT_SIZE - at) ≡ SEGMENT_AT + SEGMENT_SIZE = omega arith in
-                      inr
-                      (SEGMENT_AT + SEGMENT_SIZE - at, omega arith, record {
-                        from = omega arith;
-                        to = omega arith;
-                        out = is_past (at + (SEGMENT_AT + SEGMENT_SIZE - at)) (omega arith);
-                      })
+                      inr (
+                        SEGMENT_AT + SEGMENT_SIZE - at,
+                        omega arith,
+                        record {
+                          from = omega arith;
+                          to = omega arith;
+                          out = is_past (at + (SEGMENT_AT + SEGMENT_SIZE - at)) (omega arith);
+                        },
+                      )
                   | inr past ↦ inl (λ k lt. is_past (at + k) (omega arith))
                 ]
             | inr to ↦

@@ -1,29 +1,27 @@
 -- Each process of a pair that goes on stands at each place of a pair run.
-use Rattle.std.proofs.Common.{List, [], ◌∷◌, ◌≡◌, ◌≢◌, ℕ, ◌<◌, ◌++◌, Bool, true, false, not, cond, eqb, leb, Option, None, Some, Result, Ok, Err, is_none, is_some, refl, sym, ap, ◌∙◌, subst, arith}
+use Rattle.std.proofs.Common.{List, [], ◌∷◌, ◌≡◌, ℕ, ◌<◌, ◌++◌, Bool, true, false, not, cond, leb, Option, None, Some, Ok, Err, is_none, is_some, refl, sym, ap, ◌∙◌, subst}
 use Rattle.std.specs.List.{filter}
 use Rattle.std.specs.Option.{option_or}
 use Rattle.std.proofs.lemmas.Bool.{leb-false}
 use Rattle.mach_types.specs.Bytes.{all_stored}
 use Rattle.mach_types.specs.Events.{choice_of}
-use Rattle.mach_types.specs.Kernel.Threads.{is_stuck, running_on}
+use Rattle.mach_types.specs.Kernel.Threads.{running_on}
 use Rattle.mach_types.specs.declared.events.Choice.{Choice}
 use Rattle.mach_types.specs.declared.events.Choice.TheVariants as asked
 use Rattle.mach_types.specs.declared.events.Why.{Why}
 use Rattle.mach_types.specs.declared.events.Why.TheVariants.{Busy, NoHart, NotReady}
 use Rattle.mach_types.specs.declared.limits.End.{End}
-use Rattle.mach_types.specs.declared.limits.End.TheVariants as over
 use Rattle.block_model.specs.Deciding.{final}
 use Rattle.block_model.specs.Events.{done_of, refusal_of}
-use Rattle.block_model.specs.Here.{Done, Here}
+use Rattle.block_model.specs.Here.{Done}
 use Rattle.block_model.specs.Plain.{Plain, apply, plain_over, plain_start}
 use Rattle.block_model.specs.Beside.{Neighbour}
 use Rattle.block_model.specs.Setting.{Setting}
 use Rattle.mach_types.specs.declared.events.Entry.{Entry}
-use Rattle.block_model.specs.Stands.{Stand, aside, here_at}
+use Rattle.block_model.specs.Stands.{Stand, aside}
 use Rattle.block_model.proofs.Laws.{IsFit, IsStanding, fit_entered, stand_aside, stand_fit, stand_next, standing, start_plain, start_run}
-use Rattle.shared_procs.specs.Pairs.{Pair, PairSetting, acting, apply_two, closing, done_two, ended_if, goes_on, half, here_two, is_of_second, is_over, is_shared, neighbour, on_hart, own_choice, pair_start, refusal_begins, refusal_two, runs_in, setting, stand}
+use Rattle.shared_procs.specs.Pairs.{Pair, PairSetting, acting, apply_two, closing, done_two, ended_if, goes_on, half, here_two, is_of_second, is_over, is_shared, neighbour, on_hart, own_choice, refusal_begins, refusal_two, runs_in, setting, stand}
 use Rattle.shared_procs.specs.PairRuns.{IsPairRun, IsPairRunHistory, PairEvent, PairHistory, entry_two, pair_after, pair_decide, pair_history, unless_two}
-use Rattle.shared_procs.specs.declared.outcomes.PairRefused.{PairRefused}
 use Rattle.shared_procs.specs.declared.outcomes.PairRefused.TheVariants.{Ended, Full, NotEnabled}
 
 -- each process that goes on stands

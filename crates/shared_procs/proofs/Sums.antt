@@ -1,5 +1,5 @@
 -- What a hart executed has entered, or waits: over both processes. An event that ends a process executes and drains nothing.
-use Rattle.std.proofs.Common.{◌≡◌, ℕ, ◌+◌, ◌≤◌, ◌<◌, ◌++◌, List, [], ◌∷◌, length, drop, length-append, length-drop, Bool, true, false, not, cond, eqb, Option, None, Some, is_some, refl, sym, ap, ◌∙◌, subst, arith}
+use Rattle.std.proofs.Common.{◌≡◌, ℕ, ◌+◌, ◌≤◌, ◌++◌, List, [], ◌∷◌, length, drop, length-append, length-drop, Bool, true, false, cond, eqb, Option, None, Some, is_some, refl, sym, ap, ◌∙◌, subst, arith}
 use Rattle.std.proofs.lemmas.Bool.{eqb-true}
 use Rattle.mach_types.specs.Events.{choice_of}
 use Rattle.mach_types.specs.Kernel.Signals.{next_for}
@@ -23,7 +23,7 @@ use Rattle.block_model.specs.Here.{Done, Here, runs, waiting_here}
 use Rattle.block_model.specs.Sequences.{interruption_here}
 use Rattle.shared_procs.specs.Pairs.{Pair, PairSetting, acting, apply_two, done_two, half, here_two, own_choice}
 use Rattle.shared_procs.specs.PairRuns.{IsPairRunHistory, PairEvent, PairHistory, event_two, pair_after}
-use Rattle.shared_procs.specs.StoresEntered.{entered, executed, left_by_end}
+use Rattle.shared_procs.specs.StoresEntered.{entered, executed}
 use Rattle.shared_procs.proofs.Settled.{decided, done_fit, over_lt, settled}
 
 abbrev EndsQuietly : Done → Type 0

@@ -28,7 +28,7 @@ kept at n v a (Some below) not =
     ap Some
     (elim (cases_lt a at) [
       | inl low ↦ sym (over-low at n v a below low)
-      | inr from ↦ elim (cases_lt a (at + n)) [ | inl to ↦ absurd (not from to) | inr high ↦ sym (over-high at n v a below high) ]
+      | inr from ↦ elim (cases_lt a (at + n)) [ inl to ↦ absurd (not from to) | inr high ↦ sym (over-high at n v a below high) ]
     ])
 
 -- an access that lies in the segment
@@ -113,9 +113,9 @@ module _ (m : Map) (gap : (n : ℕ) → IsGap n → permission_in m n ≡ None) 
       seen inside done page page' =
           cond inside (Some (shared_in segment a)) page'
           ≡ cond
-            done
-            (option_map (byte_over (record { at = at; size = n; value = v }) a) (cond inside (Some (shared_in segment a)) page))
-            (cond inside (Some (shared_in segment a)) page)
+          done
+          (option_map (byte_over (record { at = at; size = n; value = v }) a) (cond inside (Some (shared_in segment a)) page))
+          (cond inside (Some (shared_in segment a)) page)
 
       inside_kept : (done : Bool) → made ≡ done → is_in_segment a ≡ true → seen true done (byte_in m a) (byte_in m' a)
       inside_kept true is in_segment =

@@ -59,8 +59,11 @@ impl UserMem for Window<'_> {
 
     ghost alike_itself = { λ w. (alike_itself w.pages.now, refl, refl) };
 
-    ghost alike_next = { λ a b c first then. (alike_next a.pages.now b.pages.now c.pages.now first.0 then.0,
-        then.1 ∙ first.1, then.2 ∙ first.2) };
+    ghost alike_next = { λ a b c first then. (
+      alike_next a.pages.now b.pages.now c.pages.now first.0 then.0,
+      then.1 ∙ first.1,
+      then.2 ∙ first.2,
+    ) };
 
     ghost writable_is_readable = { λ w a may. reached_in-readable w.segment.now w.pages.now a may };
 

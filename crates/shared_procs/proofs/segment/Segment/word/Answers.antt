@@ -17,9 +17,9 @@ returns c =
     some_where c.number_in.result _ _ c.number_in.ensures.number (omega (arith, whole, c.requires.from, c.requires.to))
     ∙ ap (λ (xs : List ℕ). Some (number_at xs place size)) lent
     ∙ sym
-      (word_of_bytes (λ a. Some (shared_in segment a)) segment at place size
-      (λ k lt.
-      let there : at + k - SEGMENT_AT ≡ place + k = omega (arith, c.requires.from) in
-      let below : slice_index segment (at + k - SEGMENT_AT) < 256 =
-      omega (arith, c.number_in.ensures.small (at + k - SEGMENT_AT), ap (λ (xs : List ℕ). slice_index xs (at + k - SEGMENT_AT)) lent) in
-      ap Some (small_byte (slice_index segment (at + k - SEGMENT_AT)) below) ∙ ap (λ j. Some (slice_index segment j)) there))
+    (word_of_bytes (λ a. Some (shared_in segment a)) segment at place size
+    (λ k lt.
+    let there : at + k - SEGMENT_AT ≡ place + k = omega (arith, c.requires.from) in
+    let below : slice_index segment (at + k - SEGMENT_AT) < 256 =
+    omega (arith, c.number_in.ensures.small (at + k - SEGMENT_AT), ap (λ (xs : List ℕ). slice_index xs (at + k - SEGMENT_AT)) lent) in
+    ap Some (small_byte (slice_index segment (at + k - SEGMENT_AT)) below) ∙ ap (λ j. Some (slice_index segment j)) there))
