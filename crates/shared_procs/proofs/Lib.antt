@@ -1,0 +1,6 @@
+mod Accesses
+mod PairExamples
+mod Segments
+mod Settled
+mod Sums
+mod Windows

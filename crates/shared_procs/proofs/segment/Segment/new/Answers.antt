@@ -1,0 +1,6 @@
+use Rattle.std.proofs.Common.{◌-◌, ◌%◌, ap}
+use Rattle.block_model.specs.Beside.{SEGMENT_AT}
+use Rattle.shared_procs.proofs.segment.Segment.new.Goals as goal
+
+pub returns : goal.returns
+returns c = λ a. ap (λ b. b % 256) (c.in_ok-bytes.ensures.zero (a - SEGMENT_AT))

@@ -1,0 +1,12 @@
+//! Two processes on one machine, with one segment of memory that the instructions of both reach.
+#![tactic(auto)]
+
+mod outcomes;
+mod segment;
+mod theorems;
+mod window;
+
+pub use outcomes::{PairEnd, PairRefused, ProcState};
+pub use segment::Segment;
+pub use theorems::{idle_harts_hold_no_store, stores_enter_or_wait};
+pub use window::Window;
