@@ -27,7 +27,7 @@ use Rattle.block_model.specs.Events.Preempt.{done_preempt_by}
 use Rattle.block_model.specs.Events.Run.{done_killed, done_run_by, done_running, lives_on}
 use Rattle.block_model.specs.Events.Signal.{done_next, done_signal_by, handled_unless_killed, kills}
 use Rattle.block_model.specs.Events.Take.{done_take_by}
-use Rattle.block_model.specs.Here.{Done, Here, runs, view, waiting_here}
+use Rattle.block_model.specs.Here.{Done, Here, runs, view_of_all, waiting_here}
 use Rattle.block_model.specs.History.{Event, History, here_in_history, waiting}
 use Rattle.block_model.specs.Run.{IsBlockRun, IsRunHistory}
 use Rattle.block_model.specs.Sequences.{interruption_here}
@@ -99,7 +99,7 @@ one_at_most false = omega arith
 
 one_store : (here : Here) (t : ℕ) (e : Effect) → length (outcome_of here t e).executed ≤ 1
 one_store here t e =
-    let is = plain-waits (view here) (here.file t).file (here.file t).pc here.reserved e in
+    let is = plain-waits (view_of_all here) (here.file t).file (here.file t).pc here.reserved e in
     let one = one_at_most (is_plain_store e) in
     omega (arith, is, one)
 
