@@ -2,7 +2,6 @@ mod Causes
 mod ElfPlaces
 mod Explaining
 mod Explorations
-mod NeverFailing
 mod Outcomes
 mod Taken
 mod Trials

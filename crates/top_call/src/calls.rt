@@ -21,7 +21,7 @@ use std::alloc::Global;
 use std::sync::Wait;
 use std::thread::Threads;
 
-/// Does what the words ask for, and gives the exit status.
+/// Does what the words ask for, and gives the exit status, with the reason that goes with it.
 ///
 /// `words` are those of the command line without the program's own name. The answer is written to `sink`:
 /// at status 0 the output of the command, at every other status one line that names the fault. Where the
@@ -30,26 +30,9 @@ use std::thread::Threads;
 /// `run` alone starts worker threads and waits for them, and `explore` other threads, unless its `--jobs` is 1. The gate is
 /// passed once before each turn of a worker.
 ///
-/// The call of [`rseq_quiet`] is made first, and what it answers is the answer unless it is None. No clause says
-/// so: where the words aren't left to it both have the same clause `outcome`, and memory may run out in the one call
+/// What [`rseq_quiet`] does is tried first, and what comes of it is the answer unless the command is left to workers. No clause
+/// says so: where the words aren't left to it both have the same clause `outcome`, and memory may run out in the one call
 /// and not in the other.
-pub fn rseq_main<R: Threads + Wait + Sync, S: Shelf, K: Sink, G: Gate + Sync>(
-    alloc: Global,
-    rt: &R,
-    words: &[String],
-    shelf: &mut S,
-    sink: &mut K,
-    gate: &G,
-) -> u8
-    ensures outcome { IsOutcome
-        (call_between S.file S.faults K.held K.faults (texts words.now)
-        shelf.old shelf.new sink.old sink.new) result }
-    ensures untouched { command_of (texts words.now) ≡ None → shelf.new ≡ shelf.old }
-{
-    rseq_explained(alloc, rt, words, shelf, sink, gate).status
-}
-
-/// The same, and the reason that goes with the status.
 pub fn rseq_explained<R: Threads + Wait + Sync, S: Shelf, K: Sink, G: Gate + Sync>(
     alloc: Global,
     rt: &R,
@@ -70,11 +53,11 @@ pub fn rseq_explained<R: Threads + Wait + Sync, S: Shelf, K: Sink, G: Gate + Syn
     }
 }
 
-/// The same for every command but `run`, and `explore` with `--jobs 1` alone; None only where the words are another, and then
+/// The exit status of every command but `run`, and of `explore` with `--jobs 1` alone; None only where the words are another, and then
 /// neither the shelf nor the sink was called. Where they are such and memory runs out before that is known, the line of that fault
 /// is written at status 7.
 ///
-/// It takes no runtime, so it waits for nobody and returns. [`rseq_main`] makes this call first.
+/// It takes no runtime, so it waits for nobody and returns. [`rseq_explained`] does the same first.
 pub fn rseq_quiet<S: Shelf, K: Sink>(
     alloc: Global,
     words: &[String],

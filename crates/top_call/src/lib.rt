@@ -6,8 +6,6 @@ mod delivery;
 mod elf_places;
 mod exploring;
 mod fetching;
-mod sure;
 mod texts;
 
-pub use calls::{rseq_explained, rseq_main, rseq_quiet};
-pub use sure::{sure_main, sure_quiet};
+pub use calls::{rseq_explained, rseq_quiet};

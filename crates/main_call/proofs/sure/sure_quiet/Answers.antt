@@ -3,8 +3,8 @@ use Rattle.std.proofs.Common.{◌≡◌, inl, inr, ℕ, List, Option, Err, arith
 use Rattle.std.proofs.lemmas.Option.{IfSome_then}
 use Rattle.outcomes.specs.declared.faults.Fault.TheVariants.{Memory}
 use Rattle.outcomes.specs.Answers.{IsTold}
-use Rattle.top_call.proofs.NeverFailing.{sure_of}
-use Rattle.top_call.proofs.sure.sure_quiet.Goals as goal
+use Rattle.main_call.proofs.NeverFailing.{sure_of}
+use Rattle.main_call.proofs.sure.sure_quiet.Goals as goal
 
 seven : (old new : Option (List ℕ)) (status : ℕ) → IsTold old new 0 0 (Err Memory) status → status ≡ 7
 seven old new status (inl written) = written.status

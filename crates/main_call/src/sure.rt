@@ -6,11 +6,12 @@ ghost use Rattle.outcomes.specs.Outcome.{IsSureOutcome};
 ghost use Rattle.command_words.specs.Commands.{is_run};
 ghost use Rattle.command_words.specs.Words.{command_of, texts};
 
-use crate::calls::{rseq_main, rseq_quiet};
+use crate::status::rseq_main;
 use outside::{Gate, SureShelf, SureSink};
 use std::alloc::Global;
 use std::sync::Wait;
 use std::thread::Threads;
+use top_call::rseq_quiet;
 
 /// `rseq_main` over files and a sink that never fail. Its status is neither 5 nor 6, and on good
 /// files it is 0, or 7 for want of memory.
