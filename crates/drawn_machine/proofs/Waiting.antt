@@ -338,24 +338,28 @@ few_wait_counts s log run short =
 
 -- A RUN AS IT GOES ON
 
--- the clocks are those of the harts, and the counts those of the run so far
+-- each hart has its clock, and the counts are those of the run so far
 pub record IsTracked (now : Seen) (cs : List Clock) (ns : List ℕ) : Type 0 where
-  pub harts : length cs ≡ now.setting.limits.harts
+  pub harts : now.setting.limits.harts ≤ length cs
   pub clocks : (h : ℕ) (d : Clock) → h < length cs → get_or cs h d ≡ clock h (history now.setting now.log)
   pub counts : ns ≡ wait_counts_in now
 
-pub tracked_first : (now : Seen) (cs : List Clock) (ns : List ℕ) (harts : ℕ) → now.log ≡ [] → harts ≡ now.setting.limits.harts
-    → cs ≡ replicate harts first_clock → ns ≡ no_waits → IsTracked now cs ns
-tracked_first now cs ns harts empty all first none =
+pub none_waited : (now : Seen) → now.log ≡ [] → wait_counts_in now ≡ no_waits
+none_waited now empty =
+    ap wait_counts (ap (λ (log : List Entry). history now.setting log) empty ∙ history-nil now.setting)
+
+pub tracked_first : (now : Seen) (cs : List Clock) (ns : List ℕ) → now.log ≡ [] → now.setting.limits.harts ≤ 8
+    → cs ≡ replicate 8 first_clock → ns ≡ no_waits → IsTracked now cs ns
+tracked_first now cs ns empty few first none =
     let before : history now.setting now.log ≡ [] =
     ap (λ (log : List Entry). history now.setting log) empty ∙ history-nil now.setting in
-    let count : length cs ≡ harts = ap (λ (cs : List Clock). length cs) first ∙ length-replicate harts first_clock in
+    let count : length cs ≡ 8 = ap (λ (cs : List Clock). length cs) first ∙ length-replicate 8 first_clock in
     record {
-      harts = count ∙ all;
+      harts = omega (arith, count, few);
       clocks = λ h d below. ap (λ (cs : List Clock). get_or cs h d) first
-          ∙ get_or-replicate harts h first_clock d (omega (arith, below, count))
+          ∙ get_or-replicate 8 h first_clock d (omega (arith, below, count))
           ∙ sym (ap (clock h) before);
-      counts = none ∙ sym (ap wait_counts before);
+      counts = none ∙ sym (none_waited now empty);
     }
 
 -- behind one entry more
@@ -429,7 +433,7 @@ module _ (now : Seen) (x : Entry) (cs : List Clock) (ns : List ℕ) (stores : �
   tracked_by =
       let after = sym (history-append now.setting now.log x) in
       record {
-        harts = length-set cs h (clock_behind x.kind stores c) ∙ is.harts;
+        harts = omega (arith, length-set cs h (clock_behind x.kind stores c), is.harts);
         clocks = λ k d below. next_clocks k d below ∙ ap (clock k) after;
         counts = next_counts ∙ ap wait_counts after;
       }
