@@ -27,7 +27,7 @@ use Rattle.block_model.specs.Events.Preempt.{done_preempt_by}
 use Rattle.block_model.specs.Events.Run.{done_killed, done_run_by, done_running, lives_on}
 use Rattle.block_model.specs.Events.Signal.{done_next, done_signal_by, handled_unless_killed, kills}
 use Rattle.block_model.specs.Events.Take.{done_take_by}
-use Rattle.block_model.specs.Here.{Done, Here, runs, view, waiting_here}
+use Rattle.block_model.specs.Here.{Done, Here, runs, view_of_all, waiting_here}
 use Rattle.block_model.specs.History.{Event, History, here_in_history, waiting}
 use Rattle.block_model.specs.Run.{IsBlockRun, IsRunHistory}
 use Rattle.block_model.specs.Sequences.{interruption_here}
@@ -99,7 +99,7 @@ one_at_most false = omega arith
 
 one_store : (here : Here) (t : ℕ) (e : Effect) → length (outcome_of here t e).executed ≤ 1
 one_store here t e =
-    let is = plain-waits (view here) (here.file t).file (here.file t).pc here.reserved e in
+    let is = plain-waits (view_of_all here) (here.file t).file (here.file t).pc here.reserved e in
     let one = one_at_most (is_plain_store e) in
     omega (arith, is, one)
 
@@ -348,19 +348,14 @@ pub none_waited : (now : Seen) → now.log ≡ [] → wait_counts_in now ≡ no_
 none_waited now empty =
     ap wait_counts (ap (λ (log : List Entry). history now.setting log) empty ∙ history-nil now.setting)
 
-pub tracked_first : (now : Seen) (cs : List Clock) (ns : List ℕ) → now.log ≡ [] → now.setting.limits.harts ≤ 8
-    → cs ≡ replicate 8 first_clock → ns ≡ no_waits → IsTracked now cs ns
-tracked_first now cs ns empty few first none =
-    let before : history now.setting now.log ≡ [] =
-    ap (λ (log : List Entry). history now.setting log) empty ∙ history-nil now.setting in
-    let count : length cs ≡ 8 = ap (λ (cs : List Clock). length cs) first ∙ length-replicate 8 first_clock in
-    record {
-      harts = omega (arith, count, few);
-      clocks = λ h d below. ap (λ (cs : List Clock). get_or cs h d) first
-          ∙ get_or-replicate 8 h first_clock d (omega (arith, below, count))
-          ∙ sym (ap (clock h) before);
-      counts = none ∙ sym (none_waited now empty);
-    }
+pub tracked_first : (now : Seen) (cs : List Clock) (ns : List ℕ) → now.log ≡ [] → now.setting.limits.harts ≤ length cs
+    → All (λ (c : Clock). c ≡ first_clock) cs → ns ≡ no_waits → IsTracked now cs ns
+tracked_first now cs ns empty few first none = record {
+  harts = few;
+  clocks = λ h d below. first h d below
+      ∙ sym (ap (clock h) (ap (λ (log : List Entry). history now.setting log) empty ∙ history-nil now.setting));
+  counts = none ∙ sym (none_waited now empty);
+}
 
 -- behind one entry more
 module _ (now : Seen) (x : Entry) (cs : List Clock) (ns : List ℕ) (stores : ℕ) (is : IsTracked now cs ns)

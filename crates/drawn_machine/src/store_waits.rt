@@ -1,6 +1,6 @@
 //! How long the stores of all harts wait, counted while a run is made.
 
-ghost use Rattle.std.specs.Prelude.{◌≡◌, ◌<◌, ◌≤◌, ◌+◌, ◌^◌, All, length, replicate, slice_index_or, slice_set};
+ghost use Rattle.std.specs.Prelude.{◌≡◌, ◌<◌, ◌≤◌, ◌+◌, ◌^◌, All, length, slice_index_or, slice_set};
 ghost use Rattle.drawn_machine.specs.Waits.{clock_behind, first_clock, no_waits, waits_behind, with_wait, with_waits};
 
 use crate::hart_clock::HartClock;
@@ -26,7 +26,8 @@ impl StoreWaits {
     /// Before the first event.
     #[tactic(auto, unfolding(crate::specs::Waits::no_waits))]
     pub(crate) fn new() -> StoreWaits
-        ensures clocks { result.clocks ≡ replicate 8 first_clock }
+        ensures clocks { All (λ clock. clock ≡ first_clock) result.clocks }
+        ensures harts { length result.clocks ≡ 8 }
         ensures counts { result.counts ≡ no_waits }
     {
         StoreWaits {

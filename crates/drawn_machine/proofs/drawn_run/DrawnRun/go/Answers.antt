@@ -19,8 +19,8 @@ events-init c =
           (subst (λ (log : List Entry). IsBlockRun m.setting log) (sym empty) (start_run m.setting))
           (c.requires.unscripted ∙ sym (ap (λ (log : List Entry). length log) empty)) c.first_drawing-drawing.ensures;
       inside = none_at_boot m empty;
-      waits = tracked_first m c.new-waits.result.clocks c.new-waits.result.counts empty c.requires.limits.eight_harts
-          c.new-waits.ensures.clocks c.new-waits.ensures.counts;
+      waits = tracked_first m c.new-waits.result.clocks c.new-waits.result.counts empty
+          (omega (arith, c.requires.limits.eight_harts, c.new-waits.ensures.harts)) c.new-waits.ensures.clocks c.new-waits.ensures.counts;
     }
 
 pub draw_event-made-requires-clause-limits : goal.draw_event-made-requires-clause-limits
