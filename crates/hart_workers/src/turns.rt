@@ -9,11 +9,13 @@ ghost use Rattle.machine_lock.specs.Turnstiles.{IsOf, origin_of, start_of};
 ghost use Rattle.hart_workers.specs.Growth.{Looked, Grew};
 ghost use Rattle.hart_workers.specs.Worked.{GoesOn, WentOn};
 
+use crate::start::Start;
 use mach_types::{Advance, Hart};
 use machine_lock::{Chronicle, Pass, Turnstile};
 use outside::Gate;
 use std::alloc::{AllocError, Global};
 use std::sync::Wait;
+use std::thread;
 
 /// Takes the code out, in one turn that makes no entry.
 pub(crate) fn take_code<R: Wait, M: Chronicle>(
@@ -93,12 +95,14 @@ fn work_on<M: Chronicle>(code: &M::Code, stretch: &mut Option<M::Stretch>)
     }
 }
 
-/// Drives one hart until the run has ended.
+/// Drives one hart until the run has ended, once all workers have come. Where the hart makes no event, the
+/// worker gives its processor away before its next turn.
 pub(crate) fn drive_one<R: Wait, M: Chronicle, G: Gate>(
     rt: &R,
     lock: &Turnstile<M>,
     code: &M::Code,
     gate: &G,
+    start: &Start,
     pass: &mut Pass<M>,
     hart: Hart,
 )
@@ -108,12 +112,16 @@ pub(crate) fn drive_one<R: Wait, M: Chronicle, G: Gate>(
     ensures grew { Grew M.setting M.log M.next (origin_of lock.now) pass.old pass.new }
     ensures ended { M.ended (M.setting (start_of lock.now)) pass.new.seen ≡ true }
 {
+    start.meet();
     let mut stretch = None;
     for _ in rt.forever() {
         gate.pass(hart);
         let advance = turn(rt, lock, pass, hart, &mut stretch);
         if advance == Advance::Ended {
             return;
+        }
+        if advance == Advance::NoneNow {
+            thread::yield_now();
         }
         work_on::<M>(code, &mut stretch);
     }

@@ -5,6 +5,7 @@ ghost use Rattle.std.specs.Thread.{IsSync};
 ghost use Rattle.machine_lock.specs.Turnstiles.{IsOf, origin_of, start_of};
 ghost use Rattle.hart_workers.specs.Growth.{Looked, Grew};
 
+use crate::start::Start;
 use crate::turns::{drive_one, take_code};
 use mach_types::Hart;
 use machine_lock::{Chronicle, Pass, Turnstile};
@@ -20,6 +21,7 @@ fn drive_many<R: Threads + Wait + Sync, M: Chronicle + Send, G: Gate + Sync>(
     lock: &Turnstile<M>,
     code: &M::Code,
     gate: &G,
+    start: &Start,
     pass: &mut Pass<M>,
     first: u8,
     count: u8,
@@ -34,7 +36,7 @@ where
     ensures ended { M.ended (M.setting (start_of lock.now)) pass.new.seen ≡ true }
 {
     if count == 1 {
-        drive_one(rt, lock, code, gate, pass, Hart(first));
+        drive_one(rt, lock, code, gate, start, pass, Hart(first));
         return;
     }
     let half = count / 2;
@@ -44,6 +46,7 @@ where
         lock,
         code,
         gate,
+        start,
         pass,
         &mut other,
         first,
@@ -61,6 +64,7 @@ fn drive_halves<'a, 'p, R: Threads + Wait + Sync, M: Chronicle + Send, G: Gate +
     lock: &'a Turnstile<M>,
     code: &'a M::Code,
     gate: &'a G,
+    start: &'a Start,
     pass: &'p mut Pass<M>,
     other: &'p mut Pass<M>,
     first: u8,
@@ -87,7 +91,7 @@ where
         requires count { (1 ≤ count) × (first + count < 256) × (count ≤ pass.now.parts) }
         ensures grew { Grew M.setting M.log M.next (origin_of lock.entry.now) pass.entry.now pass.exit.now }
         ensures ended { M.ended (M.setting (start_of lock.entry.now)) pass.exit.now.seen ≡ true }
-    { drive_many(rt, lock, code, gate, pass, first, count) };
+    { drive_many(rt, lock, code, gate, start, pass, first, count) };
     let mut upper = ||
         requires sync { IsSync R.row }
         requires own { IsOf lock.now other.now }
@@ -96,7 +100,7 @@ where
         requires count { (1 ≤ half) × (first + count + half < 256) × (half ≤ other.now.parts) }
         ensures grew { Grew M.setting M.log M.next (origin_of lock.entry.now) other.entry.now other.exit.now }
         ensures ended { M.ended (M.setting (start_of lock.entry.now)) other.exit.now.seen ≡ true }
-    { drive_many(rt, lock, code, gate, other, first + count, half) };
+    { drive_many(rt, lock, code, gate, start, other, first + count, half) };
     join_mut(rt, &mut lower, &mut upper);
 }
 
@@ -109,6 +113,9 @@ where
 /// All memory is taken before a worker works, in one turn of the pass. Where it is refused, no worker
 /// works and no entry is made. A thread that can't be started is no error: its harts then wait for the
 /// others. (own)
+///
+/// No worker takes a turn before all have come, unless one looked for the others 10,000 times in vain. A
+/// worker whose hart made no event in a turn gives its processor away before the next one. (own)
 pub fn drive<R: Threads + Wait + Sync, M: Chronicle + Send + Drop, G: Gate + Sync>(
     alloc: Global,
     rt: &R,
@@ -128,6 +135,7 @@ where
     ensures refused { OnErr result (Looked M.setting M.log M.next (origin_of lock.now) pass.old pass.new) }
 {
     let code = take_code(alloc, rt, lock, pass)?;
-    drive_many(rt, lock, &code, gate, pass, 0, harts);
+    let start = Start::of(harts);
+    drive_many(rt, lock, &code, gate, &start, pass, 0, harts);
     Ok(())
 }

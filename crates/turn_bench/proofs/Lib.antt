@@ -1,3 +1,0 @@
-pub mod QuotaLemmas
-pub mod CountLemmas
-mod Examples

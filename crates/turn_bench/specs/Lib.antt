@@ -1,3 +1,0 @@
-pub mod Orders
-pub mod Quotas
-pub mod Tallies
