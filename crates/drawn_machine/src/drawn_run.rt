@@ -71,7 +71,6 @@ impl DrawnRun {
     /// A run of which no event is drawn yet.
     ///
     /// Fails only where memory is short.
-    #[tactic(auto, unfolding(crate::specs::Waits::no_waits))]
     pub fn at_start(
         alloc: Global,
         image: &Image,
@@ -85,8 +84,9 @@ impl DrawnRun {
         ensures inside { IfOk result (λ run. run.left_inside ≡ left_inside_in run.machine) }
         ensures waits { IfOk result (λ run. run.waits ≡ wait_counts_in run.machine) }
     {
+        let machine = Machine::boot(alloc, image, limits, seed)?;
         Ok(DrawnRun {
-            machine: Machine::boot(alloc, image, limits, seed)?,
+            machine,
             left_inside: 0,
             waits: [0; 256],
         })

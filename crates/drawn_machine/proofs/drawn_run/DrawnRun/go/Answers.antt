@@ -30,12 +30,12 @@ draw_event-made-requires-clause-limits c =
 pub draw_event-made-requires-clause-drawn : goal.draw_event-made-requires-clause-drawn
 draw_event-made-requires-clause-drawn c = (c.args.manner.now, c.events.invariant.way)
 
-pub overflow_add-left_inside : goal.overflow_add-left_inside
-overflow_add-left_inside c =
-    let few = small_count c.events.self.machine c.events.self.left_inside c.draw_event-made.result.left_inside c.from-left_inside.result
+pub overflow_add-self : goal.overflow_add-self
+overflow_add-self c =
+    let few = small_count c.events.self.machine c.events.self.left_inside c.draw_event-made.result.left_inside c.from.result
     (short_now c.args.manner.now c.args.self.now.machine.setting c.events.self.machine c.events.drawing c.events.invariant.setting
     c.requires.limits c.events.invariant.way)
-    c.events.invariant.inside c.from-left_inside.ensures in
+    c.events.invariant.inside c.from.ensures in
     omega (arith, few)
 
 pub waiting_on-requires : goal.waiting_on-requires
@@ -86,7 +86,7 @@ events-preserved c =
       setting = ap (λ (v : Seen). v.setting) c.draw_event-made.ensures.made ∙ c.events.invariant.setting;
       way = c.draw_event-made.ensures.drawn c.args.manner.now c.events.invariant.way;
       inside = counted_more c.events.self.machine c.draw_event-made.new.machine c.events.self.left_inside c.draw_event-made.result.entry
-          c.draw_event-made.result.left_inside c.from-left_inside.result c.from-left_inside.ensures c.events.invariant.inside
+          c.draw_event-made.result.left_inside c.from.result c.from.ensures c.events.invariant.inside
           c.draw_event-made.ensures.inside c.draw_event-made.ensures.made;
       waits = tracked_more c.events.self.machine c.draw_event-made.new.machine c.draw_event-made.result.entry c.events.waits.clocks
           c.count.new.self.clocks c.events.waits.counts c.count.new.self.counts c.waiting_on.result next c.events.invariant.waits
