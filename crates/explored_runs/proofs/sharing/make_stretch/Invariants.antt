@@ -10,8 +10,8 @@ use Rattle.explored_runs.proofs.sharing.make_stretch.Given as goal
 abbrev pub invariant-loop-made : goal.invariant-loop-made
 invariant-loop-made l = record {
   made : (i : ℕ) (d : Option Made) → i < l.made-index
-      → IfSome (get_or l.made-items i d) (IsMadeAt (setting_of l.image l.limits) l.exploration (l.from + i));
-  size : length l.made-items ≡ length l.fn.stretch;
+      → IfSome (get_or l.stretch i d) (IsMadeAt (setting_of l.image l.limits) l.exploration (l.from + i));
+  size : length l.stretch ≡ length l.fn.stretch;
   place : l.place ≡ l.from + l.made-index;
   setting : IfSome l.run (λ (run : DrawnRun). run.machine.setting ≡ setting_of l.image l.limits);
 }
