@@ -3,7 +3,7 @@ use Rattle.std.proofs.Common.{◌≡◌, ℕ, ◌+◌, ◌-◌, ◌<◌, ◌≤�
 use Rattle.std.specs.List.{AllByRecursion}
 use Rattle.std.specs.Prelude.{min}
 use Rattle.std.proofs.lemmas.Bool.{cases_eq, eqb-true, ne_eqb}
-use Rattle.std.proofs.lemmas.List.{get_or-replicate, get_or-set_other, get_or-set_same, length-map, length-replicate, length-set, length-take}
+use Rattle.std.proofs.lemmas.List.{get_or-set_other, get_or-set_same, length-map, length-replicate, length-set, length-take}
 use Rattle.std.proofs.lemmas.List.Elements.{All-replicate, All-set, All-weaker, recursion_from_All}
 use Rattle.mach_types.proofs.Laws.{eqb_same}
 use Rattle.mach_types.specs.Events.{choice_of, kind_of}
@@ -338,25 +338,24 @@ few_wait_counts s log run short =
 
 -- A RUN AS IT GOES ON
 
--- the clocks are those of the harts, and the counts those of the run so far
+-- each hart has its clock, and the counts are those of the run so far
 pub record IsTracked (now : Seen) (cs : List Clock) (ns : List ℕ) : Type 0 where
-  pub harts : length cs ≡ now.setting.limits.harts
+  pub harts : now.setting.limits.harts ≤ length cs
   pub clocks : (h : ℕ) (d : Clock) → h < length cs → get_or cs h d ≡ clock h (history now.setting now.log)
   pub counts : ns ≡ wait_counts_in now
 
-pub tracked_first : (now : Seen) (cs : List Clock) (ns : List ℕ) (harts : ℕ) → now.log ≡ [] → harts ≡ now.setting.limits.harts
-    → cs ≡ replicate harts first_clock → ns ≡ no_waits → IsTracked now cs ns
-tracked_first now cs ns harts empty all first none =
-    let before : history now.setting now.log ≡ [] =
-    ap (λ (log : List Entry). history now.setting log) empty ∙ history-nil now.setting in
-    let count : length cs ≡ harts = ap (λ (cs : List Clock). length cs) first ∙ length-replicate harts first_clock in
-    record {
-      harts = count ∙ all;
-      clocks = λ h d below. ap (λ (cs : List Clock). get_or cs h d) first
-          ∙ get_or-replicate harts h first_clock d (omega (arith, below, count))
-          ∙ sym (ap (clock h) before);
-      counts = none ∙ sym (ap wait_counts before);
-    }
+pub none_waited : (now : Seen) → now.log ≡ [] → wait_counts_in now ≡ no_waits
+none_waited now empty =
+    ap wait_counts (ap (λ (log : List Entry). history now.setting log) empty ∙ history-nil now.setting)
+
+pub tracked_first : (now : Seen) (cs : List Clock) (ns : List ℕ) → now.log ≡ [] → now.setting.limits.harts ≤ length cs
+    → All (λ (c : Clock). c ≡ first_clock) cs → ns ≡ no_waits → IsTracked now cs ns
+tracked_first now cs ns empty few first none = record {
+  harts = few;
+  clocks = λ h d below. first h d below
+      ∙ sym (ap (clock h) (ap (λ (log : List Entry). history now.setting log) empty ∙ history-nil now.setting));
+  counts = none ∙ sym (none_waited now empty);
+}
 
 -- behind one entry more
 module _ (now : Seen) (x : Entry) (cs : List Clock) (ns : List ℕ) (stores : ℕ) (is : IsTracked now cs ns)
@@ -429,7 +428,7 @@ module _ (now : Seen) (x : Entry) (cs : List Clock) (ns : List ℕ) (stores : �
   tracked_by =
       let after = sym (history-append now.setting now.log x) in
       record {
-        harts = length-set cs h (clock_behind x.kind stores c) ∙ is.harts;
+        harts = omega (arith, length-set cs h (clock_behind x.kind stores c), is.harts);
         clocks = λ k d below. next_clocks k d below ∙ ap (clock k) after;
         counts = next_counts ∙ ap wait_counts after;
       }

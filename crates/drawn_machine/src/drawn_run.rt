@@ -1,10 +1,11 @@
 //! The loop of a drawn run.
 
-ghost use Rattle.std.specs.Prelude.{◌≡◌, ◌≤◌, ◌<◌, ◌++◌, ◌∷◌, [], ◌↔◌, IfOk, IsTrue, length, take};
+ghost use Rattle.std.specs.Prelude.{◌≡◌, ◌≤◌, ◌<◌, ◌++◌, ◌∷◌, [], ◌↔◌, IfOk, OnOk, IsTrue, length, take};
 ghost use Rattle.mach_types.specs.Events.{kind_of};
 ghost use Rattle.mach_types.specs.Limits.{InRange};
 ghost use Rattle.mach_types.specs.declared.limits.End.TheVariants.{Unended};
 ghost use Rattle.elf_load.specs.Images.{IsBootable};
+ghost use Rattle.elf_load.specs.Start.{program_of};
 ghost use Rattle.block_model.specs.Deciding.{end_of, history};
 ghost use Rattle.block_model.specs.History.{waiting};
 ghost use Rattle.block_model.specs.Run.{IsBlockRun};
@@ -24,10 +25,10 @@ use mach_types::{Choice, End, Entry, Hart, Limits};
 use machine_core::Machine;
 use std::alloc::{AllocError, Global};
 
-/// A whole drawn run.
+/// A drawn run, on a machine that makes one after the other.
 #[derive(Drop)]
 pub struct DrawnRun {
-    /// The machine at its end.
+    /// The machine, where the run has come to.
     pub machine: Machine,
     /// How often a thread left its hart inside a good restartable sequence.
     pub left_inside: u32,
@@ -61,20 +62,74 @@ pub fn run_drawn(
     ensures inside { IfOk result (λ run. run.left_inside ≡ left_inside_in run.machine) }
     ensures waits { IfOk result (λ run. run.waits ≡ wait_counts_in run.machine) }
 {
-    let mut machine = Machine::boot(alloc, image, limits, manner.seed)?;
-    let mut waits = StoreWaits::new(alloc, limits.harts)?;
-    let mut drawing = first_drawing(&machine, manner);
-    let mut left_inside = 0;
-    'events: while goes_on(&machine) {
-        let made = draw_event(&mut machine, &mut drawing);
-        left_inside += u32::from(made.left_inside);
-        waits.count(made.entry, waiting_on(&machine, made.entry.hart));
+    let mut run = DrawnRun::at_start(alloc, image, limits, manner.seed)?;
+    run.go(manner);
+    Ok(run)
+}
+
+impl DrawnRun {
+    /// A run of which no event is drawn yet.
+    ///
+    /// Fails only where memory is short.
+    pub fn at_start(
+        alloc: Global,
+        image: &Image,
+        limits: Limits,
+        seed: u64,
+    ) -> Result<DrawnRun, AllocError>
+        requires image { IsBootable limits.frames image.now }
+        requires limits { InRange limits }
+        ensures machine { IfOk result (λ run. run.machine
+            ≡ record { setting = setting_of image.now limits; seed = seed; log = [] }) }
+        ensures inside { IfOk result (λ run. run.left_inside ≡ left_inside_in run.machine) }
+        ensures waits { IfOk result (λ run. run.waits ≡ wait_counts_in run.machine) }
+    {
+        let machine = Machine::boot(alloc, image, limits, seed)?;
+        Ok(DrawnRun {
+            machine,
+            left_inside: 0,
+            waits: [0; 256],
+        })
     }
-    Ok(DrawnRun {
-        machine,
-        left_inside,
-        waits: waits.counts,
-    })
+
+    /// Runs the image that the machine was booted with once more, in this manner, until the run has ended or the log is full: it is
+    /// then a run that [`run_drawn`] makes.
+    ///
+    /// Fails only where memory is short. A machine that has as many frames as its limits name takes no memory.
+    pub fn again(&mut self, alloc: Global, image: &Image, manner: &Manner) -> Result<(), AllocError>
+        requires image { IsBootable self.old.machine.setting.limits.frames image.now }
+        requires program { self.old.machine.setting.program ≡ program_of image.now }
+        requires limits { InRange self.old.machine.setting.limits }
+        requires unscripted { manner.now.scripted ≡ 0 }
+        ensures run { OnOk result (IsWholeDrawn self.old.machine.setting manner.now self.new.machine) }
+        ensures inside { OnOk result (self.new.left_inside ≡ left_inside_in self.new.machine) }
+        ensures waits { OnOk result (self.new.waits ≡ wait_counts_in self.new.machine) }
+        ensures setting { self.new.machine.setting ≡ self.old.machine.setting }
+    {
+        self.machine.reset(alloc, image, manner.seed)?;
+        self.go(manner);
+        Ok(())
+    }
+
+    /// Draws the events of a run of which none is drawn yet, until it has ended or the log is full.
+    fn go(&mut self, manner: &Manner)
+        requires limits { InRange self.old.machine.setting.limits }
+        requires start { self.old.machine.log ≡ [] }
+        requires unscripted { manner.now.scripted ≡ 0 }
+        ensures run { IsWholeDrawn self.old.machine.setting manner.now self.new.machine }
+        ensures inside { self.new.left_inside ≡ left_inside_in self.new.machine }
+        ensures waits { self.new.waits ≡ wait_counts_in self.new.machine }
+    {
+        let mut drawing = first_drawing(&self.machine, manner);
+        let mut waits = StoreWaits::new();
+        self.left_inside = 0;
+        'events: while goes_on(&self.machine) {
+            let made = draw_event(&mut self.machine, &mut drawing);
+            self.left_inside += u32::from(made.left_inside);
+            waits.count(made.entry, waiting_on(&self.machine, made.entry.hart));
+        }
+        self.waits = waits.counts;
+    }
 }
 
 /// Draws the events of a machine from where it stands, until the run has ended or the log is full. The log so far has the

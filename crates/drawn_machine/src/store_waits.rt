@@ -1,11 +1,14 @@
 //! How long the stores of all harts wait, counted while a run is made.
 
-ghost use Rattle.std.specs.Prelude.{◌≡◌, ◌<◌, ◌≤◌, ◌+◌, ◌^◌, All, IfOk, length, replicate, slice_index_or, slice_set};
+ghost use Rattle.std.specs.Prelude.{◌≡◌, ◌<◌, ◌≤◌, ◌+◌, ◌^◌, All, length, slice_index_or, slice_set};
 ghost use Rattle.drawn_machine.specs.Waits.{clock_behind, first_clock, no_waits, waits_behind, with_wait, with_waits};
 
 use crate::hart_clock::HartClock;
 use mach_types::Entry;
-use std::alloc::{AllocError, Global};
+use std::array;
+
+/// The most harts that a machine has.
+const MOST_HARTS: usize = 8;
 
 /// From so many instructions on it isn't told how long a store waited, but that it was so long.
 pub const LONG_WAIT: u32 = 255;
@@ -14,40 +17,37 @@ pub const LONG_WAIT: u32 = 255;
 #[derive(Drop)]
 pub(crate) struct StoreWaits {
     /// Of each hart, what is counted of it.
-    clocks: Vec<HartClock>,
+    clocks: [HartClock; MOST_HARTS],
     /// By the number of instructions, 0 to 255: how many stores waited for so many, at the last place for [`LONG_WAIT`] or more.
     pub(crate) counts: [u32; 256],
 }
 
 impl StoreWaits {
-    /// Before the first event of so many harts.
+    /// Before the first event.
     #[tactic(auto, unfolding(crate::specs::Waits::no_waits))]
-    pub(crate) fn new(alloc: Global, harts: u8) -> Result<StoreWaits, AllocError>
-        ensures clocks { IfOk result (λ waits. waits.clocks.items ≡ replicate harts first_clock) }
-        ensures counts { IfOk result (λ waits. waits.counts ≡ no_waits) }
+    pub(crate) fn new() -> StoreWaits
+        ensures clocks { All (λ clock. clock ≡ first_clock) result.clocks }
+        ensures harts { length result.clocks ≡ 8 }
+        ensures counts { result.counts ≡ no_waits }
     {
-        let mut clocks = Vec::with_capacity(alloc, usize::from(harts))?;
-        for _ in 0..harts {
-            clocks.push(HartClock::new())?;
-        }
-        Ok(StoreWaits {
-            clocks,
+        StoreWaits {
+            clocks: array::from_fn(|_| HartClock::new()),
             counts: [0; 256],
-        })
+        }
     }
 
     /// Counts an event, behind which so many stores of its hart wait.
     pub(crate) fn count(&mut self, entry: Entry, waiting: u8)
-        requires hart { entry.hart.0 < length self.old.clocks.items }
-        requires instructions { (slice_index_or self.old.clocks.items entry.hart.0 first_clock).instructions < 1000000 }
+        requires hart { entry.hart.0 < length self.old.clocks }
+        requires instructions { (slice_index_or self.old.clocks entry.hart.0 first_clock).instructions < 1000000 }
         requires waiting { waiting ≤ 8 }
         requires one { waiting
-            ≤ length (slice_index_or self.old.clocks.items entry.hart.0 first_clock).marks + 1 }
+            ≤ length (slice_index_or self.old.clocks entry.hart.0 first_clock).marks + 1 }
         requires few { All (λ stores. stores < 1000000) self.old.counts }
-        ensures clocks { let before = slice_index_or self.old.clocks.items entry.hart.0 first_clock in
-            self.new.clocks.items
-            ≡ slice_set self.old.clocks.items entry.hart.0 (clock_behind entry.kind waiting before) }
-        ensures counts { let before = slice_index_or self.old.clocks.items entry.hart.0 first_clock in
+        ensures clocks { let before = slice_index_or self.old.clocks entry.hart.0 first_clock in
+            self.new.clocks
+            ≡ slice_set self.old.clocks entry.hart.0 (clock_behind entry.kind waiting before) }
+        ensures counts { let before = slice_index_or self.old.clocks entry.hart.0 first_clock in
             self.new.counts ≡ with_waits (waits_behind entry.kind before) self.old.counts }
     {
         let clock = &mut self.clocks[usize::from(entry.hart.0)];

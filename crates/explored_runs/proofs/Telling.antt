@@ -1,6 +1,8 @@
 -- What is told of one run more.
-use Rattle.std.proofs.Common.{◌≡◌, ◌≤◌, ℕ, ◌+◌, ◌*◌, ◌<◌, zero, suc, false, List, [], ◌∷◌, Option, Some, None, get_or, set, length, refl, sym, ap, subst, add-one, arith, All}
+use Rattle.std.proofs.Common.{◌≡◌, ◌≤◌, ℕ, ◌+◌, ◌*◌, ◌<◌, zero, suc, false, List, [], ◌∷◌, Option, Some, None, inl, inr, get_or, set, length, refl, sym, ap, subst, add-one, arith, All}
 use Rattle.std.specs.Option.{IfSome}
+use Rattle.std.proofs.lemmas.Bool.{cases_eq}
+use Rattle.std.proofs.lemmas.List.{get_or-set_other, get_or-set_same}
 use Rattle.std.proofs.lemmas.List.Elements.{All-nil, All-replicate}
 use Rattle.mach_types.specs.Limits.{InRange}
 use Rattle.block_model.specs.Run.{IsBlockRun}
@@ -106,3 +108,16 @@ pub left : (s : Setting) (x : Exploration) (from : ℕ) (round : List (Option Ma
     → AreMadeFrom s x from (set round i o)
 left s x from round i o none made =
     subst (λ (p : Option Made). AreMadeFrom s x from (set round i p)) (sym none) (left_at (λ (n : ℕ). IsMadeAt s x (from + n)) round i made)
+
+-- one more place of a round is written
+pub made_more : (P : ℕ → Made → Type 0) (round : List (Option Made)) (n : ℕ) (o : Option Made) → n < length round
+    → ((i : ℕ) (d : Option Made) → i < n → IfSome (get_or round i d) (P i)) → IfSome o (P n)
+    → (i : ℕ) (d : Option Made) → i < n + 1 → IfSome (get_or (set round n o) i d) (P i)
+made_more P round n o below made last i d within =
+    elim (cases_eq i n) [
+      | inl same ↦
+          subst (λ (i : ℕ). IfSome (get_or (set round n o) i d) (P i)) (sym same)
+          (subst (λ (p : Option Made). IfSome p (P n)) (sym (get_or-set_same round n o d below)) last)
+      | inr apart ↦
+          subst (λ (p : Option Made). IfSome p (P i)) (sym (get_or-set_other round n i o d apart)) (made i d (omega arith))
+    ]

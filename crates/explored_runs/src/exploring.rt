@@ -9,6 +9,7 @@ ghost use Rattle.explored_runs.specs.Explored.{IsExplored};
 use crate::exploration::Exploration;
 use crate::explored::Explored;
 use crate::made::make_run;
+use drawn_machine::DrawnRun;
 use elf_load::Image;
 use mach_types::Limits;
 use std::alloc::{AllocError, Global};
@@ -28,8 +29,9 @@ pub fn explore(
     ensures { IfOk result (IsExplored (setting_of image.now limits) exploration.now) }
 {
     let mut explored = Explored::nothing(alloc)?;
+    let mut run = DrawnRun::at_start(alloc, image, limits, exploration.first)?;
     'runs: while explored.runs < exploration.runs && !explored.has_enough(exploration.until) {
-        let made = make_run(alloc, image, limits, exploration, explored.runs)?;
+        let made = make_run(alloc, &mut run, image, limits, exploration, explored.runs)?;
         explored.tell(made)?;
     }
     Ok(explored)

@@ -12,7 +12,7 @@ use crate::exploration::{Apart, Exploration};
 use crate::printed::Printed;
 use crate::tallies::Tally;
 use draw_policies::Policy;
-use drawn_machine::{DrawnRun, run_drawn};
+use drawn_machine::DrawnRun;
 use drawn_runs::Manner;
 use elf_load::Image;
 use mach_types::{End, Limits};
@@ -35,9 +35,10 @@ pub(crate) struct Made {
     pub(crate) tally: Tally,
 }
 
-/// Makes the run of a place, from 0 on.
+/// Makes the run of a place, from 0 on, in the stead of the run that the machine made last, if it made one.
 pub(crate) fn make_run(
     alloc: Global,
+    run: &mut DrawnRun,
     image: &Image,
     limits: Limits,
     exploration: &Exploration,
@@ -45,11 +46,13 @@ pub(crate) fn make_run(
 ) -> Result<Made, AllocError>
     requires image { IsBootable limits.frames image.now }
     requires limits { InRange limits }
-    ensures { IfOk result (IsMadeAt (setting_of image.now limits) exploration.now place) }
+    requires setting { run.old.machine.setting ≡ setting_of image.now limits }
+    ensures made { IfOk result (IsMadeAt (setting_of image.now limits) exploration.now place) }
+    ensures setting { run.new.machine.setting ≡ setting_of image.now limits }
 {
     let manner = exploration.manner(place, limits.steps);
-    let drawn = run_drawn(alloc, image, limits, &manner)?;
-    made_by(alloc, exploration.apart, &manner, &drawn)
+    run.again(alloc, image, &manner)?;
+    made_by(alloc, exploration.apart, &manner, run)
 }
 
 /// What a run in this manner came to.

@@ -11,13 +11,14 @@ ghost use Rattle.explored_runs.specs.Made.{IsMadeAt};
 use crate::exploration::Exploration;
 use crate::explored::Explored;
 use crate::made::{Made, make_run};
+use drawn_machine::DrawnRun;
 use elf_load::Image;
 use mach_types::Limits;
 use std::alloc::{AllocError, Global};
 use std::thread::{self, Threads};
 
 /// How many runs a host thread makes in a round.
-const STRETCH: u64 = 64;
+const STRETCH: u64 = 256;
 
 /// Makes the runs of an exploration on so many host threads, and tells what they come to.
 ///
@@ -101,19 +102,67 @@ fn make_round<R: Threads + Sync>(
 {
     let count = (exploration.runs - from).min(STRETCH * u64::from(jobs));
     let mut round = empty_round(alloc, count)?;
-    thread::for_each_mut(
+    let stretch = round.len().div_ceil(usize::from(jobs));
+    thread::for_each_chunk_mut(
         rt,
         &mut round,
-        usize::from(jobs),
-        &|index: usize, made: &mut Option<Made>|
-            requires { IsBootable limits.frames image.now × InRange limits × (from + index < 2 ^ 64) }
-            ensures { IfSome made.exit.now
-                (IsMadeAt (setting_of image.entry.now limits) exploration.entry.now (from + index)) }
+        stretch,
+        &|start: usize, made: &mut [Option<Made>]|
+            requires { IsBootable limits.frames image.now × InRange limits
+                × (from + start + length made.now < 2 ^ 64) }
+            ensures { (length made.exit.now ≡ length made.entry.now)
+                × AreMadeFrom (setting_of image.entry.now limits) exploration.entry.now (from + start)
+                made.exit.now }
         {
-            *made = make_run(alloc, image, limits, exploration, from + index as u64).ok();
+            make_stretch(alloc, image, limits, exploration, from + start as u64, made);
         },
     );
     Ok(round)
+}
+
+/// Makes the runs of the next places, one for each of these, one after the other on one machine. A run is absent where memory was
+/// short.
+fn make_stretch(
+    alloc: Global,
+    image: &Image,
+    limits: Limits,
+    exploration: &Exploration,
+    from: u64,
+    stretch: &mut [Option<Made>],
+)
+    requires image { IsBootable limits.frames image.now }
+    requires limits { InRange limits }
+    requires places { from + length stretch.old < 2 ^ 64 }
+    ensures size { length stretch.new ≡ length stretch.old }
+    ensures made { AreMadeFrom (setting_of image.now limits) exploration.now from stretch.new }
+{
+    let mut run = DrawnRun::at_start(alloc, image, limits, exploration.first).ok();
+    let mut place = from;
+    for made in stretch.iter_mut() {
+        *made = make_on(alloc, &mut run, image, limits, exploration, place);
+        place += 1;
+    }
+}
+
+/// Makes the run of a place where there is a machine for it.
+fn make_on(
+    alloc: Global,
+    run: &mut Option<DrawnRun>,
+    image: &Image,
+    limits: Limits,
+    exploration: &Exploration,
+    place: u64,
+) -> Option<Made>
+    requires image { IsBootable limits.frames image.now }
+    requires limits { InRange limits }
+    requires setting { IfSome run.old (λ run. run.machine.setting ≡ setting_of image.now limits) }
+    ensures made { IfSome result (IsMadeAt (setting_of image.now limits) exploration.now place) }
+    ensures setting { IfSome run.new (λ run. run.machine.setting ≡ setting_of image.now limits) }
+{
+    match run {
+        Some(run) => make_run(alloc, run, image, limits, exploration, place).ok(),
+        None => None,
+    }
 }
 
 /// So many runs that aren't made yet.

@@ -1,27 +1,26 @@
-use Rattle.std.proofs.Common.{◌≡◌, ◌∙◌, List, [], arith, length, sym, ap, subst}
+use Rattle.std.proofs.Common.{◌≡◌, ◌∙◌, List, [], arith, length, refl, sym, ap, subst}
 use Rattle.mach_types.specs.Limits.{InRange}
 use Rattle.mach_types.specs.declared.events.Entry.{Entry}
 use Rattle.block_model.specs.Run.{IsBlockRun}
-use Rattle.block_model.specs.Setting.{Seen, Setting, setting_of}
+use Rattle.block_model.specs.Setting.{Seen, Setting}
 use Rattle.block_model.proofs.Laws.{start_run}
 use Rattle.drawn_machine.proofs.DrawnSteps.{less_left, way_first}
 use Rattle.drawn_machine.proofs.Inside.{counted_more, none_at_boot, small_count}
 use Rattle.drawn_machine.proofs.Waiting.{countable, hart_there, next_on, short_now, tracked_first, tracked_more}
-use Rattle.drawn_machine.proofs.drawn_run.run_drawn.Goals as goal
+use Rattle.drawn_machine.proofs.drawn_run.DrawnRun.go.Goals as goal
 
 pub events-init : goal.events-init
 events-init c =
-    let m = c.in_ok-machine.machine in
-    let is = c.in_ok-machine.ensures in
-    let empty : m.log ≡ [] = ap (λ (v : Seen). v.log) is in
+    let m = c.args.self.now.machine in
+    let empty : m.log ≡ [] = c.requires.start in
     record {
-      setting = ap (λ (v : Seen). v.setting) is;
+      setting = refl;
       way = way_first c.args.manner.now m c.first_drawing-drawing.result
           (subst (λ (log : List Entry). IsBlockRun m.setting log) (sym empty) (start_run m.setting))
           (c.requires.unscripted ∙ sym (ap (λ (log : List Entry). length log) empty)) c.first_drawing-drawing.ensures;
       inside = none_at_boot m empty;
-      waits = tracked_first m c.in_ok-waits.waits.clocks.items c.in_ok-waits.waits.counts c.args.limits.harts empty
-          (sym (ap (λ (v : Seen). v.setting.limits.harts) is)) c.in_ok-waits.ensures.clocks c.in_ok-waits.ensures.counts;
+      waits = tracked_first m c.new-waits.result.clocks c.new-waits.result.counts empty
+          (omega (arith, c.requires.limits.eight_harts, c.new-waits.ensures.harts)) c.new-waits.ensures.clocks c.new-waits.ensures.counts;
     }
 
 pub draw_event-made-requires-clause-limits : goal.draw_event-made-requires-clause-limits
@@ -31,70 +30,70 @@ draw_event-made-requires-clause-limits c =
 pub draw_event-made-requires-clause-drawn : goal.draw_event-made-requires-clause-drawn
 draw_event-made-requires-clause-drawn c = (c.args.manner.now, c.events.invariant.way)
 
-pub overflow_add-left_inside : goal.overflow_add-left_inside
-overflow_add-left_inside c =
-    let few = small_count c.events.machine c.events.left_inside c.draw_event-made.result.left_inside c.from-left_inside.result
-    (short_now c.args.manner.now (setting_of c.args.image.now c.args.limits) c.events.machine c.events.drawing c.events.invariant.setting
+pub overflow_add-self : goal.overflow_add-self
+overflow_add-self c =
+    let few = small_count c.events.self.machine c.events.self.left_inside c.draw_event-made.result.left_inside c.from.result
+    (short_now c.args.manner.now c.args.self.now.machine.setting c.events.self.machine c.events.drawing c.events.invariant.setting
     c.requires.limits c.events.invariant.way)
-    c.events.invariant.inside c.from-left_inside.ensures in
+    c.events.invariant.inside c.from.ensures in
     omega (arith, few)
 
 pub waiting_on-requires : goal.waiting_on-requires
 waiting_on-requires c =
-    let next = next_on c.args.manner.now (setting_of c.args.image.now c.args.limits) c.events.machine c.draw_event-made.new.machine
+    let next = next_on c.args.manner.now c.args.self.now.machine.setting c.events.self.machine c.draw_event-made.new.machine
     c.events.drawing c.draw_event-made.new.drawing c.draw_event-made.result.entry c.events.invariant.setting c.requires.limits
     c.draw_event-made.ensures.made c.draw_event-made.ensures.drawn c.events.invariant.way in
-    hart_there c.events.machine c.draw_event-made.new.machine c.draw_event-made.result.entry next
+    hart_there c.events.self.machine c.draw_event-made.new.machine c.draw_event-made.result.entry next
 
 pub count-requires-clause-hart : goal.count-requires-clause-hart
 count-requires-clause-hart c =
-    let next = next_on c.args.manner.now (setting_of c.args.image.now c.args.limits) c.events.machine c.draw_event-made.new.machine
+    let next = next_on c.args.manner.now c.args.self.now.machine.setting c.events.self.machine c.draw_event-made.new.machine
     c.events.drawing c.draw_event-made.new.drawing c.draw_event-made.result.entry c.events.invariant.setting c.requires.limits
     c.draw_event-made.ensures.made c.draw_event-made.ensures.drawn c.events.invariant.way in
-    (countable c.events.machine c.draw_event-made.new.machine c.draw_event-made.result.entry c.events.waits.clocks.items
+    (countable c.events.self.machine c.draw_event-made.new.machine c.draw_event-made.result.entry c.events.waits.clocks
     c.events.waits.counts c.waiting_on.result next c.events.invariant.waits c.waiting_on.ensures.count).hart
 
 pub count-requires-clause-instructions : goal.count-requires-clause-instructions
 count-requires-clause-instructions c =
-    let next = next_on c.args.manner.now (setting_of c.args.image.now c.args.limits) c.events.machine c.draw_event-made.new.machine
+    let next = next_on c.args.manner.now c.args.self.now.machine.setting c.events.self.machine c.draw_event-made.new.machine
     c.events.drawing c.draw_event-made.new.drawing c.draw_event-made.result.entry c.events.invariant.setting c.requires.limits
     c.draw_event-made.ensures.made c.draw_event-made.ensures.drawn c.events.invariant.way in
-    (countable c.events.machine c.draw_event-made.new.machine c.draw_event-made.result.entry c.events.waits.clocks.items
+    (countable c.events.self.machine c.draw_event-made.new.machine c.draw_event-made.result.entry c.events.waits.clocks
     c.events.waits.counts c.waiting_on.result next c.events.invariant.waits c.waiting_on.ensures.count).instructions
 
 pub count-requires-clause-one : goal.count-requires-clause-one
 count-requires-clause-one c =
-    let next = next_on c.args.manner.now (setting_of c.args.image.now c.args.limits) c.events.machine c.draw_event-made.new.machine
+    let next = next_on c.args.manner.now c.args.self.now.machine.setting c.events.self.machine c.draw_event-made.new.machine
     c.events.drawing c.draw_event-made.new.drawing c.draw_event-made.result.entry c.events.invariant.setting c.requires.limits
     c.draw_event-made.ensures.made c.draw_event-made.ensures.drawn c.events.invariant.way in
-    (countable c.events.machine c.draw_event-made.new.machine c.draw_event-made.result.entry c.events.waits.clocks.items
+    (countable c.events.self.machine c.draw_event-made.new.machine c.draw_event-made.result.entry c.events.waits.clocks
     c.events.waits.counts c.waiting_on.result next c.events.invariant.waits c.waiting_on.ensures.count).one
 
 pub count-requires-clause-few : goal.count-requires-clause-few
 count-requires-clause-few c =
-    let next = next_on c.args.manner.now (setting_of c.args.image.now c.args.limits) c.events.machine c.draw_event-made.new.machine
+    let next = next_on c.args.manner.now c.args.self.now.machine.setting c.events.self.machine c.draw_event-made.new.machine
     c.events.drawing c.draw_event-made.new.drawing c.draw_event-made.result.entry c.events.invariant.setting c.requires.limits
     c.draw_event-made.ensures.made c.draw_event-made.ensures.drawn c.events.invariant.way in
-    (countable c.events.machine c.draw_event-made.new.machine c.draw_event-made.result.entry c.events.waits.clocks.items
+    (countable c.events.self.machine c.draw_event-made.new.machine c.draw_event-made.result.entry c.events.waits.clocks
     c.events.waits.counts c.waiting_on.result next c.events.invariant.waits c.waiting_on.ensures.count).few
 
 pub events-preserved : goal.events-preserved
 events-preserved c =
-    let next = next_on c.args.manner.now (setting_of c.args.image.now c.args.limits) c.events.machine c.draw_event-made.new.machine
+    let next = next_on c.args.manner.now c.args.self.now.machine.setting c.events.self.machine c.draw_event-made.new.machine
     c.events.drawing c.draw_event-made.new.drawing c.draw_event-made.result.entry c.events.invariant.setting c.requires.limits
     c.draw_event-made.ensures.made c.draw_event-made.ensures.drawn c.events.invariant.way in
     record {
       setting = ap (λ (v : Seen). v.setting) c.draw_event-made.ensures.made ∙ c.events.invariant.setting;
       way = c.draw_event-made.ensures.drawn c.args.manner.now c.events.invariant.way;
-      inside = counted_more c.events.machine c.draw_event-made.new.machine c.events.left_inside c.draw_event-made.result.entry
-          c.draw_event-made.result.left_inside c.from-left_inside.result c.from-left_inside.ensures c.events.invariant.inside
+      inside = counted_more c.events.self.machine c.draw_event-made.new.machine c.events.self.left_inside c.draw_event-made.result.entry
+          c.draw_event-made.result.left_inside c.from.result c.from.ensures c.events.invariant.inside
           c.draw_event-made.ensures.inside c.draw_event-made.ensures.made;
-      waits = tracked_more c.events.machine c.draw_event-made.new.machine c.draw_event-made.result.entry c.events.waits.clocks.items
-          c.count.new.self.clocks.items c.events.waits.counts c.count.new.self.counts c.waiting_on.result next c.events.invariant.waits
+      waits = tracked_more c.events.self.machine c.draw_event-made.new.machine c.draw_event-made.result.entry c.events.waits.clocks
+          c.count.new.self.clocks c.events.waits.counts c.count.new.self.counts c.waiting_on.result next c.events.invariant.waits
           c.waiting_on.ensures.count c.count.ensures.clocks c.count.ensures.counts;
     }
 
 pub events-smaller : goal.events-smaller
 events-smaller c =
-    less_left c.args.manner.now c.events.machine c.draw_event-made.new.machine c.events.drawing c.draw_event-made.result.entry
+    less_left c.args.manner.now c.events.self.machine c.draw_event-made.new.machine c.events.drawing c.draw_event-made.result.entry
     c.events.invariant.way (c.goes_on.ensures.0 c.events-test.true) c.draw_event-made.ensures.made
