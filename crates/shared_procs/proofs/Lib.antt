@@ -1,5 +1,6 @@
 mod Accesses
 mod PairExamples
+mod SameRequests
 mod Segments
 mod Settled
 mod Sums

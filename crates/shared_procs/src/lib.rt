@@ -8,5 +8,5 @@ mod window;
 
 pub use outcomes::{PairEnd, PairRefused, ProcState};
 pub use segment::Segment;
-pub use theorems::{idle_harts_hold_no_store, stores_enter_or_wait};
+pub use theorems::{both_see_the_same_requests, idle_harts_hold_no_store, stores_enter_or_wait};
 pub use window::Window;

@@ -22,3 +22,17 @@ pub fn stores_enter_or_wait()
         + (length ((half false (pair_after s (pair_history s log))).waiting k)
         + length ((half true (pair_after s (pair_history s log))).waiting k)) }
 {}
+
+/// Both processes see the same requests of barriers at each hart, and each of them counts the events of both.
+pub fn both_see_the_same_requests()
+    ensures requests { (s : PairSetting) (log : List Entry) (k : ℕ)
+        → (half false (pair_after s (pair_history s log))).requests k
+        ≡ (half true (pair_after s (pair_history s log))).requests k }
+    ensures restarts { (s : PairSetting) (log : List Entry) (k : ℕ)
+        → (half false (pair_after s (pair_history s log))).restart k
+        ≡ (half true (pair_after s (pair_history s log))).restart k }
+    ensures first { (s : PairSetting) (log : List Entry)
+        → (half false (pair_after s (pair_history s log))).made ≡ (pair_after s (pair_history s log)).made }
+    ensures second { (s : PairSetting) (log : List Entry)
+        → (half true (pair_after s (pair_history s log))).made ≡ (pair_after s (pair_history s log)).made }
+{}
