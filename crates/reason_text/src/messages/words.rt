@@ -12,16 +12,24 @@ const GUESTS: &str = "counter, list, pool, dekker, signals, migrate, ring and ur
 /// The names of policies.
 const POLICIES: &str = "all, one, long, short, pos, spread and rule";
 
-/// Appends what is wrong with the words, and the usage.
+/// Appends what is wrong with the words, and the usage; where they ask for help, what each command does too.
 pub(crate) fn push_words_fault(
     text: &mut String,
     fault: WordsFault,
     words: &[String],
 ) -> Result<(), AllocError> {
-    push_word(text, fault, words)?;
-    push_complaint(text, fault, word_at(words, 1))?;
+    let is_for_help = asks_for_help(fault, words);
+    match fault {
+        WordsFault::UnknownCommand if is_for_help => {
+            text.push_str("no command is named; these are there:\n")?
+        }
+        _ => {
+            push_word(text, fault, words)?;
+            push_complaint(text, fault, word_at(words, 1))?;
+        }
+    }
     push_usage(text)?;
-    if asks_for_help(words) {
+    if is_for_help {
         push_help(text)?;
     }
     Ok(())
@@ -88,10 +96,14 @@ fn push_complaint(text: &mut String, fault: WordsFault, command: &str) -> Result
     }
 }
 
-/// Whether the only word asks for help or for the version. The grammar has no such word.
-fn asks_for_help(words: &[String]) -> bool {
-    match words {
-        [word] => matches!(word.as_str(), "--help" | "-h" | "help" | "--version"),
+/// Whether the words ask for help or for the version, by their first word or by an option. The grammar has
+/// none of these.
+fn asks_for_help(fault: WordsFault, words: &[String]) -> bool {
+    match fault {
+        WordsFault::UnknownCommand => {
+            matches!(word_at(words, 1), "--help" | "-h" | "help" | "--version")
+        }
+        WordsFault::UnknownOption(number) => matches!(word_at(words, number), "--help" | "-h"),
         _ => false,
     }
 }
