@@ -5,17 +5,17 @@ use std::alloc::{AllocError, Global};
 use std::fmt::Write;
 
 /// What the options are.
-const OPTIONS: &str = "  --harts N   how many harts there are: 1 to 8; 2 where it isn't given
-  --frames N  how many frames of memory there are: 128 to 16384; 4096
-  --steps N   how many lines the log may have: 1 to 1000000; 200000
-  --seed N    where the generators begin: 0 to 18446744073709551615; 1
-  --policy P  which policy draws: one, long, short, pos, spread, all of these in turn by the seed, or rule; all
-  --calm N    from how many events on the run goes on fairly: 0 to 1000000; a quarter of the steps
-  --after S   the script whose events come before those that are drawn; none
-  --runs N    how many runs are explored: 1 to 1000000000; 10000
-  --until K   how many different outcomes are enough: 1 to 64; all runs are made
-  --by B      by what outcomes are told apart: text or end; text
-  --jobs N    how many threads make the runs: 1 to 64; as many as there are processors
+const OPTIONS: &str = "  --harts N   how many harts there are: 1 to 8 (default 2)
+  --frames N  how many frames of memory there are: 128 to 16384 (default 4096)
+  --steps N   how many lines the log may have: 1 to 1000000 (default 200000)
+  --seed N    where the generators begin: 0 to 18446744073709551615 (default 1)
+  --policy P  which policy draws: one, long, short, pos, spread, rule, or all, the first five in turn by the seed (default all)
+  --calm N    from how many events on the run goes on fairly: 0 to 1000000 (default a quarter of the steps)
+  --after S   the script whose events come before those that are drawn (default none)
+  --runs N    how many runs are explored: 1 to 1000000000 (default 10000)
+  --until K   how many different outcomes are enough: 1 to 64 (by default all runs are made)
+  --by B      by what outcomes are told apart: text or end (default text)
+  --jobs N    how many threads make the runs: 1 to 64 (default as many as there are processors)
 ";
 
 /// The version (own).
