@@ -6,6 +6,7 @@ use mach_types::Entry;
 use outcomes::LineFault;
 use std::alloc::AllocError;
 use std::fmt::Write;
+use std::str;
 
 /// The most bytes of a script's line that are shown.
 const MOST_SHOWN: usize = 80;
@@ -21,7 +22,10 @@ pub(crate) fn push_line_fault(
     let name = Shown(name);
     write!(text, "{name}, line {number}: ")?;
     match fault {
-        LineFault::Malformed => push_malformed(text, line_at(script, number))?,
+        LineFault::Malformed => {
+            let flaw = flaw_of(line_at(script, number));
+            write!(text, "this isn't a line of a script{flaw}")?;
+        }
         LineFault::Refused(refused) => {
             let cause = Cause(refused);
             write!(text, "this isn't allowed here: {cause}")?;
@@ -33,13 +37,38 @@ pub(crate) fn push_line_fault(
     text.push_str("\n")
 }
 
-/// Appends that a line can't be read, and where it begins an output, what of that is a script.
-fn push_malformed(text: &mut String, line: &[u8]) -> Result<(), AllocError> {
-    text.push_str("this isn't a line of a script")?;
+/// What is wrong with a line that can't be read, for the end of a sentence: the first of these that is the
+/// case, if one is. Where the line begins an output, what of that is a script.
+fn flaw_of(line: &[u8]) -> &'static str {
+    let kind = str::from_utf8(field(line, 1));
     if line.starts_with(b"console ") {
-        text.push_str("; of an output, the log lines alone are one")?;
+        "; of an output, the log lines alone are one"
+    } else if line.is_empty() {
+        ": it is empty"
+    } else if line.contains(&b'\r') {
+        ": it has a carriage return"
+    } else if !line.iter().all(|byte| matches!(byte, b' '..=b'~')) {
+        ": it has a byte that isn't printable ASCII"
+    } else if line.split(|byte| *byte == b' ').any(|part| part.is_empty()) {
+        ": two spaces stand together in it, or one at an end"
+    } else if !matches!(
+        kind,
+        Ok("exec" | "drain" | "take" | "done" | "preempt" | "run" | "signal")
+    ) {
+        ": its second word is none of exec, drain, take, done, preempt, run and signal"
+    } else if field(line, 3)
+        .iter()
+        .any(|byte| matches!(byte, b'A'..=b'F'))
+    {
+        ": its pc has capital letters; the digits are 0 to 9 and a to f"
+    } else {
+        ""
     }
-    Ok(())
+}
+
+/// The field of a line at this place, counted from 0; an empty one where there are fewer.
+fn field(line: &[u8], place: usize) -> &[u8] {
+    line.split(|byte| *byte == b' ').nth(place).unwrap_or(&[])
 }
 
 /// Appends that the thread or the pc isn't as the line says.
