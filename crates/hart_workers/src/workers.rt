@@ -114,8 +114,9 @@ where
 /// works and no entry is made. A thread that can't be started is no error: its harts then wait for the
 /// others. (own)
 ///
-/// No worker takes a turn before all have come, unless one looked for the others 10,000 times in vain. A
-/// worker whose hart made no event in 1,000 turns in a row gives its processor away before the next one. (own)
+/// No worker takes a turn before all have come and run, unless one looked for the others in vain for some tenths of
+/// a second. A worker whose hart made no event in 1,000 turns in a row gives its processor away before the next
+/// one. (own)
 pub fn drive<R: Threads + Wait + Sync, M: Chronicle + Send + Drop, G: Gate + Sync>(
     alloc: Global,
     rt: &R,
