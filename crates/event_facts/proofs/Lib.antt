@@ -1,3 +1,4 @@
+mod CallAnswers
 mod Due
 mod Entered
 mod EventDeeds
@@ -6,6 +7,8 @@ mod KeptLines
 mod Lists
 mod PlainEffects
 mod PlainKinds
+mod PlainTraces
 mod ToldFacts
 mod ToldLines
+mod TraceExamples
 mod WrittenBytes

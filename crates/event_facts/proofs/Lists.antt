@@ -40,6 +40,10 @@ five_pieces start one two three four five a b c d e p q r s t =
 pub two_pieces : {A : Type 0} (start one two a b : List A) → one ≡ start ++ a → two ≡ one ++ b → two ≡ start ++ (a ++ b)
 two_pieces start one two a b p q = q ∙ ap (λ l. l ++ b) p ∙ append_assoc start a b
 
+-- and three
+pub three_pieces : {A : Type 0} (start one two three a b c : List A) → one ≡ start ++ a → two ≡ one ++ b → three ≡ two ++ c → three ≡ start ++ (a ++ b ++ c)
+three_pieces start one two three a b c p q r = r ∙ ap (λ l. l ++ c) (two_pieces start one two a b p q) ∙ append_assoc start (a ++ b) c
+
 -- a map over one number more, behind others
 pub map_step : {A : Type 0} (f : ℕ → A) (start had new : List A) (n : ℕ) → had ≡ start ++ map f (range_with_len 0 n) → new ≡ had ++ f n ∷ []
     → new ≡ start ++ map f (range_with_len 0 (n + 1))

@@ -1,9 +1,13 @@
+pub mod Calls
 pub mod Deeds
 pub mod Facts
+pub mod Faults
 pub mod Lines
+pub mod Requests
 pub mod Reservations
 pub mod Sources
 pub mod Telling
 pub mod Tied
 pub mod Told
+pub mod Trace
 pub mod Written

@@ -4,6 +4,8 @@ ghost use Rattle.std.specs.Prelude.{◌≡◌, ◌&&◌};
 ghost use Rattle.event_facts.specs.Lines as spec;
 ghost use Rattle.event_facts.specs.Sources.{same_source};
 
+use crate::calls::SystemCall;
+use crate::faults::FaultWhy;
 use mach_types::{Hart, Store};
 
 /// Where a byte comes from that is read.
@@ -67,6 +69,39 @@ pub enum Fact {
         number: u8,
         value: u64,
     },
+    /// The event is a fault, which has this signal, at this address: that of the access, or else the pc.
+    Faulted {
+        signal: u8,
+        why: FaultWhy,
+        at: u64,
+    },
+    /// The hart took the requests of the barriers that these harts' threads began, one bit each; whether one
+    /// of these asks for a restart.
+    RequestsTaken {
+        harts: u8,
+        restart: bool,
+    },
+    /// The barrier of the hart's thread returns.
+    BarrierReturns,
+    /// The event is this system call.
+    Called(SystemCall),
+    /// The call answered this value.
+    Answered {
+        value: u64,
+    },
+    /// The call was refused with this error number.
+    Refused {
+        errno: u16,
+    },
+    /// The call answers later: its thread waits, or a barrier that it began.
+    AnsweredLater,
+    /// The call began a barrier, for which these harts have to take its request, one bit each.
+    BarrierBegins {
+        harts: u8,
+    },
+    /// The call has no answer: its thread or the process ended, or the thread goes on with what stands in a
+    /// signal frame.
+    NoAnswer,
 }
 
 impl Source {

@@ -7,17 +7,24 @@
 //! machine, and tells its facts.
 #![tactic(auto)]
 
+mod calls;
 mod deeds;
 mod facts;
+mod faults;
 mod lines;
+mod places;
 mod reads;
 mod registers;
+mod requests;
 mod reservations;
 mod telling;
 mod theorems;
 mod written;
 
+pub use calls::SystemCall;
 pub use facts::{Fact, Source};
+pub use faults::FaultWhy;
 pub use lines::{Lines, Numbered};
+pub use places::{push_after, push_before};
 pub use telling::{PlainEvent, plain_event, tell};
-pub use theorems::lines_are_told_rightly;
+pub use theorems::{lines_are_told_rightly, plain_events_are_told_by_their_facts};

@@ -1,12 +1,17 @@
 //! Laws of lines, each as the contract of a function that does nothing.
 
-ghost use Rattle.std.specs.Prelude.{ℕ, List};
+ghost use Rattle.std.specs.Prelude.{◌≡◌, ℕ, List, Some};
+ghost use Rattle.mach_types.specs.Events.{choice_of};
 ghost use Rattle.mach_types.specs.declared.events.Entry.{Entry};
 ghost use Rattle.block_model.specs.Deciding.{history};
-ghost use Rattle.block_model.specs.History.{History};
+ghost use Rattle.block_model.specs.History.{History, here_in_history};
 ghost use Rattle.block_model.specs.Run.{IsBlockRun};
 ghost use Rattle.block_model.specs.Setting.{Setting};
+ghost use Rattle.event_facts.specs.Facts.{facts_of};
+ghost use Rattle.event_facts.specs.Telling.{plain_event_of};
 ghost use Rattle.event_facts.specs.Told.{AreWaiting, IsAsWritten};
+ghost use Rattle.event_facts.specs.Trace.{trace_of};
+ghost use Rattle.event_facts.specs.declared.telling.PlainEvent.{PlainEvent};
 
 /// After a block run the stores that are told to wait on a hart are those that wait there, in their order;
 /// and a byte of memory is as the line left it that is told to have written it last, since none has written
@@ -14,4 +19,12 @@ ghost use Rattle.event_facts.specs.Told.{AreWaiting, IsAsWritten};
 pub fn lines_are_told_rightly()
     ensures waiting { (s : Setting) (log : List Entry) (h : ℕ) → IsBlockRun s log → AreWaiting h (history s log) }
     ensures written { (s : Setting) (before : History) (a : ℕ) → IsAsWritten s before a }
+{}
+
+/// All that is told of a plain event are its facts of memory, of reservations and of registers: it is neither a
+/// fault nor a call, and neither takes requests nor lets a barrier return.
+pub fn plain_events_are_told_by_their_facts()
+    ensures { (s : Setting) (before : History) (entry : Entry) (event : PlainEvent)
+        → plain_event_of (choice_of entry) (here_in_history s before entry.hart.0) ≡ Some event
+        → trace_of s before entry ≡ facts_of s before entry }
 {}

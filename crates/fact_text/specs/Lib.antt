@@ -1,1 +1,2 @@
+pub mod CallNames
 pub mod Lines

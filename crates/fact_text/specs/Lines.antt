@@ -1,15 +1,20 @@
--- The line of a fact (own): fields, one space apart, behind two spaces. The numbers of lines, harts, sizes, lengths and registers are
--- decimal; addresses and values are 16 lower-case hexadecimal digits.
-use Rattle.std.specs.Prelude.{ℕ, List, [], ◌∷◌, ◌++◌, codes}
+-- The line of a fact (own): fields, one space apart, behind two spaces. The numbers of lines, harts, sizes, lengths, registers and signals
+-- are decimal; addresses, values and arguments are 16 lower-case hexadecimal digits.
+use Rattle.std.specs.Prelude.{ℕ, ◌==◌, List, [], ◌∷◌, ◌++◌, length, take, Bool, if◌then◌else◌, codes}
 use Rattle.std.specs.Fmt.{decimal}
 use Rattle.std.specs.List.{flat_map}
 use Rattle.mach_types.specs.declared.user_memory.Store.{Store}
+use Rattle.event_facts.specs.declared.calls.SystemCall.{SystemCall}
 use Rattle.event_facts.specs.declared.facts.Fact.{Fact}
-use Rattle.event_facts.specs.declared.facts.Fact.TheVariants.{Read, Waits, Entered, Zeroed, Reserved, Used, Failed, Ended, Lost, Register}
+use Rattle.event_facts.specs.declared.facts.Fact.TheVariants.{Read, Waits, Entered, Zeroed, Reserved, Used, Failed, Ended, Lost, Register, Faulted, RequestsTaken, BarrierReturns, Called, Answered, Refused, AnsweredLater, BarrierBegins, NoAnswer}
+use Rattle.event_facts.specs.declared.faults.FaultWhy.{FaultWhy}
+use Rattle.event_facts.specs.declared.faults.FaultWhy.TheVariants.{NotAligned, NotExecutable, NoInstruction, Breakpoint, MisalignedJump, MisalignedAccess, NotReadable, NotWritable}
 use Rattle.event_facts.specs.declared.facts.Source.{Source}
 use Rattle.event_facts.specs.declared.facts.Source.TheVariants.{Start, Memory, Waiting}
-use Rattle.place_text.specs.Fields.{behind, line, value_text}
+use Rattle.fact_text.specs.CallNames.{argument_count, call_name, errno_name}
+use Rattle.place_text.specs.Fields.{behind, harts_fields, line, value_text, yes_or_no}
 use Rattle.place_text.specs.Registers.{register_name}
+use Rattle.step_log.specs.Text.{newline, space}
 
 -- where bytes come from: `start`, `memory N` or `store N`, with the number of a line
 abbrev pub source_fields : Source → List (List ℕ)
@@ -39,7 +44,7 @@ wrote_line w old n =
 abbrev pub zeroed_line : ℕ → ℕ → List ℕ
 zeroed_line at n = line (codes "  zeroed") (value_text at ∷ decimal n ∷ [])
 
--- a word and an address
+-- a word, and an address or a value
 abbrev pub address_line : List ℕ → ℕ → List ℕ
 address_line word at = line word (value_text at ∷ [])
 
@@ -50,6 +55,50 @@ lost_line h at by = line (codes "  lost") (decimal h ∷ value_text at ∷ codes
 -- `xN NAME VALUE`
 abbrev pub changed_line : ℕ → ℕ → List ℕ
 changed_line n value = line (codes "  x" ++ decimal n) (register_name n ∷ value_text value ∷ [])
+
+-- why an instruction faults
+abbrev pub why_word : FaultWhy → List ℕ
+why_word NotAligned = codes "not-aligned"
+why_word NotExecutable = codes "not-executable"
+why_word NoInstruction = codes "no-instruction"
+why_word Breakpoint = codes "breakpoint"
+why_word MisalignedJump = codes "misaligned-jump"
+why_word MisalignedAccess = codes "misaligned-access"
+why_word NotReadable = codes "not-readable"
+why_word NotWritable = codes "not-writable"
+
+-- `fault SIGNAL WHY AT`
+abbrev pub fault_line : ℕ → FaultWhy → ℕ → List ℕ
+fault_line signal why at = line (codes "  fault") (decimal signal ∷ why_word why ∷ value_text at ∷ [])
+
+-- `taken LIST restart yes`, or `no`: the numbers of harts
+abbrev pub taken_line : ℕ → Bool → List ℕ
+taken_line harts restart = line (codes "  taken") (harts_fields harts ++ codes "restart" ∷ yes_or_no restart ∷ [])
+
+-- `barrier begins LIST`
+abbrev pub begins_line : ℕ → List ℕ
+begins_line harts = line (codes "  barrier begins") (harts_fields harts)
+
+-- a name, or where there is none a number
+abbrev pub name_or_number : List ℕ → ℕ → List ℕ
+name_or_number name n = if length name == 0 then decimal n else name
+
+-- arguments, each behind a space
+abbrev pub argument_text : ℕ → List ℕ
+argument_text a = space ∷ value_text a
+
+abbrev pub arguments_text : List ℕ → List ℕ
+arguments_text arguments = flat_map argument_text arguments
+
+-- `call NAME A0 ..`, with as many arguments as the call has; or `call NUMBER` where there is none of this number
+abbrev pub call_line : SystemCall → List ℕ
+call_line c =
+    codes "  call" ++ space ∷ name_or_number (call_name c.number) c.number
+    ++ arguments_text (take (argument_count c.number) c.arguments) ++ newline ∷ []
+
+-- `error NAME`, or `error NUMBER`
+abbrev pub error_line : ℕ → List ℕ
+error_line errno = line (codes "  error") (name_or_number (errno_name errno) errno ∷ [])
 
 -- the line of a fact
 abbrev pub fact_line : Fact → List ℕ
@@ -63,6 +112,15 @@ fact_line (Failed at) = address_line (codes "  failed") at
 fact_line (Ended at) = address_line (codes "  ended") at
 fact_line (Lost hart at by) = lost_line hart.0 at by
 fact_line (Register n value) = changed_line n value
+fact_line (Faulted signal why at) = fault_line signal why at
+fact_line (RequestsTaken harts restart) = taken_line harts restart
+fact_line BarrierReturns = codes "  barrier returns\n"
+fact_line (Called c) = call_line c
+fact_line (Answered value) = address_line (codes "  answer") value
+fact_line (Refused errno) = error_line errno
+fact_line AnsweredLater = codes "  answer later\n"
+fact_line (BarrierBegins harts) = begins_line harts
+fact_line NoAnswer = codes "  no answer\n"
 
 -- the lines of facts, in order
 unfoldable pub facts_text : List Fact → List ℕ

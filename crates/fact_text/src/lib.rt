@@ -1,6 +1,7 @@
 //! The text of facts: a line for each, behind two spaces.
 #![tactic(auto)]
 
+mod call_names;
 mod lines;
 
 pub use lines::{push_fact, push_facts};

@@ -1,13 +1,16 @@
 //! The line of a fact.
 
-ghost use Rattle.std.specs.Prelude.{◌≡◌, ◌++◌, OnOk};
+ghost use Rattle.std.specs.Prelude.{◌≡◌, ◌∷◌, ◌++◌, OnOk};
+ghost use Rattle.step_log.specs.Text.{space};
 ghost use Rattle.fact_text.specs.Lines as spec;
 ghost use Rattle.place_text.specs.Fields.{behind};
 
-use event_facts::{Fact, Source};
+use crate::call_names::{argument_count, call_name, errno_name};
+use event_facts::{Fact, FaultWhy, Source, SystemCall};
 use mach_types::{Hart, Store};
 use place_text::fields::{
-    push_decimal, push_named_number, push_named_value, push_number, push_value, push_word,
+    push_decimal, push_harts, push_named_number, push_named_value, push_number, push_value,
+    push_word, push_yes_or_no,
 };
 use place_text::register_name;
 use std::alloc::AllocError;
@@ -84,7 +87,7 @@ fn push_zeroed(text: &mut Vec<u8>, at: u64, length: u64) -> Result<(), AllocErro
     Ok(())
 }
 
-/// Appends a line of a word and an address.
+/// Appends a line of a word, and an address or a value.
 fn push_address(text: &mut Vec<u8>, word: &[u8], at: u64) -> Result<(), AllocError>
     ensures { OnOk result (text.new.items ≡ text.old.items ++ spec.address_line word.now at) }
 {
@@ -118,6 +121,100 @@ fn push_changed(text: &mut Vec<u8>, number: u8, value: u64) -> Result<(), AllocE
     Ok(())
 }
 
+/// The word of why an instruction faults.
+fn why_word(why: FaultWhy) -> &'static [u8]
+    ensures { result.now ≡ spec.why_word why }
+{
+    match why {
+        FaultWhy::NotAligned => b"not-aligned",
+        FaultWhy::NotExecutable => b"not-executable",
+        FaultWhy::NoInstruction => b"no-instruction",
+        FaultWhy::Breakpoint => b"breakpoint",
+        FaultWhy::MisalignedJump => b"misaligned-jump",
+        FaultWhy::MisalignedAccess => b"misaligned-access",
+        FaultWhy::NotReadable => b"not-readable",
+        FaultWhy::NotWritable => b"not-writable",
+    }
+}
+
+/// Appends the line of a fault.
+fn push_fault(text: &mut Vec<u8>, signal: u8, why: FaultWhy, at: u64) -> Result<(), AllocError>
+    ensures { OnOk result (text.new.items ≡ text.old.items ++ spec.fault_line signal why at) }
+{
+    text.extend_from_slice(b"  fault")?;
+    push_number(text, u64::from(signal))?;
+    push_word(text, why_word(why))?;
+    push_value(text, at)?;
+    text.push(b'\n')?;
+    Ok(())
+}
+
+/// Appends the line of requests that a hart took.
+fn push_taken(text: &mut Vec<u8>, harts: u8, restart: bool) -> Result<(), AllocError>
+    ensures { OnOk result (text.new.items ≡ text.old.items ++ spec.taken_line harts restart) }
+{
+    text.extend_from_slice(b"  taken")?;
+    push_harts(text, harts)?;
+    push_word(text, b"restart")?;
+    push_yes_or_no(text, restart)?;
+    text.push(b'\n')?;
+    Ok(())
+}
+
+/// Appends the line of a barrier that a call began.
+fn push_begins(text: &mut Vec<u8>, harts: u8) -> Result<(), AllocError>
+    ensures { OnOk result (text.new.items ≡ text.old.items ++ spec.begins_line harts) }
+{
+    text.extend_from_slice(b"  barrier begins")?;
+    push_harts(text, harts)?;
+    text.push(b'\n')?;
+    Ok(())
+}
+
+/// Appends a name behind a space, or where there is none a number.
+fn push_name_or_number(text: &mut Vec<u8>, name: &[u8], number: u64) -> Result<(), AllocError>
+    ensures { OnOk result (text.new.items
+        ≡ text.old.items ++ space ∷ spec.name_or_number name.now number) }
+{
+    if name.is_empty() {
+        push_number(text, number)
+    } else {
+        push_word(text, name)
+    }
+}
+
+/// Appends arguments, each behind a space.
+fn push_arguments(text: &mut Vec<u8>, arguments: &[u64]) -> Result<(), AllocError>
+    ensures { OnOk result (text.new.items ≡ text.old.items ++ spec.arguments_text arguments.now) }
+{
+    for argument in arguments {
+        push_value(text, *argument)?;
+    }
+    Ok(())
+}
+
+/// Appends the line of a system call.
+fn push_call(text: &mut Vec<u8>, call: &SystemCall) -> Result<(), AllocError>
+    ensures { OnOk result (text.new.items ≡ text.old.items ++ spec.call_line call.now) }
+{
+    let count = argument_count(call.number);
+    text.extend_from_slice(b"  call")?;
+    push_name_or_number(text, call_name(call.number), call.number)?;
+    push_arguments(text, &call.arguments[..usize::from(count)])?;
+    text.push(b'\n')?;
+    Ok(())
+}
+
+/// Appends the line of an error number that a call gave.
+fn push_error(text: &mut Vec<u8>, errno: u16) -> Result<(), AllocError>
+    ensures { OnOk result (text.new.items ≡ text.old.items ++ spec.error_line errno) }
+{
+    text.extend_from_slice(b"  error")?;
+    push_name_or_number(text, errno_name(errno), u64::from(errno))?;
+    text.push(b'\n')?;
+    Ok(())
+}
+
 /// Appends the line of a fact.
 pub fn push_fact(text: &mut Vec<u8>, fact: &Fact) -> Result<(), AllocError>
     ensures { OnOk result (text.new.items ≡ text.old.items ++ spec.fact_line fact.now) }
@@ -138,6 +235,15 @@ pub fn push_fact(text: &mut Vec<u8>, fact: &Fact) -> Result<(), AllocError>
         Fact::Ended { at } => push_address(text, b"  ended", at),
         Fact::Lost { hart, at, by } => push_lost(text, hart, at, by),
         Fact::Register { number, value } => push_changed(text, number, value),
+        Fact::Faulted { signal, why, at } => push_fault(text, signal, why, at),
+        Fact::RequestsTaken { harts, restart } => push_taken(text, harts, restart),
+        Fact::BarrierReturns => text.extend_from_slice(b"  barrier returns\n"),
+        Fact::Called(call) => push_call(text, &call),
+        Fact::Answered { value } => push_address(text, b"  answer", value),
+        Fact::Refused { errno } => push_error(text, errno),
+        Fact::AnsweredLater => text.extend_from_slice(b"  answer later\n"),
+        Fact::BarrierBegins { harts } => push_begins(text, harts),
+        Fact::NoAnswer => text.extend_from_slice(b"  no answer\n"),
     }
 }
 

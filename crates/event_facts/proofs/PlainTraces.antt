@@ -1,0 +1,33 @@
+-- A plain event is no fault and no call, and has nothing to do with requests of barriers.
+use Rattle.std.proofs.Common.{◌≡◌, ℕ, List, [], ap, ◌∙◌, refl, sym, Option, Some, None}
+use Rattle.std.specs.Option.{option_map, option_to_list}
+use Rattle.mach_types.specs.declared.events.Choice.{Choice}
+use Rattle.mach_types.specs.declared.events.Choice.TheVariants as asked
+use Rattle.block_model.specs.Events.Exec.{next_effect}
+use Rattle.block_model.specs.Here.{Here, runs}
+use Rattle.block_model.specs.Sights.{effect_on, fault_on}
+use Rattle.process.specs.Harts.{file_on}
+use Rattle.event_facts.specs.Faults.{fault_facts, fault_of, fault_told}
+use Rattle.event_facts.specs.Requests.{request_facts}
+use Rattle.event_facts.specs.Telling.{plain_event_of}
+use Rattle.event_facts.specs.declared.facts.Fact.{Fact}
+use Rattle.event_facts.specs.declared.telling.PlainEvent.{PlainEvent}
+use Rattle.event_facts.specs.declared.telling.PlainEvent.TheVariants.{Instruction, Drain}
+use Rattle.event_facts.proofs.PlainKinds.{drains, executes}
+
+-- the fault of the thread on a hart, by what a machine shows of it
+pub fault_there : (here : Here) (o : Option ℕ) → fault_of here o ≡ option_map (fault_told (effect_on here o) (file_on here o).pc) (fault_on here o)
+fault_there here None = refl
+fault_there here (Some t) = refl
+
+pub no_plain_fault : (c : Choice) (here : Here) (p : PlainEvent) → plain_event_of c here ≡ Some p → fault_facts c here ≡ []
+no_plain_fault c here (Instruction e) is =
+    let x = executes c here e is in
+    ap (λ k. fault_facts k here) x.choice
+    ∙ ap (λ o. option_to_list (fault_of here o)) x.on
+    ∙ ap (λ o. option_to_list (option_map (fault_told (next_effect here x.thread) (here.file x.thread).pc) o)) x.none
+no_plain_fault c here (Drain w) is = ap (λ k. fault_facts k here) (drains c here w is).choice
+
+pub no_plain_request : (c : Choice) (here : Here) (p : PlainEvent) → plain_event_of c here ≡ Some p → request_facts c here ≡ []
+no_plain_request c here (Instruction e) is = ap (λ k. request_facts k here) (executes c here e is).choice
+no_plain_request c here (Drain w) is = ap (λ k. request_facts k here) (drains c here w is).choice

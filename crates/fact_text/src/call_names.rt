@@ -1,0 +1,91 @@
+//! The names of system calls and of error numbers.
+
+ghost use Rattle.std.specs.Prelude.{◌≡◌, ◌≤◌};
+ghost use Rattle.fact_text.specs.CallNames as names;
+
+/// The name of a system call (uapi asm-generic/unistd.h); no characters where there is no call of this number.
+#[tactic(auto, unfolding(crate::specs::CallNames::call_name))]
+pub(crate) fn call_name(number: u64) -> &'static [u8]
+    ensures { result.now ≡ names.call_name number }
+{
+    match number {
+        64 => b"write",
+        66 => b"writev",
+        93 => b"exit",
+        94 => b"exit_group",
+        96 => b"set_tid_address",
+        98 => b"futex",
+        122 => b"sched_setaffinity",
+        123 => b"sched_getaffinity",
+        124 => b"sched_yield",
+        130 => b"tkill",
+        131 => b"tgkill",
+        134 => b"rt_sigaction",
+        135 => b"rt_sigprocmask",
+        139 => b"rt_sigreturn",
+        168 => b"getcpu",
+        172 => b"getpid",
+        178 => b"gettid",
+        214 => b"brk",
+        215 => b"munmap",
+        220 => b"clone",
+        222 => b"mmap",
+        226 => b"mprotect",
+        283 => b"membarrier",
+        293 => b"rseq",
+        _ => b"",
+    }
+}
+
+/// How many arguments a system call has that count here; 0 where there is no call of this number.
+#[tactic(auto, unfolding(crate::specs::CallNames::argument_count))]
+pub(crate) fn argument_count(number: u64) -> u8
+    ensures count { result ≡ names.argument_count number }
+    ensures few { result ≤ 6 }
+{
+    match number {
+        64 => 3,
+        66 => 3,
+        93 => 1,
+        94 => 1,
+        96 => 1,
+        98 => 4,
+        122 => 3,
+        123 => 3,
+        130 => 2,
+        131 => 3,
+        134 => 4,
+        135 => 4,
+        168 => 2,
+        214 => 1,
+        215 => 2,
+        220 => 5,
+        222 => 6,
+        226 => 3,
+        283 => 3,
+        293 => 4,
+        _ => 0,
+    }
+}
+
+/// The name of an error number (errno(3)); no characters where no call here gives it.
+#[tactic(auto, unfolding(crate::specs::CallNames::errno_name))]
+pub(crate) fn errno_name(errno: u16) -> &'static [u8]
+    ensures { result.now ≡ names.errno_name errno }
+{
+    match errno {
+        1 => b"EPERM",
+        3 => b"ESRCH",
+        4 => b"EINTR",
+        9 => b"EBADF",
+        11 => b"EAGAIN",
+        12 => b"ENOMEM",
+        13 => b"EACCES",
+        14 => b"EFAULT",
+        16 => b"EBUSY",
+        22 => b"EINVAL",
+        28 => b"ENOSPC",
+        38 => b"ENOSYS",
+        _ => b"",
+    }
+}
