@@ -4,8 +4,10 @@
     bench/draws.py [--runs N] [--harts N] [--steps N] [--jobs N] [--program PROGRAM] [NAME ..]
 
 Of each example `explore` makes N runs (400) by each of the five policies, those of the seeds 0 to N - 1, and 5 N runs by all in turn, on 2
-harts with 20,000 steps. A run shows the bug where it doesn't end with `exit 0`. A right program has no such run. Without names: all examples
-whose folder has a broken twin, and these twins.
+harts with 20,000 steps; and `run` makes 5 N runs, each in a process of its own. A run shows the bug where it doesn't end with `exit 0`. A
+right program has no such run. Without names: all examples whose folder has a broken twin, and these twins.
+
+What `run` shows hangs on the machine: with other work beside it its workers seldom run at once. `chrt -r 1` lets them go before it.
 """
 import argparse
 import pathlib
@@ -16,7 +18,8 @@ import time
 TOP = pathlib.Path(__file__).resolve().parent.parent
 sys.path += [str(TOP / 'tools' / name) for name in ('lens', 'sweep')]
 
-from sweep.explored import read_explored  # noqa: E402 (found by the line above)
+from lens.output import outline  # noqa: E402 (found by the line above)
+from sweep.explored import read_explored  # noqa: E402
 
 BROKEN = ('litmus peterson dekker_plain rcu_plain percpu_counter_plain percpu_list_next_outside percpu_list_commit_not_last hazard_plain '
           'deque_plain ring_wake_lost handler_add_plain').split()
@@ -45,6 +48,14 @@ def count(words, name, policy, runs):
     return sum(found.runs for found in outcomes.found if shows_bug(name, found)), limits, outcomes.others
 
 
+def count_by_workers(words, name, runs):
+    """In how many runs of workers the bug shows."""
+    file = TOP / 'examples' / name / f'{name}.elf'
+    command = [words.program, 'run', str(file), f'--harts={words.harts}', f'--steps={words.steps}']
+    texts = (subprocess.run([*command, f'--seed={seed}'], capture_output=True, check=True).stdout for seed in range(runs))
+    return sum(shows_bug(name, outline(name, text)) for text in texts)
+
+
 def row(words, name):
     start = time.time()
     counts = [count(words, name, policy, words.runs) for policy in POLICIES]
@@ -53,7 +64,8 @@ def row(words, name):
     found = [one[0] for one in counts]
     often = f'{together / found[-1]:.1f}' if found[-1] else 'none'
     limits, others = (sum(one[at] for one in counts) for at in (1, 2))
-    return [f'`{name}`', *found, often, limits, others, f'{time.time() - start:.1f}']
+    by_workers = count_by_workers(words, name, together)
+    return [f'`{name}`', *found, often, by_workers, limits, others, f'{time.time() - start:.1f}']
 
 
 def main():
@@ -65,8 +77,8 @@ def main():
     parser.add_argument('--jobs', type=int)
     parser.add_argument('--program', default=str(TOP / 'crates/rseq_run/out/rseq_run'))
     words = parser.parse_args()
-    print('| ' + ' | '.join(['example', *POLICIES, 'all', 'runs a find by all', 'met the limit', 'others', 's']) + ' |')
-    print('|---' * (len(POLICIES) + 6) + '|')
+    print('| ' + ' | '.join(['example', *POLICIES, 'all', 'runs a find by all', 'run', 'met the limit', 'others', 's']) + ' |')
+    print('|---' * (len(POLICIES) + 7) + '|')
     for name in words.names or BROKEN + RIGHT:
         print('| ' + ' | '.join(map(str, row(words, name))) + ' |', flush=True)
     return 0

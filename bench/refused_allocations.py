@@ -35,6 +35,8 @@ LINES = [
     ['gather', EXAMPLES / 'percpu_counter' / 'percpu_counter.elf', EXAMPLES / 'percpu_counter' / 'side_by_side.script'],
     ['blocks', EXAMPLES / 'percpu_counter' / 'percpu_counter.elf', EXAMPLES / 'percpu_counter' / 'preempted.script'],
     ['draw', EXAMPLES / 'peterson' / 'peterson.elf', '--seed', '2'],
+    ['explore', EXAMPLES / 'peterson' / 'peterson.elf', '--runs', '20', '--jobs', '1'],
+    ['explore', EXAMPLES / 'peterson' / 'peterson.elf', '--runs', '20', '--jobs', '2'],
     ['run', EXAMPLES / 'hello' / 'hello.elf', '--harts', '1'],
     ['solo', EXAMPLES / 'check.py'],
     ['make', 'counter', '1000'],

@@ -4,7 +4,7 @@
     examples/check.py [PROGRAM [NAME..]]
 
 PROGRAM is crates/rseq_run/out/rseq_run where it isn't given: `rt ci` leaves it there. Where names are given, those alone are run: a
-name of an example, `blocks`, or of a group of worked runs (barriers/), or of one of them (barriers/taken_by_an_idle_hart).
+name of an example, `blocks`, `headers`, or of a group of worked runs (barriers/), or of one of them (barriers/taken_by_an_idle_hart).
 
 For each example NAME:
 - `solo` prints the console of console.expected and the end of end.expected;
@@ -33,7 +33,8 @@ harts has that console too, and prints the same text at a second call. The guest
 one where its sync block makes no call.
 
 For each of BLOCKS the text of common/percpu_blocks.h, as GCC and its assembler make it with the registers of the guests, stands once, byte
-for byte, in the file that `make` prints of the guest. Where the toolchain of the Makefile lacks, this is left out, and said.
+for byte, in the file that `make` prints of the guest. The headers of common/ are compiled without a warning, all of them twice, with each
+of them first. Where the toolchain of the Makefile lacks, both are left out, and said.
 
 For each worked run crates/worked_runs/data/GROUP/NAME, each line of its file `words`, given to the program in that folder, gives its
 `status` and its `stdout` (or its `any-hart`, where that is there), or a text that begins with its `begins` and ends with its `ends`.
@@ -67,6 +68,7 @@ NO_CALL = BARRIER[:-4] + bytes.fromhex('13000000')
 BLOCKS = {'ADD': ('counter', 0x20020), 'PUSH': ('list', 0x20020), 'POP': ('list', 0x20040), 'ALLOC': ('pool', 0x20020),
           'FREE': ('pool', 0x20040)}
 CROSS = 'riscv64-unknown-elf-'
+PICOLIBC = pathlib.Path('/usr/lib/picolibc/riscv64-unknown-elf')
 BLOCK_SOURCE = '''#include "percpu_blocks.h"
 void block(void) {
     register long area asm("x8"), cells asm("x9"), value asm("x18");
@@ -506,6 +508,29 @@ def check_blocks(program, names):
     return differ
 
 
+def check_order(headers):
+    """The headers, each included twice in this order, are compiled without a warning."""
+    source = ''.join(f'#include "{header.name}"\n' for header in [*headers, *headers])
+    words = [CROSS + 'gcc', '-march=rv64ima', '-mabi=lp64', '-O2', '-std=gnu11', '-Wall', '-Wextra', f'-I{HERE}/common', '-isystem',
+             PICOLIBC / 'include', '-fsyntax-only', '-x', 'c', '-']
+    ran = subprocess.run(words, input=source.encode(), capture_output=True)
+    want('what the compiler says', ran.stdout + ran.stderr, b'')
+
+
+def check_headers(names):
+    """How many orders of the headers of common/ fail, of those with each of them first; says so where they can't be compiled."""
+    if names and 'headers' not in names:
+        return 0
+    if not shutil.which(CROSS + 'gcc') or not PICOLIBC.is_dir():
+        print(f'headers left out: there is no {CROSS}gcc with picolibc')
+        return 0
+    every = sorted((HERE / 'common').glob('*.h'))
+    orders = [every[at:] + every[:at] for at in range(len(every))]
+    failed = sum(not passes(order[0].name, [('first', lambda: check_order(order))]) for order in orders)
+    print(f'{len(orders) - failed} orders of headers passed' + (f', {failed} failed' if failed else ''))
+    return failed
+
+
 def passes(name, checks):
     """Whether the checks of an example or a guest pass; says which doesn't."""
     is_well = True
@@ -533,13 +558,13 @@ def main():
     guests = [guest for guest in GUESTS if not names or guest in names]
     broken = sum(not passes(guest, checks_of_guest(program, guest)) for guest in guests)
     print(f'{len(guests) - broken} guests passed' + (f', {broken} failed' if broken else ''))
-    changed = check_blocks(program, names)
+    changed = check_blocks(program, names) + check_headers(names)
     is_listed = are_listed()
     worked = list(rows(names))
     with ThreadPoolExecutor(os.cpu_count()) as workers:
         differ = sum(not is_well for is_well in workers.map(lambda row: row_passes(program, row), worked))
     print(f'{len(worked) - differ} worked runs passed' + (f', {differ} failed' if differ else ''))
-    some = folders or guests or worked or 'blocks' in names
+    some = folders or guests or worked or 'blocks' in names or 'headers' in names
     sys.exit(1 if failed or broken or changed or differ or not is_listed or not some or not (names or worked) else 0)
 
 

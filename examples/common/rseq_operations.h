@@ -143,3 +143,25 @@ abort:
 cmpfail:
     return 1;
 }
+
+/* Loads the address that lies so many bytes behind another, and adds to the word there: the commit. It may change t1 and t2. */
+#define RSEQ_ASM_OP_R_DEREF_ADDV(ptr, off, inc, post_commit_label) \
+    "   add     t1, %[" #ptr "], %[" #off "]\n"                    \
+    "   ld      t1, 0(t1)\n"                                       \
+    "   ld      t2, 0(t1)\n"                                       \
+    "   add     t2, t2, %[" #inc "]\n"                             \
+    "   sd      t2, 0(t1)\n" #post_commit_label ":\n"
+
+/* Adds to the word to which the word points that lies off bytes behind ptr. */
+static inline int rseq_offset_deref_addv(struct rseq *area, intptr_t *ptr, long off, intptr_t inc, int cpu) {
+    asm goto(RSEQ_ASM_BEGIN
+             RSEQ_ASM_OP_R_DEREF_ADDV(ptr, off, inc, 3)
+             RSEQ_ASM_DEFINE_ABORT(4, abort)
+             : /* asm goto has no outputs */
+             : RSEQ_OPERANDS(area, cpu), [ptr] "r"(ptr), [off] "r"(off), [inc] "r"(inc)
+             : "memory", "t1", "t2"
+             : abort);
+    return 0;
+abort:
+    return -1;
+}

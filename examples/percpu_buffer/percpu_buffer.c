@@ -13,6 +13,9 @@ static struct buffer {
     intptr_t puts, takes;
 } buffers[PROCESSORS];
 
+/* Where the takes of each buffer are counted. */
+static intptr_t *counters[PROCESSORS];
+
 static struct owner {
     struct thread thread;
     struct rseq area;
@@ -51,7 +54,7 @@ static intptr_t __attribute__((noipa)) take(struct rseq *area) {
     } while (status != 0);
     do
         cpu = rseq_cpu_start(area);
-    while (rseq_addv(area, &buffers[cpu].takes, 1, cpu) != 0);
+    while (rseq_offset_deref_addv(area, (intptr_t *)counters, cpu * sizeof *counters, 1, cpu) != 0);
     return item;
 }
 
@@ -82,6 +85,8 @@ static int used_buffers(struct buffer **used) {
 
 int main(void) {
     intptr_t sum = 0, puts = 0, left = 0, takes = 0;
+    for (int cpu = 0; cpu < PROCESSORS; cpu++)
+        counters[cpu] = &buffers[cpu].takes;
     for (int number = 0; number < THREADS; number++) {
         owners[number].first = 1 + number * ROUNDS;
         start_thread(&owners[number].thread, put_and_take, &owners[number]);

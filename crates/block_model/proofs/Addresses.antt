@@ -118,7 +118,7 @@ take_ends : (o : Outcome) → NotOpen (killed_by o)
 take_ends comes_to.Nothing = not_ended
 take_ends comes_to.Cleared = not_ended
 take_ends (comes_to.Aborted at) = not_ended
-take_ends (comes_to.Killed why) = λ is. absurd cc
+take_ends (comes_to.Killed why) = ((λ is. absurd cc), (λ is. absurd cc))
 
 -- a call is proper; so is an event that sets no file, leaves handlers and threads as they are, and ends nothing; and one that kills
 by_proper_call : (here : Here) (c : CallDone) → IsProperCall here c → IsProper here (by_call here c)
@@ -138,7 +138,7 @@ ending : (here : Here) (d : Done) (signal : ℕ) → (AllStand here → FilesSta
 ending here d signal files actions ended = record {
   files = files;
   handlers = λ stand. same_stand here.kernel.signals d.kernel.signals actions stand.handlers;
-  ended = rw ended (λ is. absurd cc);
+  ended = rw ended ((λ is. absurd cc), (λ is. absurd cc));
   live = λ sound some goes. let no : Some (Killed signal) ≡ None = sym ended ∙ goes in absurd cc;
 }
 

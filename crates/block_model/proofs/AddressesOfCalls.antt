@@ -46,7 +46,7 @@ pub record IsProperCall (here : Here) (c : CallDone) : Type 0 where
       → SomeLive c.kernel
 
 pub not_ended : NotOpen None
-not_ended is = absurd cc
+not_ended = ((λ is. absurd cc), (λ is. absurd cc))
 
 -- steps of the record that keep how many threads are live
 left_lives : (t : ℕ) (k : Kernel) → lives (left t k) ≡ lives k
@@ -138,7 +138,7 @@ module _ (here : Here) (t number : ℕ) where
 
   proper_deed : {c : CallDone} → CallDeed here t number c → IsProperCall here c
   proper_deed (Says n) = proper_going _ (λ all. (pc_past, tt)) (λ all. all.handlers) refl (omega arith)
-  proper_deed (Answers n entered k no_error step) =
+  proper_deed (Answers n entered k no_error writes step) =
       let same = lives_step step in
       proper_going _ (λ all. (pc_past, tt)) (stand_step step) refl (omega arith)
   proper_deed (Wakes n at small) =
@@ -159,15 +159,15 @@ module _ (here : Here) (t number : ℕ) where
             let rising = (kept_wake here.setting n at here.kernel sound).sound.tables.threads.rising in
             some_stay t (wake n at here.kernel).kernel.threads.live rising (omega arith);
       }
-  proper_deed (Bears entered free) =
+  proper_deed (Bears entered writes free) =
       let clears = has_flag (argument here t 0) clone_child_cleartid in
       let more = child_lives_if t (next_number here.kernel) (argument here t 4) here.kernel clears in
       proper_going _ (λ all. (pc_past, (pc_past, tt)))
       (λ all. child_stand_if t (next_number here.kernel) (argument here t 4) here.kernel clears all.handlers) refl (omega arith)
-  proper_deed (Begins targets restart others no_error) = proper_going _ (λ all. (pc_past, tt)) (λ all. all.handlers) refl (omega arith)
+  proper_deed (Begins targets restart others no_error its_number) = proper_going _ (λ all. (pc_past, tt)) (λ all. all.handlers) refl (omega arith)
   proper_deed (Resumes words is its) =
       proper_going _ (λ all. (frame_small here all.bytes (here.file t) words is, tt)) (λ all. all.handlers) refl (omega arith)
-  proper_deed (Ends entered e over) =
+  proper_deed (Ends entered e writes over) =
       record { files = λ all. tt; handlers = λ all. all.handlers; ended = over; live = λ sound some goes. absurd cc }
 
 pub proper_called : (here : Here) (t : ℕ) → IsProperCall here (called here t)

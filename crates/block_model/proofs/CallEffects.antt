@@ -21,7 +21,7 @@ use Rattle.block_model.specs.Calls.Futexes.{answered_wait, wake}
 use Rattle.block_model.specs.Calls.Memory.{taken_by}
 use Rattle.block_model.specs.Calls.Signals.{broken_wait, resumed}
 use Rattle.block_model.specs.ErrorCalls.{IsError}
-use Rattle.block_model.specs.Here.{Here, memory}
+use Rattle.block_model.specs.Here.{Here, is_writable, memory}
 use Rattle.block_model.specs.Ids.{id_of}
 use Rattle.block_model.specs.Kernel.{cleared, for_barriers, left, next_number, paged, printed, registered, restricted, signalled, unregistered, waited, woken}
 use Rattle.block_model.specs.Record.{Kernel}
@@ -33,11 +33,12 @@ use Rattle.block_model.proofs.IgnoredSignals.{AllHeeded}
 use Rattle.block_model.proofs.Pages.{IsPaged}
 use Rattle.block_model.proofs.Pcs.{StandsIn}
 use Rattle.block_model.proofs.SignalTables.{HandlersStand, KeepsThreads}
+use Rattle.block_model.proofs.WritableBytes.{AllWritable}
 mod Affinity
 mod Barriers
 mod Cloning
 mod Console
-mod Ending
+pub mod Ending
 mod Futexes
 mod Memory
 mod Numbers
@@ -60,9 +61,9 @@ pub record AllStand (here : Here) : Type 0 where
   pub handlers : HandlersStand here.kernel.signals
   pub bytes : (a : ℕ) → here.byte a < 256
 
--- not the end of a script
+-- neither the end of a script nor a process of which no thread can go on: these end a run, and no event makes them
 abbrev pub NotOpen : Option End → Type 0
-NotOpen o = o ≢ Some over.Unended
+NotOpen o = (o ≢ Some over.Unended) × (o ≢ Some over.Stuck)
 
 -- THE DEEDS
 
@@ -97,7 +98,7 @@ pub data TableStep (here : Here) (t number : ℕ) (entered : List Write) : Kerne
 -- barrier; it goes on from a frame of memory; or the process ends
 pub data CallDeed (here : Here) (t number : ℕ) : CallDone → Type 0 where
   Says : (n : ℕ) → CallDeed here t number (said here t n)
-  Answers : (n : ℕ) (entered : List Write) (k : Kernel) → IsAnswer here t n
+  Answers : (n : ℕ) (entered : List Write) (k : Kernel) → IsAnswer here t n → AllWritable (is_writable here) entered
       → TableStep here t number entered k
       → CallDeed here t number (record (said here t n) { entered = entered; kernel = k })
   Wakes : (n at : ℕ) → n < 2 ^ 32
@@ -120,7 +121,7 @@ pub data CallDeed (here : Here) (t number : ℕ) : CallDone → Type 0 where
         ended = None;
       })
   Exits : 1 < length here.kernel.threads.live → CallDeed here t number (one_exits here t)
-  Bears : (entered : List Write) → is_full here.kernel.threads ≡ false
+  Bears : (entered : List Write) → AllWritable (is_writable here) entered → is_full here.kernel.threads ≡ false
       → CallDeed here t number (record {
         files = (t, returned (next_number here.kernel) (here.file t)) ∷
             (next_number here.kernel, child_file here t) ∷ [];
@@ -132,10 +133,11 @@ pub data CallDeed (here : Here) (t number : ℕ) : CallDone → Type 0 where
   Begins : (targets : ℕ) (restart : Bool)
       → (IsGoodHere here → IsAtOthers here (record { targets = targets; restart = restart }))
       → (IsError (register (here.file t).file 10) → ⊥)
+      → number ≡ 283
       → CallDeed here t number (begins here t targets restart)
   Resumes : (words : List ℕ) → frame_read (memory here) (here.file t) ≡ Some words → number ≡ 139
       → CallDeed here t number (resumed here t (Some words))
-  Ends : (entered : List Write) (e : End) → NotOpen (Some e)
+  Ends : (entered : List Write) (e : End) → AllWritable (is_writable here) entered → NotOpen (Some e)
       → CallDeed here t number
       (record { files = []; entered = entered; kernel = here.kernel; barrier = None; ended = Some e })
 
@@ -172,11 +174,11 @@ small_no_error n small error =
     omega arith
 
 -- it answers 0
-pub answers_0 : {here : Here} {t number : ℕ} (entered : List Write) (k : Kernel)
+pub answers_0 : {here : Here} {t number : ℕ} (entered : List Write) (k : Kernel) → AllWritable (is_writable here) entered
     → TableStep here t number entered k
     → CallDeed here t number (record (said here t 0) { entered = entered; kernel = k })
-answers_0 entered k step = Answers 0 entered k (λ _. small_no_error 0 (omega arith)) step
+answers_0 entered k writes step = Answers 0 entered k (λ _. small_no_error 0 (omega arith)) writes step
 
 -- it is killed
 pub deed_killed : {here : Here} {t number : ℕ} → CallDeed here t number (killed_in_call here)
-deed_killed = Ends [] _ (λ is. absurd cc)
+deed_killed = Ends [] _ tt ((λ is. absurd cc), (λ is. absurd cc))

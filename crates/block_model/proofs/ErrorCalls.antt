@@ -99,7 +99,7 @@ module _ (here : Here) (t : ℕ) where
   tells_deed : (number : ℕ) → number ≢ 139 → AreFew here t → {c : CallDone} → CallDeed here t number c → TellsErrors here t c
   tells_deed number other few (Says n) =
       λ goes lives e. record { errno = e.errno; least = e.least; most = e.most; is = ap (said here t) (told n [] e) }
-  tells_deed number other few (Answers n entered k no_error step) = tells_answer n [] entered k (no_error few)
+  tells_deed number other few (Answers n entered k no_error writes step) = tells_answer n [] entered k (no_error few)
   tells_deed number other few (Wakes n at small) =
       let done = wake n at here.kernel in
       let most = woken_few n at here.kernel in
@@ -107,16 +107,16 @@ module _ (here : Here) (t : ℕ) where
   tells_deed number other few (Breaks u g waiting keeps stand heeds calm) =
       tells_answer 0 (broken_wait here u ∷ []) [] (woken u (signalled g here.kernel)) (small_no_error 0 (omega arith))
   tells_deed number other few (Exits more) = λ goes lives e. absurd (false≢true (sym (not_gone t (woken_at_exit here t).kernel) ∙ lives))
-  tells_deed number other few (Bears entered free) =
+  tells_deed number other few (Bears entered writes free) =
       let child = next_number here.kernel in
       let given = few.few in
       tells_answer child ((child, child_file here t) ∷ []) entered (with_new_child here t) (small_no_error child (omega arith))
-  tells_deed number other few (Begins targets restart others no_error) =
+  tells_deed number other few (Begins targets restart others no_error its_number) =
       λ goes lives e.
       let x : Saved = record (here.file t) { pc = sum_64 (here.file t).pc 4 } in
       absurd (no_error (subst IsError (ap (λ (f : Saved). register f.file 10) (own_first t x (here.file t) [])) e))
   tells_deed number other few (Resumes words is its) = absurd (other its)
-  tells_deed number other few (Ends entered e over) = λ goes lives error. let no : None ≡ Some e = sym goes in absurd cc
+  tells_deed number other few (Ends entered e writes over) = λ goes lives error. let no : None ≡ Some e = sym goes in absurd cc
 
 -- where few numbers were given, also to its thread
 pub tells_errors : (here : Here) (t : ℕ) → t < 2 ^ 32 → here.kernel.threads.given < 2 ^ 31 → call_number here t ≢ 139 → TellsErrors here t (called here t)

@@ -102,20 +102,20 @@ module _ (here : Here) (tid u : ℕ) where
     step_called : {number : ℕ} {c : CallDone} → CallDeed here t number c
         → Is kind.Exec (file_among c.files u (here.file u))
     step_called (Says n) = only_own _
-    step_called (Answers n entered k no_error step) = only_own _
+    step_called (Answers n entered k no_error writes step) = only_own _
     step_called (Wakes n at small) =
         either kind.Exec t _ _ (own _) (woken kind.Exec (wake n at here.kernel).threads)
     step_called (Breaks v g waiting keeps stand heeds calm) =
         either kind.Exec t _ _ (own _)
         (either kind.Exec v _ (here.file u) (answered kind.Exec v (negative EINTR.0)) FileStays)
     step_called (Exits more) = woken kind.Exec (woken_at_exit here t).threads
-    step_called (Bears entered free) =
+    step_called (Bears entered writes free) =
         either kind.Exec t _ _ (own _)
         (either kind.Exec (next_number here.kernel) (child_file here t) (here.file u)
         (λ same. AtBirth (child_file here t) refl same) FileStays)
-    step_called (Begins targets restart others no_error) = only_own _
+    step_called (Begins targets restart others no_error its_number) = only_own _
     step_called (Resumes words is its) = only_own _
-    step_called (Ends entered x over) = FileStays
+    step_called (Ends entered x writes over) = FileStays
 
   -- EVENTS
 

@@ -1,6 +1,6 @@
 -- At each place of a run the fixed rule of `solo` has a choice where the machine has one hart, and its choice is made.
 use Rattle.std.proofs.Common.{◌≡◌, ◌≢◌, ℕ, ◌<◌, ◌+◌, ◌&&◌, ◌||◌, List, [], ◌∷◌, length, find, refl, sym, ap, ◌∙◌, subst, arith, Bool, true, false, not, cond, eqb, ltb, zero, suc, Option, Some, None, Ok, is_none, is_some}
-use Rattle.std.proofs.lemmas.Bool.{eqb-true, false≢true, le-leb, lt-ltb}
+use Rattle.std.proofs.lemmas.Bool.{and_right, eqb-true, false≢true, le-leb, lt-ltb}
 use Rattle.std.specs.List.{list_any}
 use Rattle.std.proofs.lemmas.Map.Keys.{sorted_from_strictly_increasing}
 use Rattle.std.specs.Option.{option_map, option_map_or, option_or}
@@ -156,15 +156,11 @@ call_goes : (call held : Bool) → held ≡ false → cond (call && held) (Some 
 call_goes true held is = rw is refl
 call_goes false held is = refl
 
-and_false : (a b : Bool) → b ≡ false → (a && b) ≡ false
-and_false true b is = is
-and_false false b is = refl
-
 pub allowed_where_none_waits : (here : Here) (t : ℕ) → here.awaits ≡ None → waiting_here here ≡ []
     → ((k : ℕ) → k < here.setting.limits.harts → here.waiting k ≡ []) → refusal_exec_by here (Some t) ≡ None
 allowed_where_none_waits here t free own none =
     let held : is_held here t ≡ false =
-    and_false (not (is_inside_here here t)) _ (none_lies here.beside (taken_by (call_number here t) here t) here.waiting here.setting.limits.harts none) in
+    and_right (not (is_inside_here here t)) _ (none_lies here.beside (taken_by (call_number here t) here t) here.waiting here.setting.limits.harts none) in
     let o = next_effect here t in
     let faults = is_some (next_fault here t) in
     let gate : instruction_gate (length (waiting_here here)) o faults ≡ None = ap (λ (ws : List Store). instruction_gate (length ws) o faults) own in

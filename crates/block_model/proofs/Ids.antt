@@ -3,7 +3,7 @@
 use Rattle.std.proofs.Common.{ℕ, zero, suc, ◌+◌, ◌<◌, ◌≤◌, ◌≡◌, ◌≢◌, ◌&&◌, ◌||◌, Bool, true, false, not, cond, eqb, ltb, List, [], ◌∷◌, ◌++◌, length, map, filter, find, Option, Some, None, is_some, refl, sym, ap, ◌∙◌, subst, inl, inr, arith}
 use Rattle.std.specs.List.{list_any}
 use Rattle.std.specs.Option.{option_map, option_map_or}
-use Rattle.std.proofs.lemmas.Bool.{cases_lt, eqb-true, false≢true, lt-ltb}
+use Rattle.std.proofs.lemmas.Bool.{cases_lt, eqb-true, false≢true, lt-ltb, not-false, not-true, or_parts}
 use Rattle.std.proofs.lemmas.Bool.Decides.{eqb_tells}
 use Rattle.std.proofs.lemmas.List.{length-map, map_push}
 use Rattle.std.proofs.lemmas.List.Elements.{All-append, All-filter, All-from_recursion}
@@ -142,14 +142,10 @@ has_all n xs all =
 
 -- WHICH IDS ARE HELD
 
-any_parts : (a b : Bool) → (a || b) ≡ false → (a ≡ false) × (b ≡ false)
-any_parts true b is = absurd (false≢true (sym is))
-any_parts false b is = (refl, is)
-
 not_taken : (n : ℕ) (ids : List (ℕ × ℕ)) → is_taken ids n ≡ false → times n (held ids) ≡ 0
 not_taken n [] is = refl
 not_taken n (x ∷ ids) is =
-    let both = any_parts (eqb x.1 n) (is_taken ids n) is in
+    let both = or_parts (eqb x.1 n) (is_taken ids n) is in
     let none = ap once both.0 in
     let rest = not_taken n ids both.1 in
     let split = times_cons n x.1 (held ids) in
@@ -190,14 +186,6 @@ scan : (f : ℕ → Bool) (first n : ℕ) → Scanned f first n (find f (span fi
 scan f first zero = λ k low high. absurd (omega arith)
 scan f first (suc n) = scan_step f first n (find f (span (first + 1) n)) (scan f (first + 1) n) (f first) refl
 
-not_true : (b : Bool) → not b ≡ true → b ≡ false
-not_true true is = absurd (false≢true is)
-not_true false is = refl
-
-not_false : (b : Bool) → not b ≡ false → b ≡ true
-not_false true is = refl
-not_false false is = absurd (false≢true (sym is))
-
 and_left : (a b : Bool) → b ≡ true → a && b ≡ a
 and_left true b is = is
 and_left false b is = refl
@@ -216,13 +204,13 @@ module _ (ids : List (ℕ × ℕ)) where
 
   next_of : (o : Option ℕ) → Scanned is_free 0 8 o → length ids < 8 → IsLeastFree ids (unwrap_or o 0)
   next_of None none few =
-      let many = all_taken 8 (λ m lt. sym (in_set m lt) ∙ not_false (has_hart (held_ids ids) m) (none m (omega arith) lt)) in
+      let many = all_taken 8 (λ m lt. sym (in_set m lt) ∙ not-false (has_hart (held_ids ids) m) (none m (omega arith) lt)) in
       absurd (omega arith)
   next_of (Some n) found few =
       let low = found.1 in
       record {
-        free = sym (in_set n low) ∙ not_true (has_hart (held_ids ids) n) found.0;
-        least = λ m lt. sym (in_set m (omega arith)) ∙ not_false (has_hart (held_ids ids) m) (found.2 m (omega arith) lt);
+        free = sym (in_set n low) ∙ not-true (has_hart (held_ids ids) n) found.0;
+        least = λ m lt. sym (in_set m (omega arith)) ∙ not-false (has_hart (held_ids ids) m) (found.2 m (omega arith) lt);
       }
 
   pub next_is : length ids < 8 → IsLeastFree ids (next_id ids)
@@ -488,7 +476,7 @@ same_holder (x ∷ ids) t u apart p q same =
 found_last : (t : ℕ) (ids : List (ℕ × ℕ)) (y : ℕ × ℕ) → list_any (is_id_of t) ids ≡ false → eqb y.0 t ≡ true → id_of t (ids ++ y ∷ []) ≡ y.1
 found_last t [] y none is = ap (λ b. option_map_or (λ (pair : ℕ × ℕ). pair.1) (cond b (Some y) None) 0) is
 found_last t (x ∷ ids) y none is =
-    let both = any_parts (eqb x.0 t) (list_any (is_id_of t) ids) none in
+    let both = or_parts (eqb x.0 t) (list_any (is_id_of t) ids) none in
     ap (λ b. option_map_or (λ (pair : ℕ × ℕ). pair.1) (cond b (Some x) (find (is_id_of t) (ids ++ y ∷ []))) 0) both.0
     ∙ found_last t ids y both.1 is
 

@@ -53,10 +53,10 @@ module _ (here : Here) (t number : ℕ) where
   ids_step step = inl refl
 
   ids_deed : {c : CallDone} → CallDeed here t number c → HasLostOne t here.kernel.ids c.kernel.ids
-  ids_deed (Answers n entered k no_error step) = ids_step step
+  ids_deed (Answers n entered k no_error writes step) = ids_step step
   ids_deed (Wakes n at small) = inl (ids_woken n at here.kernel)
   ids_deed (Exits more) = inr (ap (without_id t) (ids_woken (cond (clears here t) 1 0) (clear_of t here.kernel.threads) here.kernel))
-  ids_deed (Bears entered free) =
+  ids_deed (Bears entered writes free) =
       let child = had_child t here.kernel in
       inl (either_kept (has_flag (argument here t 0) clone_child_cleartid) (cleared (next_number here.kernel) (argument here t 4) child) child _ refl refl)
   ids_deed deed = inl refl

@@ -4,7 +4,7 @@ use Rattle.std.specs.Int.{w8}
 use Rattle.std.specs.Int.Bits.{bit_or}
 use Rattle.std.specs.List.{list_any}
 use Rattle.std.specs.Option.{option_map_or}
-use Rattle.std.proofs.lemmas.Bool.{cases_lt, eqb-true, false≢true, lt-ltb}
+use Rattle.std.proofs.lemmas.Bool.{cases_lt, eqb-true, false≢true, lt-ltb, or_right}
 use Rattle.std.proofs.lemmas.Bool.Decides.{eqb_tells}
 use Rattle.std.proofs.lemmas.Nat.Bits.{bit_at_set_other, bit_at_set_same}
 use Rattle.mach_types.proofs.Laws.{eqb_same, has_hart-harts_that, times_cons}
@@ -15,10 +15,6 @@ use Rattle.block_model.specs.Tables.{IsTables}
 use Rattle.block_model.proofs.Ids.{first_id, holder_there, holders, in_set, is_run, its_run, once_most, run_state}
 use Rattle.block_model.proofs.KernelCalls.{any_from_times}
 use Rattle.block_model.proofs.KernelTables.{any_of, once, running_is, running_there}
-
-or_right : (a b : Bool) → b ≡ true → (a || b) ≡ true
-or_right true b is = refl
-or_right false b is = is
 
 -- WHO HOLDS AN ID
 

@@ -3,7 +3,7 @@ use Rattle.std.proofs.Common.{◌≡◌, ◌≢◌, ℕ, zero, suc, ◌-◌, ◌
 use Rattle.std.specs.Int.{bit_at}
 use Rattle.std.specs.List.{AllByRecursion}
 use Rattle.std.specs.Option.{option_map_or}
-use Rattle.std.proofs.lemmas.Bool.{cases_eq, false≢true}
+use Rattle.std.proofs.lemmas.Bool.{cases_eq, false≢true, or_cases}
 use Rattle.std.proofs.lemmas.Bool.Decides.{nat_tests}
 use Rattle.std.proofs.lemmas.List.{get_or-set_other}
 use Rattle.std.proofs.lemmas.Nat.Bits.{bit_at-lt, bit_at-pow_other, bit_at-pow_same, bit_at_and, bit_at_not, bit_at_or}
@@ -80,10 +80,6 @@ none_heeded actions u from below has = absurd (false≢true (sym (nothing_has u)
 less_heeded : (actions : List Action) (p s : ℕ) → Heeds actions p → Heeds actions (less p (only s))
 less_heeded actions p s all u from below has = all u from below (less_before p s u has)
 
-or_true : (b c : Bool) → (b || c) ≡ true → (b ≡ true) ⊎ (c ≡ true)
-or_true true c is = inl refl
-or_true false c is = inr is
-
 only_at : (s u : ℕ) → has_signal (only s) u ≡ true → u - 1 ≡ s - 1
 only_at s u has = elim (cases_eq (u - 1) (s - 1)) [
   | inl same ↦ same
@@ -93,7 +89,7 @@ only_at s u has = elim (cases_eq (u - 1) (s - 1)) [
 more_heeded : (actions : List Action) (p s : ℕ) → is_ignored s (get_or actions (s - 1) default_action) ≡ false → Heeds actions p
     → Heeds actions (joined p (only s))
 more_heeded actions p s heeded all u from below has =
-    elim (or_true (has_signal p u) (has_signal (only s) u) (sym (joined_has p (only s) u) ∙ has)) [
+    elim (or_cases (has_signal p u) (has_signal (only s) u) (sym (joined_has p (only s) u) ∙ has)) [
       | inl old ↦ all u from below old
       | inr new ↦
           let same = only_at s u new in

@@ -37,14 +37,14 @@ module _ (here : Here) (t number : ℕ) (all : AllHeeded here.kernel.signals) wh
   heeded_step step = all
 
   heeded_deed : {c : CallDone} → CallDeed here t number c → AllHeeded c.kernel.signals
-  heeded_deed (Answers n entered k no_error step) = heeded_step step
+  heeded_deed (Answers n entered k no_error writes step) = heeded_step step
   heeded_deed (Wakes n at small) = heeded_wake n at here.kernel all
   heeded_deed (Breaks u g waiting keeps stand heeds calm) = heeds all
   heeded_deed (Exits more) =
       let n : ℕ = cond (clears here t) 1 0 in
       let at = clear_of t here.kernel.threads in
       heeded_gone t (wake n at here.kernel).kernel.signals (heeded_wake n at here.kernel all)
-  heeded_deed (Bears entered free) =
+  heeded_deed (Bears entered writes free) =
       heeded_if (next_number here.kernel) (argument here t 4) (had_child t here.kernel) (has_flag (argument here t 0) clone_child_cleartid)
       (heeded_child t (next_number here.kernel) here.kernel.signals all)
   heeded_deed (Resumes words is its) = heeded_returned t (Some words) here.kernel.signals all

@@ -1,6 +1,6 @@
 -- What an interruption comes to, and that it leaves the pointer of the thread's area 0 (rseq(2)).
 use Rattle.std.proofs.Common.{◌≡◌, ℕ, ◌+◌, ◌-◌, ◌/◌, ◌%◌, ◌^◌, ◌*◌, ◌<◌, ◌≤◌, ◌&&◌, ◌⊎◌, inl, inr, List, [], ◌∷◌, ◌++◌, drop, length, take, refl, sym, ap, ◌∙◌, arith, Bool, true, false, if◌then◌else◌, cond, leb, ltb, Option, Some, None, is_some, length-append, subst, not, Any}
-use Rattle.std.proofs.lemmas.Bool.{false≢true, ltb-false}
+use Rattle.std.proofs.lemmas.Bool.{and_right, false≢true, ltb-false}
 use Rattle.std.proofs.lemmas.List.{length-take}
 use Rattle.std.proofs.lemmas.Bool.Decides.{nat_tests}
 use Rattle.mach_types.proofs.Laws.{each_byte-same, word_at-read}
@@ -36,14 +36,10 @@ use Rattle.block_model.specs.Sequences.{area_here, can_write_words, interruption
 pub below_store : (w : Store) (a below : ℕ) → a < w.at → byte_over w a below ≡ below
 below_store w a below low = let isnt : leb w.at a ≡ false = grind (arith, nat_tests) in ap (λ b. cond (b && ltb a (w.at + w.size)) (byte_of w.value (a - w.at)) below) isnt
 
-and_false : (b c : Bool) → c ≡ false → b && c ≡ false
-and_false true c isnt = isnt
-and_false false c isnt = refl
-
 pub past_store : (w : Store) (a below : ℕ) → w.at + w.size ≤ a → byte_over w a below ≡ below
 past_store w a below high =
     let isnt : ltb a (w.at + w.size) ≡ false = grind (arith, nat_tests) in
-    ap (λ b. cond b (byte_of w.value (a - w.at)) below) (and_false (leb w.at a) (ltb a (w.at + w.size)) isnt)
+    ap (λ b. cond b (byte_of w.value (a - w.at)) below) (and_right (leb w.at a) (ltb a (w.at + w.size)) isnt)
 
 abbrev word_at_place : ℕ → ℕ → Store
 word_at_place at value = record { at = at; size = 4; value = value }
@@ -90,7 +86,7 @@ words_beside at (w ∷ ws) a below (inr high) =
     ∙ words_beside (at + 8) ws a below (inr (omega arith))
 
 -- a frame has no more words than are known of it
-few_words : (saved : Saved) (mask : ℕ) → 8 * length (frame_words saved mask) ≤ SIGNAL_FRAME_SIZE
+pub few_words : (saved : Saved) (mask : ℕ) → 8 * length (frame_words saved mask) ≤ SIGNAL_FRAME_SIZE
 few_words saved mask =
     let taken = length-take 31 (drop 1 saved.file.x) in
     let both = length-append (take 31 (drop 1 saved.file.x)) (mask ∷ 0 ∷ []) in

@@ -19,7 +19,7 @@ use Rattle.block_model.specs.Setting.{Setting, Seen, setting_of}
 use Rattle.block_model.specs.Stands.{stand_of}
 use Rattle.mach_types.specs.Kernel.Scheduling.{Scheduling}
 use Rattle.mach_types.specs.Kernel.Threads.{Threads, is_ready, running_on, with_state}
-use Rattle.block_model.specs.Ids.{AreIdsApart, IsLeastFree, held_ids, is_taken, next_id}
+use Rattle.block_model.specs.Ids.{AreIdsApart, is_taken}
 use Rattle.block_model.specs.Tables.{AreOfLive, AreSignalsOfLive, IsHeld, IsTables, on}
 use Rattle.block_model.specs.Here.{Here, Done, runs}
 use Rattle.block_model.specs.Events.Run.{refusal_run}
@@ -46,9 +46,7 @@ use Rattle.block_model.proofs.KernelTables as tables_laws
 use Rattle.block_model.proofs.RunEnds as ends
 use Rattle.block_model.proofs.Entries as entries
 use Rattle.block_model.proofs.PlaceInvariant.{good_here}
-use Rattle.block_model.proofs.Ids as ids
 use Rattle.block_model.proofs.IdsOfRuns as run_ids
-use Rattle.block_model.proofs.IdsOnHarts as on_harts
 use Rattle.block_model.proofs.Images as one_image
 use Rattle.block_model.proofs.PlainMachine as plain_runs
 use Rattle.block_model.proofs.Replay as replay
@@ -59,12 +57,16 @@ pub use Rattle.block_model.proofs.TablesOfCalls.{IsAgreed, agreed_called}
 pub use Rattle.block_model.proofs.Barriers.Requests.{IsAwaited, IsAwaitedBy, alone_awaits, alone_requests, asked_below}
 pub use Rattle.block_model.proofs.Barriers.Events.{IsAtOthers, IsBegun, IsFitBarriers, IsStill}
 pub use Rattle.block_model.proofs.Images.{HaveBytes, image_bytes}
+pub use Rattle.block_model.proofs.CallEffects.EachCall.{called_begins_none}
 pub use Rattle.block_model.proofs.Choosing.{no_call_held, none_of_both, some_hart_goes_on}
 pub use Rattle.block_model.proofs.EventEffects.{IsNext as IsNextInstruction}
 pub use Rattle.block_model.proofs.FileSteps.{Aborts, Answered, AtBirth, AtHandler, AtRun, AtTake, ByCall, ByInstruction}
 pub use Rattle.block_model.proofs.FileSteps.{FileStays, FileStep, IsInterrupted, file_step}
 pub use Rattle.block_model.specs.Standing.{IsGoodHere, IsSound, IsStanding, MayEnter}
 pub use Rattle.block_model.proofs.PlaceInvariant.{IsFit, IsGood}
+pub use Rattle.block_model.proofs.RunEnds.{ends_by_process}
+pub use Rattle.block_model.proofs.KernelWrites.{call_writes, event_writes}
+pub use Rattle.block_model.proofs.WritableBytes.{AllWritable, IsWritable, first_writable, none_passes}
 pub use Rattle.block_model.proofs.HartSets.{harts_fit, same_sets, some_hart, with_hart-fits, with_hart-itself, with_hart-or, with_hart-other, without_hart-and, without_hart-fits, without_hart-has, without_hart-itself, without_hart-other}
 pub use Rattle.block_model.proofs.KernelCalls.{as_many_held, child_not_held, child_same, ended_idle, order_has, tables_allowed, tables_child, tables_ended, tables_waited, tables_woken, waited_idle, woken_same}
 pub use Rattle.block_model.proofs.IdsOnHarts.{IsHeldOnHart, has_hart-set, is_held_below, is_held_by}

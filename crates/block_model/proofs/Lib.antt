@@ -26,6 +26,7 @@ mod Interruptions
 mod Invariants
 mod KernelCalls
 mod KernelTables
+mod KernelWrites
 mod LawExamples
 pub mod Laws
 mod MemoryExamples
@@ -67,3 +68,4 @@ mod Whole
 mod WholeCauses
 mod WholeEvents
 mod WholeVerdicts
+mod WritableBytes

@@ -193,7 +193,7 @@ module _ (here : Here) (t : ℕ) (good : IsGoodHere here) (at : runs here ≡ So
 
   aside_deed : (number : ℕ) {c : CallDone} → CallDeed here t number c → IsAside here t c
   aside_deed number (Says n) = aside_wrote here t good at n []
-  aside_deed number (Answers n entered k no_error step) = aside_own here t good at n entered k (beside_step here t number step)
+  aside_deed number (Answers n entered k no_error writes step) = aside_own here t good at n entered k (beside_step here t number step)
   aside_deed number (Wakes n p small) =
       let done = wake n p here.kernel in
       record {
@@ -218,7 +218,7 @@ module _ (here : Here) (t : ℕ) (good : IsGoodHere here) (at : runs here ≡ So
         files = λ u f ready. answered_beside here n address u f here.kernel ready;
         beside = beside_after t here.kernel then (gone t then) (beside_wake t n address here.kernel) (beside_gone t then);
       }
-  aside_deed number (Bears entered free) =
+  aside_deed number (Bears entered writes free) =
       let child = next_number here.kernel in
       record {
         files = λ u f ready.
@@ -226,11 +226,11 @@ module _ (here : Here) (t : ℕ) (good : IsGoodHere here) (at : runs here ≡ So
             ∙ ap (λ b. cond b (child_file here t) f) (ne_eqb child u (ready_not_next u here.kernel.threads good.kernel.tables.threads ready));
         beside = aside_child;
       }
-  aside_deed number (Begins targets restart others no_error) =
+  aside_deed number (Begins targets restart others no_error its_number) =
       record { files = λ u f ready. past_own (record (here.file t) { pc = sum_64 (here.file t).pc 4 }) [] u f ready; beside = beside_same t here.kernel }
   aside_deed number (Resumes words is its) =
       record { files = λ u f ready. past_own (frame.restored words) [] u f ready; beside = beside_signalled t _ here.kernel }
-  aside_deed number (Ends entered e over) = aside_none here t good at _ refl refl
+  aside_deed number (Ends entered e writes over) = aside_none here t good at _ refl refl
 
   pub aside_called : IsAside here t (called here t)
   aside_called = aside_deed _ (deed_called here t)

@@ -72,13 +72,13 @@ module _ (here : Here) (t number : ℕ) where
   area_step step = area_kept refl
 
   area_called : {c : CallDone} → CallDeed here t number c → IsAreaCalled here t c.entered c.kernel
-  area_called (Answers n entered k no_error step) = area_step step
+  area_called (Answers n entered k no_error writes step) = area_step step
   area_called (Wakes n at small) = area_kept (ap (area_of t) (areas_woken n at here.kernel))
   area_called (Exits more) =
       let n : ℕ = cond (clears here t) 1 0 in
       area_gone (area_of-without_area_same t
       (wake n (clear_of t here.kernel.threads) here.kernel).kernel.areas)
-  area_called (Bears entered free) =
+  area_called (Bears entered writes free) =
       let asked = has_flag (argument here t 0) clone_child_cleartid in
       let child = had_child t here.kernel in
       area_kept (ap (area_of t) (areas_cleared asked (next_number here.kernel) (argument here t 4) child))
@@ -110,7 +110,7 @@ module _ (here : Here) (t number : ℕ) (good : IsGoodHere here) (at : runs here
   runs_step step = inl refl
 
   runs_called : {c : CallDone} → CallDeed here t number c → StaysOrLeaves h now c.kernel
-  runs_called (Answers n entered k no_error step) = runs_step step
+  runs_called (Answers n entered k no_error writes step) = runs_step step
   runs_called (Wakes n p small) = inl ((kept_wake here.setting n p now good.kernel).running h)
   runs_called (Breaks u g waiting keeps stand heeds calm) =
       let kept = kept_signalled here.setting g now good.kernel keeps in
@@ -121,7 +121,7 @@ module _ (here : Here) (t number : ℕ) (good : IsGoodHere here) (at : runs here
       let then = (wake n address now).kernel in
       let kept = kept_wake here.setting n address now good.kernel in
       inr (ended_idle harts h t then.threads then.scheduling kept.sound.tables (kept.running h ∙ at))
-  runs_called (Bears entered free) =
+  runs_called (Bears entered writes free) =
       let sound = sound_child here.setting h t now good.kernel at free in
       inl ((kept_child here t sound).running h ∙ running_child here.setting h t now good.kernel at free h)
   runs_called deed = inl refl

@@ -1,7 +1,7 @@
 -- What holds of the pages at each place of a run, and that brk(2), mmap(2), munmap(2) and mprotect(2) keep it: code stays, no page above the
 -- break is mapped below mappings, and each frame is counted. Where mmap(2) puts a mapping, and which pages are in a run.
 use Rattle.std.proofs.Common.{◌≡◌, ℕ, ◌+◌, ◌-◌, ◌*◌, ◌<◌, ◌≤◌, inl, inr, refl, sym, arith, Bool, true, false, cond, eqb, leb, ltb, Option, Some, None, Result, Ok, Err, zero, suc, ◌/◌, ◌⊎◌, ◌∷◌, ap, ◌∙◌, ◌&&◌, is_some, ◌%◌, List, not, is_none}
-use Rattle.std.proofs.lemmas.Bool.{and_parts, cases_lt, false≢true, leb-true, le-ltb, lt-leb, le-leb, lt-ltb, eqb-true, leb-false, ltb-false}
+use Rattle.std.proofs.lemmas.Bool.{and_parts, cases_lt, eqb-true, false≢true, le-leb, le-ltb, leb-false, leb-true, lt-leb, lt-ltb, ltb-false, not-false, not-true}
 use Rattle.mach_types.proofs.Laws.{first_page-some, count_pages-more, count_pages-none, each_page-at}
 use Rattle.mach_types.specs.declared.address_space.TheConstants.{FIRST_MAPPING_PAGE, FIRST_STACK_PAGE, PAGE_SIZE, MAPPING_START, USER_END}
 use Rattle.mach_types.specs.declared.errors.Errno.{Errno}
@@ -205,19 +205,11 @@ not_refused : (b : Bool) (e : Errno) (o : Option Errno) → cond b (Some e) o �
 not_refused true e o is = cc
 not_refused false e o is = (refl, is)
 
-not_false : (b : Bool) → not b ≡ false → b ≡ true
-not_false true is = refl
-not_false false is = cc
-
-not_true : (b : Bool) → not b ≡ true → b ≡ false
-not_true true is = cc
-not_true false is = refl
-
 -- none of so many pages has code
 bare_pages : (permission : ℕ → Option ℕ) (first count : ℕ) → is_without_code permission first count ≡ true
     → (n : ℕ) → first ≤ n → n < first + count → can_execute (permission n) ≡ false
 bare_pages permission first count is n low high =
-    not_true (can_execute (permission n)) (each_page-at (λ m. not (can_execute (permission m))) first count is n low high)
+    not-true (can_execute (permission n)) (each_page-at (λ m. not (can_execute (permission m))) first count is n low high)
 
 -- a page is within a run, or its permission stays
 over_by : (r : PageRun) (rs : List PageRun) (n : ℕ) (b : Bool) → is_in r n ≡ b
@@ -255,10 +247,10 @@ paged_munmap s p at len free is =
     let two = not_refused (eqb len 0) EINVAL _ one.1 in
     let three = not_refused (ltb USER_END (at + len)) EINVAL _ two.1 in
     let four = not_refused (not (is_without_code (permission_of p.runs) (at / 4096) (pages_of len))) EACCES _ three.1 in
-    let aligned = eqb-true (at % 4096) 0 (not_false (eqb (at % 4096) 0) one.0) in
+    let aligned = eqb-true (at % 4096) 0 (not-false (eqb (at % 4096) 0) one.0) in
     let ends = ltb-false USER_END (at + len) three.0 in
     paged_removed s p is (at / 4096) (pages_of len) (omega (arith, aligned, ends))
-    (bare_pages (permission_of p.runs) (at / 4096) (pages_of len) (not_false (is_without_code (permission_of p.runs) (at / 4096) (pages_of len)) four.0))
+    (bare_pages (permission_of p.runs) (at / 4096) (pages_of len) (not-false (is_without_code (permission_of p.runs) (at / 4096) (pages_of len)) four.0))
 
 -- pages that get a permission without code: they were mapped, or none was and a frame is free for each
 module _ (s : Setting) (p : Pages) (is : IsPaged s p) (first count permission : ℕ) (bare : can_execute (Some permission) ≡ false) where
@@ -312,15 +304,15 @@ protected_by s p at len prot false some aligned free is =
     let five = not_refused (not (is_without_code (permission_of p.runs) (at / 4096) (pages_of len))) EACCES _ four.1 in
     let ends = ltb-false USER_END (at + len) three.0 in
     paged_kept s p is (at / 4096) (pages_of len) (permission_for prot) (no_code prot)
-    (λ n low high. each_page-at (λ m. is_some (permission_of p.runs m)) (at / 4096) (pages_of len) (not_false (is_mapped (permission_of p.runs) (at / 4096) (pages_of len)) four.0) n low high)
-    (bare_pages (permission_of p.runs) (at / 4096) (pages_of len) (not_false (is_without_code (permission_of p.runs) (at / 4096) (pages_of len)) five.0))
+    (λ n low high. each_page-at (λ m. is_some (permission_of p.runs m)) (at / 4096) (pages_of len) (not-false (is_mapped (permission_of p.runs) (at / 4096) (pages_of len)) four.0) n low high)
+    (bare_pages (permission_of p.runs) (at / 4096) (pages_of len) (not-false (is_without_code (permission_of p.runs) (at / 4096) (pages_of len)) five.0))
     (inr (omega (arith, aligned, ends)))
 
 pub paged_mprotect : (s : Setting) (p : Pages) (at len prot : ℕ) → mprotect_refusal (permission_of p.runs) at len prot ≡ None
     → IsPaged s p → IsPaged s (protected at len prot p)
 paged_mprotect s p at len prot free is =
     let one = not_refused (not (eqb (at % 4096) 0)) EINVAL _ free in
-    protected_by s p at len prot (eqb len 0) refl (eqb-true (at % 4096) 0 (not_false (eqb (at % 4096) 0) one.0)) one.1 is
+    protected_by s p at len prot (eqb len 0) refl (eqb-true (at % 4096) 0 (not-false (eqb (at % 4096) 0) one.0)) one.1 is
 
 -- mmap(2)
 room_by : (b : Bool) (e : Errno) (x : Result ℕ Errno) (at : ℕ) → cond b (Err e) x ≡ Ok at → (b ≡ false) × (x ≡ Ok at)

@@ -9,7 +9,7 @@ use Rattle.mach_types.specs.declared.user_memory.TheConstants.{STORE_BUFFER_CAPA
 use Rattle.mach_types.specs.declared.threads.Saved.{Saved}
 use Rattle.block_model.specs.Setting.{Setting}
 use Rattle.block_model.specs.History.{file_among}
-use Rattle.block_model.specs.Here.{Here, Done, runs, waiting_here}
+use Rattle.block_model.specs.Here.{Here, Done, waiting_here}
 use Rattle.block_model.specs.Plain.{Plain, here_in_plain, apply}
 use Rattle.block_model.specs.Requests.{awaits_of_own, without_hart}
 use Rattle.block_model.proofs.Barriers.Requests.{IsAwaited}
@@ -54,7 +54,7 @@ pub fit_either : (here : Here) (b : Bool) (x y : Done) → IsFit here x → IsFi
 fit_either here true x y p q = p
 fit_either here false x y p q = q
 
-all_append : (P : Store → Type 0) (xs ys : List Store) → AllByRecursion P xs → AllByRecursion P ys → AllByRecursion P (xs ++ ys)
+pub all_append : {A : Type 0} (P : A → Type 0) (xs ys : List A) → AllByRecursion P xs → AllByRecursion P ys → AllByRecursion P (xs ++ ys)
 all_append P [] ys p q = q
 all_append P (x ∷ xs) ys p q = (p.0, all_append P xs ys p.1 q)
 

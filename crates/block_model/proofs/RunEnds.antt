@@ -2,11 +2,12 @@
 -- on, where it has room, and how it ends.
 use Rattle.std.proofs.Common.{◌≡◌, ◌≢◌, refl, ◌≤◌, List, [], ◌∷◌, length, sym, arith, subst, Option, Some, None, ℕ, ◌<◌, ap, ◌∙◌, Bool, true, false, cond, Err, leb}
 use Rattle.std.specs.Option.{option_or}
-use Rattle.mach_types.specs.Events.{choice_of}
+use Rattle.mach_types.specs.Events.{choice_of, choice_with}
 use Rattle.mach_types.specs.declared.events.Entry.{Entry}
 use Rattle.mach_types.specs.declared.limits.End.{End}
 use Rattle.mach_types.specs.declared.limits.End.TheVariants as over
 use Rattle.block_model.specs.Setting.{Setting}
+use Rattle.block_model.specs.Here.{Here}
 use Rattle.block_model.specs.History.{Event, History, ended, here_in_history, kernel}
 use Rattle.block_model.specs.Deciding.{done, history, decide, decide_in, end_of, end_unless, entry_in, over_at, unless}
 use Rattle.block_model.specs.Run.{IsRunHistory, IsAllowedLog}
@@ -15,10 +16,14 @@ use Rattle.block_model.proofs.Addresses.{IsProper, proper_of}
 use Rattle.block_model.proofs.AddressesOfCalls.{NotOpen, SomeLive}
 use Rattle.std.proofs.lemmas.Bool.{le-leb, lt-leb, leb-true, leb-false}
 use Rattle.mach_types.specs.declared.events.Choice.{Choice}
+use Rattle.mach_types.specs.declared.events.Choice.TheVariants as asked
+use Rattle.mach_types.specs.declared.events.Kind.{Kind}
+use Rattle.mach_types.specs.declared.events.Kind.TheVariants as kind
+use Rattle.mach_types.specs.declared.events.Tid.{Tid}
 use Rattle.mach_types.specs.Kernel.Threads.{is_stuck}
 use Rattle.block_model.specs.declared.refusals.Refused.{Refused}
 use Rattle.block_model.specs.declared.refusals.Refused.TheVariants.{Ended, Full}
-use Rattle.block_model.specs.Events.{refusal_of}
+use Rattle.block_model.specs.Events.{done_of, refusal_of}
 
 -- a run has no more entries than the step limit
 within : (s : Setting) (before : History) → IsRunHistory s before → length before ≤ s.limits.steps
@@ -37,14 +42,30 @@ pub proper_at : (s : Setting) (e : Event) (before : History) → IsRunHistory s 
 proper_at s e before run =
     subst (λ (x : Event). IsProper (here_in_history s before e.entry.hart.0) x.done) (sym run.2) (proper_done s before e.entry)
 
--- nothing that is done leaves a run open
+-- what a choice does ends a process by its exit or by a signal, if it ends one
+named_by : (here : Here) (k : Kind) (t : Tid) → NotOpen (done_of (choice_with k (record { hart = record { 0 = here.hart }; kind = k; tid = t; pc = 0 })) here).ended
+named_by here k t = (proper_of here k (record { hart = record { 0 = here.hart }; kind = k; tid = t; pc = 0 })).ended
+
+pub ends_by_process : (here : Here) (c : Choice) → NotOpen (done_of c here).ended
+ends_by_process here asked.Exec = named_by here kind.Exec (record { 0 = 0 })
+ends_by_process here asked.Drain = named_by here kind.Drain (record { 0 = 0 })
+ends_by_process here asked.Take = named_by here kind.Take (record { 0 = 0 })
+ends_by_process here asked.Done = named_by here kind.Done (record { 0 = 0 })
+ends_by_process here asked.Preempt = named_by here kind.Preempt (record { 0 = 0 })
+ends_by_process here (asked.Run t) = named_by here kind.Run t
+ends_by_process here asked.Signal = named_by here kind.Signal (record { 0 = 0 })
+
+-- nothing that is done leaves a run open, or ends it as one that is stuck
 either_end : (o p : Option End) → NotOpen o → NotOpen p → NotOpen (option_or o p)
 either_end None p first later = later
 either_end (Some e) p first later = first
 
+never_open : (s : Setting) (before : History) → IsRunHistory s before → NotOpen (ended before)
+never_open s [] run = ((λ is. absurd cc), (λ is. absurd cc))
+never_open s (e ∷ before) run = either_end e.done.ended (ended before) (proper_at s e before run).ended (never_open s before run.0)
+
 pub not_open : (s : Setting) (before : History) → IsRunHistory s before → ended before ≢ Some over.Unended
-not_open s [] run = λ is. absurd cc
-not_open s (e ∷ before) run = either_end e.done.ended (ended before) (proper_at s e before run).ended (not_open s before run.0)
+not_open s before run = (never_open s before run).0
 
 -- while the process isn't ended some thread is live
 pub neither : (o p : Option End) → option_or o p ≡ None → (o ≡ None) × (p ≡ None)

@@ -54,7 +54,7 @@ module _ (here : Here) (harts : ℕ) (tables : IsTables harts here.kernel.thread
   calm_step t number at step = calm
 
   calm_deed : (t number : ℕ) {c : CallDone} → runs here ≡ Some t → CallDeed here t number c → IsCalm c.kernel
-  calm_deed t number at (Answers n entered k no_error step) = calm_step t number at step
+  calm_deed t number at (Answers n entered k no_error writes step) = calm_step t number at step
   calm_deed t number at (Wakes n p small) = calm_wake n p here.kernel calm
   calm_deed t number at (Breaks u g waiting keeps stand heeds quiet) = λ w is.
       let was = waited_other u w Ready here.kernel.threads (λ p no. cc) is in
@@ -64,7 +64,7 @@ module _ (here : Here) (harts : ℕ) (tables : IsTables harts here.kernel.thread
       let then = (wake n (clear_of t here.kernel.threads) here.kernel).kernel in
       let was = waited_with t u then.threads is in
       next_gone t u was.0 then.signals ∙ calm_wake n (clear_of t here.kernel.threads) here.kernel calm u was.1
-  calm_deed t number at (Bears entered free) =
+  calm_deed t number at (Bears entered writes free) =
       let child = next_number here.kernel in
       calm_if child (argument here t 4) (had_child t here.kernel) (has_flag (argument here t 0) clone_child_cleartid) (λ u is.
       let was = waited_beside u here.kernel.threads tables.threads is in

@@ -2,7 +2,7 @@
 use Rattle.std.proofs.Common.{◌≡◌, ◌≢◌, ℕ, ◌+◌, ◌≤◌, ◌<◌, List, [], ◌∷◌, ◌++◌, refl, sym, ap, ◌∙◌, subst, arith, Bool, true, false, cond, eqb, ◌&&◌, not, ltb, Option, Some, None, is_some, zero, suc, append_assoc}
 use Rattle.std.specs.List.{fold}
 use Rattle.std.specs.Option.{option_map}
-use Rattle.std.proofs.lemmas.Bool.{and_parts, cond-false, cond-true, eqb-false, ltb-true}
+use Rattle.std.proofs.lemmas.Bool.{and_parts, cond-false, cond-true, eqb-false, ltb-true, not-true}
 use Rattle.mach_types.specs.declared.events.Entry.{Entry}
 use Rattle.elf_load.specs.declared.image.ImagePage.{ImagePage}
 use Rattle.block_model.specs.Choosing.{has_ended, luck, sight_with}
@@ -93,10 +93,6 @@ pub record IsLent (s : Setting) (seed h : ℕ) (before : History) (l : Stretch) 
   pub runs : running s h before ≡ Some thread
   pub is : l ≡ record { hart = h; events = events h before; file = file s thread before; credit = (luck s seed h before).credit; pcs = [] }
 
-not_true : (b : Bool) → not b ≡ true → b ≡ false
-not_true true is = cc
-not_true false is = refl
-
 lent_by : (s : Setting) (seed h : ℕ) (before : History) (l : Stretch) (o : Option ℕ) (may : Bool) → may_lend s seed h before ≡ may
     → running s h before ≡ o → cond may (lent_to s seed h before o) None ≡ Some l → IsLent s seed h before l
 lent_by s seed h before l o false may at is = absurd cc
@@ -105,7 +101,7 @@ lent_by s seed h before l (Some t) true may at is =
     let credited = and_parts (not (has_ended s before) && ltb h s.limits.harts) (is_on_credit (sight_with s h before (luck s seed h before))) may in
     let open_there = and_parts (not (has_ended s before)) (ltb h s.limits.harts) credited.0 in
     record {
-      goes = not_true (has_ended s before) open_there.0;
+      goes = not-true (has_ended s before) open_there.0;
       lt = ltb-true h s.limits.harts open_there.1;
       on_credit = credited.1;
       thread = t;

@@ -101,7 +101,7 @@ module _ (here : Here) (t number harts : ℕ) (at : runs here ≡ Some t) (is : 
 
   agreed_deed : {c : CallDone} → CallDeed here t number c → IsAgreed harts c.kernel
   agreed_deed (Says n) = is
-  agreed_deed (Answers n entered k no_error step) = agreed_step step
+  agreed_deed (Answers n entered k no_error writes step) = agreed_step step
   agreed_deed (Wakes n p small) = (agreed_wake harts n p now is).agreed
   agreed_deed (Breaks u g waiting keeps stand heeds calm) =
       agreed_woken harts u (signalled g now) waiting (agreed_of harts _ is.tables (held_signalled 9 g now keeps held))
@@ -109,14 +109,14 @@ module _ (here : Here) (t number harts : ℕ) (at : runs here ≡ Some t) (is : 
       let n : ℕ = cond (clears here t) 1 0 in
       let woke = agreed_wake harts n (clear_of t now.threads) now is in
       agreed_gone harts here.hart t (wake n (clear_of t now.threads) now).kernel (woke.running here.hart ∙ at) woke.agreed
-  agreed_deed (Bears entered free) =
+  agreed_deed (Bears entered writes free) =
       cleared_if harts (next_number now) (argument here t 4) (had_child t now) (has_flag (argument here t 0) clone_child_cleartid)
       (agreed_of harts (had_child t now) (tables_child harts t now.threads now.scheduling is.tables free) (held_child 9 t now is.tables.threads held))
-  agreed_deed (Begins set restart others no_error) = is
+  agreed_deed (Begins set restart others no_error its_number) = is
   agreed_deed (Resumes words its number_is) =
       agreed_of harts _ is.tables
       (held_signalled 9 (frame.returned t (Some words) now.signals) now (returned_keeps t (Some words) now.signals) held)
-  agreed_deed (Ends entered e over) = is
+  agreed_deed (Ends entered e writes over) = is
 
 pub agreed_called : (harts : ℕ) (here : Here) (t : ℕ) → runs here ≡ Some t → IsAgreed harts here.kernel → IsAgreed harts (called here t).kernel
 agreed_called harts here t at is = agreed_deed here t (call_number here t) harts at is (deed_called here t)

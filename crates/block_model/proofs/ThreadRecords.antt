@@ -3,7 +3,7 @@
 use Rattle.std.proofs.Common.{ℕ, ◌+◌, ◌<◌, ◌≤◌, ◌≡◌, ◌≢◌, ◌||◌, ◌⊎◌, Bool, true, false, not, cond, eqb, List, [], ◌∷◌, ◌++◌, length, map, filter, find, Option, Some, None, is_some, refl, sym, ap, ◌∙◌, inl, inr, arith}
 use Rattle.std.specs.List.{list_any}
 use Rattle.std.specs.Option.{option_map}
-use Rattle.std.proofs.lemmas.Bool.{eqb-true, false≢true, cases_lt}
+use Rattle.std.proofs.lemmas.Bool.{cases_lt, eqb-true, false≢true, or_cases, or_right}
 use Rattle.std.proofs.lemmas.Bool.Decides.{eqb_tells}
 use Rattle.std.proofs.lemmas.List.{map_push, length-map}
 use Rattle.mach_types.proofs.Laws.{map_filters, next_is_new, same_clear_numbers, same_numbers, state_of-with_child_other, state_of-with_child_same, state_of-with_clear, state_of-with_state_other, state_of-with_state_same, state_of-without_other, state_of-without_same, times_cons, times_push}
@@ -201,10 +201,6 @@ held_for_barriers harts r k is = record { ids = is.ids; areas = is.areas; signal
 -- STEPS OF AREAS
 
 module _ (p : ℕ × Area → Bool) where
-  or_right : (a b : Bool) → b ≡ true → (a || b) ≡ true
-  or_right true b is = refl
-  or_right false b is = is
-
   or_more : (a b c : Bool) → (b ≡ true → c ≡ true) → (a || b) ≡ true → (a || c) ≡ true
   or_more true b c more is = refl
   or_more false b c more is = more is
@@ -218,18 +214,14 @@ module _ (p : ℕ × Area → Bool) where
   in_filtered q [] is = is
   in_filtered q (x ∷ areas) is = filtered_step x (filter q areas) areas (q x) (in_filtered q areas) is
 
-  either_part : (a b : Bool) → (a || b) ≡ true → (a ≡ true) ⊎ (b ≡ true)
-  either_part true b is = inl refl
-  either_part false b is = inr is
-
   at_end_step : (x y : ℕ × Area) (areas : List (ℕ × Area)) → (p x ≡ true) ⊎ (list_any p (areas ++ y ∷ []) ≡ true)
       → (list_any p (areas ++ y ∷ []) ≡ true → (list_any p areas ≡ true) ⊎ (p y ≡ true)) → (list_any p (x ∷ areas) ≡ true) ⊎ (p y ≡ true)
   at_end_step x y areas (inl here) rest = inl (ap (λ b. b || list_any p areas) here)
   at_end_step x y areas (inr there) rest = elim (rest there) [ inl old ↦ inl (or_right (p x) (list_any p areas) old) | inr new ↦ inr new ]
 
   at_end : (areas : List (ℕ × Area)) (y : ℕ × Area) → list_any p (areas ++ y ∷ []) ≡ true → (list_any p areas ≡ true) ⊎ (p y ≡ true)
-  at_end [] y is = elim (either_part (p y) false is) [ inl new ↦ inr new | inr none ↦ absurd (false≢true none) ]
-  at_end (x ∷ areas) y is = at_end_step x y areas (either_part (p x) (list_any p (areas ++ y ∷ [])) is) (at_end areas y)
+  at_end [] y is = elim (or_cases (p y) false is) [ inl new ↦ inr new | inr none ↦ absurd (false≢true none) ]
+  at_end (x ∷ areas) y is = at_end_step x y areas (or_cases (p x) (list_any p (areas ++ y ∷ [])) is) (at_end areas y)
 
 abbrev is_its : {X : Type 0} → ℕ → ℕ × X → Bool
 is_its t pair = eqb pair.0 t

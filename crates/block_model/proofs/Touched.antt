@@ -1,7 +1,7 @@
 -- A sequence is dropped only where something touched what its area named: the area, the descriptor or the signature (rseq(2)).
 use Rattle.std.proofs.Common.{◌≡◌, ℕ, ◌⊎◌, inl, inr, List, [], refl, sym, ap, ◌∙◌, arith, Bool, true, false, Option, Some, None}
 use Rattle.std.specs.Option.{option_map_or}
-use Rattle.std.proofs.lemmas.Bool.{false≢true}
+use Rattle.std.proofs.lemmas.Bool.{false≢true, not-false}
 use Rattle.mach_types.specs.Kernel.Areas.{area_of, is_inside, is_inside_named, named}
 use Rattle.mach_types.specs.declared.sequences.Area.{Area}
 use Rattle.mach_types.specs.declared.sequences.Named.{Named}
@@ -18,7 +18,6 @@ use Rattle.rv_inst.specs.Accesses.{Bytes}
 use Rattle.block_model.specs.Whole.{WasTouched, before_last, touched_in, watched_at, watched_of}
 use Rattle.block_model.proofs.NamedSequences.{named_stays}
 use Rattle.block_model.proofs.Sequences.{runs_throughout}
-use Rattle.block_model.proofs.TouchedBytes.{not_false}
 use Rattle.block_model.proofs.TouchedHanging.{IsHanging, hangs_since}
 use Rattle.block_model.proofs.TouchedPlaces.{AgreeAll, AreSmall, IsSince, agree_since, agree_twice, since_count, since_last}
 
@@ -140,7 +139,7 @@ pub dropped_is_touched : (s : Setting) (before : History) (h : ℕ) (q : Sequenc
     → has_died q ≡ false → is_inside_at s h before ≡ false → moved_out s q ≡ false → WasTouched s before q
 dropped_is_touched s before h q run newest lives out stays =
     let hart = (runs_throughout s before h q run newest).hart in
-    touched_now s before q.hart q run (ap (λ k. sequence_on s k before) hart ∙ newest) (ap (λ k. is_inside_at s k before) hart ∙ out) (not_false _ stays)
+    touched_now s before q.hart q run (ap (λ k. sequence_on s k before) hart ∙ newest) (ap (λ k. is_inside_at s k before) hart ∙ out) (not-false _ stays)
 
 -- SINCE A PREEMPTION
 

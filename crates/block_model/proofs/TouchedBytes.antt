@@ -1,8 +1,8 @@
 -- An event that doesn't touch bytes leaves them as they are: in memory, and as each hart sees them.
-use Rattle.std.proofs.Common.{◌≡◌, ℕ, ◌+◌, ◌-◌, ◌/◌, ◌≤◌, ◌<◌, ◌⊎◌, inl, inr, List, [], ◌∷◌, ◌++◌, drop, refl, sym, ap, ◌∙◌, subst, arith, Bool, true, false, not, cond, ◌&&◌, ◌||◌, eqb, leb, ltb, Option, Some, None}
+use Rattle.std.proofs.Common.{◌≡◌, ℕ, ◌+◌, ◌-◌, ◌/◌, ◌≤◌, ◌<◌, ◌⊎◌, inl, inr, List, [], ◌∷◌, ◌++◌, drop, refl, sym, ap, ◌∙◌, subst, arith, Bool, true, false, cond, ◌&&◌, ◌||◌, eqb, leb, ltb, Option, Some, None}
 use Rattle.std.specs.List.{list_any}
 use Rattle.std.specs.Option.{option_map}
-use Rattle.std.proofs.lemmas.Bool.{and_parts, cases_eq, eqb-true, false≢true, leb-true, lt-ltb, ltb-true}
+use Rattle.std.proofs.lemmas.Bool.{and_parts, cases_eq, eqb-true, false≢true, leb-true, lt-ltb, ltb-true, not-false, or_parts}
 use Rattle.std.proofs.lemmas.List.{append-nil}
 use Rattle.mach_types.specs.Bytes.{byte_after, byte_over, overlay, written}
 use Rattle.mach_types.specs.Kernel.Pages.{can_read, permission_at, permission_of}
@@ -23,14 +23,6 @@ use Rattle.block_model.proofs.PlainEvents.{drop_more}
 use Rattle.block_model.proofs.EventEffects.{Drains, EventDeed, deed_of}
 use Rattle.block_model.proofs.NamedSequences.{Agree}
 use Rattle.block_model.proofs.Runs.{settled}
-
-pub neither : (a b : Bool) → (a || b) ≡ false → (a ≡ false) × (b ≡ false)
-neither true b is = absurd (false≢true (sym is))
-neither false b is = (refl, is)
-
-pub not_false : (b : Bool) → not b ≡ false → b ≡ true
-not_false true is = refl
-not_false false is = absurd (false≢true (sym is))
 
 both : (a b : Bool) → a ≡ true → b ≡ true → (a && b) ≡ true
 both true b p q = q
@@ -57,7 +49,7 @@ same_permission (Some m) (Some n) is = ap Some (sym (eqb-true m n is))
 kept_page : (s : Setting) (e : Event) (before : History) (page : ℕ) → permission_changed s e before page ≡ false
     → permission_of e.done.kernel.pages.runs page ≡ permission_of (kernel s before).pages.runs page
 kept_page s e before page is =
-    same_permission (permission_of (kernel s before).pages.runs page) (permission_of e.done.kernel.pages.runs page) (not_false _ is)
+    same_permission (permission_of (kernel s before).pages.runs page) (permission_of e.done.kernel.pages.runs page) (not-false _ is)
 
 -- STORES AND WRITES THAT DON'T MEET BYTES
 
@@ -87,13 +79,13 @@ module _ (w : Bytes) (a : ℕ) (low : w.at ≤ a) (high : a < w.at + w.count) wh
   clear_stores : (vs : List Store) (below : ℕ) → list_any (store_meets w) vs ≡ false → overlay vs a below ≡ below
   clear_stores [] below none = refl
   clear_stores (v ∷ vs) below none =
-      let parts = neither (store_meets w v) (list_any (store_meets w) vs) none in
+      let parts = or_parts (store_meets w v) (list_any (store_meets w) vs) none in
       ap (overlay vs a) (clear_store v below parts.0) ∙ clear_stores vs below parts.1
 
   clear_writes : (vs : List Write) (below : ℕ) → list_any (write_meets w) vs ≡ false → written vs a below ≡ below
   clear_writes [] below none = refl
   clear_writes (v ∷ vs) below none =
-      let parts = neither (write_meets w v) (list_any (write_meets w) vs) none in
+      let parts = or_parts (write_meets w v) (list_any (write_meets w) vs) none in
       ap (written vs a) (clear_write v below parts.0) ∙ clear_writes vs below parts.1
 
   -- WAITING STORES
@@ -115,7 +107,7 @@ module _ (w : Bytes) (a : ℕ) (low : w.at ≤ a) (high : a < w.at + w.count) wh
   seen_deed : (here : Here) (tid : ℕ) {k : Kind} {d : Done} → EventDeed here tid k d → IsSeen here d
   seen_deed here tid (Drains v vs is) = record {
     seen = λ executed entered below.
-        let parts = neither (store_meets w v) false entered in
+        let parts = or_parts (store_meets w v) false entered in
         ap (λ (us : List Store). overlay (drop 1 (us ++ [])) a below) is ∙ ap (λ (us : List Store). overlay us a below) (append-nil vs)
         ∙ ap (overlay vs a) (sym (clear_store v below parts.0)) ∙ sym (ap (λ (us : List Store). overlay us a below) is);
   }
@@ -129,7 +121,7 @@ module _ (w : Bytes) (a : ℕ) (low : w.at ≤ a) (high : a < w.at + w.count) wh
   kept_permission : (s : Setting) (e : Event) (before : History) → w.count ≤ PAGE_SIZE → changed_page s e before w ≡ false
       → permission_at e.done.kernel.pages a ≡ permission_at (kernel s before).pages a
   kept_permission s e before few is =
-      let parts = neither (permission_changed s e before (w.at / PAGE_SIZE)) (permission_changed s e before ((w.at + w.count - 1) / PAGE_SIZE)) is in
+      let parts = or_parts (permission_changed s e before (w.at / PAGE_SIZE)) (permission_changed s e before ((w.at + w.count - 1) / PAGE_SIZE)) is in
       elim (first_or_last few) [
         | inl first ↦
             ap (permission_of e.done.kernel.pages.runs) first ∙ kept_page s e before (w.at / PAGE_SIZE) parts.0
@@ -149,8 +141,8 @@ record IsClear (s : Setting) (e : Event) (before : History) (w : Bytes) : Type 0
 
 clear_of_touch : (s : Setting) (e : Event) (before : History) (w : Bytes) → touches s e before w ≡ false → IsClear s e before w
 clear_of_touch s e before w none =
-    let one = neither (list_any (store_meets w) e.done.executed || list_any (write_meets w) e.done.entered) (changed_page s e before w) none in
-    let two = neither (list_any (store_meets w) e.done.executed) (list_any (write_meets w) e.done.entered) one.0 in
+    let one = or_parts (list_any (store_meets w) e.done.executed || list_any (write_meets w) e.done.entered) (changed_page s e before w) none in
+    let two = or_parts (list_any (store_meets w) e.done.executed) (list_any (write_meets w) e.done.entered) one.0 in
     record { executed = two.0; entered = two.1; pages = one.1 }
 
 module _ (s : Setting) (e : Event) (before : History) (w : Bytes) (few : w.count ≤ PAGE_SIZE) (none : touches s e before w ≡ false) where

@@ -1,5 +1,6 @@
 -- A sequence that hangs: what its thread keeps from the place on at which it was preempted, and that bytes stay which nothing touched.
 use Rattle.std.proofs.Common.{◌≡◌, ◌≢◌, ℕ, ◌+◌, ◌<◌, List, [], ◌∷◌, length, refl, sym, ap, ◌∙◌, arith, true, false, Option, Some, None}
+use Rattle.std.proofs.lemmas.Bool.{or_parts}
 use Rattle.std.specs.List.{list_any}
 use Rattle.std.specs.Option.{option_map}
 use Rattle.mach_types.specs.Bytes.{overlay}
@@ -29,7 +30,7 @@ use Rattle.block_model.proofs.Invariants.Events.{none_waits, out_of_barrier, rea
 use Rattle.block_model.proofs.KernelTables.{its_ready, running_is, state_now}
 use Rattle.block_model.proofs.ReadyFiles.{area_stays, ready_file_stays, ready_stays}
 use Rattle.block_model.proofs.Sequences.{runs_throughout, HangingStep, HangsOn, Preempted, hanging_step}
-use Rattle.block_model.proofs.TouchedBytes.{memory_stays, neither}
+use Rattle.block_model.proofs.TouchedBytes.{memory_stays}
 use Rattle.block_model.proofs.TouchedPlaces.{AgreeAll, AreSmall, agree_twice, peeled, since_count, since_last}
 
 -- A PREEMPTION
@@ -86,7 +87,7 @@ memories_stay : (s : Setting) (e : Event) (before : History) (h : ℕ) (ws : Lis
     → AgreeAll (memory (here_in_history s before h)) (memory (here_in_history s (e ∷ before) h)) ws
 memories_stay s e before h [] small none = tt
 memories_stay s e before h (w ∷ ws) small none =
-    let parts = neither (touches s e before w) (list_any (touches s e before) ws) none in
+    let parts = or_parts (touches s e before w) (list_any (touches s e before) ws) none in
     (memory_stays s e before w small.0 parts.0 h, memories_stay s e before h ws small.1 parts.1)
 
 -- the place before the preemption, where the sequence was the newest of its hart and its thread was inside; from there on the

@@ -1,7 +1,7 @@
 -- From the place before the last event of a sequence on: what its thread keeps, and that bytes stay which nothing touched since.
 use Rattle.std.proofs.Common.{◌≡◌, ◌≢◌, ℕ, ◌+◌, ◌-◌, ◌≤◌, ◌<◌, ◌⊎◌, inl, inr, List, [], ◌∷◌, length, refl, sym, ap, ◌∙◌, subst, arith, Bool, true, false, not, cond, ◌&&◌, ◌||◌, eqb, Option, Some, None, is_none}
 use Rattle.std.specs.List.{AllByRecursion, list_any}
-use Rattle.std.proofs.lemmas.Bool.{eqb-false, false≢true, ne_eqb}
+use Rattle.std.proofs.lemmas.Bool.{eqb-false, false≢true, ne_eqb, or_parts}
 use Rattle.mach_types.specs.Events.{choice_with}
 use Rattle.mach_types.specs.Kernel.Areas.{area_of}
 use Rattle.mach_types.specs.Kernel.Threads.{running_on}
@@ -29,7 +29,7 @@ use Rattle.block_model.proofs.ReadyFiles.{area_stays}
 use Rattle.block_model.proofs.Runs.{fit_at, settled}
 use Rattle.block_model.proofs.Sequences.{runs_throughout, taken_keeps, Begins, Elsewhere, IsOf, Own, SequenceStep, TakesIn, is_reached, is_taken, by_sequence}
 use Rattle.block_model.proofs.SignalTables.{OnlySignals}
-use Rattle.block_model.proofs.TouchedBytes.{neither, view_stays}
+use Rattle.block_model.proofs.TouchedBytes.{view_stays}
 
 -- WHAT THE EVENTS OF A SEQUENCE LEAVE
 
@@ -166,7 +166,7 @@ pub views_stay : (s : Setting) (e : Event) (before : History) (h : ℕ) (ws : Li
     → list_any (touches s e before) ws ≡ false → AgreeAll (view (here_in_history s before h)) (view (here_in_history s (e ∷ before) h)) ws
 views_stay s e before h [] run small none = tt
 views_stay s e before h (w ∷ ws) run small none =
-    let parts = neither (touches s e before w) (list_any (touches s e before) ws) none in
+    let parts = or_parts (touches s e before w) (list_any (touches s e before) ws) none in
     (view_stays s e before w small.0 parts.0 run h, views_stay s e before h ws run small.1 parts.1)
 
 -- one event of those that are looked through
@@ -175,7 +175,7 @@ pub peeled : (s : Setting) (e : Event) (before : History) (ws : List Bytes) (n m
 peeled s e before ws n m is none =
     let some : eqb n 0 ≡ false = ne_eqb n 0 (λ zero. omega arith) in
     let fewer : n - 1 ≡ m = omega arith in
-    neither (list_any (touches s e before) ws) (touched_in s m before ws)
+    or_parts (list_any (touches s e before) ws) (touched_in s m before ws)
     (sym (ap (λ b. not b && (list_any (touches s e before) ws || touched_in s (n - 1) before ws)) some
     ∙ ap (λ k. list_any (touches s e before) ws || touched_in s k before ws) fewer) ∙ none)
 

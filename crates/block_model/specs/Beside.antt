@@ -5,7 +5,8 @@ use Rattle.std.specs.Prelude.{ℕ, ◌+◌, ◌&&◌, ◌||◌, Bool, if◌then�
 use Rattle.mach_types.specs.declared.barriers.Registered.{Registered}
 
 -- another process: the bytes of the segment by address, for which barriers the process is registered, and the
--- set of the harts on which its threads run
+-- set of the harts on which its threads run: none once the process has ended, since its harts are idle then, though
+-- its record still has its threads as they were
 pub record Neighbour : Type 0 where
   pub shared : ℕ → ℕ
   pub registered : Registered

@@ -27,9 +27,11 @@ stand_of v = record { setting = v.setting; plain = plain_seen v; beside = None }
 abbrev pub stand_after : Stand → ℕ → Done → Option Neighbour → Stand
 stand_after v h d beside = record { setting = v.setting; plain = apply h d v.plain; beside = beside }
 
--- the plain machine of a process after an event of another process on hart h, which made these writes to the
--- segment: reservations of these bytes end, and a barrier that begins makes its requests at this process's
--- harts too; nothing else changes
+-- the plain machine of a process after an event of hart h that isn't one of its own threads': another process's,
+-- which made these writes to the segment, or a `take` of a hart on which no thread runs. Reservations of these
+-- bytes end; a barrier that the event begins makes its requests at this process's harts too; requests that hart h
+-- takes are pending there and waited for no longer; and the event is counted among all that were made. Nothing
+-- else changes
 abbrev pub aside : ℕ → Done → List Write → Plain → Plain
 aside h d writes m = record m {
   reserved = λ k. lost_after writes (m.reserved k);

@@ -1,8 +1,8 @@
 -- The ready threads that may begin to run, found number by number: they are those among the ready ones, and not more than live.
-use Rattle.std.proofs.Common.{◌≡◌, ℕ, zero, suc, ◌+◌, ◌<◌, ◌≤◌, ◌&&◌, Bool, true, false, not, cond, eqb, ltb, List, [], ◌∷◌, ◌++◌, filter, find, length, length-append, Option, Some, None, inl, inr, is_some, refl, sym, ap, ◌∙◌, arith}
+use Rattle.std.proofs.Common.{◌≡◌, ℕ, zero, suc, ◌+◌, ◌<◌, ◌≤◌, ◌&&◌, Bool, true, false, not, cond, eqb, ltb, List, [], ◌∷◌, ◌++◌, filter, find, length, length-append, subst, Option, Some, None, inl, inr, is_some, refl, sym, ap, ◌∙◌, arith}
 use Rattle.std.specs.List.{All}
 use Rattle.std.specs.Option.{option_map, option_map_or}
-use Rattle.std.proofs.lemmas.Bool.{and_parts, cases_eq, false≢true, ne_eqb}
+use Rattle.std.proofs.lemmas.Bool.{and_parts, cases_eq, false≢true, lt-ltb, ne_eqb}
 use Rattle.std.proofs.lemmas.Bool.Decides.{nat_tests}
 use Rattle.std.proofs.lemmas.List.Elements.{All-head, All-tail, filter-append}
 use Rattle.mach_types.specs.Kernel.Scheduling.{Scheduling, affinity_of}
@@ -156,3 +156,28 @@ has_room ts s opened h n most items few so_far passes =
       ap (λ (xs : List ℕ). length xs) so_far,
       length-append (passing (starts ts s opened h) n) (cond (starts ts s opened h n) (n ∷ []) []),
     )
+
+-- where a number below passes a test, some do
+some_pass : (test : ℕ → Bool) (n k : ℕ) → k < n → test k ≡ true → 0 < length (passing test n)
+some_pass test zero k below passes = absurd (omega arith)
+some_pass test (suc n) k below passes =
+    elim (cases_eq k n) [
+      | inl same ↦
+          let one : length (cond (test n) (n ∷ []) []) ≡ 1 =
+          ap (λ (b : Bool). length (cond b (n ∷ []) [])) (subst (λ (m : ℕ). test m ≡ true) same passes) in
+          omega (arith, one, length-append (passing test n) (cond (test n) (n ∷ []) []))
+      | inr apart ↦
+          let less : k < n = grind (arith, nat_tests) in
+          omega (arith, some_pass test n k less passes, length-append (passing test n) (cond (test n) (n ∷ []) []))
+    ]
+
+-- whether one can start is found number by number
+pub one_starts : (ts : Threads) (s : Scheduling) (opened h k : ℕ) → k < ts.given + 1 → starts ts s opened h k ≡ true
+    → ltb 0 (length (startable opened h (record s { order = ready_numbers ts }))) ≡ true
+one_starts ts s opened h k below passes =
+    sym (ap (λ (xs : List ℕ). ltb 0 (length xs)) (all_startable ts s opened h))
+    ∙ lt-ltb 0 (length (passing (starts ts s opened h) (ts.given + 1))) (some_pass (starts ts s opened h) (ts.given + 1) k below passes)
+
+pub none_starts : (ts : Threads) (s : Scheduling) (opened h : ℕ) → [] ≡ passing (starts ts s opened h) (ts.given + 1)
+    → ltb 0 (length (startable opened h (record s { order = ready_numbers ts }))) ≡ false
+none_starts ts s opened h none = sym (ap (λ (xs : List ℕ). ltb 0 (length xs)) (none ∙ all_startable ts s opened h))

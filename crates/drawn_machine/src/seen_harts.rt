@@ -3,7 +3,7 @@
 ghost use Rattle.std.specs.Prelude.{◌≤◌};
 ghost use Rattle.drawn_machine.specs.Scenes.{scene_of};
 
-use crate::starting_threads::startable_threads;
+use crate::starting_threads::{has_startable_thread, startable_threads};
 use arrayvec::ArrayVec;
 use draw_policies::{Access, access_of_effect, access_of_store};
 use drawings::Harts;
@@ -60,6 +60,7 @@ impl Harts for SeenHarts<'_> {
     }
 
     fn has_startable(&self, hart: Hart, opened: u8) -> bool {
-        !self.startable(hart, opened).is_empty()
+        let kernel = self.machine.kernel();
+        has_startable_thread(&kernel.threads, &kernel.ready, hart, opened)
     }
 }

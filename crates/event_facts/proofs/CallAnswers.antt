@@ -1,9 +1,8 @@
 -- System calls: which one the thread on a hart makes, and how it was answered.
-use Rattle.std.proofs.Common.{◌≡◌, ℕ, refl, ap, ◌∙◌, subst, eqb, Bool, true, false, not, ◌&&◌, cond, Option, Some, None, is_none}
+use Rattle.std.proofs.Common.{◌≡◌, ℕ, refl, ap, ◌∙◌, subst, Bool, true, false, not, ◌&&◌, cond, Option, Some, None, is_none}
 use Rattle.std.proofs.lemmas.Bool.{eqb-true, false≢true}
-use Rattle.std.specs.Option.{IsSome, option_map, option_map_or}
+use Rattle.std.specs.Option.{IsSome}
 use Rattle.mach_types.specs.declared.events.Choice.{Choice}
-use Rattle.mach_types.specs.declared.events.Choice.TheVariants as asked
 use Rattle.mach_types.specs.declared.threads.Saved.{Saved}
 use Rattle.rv_inst.specs.Class.{is_call}
 use Rattle.rv_inst.specs.declared.effects.Effect.{Effect}
@@ -17,7 +16,7 @@ use Rattle.event_facts.specs.Telling.{plain_event_of}
 use Rattle.event_facts.specs.declared.calls.SystemCall.{SystemCall}
 use Rattle.event_facts.specs.declared.telling.PlainEvent.{PlainEvent}
 use Rattle.event_facts.specs.declared.telling.PlainEvent.TheVariants.{Instruction, Drain}
-use Rattle.event_facts.proofs.PlainKinds.{Drains, Executes, drains, executes}
+use Rattle.event_facts.proofs.PlainKinds.{Executes, drains, executes}
 
 -- WHICH CALL
 

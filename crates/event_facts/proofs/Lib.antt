@@ -4,10 +4,13 @@ mod Entered
 mod EventDeeds
 mod FactExamples
 mod KeptLines
+mod KeptPieces
 mod Lists
 mod PlainEffects
 mod PlainKinds
 mod PlainTraces
+mod SignalChanges
+mod ThreadChanges
 mod ToldFacts
 mod ToldLines
 mod TraceExamples

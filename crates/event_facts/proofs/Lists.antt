@@ -10,8 +10,13 @@ range_more a (suc n) =
     let same : a + 1 + n ≡ a + suc n = omega arith in
     ap (λ xs. a ∷ xs) (range_more (a + 1) n ∙ ap (λ x. range_with_len (a + 1) n ++ x ∷ []) same)
 
+pub range-suc : (n : ℕ) → range_with_len 0 (suc n) ≡ range_with_len 0 n ++ n ∷ []
+range-suc n =
+    let from_0 : 0 + n ≡ n = omega arith in
+    range_more 0 n ∙ ap (λ x. range_with_len 0 n ++ x ∷ []) from_0
+
 pub range-more : (n : ℕ) → range_with_len 0 (n + 1) ≡ range_with_len 0 n ++ n ∷ []
-range-more n = rw (add-one n) (range_more 0 n ∙ ap (λ x. range_with_len 0 n ++ x ∷ []) (omega arith))
+range-more n = rw (add-one n) (range-suc n)
 
 -- a list that has the pieces of the first numbers, with that of the next one
 pub range_step : {A : Type 0} (f : ℕ → List A) (start had new : List A) (n : ℕ) → had ≡ start ++ flat_map f (range_with_len 0 n)
@@ -43,6 +48,12 @@ two_pieces start one two a b p q = q ∙ ap (λ l. l ++ b) p ∙ append_assoc st
 -- and three
 pub three_pieces : {A : Type 0} (start one two three a b c : List A) → one ≡ start ++ a → two ≡ one ++ b → three ≡ two ++ c → three ≡ start ++ (a ++ b ++ c)
 three_pieces start one two three a b c p q r = r ∙ ap (λ l. l ++ c) (two_pieces start one two a b p q) ∙ append_assoc start (a ++ b) c
+
+-- and six
+pub six_pieces : {A : Type 0} (start one two three four five six a b c d e f : List A) → one ≡ start ++ a → two ≡ one ++ b → three ≡ two ++ c → four ≡ three ++ d
+    → five ≡ four ++ e → six ≡ five ++ f → six ≡ start ++ (a ++ b ++ c ++ d ++ e ++ f)
+six_pieces start one two three four five six a b c d e f p q r s t u =
+    u ∙ ap (λ l. l ++ f) (five_pieces start one two three four five a b c d e p q r s t) ∙ append_assoc start (a ++ b ++ c ++ d ++ e) f
 
 -- a map over one number more, behind others
 pub map_step : {A : Type 0} (f : ℕ → A) (start had new : List A) (n : ℕ) → had ≡ start ++ map f (range_with_len 0 n) → new ≡ had ++ f n ∷ []

@@ -1,9 +1,11 @@
 -- What is told of a plain event are its facts, and what is kept of lines afterwards are those of the longer log.
-use Rattle.std.proofs.Common.{◌≡◌, ◌≢◌, ℕ, ◌<◌, List, [], ◌∷◌, ◌++◌, length, map, drop, refl, sym, ap, ◌∙◌, subst, eqb, Bool, true, false, cond, Option, Some, append-nil}
+use Rattle.std.proofs.Common.{◌≡◌, ◌≢◌, ℕ, ◌<◌, List, [], ◌∷◌, ◌++◌, length, map, drop, refl, sym, ap, ◌∙◌, subst, eqb, Bool, true, false, cond, Option, Some}
 use Rattle.std.proofs.lemmas.Bool.{eqb-false, eqb-true}
+use Rattle.std.specs.List.{range_with_len}
 use Rattle.mach_types.proofs.Laws.{eqb_same}
 use Rattle.mach_types.specs.Events.{choice_of}
 use Rattle.mach_types.specs.declared.events.Entry.{Entry}
+use Rattle.mach_types.specs.Registers.{register}
 use Rattle.mach_types.specs.declared.registers.Regs.{Regs}
 use Rattle.mach_types.specs.declared.threads.Saved.{Saved}
 use Rattle.mach_types.specs.declared.user_memory.Store.{Store}
@@ -20,7 +22,7 @@ use Rattle.block_model.proofs.Laws.{history-append}
 use Rattle.block_model.proofs.Swaps.PlainDone.{as_done, plain_outcome}
 use Rattle.process.specs.Harts.{file_on}
 use Rattle.event_facts.specs.Deeds.{IsDeedOf, drained_in, entered_in, executed_in}
-use Rattle.event_facts.specs.Facts.{entered_facts, facts_by, facts_of, file_facts, files_facts, memory_facts, reading_facts, register_facts}
+use Rattle.event_facts.specs.Facts.{entered_facts, facts_by, facts_of, files_facts, memory_facts, reading_facts, register_fact, register_facts}
 use Rattle.event_facts.specs.Lines.{line_behind, memory_source, next_line, numbered, waiting_on}
 use Rattle.event_facts.specs.Reservations.{all_lost, own_facts}
 use Rattle.event_facts.specs.Sources.{source_at, source_over}
@@ -29,12 +31,12 @@ use Rattle.event_facts.specs.Tied.{AreLinesOf, kept_on, kept_source}
 use Rattle.event_facts.specs.Written.{line_at}
 use Rattle.event_facts.specs.declared.deeds.Deed.{Deed}
 use Rattle.event_facts.specs.declared.facts.Fact.{Fact}
-use Rattle.event_facts.specs.declared.facts.Fact.TheVariants.{Waits}
+use Rattle.event_facts.specs.declared.facts.Fact.TheVariants.{Register, Waits}
 use Rattle.event_facts.specs.declared.lines.Lines.{Lines}
 use Rattle.event_facts.specs.declared.telling.PlainEvent.{PlainEvent}
 use Rattle.event_facts.specs.declared.telling.PlainEvent.TheVariants.{Instruction, Drain}
 use Rattle.event_facts.proofs.Due.{due, past_after, what_is_done}
-use Rattle.event_facts.proofs.Lists.{five_pieces}
+use Rattle.event_facts.proofs.Lists.{five_pieces, nothing_in_all}
 use Rattle.event_facts.proofs.PlainKinds.{Executes, drain_done, drains, executes, instruction_done}
 
 -- WHAT IS TOLD BEFORE THE EVENT IS MADE
@@ -62,6 +64,11 @@ memory_told s before h o deed x line r f0 f1 f2 f3 f4 f5 tied lt line_is same p1
     p5
 
 -- ALL FACTS
+
+-- where no register changed, none is told
+none_changed : (r : Regs) → register_facts r r ≡ []
+none_changed r =
+    nothing_in_all (register_fact r r) (range_with_len 0 32) (λ n. ap (λ b. let l : List Fact = cond b [] (Register n (register r n) ∷ []) in l) (eqb_same (register r n)))
 
 abbrev registers_in : Here → Regs
 registers_in x = (file_on x (runs x)).file
@@ -109,6 +116,7 @@ module _ (m m' : Seen) (entry : Entry) (run : IsBlockRun m.setting m.log) (decid
   instruction_facts e deed regs is its same =
       let x = executes (choice_of entry) here e is in
       let o = outcome_of here x.thread e in
+      let saved : Saved = record { file = o.regs; pc = o.pc } in
       let executed = sym its.executed in
       let drained = sym its.drained in
       let entered = sym its.entered in
@@ -119,9 +127,8 @@ module _ (m m' : Seen) (entry : Entry) (run : IsBlockRun m.setting m.log) (decid
       ∙ ap (λ (d : Done). memory_facts m.setting before entry.hart.0 (Some e) (executed_in deed) (drained_in deed) (entered_in deed) here.reserved ++ files_facts here entry.tid.0 d.files)
       (instruction_done (choice_of entry) here e x)
       ∙ ap (λ l. memory_facts m.setting before entry.hart.0 (Some e) (executed_in deed) (drained_in deed) (entered_in deed) here.reserved ++ l)
-      (append-nil (file_facts here entry.tid.0 (x.thread, record { file = o.regs; pc = o.pc }))
-      ∙ ap (λ t. file_facts here t (x.thread, record { file = o.regs; pc = o.pc })) (thread_is e x)
-      ∙ ap (λ b. cond b (register_facts (here.file x.thread).file o.regs) []) (eqb_same x.thread)
+      (ap (λ t. files_facts here t ((x.thread, saved) ∷ [])) (thread_is e x)
+      ∙ ap (λ b. register_facts (here.file x.thread).file (cond b saved (here.file x.thread)).file) (eqb_same x.thread)
       ∙ (λ i. register_facts (earlier i) (later i)))
 
   -- of a store that enters memory
@@ -135,7 +142,7 @@ module _ (m m' : Seen) (entry : Entry) (run : IsBlockRun m.setting m.log) (decid
       let drained = sym its.drained in
       let entered = sym its.entered in
       let reserved = ap (λ (d : Done). d.reserved) what in
-      let files = ap (λ (d : Done). files_facts here entry.tid.0 d.files) what in
+      let files = ap (λ (d : Done). files_facts here entry.tid.0 d.files) what ∙ none_changed (here.file entry.tid.0).file in
       facts_here ∙ (λ i. memory_facts m.setting before entry.hart.0 (x.by i) (executed i) (drained i) (entered i) (reserved i) ++ files i)
 
   pub all_facts : (event : PlainEvent) (deed : Deed) (regs : Regs) → plain_event_of (choice_of entry) here ≡ Some event → IsDeedOf did deed

@@ -1,6 +1,8 @@
--- The stores that are told to wait are those that wait, and a byte is as the line left it that is told to have written it last.
-use Rattle.std.proofs.Common.{◌≡◌, ℕ, zero, suc, ◌+◌, ◌-◌, ◌≤◌, List, [], ◌∷◌, ◌++◌, length, map, drop, eqb, refl, sym, ap, ◌∙◌, subst, arith, Bool, true, false, cond, length-append}
+-- The stores that are told to wait are those that wait, each executed in its line; and a byte was written in the line that is told to have
+-- written it last, and is as that left it.
+use Rattle.std.proofs.Common.{◌≡◌, ◌≢◌, ℕ, zero, suc, ◌+◌, ◌-◌, ◌<◌, ◌≤◌, List, [], ◌∷◌, ◌++◌, length, map, drop, eqb, refl, sym, ap, ◌∙◌, subst, arith, Bool, true, false, cond, All, Contains, length-append}
 use Rattle.std.proofs.lemmas.List.{drop-map, map-append}
+use Rattle.std.proofs.lemmas.List.Elements.{All-append, All-contains_itself, All-drop, All-map, All-nil, All-weaker}
 use Rattle.mach_types.specs.Events.{choice_of}
 use Rattle.mach_types.specs.declared.events.Entry.{Entry}
 use Rattle.mach_types.specs.declared.user_memory.Store.{Store}
@@ -8,7 +10,7 @@ use Rattle.block_model.specs.Deciding.{done, history}
 use Rattle.block_model.specs.Events.{done_of}
 use Rattle.block_model.specs.Footprints.{bytes_of_all, have_byte}
 use Rattle.block_model.specs.Here.{Done}
-use Rattle.block_model.specs.History.{Event, History, byte, waiting}
+use Rattle.block_model.specs.History.{Event, History, byte, is_of_hart, waiting}
 use Rattle.block_model.specs.Plain.{Plain, here_of, plain_seen}
 use Rattle.block_model.specs.Run.{IsBlockRun}
 use Rattle.block_model.specs.Setting.{Seen, Setting}
@@ -16,7 +18,7 @@ use Rattle.block_model.proofs.Laws.{history-append, history-nil, next_event, run
 use Rattle.block_model.proofs.Swaps.Logs.{last_decided}
 use Rattle.block_model.proofs.Swaps.Untouched.{untouched}
 use Rattle.event_facts.specs.Lines.{next_line, numbered, waiting_on, written_in}
-use Rattle.event_facts.specs.Told.{AreWaiting, IsAsWritten, first_of, stores_of}
+use Rattle.event_facts.specs.Told.{AreExecuted, AreWaiting, IsAsWritten, IsExecuted, executed_last, first_of, is_written_last, stores_of}
 use Rattle.event_facts.specs.declared.lines.Numbered.{Numbered}
 use Rattle.event_facts.proofs.Due.{what_is_done}
 
@@ -38,12 +40,39 @@ later_byte s e before a false is was =
     let one : suc (length before) - written_in before a ≡ suc (length before - written_in before a) = omega arith in
     untouched e.done.entered a (byte s before a) is ∙ was.same ∙ ap (λ k. byte s (drop k (e ∷ before)) a) (sym one)
 
+-- and it wrote the byte
+later_wrote : (s : Setting) (e : Event) (before : History) (a : ℕ) (b : Bool) → have_byte (bytes_of_all e.done.entered) a ≡ b → IsAsWritten s before a
+    → cond b (next_line before) (written_in before a) ≢ 0 → is_written_last (first_of (cond b (next_line before) (written_in before a)) (e ∷ before)) a ≡ true
+later_wrote s e before a true is was some =
+    let none : suc (length before) - (length before + 1) ≡ 0 = omega arith in
+    ap (λ k. is_written_last (drop k (e ∷ before)) a) none ∙ is
+later_wrote s e before a false is was some =
+    let le = was.line in
+    let one : suc (length before) - written_in before a ≡ suc (length before - written_in before a) = omega arith in
+    ap (λ k. is_written_last (drop k (e ∷ before)) a) one ∙ was.wrote some
+
+-- and no line since
+none_at : (e : Event) (before : History) (a k n : ℕ) → suc (length before) - n ≡ k → n ≤ suc (length before) → have_byte (bytes_of_all e.done.entered) a ≡ false
+    → (n ≤ length before → is_written_last (first_of n before) a ≡ false) → is_written_last (drop k (e ∷ before)) a ≡ false
+none_at e before a zero n far le own others = own
+none_at e before a (suc k) n far le own others =
+    let within : n ≤ length before = omega arith in
+    let same : length before - n ≡ k = omega arith in
+    ap (λ j. is_written_last (drop j before) a) (sym same) ∙ others within
+
+later_since : (s : Setting) (e : Event) (before : History) (a : ℕ) (b : Bool) → have_byte (bytes_of_all e.done.entered) a ≡ b → IsAsWritten s before a
+    → (n : ℕ) → cond b (next_line before) (written_in before a) < n → n ≤ suc (length before) → is_written_last (first_of n (e ∷ before)) a ≡ false
+later_since s e before a true is was n more le = absurd (omega arith)
+later_since s e before a false is was n more le = none_at e before a (suc (length before) - n) n refl le is (was.since n more)
+
 pub as_written : (s : Setting) (before : History) (a : ℕ) → IsAsWritten s before a
-as_written s [] a = record { line = omega arith; same = refl }
+as_written s [] a = record { line = omega arith; wrote = λ some. absurd (some refl); since = λ n more le. absurd (omega arith); same = refl }
 as_written s (e ∷ before) a =
     let was = as_written s before a in
     record {
       line = later_line (have_byte (bytes_of_all e.done.entered) a) (length before) (written_in before a) was.line;
+      wrote = later_wrote s e before a (have_byte (bytes_of_all e.done.entered) a) refl was;
+      since = later_since s e before a (have_byte (bytes_of_all e.done.entered) a) refl was;
       same = later_byte s e before a (have_byte (bytes_of_all e.done.entered) a) refl was;
     }
 
@@ -88,6 +117,46 @@ module _ (s : Setting) (init : List Entry) (e : Entry) (run : IsBlockRun s (init
       ∙ stores_step (eqb e.hart.0 h) did.drained (waiting_on h (history s init)) (next_line (history s init)) did.executed
       ∙ ap (λ (ws : List Store). cond (eqb e.hart.0 h) (drop did.drained (ws ++ did.executed)) ws) was
       ∙ sym waiting_next
+
+-- a store that was executed in its line is so after one event more
+kept_executed : (h : ℕ) (e : Event) (before : History) (w : Numbered) → IsExecuted h before w → IsExecuted h (e ∷ before) w
+kept_executed h e before w was =
+    let le = was.within in
+    let within : w.line ≤ suc (length before) = omega arith in
+    let one : suc (length before) - w.line ≡ suc (length before - w.line) = omega arith in
+    record {
+      within = within;
+      executed = subst (λ k. Contains (executed_last h (drop k (e ∷ before))) w.store) (sym one) was.executed;
+    }
+
+-- and so is one that this event executes
+new_executed : (h : ℕ) (e : Event) (before : History) (w : Store) → is_of_hart h e ≡ true → Contains e.done.executed w
+    → IsExecuted h (e ∷ before) (numbered (next_line before) w)
+new_executed h e before w own has =
+    let within : length before + 1 ≤ suc (length before) = omega arith in
+    let none : suc (length before) - (length before + 1) ≡ 0 = omega arith in
+    record {
+      within = within;
+      executed = subst (λ k. Contains (executed_last h (drop k (e ∷ before))) w) (sym none)
+          (subst (λ b. Contains (cond b e.done.executed []) w) (sym own) has);
+    }
+
+executed_next : (h : ℕ) (e : Event) (before : History) (b : Bool) → is_of_hart h e ≡ b → AreExecuted h before
+    → All (λ w. IsExecuted h (e ∷ before) w)
+    (cond b (drop e.done.drained (waiting_on h before ++ map (numbered (next_line before)) e.done.executed)) (waiting_on h before))
+executed_next h e before true is was =
+    All-drop (λ w. IsExecuted h (e ∷ before) w) e.done.drained (waiting_on h before ++ map (numbered (next_line before)) e.done.executed)
+    (All-append (λ w. IsExecuted h (e ∷ before) w) (waiting_on h before) (map (numbered (next_line before)) e.done.executed)
+    (All-weaker (λ w. IsExecuted h before w) (λ w. IsExecuted h (e ∷ before) w) (kept_executed h e before) (waiting_on h before) was)
+    (All-map (λ w. IsExecuted h (e ∷ before) w) (numbered (next_line before)) e.done.executed
+    (All-weaker (λ (w : Store). Contains e.done.executed w) (λ (w : Store). IsExecuted h (e ∷ before) (numbered (next_line before) w))
+    (λ w has. new_executed h e before w is has) e.done.executed (All-contains_itself e.done.executed))))
+executed_next h e before false is was =
+    All-weaker (λ w. IsExecuted h before w) (λ w. IsExecuted h (e ∷ before) w) (kept_executed h e before) (waiting_on h before) was
+
+pub told_executed : (h : ℕ) (before : History) → AreExecuted h before
+told_executed h [] = All-nil (λ w. IsExecuted h [] w)
+told_executed h (e ∷ before) = executed_next h e before (is_of_hart h e) refl (told_executed h before)
 
 -- a log by its last entry
 record Ends (log : List Entry) : Type 0 where

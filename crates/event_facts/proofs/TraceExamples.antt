@@ -1,6 +1,8 @@
--- Worked examples, proved by computation: what is told of each line of a log with system calls, and of one with a fault.
+-- Worked examples, proved by computation: what is told of each line of a log with system calls, of one with a fault, of one with two
+-- threads, and of one with a signal.
 use Rattle.std.proofs.Common.{◌≡◌, ℕ, ◌-◌, ◌^◌, List, [], ◌∷◌, ◌++◌, replicate, refl}
 use Rattle.mach_types.specs.Kernel.Areas.{are_readable, number_at}
+use Rattle.mach_types.specs.Kernel.Signals.{all_signals}
 use Rattle.mach_types.specs.declared.events.Entry.{Entry}
 use Rattle.mach_types.specs.declared.events.Kind.{Kind}
 use Rattle.mach_types.specs.declared.events.Kind.TheVariants as kind
@@ -9,12 +11,18 @@ use Rattle.rv_inst.specs.Table.{row_of, rows, lui_rows, auipc_rows, jal_rows, ja
 use Rattle.block_model.specs.Deciding.{done, end_of, event}
 use Rattle.block_model.specs.History.{History}
 use Rattle.block_model.specs.Setting.{Setting}
+use Rattle.block_model.specs.Sights.{thread}
 use Rattle.event_facts.specs.Facts.{facts_of, read_facts}
+use Rattle.event_facts.specs.Pending.{signal_facts}
+use Rattle.event_facts.specs.Threads.{thread_facts}
 use Rattle.event_facts.specs.Trace.{trace_of}
 use Rattle.event_facts.specs.declared.calls.SystemCall.{SystemCall}
 use Rattle.event_facts.specs.declared.facts.Fact.{Fact}
-use Rattle.event_facts.specs.declared.facts.Fact.TheVariants.{Register, Faulted, Called, Answered, Refused, NoAnswer}
+use Rattle.event_facts.specs.declared.facts.Fact.TheVariants.{Register, Faulted, Called, Answered, Refused, NoAnswer, Interrupted, DeliveryKills, SignalPosted, ThreadChanged}
 use Rattle.event_facts.specs.declared.faults.FaultWhy.TheVariants.{NotReadable}
+use Rattle.event_facts.specs.declared.interruptions.Interruption.TheVariants.{Nothing}
+use Rattle.event_facts.specs.declared.threads.ThreadChange.{ThreadChange}
+use Rattle.event_facts.specs.declared.threads.ThreadChange.TheVariants.{Created, Ended, Runs, MadeReady}
 
 -- a program of these instructions, which stand at 0x100B0, with a page of zeros at 0x20000
 abbrev program : List ℕ → Setting
@@ -29,8 +37,15 @@ program code = record {
   limits = record { harts = 2; frames = 128; steps = 200000 };
 }
 
+abbrev by_thread : ℕ → Kind → ℕ → Entry
+by_thread t k pc = record { hart = record { 0 = 0 }; kind = k; tid = thread t; pc = pc }
+
 abbrev by : Kind → ℕ → Entry
-by k pc = record { hart = record { 0 = 0 }; kind = k; tid = record { 0 = 1 }; pc = pc }
+by k pc = by_thread 1 k pc
+
+-- what became of a thread
+abbrev became : ℕ → ThreadChange → Fact
+became t change = ThreadChanged (thread t) change
 
 -- what is told of each line
 abbrev told : Setting → History → List Entry → List (List Fact)
@@ -54,7 +69,7 @@ call_with number first = record { number = number; arguments = first ∷ 0x20000
 
 -- ENOSYS is 38
 calls_told : told (program calls) [] log ≡
-    []
+    (Interrupted Nothing ∷ became 1 Runs ∷ [])
     ∷ (Register 17 64 ∷ [])
     ∷ (Register 10 1 ∷ [])
     ∷ (Register 11 0x20000 ∷ [])
@@ -65,10 +80,59 @@ calls_told : told (program calls) [] log ≡
     ∷ (Register 17 93 ∷ [])
     ∷ (Called (call_with 93 (2 ^ 64 - 38)) ∷ NoAnswer ∷ [])
     ∷ []
-unfolding trace_of facts_of read_facts done end_of meaning row_of rows lui_rows auipc_rows jal_rows jalr_rows branch_rows load_rows store_rows op_imm_rows op_imm_32_rows op_rows op_32_rows misc_mem_rows amo_rows system_rows are_readable number_at
+unfolding trace_of signal_facts thread_facts facts_of read_facts done end_of meaning row_of rows lui_rows auipc_rows jal_rows jalr_rows branch_rows load_rows store_rows op_imm_rows op_imm_32_rows op_rows op_32_rows misc_mem_rows amo_rows system_rows are_readable number_at
 calls_told = refl
 
 -- it loads 8 bytes at 8, where nothing can be read: SIGSEGV, which is 11
-fault_told : told (program (0x03 ∷ 0x33 ∷ 0x80 ∷ 0x00 ∷ [])) [] (by kind.Run 0x100B0 ∷ by kind.Exec 0x100B0 ∷ []) ≡ [] ∷ (Faulted 11 NotReadable 8 ∷ []) ∷ []
-unfolding trace_of facts_of read_facts done end_of meaning row_of rows lui_rows auipc_rows jal_rows jalr_rows branch_rows load_rows store_rows op_imm_rows op_imm_32_rows op_rows op_32_rows misc_mem_rows amo_rows system_rows are_readable number_at
+fault_told : told (program (0x03 ∷ 0x33 ∷ 0x80 ∷ 0x00 ∷ [])) [] (by kind.Run 0x100B0 ∷ by kind.Exec 0x100B0 ∷ [])
+    ≡ (Interrupted Nothing ∷ became 1 Runs ∷ []) ∷ (Faulted 11 NotReadable 8 ∷ []) ∷ []
+unfolding trace_of signal_facts thread_facts facts_of read_facts done end_of meaning row_of rows lui_rows auipc_rows jal_rows jalr_rows branch_rows load_rows store_rows op_imm_rows op_imm_32_rows op_rows op_32_rows misc_mem_rows amo_rows system_rows are_readable number_at
 fault_told = refl
+
+-- it makes a thread by clone with the flags that must be given. It leaves its hart, where the child runs then and exits
+abbrev child : List ℕ
+child =
+    0x93 ∷ 0x08 ∷ 0xC0 ∷ 0x0D ∷ 0x37 ∷ 0x15 ∷ 0x01 ∷ 0x00 ∷ 0x13 ∷ 0x05 ∷ 0x05 ∷ 0xF0 ∷ 0x73 ∷ 0x00 ∷ 0x00 ∷ 0x00 ∷
+    0x93 ∷ 0x08 ∷ 0xD0 ∷ 0x05 ∷ 0x73 ∷ 0x00 ∷ 0x00 ∷ 0x00 ∷ []
+
+abbrev child_log : List Entry
+child_log =
+    by kind.Run 0x100B0 ∷ by kind.Exec 0x100B0 ∷ by kind.Exec 0x100B4 ∷ by kind.Exec 0x100B8 ∷ by kind.Exec 0x100BC ∷ by kind.Preempt 0x100C0
+    ∷ by_thread 2 kind.Run 0x100C0 ∷ by_thread 2 kind.Exec 0x100C0 ∷ by_thread 2 kind.Exec 0x100C4 ∷ []
+
+abbrev call_of : ℕ → ℕ → SystemCall
+call_of number first = record { number = number; arguments = first ∷ 0 ∷ 0 ∷ 0 ∷ 0 ∷ 0 ∷ [] }
+
+threads_told : told (program child) [] child_log ≡
+    (Interrupted Nothing ∷ became 1 Runs ∷ [])
+    ∷ (Register 17 220 ∷ [])
+    ∷ (Register 10 0x11000 ∷ [])
+    ∷ (Register 10 0x10F00 ∷ [])
+    ∷ (Called (call_of 220 0x10F00) ∷ Answered 2 ∷ became 2 Created ∷ Register 10 2 ∷ [])
+    ∷ (became 1 MadeReady ∷ [])
+    ∷ (Interrupted Nothing ∷ became 2 Runs ∷ [])
+    ∷ (Register 17 93 ∷ [])
+    ∷ (Called (call_of 93 0) ∷ NoAnswer ∷ became 2 Ended ∷ [])
+    ∷ []
+unfolding trace_of signal_facts thread_facts facts_of read_facts done end_of meaning row_of rows lui_rows auipc_rows jal_rows jalr_rows branch_rows load_rows store_rows op_imm_rows op_imm_32_rows op_rows op_32_rows misc_mem_rows amo_rows system_rows are_readable number_at
+threads_told = refl
+
+-- it sends itself SIGUSR1, which is 10, by tkill; that has no handler
+abbrev sends : List ℕ
+sends =
+    0x93 ∷ 0x08 ∷ 0x20 ∷ 0x08 ∷ 0x13 ∷ 0x05 ∷ 0x10 ∷ 0x00 ∷ 0x93 ∷ 0x05 ∷ 0xA0 ∷ 0x00 ∷ 0x73 ∷ 0x00 ∷ 0x00 ∷ 0x00 ∷ []
+
+abbrev signal_log : List Entry
+signal_log =
+    by kind.Run 0x100B0 ∷ by kind.Exec 0x100B0 ∷ by kind.Exec 0x100B4 ∷ by kind.Exec 0x100B8 ∷ by kind.Exec 0x100BC ∷ by kind.Signal 0x100C0 ∷ []
+
+signals_told : told (program sends) [] signal_log ≡
+    (Interrupted Nothing ∷ became 1 Runs ∷ [])
+    ∷ (Register 17 130 ∷ [])
+    ∷ (Register 10 1 ∷ [])
+    ∷ (Register 11 10 ∷ [])
+    ∷ (Called (record { number = 130; arguments = 1 ∷ 10 ∷ 0 ∷ 0 ∷ 0 ∷ 0 ∷ [] }) ∷ Answered 0 ∷ SignalPosted 10 (thread 1) ∷ Register 10 0 ∷ [])
+    ∷ (Interrupted Nothing ∷ DeliveryKills 10 ∷ [])
+    ∷ []
+unfolding all_signals trace_of signal_facts thread_facts facts_of read_facts done end_of meaning row_of rows lui_rows auipc_rows jal_rows jalr_rows branch_rows load_rows store_rows op_imm_rows op_imm_32_rows op_rows op_32_rows misc_mem_rows amo_rows system_rows are_readable number_at
+signals_told = refl

@@ -20,7 +20,7 @@ use Rattle.rv_inst.specs.declared.effects.Effect.{Effect}
 use Rattle.rv_inst.specs.declared.effects.Effect.TheVariants as effect
 use Rattle.block_model.specs.Deciding.{done}
 use Rattle.block_model.specs.Here.{Done, Here, memory, view}
-use Rattle.block_model.specs.History.{History, here_in_history}
+use Rattle.block_model.specs.History.{History, file_among, here_in_history}
 use Rattle.block_model.specs.PlainEvents.{is_plain}
 use Rattle.block_model.specs.Setting.{Setting}
 use Rattle.block_model.specs.Sights.{effect_here}
@@ -111,12 +111,9 @@ register_fact before after n = if register before n == register after n then [] 
 abbrev pub register_facts : Regs → Regs → List Fact
 register_facts before after = flat_map (register_fact before after) (range_with_len 0 32)
 
--- of thread t, where an event set its file
-abbrev pub file_facts : Here → ℕ → ℕ × Saved → List Fact
-file_facts here t p = if p.0 == t then register_facts (here.file t).file p.1.file else []
-
+-- of thread t, by an event that set these files
 abbrev pub files_facts : Here → ℕ → List (ℕ × Saved) → List Fact
-files_facts here t files = flat_map (file_facts here t) files
+files_facts here t files = register_facts (here.file t).file (file_among files t (here.file t)).file
 
 -- ALL
 

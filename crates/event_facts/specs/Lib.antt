@@ -2,11 +2,14 @@ pub mod Calls
 pub mod Deeds
 pub mod Facts
 pub mod Faults
+pub mod Interruptions
 pub mod Lines
+pub mod Pending
 pub mod Requests
 pub mod Reservations
 pub mod Sources
 pub mod Telling
+pub mod Threads
 pub mod Tied
 pub mod Told
 pub mod Trace

@@ -1,5 +1,5 @@
 -- What becomes of reservations (RISC-V Unprivileged ISA, chapter "A", LR and SC; what ends one beside them is own).
-use Rattle.std.specs.Prelude.{ℕ, ◌==◌, List, [], ◌∷◌, if◌then◌else◌, Option, Some, None, is_none}
+use Rattle.std.specs.Prelude.{ℕ, ◌==◌, List, [], ◌∷◌, ◌++◌, if◌then◌else◌, Option, Some, None, is_none}
 use Rattle.std.specs.List.{flat_map, range_with_len}
 use Rattle.mach_types.specs.declared.events.Hart.{Hart}
 use Rattle.mach_types.specs.declared.user_memory.Write.{Write}
@@ -17,9 +17,18 @@ ended_facts None after = []
 ended_facts (Some r) None = Ended r ∷ []
 ended_facts (Some r) (Some after) = []
 
--- an SC: it uses the reservation of its address; or it fails, and ends whichever its hart has
+-- an LR: it reserves the 8 bytes round its address, and takes the place of a reservation of other bytes, which ends
+abbrev pub replaced_facts : Option ℕ → ℕ → List Fact
+replaced_facts reserved at = if is_reserved reserved at then [] else ended_facts reserved None
+
+abbrev pub lr_facts : Option ℕ → ℕ → List Fact
+lr_facts reserved at = replaced_facts reserved at ++ Reserved (reserved_at at) ∷ []
+
+-- an SC: it uses the reservation of the 8 bytes round its address; or it fails there, and ends whichever its hart has
 abbrev pub sc_facts : Option ℕ → ℕ → List Fact
-sc_facts reserved at = if is_reserved reserved at then Used (reserved_at at) ∷ [] else Failed at ∷ ended_facts reserved None
+sc_facts reserved at =
+    if is_reserved reserved at then Used (reserved_at at) ∷ []
+    else Failed (reserved_at at) ∷ ended_facts reserved None
 
 -- an instruction with this effect, on a hart that has this reserved: LR reserves, SC uses or fails, and no other changes it
 abbrev pub reserving_facts : Option ℕ → Effect → List Fact
@@ -27,7 +36,7 @@ reserving_facts reserved (effect.Next rd value to) = []
 reserving_facts reserved (effect.Load at size is_signed rd) = []
 reserving_facts reserved (effect.Store at size value) = []
 reserving_facts reserved (effect.Amo op at size value rd) = []
-reserving_facts reserved (effect.Lr at size rd) = Reserved (reserved_at at) ∷ []
+reserving_facts reserved (effect.Lr at size rd) = lr_facts reserved at
 reserving_facts reserved (effect.Sc at size value rd) = sc_facts reserved at
 reserving_facts reserved (effect.Fence full) = []
 reserving_facts reserved effect.FenceI = []

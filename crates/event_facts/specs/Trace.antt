@@ -1,6 +1,6 @@
 -- All that is told of an event (own), in order: what is read at the place before it, what is read at the place after it, and its facts of
 -- memory, of reservations and of registers.
-use Rattle.std.specs.Prelude.{List, ◌∷◌, ◌++◌, Option}
+use Rattle.std.specs.Prelude.{◌≡◌, List, ◌∷◌, ◌++◌}
 use Rattle.mach_types.specs.Events.{choice_of}
 use Rattle.mach_types.specs.declared.events.Choice.{Choice}
 use Rattle.mach_types.specs.declared.events.Entry.{Entry}
@@ -11,23 +11,42 @@ use Rattle.block_model.specs.Setting.{Setting}
 use Rattle.event_facts.specs.Calls.{answer_facts, call_by, call_facts}
 use Rattle.event_facts.specs.Facts.{facts_of}
 use Rattle.event_facts.specs.Faults.{fault_facts}
+use Rattle.event_facts.specs.Interruptions.{came_last, interrupted_facts}
+use Rattle.event_facts.specs.Pending.{all_pending, delivered_by, delivered_facts, signal_facts}
 use Rattle.event_facts.specs.Requests.{begun_facts, request_facts}
-use Rattle.event_facts.specs.declared.calls.SystemCall.{SystemCall}
+use Rattle.event_facts.specs.Threads.{AreBefore, thread_facts}
 use Rattle.event_facts.specs.declared.facts.Fact.{Fact}
+use Rattle.event_facts.specs.declared.places.Before.{Before}
 
 -- before it: the fault that it makes, the requests of barriers that it takes or the barrier that returns by it, and the call that it makes
 abbrev pub facts_before : Choice → Here → List Fact
 facts_before c here = fault_facts c here ++ request_facts c here ++ call_facts (call_by c here)
 
--- after an entry, which is this call or none: how that was answered, and the barrier that it began
-abbrev pub facts_after : Setting → History → Entry → Option SystemCall → List Fact
-facts_after s past entry call =
-    answer_facts s past entry call ++ begun_facts call (here_in_history s past entry.hart.0).awaits
+-- after an entry, before which a rule may read this: how the call was answered that it is, the barrier that this began, what the interruption
+-- of its thread came to, the delivery of a signal, and what became of pending signals and of threads
+abbrev pub facts_after : Setting → History → Entry → Here → List Fact
+facts_after s past entry here =
+    let after = here_in_history s past entry.hart.0 in
+    let call = call_by (choice_of entry) here in
+    let delivered = delivered_by (choice_of entry) entry.tid.0 here.kernel.signals in
+    answer_facts s past entry call
+    ++ begun_facts call after.awaits
+    ++ interrupted_facts after entry (came_last past)
+    ++ delivered_facts s past entry delivered
+    ++ signal_facts here.kernel.threads.given delivered entry.tid.0 here.kernel.signals after.kernel.signals
+    ++ thread_facts here.kernel.threads after.kernel.threads
 
 -- of an entry after a history
 unfoldable pub trace_of : Setting → History → Entry → List Fact
 trace_of s before entry =
     let here = here_in_history s before entry.hart.0 in
     facts_before (choice_of entry) here
-    ++ facts_after s (event s before entry ∷ before) entry (call_by (choice_of entry) here)
+    ++ facts_after s (event s before entry ∷ before) entry here
     ++ facts_of s before entry
+
+-- what is kept of the place before an entry
+pub record IsBefore (entry : Entry) (here : Here) (x : Before) : Type 0 where
+  pub call : x.call ≡ call_by (choice_of entry) here
+  pub threads : AreBefore here.kernel.threads x.threads
+  pub pending : x.pending.items ≡ all_pending here.kernel.signals x.threads.given
+  pub delivered : x.delivered ≡ delivered_by (choice_of entry) entry.tid.0 here.kernel.signals

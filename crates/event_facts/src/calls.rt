@@ -147,11 +147,18 @@ fn is_it(running: Option<Tid>, tid: Tid) -> bool
     }
 }
 
+/// Whether a process has ended.
+pub(crate) fn is_process_end(end: End) -> bool
+    ensures { result ≡ spec.is_process_end end }
+{
+    matches!(end, End::Exit(_) | End::Killed(_))
+}
+
 /// Whether a call of a number has no answer where the run is at this end.
 fn has_no_answer(number: u64, end: End) -> bool
     ensures { result ≡ spec.has_no_answer number end }
 {
-    number == RT_SIGRETURN || matches!(end, End::Exit(_) | End::Killed(_))
+    number == RT_SIGRETURN || is_process_end(end)
 }
 
 /// How the call was answered that an entry is, which was made.

@@ -6,7 +6,9 @@ ghost use Rattle.event_facts.specs.Sources.{same_source};
 
 use crate::calls::SystemCall;
 use crate::faults::FaultWhy;
-use mach_types::{Hart, Store};
+use crate::interruptions::Interruption;
+use crate::threads::ThreadChange;
+use mach_types::{Hart, Store, Tid};
 
 /// Where a byte comes from that is read.
 #[derive(Clone, Copy, Drop)]
@@ -50,7 +52,7 @@ pub enum Fact {
     Used {
         at: u64,
     },
-    /// An SC at `at` failed, which wasn't reserved.
+    /// An SC in the 8 bytes at `at` failed, which weren't reserved.
     Failed {
         at: u64,
     },
@@ -98,6 +100,33 @@ pub enum Fact {
     /// The call began a barrier, for which these harts have to take its request, one bit each.
     BarrierBegins {
         harts: u8,
+    },
+    /// The thread that made the event was interrupted (rseq(2)), and it came to this.
+    Interrupted(Interruption),
+    /// This signal was delivered, and the thread entered the handler at `at`, with its frame at `frame`.
+    HandlerEntered {
+        signal: u8,
+        at: u64,
+        frame: u64,
+    },
+    /// The delivery of this signal ended the process.
+    DeliveryKills {
+        signal: u8,
+    },
+    /// This signal came to be pending for a thread.
+    SignalPosted {
+        signal: u8,
+        tid: Tid,
+    },
+    /// This signal is pending for a thread no longer, and wasn't delivered.
+    SignalDropped {
+        signal: u8,
+        tid: Tid,
+    },
+    /// This became of a thread.
+    ThreadChanged {
+        tid: Tid,
+        change: ThreadChange,
     },
     /// The call has no answer: its thread or the process ended, or the thread goes on with what stands in a
     /// signal frame.

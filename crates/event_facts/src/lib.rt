@@ -4,14 +4,17 @@
 //! [`Lines`] knows in which line of the log each store was executed that waits, and in which line each byte
 //! of memory was written last. [`plain_event`] looks whether the next event is plain: an instruction that
 //! makes neither a fault nor a call, or a store that enters memory. [`tell`] makes a plain event on a
-//! machine, and tells its facts.
+//! machine, and tells its facts. [`push_before`] and [`push_after`] tell of any event what is read at the places
+//! before it and after it: faults, calls, barriers, interruptions, signals and threads.
 #![tactic(auto)]
 
 mod calls;
 mod deeds;
 mod facts;
 mod faults;
+mod interruptions;
 mod lines;
+mod pending;
 mod places;
 mod reads;
 mod registers;
@@ -19,12 +22,15 @@ mod requests;
 mod reservations;
 mod telling;
 mod theorems;
+mod threads;
 mod written;
 
 pub use calls::SystemCall;
 pub use facts::{Fact, Source};
 pub use faults::FaultWhy;
+pub use interruptions::{Interruption, WrongWord};
 pub use lines::{Lines, Numbered};
-pub use places::{push_after, push_before};
+pub use places::{Before, push_after, push_before};
 pub use telling::{PlainEvent, plain_event, tell};
 pub use theorems::{lines_are_told_rightly, plain_events_are_told_by_their_facts};
+pub use threads::ThreadChange;

@@ -2,18 +2,35 @@
 
 ghost use Rattle.std.specs.Prelude.{◌≡◌, ◌<◌, ◌++◌, IfOk, OnOk};
 ghost use Rattle.mach_types.specs.Events.{choice_of};
-ghost use Rattle.event_facts.specs.Calls.{call_by};
+ghost use Rattle.block_model.specs.Here.{Here};
 ghost use Rattle.event_facts.specs.Faults.{fault_facts};
+ghost use Rattle.event_facts.specs.Interruptions.{came_last};
 ghost use Rattle.event_facts.specs.Telling.{here_on, past_of};
-ghost use Rattle.event_facts.specs.Trace.{facts_after, facts_before};
+ghost use Rattle.event_facts.specs.Trace.{IsBefore, facts_after, facts_before};
 
 use crate::calls::{SystemCall, next_call, push_answer, push_called};
 use crate::facts::Fact;
 use crate::faults::push_fault;
+use crate::interruptions::push_interrupted;
+use crate::pending::{all_pending, next_delivered, push_delivered, push_signals};
 use crate::requests::{push_begun, push_requests};
-use mach_types::{Entry, Kind};
+use crate::threads::{ThreadsBefore, push_threads};
+use mach_types::{Entry, Kind, Outcome};
 use machine_core::Machine;
-use std::alloc::AllocError;
+use std::alloc::{AllocError, Global};
+
+/// What is kept of the place before an event, until that was made.
+#[derive(Drop)]
+pub struct Before {
+    /// The call that the event is, if it is one.
+    pub(crate) call: Option<SystemCall>,
+    /// The threads.
+    pub(crate) threads: ThreadsBefore,
+    /// What is pending for each of these, in the same order; None where no signals are kept of one.
+    pub(crate) pending: Vec<Option<u64>>,
+    /// The signal that the event delivers, if it delivers one.
+    pub(crate) delivered: Option<u8>,
+}
 
 /// Appends the fault of an entry, the next event of its hart, if it makes one.
 fn push_fault_of(facts: &mut Vec<Fact>, machine: &Machine, entry: Entry) -> Result<(), AllocError>
@@ -28,18 +45,19 @@ fn push_fault_of(facts: &mut Vec<Fact>, machine: &Machine, entry: Entry) -> Resu
 }
 
 /// Appends what is told of an entry that is read at the place before it: the fault that it makes, the requests
-/// of barriers that it takes or the barrier that returns by it, and the call that it makes. Answers that call,
-/// for [`push_after`].
+/// of barriers that it takes or the barrier that returns by it, and the call that it makes. Answers what
+/// [`push_after`] has to know of this place.
 ///
 /// The entry is the next event of its hart on the machine. It errs only for want of memory.
 pub fn push_before(
+    alloc: Global,
     facts: &mut Vec<Fact>,
     machine: &Machine,
     entry: Entry,
-) -> Result<Option<SystemCall>, AllocError>
+) -> Result<Before, AllocError>
     requires { entry.hart.0 < machine.now.setting.limits.harts }
-    ensures call { IfOk result
-        (λ call. call ≡ call_by (choice_of entry) (here_on machine.now entry.hart.0)) }
+    ensures before { IfOk result
+        (λ before. IsBefore entry (here_on machine.now entry.hart.0) before) }
     ensures facts { OnOk result (facts.new.items ≡ facts.old.items
         ++ facts_before (choice_of entry) (here_on machine.now entry.hart.0)) }
 {
@@ -47,24 +65,50 @@ pub fn push_before(
     push_fault_of(facts, machine, entry)?;
     push_requests(facts, machine, entry)?;
     push_called(facts, call)?;
-    Ok(call)
+    let kernel = machine.kernel();
+    let threads = ThreadsBefore::of(alloc, &kernel.threads)?;
+    let pending = all_pending(alloc, &kernel.signals, threads.given)?;
+    let delivered = next_delivered(&kernel.signals, entry);
+    Ok(Before {
+        call,
+        threads,
+        pending,
+        delivered,
+    })
 }
 
 /// Appends what is told of an entry that is read at the place after it: how the call was answered that it is,
-/// and the barrier that this began.
+/// the barrier that this began, what the interruption of its thread came to, the delivery of a signal, and what
+/// became of pending signals and of threads.
 ///
-/// The machine has made the entry, which is this call or none. It errs only for want of memory.
+/// The machine has made the entry, `before` is what [`push_before`] answered, and `came` what the interruption of
+/// the entry's thread came to, if there was one. It errs only for want of memory.
 pub fn push_after(
     facts: &mut Vec<Fact>,
     machine: &Machine,
     entry: Entry,
-    call: Option<SystemCall>,
+    before: &Before,
+    came: Option<Outcome>,
 ) -> Result<(), AllocError>
-    requires { entry.hart.0 < machine.now.setting.limits.harts }
-    ensures { OnOk result (facts.new.items ≡ facts.old.items
-        ++ facts_after machine.now.setting (past_of machine.now) entry call) }
+    requires hart { entry.hart.0 < machine.now.setting.limits.harts }
+    requires came { came ≡ came_last (past_of machine.now) }
+    ensures { OnOk result ((here : Here) → IsBefore entry here before.now
+        → facts.new.items ≡ facts.old.items
+        ++ facts_after machine.now.setting (past_of machine.now) entry here) }
 {
-    push_answer(facts, machine, entry, call)?;
-    push_begun(facts, call, machine.hart(entry.hart).waits)?;
+    push_answer(facts, machine, entry, before.call)?;
+    push_begun(facts, before.call, machine.hart(entry.hart).waits)?;
+    push_interrupted(facts, machine, entry, came)?;
+    push_delivered(facts, machine, entry, before.delivered)?;
+    let kernel = machine.kernel();
+    push_signals(
+        facts,
+        &before.pending,
+        before.threads.given,
+        before.delivered,
+        entry.tid,
+        &kernel.signals,
+    )?;
+    push_threads(facts, &before.threads, &kernel.threads)?;
     Ok(())
 }

@@ -4,7 +4,7 @@ ghost use Rattle.std.specs.Prelude.{◌≡◌, ◌<◌, ◌++◌, ◌∷◌, [],
 ghost use Rattle.mach_types.specs.Bytes.{all_stored};
 ghost use Rattle.mach_types.specs.declared.user_memory.Write.TheVariants.{Stored};
 ghost use Rattle.rv_inst.specs.Execution as execution;
-ghost use Rattle.event_facts.specs.Reservations.{all_lost, ended_facts, lost_facts, lost_of, reserving_facts, sc_facts};
+ghost use Rattle.event_facts.specs.Reservations.{all_lost, ended_facts, lost_facts, lost_of, lr_facts, replaced_facts, reserving_facts, sc_facts};
 ghost use Rattle.event_facts.specs.Telling.{past_of};
 
 use crate::deeds::{is_reserved, reserved_at};
@@ -24,6 +24,27 @@ fn push_ended(facts: &mut Vec<Fact>, reserved: Option<u64>) -> Result<(), AllocE
     Ok(())
 }
 
+/// Appends that a reservation ended that an LR at an address takes the place of: one of other bytes.
+fn push_replaced(facts: &mut Vec<Fact>, reserved: Option<u64>, at: u64) -> Result<(), AllocError>
+    ensures { OnOk result (facts.new.items ≡ facts.old.items ++ replaced_facts reserved at) }
+{
+    if is_reserved(reserved, at) {
+        return Ok(());
+    }
+    push_ended(facts, reserved)
+}
+
+/// Appends what an LR makes of the reservation of its hart.
+fn push_lr(facts: &mut Vec<Fact>, reserved: Option<u64>, at: u64) -> Result<(), AllocError>
+    ensures { OnOk result (facts.new.items ≡ facts.old.items ++ lr_facts reserved at) }
+{
+    push_replaced(facts, reserved, at)?;
+    facts.push(Fact::Reserved {
+        at: reserved_at(at),
+    })?;
+    Ok(())
+}
+
 /// Appends what an SC makes of the reservation of its hart.
 fn push_sc(facts: &mut Vec<Fact>, reserved: Option<u64>, at: u64) -> Result<(), AllocError>
     ensures { OnOk result (facts.new.items ≡ facts.old.items ++ sc_facts reserved at) }
@@ -34,7 +55,9 @@ fn push_sc(facts: &mut Vec<Fact>, reserved: Option<u64>, at: u64) -> Result<(), 
         })?;
         return Ok(());
     }
-    facts.push(Fact::Failed { at })?;
+    facts.push(Fact::Failed {
+        at: reserved_at(at),
+    })?;
     push_ended(facts, reserved)
 }
 
@@ -47,12 +70,7 @@ pub(crate) fn push_reserving(
     ensures { OnOk result (facts.new.items ≡ facts.old.items ++ reserving_facts reserved effect.now) }
 {
     match *effect {
-        Effect::Lr { at, .. } => {
-            facts.push(Fact::Reserved {
-                at: reserved_at(at),
-            })?;
-            Ok(())
-        }
+        Effect::Lr { at, .. } => push_lr(facts, reserved, at),
         Effect::Sc { at, .. } => push_sc(facts, reserved, at),
         _ => Ok(()),
     }

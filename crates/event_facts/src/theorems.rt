@@ -9,20 +9,22 @@ ghost use Rattle.block_model.specs.Run.{IsBlockRun};
 ghost use Rattle.block_model.specs.Setting.{Setting};
 ghost use Rattle.event_facts.specs.Facts.{facts_of};
 ghost use Rattle.event_facts.specs.Telling.{plain_event_of};
-ghost use Rattle.event_facts.specs.Told.{AreWaiting, IsAsWritten};
+ghost use Rattle.event_facts.specs.Told.{AreExecuted, AreWaiting, IsAsWritten};
 ghost use Rattle.event_facts.specs.Trace.{trace_of};
 ghost use Rattle.event_facts.specs.declared.telling.PlainEvent.{PlainEvent};
 
-/// After a block run the stores that are told to wait on a hart are those that wait there, in their order;
-/// and a byte of memory is as the line left it that is told to have written it last, since none has written
-/// it after that.
+/// After a block run the stores that are told to wait on a hart are those that wait there, in their order, and
+/// that hart executed each of them in its line; and a byte of memory was written in the line that is told to
+/// have written it last, and is as that left it, since none has written it after that.
 pub fn lines_are_told_rightly()
     ensures waiting { (s : Setting) (log : List Entry) (h : ℕ) → IsBlockRun s log → AreWaiting h (history s log) }
+    ensures executed { (before : History) (h : ℕ) → AreExecuted h before }
     ensures written { (s : Setting) (before : History) (a : ℕ) → IsAsWritten s before a }
 {}
 
 /// All that is told of a plain event are its facts of memory, of reservations and of registers: it is neither a
-/// fault nor a call, and neither takes requests nor lets a barrier return.
+/// fault nor a call, neither takes requests nor lets a barrier return, interrupts no thread, delivers no signal,
+/// and changes neither what is pending nor a thread's state.
 pub fn plain_events_are_told_by_their_facts()
     ensures { (s : Setting) (before : History) (entry : Entry) (event : PlainEvent)
         → plain_event_of (choice_of entry) (here_in_history s before entry.hart.0) ≡ Some event

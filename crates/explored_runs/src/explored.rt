@@ -49,6 +49,8 @@ pub struct Explored {
     pub others: Option<Others>,
     /// How many runs there were.
     pub runs: u64,
+    /// How many entries their logs have together, 2^64 - 1 at most. It isn't told.
+    pub(crate) steps: u64,
     /// What was tried in them.
     pub tried: Tried,
 }
@@ -62,6 +64,7 @@ impl Explored {
             found: Vec::with_capacity(alloc, MOST_FOUND)?,
             others: None,
             runs: 0,
+            steps: 0,
             tried: Tried::nothing(),
         })
     }
@@ -84,6 +87,7 @@ impl Explored {
         ensures { OnOk result (account_of self.new ≡ told (account_of self.old) made) }
     {
         self.runs += 1;
+        self.steps = self.steps.saturating_add(u64::from(made.steps));
         self.tried.count(&made.tally);
         tell_outcome(&mut self.found, &mut self.others, made)
     }

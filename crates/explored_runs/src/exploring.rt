@@ -12,16 +12,19 @@ use crate::made::make_run;
 use drawn_machine::DrawnRun;
 use elf_load::Image;
 use mach_types::Limits;
+use outside::Sink;
 use std::alloc::{AllocError, Global};
 
 /// Makes the runs of an exploration, one after the other, and tells what they come to.
 ///
-/// Fails only where memory is short. No more is kept than the outcomes that are told apart.
-pub fn explore(
+/// Fails only where memory is short. No more is kept than the outcomes that are told apart. The sink hears how far it is, and
+/// nothing is put there.
+pub fn explore<K: Sink>(
     alloc: Global,
     image: &Image,
     limits: Limits,
     exploration: &Exploration,
+    sink: &K,
 ) -> Result<Explored, AllocError>
     requires image { IsBootable limits.frames image.now }
     requires limits { InRange limits }
@@ -31,6 +34,7 @@ pub fn explore(
     let mut explored = Explored::nothing(alloc)?;
     let mut run = DrawnRun::at_start(alloc, image, limits, exploration.first)?;
     'runs: while explored.runs < exploration.runs && !explored.has_enough(exploration.until) {
+        sink.show_progress(explored.runs, exploration.runs);
         let made = make_run(alloc, &mut run, image, limits, exploration, explored.runs)?;
         explored.tell(made)?;
     }

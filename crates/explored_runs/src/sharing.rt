@@ -14,23 +14,28 @@ use crate::made::{Made, make_run};
 use drawn_machine::DrawnRun;
 use elf_load::Image;
 use mach_types::Limits;
+use outside::Sink;
 use std::alloc::{AllocError, Global};
 use std::thread::{self, Threads};
 
-/// How many runs a host thread makes in a round.
-const STRETCH: u64 = 256;
+/// How many runs a host thread makes in a round at most.
+const MOST_RUNS: u64 = 256;
+
+/// About how many entries the runs have together that a host thread makes in a round, where 256 runs have more.
+const ENTRIES: u64 = 200_000;
 
 /// Makes the runs of an exploration on so many host threads, and tells what they come to.
 ///
 /// The runs are made in rounds and told in the order of their seeds, so that what is told is what [`crate::explore`] tells.
-/// Fails only where memory is short.
-pub fn explore_on<R: Threads + Sync>(
+/// Fails only where memory is short. Between the rounds the sink hears how far it is, and nothing is put there.
+pub fn explore_on<R: Threads + Sync, K: Sink>(
     alloc: Global,
     rt: &R,
     image: &Image,
     limits: Limits,
     exploration: &Exploration,
     jobs: u8,
+    sink: &K,
 ) -> Result<Explored, AllocError>
     requires image { IsBootable limits.frames image.now }
     requires limits { InRange limits }
@@ -40,6 +45,7 @@ pub fn explore_on<R: Threads + Sync>(
 {
     let mut explored = Explored::nothing(alloc)?;
     'rounds: while explored.runs < exploration.runs && !explored.has_enough(exploration.until) {
+        sink.show_progress(explored.runs, exploration.runs);
         tell_round(&mut explored, alloc, rt, image, limits, exploration, jobs)?;
     }
     Ok(explored)
@@ -66,7 +72,7 @@ fn tell_round<R: Threads + Sync>(
         (IsExploring (setting_of image.now limits) exploration.now (account_of explored.new)) }
     ensures more { OnOk result (explored.old.runs < explored.new.runs) }
 {
-    let mut round = make_round(alloc, rt, image, limits, exploration, explored.runs, jobs)?;
+    let mut round = make_round(alloc, rt, image, limits, exploration, explored, jobs)?;
     for made in round.iter_mut() {
         let Some(made) = made.take() else {
             return Err(AllocError);
@@ -79,6 +85,17 @@ fn tell_round<R: Threads + Sync>(
     Ok(())
 }
 
+/// How many runs a host thread makes in the round behind these runs, 1 to 256: where they are long, as many as have about
+/// [`ENTRIES`] entries together. So a round of long runs is soon over too.
+fn stretch_after(explored: &Explored) -> u64
+    requires { explored.now.runs ≤ 1000000000 }
+    ensures some { 0 < result }
+    ensures few { result ≤ 256 }
+{
+    let fitting = ENTRIES * explored.runs / explored.steps.max(1);
+    fitting.clamp(1, MOST_RUNS)
+}
+
 /// Makes the runs of the next places, a stretch for each host thread and no more than are asked for. A run is absent where memory
 /// was short.
 fn make_round<R: Threads + Sync>(
@@ -87,20 +104,21 @@ fn make_round<R: Threads + Sync>(
     image: &Image,
     limits: Limits,
     exploration: &Exploration,
-    from: u64,
+    explored: &Explored,
     jobs: u8,
 ) -> Result<Vec<Option<Made>>, AllocError>
     requires image { IsBootable limits.frames image.now }
     requires limits { InRange limits }
     requires runs { exploration.now.runs ≤ 1000000000 }
-    requires from { from < exploration.now.runs }
+    requires some { explored.now.runs < exploration.now.runs }
     requires jobs { 0 < jobs }
     ensures some { IfOk result (λ round. 0 < length round.items) }
-    ensures few { IfOk result (λ round. from + length round.items ≤ exploration.now.runs) }
+    ensures few { IfOk result (λ round. explored.now.runs + length round.items ≤ exploration.now.runs) }
     ensures made { IfOk result (λ round.
-        AreMadeFrom (setting_of image.now limits) exploration.now from round.items) }
+        AreMadeFrom (setting_of image.now limits) exploration.now explored.now.runs round.items) }
 {
-    let count = (exploration.runs - from).min(STRETCH * u64::from(jobs));
+    let from = explored.runs;
+    let count = (exploration.runs - from).min(stretch_after(explored) * u64::from(jobs));
     let mut round = empty_round(alloc, count)?;
     let stretch = round.len().div_ceil(usize::from(jobs));
     thread::for_each_chunk_mut(

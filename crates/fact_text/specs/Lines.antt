@@ -1,19 +1,24 @@
--- The line of a fact (own): fields, one space apart, behind two spaces. The numbers of lines, harts, sizes, lengths, registers and signals
--- are decimal; addresses, values and arguments are 16 lower-case hexadecimal digits.
+-- The line of a fact (own): fields, one space apart, behind two spaces. The numbers of lines, harts, threads, sizes, lengths, registers and
+-- signals are decimal; addresses, values and arguments are 16 lower-case hexadecimal digits.
 use Rattle.std.specs.Prelude.{ℕ, ◌==◌, List, [], ◌∷◌, ◌++◌, length, take, Bool, if◌then◌else◌, codes}
 use Rattle.std.specs.Fmt.{decimal}
 use Rattle.std.specs.List.{flat_map}
 use Rattle.mach_types.specs.declared.user_memory.Store.{Store}
 use Rattle.event_facts.specs.declared.calls.SystemCall.{SystemCall}
 use Rattle.event_facts.specs.declared.facts.Fact.{Fact}
-use Rattle.event_facts.specs.declared.facts.Fact.TheVariants.{Read, Waits, Entered, Zeroed, Reserved, Used, Failed, Ended, Lost, Register, Faulted, RequestsTaken, BarrierReturns, Called, Answered, Refused, AnsweredLater, BarrierBegins, NoAnswer}
+use Rattle.event_facts.specs.declared.facts.Fact.TheVariants.{Read, Waits, Entered, Zeroed, Reserved, Used, Failed, Ended, Lost, Register, Faulted, RequestsTaken, BarrierReturns, Called, Answered, Refused, AnsweredLater, BarrierBegins, Interrupted, HandlerEntered, DeliveryKills, SignalPosted, SignalDropped, ThreadChanged, NoAnswer}
 use Rattle.event_facts.specs.declared.faults.FaultWhy.{FaultWhy}
 use Rattle.event_facts.specs.declared.faults.FaultWhy.TheVariants.{NotAligned, NotExecutable, NoInstruction, Breakpoint, MisalignedJump, MisalignedAccess, NotReadable, NotWritable}
 use Rattle.event_facts.specs.declared.facts.Source.{Source}
 use Rattle.event_facts.specs.declared.facts.Source.TheVariants.{Start, Memory, Waiting}
+use Rattle.event_facts.specs.declared.interruptions.Interruption.{Interruption}
+use Rattle.event_facts.specs.declared.interruptions.Interruption.TheVariants as came
+use Rattle.event_facts.specs.declared.threads.ThreadChange.{ThreadChange}
+use Rattle.event_facts.specs.declared.threads.ThreadChange.TheVariants as becomes
 use Rattle.fact_text.specs.CallNames.{argument_count, call_name, errno_name}
-use Rattle.place_text.specs.Fields.{behind, harts_fields, line, value_text, yes_or_no}
+use Rattle.place_text.specs.Fields.{behind, harts_fields, line, value_or_none, value_text, yes_or_no}
 use Rattle.place_text.specs.Registers.{register_name}
+use Rattle.place_text.specs.Sequences.{bad_word}
 use Rattle.step_log.specs.Text.{newline, space}
 
 -- where bytes come from: `start`, `memory N` or `store N`, with the number of a line
@@ -100,6 +105,44 @@ call_line c =
 abbrev pub error_line : ℕ → List ℕ
 error_line errno = line (codes "  error") (name_or_number (errno_name errno) errno ∷ [])
 
+-- what an interruption came to: `nothing`, `cleared`, `aborted FROM TO`, or `killed WHY AT VALUE` with the word that was wrong
+abbrev pub interruption_fields : Interruption → List (List ℕ)
+interruption_fields came.Nothing = codes "nothing" ∷ []
+interruption_fields came.Cleared = codes "cleared" ∷ []
+interruption_fields (came.Aborted from to) = codes "aborted" ∷ value_text from ∷ value_text to ∷ []
+interruption_fields (came.Killed why wrong) =
+    codes "killed" ∷ bad_word why ∷ value_text wrong.at ∷ value_or_none wrong.value ∷ []
+
+-- `interrupted ..`
+abbrev pub interruption_line : Interruption → List ℕ
+interruption_line interruption = line (codes "  interrupted") (interruption_fields interruption)
+
+-- `signal S posted T`, or `dropped T`
+abbrev pub signal_line : ℕ → List ℕ → ℕ → List ℕ
+signal_line signal word t = line (codes "  signal") (decimal signal ∷ word ∷ decimal t ∷ [])
+
+-- `signal S delivered handler AT frame SP`, or `signal S delivered kills`
+abbrev pub handler_line : ℕ → ℕ → ℕ → List ℕ
+handler_line signal at frame =
+    line (codes "  signal")
+    (decimal signal ∷ codes "delivered" ∷ codes "handler" ∷ value_text at ∷ codes "frame" ∷ value_text frame ∷ [])
+
+abbrev pub kills_line : ℕ → List ℕ
+kills_line signal = line (codes "  signal") (decimal signal ∷ codes "delivered" ∷ codes "kills" ∷ [])
+
+-- what became of a thread: `created`, `ended`, `runs`, `ready`, `sleeps AT` or `woken`
+abbrev pub change_fields : ThreadChange → List (List ℕ)
+change_fields becomes.Created = codes "created" ∷ []
+change_fields becomes.Ended = codes "ended" ∷ []
+change_fields becomes.Runs = codes "runs" ∷ []
+change_fields becomes.MadeReady = codes "ready" ∷ []
+change_fields (becomes.Sleeps at) = codes "sleeps" ∷ value_text at ∷ []
+change_fields becomes.Woken = codes "woken" ∷ []
+
+-- `thread T ..`
+abbrev pub thread_line : ℕ → ThreadChange → List ℕ
+thread_line t change = line (codes "  thread") (decimal t ∷ change_fields change)
+
 -- the line of a fact
 abbrev pub fact_line : Fact → List ℕ
 fact_line (Read at size value source) = read_line at size value source
@@ -120,6 +163,12 @@ fact_line (Answered value) = address_line (codes "  answer") value
 fact_line (Refused errno) = error_line errno
 fact_line AnsweredLater = codes "  answer later\n"
 fact_line (BarrierBegins harts) = begins_line harts
+fact_line (Interrupted interruption) = interruption_line interruption
+fact_line (HandlerEntered signal at frame) = handler_line signal at frame
+fact_line (DeliveryKills signal) = kills_line signal
+fact_line (SignalPosted signal tid) = signal_line signal (codes "posted") tid.0
+fact_line (SignalDropped signal tid) = signal_line signal (codes "dropped") tid.0
+fact_line (ThreadChanged tid change) = thread_line tid.0 change
 fact_line NoAnswer = codes "  no answer\n"
 
 -- the lines of facts, in order

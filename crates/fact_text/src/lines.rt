@@ -6,13 +6,13 @@ ghost use Rattle.fact_text.specs.Lines as spec;
 ghost use Rattle.place_text.specs.Fields.{behind};
 
 use crate::call_names::{argument_count, call_name, errno_name};
-use event_facts::{Fact, FaultWhy, Source, SystemCall};
-use mach_types::{Hart, Store};
+use event_facts::{Fact, FaultWhy, Interruption, Source, SystemCall, ThreadChange, WrongWord};
+use mach_types::{BadWhy, Hart, Store, Tid};
 use place_text::fields::{
     push_decimal, push_harts, push_named_number, push_named_value, push_number, push_value,
-    push_word, push_yes_or_no,
+    push_value_or_none, push_word, push_yes_or_no,
 };
-use place_text::register_name;
+use place_text::{bad_word, register_name};
 use std::alloc::AllocError;
 
 /// Appends where bytes come from.
@@ -215,6 +215,112 @@ fn push_error(text: &mut Vec<u8>, errno: u16) -> Result<(), AllocError>
     Ok(())
 }
 
+/// Appends that a thread went on at another pc.
+fn push_aborted(text: &mut Vec<u8>, from: u64, to: u64) -> Result<(), AllocError>
+    ensures { OnOk result (text.new.items
+        ≡ text.old.items ++ behind (spec.interruption_fields (Interruption.Aborted from to))) }
+{
+    push_named_value(text, b"aborted", from)?;
+    push_value(text, to)
+}
+
+/// Appends that an interruption killed the process, and for which word.
+fn push_killed(text: &mut Vec<u8>, why: BadWhy, wrong: WrongWord) -> Result<(), AllocError>
+    ensures { OnOk result (text.new.items
+        ≡ text.old.items ++ behind (spec.interruption_fields (Interruption.Killed why wrong))) }
+{
+    push_word(text, b"killed")?;
+    push_word(text, bad_word(why))?;
+    push_value(text, wrong.at)?;
+    push_value_or_none(text, wrong.value)
+}
+
+/// Appends what an interruption came to.
+fn push_interruption_fields(
+    text: &mut Vec<u8>,
+    interruption: Interruption,
+) -> Result<(), AllocError>
+    ensures { OnOk result (text.new.items ≡ text.old.items ++ behind (spec.interruption_fields interruption)) }
+{
+    match interruption {
+        Interruption::Nothing => push_word(text, b"nothing"),
+        Interruption::Cleared => push_word(text, b"cleared"),
+        Interruption::Aborted { from, to } => push_aborted(text, from, to),
+        Interruption::Killed { why, wrong } => push_killed(text, why, wrong),
+    }
+}
+
+/// Appends the line of an interruption.
+fn push_interruption(text: &mut Vec<u8>, interruption: Interruption) -> Result<(), AllocError>
+    ensures { OnOk result (text.new.items ≡ text.old.items ++ spec.interruption_line interruption) }
+{
+    text.extend_from_slice(b"  interrupted")?;
+    push_interruption_fields(text, interruption)?;
+    text.push(b'\n')?;
+    Ok(())
+}
+
+/// Appends the line of a signal that came to be pending for a thread, or isn't any more, with the word of that.
+fn push_signal(text: &mut Vec<u8>, signal: u8, word: &[u8], tid: Tid) -> Result<(), AllocError>
+    ensures { OnOk result (text.new.items ≡ text.old.items ++ spec.signal_line signal word.now tid.0) }
+{
+    text.extend_from_slice(b"  signal")?;
+    push_number(text, u64::from(signal))?;
+    push_named_number(text, word, u64::from(tid.0))?;
+    text.push(b'\n')?;
+    Ok(())
+}
+
+/// Appends the line of a signal whose handler was entered.
+fn push_handler(text: &mut Vec<u8>, signal: u8, at: u64, frame: u64) -> Result<(), AllocError>
+    ensures { OnOk result (text.new.items ≡ text.old.items ++ spec.handler_line signal at frame) }
+{
+    text.extend_from_slice(b"  signal")?;
+    push_number(text, u64::from(signal))?;
+    push_word(text, b"delivered")?;
+    push_named_value(text, b"handler", at)?;
+    push_named_value(text, b"frame", frame)?;
+    text.push(b'\n')?;
+    Ok(())
+}
+
+/// Appends the line of a signal whose delivery ended the process.
+fn push_kills(text: &mut Vec<u8>, signal: u8) -> Result<(), AllocError>
+    ensures { OnOk result (text.new.items ≡ text.old.items ++ spec.kills_line signal) }
+{
+    text.extend_from_slice(b"  signal")?;
+    push_number(text, u64::from(signal))?;
+    push_word(text, b"delivered")?;
+    push_word(text, b"kills")?;
+    text.push(b'\n')?;
+    Ok(())
+}
+
+/// Appends what became of a thread.
+fn push_change_fields(text: &mut Vec<u8>, change: ThreadChange) -> Result<(), AllocError>
+    ensures { OnOk result (text.new.items ≡ text.old.items ++ behind (spec.change_fields change)) }
+{
+    match change {
+        ThreadChange::Created => push_word(text, b"created"),
+        ThreadChange::Ended => push_word(text, b"ended"),
+        ThreadChange::Runs => push_word(text, b"runs"),
+        ThreadChange::MadeReady => push_word(text, b"ready"),
+        ThreadChange::Sleeps(at) => push_named_value(text, b"sleeps", at),
+        ThreadChange::Woken => push_word(text, b"woken"),
+    }
+}
+
+/// Appends the line of a thread that was created, ended, or came into another state.
+fn push_thread(text: &mut Vec<u8>, tid: Tid, change: ThreadChange) -> Result<(), AllocError>
+    ensures { OnOk result (text.new.items ≡ text.old.items ++ spec.thread_line tid.0 change) }
+{
+    text.extend_from_slice(b"  thread")?;
+    push_number(text, u64::from(tid.0))?;
+    push_change_fields(text, change)?;
+    text.push(b'\n')?;
+    Ok(())
+}
+
 /// Appends the line of a fact.
 pub fn push_fact(text: &mut Vec<u8>, fact: &Fact) -> Result<(), AllocError>
     ensures { OnOk result (text.new.items ≡ text.old.items ++ spec.fact_line fact.now) }
@@ -243,6 +349,12 @@ pub fn push_fact(text: &mut Vec<u8>, fact: &Fact) -> Result<(), AllocError>
         Fact::Refused { errno } => push_error(text, errno),
         Fact::AnsweredLater => text.extend_from_slice(b"  answer later\n"),
         Fact::BarrierBegins { harts } => push_begins(text, harts),
+        Fact::Interrupted(interruption) => push_interruption(text, interruption),
+        Fact::HandlerEntered { signal, at, frame } => push_handler(text, signal, at, frame),
+        Fact::DeliveryKills { signal } => push_kills(text, signal),
+        Fact::SignalPosted { signal, tid } => push_signal(text, signal, b"posted", tid),
+        Fact::SignalDropped { signal, tid } => push_signal(text, signal, b"dropped", tid),
+        Fact::ThreadChanged { tid, change } => push_thread(text, tid, change),
         Fact::NoAnswer => text.extend_from_slice(b"  no answer\n"),
     }
 }

@@ -8,4 +8,5 @@ mod LaidOut
 pub mod Laws
 mod Places
 mod Pools
+mod Zeroing
 mod Zeros

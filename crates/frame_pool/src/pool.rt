@@ -4,7 +4,7 @@ ghost use Rattle.std.specs.Prelude.{◌≡◌, ◌↔◌, ◌+◌, ◌<◌, ◌�
 ghost use Rattle.std.specs.Borrow.{sem};
 ghost use Rattle.frame_pool.specs.Layout.{with_zeros};
 ghost use Rattle.frame_pool.specs.Lending.{LendsFrame};
-ghost use Rattle.frame_pool.specs.Pool.{IsTaken, free_count, fresh};
+ghost use Rattle.frame_pool.specs.Pool.{IsTaken, free_count, fresh, zeroed};
 
 use crate::frame::Frame;
 use std::alloc::{AllocError, Global};
@@ -90,6 +90,13 @@ impl FramePool {
         let number = frame.into_number();
         self.taken[number as usize] = false;
         let _ = self.free.push(number);
+    }
+
+    /// Each frame that is taken has zero bytes again. It takes no memory.
+    pub fn zero_taken(&mut self)
+        ensures { self.new ≡ zeroed self.old }
+    {
+        self.region.clear();
     }
 
     /// The 4,096 bytes of a taken frame.

@@ -1,4 +1,5 @@
 mod AdvanceAnswers
+mod AllowedPlaces
 mod Boot
 mod ChoiceCredits
 mod Common

@@ -33,7 +33,7 @@ use Rattle.block_model.specs.Events.Preempt.{unless_in_barrier}
 use Rattle.block_model.specs.Here.{Here, is_storable, is_writable, memory, reached, runs, waiting_here}
 use Rattle.block_model.specs.Instruction.{fault_by, fetched, next_effect}
 use Rattle.block_model.specs.Plain.{here_of, plain_after, plain_over, plain_seen}
-use Rattle.block_model.specs.Sights.{is_local_on, sight_in, thread}
+use Rattle.block_model.specs.Sights.{is_local_on, sight_in}
 use Rattle.block_model.specs.Stands.{stand_of}
 use Rattle.block_model.specs.Stretches.{Stretch, advanced, file_after, goes_on, longest, stepped}
 use Rattle.block_model.proofs.Laws.{Steps, none_of_both, length-history, plain_made, same_here, same_state, standing}

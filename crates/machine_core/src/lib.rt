@@ -5,7 +5,6 @@
 
 mod following;
 mod machine;
-mod restarting;
 mod stretches;
 mod theorems;
 

@@ -1,12 +1,11 @@
 //! The machine: boot, one event, and what is read of it.
 
-ghost use Rattle.std.specs.Prelude.{◌≡◌, ◌<◌, ◌≤◌, ◌++◌, [], ◌∷◌, false, All, Err, IfOk, IfNone, IfSome, OnErr, OnOk, length, vec_len, vec_capacity};
+ghost use Rattle.std.specs.Prelude.{◌≡◌, ◌<◌, ◌≤◌, ◌++◌, [], ◌∷◌, false, Err, IfOk, IfNone, IfSome, OnErr, OnOk, vec_len, vec_capacity};
 ghost use Rattle.mach_types.specs.Events.{choice_of};
 ghost use Rattle.mach_types.specs.Limits.{InRange};
 ghost use Rattle.mach_types.specs.declared.events.Choice.{Choice};
 ghost use Rattle.elf_load.specs.Images.{IsBootable};
-ghost use Rattle.elf_load.specs.Start.{program_of, start_file};
-ghost use Rattle.hart_state.specs.State.{idle_hart};
+ghost use Rattle.elf_load.specs.Start.{program_of};
 ghost use Rattle.block_model.specs.Setting.{setting_of as setting_by};
 ghost use Rattle.block_model.specs.Choosing.{has_ended};
 ghost use Rattle.block_model.specs.History.{console as console_bytes};
@@ -17,23 +16,13 @@ mod choosing;
 mod lending;
 mod readers;
 
-use crate::restarting::restart;
-use arrayvec::ArrayVec;
 use block_model::Refused;
 use chooser::Chooser;
 use elf_load::Image;
-use frame_pool::FramePool;
-use hart_state::HartState;
-use kernel_threads::Threads;
-use mach_types::address_space::START_SP;
-use mach_types::{Choice, End, Entry, Hart, Limits, Registered, Regs, Saved, Why};
-use page_map::PageMap;
+use mach_types::{Choice, End, Entry, Hart, Limits, Why};
 use process::{Code, Parts};
-use scheduler::Ready;
-use signals::Signals;
 use std::alloc::{AllocError, Global};
 use std::marker::Model;
-use sys_calls::{Console, Kernel};
 
 /// A loaded program, memory, the harts, the kernel's tables, and the log of what happened.
 #[derive(Drop)]
@@ -72,30 +61,6 @@ pub(crate) fn append(log: &mut Vec<Entry>, entry: Entry)
     let _ = log.push(entry);
 }
 
-/// Idle harts.
-fn idle_harts(alloc: Global, count: u8) -> Result<Vec<HartState>, AllocError>
-    ensures count { IfOk result (λ harts. length harts.items ≡ count) }
-    ensures idle { IfOk result (λ harts. All (λ hart. hart ≡ idle_hart) harts.items) }
-{
-    let mut harts = Vec::new(alloc);
-    for _ in 0..count {
-        harts.push(HartState::new(alloc)?)?;
-    }
-    Ok(harts)
-}
-
-/// The first thread's file at its start.
-pub(crate) fn first_file(image: &Image) -> Saved
-    ensures { result ≡ start_file (program_of image.now) }
-{
-    let mut file = Regs::new();
-    file.set(2, START_SP);
-    Saved {
-        file,
-        pc: image.entry,
-    }
-}
-
 impl Machine {
     /// A machine that has done nothing yet, over a copy of a loaded image. All memory is taken here.
     pub fn boot(
@@ -110,20 +75,8 @@ impl Machine {
             ≡ record { setting = setting_by image.now limits; seed = seed; log = [] }) }
     {
         let code = Code::new(alloc, &image.pages)?;
-        let pool = FramePool::new(alloc, limits.frames)?;
-        let pages = PageMap::boot(alloc, pool, image)?;
-        let harts = idle_harts(alloc, limits.harts)?;
-        let threads = Threads::new(alloc, first_file(image))?;
-        let console = Console::new(alloc)?;
+        let parts = Parts::boot(alloc, image, limits)?;
         let log = Vec::with_capacity(alloc, limits.steps as usize)?;
-        let signals = Signals::new();
-        let ready = Ready::new(limits.harts);
-        let areas = ArrayVec::new();
-        let registered = Registered {
-            global: false,
-            private: false,
-            rseq: false,
-        };
         let chooser = Chooser::new(seed);
         Ok(Machine {
             code,
@@ -133,19 +86,7 @@ impl Machine {
             break_at: image.break_at,
             limits,
             seed,
-            parts: Parts {
-                pages,
-                harts,
-                kernel: Kernel {
-                    threads,
-                    signals,
-                    ready,
-                    areas,
-                    registered,
-                    console,
-                },
-                ended: None,
-            },
+            parts,
             log,
             chooser,
             chosen: true,
@@ -168,7 +109,7 @@ impl Machine {
             *self = Machine::boot(alloc, image, self.limits, seed)?;
             return Ok(());
         }
-        restart(&mut self.parts, image, self.limits);
+        self.parts.reset(image, self.limits);
         self.log.clear();
         self.seed = seed;
         self.chooser = Chooser::new(seed);

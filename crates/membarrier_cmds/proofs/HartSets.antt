@@ -22,12 +22,15 @@ pub has_hart-joined : (a b h : ℕ) → has_hart (bit_or a b) h ≡ has_hart a h
 has_hart-joined a b h =
     ap (λ n. eqb n 1) (bit_at_or a b h) ∙ one_of_bits (bit_at a h) (bit_at b h) (bit_at-lt a h) (bit_at-lt b h)
 
+pub has_hart-none : (h : ℕ) → has_hart 0 h ≡ false
+has_hart-none h = ap (λ n. eqb n 1) (bit_at-zero h)
+
 pub has_hart-if : (is : Bool) (set h : ℕ) → has_hart (cond is set 0) h ≡ is && has_hart set h
 has_hart-if true set h = refl
-has_hart-if false set h = ap (λ n. eqb n 1) (bit_at-zero h)
+has_hart-if false set h = has_hart-none h
 
 -- tests that tell the same of the first so many harts have the same set of these
-harts_that-same : (one other : ℕ → Bool) (n : ℕ) → ((h : ℕ) → h < n → one h ≡ other h) → harts_that one n ≡ harts_that other n
+pub harts_that-same : (one other : ℕ → Bool) (n : ℕ) → ((h : ℕ) → h < n → one h ≡ other h) → harts_that one n ≡ harts_that other n
 harts_that-same one other zero same = refl
 harts_that-same one other (suc n) same =
     ap (λ m. m + cond (one n) (2 ^ n) 0) (harts_that-same one other n (λ h low. same h (omega arith)))

@@ -1,1 +1,2 @@
 mod HartSets
+mod Neighbours

@@ -8,8 +8,10 @@
 mod commands;
 mod numbers;
 mod targets;
+mod theorems;
 mod two_processes;
 
 pub use commands::command;
 pub use mach_types::{Answer, BarrierCommand, Registered};
+pub use theorems::{global_barriers_are_about_both, nobody_beside};
 pub use two_processes::command_two;

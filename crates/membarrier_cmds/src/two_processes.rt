@@ -43,7 +43,8 @@ pub fn command_two(
 }
 
 /// The harts that a command is about, by the registrations of the caller's process and of the other one: of
-/// those on which threads of the one run, and of those on which threads of the other do.
+/// those on which threads of the one run, and of those on which threads of the other do. A command that begins no
+/// barrier is about none.
 fn concerned(
     command: BarrierCommand,
     mine: &Registered,
@@ -59,13 +60,12 @@ fn concerned(
         BarrierCommand::GlobalExpedited => {
             harts_if(mine.global, mine_running) | harts_if(other.global, other_running)
         }
+        BarrierCommand::PrivateExpedited | BarrierCommand::PrivateExpeditedRseq => mine_running,
         BarrierCommand::Query
         | BarrierCommand::RegisterGlobalExpedited
-        | BarrierCommand::PrivateExpedited
         | BarrierCommand::RegisterPrivateExpedited
-        | BarrierCommand::PrivateExpeditedRseq
         | BarrierCommand::RegisterPrivateExpeditedRseq
-        | BarrierCommand::GetRegistrations => mine_running,
+        | BarrierCommand::GetRegistrations => 0,
     }
 }
 

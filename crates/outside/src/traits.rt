@@ -92,6 +92,12 @@ pub trait Sink {
     /// where nobody told.
     fn trouble(&self) -> Option<ErrorKind>
         ensures { result ≡ last_trouble self.now };
+
+    /// Hears that so many runs are made, of as many as there will be at most, before a text of them is written.
+    ///
+    /// It has no meaning: nothing is appended, and no fault comes of it. A device may show it to a person, and by
+    /// default nothing is done. (own)
+    fn show_progress(&self, _made: u64, _all: u64) {}
 }
 
 /// What a worker passes once before each turn that it asks for, outside the turn.

@@ -9,8 +9,10 @@ mod Readings
 mod Removing
 mod Rows
 mod Runs
+mod Standing
 mod Starts
 mod Stores
 mod Tables
 mod Unrefused
+mod WordWrites
 mod Writings

@@ -1,14 +1,14 @@
 -- The pages of a process at its start.
-use Rattle.std.proofs.Common.{◌≡◌, ◌≢◌, ℕ, zero, suc, ◌+◌, ◌-◌, ◌*◌, ◌/◌, ◌%◌, ◌^◌, ◌<◌, ◌≤◌, ◌⊎◌, ◌&&◌, inl, inr, Bool, true, false, cond, List, [], ◌∷◌, ◌++◌, Option, Some, None, is_some, length, get_or, map, take, nat_eq, nat_le, nat_lt, slice_index, refl, sym, ap, ◌∙◌, subst, arith, add-one, eq-eqb}
+use Rattle.std.proofs.Common.{◌≡◌, ◌≢◌, ℕ, zero, suc, ◌+◌, ◌-◌, ◌/◌, ◌%◌, ◌^◌, ◌<◌, ◌≤◌, ◌⊎◌, ◌&&◌, inl, inr, Bool, true, false, cond, List, [], ◌∷◌, ◌++◌, Option, Some, None, is_some, length, get_or, map, take, nat_eq, nat_le, nat_lt, slice_index, refl, sym, ap, ◌∙◌, subst, arith, add-one, eq-eqb}
 use Rattle.std.specs.Prelude.{All, IfSome}
 use Rattle.std.specs.Bool.{OnTrue}
 use Rattle.std.specs.List.Sorted.{IsStrictlyIncreasing}
 use Rattle.std.specs.Option.{option_map}
 use Rattle.std.proofs.lemmas.Bool.{cases_eq, cases_lt, le-leb, leb-true, le-ltb, lt-leb, lt-ltb, ne_eqb}
-use Rattle.std.proofs.lemmas.List.{length-take-le, take_more}
+use Rattle.std.proofs.lemmas.List.{take_more}
 use Rattle.std.proofs.Math.Nat.{zero-div}
 use Rattle.byte_views.specs.Words.{with_word}
-use Rattle.mach_types.specs.Bytes.{after_write, byte_of, byte_over, each_byte, overlay}
+use Rattle.mach_types.specs.Bytes.{byte_of, byte_over, overlay}
 use Rattle.mach_types.specs.Kernel.Pages.{is_in, lets, pages_of, permission_of}
 use Rattle.mach_types.specs.declared.address_space.TheConstants.{NAME_AT, START_SP}
 use Rattle.mach_types.specs.declared.user_memory.Store.{Store}
@@ -19,10 +19,9 @@ use Rattle.frame_pool.specs.Pool.{fresh}
 use Rattle.frame_pool.proofs.Laws.{fresh-at}
 use Rattle.page_map.specs.Map.{Map, Page, byte_at, byte_if, bytes_if, can_write_in, held_in, may_write, page_in, permission_in}
 use Rattle.page_map.specs.Starting.{IsStartPage, image_page, mapped_page, stack_page}
-use Rattle.page_map.proofs.Accesses.{each_byte-all}
 use Rattle.page_map.proofs.Stores.{length-with_word, with_word-after, with_word-before, with_word-inside}
 
-on-true : (b : Bool) (P : Type 0) → b ≡ true → OnTrue b P → P
+pub on-true : (b : Bool) (P : Type 0) → b ≡ true → OnTrue b P → P
 on-true true P e p = p
 on-true false P e p = cc
 
@@ -157,7 +156,7 @@ chosen true p o rest same = refl
 chosen false p o rest same = same
 
 -- the permission of a page of an image
-image-permission : (pages : List ImagePage) (n : ℕ) → permission_of (map image_run pages) n ≡ option_map (λ (p : Page). p.permission) (image_page pages n)
+pub image-permission : (pages : List ImagePage) (n : ℕ) → permission_of (map image_run pages) n ≡ option_map (λ (p : Page). p.permission) (image_page pages n)
 image-permission [] n = refl
 image-permission (p ∷ pages) n =
     ap (λ b. let r : Option ℕ = cond b (Some p.perm) (permission_of (map image_run pages) n) in r) (one-run p.number n)
@@ -171,10 +170,10 @@ image-bytes : (o : Option ImagePage) → IfSome (option_map mapped_page o) (λ p
 image-bytes None small = tt
 image-bytes (Some p) small = λ k. small_byte (slice_index p.bytes k) (small k)
 
-stack-run : (n : ℕ) → 0x3FFFF00 ≤ n → n < 0x3FFFF40 → is_in stack_run n ≡ true
+pub stack-run : (n : ℕ) → 0x3FFFF00 ≤ n → n < 0x3FFFF40 → is_in stack_run n ≡ true
 stack-run n from to = rw (le-leb 0x3FFFF00 n from, lt-ltb n 0x3FFFF40 to) refl
 
-not-stack : (n : ℕ) → (n < 0x3FFFF00) ⊎ (0x3FFFF40 ≤ n) → is_in stack_run n ≡ false
+pub not-stack : (n : ℕ) → (n < 0x3FFFF00) ⊎ (0x3FFFF40 ≤ n) → is_in stack_run n ≡ false
 not-stack n (inl low) = rw (lt-leb 0x3FFFF00 n low) refl
 not-stack n (inr high) = rw (le-leb 0x3FFFF00 n (omega arith), le-ltb n 0x3FFFF40 high) refl
 
@@ -187,7 +186,7 @@ not-return n stack = elim (cases_lt n 0x3FFFF40) [
 zero-stack : (k : ℕ) → slice_index fresh k % 256 ≡ 0
 zero-stack k = ap (λ x. x % 256) (fresh-at k)
 
-return-run : (n : ℕ) → is_in return_run n ≡ nat_eq 0x3FFFFF0 n
+pub return-run : (n : ℕ) → is_in return_run n ≡ nat_eq 0x3FFFFF0 n
 return-run n = one-run 0x3FFFFF0 n
 
 -- the pages of an image, the return page and those of the stack, mapped in this order, are those of the start
@@ -270,40 +269,6 @@ overlay-append (s ∷ ss) ts a b = overlay-append ss ts a (byte_over s a b)
 two_maps : (ss ts : List Store) (a : ℕ) (o : Option ℕ) → option_map (overlay ts a) (option_map (overlay ss a) o) ≡ option_map (overlay (ss ++ ts) a) o
 two_maps ss ts a None = refl
 two_maps ss ts a (Some b) = ap Some (sym (overlay-append ss ts a b))
-
-stored_from-push : (at : ℕ) (ws : List ℕ) (w : ℕ) → stored_from at (ws ++ w ∷ []) ≡ stored_from at ws ++ record { at = at + 8 * length ws; size = 8; value = w } ∷ []
-stored_from-push at [] w =
-    let same : at ≡ at + 8 * 0 = omega arith in
-    ap (λ n. let q : List Store = record { at = n; size = 8; value = w } ∷ [] in q) same
-stored_from-push at (v ∷ ws) w =
-    let same : at + 8 + 8 * length ws ≡ at + 8 * suc (length ws) = omega arith in
-    let head : Store = record { at = at; size = 8; value = v } in
-    ap (λ (ss : List Store). head ∷ ss) (stored_from-push (at + 8) ws w)
-    ∙ ap (λ n. let q : List Store = head ∷ (stored_from (at + 8) ws ++ record { at = n; size = 8; value = w } ∷ []) in q) same
-
-next_stores : (at k : ℕ) (ws : List ℕ) → k < length ws → stored_from at (take (k + 1) ws) ≡ stored_from at (take k ws) ++ record { at = at + 8 * k; size = 8; value = get_or ws k 0 } ∷ []
-next_stores at k ws lt =
-    let long : length (take k ws) ≡ k = length-take-le k ws (omega arith) in
-    ap (stored_from at) (take_more ws k 0 lt) ∙ stored_from-push at (take k ws) (get_or ws k 0)
-    ∙ ap (λ n. let q : List Store = stored_from at (take k ws) ++ record { at = at + 8 * n; size = 8; value = get_or ws k 0 } ∷ [] in q) long
-
--- one word more is written
-pub word_written : (m m' : Map) (byte byte' byte'' : ℕ → Option ℕ) (at k : ℕ) (ws : List ℕ) (made : Bool) → k < length ws
-    → ((j : ℕ) → j < 8 * length ws → can_write_in m (at + j) ≡ true)
-    → ((a : ℕ) → byte' a ≡ option_map (overlay (stored_from at (take k ws)) a) (byte a))
-    → ((n : ℕ) → permission_in m' n ≡ permission_in m n)
-    → made ≡ each_byte (can_write_in m') (at + 8 * k) 8
-    → ((a : ℕ) → byte'' a ≡ after_write made (record { at = at + 8 * k; size = 8; value = get_or ws k 0 }) byte' a)
-    → (a : ℕ) → byte'' a ≡ option_map (overlay (stored_from at (take (k + 1) ws)) a) (byte a)
-word_written m m' byte byte' byte'' at k ws made lt room before same answer step a =
-    let store : Store = record { at = at + 8 * k; size = 8; value = get_or ws k 0 } in
-    let done : made ≡ true = answer ∙ each_byte-all (can_write_in m') (at + 8 * k) 8 (λ j few.
-    let there : at + 8 * k + j ≡ at + (8 * k + j) = omega arith in
-    ap may_write (same ((at + 8 * k + j) / 4096)) ∙ ap (can_write_in m) there ∙ room (8 * k + j) (omega arith)) in
-    step a ∙ ap (λ b. after_write b store byte' a) done
-    ∙ ap (option_map (byte_over store a)) (before a)
-    ∙ two_maps (stored_from at (take k ws)) (store ∷ []) a (byte a)
-    ∙ ap (λ (ss : List Store). option_map (overlay ss a) (byte a)) (sym (next_stores at k ws lt))
 
 mapped_if : (b : Bool) (f : ℕ → ℕ) (x : ℕ) → option_map f (cond b (Some x) None) ≡ cond b (Some (f x)) None
 mapped_if true f x = refl

@@ -45,6 +45,15 @@ page_at pool p = record { permission = p.permission; bytes = frame_bytes (slice_
 abbrev pub page_with : ℕ → ℕ → ℕ → Page → Page
 page_with offset size value p = record p { bytes = with_word p.bytes offset size value }
 
+-- bytes once words of 8 bytes were written, one behind the other from a place on
+abbrev pub with_words : List ℕ → ℕ → List ℕ → List ℕ
+with_words bytes at [] = bytes
+with_words bytes at (w ∷ ws) = with_words (with_word bytes at 8 w) (at + 8) ws
+
+-- a page once words were written to it
+abbrev pub page_with_words : ℕ → List ℕ → Page → Page
+page_with_words offset words p = record p { bytes = with_words p.bytes offset words }
+
 -- a page once it has another permission
 abbrev pub protected_page : ℕ → Page → Page
 protected_page permission p = record p { permission = permission }

@@ -1,11 +1,13 @@
 -- The pages of a process at its start, page by page.
-use Rattle.std.specs.Prelude.{◌≡◌, ℕ, ◌%◌, List, Option, IfSome, slice_index}
+use Rattle.std.specs.Prelude.{◌≡◌, ℕ, ◌+◌, ◌-◌, ◌%◌, ◌<◌, List, Option, Some, IfSome, length, slice_get, slice_index}
 use Rattle.std.specs.Option.{option_map}
 use Rattle.mach_types.specs.Kernel.Pages.{permission_of}
 use Rattle.elf_load.specs.Start.{page_byte, page_of, start_runs}
 use Rattle.elf_load.specs.declared.image.ImagePage.{ImagePage}
+use Rattle.mach_types.specs.declared.address_space.TheConstants.{FIRST_STACK_PAGE, RETURN_PAGE, STACK_PAGES}
 use Rattle.frame_pool.specs.Pool.{fresh}
 use Rattle.page_map.specs.Map.{Page}
+use Rattle.page_map.specs.declared.mapped_page.MappedPage.{MappedPage}
 
 -- a page of an image, once it is mapped
 abbrev pub mapped_page : ImagePage → Page
@@ -23,3 +25,18 @@ stack_page = record { permission = 6; bytes = fresh }
 pub record IsStartPage (pages : List ImagePage) (n : ℕ) (page : Option Page) : Type 0 where
   pub permission : option_map (λ (p : Page). p.permission) page ≡ permission_of (start_runs pages) n
   pub bytes : IfSome page (λ p. (k : ℕ) → slice_index p.bytes k % 256 ≡ page_byte pages n k)
+
+-- a page with this number and this permission stands at a place
+pub record StandsWith (mapped : List MappedPage) (i n perm : ℕ) : Type 0 where
+  pub page : MappedPage
+  pub there : slice_get mapped i ≡ Some page
+  pub number : page.number ≡ n
+  pub permission : page.permission ≡ perm
+
+-- the pages that are mapped are those of a start, in the order in which a start maps them: the image's, the page
+-- that signal handlers return to, and those of the stack, the highest first
+pub record AreLaidOut (pages : List ImagePage) (mapped : List MappedPage) : Type 0 where
+  pub count : length mapped ≡ length pages + 1 + STACK_PAGES
+  pub image : (i : ℕ) (p : ImagePage) → slice_get pages i ≡ Some p → StandsWith mapped i p.number p.perm
+  pub return : StandsWith mapped (length pages) RETURN_PAGE 5
+  pub stack : (k : ℕ) → k < STACK_PAGES → StandsWith mapped (length mapped - 1 - k) (FIRST_STACK_PAGE + k) 6

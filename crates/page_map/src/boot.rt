@@ -1,6 +1,6 @@
 //! The pages of a process at its start.
 
-ghost use Rattle.std.specs.Prelude.{◌≡◌, ℕ, ◌+◌, ◌*◌, ◌/◌, ◌<◌, ◌≤◌, ◌^◌, ◌==◌, true, if◌then◌else◌, Some, None, All, IfOk, IfSome, is_some, length, slice_index};
+ghost use Rattle.std.specs.Prelude.{◌≡◌, ℕ, ◌+◌, ◌*◌, ◌/◌, ◌%◌, ◌<◌, ◌≤◌, ◌==◌, true, if◌then◌else◌, Some, None, All, IfOk, IfSome, is_some, length, slice_index};
 ghost use Rattle.std.specs.List.Sorted.{IsStrictlyIncreasing};
 ghost use Rattle.std.specs.Option.{option_map};
 ghost use Rattle.mach_types.specs.Bytes.{overlay};
@@ -15,20 +15,19 @@ use crate::map::PageMap;
 use byte_views::write_word;
 use elf_load::{Image, ImagePage};
 use frame_pool::FramePool;
-use mach_types::UserMem;
 use mach_types::address_space::{
     FIRST_STACK_PAGE, NAME_AT, PAGE_SIZE, RETURN_PAGE, STACK_PAGES, START_SP,
 };
 use std::alloc::{AllocError, Global};
 
 /// The permission of the stack's pages: to read and to write.
-const STACK_PERMISSION: u8 = 6;
+pub(crate) const STACK_PERMISSION: u8 = 6;
 
 /// The number of the page behind the stack.
 const STACK_END: u64 = FIRST_STACK_PAGE + STACK_PAGES;
 
 /// The permission of the page that signal handlers return to: to read and to execute.
-const RETURN_PERMISSION: u8 = 5;
+pub(crate) const RETURN_PERMISSION: u8 = 5;
 
 /// The program's name as a word.
 const NAME: u64 = 0x74_7365_7567;
@@ -41,7 +40,7 @@ fn zeros() -> [u8; 4096]
 }
 
 /// The bytes of the page that signal handlers return to: `addi x17, x0, 139`, `ecall`, and zeros.
-fn return_bytes() -> [u8; 4096]
+pub(crate) fn return_bytes() -> [u8; 4096]
     ensures long { length result ≡ 4096 }
     ensures bytes { (k : ℕ) → slice_index result k ≡ return_byte k }
 {
@@ -112,8 +111,8 @@ impl PageMap {
         Ok(map)
     }
 
-    /// The pages with which a loaded program starts, as [`PageMap::boot`] maps them, in place of all that are mapped. It takes no
-    /// memory.
+    /// The pages with which a loaded program starts, as [`PageMap::boot`] maps them, in place of all that are
+    /// mapped. It takes no memory.
     ///
     /// The image must be such as `boot` takes, where there are 65 frames more than it has pages.
     pub fn reset(&mut self, image: &Image)
@@ -131,8 +130,8 @@ impl PageMap {
         ensures break_at { break_in self.new ≡ image.now.break_at }
         ensures break_start { break_start_in self.new ≡ image.now.break_at }
     {
-        self.clear(image.break_at);
-        self.start(image);
+        self.lay_out_again(image);
+        self.write_start(image);
     }
 
     /// Maps the pages with which a program starts, over none, and writes what the kernel writes on the stack.
@@ -155,13 +154,32 @@ impl PageMap {
         ensures break_start { break_start_in self.new ≡ break_start_in self.old }
     {
         self.lay_out(image);
+        self.write_start(image);
+    }
+
+    /// Writes what the kernel writes on the stack of a program, whose pages are mapped.
+    fn write_start(&mut self, image: &Image)
+        requires { (n : ℕ) → IsStartPage image.now.pages.items n (page_in self.old n) }
+        ensures permissions { (n : ℕ) → permission_in self.new n
+            ≡ permission_of (start_runs image.now.pages.items) n }
+        ensures bytes { (a : ℕ) → byte_in self.new a
+            ≡ (if can_read (permission_of (start_runs image.now.pages.items) (a / 4096))
+            then Some (start_byte (program_of image.now) a) else None) }
+        ensures held { (a : ℕ) → held_in self.new a
+            ≡ (if is_some (permission_of (start_runs image.now.pages.items) (a / 4096))
+            then Some (start_byte (program_of image.now) a) else None) }
+        ensures code { (a : ℕ) → code_in self.new a ≡ code_byte image.now.pages.items a }
+        ensures free { free_in self.new ≡ free_in self.old }
+        ensures break_at { break_in self.new ≡ break_in self.old }
+        ensures break_start { break_start_in self.new ≡ break_start_in self.old }
+    {
         let words = stack_words(image);
         self.write_words(START_SP, &words);
         self.write_words(NAME_AT, &[NAME]);
     }
 
     /// Maps the pages of an image, the stack, and the page that signal handlers return to.
-    fn lay_out(&mut self, image: &Image)
+    pub(crate) fn lay_out(&mut self, image: &Image)
         requires image { IsBootable (free_in self.old) image.now }
         requires empty { (n : ℕ) → page_in self.old n ≡ None }
         requires break_at { break_in self.old ≡ image.now.break_at }
@@ -212,10 +230,10 @@ impl PageMap {
         }
     }
 
-    /// Writes words one behind the other, which can all be written.
+    /// Writes words one behind the other in a page, which can be written.
     fn write_words(&mut self, at: u64, words: &[u64])
-        requires end { at + 8 * length words.now ≤ 2 ^ 64 }
-        requires room { (k : ℕ) → k < 8 * length words.now → can_write_in self.old (at + k) ≡ true }
+        requires page { at % 4096 + 8 * length words.now ≤ 4096 }
+        requires writable { can_write_in self.old at ≡ true }
         ensures bytes { (a : ℕ) → byte_in self.new a
             ≡ option_map (overlay (stored_from at words.now) a) (byte_in self.old a) }
         ensures held { (a : ℕ) → held_in self.new a
@@ -226,8 +244,6 @@ impl PageMap {
         ensures break_at { break_in self.new ≡ break_in self.old }
         ensures break_start { break_start_in self.new ≡ break_start_in self.old }
     {
-        for (k, word) in words.iter().enumerate() {
-            let _ = self.set(at + 8 * k as u64, 8, *word);
-        }
+        self.write_words_in_page(at, words);
     }
 }

@@ -11,6 +11,7 @@ mod changes;
 mod directory;
 mod map;
 mod mapped_page;
+mod restart;
 mod table;
 mod theorems;
 

@@ -1,15 +1,19 @@
 //! The pages of a process, each with a frame of its own.
 
-ghost use Rattle.std.specs.Prelude.{◌≡◌, ◌==◌, ◌&&◌, ◌≤◌, ℕ, ◌+◌, ◌-◌, ◌/◌, ◌%◌, ◌<◌, if◌then◌else◌, [], ◌++◌, ◌∷◌, Some, None, true, false, IfOk, IfSome, IsSome, is_some, length, slice_get, slice_index, slice_set, vec_capacity, vec_len};
+ghost use Rattle.std.specs.Prelude.{List, ◌≡◌, ◌==◌, ◌&&◌, ◌≤◌, ℕ, ◌+◌, ◌-◌, ◌*◌, ◌/◌, ◌%◌, ◌<◌, if◌then◌else◌, [], ◌++◌, ◌∷◌, Some, None, true, false, IfOk, IfSome, IsSome, is_some, length, slice_get, slice_index, slice_set, vec_capacity, vec_len};
+ghost use Rattle.std.specs.Bool.{OnTrue};
 ghost use Rattle.std.specs.Option.{option_copied, option_map};
 ghost use Rattle.byte_views.specs.Words.{with_word};
 ghost use Rattle.mach_types.specs.Bytes.{IsAccessSize};
-ghost use Rattle.mach_types.specs.Kernel.Pages.{can_execute, can_read, can_write, first_page, pages_of};
+ghost use Rattle.mach_types.specs.Kernel.Pages.{can_execute, can_read, can_write, first_page, pages_of, permission_of};
 ghost use Rattle.elf_load.specs.Images.{IsPermission};
+ghost use Rattle.elf_load.specs.Start.{start_runs};
+ghost use Rattle.elf_load.specs.declared.image.ImagePage.{ImagePage};
 ghost use Rattle.frame_pool.specs.Held.{AreHeld};
 ghost use Rattle.frame_pool.specs.Pool.{IsTaken, free_count, fresh};
-ghost use Rattle.page_map.specs.Map.{break_in, break_start_in, bytes_if, first_bytes, frame_bytes, frames_in, free_in, page_at, page_in, page_with, permission_in, protected_page};
+ghost use Rattle.page_map.specs.Map.{break_in, break_start_in, bytes_if, first_bytes, frame_bytes, frames_in, free_in, page_at, page_in, page_with, page_with_words, permission_in, protected_page, with_words, zero_page};
 ghost use Rattle.page_map.specs.Mapping.{CanLie, IsGap, frames_of};
+ghost use Rattle.page_map.specs.Starting.{AreLaidOut, StandsWith};
 
 use crate::mapped_page::MappedPage;
 use crate::table::PageTable;
@@ -169,6 +173,62 @@ impl PageMap {
         self.table.set(number, Some(place));
     }
 
+    /// How many pages are mapped.
+    pub(crate) fn count(&self) -> usize
+        ensures { result ≡ length self.now.mapped }
+    {
+        self.mapped.len()
+    }
+
+    /// Whether a page with this number and this permission stands at a place of the list.
+    pub(crate) fn has_at(&self, place: usize, number: u64, permission: u8) -> bool
+        ensures { OnTrue result (StandsWith self.now.mapped place number permission) }
+    {
+        if place >= self.mapped.len() {
+            return false;
+        }
+        let page = &self.mapped[place];
+        page.has(number, permission)
+    }
+
+    /// It does nothing; its clause says that pages which stand as a start maps them have the permissions of the
+    /// start.
+    pub(crate) fn has_start(&self)
+        ensures { (pages : List ImagePage) → AreLaidOut pages self.now.mapped
+            → (n : ℕ) → permission_in self.now n ≡ permission_of (start_runs pages) n }
+    {
+        let _ = &self.pool;
+    }
+
+    /// All pages that are mapped have zero bytes.
+    pub(crate) fn zero_pages(&mut self)
+        ensures pages { (n : ℕ) → page_in self.new n ≡ option_map zero_page (permission_in self.old n) }
+        ensures mapped { self.new.mapped ≡ self.old.mapped }
+        ensures free { free_in self.new ≡ free_in self.old }
+        ensures break_at { break_in self.new ≡ break_in self.old }
+        ensures break_start { break_start_in self.new ≡ break_start_in self.old }
+    {
+        self.pool.zero_taken();
+    }
+
+    /// Writes all bytes of the page at a place of the list.
+    pub(crate) fn fill_at(&mut self, place: usize, bytes: &[u8])
+        requires place { place < length self.old.mapped }
+        requires size { length bytes.now ≡ 4096 }
+        ensures pages { (n number permission : ℕ) → StandsWith self.old.mapped place number permission
+            → page_in self.new n
+            ≡ (if n == number then Some (record { permission = permission; bytes = bytes.now })
+            else page_in self.old n) }
+        ensures small { (k : ℕ) → slice_index bytes.now k < 256 }
+        ensures mapped { self.new.mapped ≡ self.old.mapped }
+        ensures free { free_in self.new ≡ free_in self.old }
+        ensures break_at { break_in self.new ≡ break_in self.old }
+        ensures break_start { break_start_in self.new ≡ break_start_in self.old }
+    {
+        let page = &self.mapped[place];
+        write_whole(&mut self.pool, &page.frame, bytes);
+    }
+
     /// Maps a page no longer. The last page of the list takes its place there.
     pub(crate) fn remove(&mut self, number: u64)
         requires { IsSome (page_in self.old number) }
@@ -308,6 +368,33 @@ impl PageMap {
         }
     }
 
+    /// Writes words of 8 bytes, one behind the other, in a page that is mapped.
+    pub(crate) fn write_words_in_page(&mut self, at: u64, words: &[u64])
+        requires page { at % 4096 + 8 * length words.now ≤ 4096 }
+        requires mapped { IsSome (page_in self.old (at / 4096)) }
+        ensures pages { (n : ℕ) → page_in self.new n
+            ≡ (if n == at / 4096 then option_map (page_with_words (at % 4096) words.now) (page_in self.old n)
+            else page_in self.old n) }
+        ensures free { free_in self.new ≡ free_in self.old }
+        ensures break_at { break_in self.new ≡ break_in self.old }
+        ensures break_start { break_start_in self.new ≡ break_start_in self.old }
+        ensures size { IfSome (page_in self.old (at / 4096)) (λ p. length p.bytes ≡ 4096) }
+        ensures permission { IfSome (page_in self.old (at / 4096)) (λ p. IsPermission p.permission) }
+    {
+        match self.table.get(at / PAGE_SIZE) {
+            Some(place) => {
+                let page = &self.mapped[place as usize];
+                write_frame_words(
+                    &mut self.pool,
+                    &page.frame,
+                    (at % PAGE_SIZE) as usize,
+                    words,
+                );
+            }
+            None => unreachable!(),
+        }
+    }
+
     /// It does nothing; its clauses say what each page map keeps.
     pub fn keeps(&self)
         ensures writable { (n : ℕ) → can_write (permission_in self.now n) ≡ true
@@ -414,4 +501,26 @@ fn write_frame(pool: &mut FramePool, frame: &Frame, at: usize, size: u8, value: 
     ensures whole { length (frame_bytes (slice_get pool.old frame.now)) ≡ 4096 }
 {
     let _ = write_word(pool.bytes_mut(frame), at, size as usize, value);
+}
+
+/// Writes words of 8 bytes into a frame, one behind the other.
+fn write_frame_words(pool: &mut FramePool, frame: &Frame, at: usize, words: &[u64])
+    requires taken { IsTaken pool.old frame.now }
+    requires within { at + 8 * length words.now ≤ 4096 }
+    ensures written { pool.new
+        ≡ slice_set pool.old frame.now
+        (Some (with_words (frame_bytes (slice_get pool.old frame.now)) at words.now)) }
+    ensures whole { length (frame_bytes (slice_get pool.old frame.now)) ≡ 4096 }
+{
+    put_words(pool.bytes_mut(frame), at, words);
+}
+
+/// Writes words of 8 bytes from a place on, one behind the other.
+fn put_words(bytes: &mut [u8], at: usize, words: &[u64])
+    requires { at + 8 * length words.now ≤ length bytes.old }
+    ensures { bytes.new ≡ with_words bytes.old at words.now }
+{
+    for (k, word) in words.iter().enumerate() {
+        let _ = write_word(bytes, at + 8 * k, 8, *word);
+    }
 }

@@ -1,6 +1,6 @@
 //! A page that is mapped.
 
-ghost use Rattle.std.specs.Prelude.{◌≡◌};
+ghost use Rattle.std.specs.Prelude.{◌≡◌, ◌==◌, ◌&&◌};
 
 use frame_pool::Frame;
 
@@ -12,6 +12,13 @@ pub(crate) struct MappedPage {
 }
 
 impl MappedPage {
+    /// Whether it has this number and this permission.
+    pub(crate) fn has(&self, number: u64, permission: u8) -> bool
+        ensures { result ≡ (self.now.number == number && self.now.permission == permission) }
+    {
+        self.number == number && self.permission == permission
+    }
+
     /// The frame, which the page no longer has.
     pub(crate) fn into_frame(self) -> Frame
         ensures { result ≡ self.frame }

@@ -14,3 +14,4 @@ mod threads;
 pub use ends::{push_end, push_number_line};
 pub use place::place_text;
 pub use registers::register_name;
+pub use sequences::bad_word;

@@ -20,7 +20,7 @@ use Rattle.mach_types.specs.Kernel.Signals.{with_pending}
 use Rattle.mach_types.specs.declared.limits.End.TheVariants.{Killed}
 
 -- a fault, a call, and another instruction
-done_fault : (here : Here) (t signal : ℕ) → runs here ≡ Some t → next_fault here t ≡ Some signal → done_of asked.Exec here ≡ by_fault here t signal
+pub done_fault : (here : Here) (t signal : ℕ) → runs here ≡ Some t → next_fault here t ≡ Some signal → done_of asked.Exec here ≡ by_fault here t signal
 done_fault here t signal at fault = rw (at, fault) refl
 
 -- one with a handler, whose signal becomes pending, and one without, which kills

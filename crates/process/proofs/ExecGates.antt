@@ -1,8 +1,8 @@
 -- Stores that wait on pages, and the gate of the next instruction.
-use Rattle.std.proofs.Common.{◌≡◌, ℕ, zero, suc, ◌+◌, ◌/◌, ◌<◌, ◌≤◌, ◌↔◌, List, length, take, get_or, refl, sym, ap, ◌∙◌, arith, inl, inr, Bool, true, false, cond, not, ◌&&◌, ◌||◌, Option, Some, None, is_some, IsTrue}
+use Rattle.std.proofs.Common.{◌≡◌, ℕ, zero, suc, ◌+◌, ◌-◌, ◌/◌, ◌<◌, ◌≤◌, ◌↔◌, ◌⊎◌, List, [], ◌∷◌, length, take, get_or, min, max, refl, sym, ap, ◌∙◌, arith, inl, inr, Bool, true, false, cond, not, ◌&&◌, ◌||◌, Option, Some, None, is_some, IsTrue, nat_le, nat_lt}
 use Rattle.std.specs.List.{Any, list_any}
 use Rattle.std.specs.Option.{option_or}
-use Rattle.std.proofs.lemmas.Bool.{cases_eq}
+use Rattle.std.proofs.lemmas.Bool.{cases_eq, cases_lt, le-leb, lt-leb, le-ltb, lt-ltb}
 use Rattle.std.proofs.lemmas.Bool.Decides.{nat_tests}
 use Rattle.std.proofs.Math.Seq.{take-length}
 use Rattle.std.proofs.lemmas.List.Folds.{Any-from_list_any, list_any-from_Any, list_any_more}
@@ -10,16 +10,17 @@ use Rattle.std.proofs.lemmas.Option.{slice_get-get_or}
 use Rattle.mach_types.proofs.Laws.{each_byte-same}
 use Rattle.mach_types.specs.Bytes.{covers, each_byte}
 use Rattle.mach_types.specs.Kernel.Pages.{PageRun, is_in}
-use Rattle.process.proofs.Common.{HartState, IsTied, Next, Parts, Plain, Setting, Store, Why, exec_refusal, hart_at, here_in_plain, runs}
+use Rattle.process.proofs.Common.{HartState, IsTied, Next, Parts, Plain, Setting, Stand, Store, Why, exec_refusal, hart_at, here_at, runs}
 use Rattle.mach_types.specs.declared.events.Why.TheVariants.{Idle, InBarrier}
 use Rattle.store_buffers.specs.Pages.{HasByteAmong}
 use Rattle.rv_inst.specs.Execution.{instruction_gate}
+use Rattle.block_model.specs.Beside.{Neighbour, is_in_segment, or_in_segment}
 use Rattle.block_model.specs.Calls.Memory.{lies_on, lies_waiting_on}
 use Rattle.block_model.specs.Events.Exec.{is_held, next_effect, next_fault, others_gate, refusal_exec}
 use Rattle.block_model.specs.Events.Preempt.{unless_in_barrier}
 use Rattle.sys_calls.specs.Remapped.{has_page}
 use Rattle.sys_calls.specs.declared.memory_calls.PageSpan.{PageSpan}
-use Rattle.process.specs.ExecGates.{IsNextAt, lies_in}
+use Rattle.process.specs.ExecGates.{AreOfSegment, IsNextAt, lies_in, lies_outside}
 use Rattle.process.proofs.HartStates.{hart_there}
 
 -- a store has a byte on one of the pages where a buffer finds it there
@@ -102,13 +103,171 @@ touches_is pages ws r told = same_truth r (list_any (lies_in pages) ws)
     (λ is. let has = told.0 is in list_any-from_Any (lies_in pages) ws (has.0, has.1, has.2, has.3, among_lies pages has.1 has.4))
     (λ is. let has = Any-from_list_any (lies_in pages) ws is in told.1 (has.0, has.1, has.2, has.3, lies_among pages has.1 has.4))
 
--- pages by which a store lies on them are those of a run
-lies_same : (pages : PageSpan) (r : PageRun) (w : Store) → ((n : ℕ) → has_page pages n ≡ is_in r n) → lies_in pages w ≡ lies_on None r w
-lies_same pages r w same =
-    ap not (each_byte-same (λ a. not (is_in r (a / 4096))) (λ a. not (has_page pages (a / 4096))) (λ a. ap not (same (a / 4096))) w.at w.size)
+-- some pages below one, and from one on
+below_is : (first count end most few n : ℕ) → most ≡ end - first → few ≡ min count most
+    → (nat_le first n && nat_lt n (first + few)) ≡ ((nat_le first n && nat_lt n (first + count)) && nat_lt n end)
+below_is first count end most few n most_is few_is =
+    elim (cases_lt n first) [
+      | inl low ↦ rw (lt-leb first n low) refl
+      | inr from ↦
+          elim (cases_lt n end) [
+            | inl under ↦
+                elim (cases_lt n (first + count)) [
+                  | inl within ↦
+                      let is : (few ≡ count) ⊎ (few ≡ most) = grind arith in
+                      let lt : n < first + few = elim is [ inl whole ↦ omega (arith, whole) | inr cut ↦ omega (arith, cut, most_is) ] in
+                      rw (le-leb first n from, lt-ltb n (first + few) lt, lt-ltb n (first + count) within, lt-ltb n end under) refl
+                  | inr past ↦
+                      let few_le : few ≤ count = omega arith in
+                      rw (le-leb first n from, le-ltb n (first + few) (omega arith), le-ltb n (first + count) past) refl
+                ]
+            | inr over ↦
+                let few_le : few ≤ most = omega arith in
+                let past : first + few ≤ n = omega (arith, few_le, most_is) in
+                rw (le-leb first n from, le-ltb n (first + few) past, le-ltb n end over)
+                (sym (and_false (nat_lt n (first + count)) false refl))
+          ]
+    ]
 
-any_same : (pages : PageSpan) (r : PageRun) (ws : List Store) → ((n : ℕ) → has_page pages n ≡ is_in r n) → list_any (lies_in pages) ws ≡ list_any (lies_on None r) ws
-any_same pages r ws same = ap (λ (test : Store → Bool). list_any test ws) (λ i w. lies_same pages r w same i)
+from_is : (first count start skipped low left n : ℕ) → skipped ≡ start - first → low ≡ max first start → left ≡ count - skipped
+    → (nat_le low n && nat_lt n (low + left)) ≡ ((nat_le first n && nat_lt n (first + count)) && nat_le start n)
+from_is first count start skipped low left n skipped_is low_is left_is =
+    let either : (low ≡ first) ⊎ (low ≡ start) = grind arith in
+    let first_le : first ≤ low = omega arith in
+    let start_le : start ≤ low = omega arith in
+    elim (cases_lt n low) [
+      | inl under ↦
+          rw (lt-leb low n under)
+          (elim either [
+            | inl is ↦ rw (lt-leb first n (omega (arith, is, under))) refl
+            | inr is ↦
+                rw (lt-leb start n (omega (arith, is, under)))
+                (sym (and_false (nat_le first n && nat_lt n (first + count)) false refl))
+          ])
+      | inr from ↦
+          elim (cases_lt n (first + count)) [
+            | inl within ↦
+                let lt : n < low + left = elim either [ inl is ↦ omega arith | inr is ↦ omega arith ] in
+                rw (le-leb low n from, lt-ltb n (low + left) lt, le-leb first n (omega arith), lt-ltb n (first + count) within, le-leb start n (omega arith)) refl
+            | inr past ↦
+                let over : low + left ≤ n = elim either [ inl is ↦ omega arith | inr is ↦ omega arith ] in
+                rw (le-leb low n from, le-ltb n (low + left) over, le-leb first n (omega arith), le-ltb n (first + count) past) refl
+          ]
+    ]
+
+pub span_below : (pages span : PageSpan) (end most : ℕ) → most ≡ end - pages.first → span.first ≡ pages.first → span.count ≡ min pages.count most
+    → (n : ℕ) → has_page span n ≡ (has_page pages n && nat_lt n end)
+span_below pages span end most most_is first_is count_is n =
+    ap (λ f. nat_le f n && nat_lt n (f + span.count)) first_is
+    ∙ below_is pages.first pages.count end most span.count n most_is count_is
+
+pub span_from : (pages span : PageSpan) (start skipped : ℕ) → skipped ≡ start - pages.first → span.first ≡ max pages.first start → span.count ≡ pages.count - skipped
+    → (n : ℕ) → has_page span n ≡ (has_page pages n && nat_le start n)
+span_from pages span start skipped skipped_is first_is count_is n =
+    from_is pages.first pages.count start skipped span.first span.count n skipped_is first_is count_is
+
+-- a store that lies on pages, but not on those that are kept, lies on those below these, or from their end on
+le_is_not_lt : (a b : ℕ) → nat_le a b ≡ not (nat_lt b a)
+le_is_not_lt a b = elim (cases_lt b a) [
+  | inl lt ↦ rw (lt-leb a b lt, lt-ltb b a lt) refl
+  | inr le ↦ rw (le-leb a b le, le-ltb b a le) refl
+]
+
+lt_is_not_le : (a b : ℕ) → nat_lt a b ≡ not (nat_le b a)
+lt_is_not_le a b = elim (cases_lt a b) [
+  | inl lt ↦ rw (lt-leb b a lt, lt-ltb a b lt) refl
+  | inr le ↦ rw (le-leb b a le, le-ltb a b le) refl
+]
+
+neither : (on under past : Bool) → (not (on && under) && not (on && past)) ≡ not (on && not (not under && not past))
+neither false under past = refl
+neither true true past = refl
+neither true false true = refl
+neither true false false = refl
+
+one_fails : (a b : Bool) → (not a || not b) ≡ not (a && b)
+one_fails true b = refl
+one_fails false b = refl
+
+and_four : (a b c d : Bool) → ((a && b) && (c && d)) ≡ ((a && c) && (b && d))
+and_four false b c d = refl
+and_four true true c d = refl
+and_four true false true d = refl
+and_four true false false d = refl
+
+both_of_each : (f g : ℕ → Bool) (at n : ℕ) → (each_byte f at n && each_byte g at n) ≡ each_byte (λ a. f a && g a) at n
+both_of_each f g at zero = refl
+both_of_each f g at (suc n) =
+    and_four (f at) (each_byte f (at + 1) n) (g at) (each_byte g (at + 1) n)
+    ∙ ap (λ b. (f at && g at) && b) (both_of_each f g (at + 1) n)
+
+module _ (pages kept low high : PageSpan)
+    (low_is : (n : ℕ) → has_page low n ≡ (has_page pages n && nat_lt n kept.first))
+    (high_is : (n : ℕ) → has_page high n ≡ (has_page pages n && nat_le (kept.first + kept.count) n))
+  where
+    parted_page : (n : ℕ) → (not (has_page low n) && not (has_page high n)) ≡ not (has_page pages n && not (has_page kept n))
+    parted_page n =
+        ap (λ b. not b && not (has_page high n)) (low_is n)
+        ∙ ap (λ b. not (has_page pages n && nat_lt n kept.first) && not b) (high_is n)
+        ∙ neither (has_page pages n) (nat_lt n kept.first) (nat_le (kept.first + kept.count) n)
+        ∙ ap (λ b. not (has_page pages n && not (b && not (nat_le (kept.first + kept.count) n)))) (sym (le_is_not_lt kept.first n))
+        ∙ ap (λ b. not (has_page pages n && not (nat_le kept.first n && b))) (sym (lt_is_not_le n (kept.first + kept.count)))
+
+    parted : (w : Store) → (lies_in low w || lies_in high w) ≡ lies_outside pages kept w
+    parted w =
+        let f = λ (a : ℕ). not (has_page low (a / 4096)) in
+        let g = λ (a : ℕ). not (has_page high (a / 4096)) in
+        let both = λ (a : ℕ). not (has_page pages (a / 4096) && not (has_page kept (a / 4096))) in
+        one_fails (each_byte f w.at w.size) (each_byte g w.at w.size)
+        ∙ ap not (both_of_each f g w.at w.size ∙ each_byte-same both (λ a. f a && g a) (λ a. parted_page (a / 4096)) w.at w.size)
+
+    or_four : (a b c d : Bool) → ((a || b) || (c || d)) ≡ ((a || c) || (b || d))
+    or_four true b c d = refl
+    or_four false true true d = refl
+    or_four false true false d = refl
+    or_four false false c d = refl
+
+    either_any : (f g : Store → Bool) (ws : List Store) → (list_any f ws || list_any g ws) ≡ list_any (λ w. f w || g w) ws
+    either_any f g [] = refl
+    either_any f g (w ∷ ws) =
+        or_four (f w) (list_any f ws) (g w) (list_any g ws)
+        ∙ ap (λ b. (f w || g w) || b) (either_any f g ws)
+
+    pub parted_any : (ws : List Store) → (list_any (lies_in low) ws || list_any (lies_in high) ws) ≡ list_any (lies_outside pages kept) ws
+    parted_any ws = either_any (lies_in low) (lies_in high) ws ∙ ap (λ (test : Store → Bool). list_any test ws) (λ i w. parted w i)
+
+-- pages by which a store lies on them are those of a run, but for those of the segment that the process shares
+either_way : (beside : Option Neighbour) (test : ℕ → Bool) (a : ℕ) → or_in_segment beside test a ≡ (or_in_segment beside (λ _. false) a || test a)
+either_way None test a = refl
+either_way (Some other) test a = by (is_in_segment a)
+  where
+    by : (b : Bool) → (b || test a) ≡ ((b || false) || test a)
+    by true = refl
+    by false = refl
+
+one_page_kept : (on run kept shared : Bool) → on ≡ run → shared ≡ kept → not (on && not kept) ≡ (shared || not run)
+one_page_kept true true true true is same = refl
+one_page_kept true true false false is same = refl
+one_page_kept true true true false is same = cc
+one_page_kept true true false true is same = cc
+one_page_kept true false kept shared is same = cc
+one_page_kept false true kept shared is same = cc
+one_page_kept false false kept true is same = refl
+one_page_kept false false kept false is same = refl
+
+lies_same : (beside : Option Neighbour) (pages kept : PageSpan) (r : PageRun) (w : Store) → ((n : ℕ) → has_page pages n ≡ is_in r n)
+    → AreOfSegment beside kept → lies_outside pages kept w ≡ lies_on beside r w
+lies_same beside pages kept r w same shared =
+    ap not
+    (each_byte-same (or_in_segment beside (λ a. not (is_in r (a / 4096)))) (λ a. not (has_page pages (a / 4096) && not (has_page kept (a / 4096))))
+    (λ a.
+    one_page_kept (has_page pages (a / 4096)) (is_in r (a / 4096)) (has_page kept (a / 4096)) (or_in_segment beside (λ _. false) a) (same (a / 4096)) (shared a)
+    ∙ sym (either_way beside (λ b. not (is_in r (b / 4096))) a))
+    w.at w.size)
+
+any_same : (beside : Option Neighbour) (pages kept : PageSpan) (r : PageRun) (ws : List Store) → ((n : ℕ) → has_page pages n ≡ is_in r n)
+    → AreOfSegment beside kept → list_any (lies_outside pages kept) ws ≡ list_any (lies_on beside r) ws
+any_same beside pages kept r ws same shared = ap (λ (test : Store → Bool). list_any test ws) (λ i w. lies_same beside pages kept r w same shared i)
 
 -- the harts' buffers are the plain machine's
 or_swapped : (a b : Bool) → (a || b) ≡ (b || a)
@@ -117,13 +276,13 @@ or_swapped true false = refl
 or_swapped false true = refl
 or_swapped false false = refl
 
-module _ (pages : PageSpan) (r : PageRun) (waiting : ℕ → List Store) (xs : List HartState) (some : HartState)
-    (same : (n : ℕ) → has_page pages n ≡ is_in r n) (harts : (k : ℕ) → k < length xs → (get_or xs k some).buffer ≡ waiting k)
+module _ (beside : Option Neighbour) (pages kept : PageSpan) (r : PageRun) (waiting : ℕ → List Store) (xs : List HartState) (some : HartState)
+    (same : (n : ℕ) → has_page pages n ≡ is_in r n) (shared : AreOfSegment beside kept) (harts : (k : ℕ) → k < length xs → (get_or xs k some).buffer ≡ waiting k)
   where
     abbrev waits : HartState → Bool
-    waits x = list_any (lies_in pages) x.buffer
+    waits x = list_any (lies_outside pages kept) x.buffer
 
-    pub first_wait : (n : ℕ) → n ≤ length xs → list_any waits (take n xs) ≡ lies_waiting_on None r waiting n
+    pub first_wait : (n : ℕ) → n ≤ length xs → list_any waits (take n xs) ≡ lies_waiting_on beside r waiting n
     first_wait zero few = refl
     first_wait (suc n) few =
         let lt : n < length xs = omega arith in
@@ -131,8 +290,8 @@ module _ (pages : PageSpan) (r : PageRun) (waiting : ℕ → List Store) (xs : L
         ap (λ k. list_any waits (take k xs)) (sym more)
         ∙ list_any_more waits xs n some lt
         ∙ or_swapped (list_any waits (take n xs)) (waits (get_or xs n some))
-        ∙ ap (λ b. b || list_any waits (take n xs)) (ap (list_any (lies_in pages)) (harts n lt) ∙ any_same pages r (waiting n) same)
-        ∙ ap (λ b. list_any (lies_on None r) (waiting n) || b) (first_wait n (omega arith))
+        ∙ ap (λ b. b || list_any waits (take n xs)) (ap (list_any (lies_outside pages kept)) (harts n lt) ∙ any_same beside pages kept r (waiting n) same shared)
+        ∙ ap (λ b. list_any (lies_on beside r) (waiting n) || b) (first_wait n (omega arith))
 
 -- a hart's buffer
 buffer_of : (s : Setting) (p : Plain) (m : Parts) (k : ℕ) (some : HartState) → IsTied s p m → k < length m.harts.items → (get_or m.harts.items k some).buffer ≡ p.waiting k
@@ -141,33 +300,38 @@ buffer_of s p m k some tied lt =
     ap (λ (x : HartState). x.buffer) (hart_there s p m k (get_or m.harts.items k some) tied (omega (arith, all, lt)) (slice_get-get_or m.harts.items k some lt))
 
 -- whether a store waits on one of them
-pub held_is : (s : Setting) (p : Plain) (m : Parts) (pages : PageSpan) (r : PageRun) (some : HartState) → IsTied s p m → ((n : ℕ) → has_page pages n ≡ is_in r n)
-    → list_any (λ (x : HartState). list_any (lies_in pages) x.buffer) m.harts.items ≡ lies_waiting_on None r p.waiting s.limits.harts
-held_is s p m pages r some tied same =
-    ap (list_any (λ (x : HartState). list_any (lies_in pages) x.buffer)) (sym (take-length m.harts.items))
-    ∙ first_wait pages r p.waiting m.harts.items some same (λ k lt. buffer_of s p m k some tied lt) (length m.harts.items) (omega arith)
-    ∙ ap (lies_waiting_on None r p.waiting) tied.all_harts
+pub held_is : (v : Stand) (m : Parts) (pages kept : PageSpan) (r : PageRun) (some : HartState) → IsTied v.setting v.plain m → ((n : ℕ) → has_page pages n ≡ is_in r n)
+    → AreOfSegment v.beside kept
+    → list_any (λ (x : HartState). list_any (lies_outside pages kept) x.buffer) m.harts.items ≡ lies_waiting_on v.beside r v.plain.waiting v.setting.limits.harts
+held_is v m pages kept r some tied same shared =
+    ap (list_any (λ (x : HartState). list_any (lies_outside pages kept) x.buffer)) (sym (take-length m.harts.items))
+    ∙ first_wait v.beside pages kept r v.plain.waiting m.harts.items some same shared (λ k lt. buffer_of v.setting v.plain m k some tied lt) (length m.harts.items) (omega arith)
+    ∙ ap (lies_waiting_on v.beside r v.plain.waiting) tied.all_harts
 
 -- the gate of the next instruction is the place's
-pub gate_is : (s : Setting) (p : Plain) (h credit : ℕ) (x : HartState) (next : Next) (o r : Option Why) → x ≡ hart_at s p h credit → IsNextAt (here_in_plain s p h) next
+pub gate_is : (v : Stand) (h credit : ℕ) (x : HartState) (next : Next) (o r : Option Why) → x ≡ hart_at v.setting v.plain h credit → IsNextAt (here_at v h) next
     → o ≡ exec_refusal x next.effect (is_some next.fault)
-    → ((t : ℕ) → runs (here_in_plain s p h) ≡ Some t → r ≡ option_or o (others_gate (is_held (here_in_plain s p h) t) next.effect))
-    → ((o ≡ Some Idle) → r ≡ o) → r ≡ refusal_exec (here_in_plain s p h)
-gate_is s p h credit x next o r own is first then idle = go (runs (here_in_plain s p h)) refl
+    → ((t : ℕ) → runs (here_at v h) ≡ Some t → r ≡ option_or o (others_gate (is_held (here_at v h) t) next.effect))
+    → ((o ≡ Some Idle) → r ≡ o) → r ≡ refusal_exec (here_at v h)
+gate_is v h credit x next o r own is first then idle = go (runs (here_at v h)) refl
   where
     by_barrier : (a : Option ℕ) (one other : Option Why) → option_or (cond (is_some a) (Some InBarrier) one) other ≡ unless_in_barrier a (option_or one other)
     by_barrier None one other = refl
     by_barrier (Some left) one other = refl
 
-    go : (u : Option ℕ) → runs (here_in_plain s p h) ≡ u → r ≡ refusal_exec (here_in_plain s p h)
+    go : (u : Option ℕ) → runs (here_at v h) ≡ u → r ≡ refusal_exec (here_at v h)
     go None at =
         let none : o ≡ Some Idle = first ∙ rw (own, at) refl in
         idle none ∙ none ∙ rw at refl
     go (Some t) at =
-        let effect : next.effect ≡ next_effect (here_in_plain s p h) t = is.effect ∙ rw at refl in
-        let fault : next.fault ≡ next_fault (here_in_plain s p h) t = is.fault ∙ rw at refl in
-        let gate : o ≡ cond (is_some (p.awaits h)) (Some InBarrier) (instruction_gate (length (p.waiting h)) (next_effect (here_in_plain s p h) t) (is_some (next_fault (here_in_plain s p h) t))) =
+        let effect : next.effect ≡ next_effect (here_at v h) t = is.effect ∙ rw at refl in
+        let fault : next.fault ≡ next_fault (here_at v h) t = is.fault ∙ rw at refl in
+        let gate : o ≡ cond (is_some (v.plain.awaits h)) (Some InBarrier) (instruction_gate (length (v.plain.waiting h)) (next_effect (here_at v h) t) (is_some (next_fault (here_at v h) t))) =
         first ∙ rw (own, at, effect, fault) refl in
         then t at ∙ rw (gate, effect, at)
-        (by_barrier (p.awaits h) (instruction_gate (length (p.waiting h)) (next_effect (here_in_plain s p h) t) (is_some (next_fault (here_in_plain s p h) t)))
-        (others_gate (is_held (here_in_plain s p h) t) (next_effect (here_in_plain s p h) t)))
+        (by_barrier (v.plain.awaits h) (instruction_gate (length (v.plain.waiting h)) (next_effect (here_at v h) t) (is_some (next_fault (here_at v h) t)))
+        (others_gate (is_held (here_at v h) t) (next_effect (here_at v h) t)))
+
+-- where the process shares no segment no page is one of it
+pub none_of_segment : AreOfSegment None (record { first = 0; count = 0 })
+none_of_segment a = sym (and_false (nat_le 0 (a / 4096)) (nat_lt (a / 4096) 0) (le-ltb (a / 4096) 0 (omega arith)))

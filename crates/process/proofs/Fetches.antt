@@ -91,3 +91,7 @@ pub word_of_image : (pages : List ImagePage) (a : ℕ) → a % 4 ≡ 0 → is_in
 word_of_image pages a aligned stack other =
     let not_return : is_in return_run (a / 4096) ≡ false = one_page 0x3FFFFF0 (a / 4096) ∙ ne_eqb 0x3FFFFF0 (a / 4096) (λ e. other (sym e)) in
     four_bytes pages a aligned ∙ (rw (stack, not_return) (by_page (page_of pages (a / 4096)) (permission_of (map image_run pages) (a / 4096)) (a % 4096) (permission-image pages (a / 4096))))
+
+-- below the stack only pages of the image lie
+pub word_below_stack : (pages : List ImagePage) (a : ℕ) → a % 4 ≡ 0 → a / 4096 < 0x3FFFF00 → code_word pages a ≡ word_of_page (page_of pages (a / 4096)) (a % 4096)
+word_below_stack pages a aligned low = word_of_image pages a aligned (rw (lt-leb 0x3FFFF00 (a / 4096) low) refl) (λ is. omega (arith, low, is))

@@ -1,5 +1,5 @@
 -- An instruction that sets a register and does nothing else makes no fault, and may be executed whatever waits.
-use Rattle.std.proofs.Common.{◌≡◌, ℕ, Bool, true, false, cond, ltb, leb, ◌&&◌, is_some, not, length, option_map, Option, Some, None, refl, sym, ◌∙◌}
+use Rattle.std.proofs.Common.{◌≡◌, ℕ, Bool, true, false, cond, ltb, ◌&&◌, is_some, not, length, Option, Some, None, refl, sym}
 use Rattle.std.specs.Option.{option_map_or, option_or}
 use Rattle.std.proofs.lemmas.Bool.{and_parts, false≢true}
 use Rattle.mach_types.specs.declared.events.Why.TheVariants.{FullBuffer, Waiting}
@@ -9,7 +9,7 @@ use Rattle.rv_inst.specs.declared.effects.Effect.TheVariants as effect
 use Rattle.hart_state.specs.State.{exec_refusal}
 use Rattle.block_model.specs.Events.Exec.{is_held, others_gate, refusal_exec}
 use Rattle.block_model.specs.Instruction.{fault_by}
-use Rattle.process.proofs.Common.{Effect, HartState, IsNextAt, Next, Plain, Setting, Why, hart_at, here_in_plain}
+use Rattle.process.proofs.Common.{Effect, HartState, IsNextAt, Next, Plain, Setting, hart_at, here_in_plain}
 use Rattle.process.proofs.ExecGates.{gate_is}
 
 abbrev is_local : Option Effect → Bool
@@ -59,5 +59,5 @@ pub free_is_allowed : (s : Setting) (p : Plain) (h credit : ℕ) (x : HartState)
     → refusal_exec (here_in_plain s p h) ≡ None
 free_is_allowed s p h credit x next own is fault free =
     let allowed : exec_refusal x next.effect (is_some next.fault) ≡ None = rw (fault, free.runs, free.waits) (gate_of_free (length x.buffer) next.effect free.sets) in
-    sym (gate_is s p h credit x next None None own is (sym allowed)
+    sym (gate_is (record { setting = s; plain = p; beside = None }) h credit x next None None own is (sym allowed)
     (λ t at. others_of_free (is_held (here_in_plain s p h) t) next.effect free.sets) (λ e. refl))

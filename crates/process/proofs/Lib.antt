@@ -1,6 +1,8 @@
+mod Callers
 mod Codes
 mod Common
 mod ConcurrencyIds
+mod Decoding
 mod DoneEvent
 mod DrainEvent
 mod EachHart
@@ -9,6 +11,7 @@ mod Events
 mod ExecEvent
 mod ExecGates
 mod Fetches
+mod Foreseen
 mod FreeInstructions
 mod HartEvents
 mod HartStates
@@ -18,6 +21,8 @@ mod Lookups
 mod Membarriers
 mod Memory
 mod NextInstruction
+pub mod PairLaws
+mod PassingEvents
 mod Places
 mod PlainInstructions
 mod PreemptEvent
@@ -29,6 +34,7 @@ mod SignalDelivery
 mod SignalEvent
 mod SignalFrames
 mod SignalsOfHarts
+mod Starts
 mod StuckProcess
 mod SystemCalls
 mod TakeEvent

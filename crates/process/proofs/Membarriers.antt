@@ -2,7 +2,7 @@
 use Rattle.std.proofs.Common.{◌≡◌, ◌≢◌, ℕ, zero, suc, ◌+◌, ◌-◌, ◌<◌, ◌≤◌, ◌^◌, List, set, refl, sym, ap, ◌∙◌, arith, Bool, true, false, cond, eqb, eq-eqb, ◌||◌, Option, Some, None, is_some, slice_get, ne_eqb}
 use Rattle.std.specs.Option.{option_map, option_map_or}
 use Rattle.std.proofs.lemmas.Option.{slice_get_past}
-use Rattle.process.proofs.Common.{HartState, Here, IsPlace, Parts, Stand, asked_by, by_call, harts_that, is_busy, lost_unless, running_on, thread}
+use Rattle.process.proofs.Common.{HartState, Here, IsPlace, IsTied, Parts, Plain, Setting, Stand, asked_by, by_call, harts_that, is_busy, lost_unless, running_on, thread}
 use Rattle.mach_types.specs.Kernel.Scheduling.{has_hart}
 use Rattle.block_model.specs.Calls.Answers.{CallDone}
 use Rattle.block_model.specs.Calls.Barriers.{running_harts}
@@ -36,18 +36,21 @@ past_all f n (suc d) none =
     plus_none : (n : ℕ) → n + 0 ≡ n
     plus_none n = omega arith
 
-pub running_here : (v : Stand) (m : Parts) (h : ℕ) → IsPlace v m h
-    → harts_that (is_busy m.harts.items) 8 ≡ running_harts v.plain.kernel.threads v.setting.limits.harts
-running_here v m h place =
-    let few = place.limits.eight_harts in
-    let all = place.tied.all_harts in
-    let n = v.setting.limits.harts in
+pub running_tied : (s : Setting) (p : Plain) (m : Parts) → IsTied s p m → s.limits.harts ≤ 8
+    → harts_that (is_busy m.harts.items) 8 ≡ running_harts p.kernel.threads s.limits.harts
+running_tied s p m tied few =
+    let all = tied.all_harts in
+    let n = s.limits.harts in
     let eight : n + (8 - n) ≡ 8 = omega (arith, few) in
     ap (harts_that (is_busy m.harts.items)) (sym eight)
     ∙ past_all (is_busy m.harts.items) n (8 - n)
     (λ k past. ap (λ o. option_map_or (λ (x : HartState). is_some x.running) o false) (slice_get_past m.harts.items k (omega (arith, all, past))))
-    ∙ same_harts (is_busy m.harts.items) (λ k. is_some (running_on k v.plain.kernel.threads)) n
-    (λ k lt. ap (λ o. option_map_or (λ (x : HartState). is_some x.running) o false) (place.tied.harts k lt) ∙ is_run (running_on k v.plain.kernel.threads))
+    ∙ same_harts (is_busy m.harts.items) (λ k. is_some (running_on k p.kernel.threads)) n
+    (λ k lt. ap (λ o. option_map_or (λ (x : HartState). is_some x.running) o false) (tied.harts k lt) ∙ is_run (running_on k p.kernel.threads))
+
+pub running_here : (v : Stand) (m : Parts) (h : ℕ) → IsPlace v m h
+    → harts_that (is_busy m.harts.items) 8 ≡ running_harts v.plain.kernel.threads v.setting.limits.harts
+running_here v m h place = running_tied v.setting v.plain m place.tied place.limits.eight_harts
 
 -- a call: the others lost what it wrote, and each hart that its barrier is about was asked
 asked_beside : (here : Here) (h k : ℕ) (c : CallDone) (x : HartState) → k ≢ h

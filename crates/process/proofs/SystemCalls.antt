@@ -1,6 +1,7 @@
 -- A call of the thread on a hart.
-use Rattle.std.proofs.Common.{◌≡◌, ◌≢◌, ℕ, ◌+◌, ◌-◌, ◌<◌, ◌^◌, append-nil, length, inl, inr, refl, subst, sym, ap, ◌∙◌, arith, Bool, true, false, cond, ◌||◌, Option, Some, None, get_or}
+use Rattle.std.proofs.Common.{◌≡◌, ◌≢◌, ℕ, ◌+◌, ◌-◌, ◌<◌, ◌^◌, append-nil, length, inl, inr, refl, subst, sym, ap, ◌∙◌, arith, Bool, true, false, cond, ◌||◌, ◌⊎◌, Option, Some, None, get_or}
 use Rattle.std.specs.Option.{option_map, option_or}
+use Rattle.std.proofs.lemmas.Bool.{false≢true}
 use Rattle.process.proofs.Common.{End, Hart, HartState, IsPlace, Next, Parts, Plain, Saved, Setting, Stand, Threads, asked_by, by_call, credit_of, done_of, file_among, file_on, hart_at, hart_in, harts_that, here_at, here_in_plain, id_on, is_busy, is_stuck, running_on}
 use Rattle.mach_types.specs.Registers.{no_registers}
 use Rattle.mach_types.specs.declared.events.Choice.TheVariants as asked
@@ -18,6 +19,7 @@ use Rattle.block_model.specs.Deciding.{final, number_of}
 use Rattle.block_model.specs.Here.{Barrier, runs}
 use Rattle.block_model.specs.Ids.{id_of, without_id}
 use Rattle.block_model.specs.Requests.{is_about, restarts_at, with_hart}
+use Rattle.block_model.specs.Sequences.{is_inside_here}
 use Rattle.block_model.specs.Tables.{AreOfLive, AreSignalsOfLive, IsTables}
 use Rattle.sys_calls.specs.Registered.{areas_by_number}
 use Rattle.process.specs.EventOutcomes.{entry_from, hart_after_call, waits_after}
@@ -87,9 +89,13 @@ abbrev pub call_next : Next
 call_next = record { effect = Some effect.Call; fault = None }
 
 -- it reads nothing of another process
-own_call : (v : Stand) (h t : ℕ) → IsOwnStep v h t call_next → IsOwnCall (here_at v h) t
-own_call v h t (inl alone) = inl alone
-own_call v h t (inr own) = (own effect.Call refl refl).1
+own_call : (v : Stand) (h t : ℕ) → is_inside_here (here_at v h) t ≡ false → IsOwnStep v h t call_next → IsOwnCall (here_at v h) t
+own_call v h t outside (inl alone) = inl alone
+own_call v h t outside (inr own) = by (own effect.Call refl refl).1
+  where
+    by : (is_inside_here (here_at v h) t ≡ true) ⊎ IsOwnCall (here_at v h) t → IsOwnCall (here_at v h) t
+    by (inl inside) = absurd (false≢true (sym outside ∙ inside))
+    by (inr is) = is
 
 pub calling : (v : Stand) (m : Parts) (h : Hart) (running harts : ℕ) (x : HartState) (e : Entry) → IsPlace v m h.0 → IsPlanned v h.0 call_next → IsInside false m h.0
     → running ≡ harts_that (is_busy m.harts.items) 8 → harts ≡ length m.harts.items → x ≡ get_or m.harts.items h.0 x → e ≡ entry_from h kind.Exec x.running x.pc → IsCalling v m h running harts x e
@@ -109,7 +115,7 @@ calling v m h running harts x e place plan outside set all value is =
         id = sym (ap (λ (y : HartState). y.cid) own ∙ ap (id_on (here_at v h.0)) at);
         pages = place.tied.pages;
         file = ap (λ (y : HartState). record { file = y.file; pc = y.pc }) own ∙ ap (file_on (here_at v h.0)) at;
-        own = subst (IsOwnCall (here_at v h.0)) its (own_call v h.0 plan.thread plan.own);
+        own = subst (IsOwnCall (here_at v h.0)) its (own_call v h.0 plan.thread (outside v plan.thread place plan.at) plan.own);
       };
       done = done_call (here_at v h.0) plan.thread plan.at (sym plan.fault) (sym plan.effect) (outside v plan.thread place plan.at) ∙ ap (λ t. by_call (here_at v h.0) (called (here_at v h.0) t)) its;
     }

@@ -1,10 +1,13 @@
 pub mod Barriers
+pub mod Called
 pub mod ContextSwitch
 pub mod Delivering
 pub mod EventOutcomes
 pub mod ExecGates
+pub mod Foresight
 pub mod Harts
 pub mod Pages
+pub mod Passing
 pub mod Planned
 pub mod Refinement
 pub mod Reservations

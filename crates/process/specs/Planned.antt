@@ -14,11 +14,13 @@ use Rattle.process.specs.Refinement.{IsPlace, IsUncounted}
 use Rattle.process.specs.declared.next.Next.{Next}
 use Rattle.process.specs.declared.parts.Parts.{Parts}
 
--- the step of thread t reads and writes nothing of another process: there is none, or it is a fault, or a call of its own process
+-- the step of thread t reads and writes nothing of another process: there is none, or it is a fault, or a call of its own process, or one
+-- that kills the process, since it is made inside a sequence
 abbrev pub IsOwnStep : Stand → ℕ → ℕ → Next → Type 0
 IsOwnStep v h t next =
     (v.beside ≡ None)
-    ⊎ ((e : Effect) → next.effect ≡ Some e → next.fault ≡ None → (is_call e ≡ true) × IsOwnCall (here_at v h) t)
+    ⊎ ((e : Effect) → next.effect ≡ Some e → next.fault ≡ None → (is_call e ≡ true)
+    × ((is_inside_here (here_at v h) t ≡ true) ⊎ IsOwnCall (here_at v h) t))
 
 -- this thread runs on hart h, this is its next instruction there, and it may be executed
 pub record IsPlanned (v : Stand) (h : ℕ) (next : Next) : Type 0 where

@@ -1,22 +1,28 @@
 //! Pages of a loaded program, and the instruction words in them.
 
-ghost use Rattle.std.specs.Prelude.{◌≡◌, ◌≢◌, ℕ, ◌<◌, ◌≤◌, ◌+◌, ◌%◌, Some, IfOk, IfSome, IfNone, map, length, slice_index};
+ghost use Rattle.std.specs.Prelude.{◌≡◌, ◌≢◌, ℕ, ◌<◌, ◌≤◌, ◌+◌, ◌%◌, Some, IfOk, IfSome, IfNone, map};
 ghost use Rattle.std.specs.Option.{option_copied};
 ghost use Rattle.std.specs.List.Sorted.{IsStrictlyIncreasing};
 ghost use Rattle.elf_load.specs.Start.{code_word, page_of, return_byte};
-ghost use Rattle.process.specs.Pages.{code_of, is_executable, word_in, word_of, word_of_page};
+ghost use Rattle.block_model.specs.Instruction.{instruction_of};
+ghost use Rattle.process.specs.Pages.{code_of, word_of, word_of_page};
 
+use crate::code_page::{CodePage, decoded};
 use crate::search::place_of;
 use elf_load::ImagePage;
 use mach_types::address_space::{FIRST_STACK_PAGE, RETURN_PAGE, STACK_PAGES};
+use rv_inst::Inst;
 use std::alloc::{AllocError, Global};
 use std::marker::Model;
+
+/// The instructions of so many pages are kept, the first ones of a program, and those of others are decoded at each look.
+const DECODED_PAGES: usize = 64;
 
 /// Pages of a program in rising order of number, with the numbers beside them for a search: where instructions are read from.
 #[derive(Drop)]
 pub struct Code {
     numbers: Vec<u64>,
-    pages: Vec<ImagePage>,
+    pages: Vec<CodePage>,
 }
 
 impl Model for Code {
@@ -38,7 +44,7 @@ impl Code {
         requires { IsStrictlyIncreasing (map (λ p. p.number) pages.now) }
         ensures { IfOk result (λ copied. copied ≡ pages.now) }
     {
-        Code::numbered(alloc, pages.iter().map(copy_of).collect(alloc)?)
+        Code::numbered(alloc, decoded_pages(alloc, pages)?)
     }
 
     /// A copy of those of its pages that may be executed, in the same order. An error only where memory is wanting.
@@ -50,16 +56,16 @@ impl Code {
     }
 
     /// These pages, with their numbers.
-    fn numbered(alloc: Global, pages: Vec<ImagePage>) -> Result<Code, AllocError>
+    fn numbered(alloc: Global, pages: Vec<CodePage>) -> Result<Code, AllocError>
         requires { IsStrictlyIncreasing (map (λ p. p.number) pages.items) }
         ensures { IfOk result (λ numbered. numbered ≡ pages.items) }
     {
-        let numbers = pages.iter().map(|page| page.number).collect(alloc)?;
+        let numbers = pages.iter().map(|page| page.number()).collect(alloc)?;
         Ok(Code { numbers, pages })
     }
 
     /// The page with this number.
-    fn page(&self, number: u64) -> Option<&ImagePage>
+    fn page(&self, number: u64) -> Option<&CodePage>
         ensures { option_copied result ≡ page_of self.now number }
     {
         match place_of(&self.numbers, number) {
@@ -83,49 +89,64 @@ impl Code {
             executable_word(self.page(number), at % 4096)
         }
     }
-}
 
-/// A copy of a page.
-fn copy_of(page: &ImagePage) -> ImagePage
-    ensures { result ≡ page.now }
-{
-    ImagePage {
-        number: page.number,
-        perm: page.perm,
-        bytes: page.bytes,
+    /// The instruction at an address that is a multiple of 4; None exactly where its bytes may not be executed, or
+    /// where their word has no row.
+    pub(crate) fn instruction(&self, at: u64) -> Option<Inst>
+        requires { at % 4 ≡ 0 }
+        ensures { result ≡ instruction_of (code_word self.now at) }
+    {
+        let number = at / 4096;
+        if number < FIRST_STACK_PAGE {
+            executable_instruction(self.page(number), at % 4096)
+        } else {
+            decoded(self.fetch(at))
+        }
     }
 }
 
-/// A copy of those pages that may be executed.
-fn executable_pages(alloc: Global, pages: &[ImagePage]) -> Result<Vec<ImagePage>, AllocError>
+/// Copies of pages, with their instructions where those are kept.
+fn decoded_pages(alloc: Global, pages: &[ImagePage]) -> Result<Vec<CodePage>, AllocError>
+    ensures { IfOk result (λ copies. copies.items ≡ pages.now) }
+{
+    let mut copies = Vec::new(alloc);
+    for page in pages {
+        let is_kept = copies.len() < DECODED_PAGES;
+        copies.push(CodePage::new(alloc, page, is_kept)?)?;
+    }
+    Ok(copies)
+}
+
+/// A copy of those pages that may be executed, with their instructions where those are kept.
+fn executable_pages(alloc: Global, pages: &[CodePage]) -> Result<Vec<CodePage>, AllocError>
     ensures { IfOk result (λ copies. copies.items ≡ code_of pages.now) }
 {
     let mut copies = Vec::new(alloc);
     for page in pages {
-        if is_executable(page) {
-            copies.push(copy_of(page))?;
+        if page.is_executable() {
+            copies.push(page.copied(alloc)?)?;
         }
     }
     Ok(copies)
 }
 
-/// Whether a page may be executed.
-fn is_executable(page: &ImagePage) -> bool
-    ensures { result ≡ is_executable page.now }
-{
-    page.perm & 1 != 0
-}
-
 /// The word at an offset of a page that may be executed, if there is one.
-fn executable_word(page: Option<&ImagePage>, offset: u64) -> Option<u32>
+fn executable_word(page: Option<&CodePage>, offset: u64) -> Option<u32>
     requires { offset + 4 ≤ 4096 }
     ensures { result ≡ word_of_page (option_copied page.entry) offset }
 {
     let page = page?;
-    if page.perm & 1 == 0 {
-        return None;
-    }
-    Some(word(&page.bytes, offset as usize))
+    page.word(offset)
+}
+
+/// The instruction at an offset that is a multiple of 4 of a page that may be executed, if there is one.
+fn executable_instruction(page: Option<&CodePage>, offset: u64) -> Option<Inst>
+    requires aligned { offset % 4 ≡ 0 }
+    requires within { offset < 4096 }
+    ensures { result ≡ instruction_of (word_of_page (option_copied page.entry) offset) }
+{
+    let page = page?;
+    page.instruction(offset)
 }
 
 /// The word of the return page at an offset that is a multiple of 4.
@@ -139,18 +160,4 @@ fn return_word(offset: u64) -> u32
         4 => 0x0000_0073,
         _ => 0,
     }
-}
-
-/// The little-endian word at an offset.
-fn word(bytes: &[u8], offset: usize) -> u32
-    requires { offset + 4 ≤ length bytes.now }
-    ensures { result ≡ word_in bytes.now offset }
-{
-    let word = [
-        bytes[offset],
-        bytes[offset + 1],
-        bytes[offset + 2],
-        bytes[offset + 3],
-    ];
-    u32::from_le_bytes(word)
 }

@@ -28,7 +28,7 @@ impl Parts {
 
     /// The harts other than one lose their reservations of bytes that were written.
     #[inline]
-    pub(crate) fn lose(&mut self, hart: Hart, writes: &[Write])
+    pub fn lose(&mut self, hart: Hart, writes: &[Write])
         ensures harts { (k : ℕ) → slice_get self.new.harts.items k
             ≡ option_map (lost_unless (nat_eq k hart.0) writes.now) (slice_get self.old.harts.items k) }
         ensures pages { self.new.pages ≡ self.old.pages }

@@ -5,17 +5,19 @@ ghost use Rattle.rv_inst.specs.Class.{is_call};
 ghost use Rattle.block_model.specs.Stands.{Stand, here_at};
 ghost use Rattle.block_model.specs.Events.{done_of, refusal_of};
 ghost use Rattle.sys_calls.specs.Made.{process_end};
+ghost use Rattle.block_model.specs.Calls.Answers.{CallDone};
+ghost use Rattle.process.specs.Called.{HasCalled, IsCalled};
 ghost use Rattle.process.specs.EventOutcomes.{hart_after_call, over_after};
 ghost use Rattle.process.specs.Planned.{IsPlanned, IsInside, HasPlan, IsExecuted};
 ghost use Rattle.process.specs.Refinement.{IsAlone, IsPlace, HasCode, IsUncounted, answer_to};
 
 use crate::code::Code;
 use crate::handlers::has_handler;
-use crate::next::{Next, fault_of_next, instruction_at, is_free, next_of};
+use crate::next::{Next, effect_at, fault_of_next, is_free, next_of};
 use crate::parts::{Parts, entry_of};
 use hart_state::HartState;
 use mach_types::signals::SIGSEGV;
-use mach_types::{Choice, End, Entry, Hart, Kind, Saved, Why};
+use mach_types::{Choice, End, Entry, Hart, Kind, Saved, Why, Write};
 use rv_inst::Effect;
 use sys_calls::{CallEnd, make_call};
 
@@ -29,17 +31,16 @@ impl Parts {
             → IfOk result (IsPlanned v hart.0) }
     {
         let state = &self.harts[hart.0 as usize];
-        let instruction = instruction_at(code, &state.file, state.pc);
-        if is_free(state, instruction.effect.as_ref()) {
+        let effect = effect_at(code, &state.file, state.pc);
+        let asked = effect.as_ref();
+        if is_free(state, asked) {
             return Ok(Next {
-                effect: instruction.effect,
+                effect,
                 fault: None,
             });
         }
-        let next = Next {
-            effect: instruction.effect,
-            fault: fault_of_next(&self.pages, state, &instruction),
-        };
+        let fault = fault_of_next(code, &self.pages, state, asked);
+        let next = Next { effect, fault };
         match self.exec_gate(hart, &next) {
             Some(why) => Err(why),
             None => Ok(next),
@@ -57,8 +58,9 @@ impl Parts {
         self.exec_gate(hart, &next)
     }
 
-    /// A fault: its signal becomes pending for the thread where it has a handler, and else the process is killed by it.
-    fn fault(&mut self, hart: Hart, signal: u8)
+    /// A fault: its signal becomes pending for the thread where it has a handler, and else the process is killed by it. The event is
+    /// yet to be counted.
+    pub fn fault(&mut self, hart: Hart, signal: u8)
         requires { (effect : Option Effect)
             × HasPlan self.old hart.0 (record { effect = effect; fault = Some signal }) }
         ensures { (effect : Option Effect)
@@ -117,7 +119,7 @@ impl Parts {
     {
         let harts = self.harts.len() as u8;
         let running = self.busy_harts();
-        let state = &mut self.harts[hart.0 as usize];
+        let state = &self.harts[hart.0 as usize];
         let entry = entry_of(hart, Kind::Exec, state);
         let mut saved = Saved {
             file: state.file,
@@ -133,17 +135,30 @@ impl Parts {
             &mut saved,
             state.cid,
         );
-        end_call(state, done.end, saved);
-        state.ran += 1;
-        self.pages.keeps();
-        self.lose(hart, done.written.as_slice());
-        self.ask(hart, done.end);
-        self.ended = self.end_after(done.end);
+        self.finish_call(hart, done.end, saved, done.written.as_slice());
     }
 
-    /// A call.
+    /// What is left of a call of the thread on a hart, once the tables and the pages are as the call leaves them: the hart goes on
+    /// with these registers, waits in a barrier, or is given up; the other harts lose their reservations of what the kernel wrote;
+    /// each hart that a barrier is about has a request; and the process may have ended. The event is yet to be counted.
+    pub fn finish_call(&mut self, hart: Hart, end: CallEnd, saved: Saved, written: &[Write])
+        requires { HasCalled self.old hart.0 end saved written.now }
+        ensures { (v : Stand) (m : Parts) (d : CallDone) → IsCalled v hart.0 m self.old end saved written.now d
+            → IsUncounted v hart.0 (done_of Choice.Exec (here_at v hart.0)) m self.new }
+    {
+        let state = &mut self.harts[hart.0 as usize];
+        end_call(state, end, saved);
+        state.ran += 1;
+        self.pages.keeps();
+        self.lose(hart, written);
+        self.ask(hart, end);
+        self.ended = self.end_after(end);
+    }
+
+    /// A call of the thread on a hart, which reads nothing of another process: there is none, or the call is neither membarrier(2)
+    /// nor rseq(2), or it is made inside a sequence, which kills the process. The event is yet to be counted.
     #[inline(never)]
-    fn call(&mut self, hart: Hart)
+    pub fn call(&mut self, hart: Hart)
         requires { HasPlan self.old hart.0 (record { effect = Some Effect.Call; fault = None }) }
         ensures { IsExecuted self.old hart.0 (record { effect = Some Effect.Call; fault = None }) self.new }
     {

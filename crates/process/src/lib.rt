@@ -3,15 +3,18 @@
 #![tactic(auto)]
 
 mod code;
+mod code_page;
 mod drain;
 mod exec;
 mod exec_gate;
+mod foresight;
 mod handlers;
 mod hart_view;
 mod interrupt;
 mod membarrier;
 mod next;
 mod parts;
+mod passing;
 mod preempt;
 mod requests;
 mod reservations;
@@ -19,8 +22,9 @@ mod rseq;
 mod run;
 mod search;
 mod signal_delivery;
+mod starting;
 
 pub use code::Code;
 pub use next::{Next, effect_at, effect_of_next, is_free, is_local, next_of};
 pub use parts::Parts;
-pub use requests::is_all_taken;
+pub use requests::{is_all_taken, running_harts};

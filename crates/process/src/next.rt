@@ -3,19 +3,16 @@
 ghost use Rattle.std.specs.Prelude.{◌≡◌, ◌&&◌, Some, IfSome, false, is_some, not};
 ghost use Rattle.std.specs.Option.{option_copied, option_map_or};
 ghost use Rattle.rv_inst.specs.Sizes.{HasAccessSizes};
-ghost use Rattle.block_model.specs.Instruction.{fetched as word_fetched, effect_of, fetch_fault as fault_of_fetch, fault_by, next_effect, next_fault};
+ghost use Rattle.block_model.specs.Instruction.{fetched as word_fetched, fetch_fault as fault_of_fetch, fault_by, instruction_of, next_effect, next_fault};
 ghost use Rattle.process.specs.Harts.{file_of};
 ghost use Rattle.rv_inst.specs.Class.{is_call, sets_register};
-ghost use Rattle.page_map.specs.Map.{byte_in, can_write_in};
 
 use crate::code::Code;
 use hart_state::HartState;
-use mach_types::Regs;
 use mach_types::signals::{SIGBUS, SIGILL, SIGSEGV};
-use page_map::PageMap;
-use rv_decode::decode;
+use mach_types::{Regs, UserMem};
 use rv_exec::effect;
-use rv_inst::{Effect, asks};
+use rv_inst::{Effect, Inst, asks};
 
 /// What the next instruction of a thread asks for, where it was fetched and has a row, and the signal of its fault.
 #[derive(Clone, Copy, Drop)]
@@ -26,15 +23,6 @@ pub struct Next {
     pub fault: Option<u8>,
 }
 
-/// The word at a pc, where it was fetched, and what it asks for, where it has a row.
-#[derive(Clone, Copy, Drop)]
-pub(crate) struct Instruction {
-    /// The word; None where nothing can be executed.
-    pub(crate) word: Option<u32>,
-    /// What it asks for; None where there is no word, or it has no row.
-    pub(crate) effect: Option<Effect>,
-}
-
 /// The word at a pc: instructions stand at multiples of 4.
 fn fetched(code: &Code, pc: u64) -> Option<u32>
     ensures { result ≡ word_fetched code.now pc }
@@ -42,13 +30,15 @@ fn fetched(code: &Code, pc: u64) -> Option<u32>
     if pc % 4 == 0 { code.fetch(pc) } else { None }
 }
 
-/// The effect of a word, where it has a row.
-fn effect_of_word(word: Option<u32>, regs: &Regs, pc: u64) -> Option<Effect>
-    ensures effect { result ≡ effect_of word (record { file = regs.now; pc = pc }) }
-    ensures sizes { IfSome result HasAccessSizes }
+/// The instruction at a pc, where a word is fetched there and has a row.
+fn instruction_at(code: &Code, pc: u64) -> Option<Inst>
+    ensures { result ≡ instruction_of (word_fetched code.now pc) }
 {
-    let inst = decode(word?)?;
-    Some(effect(&inst, regs, pc))
+    if pc % 4 == 0 {
+        code.instruction(pc)
+    } else {
+        None
+    }
 }
 
 /// The signal where nothing was fetched, or the word has no row.
@@ -62,19 +52,20 @@ fn fetch_fault(pc: u64, word: Option<u32>) -> u8
     }
 }
 
-/// The signal of the first fault of an instruction.
-pub(crate) fn fault_of_next(
-    pages: &PageMap,
+/// The signal of the first fault of the next instruction of the thread on a hart in this state, which asks for this.
+pub(crate) fn fault_of_next<M: UserMem>(
+    code: &Code,
+    memory: &M,
     state: &HartState,
-    instruction: &Instruction,
+    effect: Option<&Effect>,
 ) -> Option<u8>
-    requires { IfSome instruction.now.effect HasAccessSizes }
-    ensures { result ≡ fault_by (byte_in pages.now) (can_write_in pages.now) state.now.pc instruction.now.word
-        instruction.now.effect }
+    requires { IfSome (option_copied effect) HasAccessSizes }
+    ensures { result ≡ fault_by (M.byte memory.now) (M.can_write memory.now) state.now.pc
+        (word_fetched code.now state.now.pc) (option_copied effect.entry) }
 {
-    match &instruction.effect {
-        Some(effect) => state.fault_of(pages, effect),
-        None => Some(fetch_fault(state.pc, instruction.word)),
+    match effect {
+        Some(effect) => state.fault_of(memory, effect),
+        None => Some(fetch_fault(state.pc, fetched(code, state.pc))),
     }
 }
 
@@ -88,26 +79,15 @@ pub fn is_free(state: &HartState, effect: Option<&Effect>) -> bool
     is_local(effect) && !state.is_idle() && state.waits.is_none()
 }
 
-/// The instruction at a pc, with these registers. Whoever looks at an instruction calls this one function, so decoding is in it.
-#[inline(never)]
-pub(crate) fn instruction_at(code: &Code, file: &Regs, pc: u64) -> Instruction
-    ensures word { result.word ≡ word_fetched code.now pc }
-    ensures effect { result.effect ≡ next_effect code.now (record { file = file.now; pc = pc }) }
-    ensures sizes { IfSome result.effect HasAccessSizes }
-{
-    let word = fetched(code, pc);
-    Instruction {
-        word,
-        effect: effect_of_word(word, file, pc),
-    }
-}
-
 /// What the instruction at a pc asks for, with these registers. None exactly where nothing can be executed there, or where the
-/// word there is no instruction.
+/// word there is no instruction. Whoever looks at an instruction calls this one function, so the search of its page is in it.
+#[inline(never)]
 pub fn effect_at(code: &Code, file: &Regs, pc: u64) -> Option<Effect>
-    ensures { result ≡ next_effect code.now (record { file = file.now; pc = pc }) }
+    ensures effect { result ≡ next_effect code.now (record { file = file.now; pc = pc }) }
+    ensures sizes { IfSome result HasAccessSizes }
 {
-    instruction_at(code, file, pc).effect
+    let inst = instruction_at(code, pc)?;
+    Some(effect(&inst, file, pc))
 }
 
 /// What the next instruction of the thread on a hart in this state asks for. None exactly where nothing can be executed at its
@@ -139,15 +119,13 @@ pub fn is_call(effect: Option<&Effect>) -> bool
 /// The next instruction of the thread on a hart in this state, over these pages of code and this memory: what it asks for, and
 /// the signal of its fault.
 #[inline(always)]
-pub fn next_of(code: &Code, pages: &PageMap, state: &HartState) -> Next
+pub fn next_of<M: UserMem>(code: &Code, memory: &M, state: &HartState) -> Next
     ensures effect { result.effect ≡ next_effect code.now (file_of state.now) }
     ensures fault { result.fault
-        ≡ next_fault code.now (byte_in pages.now) (can_write_in pages.now) (file_of state.now) }
+        ≡ next_fault code.now (M.byte memory.now) (M.can_write memory.now) (file_of state.now) }
     ensures sizes { IfSome result.effect HasAccessSizes }
 {
-    let instruction = instruction_at(code, &state.file, state.pc);
-    Next {
-        effect: instruction.effect,
-        fault: fault_of_next(pages, state, &instruction),
-    }
+    let effect = effect_at(code, &state.file, state.pc);
+    let fault = fault_of_next(code, memory, state, effect.as_ref());
+    Next { effect, fault }
 }

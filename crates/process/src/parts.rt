@@ -8,7 +8,7 @@ ghost use Rattle.block_model.specs.Stands.{Stand, here_at};
 ghost use Rattle.process.specs.ContextSwitch.{HasEvent, IsChanged};
 ghost use Rattle.process.specs.EventOutcomes.{entry_from};
 ghost use Rattle.process.specs.Harts.{counted};
-ghost use Rattle.process.specs.Refinement.{HasCode, IsAfter, IsAlone, IsEvent, IsPlace, IsUncounted, MayDrain, MayMake, answer_to};
+ghost use Rattle.process.specs.Refinement.{HasCode, HasPlace, IsAfter, IsAlone, IsEvent, IsPlace, IsRefusal, IsUncounted, MayDrain, MayMake, answer_to};
 
 use crate::code::Code;
 use hart_state::HartState;
@@ -80,9 +80,10 @@ impl Parts {
         }
     }
 
-    /// Counts an event of a hart.
+    /// Counts an event of a hart: the last part of each event, after which the parts stand at the place behind it. The hart must be
+    /// one of the list, and have made fewer than 2^32 - 1 events.
     #[inline]
-    fn count(&mut self, hart: Hart)
+    pub fn count(&mut self, hart: Hart)
         requires { HasEvent self.old.harts.items hart.0 }
         ensures harts { IsChanged hart.0 counted self.old.harts.items self.new.harts.items }
         ensures pages { self.new.pages ≡ self.old.pages }
@@ -116,8 +117,9 @@ impl Parts {
         }
     }
 
-    /// The event of a choice other than `exec` that is allowed on a hart, but for its count.
-    fn event(&mut self, hart: Hart, choice: Choice)
+    /// The event of a choice other than `exec` that is allowed on a hart, but for its count ([`Parts::count`]). A store that enters
+    /// memory by a `drain` must lie on pages of the process.
+    pub fn event(&mut self, hart: Hart, choice: Choice)
         requires free { MayMake self.old hart.0 choice }
         requires other { choice ≢ Choice.Exec }
         requires drains { choice ≡ Choice.Drain → MayDrain self.old hart.0 }
@@ -140,8 +142,22 @@ impl Parts {
         ensures { (v : Stand) → IsPlace v self.now hart.0 → IsAlone code.now v
             → result ≡ refusal_of choice (here_at v hart.0) }
     {
+        if let Choice::Exec = choice {
+            return self.refusal_exec(code, hart);
+        }
+        self.refusal_unless_exec(hart, choice)
+    }
+
+    /// The first condition of a choice other than `exec` on a hart that fails; None exactly where the choice is allowed. The parts
+    /// must stand at some place at which their process goes on and has room for one more entry, and the hart must be one of the
+    /// machine's. What is answered is what is due at whichever such place that is, whatever stands beside the process.
+    pub fn refusal_unless_exec(&self, hart: Hart, choice: Choice) -> Option<Why>
+        requires place { HasPlace self.now hart.0 }
+        requires other { choice ≢ Choice.Exec }
+        ensures { IsRefusal self.now hart.0 choice result }
+    {
         match choice {
-            Choice::Exec => self.refusal_exec(code, hart),
+            Choice::Exec => unreachable!(),
             Choice::Drain => self.refusal_drain(hart),
             Choice::Take => self.refusal_take(hart),
             Choice::Done => self.refusal_done(hart),
@@ -168,8 +184,8 @@ impl Parts {
         }
     }
 
-    /// The entry of a choice on a hart that is allowed.
-    pub(crate) fn entry(&self, hart: Hart, choice: Choice) -> Entry
+    /// The entry of a choice on a hart that is allowed, whatever stands beside the process.
+    pub fn entry(&self, hart: Hart, choice: Choice) -> Entry
         requires { MayMake self.now hart.0 choice }
         ensures { (v : Stand) → IsPlace v self.now hart.0 → result ≡ entry_in choice (here_at v hart.0) }
     {

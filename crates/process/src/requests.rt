@@ -8,6 +8,7 @@ ghost use Rattle.block_model.specs.Requests as requests;
 ghost use Rattle.block_model.specs.Sights.{is_all_taken};
 ghost use Rattle.sys_calls.specs.Made.{barrier_of};
 ghost use Rattle.process.specs.Barriers.{asked_by, is_busy, noticed, noticed_unless, taken_with};
+ghost use Rattle.process.specs.Passing.{taken_aside};
 
 use crate::interrupt::pc_after;
 use hart_state::HartState;
@@ -127,6 +128,29 @@ pub fn notice_all(harts: &mut [HartState], hart: Hart)
 {
     for (k, state) in harts.iter_mut().enumerate() {
         notice_unless(state, k == hart.0 as usize, hart);
+    }
+}
+
+/// A hart of a process, where an event of another process took the requests at a hart: at this one, or at another.
+fn take_aside(state: &mut HartState, is_own: bool, hart: Hart)
+    requires { hart.0 < 8 }
+    ensures { state.new ≡ taken_aside is_own hart.0 state.old }
+{
+    notice(state, hart);
+    if is_own {
+        state.requests = 0;
+        state.restart = false;
+    }
+}
+
+/// An event of another process took the requests at a hart: there are none there any more, and no barrier waits for it.
+pub fn take_all_aside(harts: &mut [HartState], hart: Hart)
+    requires { hart.0 < 8 }
+    ensures { (k : ℕ) → slice_get harts.new k
+        ≡ option_map (taken_aside (k == hart.0) hart.0) (slice_get harts.old k) }
+{
+    for (k, state) in harts.iter_mut().enumerate() {
+        take_aside(state, k == hart.0 as usize, hart);
     }
 }
 

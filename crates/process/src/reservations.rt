@@ -1,8 +1,8 @@
 //! Reservations that end because others wrote.
 
-ghost use Rattle.std.specs.Prelude.{◌≡◌, ℕ, nat_eq, slice_get};
+ghost use Rattle.std.specs.Prelude.{◌≡◌, ℕ, map, nat_eq, slice_get};
 ghost use Rattle.std.specs.Option.{option_map};
-ghost use Rattle.process.specs.Reservations.{lost_unless, lost_by_write, lost_by_all};
+ghost use Rattle.process.specs.Reservations.{lost_by_all, lost_by_write, lost_unless};
 
 use hart_state::HartState;
 use mach_types::{Hart, Write};
@@ -31,6 +31,15 @@ fn lose_unless(state: &mut HartState, is_own: bool, writes: &[Write])
     ensures { state.new ≡ lost_unless is_own writes.now state.old }
 {
     if !is_own {
+        lose_all(state, writes);
+    }
+}
+
+/// All harts lose their reservations of bytes that were written.
+pub fn lose_everywhere(harts: &mut [HartState], writes: &[Write])
+    ensures { harts.new ≡ map (lost_by_all writes.now) harts.old }
+{
+    for state in harts.iter_mut() {
         lose_all(state, writes);
     }
 }

@@ -61,8 +61,8 @@ impl Parts {
         Some(looked_at(&view, &area))
     }
 
-    /// Whether the thread on a hart is inside a good sequence.
-    pub(crate) fn is_inside(&self, hart: Hart) -> bool
+    /// Whether the thread on a hart, which must be one of the list, is inside a good sequence.
+    pub fn is_inside(&self, hart: Hart) -> bool
         requires { hart.0 < length self.now.harts.items }
         ensures { (s : Setting) (p : Plain) (t : ℕ) → IsTied s p self.now → hart.0 < s.limits.harts
             → runs (here_in_plain s p hart.0) ≡ Some t

@@ -2,7 +2,8 @@
 
 ghost use Rattle.std.specs.Prelude.{◌≡◌, ℕ, [], if◌then◌else◌, Some};
 ghost use Rattle.mach_types.specs.Bytes.{after_writes};
-ghost use Rattle.mach_types.specs.Kernel.Areas.{interruption, is_clearable, outcome_of, pointer_cleared, writes_of};
+ghost use Rattle.mach_types.specs.Kernel.Areas as areas;
+ghost use Rattle.mach_types.specs.Kernel.Areas.{interruption, outcome_of, pointer_cleared, writes_of};
 
 use mach_types::sequences::RSEQ_CS;
 use mach_types::{Area, BadWhy, Named, Outcome, UserMem};
@@ -29,6 +30,17 @@ pub fn interrupt<M: UserMem>(mem: &mut M, area: Option<Area>, pc: u64) -> Outcom
     }
 }
 
+/// What [`interrupt`] of a thread at a pc would answer, with the area that is registered for it. Nothing is written.
+pub fn foreseen<M: UserMem>(mem: &M, area: Option<Area>, pc: u64) -> Outcome
+    ensures { result ≡ interruption (M.byte mem.now) (M.can_write mem.now) area pc }
+{
+    let Some(area) = area else {
+        return Outcome::Nothing;
+    };
+    let found = named(mem, &area, pc);
+    foreseen_named(mem, &area, pc, found)
+}
+
 /// Interrupts a thread at a pc whose area names this.
 fn interrupt_named<M: UserMem>(mem: &mut M, area: &Area, pc: u64, found: Named) -> Outcome
     ensures outcome { result ≡ outcome_of (M.can_write mem.old) area.now pc found }
@@ -52,9 +64,38 @@ fn interrupt_named<M: UserMem>(mem: &mut M, area: &Area, pc: u64, found: Named) 
     }
 }
 
+/// What the interruption of a thread at a pc whose area names this comes to. Nothing is written.
+fn foreseen_named<M: UserMem>(mem: &M, area: &Area, pc: u64, found: Named) -> Outcome
+    ensures { result ≡ outcome_of (M.can_write mem.now) area.now pc found }
+{
+    match found {
+        Named::Nothing => Outcome::Nothing,
+        Named::Bad(why) => Outcome::Killed(why),
+        Named::Good(sequence) => {
+            if !is_clearable(mem, area) {
+                Outcome::Killed(BadWhy::AreaBytes)
+            } else if sequence.is_inside(pc) {
+                Outcome::Aborted(sequence.abort)
+            } else {
+                Outcome::Cleared
+            }
+        }
+    }
+}
+
+/// Whether the pointer of an area can be written.
+fn is_clearable<M: UserMem>(mem: &M, area: &Area) -> bool
+    ensures { result ≡ areas.is_clearable (M.can_write mem.now) area.now }
+{
+    match area.at.checked_add(RSEQ_CS) {
+        Some(pointer) => mem.writable(pointer, 8),
+        None => false,
+    }
+}
+
 /// Lets an area name nothing; false exactly where its pointer can't be written, and then nothing changes.
 fn clear_pointer<M: UserMem>(mem: &mut M, area: &Area) -> bool
-    ensures answer { result ≡ is_clearable (M.can_write mem.old) area.now }
+    ensures answer { result ≡ areas.is_clearable (M.can_write mem.old) area.now }
     ensures bytes { (a : ℕ) →
         let writes = if result then pointer_cleared (Some area.now) else [] in
         M.byte mem.new a ≡ after_writes writes (M.byte mem.old) a }

@@ -6,5 +6,5 @@
 
 mod interruption;
 
-pub use interruption::interrupt;
+pub use interruption::{foreseen, interrupt};
 pub use mach_types::{Area, BadWhy, Outcome};

@@ -4,21 +4,25 @@
 #![tactic(auto)]
 
 use outcomes::{Fault, Reason};
-use outside::{FileShelf, OpenGate, OutSink};
+use outside::{FileShelf, Meter, MeteredSink, OpenGate, OutSink};
 use reason_text::{AtHand, KeepingShelf, OUT_OF_MEMORY, brief, explain, usage_text};
 use std::alloc::Global;
 use std::env;
-use std::io::{self, ErrorKind};
+use std::io::{self, ErrorKind, IsTerminal};
 use std::process::ExitCode;
 use std::rt::Files;
 use std::sync::Wait;
 use std::thread::Threads;
+use std::time::Clock;
 use top_call::rseq_explained;
 
 /// Where the words can't be taken, nothing is printed on standard output.
 fn main(rt: HostRuntime) -> ExitCode {
     match system_words(&rt) {
-        Ok(words) => ExitCode::from(answer(rt.alloc(), &rt, &words)),
+        Ok(words) => {
+            let meter = Meter::new(rt, rt.stderr().is_terminal());
+            ExitCode::from(answer(rt.alloc(), &rt, &words, meter))
+        }
         Err(fault) => {
             say_fault(rt.alloc(), &rt, fault);
             ExitCode::from(fault.status())
@@ -27,14 +31,16 @@ fn main(rt: HostRuntime) -> ExitCode {
 }
 
 /// Does what the words ask for, with the files of the system and standard output, and gives the exit status. Where
-/// there is no output, standard error says why; where that couldn't be written, it says so behind it.
-fn answer<R: Threads + Wait + Sync + Files + Print + Eprint + Copy>(
+/// there is no output, standard error says why; where that couldn't be written, it says so behind it. The meter shows how far
+/// an exploration is.
+fn answer<R: Threads + Wait + Sync + Files + Print + Eprint + Clock + Copy>(
     alloc: Global,
     rt: &R,
     words: &[String],
+    meter: Meter<R>,
 ) -> u8 {
     let mut shelf = KeepingShelf::new(alloc, FileShelf::new(*rt));
-    let mut sink = OutSink::new(io::writer(rt));
+    let mut sink = MeteredSink::new(OutSink::new(io::writer(rt)), meter);
     let explained = rseq_explained(alloc, rt, words, &mut shelf, &mut sink, &OpenGate);
     let at_hand = AtHand {
         words,

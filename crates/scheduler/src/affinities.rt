@@ -60,6 +60,15 @@ impl Affinities {
         }
     }
 
+    /// The entry of thread 1 alone again.
+    pub fn reset(&mut self, set: u8)
+        ensures { self.new ≡ (1, set) ∷ [] }
+    {
+        self.entries.clear();
+        self.entries.push((1, set));
+        self.rising = true;
+    }
+
     /// Where the entry of a thread stands: found by halving while the numbers rise, else by going over all.
     fn place_of(&self, tid: u32) -> Option<usize>
         ensures { result ≡ position (is_of tid) self.now }

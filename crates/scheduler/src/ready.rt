@@ -50,6 +50,18 @@ impl Ready {
         }
     }
 
+    /// Thread 1 alone again, ready, with the first so many harts: 1 to 8.
+    pub fn reset(&mut self, harts: u8)
+        requires some_hart { 1 ≤ harts }
+        requires eight_harts { harts ≤ 8 }
+        ensures { self.new ≡ scheduling.start_scheduling harts }
+    {
+        let set = all_harts(harts);
+        self.order.clear();
+        self.order.push((1, set));
+        self.affinities.reset(set);
+    }
+
     /// Holds a new thread, with its parent's harts. It isn't ready.
     pub fn add(&mut self, parent: Tid, tid: Tid)
         requires parent { IsTrue (is_held parent.0 self.old) }

@@ -1,5 +1,7 @@
 mod Accesses
+mod PairEnds
 mod PairExamples
+mod PairTies
 mod SameRequests
 mod Segments
 mod Settled

@@ -1,11 +1,12 @@
--- Both processes of a pair see the same requests of barriers, and count the same events.
-use Rattle.std.proofs.Common.{◌≡◌, ℕ, suc, Bool, true, false, [], ◌∷◌, Option, Some, None, refl, sym, ap, ◌∙◌}
+-- Both processes of a pair see the same requests of barriers, and count the same events: as many as the log has entries.
+use Rattle.std.proofs.Common.{◌≡◌, ℕ, suc, ◌+◌, Bool, true, false, List, [], ◌∷◌, length, fold, Option, Some, None, refl, sym, ap, ◌∙◌, arith}
+use Rattle.mach_types.specs.declared.events.Entry.{Entry}
 use Rattle.mach_types.specs.declared.limits.End.{End}
 use Rattle.block_model.specs.Here.{Done}
 use Rattle.block_model.specs.Plain.{Plain, apply}
 use Rattle.block_model.specs.Requests.{requests_after, restart_after}
 use Rattle.shared_procs.specs.Pairs.{Pair, PairSetting, apply_two, ended_if}
-use Rattle.shared_procs.specs.PairRuns.{PairHistory, pair_after}
+use Rattle.shared_procs.specs.PairRuns.{PairHistory, event_two, pair_after, pair_history}
 
 pub record AreAlike (m : Pair) : Type 0 where
   pub requests : (k : ℕ) → m.first.requests k ≡ m.second.requests k
@@ -44,3 +45,21 @@ alike_next h false d m are = record {
 pub alike_after : (s : PairSetting) (before : PairHistory) → AreAlike (pair_after s before)
 alike_after s [] = record { requests = λ k. refl; restart = λ k. refl; first = refl; second = refl }
 alike_after s (e ∷ before) = alike_next e.entry.hart.0 e.process e.done (pair_after s before) (alike_after s before)
+
+-- as many events were made as the log has entries
+made_after : (s : PairSetting) (before : PairHistory) → (pair_after s before).made ≡ length before
+made_after s [] = refl
+made_after s (e ∷ before) = ap suc (made_after s before)
+
+long : (s : PairSetting) (log : List Entry) (before : PairHistory)
+    → length (fold (λ (past : PairHistory) (e : Entry). event_two s past e ∷ past) before log) ≡ length log + length before
+long s [] before = omega arith
+long s (e ∷ log) before =
+    let more : length log + suc (length before) ≡ suc (length log) + length before = omega arith in
+    long s log (event_two s before e ∷ before) ∙ more
+
+pub made_is : (s : PairSetting) (log : List Entry) → length log ≡ (pair_after s (pair_history s log)).made
+unfolding pair_history
+made_is s log =
+    let none : length log + 0 ≡ length log = omega arith in
+    sym (made_after s (pair_history s log) ∙ long s log [] ∙ none)

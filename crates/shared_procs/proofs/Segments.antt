@@ -1,75 +1,12 @@
 -- The bytes of a segment after a store, and which addresses lie in it.
-use Rattle.std.proofs.Common.{◌≡◌, ℕ, zero, suc, ◌+◌, ◌-◌, ◌/◌, ◌%◌, ◌^◌, ◌<◌, ◌≤◌, ◌⊎◌, inl, inr, true, false, List, ◌++◌, length, get_or, take, drop, slice_index, refl, sym, ap, ◌∙◌, arith, length-append}
+use Rattle.std.proofs.Common.{◌≡◌, ℕ, ◌+◌, ◌-◌, ◌/◌, ◌%◌, ◌^◌, ◌<◌, ◌≤◌, ◌⊎◌, inl, inr, true, false, List, length, slice_index, refl, sym, ap, ◌∙◌, arith}
 use Rattle.std.proofs.lemmas.Bool.{cases_lt, lt-ltb, le-ltb, lt-leb, le-leb}
 use Rattle.std.proofs.lemmas.Bool.Decides.{nat_tests}
-use Rattle.std.proofs.lemmas.List.{get_or-take, get_or-drop, get_or-append_right, get_or_append_left, length-take-le}
-use Rattle.std.proofs.Math.Nat.{div-one}
-use Rattle.std.specs.Int.{bytes_low_first, byte_at}
 use Rattle.byte_views.specs.Words.{with_word}
-use Rattle.mach_types.specs.Bytes.{byte_of, byte_over}
+use Rattle.mach_types.specs.Bytes.{byte_over}
+use Rattle.page_map.proofs.Laws.{over-high, over-in, over-low, with_word-after, with_word-before, with_word-inside}
 use Rattle.block_model.specs.Beside.{SEGMENT_AT, SEGMENT_SIZE, is_in_segment}
 use Rattle.shared_procs.specs.Segments.{lies_within, shared_in}
-
-length-low : (i n v : ℕ) → length (bytes_low_first i n v) ≡ n
-length-low i zero v = refl
-length-low i (suc n) v = ap suc (length-low (suc i) n v)
-
-low-at : (i n v k : ℕ) → k < n → get_or (bytes_low_first i n v) k 0 ≡ byte_at (i + k) v
-low-at i zero v k lt = absurd (omega arith)
-low-at i (suc n) v zero lt = let e : i ≡ i + 0 = omega arith in ap (λ j. byte_at j v) e
-low-at i (suc n) v (suc k) lt =
-    let e : suc i + k ≡ i + suc k = omega arith in
-    low-at (suc i) n v k (omega arith) ∙ ap (λ j. byte_at j v) e
-
-byte_at-byte_of : (k v : ℕ) → byte_at k v ≡ byte_of v k
-byte_at-byte_of zero v = ap (λ x. x % 256) (sym (div-one v))
-byte_at-byte_of (suc k) v = refl
-
--- bytes in which a word was written: before it, in it and after it
-module _ (bs : List ℕ) (p size v : ℕ) (fits : p + size ≤ length bs) where
-  front : length (take p bs ++ bytes_low_first 0 size v) ≡ p + size
-  front =
-      let first : length (take p bs) ≡ p = length-take-le p bs (omega arith) in
-      omega (arith, first, length-append (take p bs) (bytes_low_first 0 size v), length-low 0 size v)
-
-  pub word-before : (q : ℕ) → q < p → slice_index (with_word bs p size v) q ≡ slice_index bs q
-  unfolding with_word
-  word-before q lt =
-      let first : length (take p bs) ≡ p = length-take-le p bs (omega arith) in
-      get_or_append_left (take p bs ++ bytes_low_first 0 size v) (drop (p + size) bs) 0 q (omega (arith, front))
-      ∙ get_or_append_left (take p bs) (bytes_low_first 0 size v) 0 q (omega (arith, first))
-      ∙ get_or-take p bs q 0 lt
-
-  pub word-inside : (k : ℕ) → k < size → slice_index (with_word bs p size v) (p + k) ≡ byte_of v k
-  unfolding with_word
-  word-inside k lt =
-      let first : length (take p bs) ≡ p = length-take-le p bs (omega arith) in
-      let here : p + k - p ≡ k = omega arith in
-      let zeroth : 0 + k ≡ k = omega arith in
-      get_or_append_left (take p bs ++ bytes_low_first 0 size v) (drop (p + size) bs) 0 (p + k) (omega (arith, front))
-      ∙ get_or-append_right (take p bs) (bytes_low_first 0 size v) p (p + k) 0 first (omega arith)
-      ∙ ap (λ j. get_or (bytes_low_first 0 size v) j 0) here
-      ∙ low-at 0 size v k lt
-      ∙ ap (λ j. byte_at j v) zeroth
-      ∙ byte_at-byte_of k v
-
-  pub word-after : (q : ℕ) → p + size ≤ q → slice_index (with_word bs p size v) q ≡ slice_index bs q
-  unfolding with_word
-  word-after q le =
-      let there : p + size + (q - (p + size)) ≡ q = omega arith in
-      get_or-append_right (take p bs ++ bytes_low_first 0 size v) (drop (p + size) bs) (p + size) q 0 front le
-      ∙ get_or-drop (p + size) bs (q - (p + size)) 0
-      ∙ ap (λ j. get_or bs j 0) there
-
--- a byte that a store has, and one that it hasn't
-pub over-in : (at n v a below : ℕ) → at ≤ a → a < at + n → byte_over (record { at = at; size = n; value = v }) a below ≡ byte_of v (a - at)
-over-in at n v a below from to = rw (le-leb at a from, lt-ltb a (at + n) to) refl
-
-pub over-low : (at n v a below : ℕ) → a < at → byte_over (record { at = at; size = n; value = v }) a below ≡ below
-over-low at n v a below low = rw (lt-leb at a low) refl
-
-pub over-high : (at n v a below : ℕ) → at + n ≤ a → byte_over (record { at = at; size = n; value = v }) a below ≡ below
-over-high at n v a below high = rw (le-leb at a (omega arith), le-ltb a (at + n) high) refl
 
 pub small_byte : (x : ℕ) → x < 256 → x % 256 ≡ x
 small_byte x lt = omega arith
@@ -84,18 +21,18 @@ pub shared-stored : (segment : List ℕ) (at size v a : ℕ) → length segment 
 shared-stored segment at size v a whole from to past =
     elim (cases_lt a at) [
       | inl low ↦
-          ap (λ x. x % 256) (word-before segment (at - SEGMENT_AT) size v fits (a - SEGMENT_AT) (omega arith))
+          ap (λ x. x % 256) (with_word-before segment (at - SEGMENT_AT) size v (a - SEGMENT_AT) fits (omega arith))
           ∙ sym (over-low at size v a (shared_in segment a) low)
       | inr on ↦
           elim (cases_lt a (at + size)) [
             | inl within ↦
                 let there : a - SEGMENT_AT ≡ at - SEGMENT_AT + (a - at) = omega arith in
                 ap (λ q. slice_index (with_word segment (at - SEGMENT_AT) size v) q % 256) there
-                ∙ ap (λ x. x % 256) (word-inside segment (at - SEGMENT_AT) size v fits (a - at) (omega arith))
+                ∙ ap (λ x. x % 256) (with_word-inside segment (at - SEGMENT_AT) size v (a - at) fits (omega arith))
                 ∙ modulo_twice (v / 256 ^ (a - at))
                 ∙ sym (over-in at size v a (shared_in segment a) on within)
             | inr high ↦
-                ap (λ x. x % 256) (word-after segment (at - SEGMENT_AT) size v fits (a - SEGMENT_AT) (omega arith))
+                ap (λ x. x % 256) (with_word-after segment (at - SEGMENT_AT) size v (a - SEGMENT_AT) fits (omega arith))
                 ∙ sym (over-high at size v a (shared_in segment a) high)
           ]
     ]

@@ -38,7 +38,7 @@ some_goes : (b : Bool) (o : Option ℕ) → is_some (cond b o None) ≡ true →
 some_goes true o is = refl
 some_goes false o is = cc
 
-on_hart_goes : (m : Pair) (h : ℕ) → is_over m ≡ false → goes_on m (on_hart m h) ≡ true
+pub on_hart_goes : (m : Pair) (h : ℕ) → is_over m ≡ false → goes_on m (on_hart m h) ≡ true
 on_hart_goes m h live_on = by (is_some (runs_in m true h)) (is_some (runs_in m false h)) (goes_on m false) (goes_on m true) refl refl refl refl live_on
   where
     by : (second first goes_first goes_second : Bool) → is_some (runs_in m true h) ≡ second → is_some (runs_in m false h) ≡ first → goes_on m false ≡ goes_first → goes_on m true ≡ goes_second

@@ -8,8 +8,9 @@ use Rattle.page_map.specs.Map.{Map, Page, byte_at, byte_in, bytes_if, can_write_
 use Rattle.page_map.specs.Mapping.{IsGap}
 use Rattle.block_model.specs.Beside.{SEGMENT_AT, is_in_segment}
 use Rattle.shared_procs.specs.Segments.{lies_within, reached_in, shared_in, storable_in}
-use Rattle.shared_procs.proofs.Accesses.{each_byte-all, each_byte-fails, each_byte-same, word_missing, word_same}
-use Rattle.shared_procs.proofs.Segments.{IsBeside, IsOutside, bytes_inside, inside_from, over-high, over-low}
+use Rattle.page_map.proofs.Laws.{each_byte-all, each_byte-fails, over-high, over-low, word_missing}
+use Rattle.shared_procs.proofs.Accesses.{each_byte-same, word_same}
+use Rattle.shared_procs.proofs.Segments.{IsBeside, IsOutside, bytes_inside, inside_from}
 
 -- an access has few bytes
 pub few_bytes : (n : ℕ) → IsAccessSize n → n ≤ 8

@@ -1,3 +1,5 @@
+pub mod Halves
+pub mod PairMachines
 pub mod PairRuns
 pub mod Pairs
 pub mod Segments

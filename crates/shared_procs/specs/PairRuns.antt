@@ -1,6 +1,6 @@
 -- Pair runs: logs of which every entry is allowed at its place. What happened is read step by step, newest
 -- event first.
-use Rattle.std.specs.Prelude.{ℕ, ◌≡◌, Bool, List, [], ◌∷◌, fold, if◌then◌else◌, Option, Some, None, is_some, nat_le, Result, Ok, Err, ◌&&◌}
+use Rattle.std.specs.Prelude.{ℕ, ◌≡◌, Bool, true, false, List, [], ◌∷◌, fold, if◌then◌else◌, Option, Some, None, is_some, nat_le, Result, Ok, Err, ◌&&◌}
 use Rattle.mach_types.specs.Events.{choice_of, kind_of}
 use Rattle.mach_types.specs.declared.events.Choice.{Choice}
 use Rattle.mach_types.specs.declared.events.Entry.{Entry}
@@ -20,18 +20,20 @@ use Rattle.shared_procs.specs.declared.outcomes.ProcState.TheVariants.{Live, Exi
 
 -- WHICH EVENT MAY COME
 
--- the entry of a choice of hart h: the thread that begins to run, or runs there, by its number in logs, and its
--- pc
-abbrev pub entry_two : PairSetting → Pair → ℕ → Choice → Entry
-entry_two s m h c =
-    let p = acting m h c in
+-- the entry of a choice of hart h, by the numbers of process p: the thread that begins to run, or runs there, by its
+-- number in logs, and its pc; and the entry of a choice
+abbrev pub entry_as : PairSetting → Pair → Bool → ℕ → Choice → Entry
+entry_as s m p h c =
     let here = here_two s m p h in
     record {
       hart = record { 0 = h };
       kind = kind_of c;
-      tid = record { 0 = number_in_log p (thread_in (own_choice c) here) };
-      pc = pc_in here (thread_in (own_choice c) here);
+      tid = record { 0 = number_in_log p (thread_in c here) };
+      pc = pc_in here (thread_in c here);
     }
+
+abbrev pub entry_two : PairSetting → Pair → ℕ → Choice → Entry
+entry_two s m h c = entry_as s m (acting m h c) h (own_choice c)
 
 -- an entry, unless a condition fails
 abbrev pub unless_two : Entry → Option Why → Result Entry PairRefused
@@ -87,6 +89,14 @@ IsPairRun s log = IsPairRunHistory s (pair_history s log)
 
 -- WHAT IS SEEN OF A PAIR
 
+-- what a pair started from, and its log, with the oldest entry first; and where it stands
+pub record PairSeen : Type 0 where
+  pub setting : PairSetting
+  pub log : List Entry
+
+abbrev pub pair_seen : PairSeen → Pair
+pair_seen v = pair_after v.setting (pair_history v.setting v.log)
+
 -- how a process stands
 abbrev pub state_of_end : Option End → ProcState
 state_of_end None = Live
@@ -98,6 +108,15 @@ state_of_end (Some over.Unended) = Live
 
 abbrev pub proc_state : Pair → Bool → ProcState
 proc_state m p = state_of_end (half p m).ended
+
+-- whether an event ended a process, by how its run has ended: one of which no thread can go on has not
+abbrev pub has_ended : Option End → Bool
+has_ended None = false
+has_ended (Some (over.Exit status)) = true
+has_ended (Some (over.Killed signal)) = true
+has_ended (Some over.Stuck) = false
+has_ended (Some over.Limit) = true
+has_ended (Some over.Unended) = true
 
 -- what it wrote to its console
 abbrev pub console_of : Pair → Bool → List ℕ

@@ -14,7 +14,8 @@ use Rattle.mach_types.specs.declared.limits.Limits.{Limits}
 use Rattle.mach_types.specs.declared.user_memory.Store.{Store}
 use Rattle.mach_types.specs.declared.user_memory.Write.{Write}
 use Rattle.mach_types.specs.declared.user_memory.Write.TheVariants.{Stored, Zeroed}
-use Rattle.elf_load.specs.Start.{Program}
+use Rattle.elf_load.specs.Start.{Program, program_of}
+use Rattle.elf_load.specs.declared.image.Image.{Image}
 use Rattle.block_model.specs.Beside.{Neighbour, is_in_segment}
 use Rattle.block_model.specs.Calls.Barriers.{running_harts}
 use Rattle.block_model.specs.Events.{done_of, refusal_of}
@@ -32,7 +33,11 @@ pub record PairSetting : Type 0 where
   pub second : Program
   pub limits : Limits
 
--- a process is the second one, or else the first
+-- that of two images under limits
+abbrev pub pair_setting_of : Image → Image → Limits → PairSetting
+pair_setting_of first second limits = record { first = program_of first; second = program_of second; limits = limits }
+
+-- that of one process, which is the second one, or else the first
 abbrev pub setting : PairSetting → Bool → Setting
 setting s p = record { program = if p then s.second else s.first; limits = s.limits }
 
@@ -133,6 +138,16 @@ refusal_begins m p h why =
     else if goes_on m p then why
     else Some NotReady
 
+-- the first condition of a choice of hart h that fails, by the numbers of process p, which acts
+abbrev pub refusal_as : PairSetting → Pair → Bool → ℕ → Choice → Option Why
+refusal_as s m p h asked.Exec = refusal_of asked.Exec (here_two s m p h)
+refusal_as s m p h asked.Drain = refusal_of asked.Drain (here_two s m p h)
+refusal_as s m p h asked.Take = refusal_of asked.Take (here_two s m p h)
+refusal_as s m p h asked.Done = refusal_of asked.Done (here_two s m p h)
+refusal_as s m p h asked.Preempt = refusal_of asked.Preempt (here_two s m p h)
+refusal_as s m p h (asked.Run t) = refusal_begins m p h (refusal_of (asked.Run t) (here_two s m p h))
+refusal_as s m p h asked.Signal = refusal_of asked.Signal (here_two s m p h)
+
 -- the first condition of a choice of hart h that fails, over the process that acts
 abbrev pub refusal_two : PairSetting → Pair → ℕ → Choice → Option Why
 refusal_two s m h asked.Exec = refusal_of asked.Exec (here_two s m (on_hart m h) h)
@@ -161,11 +176,14 @@ abbrev pub closing : ℕ → Plain → Option End → List Store
 closing harts m None = []
 closing harts m (Some e) = waiting_below m harts
 
-abbrev pub done_two : PairSetting → Pair → ℕ → Choice → Done
-done_two s m h c =
-    let p = acting m h c in
-    let d = done_of (own_choice c) (here_two s m p h) in
+-- what a choice by the numbers of process p does, and what a choice does
+abbrev pub done_as : PairSetting → Pair → Bool → ℕ → Choice → Done
+done_as s m p h c =
+    let d = done_of c (here_two s m p h) in
     record d { entered = d.entered ++ all_stored (closing s.limits.harts (half p m) d.ended) }
+
+abbrev pub done_two : PairSetting → Pair → ℕ → Choice → Done
+done_two s m h c = done_as s m (acting m h c) h (own_choice c)
 
 -- a process that ended has no waiting store and no reservation, and its barrier calls are gone; requests that
 -- they made stay

@@ -4,7 +4,7 @@ ghost use Rattle.std.specs.Prelude.{◌≡◌, ℕ, ◌+◌, ◌<◌, ◌≤◌,
 ghost use Rattle.std.specs.Option.{SomeIff};
 ghost use Rattle.byte_views.specs.Words.{word_at as number_at};
 ghost use Rattle.mach_types.specs.Bytes.{IsAccessSize, byte_over, word_at};
-ghost use Rattle.block_model.specs.Beside.{SEGMENT_AT, SEGMENT_SIZE};
+ghost use Rattle.block_model.specs.Beside.{SEGMENT_AT, SEGMENT_SIZE, is_in_segment};
 ghost use Rattle.shared_procs.specs.Segments.{lies_within, shared_in};
 
 use byte_views::{read_word, write_word};
@@ -78,6 +78,13 @@ fn number_in(bytes: &[u8], at: usize, size: u8) -> Option<u64>
     ensures small { (k : ℕ) → slice_index bytes.now k < 256 }
 {
     read_word(bytes, at, size as usize)
+}
+
+/// Whether an address lies in the segment.
+pub(crate) fn is_in_segment(at: u64) -> bool
+    ensures { result ≡ is_in_segment at }
+{
+    at >= START && at < START + SIZE as u64
 }
 
 /// Whether all of the `size` bytes from an address on lie in the segment.

@@ -67,6 +67,17 @@ impl Signals {
         }
     }
 
+    /// Thread 1 alone again, as in a new table: each action is the default, nothing is masked, and nothing is
+    /// pending.
+    pub fn reset(&mut self)
+        ensures { self.new ≡ spec.start_signalling }
+    {
+        self.actions = [Action::default(); SIGNALS];
+        self.threads.clear();
+        self.threads.push(threads::new_entry(1, 0));
+        self.may_be_pending = false;
+    }
+
     /// Holds a new thread, with its parent's mask and nothing pending (clone(2), signal(7)).
     pub fn add(&mut self, parent: Tid, tid: Tid)
         requires parent { IsTrue (spec.is_held parent.0 self.old) }

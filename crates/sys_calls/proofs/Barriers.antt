@@ -3,6 +3,7 @@ use Rattle.std.proofs.Common.{◌≡◌, ℕ, Bool, false, cond, [], Option, Som
 use Rattle.std.specs.Option.{option_map_or}
 use Rattle.mach_types.specs.Kernel.Barriers.{answer_of, command, refusal, registered_after, registered_by}
 use Rattle.mach_types.specs.Kernel.Barriers as barriers
+use Rattle.mach_types.specs.Kernel.PairBarriers.{answer_beside}
 use Rattle.sys_calls.proofs.Common.{CallEnd, EINVAL, Here, HoldsTables, IsCaller, IsEntered, Kernel, Map, Saved, Table, Threads, argument, file_among, int_argument, returned, running_on, runs, saved_of, without_id}
 use Rattle.mach_types.specs.declared.barriers.Answer.{Answer}
 use Rattle.mach_types.specs.declared.barriers.Answer.TheVariants.{Value, Begin}
@@ -47,6 +48,20 @@ answer_asked h t =
     let harts = h.setting.limits.harts in
     command h.kernel.barriers (signed_32 (argument h t 0)) (int_argument h t 1) (signed_32 (argument h t 2)) h.hart (running_harts h.kernel.threads harts) harts
 
+-- the same where another process runs beside
+pub begins_only_beside : (r : Registered) (set : BarrierCommand → ℕ) (targets : ℕ) (restart : Bool) (o : Option BarrierCommand)
+    → option_map_or (λ c. answer_beside r (set c) c) o (refusal EINVAL) ≡ Begin targets restart → option_map_or (registered_by r) o r ≡ r
+begins_only_beside r set targets restart None is = refl
+begins_only_beside r set targets restart (Some Query) is = refl
+begins_only_beside r set targets restart (Some Global) is = refl
+begins_only_beside r set targets restart (Some GlobalExpedited) is = refl
+begins_only_beside r set targets restart (Some RegisterGlobalExpedited) is = cc
+begins_only_beside r set targets restart (Some PrivateExpedited) is = refl
+begins_only_beside r set targets restart (Some RegisterPrivateExpedited) is = cc
+begins_only_beside r set targets restart (Some PrivateExpeditedRseq) is = refl
+begins_only_beside r set targets restart (Some RegisterPrivateExpeditedRseq) is = cc
+begins_only_beside r set targets restart (Some GetRegistrations) is = refl
+
 -- what is registered, whatever was answered
 registered_then : (h : Here) (t : ℕ) (r : Registered) (a : Answer) → a ≡ answer_asked h t → r ≡ option_map_or (registered_by h.kernel.barriers) (asked h t) h.kernel.barriers
     → (answers h t a).kernel ≡ for_barriers r h.kernel
@@ -71,7 +86,7 @@ own_alone h t table (Value n) quiet all = kept_own t (returned (word n) (h.file 
 own_alone h t table (Begin targets restart) quiet all = kept_own t (record (h.file t) { pc = sum_64 (h.file t).pc 4 }) h.file [] table quiet all
 
 -- the call, once it is answered so
-made_answers : (h : Here) (t here : ℕ) (k : Kernel) (r : Registered) (m : Map) (saved' : Saved) (end : CallEnd) (a : Answer) → h.hart ≡ here → HoldsTables k h.kernel → HasPages h m → IsCaller k here t
+pub made_answers : (h : Here) (t here : ℕ) (k : Kernel) (r : Registered) (m : Map) (saved' : Saved) (end : CallEnd) (a : Answer) → h.hart ≡ here → HoldsTables k h.kernel → HasPages h m → IsCaller k here t
     → (answers h t a).kernel ≡ for_barriers r h.kernel → saved' ≡ file_among (answers h t a).files t (h.file t) → barrier_of end ≡ (answers h t a).barrier → IsAnswer end saved'
     → gives_up end ≡ false → ((u : ℕ) (ts : Threads) → runs ts u → StandsSo end u ts) → process_end end ≡ None → IsMade h t k m (record k { registered = r }) m saved' end (answers h t a)
 made_answers h t here k r m saved' end a hart told has caller after own begun answered stays runs_on ends = record {

@@ -3,6 +3,7 @@ mod AreaRegistration
 mod AreaWords
 pub mod Barriers
 pub mod CallAnswers
+pub mod CallLaws
 pub mod CallNumbers
 pub mod CallerTables
 pub mod Children

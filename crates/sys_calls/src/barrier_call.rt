@@ -16,8 +16,9 @@ use crate::kernel::Kernel;
 use mach_types::{Answer, Saved};
 use membarrier_cmds::command;
 
-/// A thread whose command came to this: it goes on with a value, or it waits in a barrier, with the pc past the call and a0 as it is.
-fn end_with(saved: &mut Saved, outcome: Answer) -> CallEnd
+/// A thread whose command of membarrier(2) came to this: it goes on with a value, or it waits in a barrier, with the pc past the call and
+/// a0 as it is.
+pub fn end_command(saved: &mut Saved, outcome: Answer) -> CallEnd
     ensures saved { (h : Here) (t : ℕ) → saved.old ≡ h.file t
         → saved.new ≡ file_among (answers h t outcome).files t (h.file t) }
     ensures barrier { (h : Here) (t : ℕ) → barrier_of result ≡ (answers h t outcome).barrier }
@@ -60,5 +61,5 @@ pub fn membarrier(kernel: &mut Kernel, caller: Caller, saved: &mut Saved) -> Cal
         caller.running,
         caller.harts,
     );
-    end_with(saved, outcome)
+    end_command(saved, outcome)
 }

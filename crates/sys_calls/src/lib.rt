@@ -22,6 +22,8 @@ mod signal_calls;
 mod signal_posting;
 mod writing;
 
+pub use arguments::{call_number, go_on, int_argument, signed_argument};
+pub use barrier_call::end_command;
 pub use calling::{CallEnd, Called, call, make_call};
 pub use console::Console;
 pub use kernel::Kernel;

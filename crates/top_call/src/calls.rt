@@ -25,7 +25,7 @@ use std::thread::Threads;
 ///
 /// `words` are those of the command line without the program's own name. The answer is written to `sink`:
 /// at status 0 the output of the command, at every other status one line that names the fault. Where the
-/// sink fails, the status is 6, and it holds a prefix of the text.
+/// sink fails, the status is 6, and it holds a prefix of the text. While runs are explored the sink hears how far it is.
 ///
 /// `run` alone starts worker threads and waits for them, and `explore` other threads, unless its `--jobs` is 1. The gate is
 /// passed once before each turn of a worker.
@@ -49,7 +49,10 @@ pub fn rseq_explained<R: Threads + Wait + Sync, S: Shelf, K: Sink, G: Gate + Syn
 {
     match quiet_explained(alloc, words, shelf, sink) {
         Ok(explained) => explained,
-        Err(command) => tell(sink, workers_text(alloc, rt, &command, shelf, gate)),
+        Err(command) => {
+            let answer = workers_text(alloc, rt, &command, shelf, &*sink, gate);
+            tell(sink, answer)
+        }
     }
 }
 
@@ -99,7 +102,7 @@ fn quiet_explained<'a, S: Shelf, K: Sink>(
         (record { shelf = S.last_trouble shelf.new; sink = K.last_trouble sink.new })) }
     ensures untouched { command_of (texts words.now) ≡ None → shelf.new ≡ shelf.old }
 {
-    match quiet_answer(alloc, words, shelf) {
+    match quiet_answer(alloc, words, shelf, &*sink) {
         Ok(answer) => Ok(tell(sink, answer)),
         Err(command) => Err(command),
     }
@@ -107,10 +110,11 @@ fn quiet_explained<'a, S: Shelf, K: Sink>(
 
 /// The output of the words, or the reason why there is none; Err with the command where it is left to workers. Where
 /// it is, the answer is that, or want of memory before it is known. All memory is taken here.
-fn quiet_answer<'a, S: Shelf>(
+fn quiet_answer<'a, S: Shelf, K: Sink>(
     alloc: Global,
     words: &'a [String],
     shelf: &mut S,
+    sink: &K,
 ) -> Result<Result<Output, Reason>, Command<'a>>
     ensures left { IfErr result (λ command. command_of (texts words.now) ≡ Some (said command)) }
     ensures workers { IfErr result (λ command. needs_workers (said command) ≡ true) }
@@ -131,7 +135,7 @@ fn quiet_answer<'a, S: Shelf>(
             if needs_workers(&command) {
                 Err(command)
             } else {
-                Ok(quiet_text(alloc, &command, shelf))
+                Ok(quiet_text(alloc, &command, shelf, sink))
             }
         }
         Err(WordsError::Wrong(fault)) => Ok(Err(Reason::Words(fault))),

@@ -12,7 +12,7 @@ use command_runs::Output;
 use command_words::{Apart as Asked, Explore, Settings};
 use explored_runs::{Apart, Exploration, explore, explore_on, explored_text};
 use outcomes::Reason;
-use outside::Shelf;
+use outside::{Shelf, Sink};
 use std::alloc::Global;
 use std::thread::{Threads, available_parallelism};
 
@@ -43,11 +43,12 @@ fn exploration_of(settings: Settings) -> Exploration
     }
 }
 
-/// The text of an exploration by this thread alone.
-pub(crate) fn explored_alone<S: Shelf>(
+/// The text of an exploration by this thread alone. The sink hears how far it is.
+pub(crate) fn explored_alone<S: Shelf, K: Sink>(
     alloc: Global,
     asked: &Explore,
     shelf: &mut S,
+    sink: &K,
 ) -> Result<Output, Reason>
     requires { AreInRange asked.now.settings }
     ensures output { IfOk result
@@ -61,16 +62,17 @@ pub(crate) fn explored_alone<S: Shelf>(
     let settings = asked.settings;
     let image = taken(alloc, asked.program, &settings.limits, shelf)?;
     let exploration = exploration_of(settings);
-    let explored = explore(alloc, &image, settings.limits, &exploration)?;
+    let explored = explore(alloc, &image, settings.limits, &exploration, sink)?;
     Ok(Output::whole(explored_text(alloc, &explored, exploration.apart)?))
 }
 
-/// The text of an exploration by as many host threads as are asked for.
-pub(crate) fn explored_together<R: Threads + Sync, S: Shelf>(
+/// The text of an exploration by as many host threads as are asked for. The sink hears how far it is.
+pub(crate) fn explored_together<R: Threads + Sync, S: Shelf, K: Sink>(
     alloc: Global,
     rt: &R,
     asked: &Explore,
     shelf: &mut S,
+    sink: &K,
 ) -> Result<Output, Reason>
     requires { AreInRange asked.now.settings }
     ensures output { IfOk result
@@ -85,7 +87,8 @@ pub(crate) fn explored_together<R: Threads + Sync, S: Shelf>(
     let image = taken(alloc, asked.program, &settings.limits, shelf)?;
     let exploration = exploration_of(settings);
     let jobs = jobs_of(rt, settings.jobs);
-    let explored = explore_on(alloc, rt, &image, settings.limits, &exploration, jobs)?;
+    let limits = settings.limits;
+    let explored = explore_on(alloc, rt, &image, limits, &exploration, jobs, sink)?;
     Ok(Output::whole(explored_text(alloc, &explored, exploration.apart)?))
 }
 

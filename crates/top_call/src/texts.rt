@@ -26,7 +26,7 @@ use guest_programs::{GuestFault, make};
 use mach_types::Limits;
 use machine_core::Machine;
 use outcomes::{FileRole, Reason};
-use outside::{Gate, Shelf};
+use outside::{Gate, Shelf, Sink};
 use std::alloc::Global;
 use std::sync::Wait;
 use std::thread::Threads;
@@ -40,11 +40,12 @@ struct ProgramRun {
     machine: Machine,
 }
 
-/// The text of a command that needs no workers.
-pub(crate) fn quiet_text<S: Shelf>(
+/// The text of a command that needs no workers. Before it is written the sink may hear how far it is.
+pub(crate) fn quiet_text<S: Shelf, K: Sink>(
     alloc: Global,
     command: &Command,
     shelf: &mut S,
+    sink: &K,
 ) -> Result<Output, Reason>
     requires limits { HasLimits (said command.now) }
     requires harts { HasItsHarts (said command.now) }
@@ -60,16 +61,17 @@ pub(crate) fn quiet_text<S: Shelf>(
         Command::Runs(run) => quiet_run_text(alloc, run, shelf),
         Command::Makes(guest) => guest_output(alloc, *guest),
         Command::Tries(trial) => tried(alloc, trial),
-        Command::Explores(explore) => explored_alone(alloc, explore, shelf),
+        Command::Explores(explore) => explored_alone(alloc, explore, shelf, sink),
     }
 }
 
-/// The text of a command by workers, or by several host threads.
-pub(crate) fn workers_text<R: Threads + Wait + Sync, S: Shelf, G: Gate + Sync>(
+/// The text of a command by workers, or by several host threads. Before it is written the sink may hear how far it is.
+pub(crate) fn workers_text<R: Threads + Wait + Sync, S: Shelf, K: Sink, G: Gate + Sync>(
     alloc: Global,
     rt: &R,
     command: &Command,
     shelf: &mut S,
+    sink: &K,
     gate: &G,
 ) -> Result<Output, Reason>
     requires limits { HasLimits (said command.now) }
@@ -83,7 +85,7 @@ pub(crate) fn workers_text<R: Threads + Wait + Sync, S: Shelf, G: Gate + Sync>(
 {
     match command {
         Command::Runs(run) => workers_run_text(alloc, rt, run, shelf, gate),
-        Command::Explores(explore) => explored_together(alloc, rt, explore, shelf),
+        Command::Explores(explore) => explored_together(alloc, rt, explore, shelf, sink),
         Command::Makes(_) | Command::Tries(_) => unreachable!(),
     }
 }

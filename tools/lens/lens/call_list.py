@@ -92,13 +92,7 @@ def told(history: History, call: Call, text: bytes | None) -> str:
     if text is not None and form:
         words[1] = literal(text)
     asked = f'{calls.name_of(call.number)}({", ".join(words)})'
-    return f'{asked} = {answer_word(history, call)}  ({spot(history, call.step.pc)})'
-
-
-def spot(history: History, pc: int) -> str:
-    """A place and the number of its line, where the file says it."""
-    place = history.program.place(pc)
-    return history.program.where(pc) + (f', {place.name}' if place else '')
+    return f'{asked} = {answer_word(history, call)}  ({history.program.spot(call.step.pc)})'
 
 
 def answer_word(history: History, call: Call) -> str:

@@ -4,7 +4,7 @@ may answer."""
 from collections.abc import Callable
 
 WRITE, WRITEV, EXIT, EXIT_GROUP, FUTEX, RT_SIGRETURN, CLONE, MEMBARRIER = 64, 66, 93, 94, 98, 139, 220, 283
-TKILL, RT_SIGACTION, MPROTECT, RSEQ = 130, 134, 226, 293
+TKILL, TGKILL, RT_SIGACTION, MPROTECT, RSEQ = 130, 131, 134, 226, 293
 WRITES = (WRITE, WRITEV)
 WITHOUT_ANSWER = (EXIT, EXIT_GROUP, RT_SIGRETURN)
 
@@ -19,7 +19,7 @@ NAMES = {
     123: 'sched_getaffinity',
     124: 'sched_yield',
     TKILL: 'tkill',
-    131: 'tgkill',
+    TGKILL: 'tgkill',
     RT_SIGACTION: 'rt_sigaction',
     135: 'rt_sigprocmask',
     RT_SIGRETURN: 'rt_sigreturn',

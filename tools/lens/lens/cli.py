@@ -2,6 +2,7 @@
 from __future__ import annotations
 
 import argparse
+import gc
 import json
 import sys
 from collections.abc import Iterable
@@ -9,6 +10,7 @@ from pathlib import Path
 
 from .arguments import add_program, limits_of, positive
 from .call_list import list_calls
+from .causes import explain
 from .faults import LensFault
 from .history import History, make_history
 from .listing import CONTEXT, Selection, list_run
@@ -17,8 +19,10 @@ from .output import RUN, Output
 from .picture import draw_run
 from .program import Program
 from .scripts import Lines, first_unreadable, read_lines
+from .sequences import list_sequences
 from .shrinking import shrink
 from .steering import steer
+from .subjects import SEQUENCES, WORDS, steps_about
 from .trace import make_trace
 
 FAULT_STATUS = 2
@@ -37,6 +41,8 @@ def make_parser() -> argparse.ArgumentParser:
     add_trace(commands)
     add_svg(commands)
     add_calls(commands)
+    add_sequences(commands)
+    add_why(commands)
     add_cut(commands)
     add_play(commands)
     add_inspect(commands)
@@ -54,6 +60,14 @@ def add_list(commands) -> None:
     )
     command.add_argument('--hart', type=int, metavar='H', help='only the steps of hart H')
     command.add_argument('--thread', type=int, metavar='T', help='only the steps of thread T')
+    add_span(command, 'the last one (that of the run)')
+    command.add_argument(
+        '--only',
+        type=subjects,
+        default=(),
+        metavar='WORDS',
+        help=f'only the steps about one of these, or several with commas: {", ".join(WORDS)}',
+    )
     command.set_defaults(action=list_command)
 
 
@@ -68,12 +82,7 @@ def add_svg(commands) -> None:
     command = commands.add_parser('svg', help='a picture: a lane for each hart, a colour for each thread')
     add_run_and_elf(command)
     add_out(command, 'FILE.svg')
-    command.add_argument(
-        '--from', dest='first', type=positive, metavar='N', help='the first step that is shown (1)'
-    )
-    command.add_argument(
-        '--to', dest='last', type=positive, metavar='M', help='the last one (the 200th shown)'
-    )
+    add_span(command, 'the last one (the 200th shown)')
     command.set_defaults(action=svg_command)
 
 
@@ -93,6 +102,19 @@ def add_calls(commands) -> None:
     add_run_and_elf(command)
     command.add_argument('--thread', type=int, metavar='T', help='only those of thread T')
     command.set_defaults(action=calls_command)
+
+
+def add_sequences(commands) -> None:
+    command = commands.add_parser('sequences', help='the restartable sequences by name, and how each ended')
+    add_run_and_elf(command)
+    command.add_argument('--thread', type=int, metavar='T', help='only those of thread T')
+    command.set_defaults(action=sequences_command)
+
+
+def add_why(commands) -> None:
+    command = commands.add_parser('why', help='why the run ended as it did')
+    add_run_and_elf(command)
+    command.set_defaults(action=why_command)
 
 
 def add_play(commands) -> None:
@@ -136,6 +158,24 @@ def add_run_and_elf(command: argparse.ArgumentParser) -> None:
     command.add_argument('elf', metavar='ELF')
     command.add_argument('--seed', type=int, metavar='S', help='the run that this seed draws, in place of RUN')
     add_program(command)
+
+
+def add_span(command: argparse.ArgumentParser, last: str) -> None:
+    command.add_argument(
+        '--from', dest='first', type=positive, metavar='N', help='the first step that is shown (1)'
+    )
+    command.add_argument('--to', dest='last', type=positive, metavar='M', help=last)
+
+
+def subjects(text: str) -> tuple[str, ...]:
+    """The words of a list with commas."""
+    words = tuple(text.split(','))
+    if not set(words) <= set(WORDS):
+        raise ValueError
+    return words
+
+
+subjects.__name__ = f'list of {", ".join(WORDS)}'
 
 
 def add_lines(command: argparse.ArgumentParser) -> None:
@@ -194,9 +234,27 @@ def write_out(path: str | None, parts: Iterable[str]) -> None:
 
 def list_command(arguments: argparse.Namespace) -> None:
     history = read_history(arguments)
-    check_step(history.output, arguments.around)
-    chosen = Selection(arguments.around, arguments.context, arguments.hart, arguments.thread)
+    for number in (arguments.around, arguments.first, arguments.last):
+        check_step(history.output, number)
+    chosen = Selection(
+        arguments.around,
+        arguments.context,
+        arguments.hart,
+        arguments.thread,
+        arguments.first,
+        arguments.last,
+        chosen_steps(history, arguments),
+    )
     write_out(None, (f'{line}\n' for line in list_run(history, chosen)))
+
+
+def chosen_steps(history: History, arguments: argparse.Namespace) -> set[int] | None:
+    """The steps about what --only names. The program is asked for sequences alone."""
+    if not arguments.only:
+        return None
+    lines = [step.line() for step in history.output.steps]
+    acts = machine_of(arguments).acts(lines) if SEQUENCES in arguments.only else []
+    return steps_about(history, arguments.only, acts)
 
 
 def check_step(output: Output, number: int | None) -> None:
@@ -255,6 +313,17 @@ def calls_command(arguments: argparse.Namespace) -> None:
     write_out(None, (f'{line}\n' for line in list_calls(history, machine_of(arguments), arguments.thread)))
 
 
+def sequences_command(arguments: argparse.Namespace) -> None:
+    history = read_history(arguments)
+    rows = list_sequences(history, machine_of(arguments), arguments.thread)
+    write_out(None, (f'{row}\n' for row in rows))
+
+
+def why_command(arguments: argparse.Namespace) -> None:
+    history = read_history(arguments)
+    write_out(None, (f'{line}\n' for line in explain(history, machine_of(arguments))))
+
+
 def shrink_command(arguments: argparse.Namespace) -> None:
     output, program = output_of(arguments), Program(arguments.elf)
     shrunk = shrink(output, program, machine_of(arguments), arguments.by == 'end')
@@ -274,6 +343,7 @@ def steer_command(arguments: argparse.Namespace) -> None:
 
 def main() -> int:
     """Does what the words ask; 2 and one line on standard error where it can't."""
+    gc.disable()  # (a run is read as a whole, and nothing of it goes before the end)
     try:
         arguments = make_parser().parse_args()
         return arguments.action(arguments) or 0

@@ -83,12 +83,13 @@ def note_instructions(history: History) -> None:
             history, first, f'it starts at {first.pc:#x}, and this file at {program.entry:#x}'
         )
     for step in output.steps:
+        if step.kind != EXEC:
+            continue
         instruction = program.instruction(step.pc)
-        is_fatal = output.was_killed and step.number == len(output.steps)
-        if instruction is None and step.kind == EXEC and not is_fatal:
-            raise other_program(history, step, f'it is at {step.pc:#x}, where this file has no code')
-        if instruction and step.kind == EXEC:
+        if instruction:
             history.instructions[step.number] = instruction
+        elif not (output.was_killed and step.number == len(output.steps)):
+            raise other_program(history, step, f'it is at {step.pc:#x}, where this file has no code')
 
 
 def note_calls(history: History) -> None:
@@ -99,7 +100,7 @@ def note_calls(history: History) -> None:
         instruction = history.instructions.get(step.number)
         if step.kind == SIGNAL:
             interrupted[step.thread].append(last_written.get(step.thread))
-        elif instruction and instruction.sets(A7):
+        elif instruction and instruction.written == A7:
             last_written[step.thread] = instruction.immediate
         elif instruction and instruction.is_call:
             number = history.calls[step.number] = last_written.get(step.thread)
@@ -111,9 +112,9 @@ def check_pcs(history: History, next_pcs: dict[int, int]) -> None:
     """After an instruction its thread is where it can go on; rt_sigreturn goes anywhere."""
     for step in history.output.steps:
         instruction, pc = history.instructions.get(step.number), next_pcs.get(step.number)
-        if instruction is None or pc is None or history.calls.get(step.number) == RT_SIGRETURN:
+        if instruction is None or pc is None or instruction.may_go_to(pc):
             continue
-        if not instruction.may_go_to(pc):
+        if history.calls.get(step.number) != RT_SIGRETURN:
             words = f'it goes from {step.pc:#x} to {pc:#x}, which {instruction.text!r} of this file can\'t'
             raise other_program(history, step, words)
 
@@ -150,15 +151,16 @@ def faulted(step: Step, output: Output, next_pcs: dict[int, int]) -> bool:
 
 
 def stretches(output: Output) -> Iterator[Stretch]:
-    running: dict[int, Stretch] = {}
+    running: dict[int, list[int]] = {}
     for step in output.steps:
+        began = running.get(step.hart)
         if step.kind == RUN:
-            if step.hart in running:
-                yield running.pop(step.hart)
-            running[step.hart] = Stretch(step.hart, step.thread, step.number, step.number)
-        elif step.hart in running and step.thread == running[step.hart].thread:
-            began = running[step.hart]
-            running[step.hart] = Stretch(began.hart, began.thread, began.first, step.number)
+            if began:
+                yield Stretch(step.hart, *began)
+            running[step.hart] = [step.thread, step.number, step.number]
+        elif began and step.thread == began[0]:
+            began[2] = step.number
             if step.kind == PREEMPT:
-                yield running.pop(step.hart)
-    yield from running.values()
+                yield Stretch(step.hart, *running.pop(step.hart))
+    for hart, began in running.items():
+        yield Stretch(hart, *began)

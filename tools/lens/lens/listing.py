@@ -1,8 +1,10 @@
 """A run as a listing: one line a step, one column a hart."""
 from __future__ import annotations
 
-from collections.abc import Iterator
+from collections.abc import Iterator, Set
 from dataclasses import dataclass
+from functools import cache
+from typing import NamedTuple
 
 from .calls import name_of
 from .history import History
@@ -14,20 +16,29 @@ SOURCE_SHOWN = 72
 
 @dataclass(frozen=True)
 class Selection:
-    """Which steps are listed: those round one, of one hart, of one thread."""
+    """Which steps are listed: those round one, from one to another, of one hart, of one thread, and of some
+    numbers."""
 
     around: int | None = None
     context: int = CONTEXT
     hart: int | None = None
     thread: int | None = None
+    first: int | None = None
+    last: int | None = None
+    numbers: Set[int] | None = None
+
+    def steps(self, steps: list[Step]) -> list[Step]:
+        first, last = self.first or 1, len(steps) if self.last is None else self.last
+        if self.around is not None:
+            first, last = max(first, self.around - self.context), min(last, self.around + self.context)
+        return [step for step in steps[first - 1 : last] if self.has(step)]
 
     def has(self, step: Step) -> bool:
-        is_near = self.around is None or abs(step.number - self.around) <= self.context
-        return is_near and self.hart in (None, step.hart) and self.thread in (None, step.thread)
+        is_chosen = self.numbers is None or step.number in self.numbers
+        return is_chosen and self.hart in (None, step.hart) and self.thread in (None, step.thread)
 
 
-@dataclass(frozen=True)
-class Row:
+class Row(NamedTuple):
     """One line: what the hart did, of which thread, and where."""
 
     step: Step
@@ -67,35 +78,49 @@ def make_row(history: History, step: Step) -> Row:
     )
 
 
+class Rows:
+    """Makes the rows of a run. What an instruction shows is made once for each."""
+
+    def __init__(self, history: History):
+        self.history = history
+        self.of_instruction = cache(self.find_instruction)
+
+    def row(self, step: Step) -> Row:
+        history = self.history
+        is_plain = step.number in history.instructions and step.number not in history.calls
+        return Row(step, *self.of_instruction(step.pc)) if is_plain else make_row(history, step)
+
+    def find_instruction(self, pc: int) -> tuple[str, str, str]:
+        program = self.history.program
+        return program.instruction(pc).text, program.where(pc), source(self.history, pc)
+
+
 def list_run(history: History, selection: Selection) -> Iterator[str]:
     """The lines of a listing, with what the program printed and its end where nothing behind the rows is
     left out."""
-    rows = [make_row(history, step) for step in history.output.steps if selection.has(step)]
-    harts = sorted({row.step.hart for row in rows})
-    deeds = {hart: max(len(row.deed) for row in rows if row.step.hart == hart) for hart in harts}
-    widths = {hart: max(deeds[hart], len(f'hart {hart}')) for hart in harts}
-    where = max((len(row.where) for row in rows), default=0)
-    yield line('step', 'thread', {hart: f'hart {hart}' for hart in harts}, widths, 'at', where, 'source')
-    for row in rows:
-        thread = str(row.step.thread or '')
-        yield line(
-            str(row.step.number), thread, {row.step.hart: row.deed}, widths, row.where, where, row.source
-        )
+    made = Rows(history)
+    rows = [made.row(step) for step in selection.steps(history.output.steps)]
+    deeds = {(row.step.hart, row.deed) for row in rows}
+    widths = {hart: len(f'hart {hart}') for hart in sorted({hart for hart, _ in deeds})}
+    for hart, words in deeds:
+        widths[hart] = max(widths[hart], len(words))
+    where = max(map(len, {row.where for row in rows}), default=0)
+
+    @cache
+    def columns(hart: int, words: str, place: str, text: str) -> str:
+        return in_columns({hart: words}, widths, place, where, text)
+
+    heads = in_columns({hart: f'hart {hart}' for hart in widths}, widths, 'at', where, 'source')
+    yield f'{"step":>7}  {"thread":>6}  {heads}'
+    for step, *words in rows:
+        yield f'{step.number:>7}  {step.thread or "":>6}  {columns(step.hart, *words)}'
     yield ''
     yield summary(history, len(rows))
 
 
-def line(
-    number: str,
-    thread: str,
-    deeds: dict[int, str],
-    widths: dict[int, int],
-    where: str,
-    width: int,
-    source_line: str,
-) -> str:
+def in_columns(deeds: dict[int, str], widths: dict[int, int], where: str, width: int, text: str) -> str:
     columns = ' | '.join(deeds.get(hart, '').ljust(widths[hart]) for hart in widths)
-    return f'{number:>7}  {thread:>6}  {columns} | {where.ljust(width)}  {source_line}'.rstrip()
+    return f'{columns} | {where.ljust(width)}  {text}'.rstrip()
 
 
 def summary(history: History, shown: int) -> str:

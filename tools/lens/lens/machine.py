@@ -16,6 +16,10 @@ BUILT = Path(os.environ.get('RSEQ_RUN', REPOSITORY / 'crates' / 'rseq_run' / 'ou
 """The program that is called where no other is named: that of the repository, or what RSEQ_RUN says."""
 DONE, SCRIPT_REFUSED = 0, 4
 SECONDS = 120
+OUTSIDE_SEQUENCES = (b'step', b'kernel')
+CALM = 4_096
+"""Behind so many events of the rule the rest of a run is drawn fairly, so that a thread that waits for
+another one doesn't fill the log."""
 
 
 @dataclass(frozen=True)
@@ -38,6 +42,19 @@ class Answer:
 
 
 @dataclass(frozen=True)
+class Act:
+    """A restartable sequence of a run: its hart, its first and last step, its thread, how it ended, and the
+    abort handler at which its thread goes on where it was cut."""
+
+    hart: int
+    first: int
+    last: int
+    thread: int
+    form: str
+    abort: int | None
+
+
+@dataclass(frozen=True)
 class Machine:
     """A built program, the file that it runs, and the limits that it is given."""
 
@@ -47,22 +64,39 @@ class Machine:
 
     def play(self, lines: list[str]) -> Output | int:
         """The run of a script, or the number of the first of its lines that is refused."""
-        answer = self.call('play', text_of(lines))
+        return self.run_of('play', self.call('play', text_of(lines)))
+
+    def finish(self, lines: list[str]) -> Output | int:
+        """The run that the rule makes behind a script, or the number of the first line that is refused."""
+        words = ('--policy=rule', f'--calm={CALM}')
+        return self.run_of('draw', self.call('draw', text_of(lines), words=words))
+
+    def run_of(self, command: str, answer: Answer) -> Output | int:
         if answer.status == DONE:
             return parse_output(self.elf, answer.text)
         refused = answer.refused_line()
         if refused is not None:
             return refused
-        raise self.fault('play', answer)
+        raise self.fault(command, answer)
 
-    def call(self, command: str, script: bytes, name: str | None = None) -> Answer:
-        """What a command answers to a script. Where it is given a name, standard error has that in place of a
-        file's."""
+    def call(
+        self, command: str, script: bytes, name: str | None = None, words: tuple[str, ...] = ()
+    ) -> Answer:
+        """What a command answers to a script, and to further words. Where it is given a name, standard error
+        has that in place of a file's."""
         with tempfile.NamedTemporaryFile('wb', suffix='.script') as file:
             file.write(script)
             file.flush()
-            answer = self.answer([command, self.elf, file.name, *self.options])
+            given = ['--after', file.name] if command == 'draw' else [file.name]
+            answer = self.answer([command, self.elf, *given, *words, *self.options])
             return answer if name is None else replace(answer, said=answer.said.replace(file.name, name))
+
+    def acts(self, lines: list[str]) -> list[Act]:
+        """The restartable sequences of a script, each line of which is allowed."""
+        answer = self.call('acts', text_of(lines))
+        if answer.status != DONE:
+            raise self.fault('acts', answer)
+        return parse_acts(answer.text)
 
     def output_of(self, answer: Answer, name: str) -> Output:
         """The run that an answer of status 0 has."""
@@ -99,6 +133,18 @@ class Machine:
         except subprocess.TimeoutExpired:
             raise LensFault(f'{self.program} had not ended after {SECONDS} seconds') from None
         return Answer(ran.returncode, ran.stdout, ran.stderr.decode('utf-8', 'replace'))
+
+
+def parse_acts(text: bytes) -> list[Act]:
+    """The sequences among the lines HART FIRST LAST TID FORM of `acts`; only behind `cut` another field
+    stands."""
+    acts = []
+    for line in text.splitlines():
+        hart, first, last, thread, form, *abort = line.split(b' ')
+        if form not in OUTSIDE_SEQUENCES:
+            handler = int(abort[0], 16) if abort else None
+            acts.append(Act(int(hart), int(first), int(last), int(thread), form.decode('ascii'), handler))
+    return acts
 
 
 def text_of(lines: list[str]) -> bytes:

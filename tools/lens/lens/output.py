@@ -1,9 +1,12 @@
 """Reads an output text of rseq_run: the console, the lines of the log, and the end."""
 from __future__ import annotations
 
+import re
 import sys
 from dataclasses import dataclass
+from functools import cache
 from pathlib import Path
+from typing import NamedTuple
 
 from .faults import LensFault
 
@@ -12,10 +15,10 @@ KINDS = (RUN, EXEC, DRAIN, PREEMPT, TAKE, DONE, SIGNAL)
 HARTS = 8
 PC_DIGITS = 16
 CONSOLE_SHOWN = 60
+LINE = re.compile(rf'([0-7]) ({"|".join(KINDS)}) ([0-9]+) ([0-9a-f]{{{PC_DIGITS}}})')
 
 
-@dataclass(frozen=True)
-class Step:
+class Step(NamedTuple):
     """One line of the log: the event of a hart, and its thread and pc before the event. Steps count from
     1."""
 
@@ -76,18 +79,18 @@ class Outline:
         return Output(
             self.name,
             self.console,
-            [self.step(number) for number in range(1, len(self.lines) + 1)],
+            [self.step(number, line) for number, line in enumerate(self.lines, 1)],
             self.end,
         )
 
-    def step(self, number: int) -> Step:
-        line = self.lines[number - 1].decode('ascii', 'replace')
-        step = read_step(number, line)
-        if step is None:
+    def step(self, number: int, line: bytes) -> Step:
+        fields = fields_of(line)
+        if fields is None:
+            shown = line.decode('ascii', 'replace')[:40]
             raise LensFault(
-                f'{self.name}: line {number} of its log is {line[:40]!r}, and "HART KIND THREAD PC" is due'
+                f'{self.name}: line {number} of its log is {shown!r}, and "HART KIND THREAD PC" is due'
             )
-        return step
+        return Step(number, *fields)
 
 
 class Reader:
@@ -144,19 +147,15 @@ class Reader:
         return line.removeprefix('end ')
 
 
-def read_step(number: int, line: str) -> Step | None:
-    """The step of a line `HART KIND THREAD PC`; None where the line isn't of this form."""
-    fields = line.split(' ')
-    if len(fields) != 4:
+@cache
+def fields_of(line: bytes) -> tuple[int, str, int, int] | None:
+    """What a line `HART KIND THREAD PC` says; None where it isn't of this form. (A log has the same line
+    again and again.)"""
+    found = LINE.fullmatch(line.decode('ascii', 'replace'))
+    if found is None:
         return None
-    hart, kind, thread, pc = fields
-    if not (
-        len(hart) == 1 and hart.isdecimal() and int(hart) < HARTS and kind in KINDS and thread.isdecimal()
-    ):
-        return None
-    if len(pc) != PC_DIGITS or not all(digit in '0123456789abcdef' for digit in pc):
-        return None
-    return Step(number, int(hart), kind, int(thread), int(pc, 16))
+    hart, kind, thread, pc = found.groups()
+    return int(hart), kind, int(thread), int(pc, 16)
 
 
 def outline(name: str, text: bytes) -> Outline:

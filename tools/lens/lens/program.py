@@ -2,6 +2,7 @@
 from __future__ import annotations
 
 import re
+import struct
 from bisect import bisect_right
 from dataclasses import dataclass
 from functools import cache
@@ -21,6 +22,7 @@ SYMBOL_AND_OFFSET = re.compile(r'(?P<symbol>[^+]+?)(\+(?P<offset>0x[0-9a-fA-F]+|
 SOURCE_LINE = re.compile(r'(?P<file>[^:]+):(?P<line>[0-9]+)')
 ADDRESS = re.compile(r'0x[0-9a-fA-F]+')
 HANDLER_RETURN = 0x3F_FFFF_0000
+DESCRIPTOR, DESCRIPTORS = struct.Struct('<IIQQQ'), '__rseq_cs'
 RETURNING = {
     address: Instruction(address, word, text)
     for address, word, text in (
@@ -47,6 +49,31 @@ class Variable:
     address: int
     size: int
     name: str
+
+
+@dataclass(frozen=True)
+class Segment:
+    """Addresses that the file is loaded to, and what may be done there."""
+
+    start: int
+    end: int
+    flags: int
+
+    @property
+    def rights(self) -> str:
+        """What may be done there, as `r-x`."""
+        bits = ((P_FLAGS.PF_R, 'r'), (P_FLAGS.PF_W, 'w'), (P_FLAGS.PF_X, 'x'))
+        return ''.join(letter if self.flags & bit else '-' for bit, letter in bits)
+
+
+@dataclass(frozen=True)
+class Descriptor:
+    """A descriptor of a restartable sequence, as the file has it: from its start up to its end, and the abort
+    handler."""
+
+    start: int
+    end: int
+    abort: int
 
 
 @dataclass(frozen=True)
@@ -87,6 +114,11 @@ class Program:
             for segment in elf.iter_segments('PT_LOAD')
             if segment['p_flags'] & P_FLAGS.PF_X
         ]
+        self.segments = [
+            Segment(segment['p_vaddr'], segment['p_vaddr'] + segment['p_memsz'], segment['p_flags'])
+            for segment in elf.iter_segments('PT_LOAD')
+        ]
+        self.descriptors = list(descriptors(elf))
         self.symbols = sorted(
             code_symbols(elf, self.code), key=lambda symbol: (symbol.address, symbol.is_function)
         )
@@ -131,6 +163,11 @@ class Program:
         offset = address - symbol.address
         return f'{symbol.name}+{offset:#x}' if offset else symbol.name
 
+    def spot(self, address: int) -> str:
+        """An address as function+offset, and the number of its source line where the file says it."""
+        place = self.place(address)
+        return self.where(address) + (f', {place.name}' if place else '')
+
     def variable(self, address: int) -> str:
         """An address as variable+offset, or in hexadecimal where no variable has it."""
         index = bisect_right([variable.address for variable in self.variables], address)
@@ -138,6 +175,13 @@ class Program:
         if found is None or address >= found.address + found.size:
             return self.where(address)
         return f'{found.name}+{address - found.address:#x}' if address > found.address else found.name
+
+    def word(self, address: int) -> int | None:
+        """The word of the code at an address."""
+        return next((code.word(address) for code in self.code if code.has(address)), None)
+
+    def segment(self, address: int) -> Segment | None:
+        return next((part for part in self.segments if part.start <= address < part.end), None)
 
     def place(self, address: int) -> Place | None:
         """The source line of an address, where the file says it."""
@@ -163,7 +207,7 @@ class Program:
         return self.checked(words, [address + int(found['offset'] or '0', 0) for address in named])
 
     def checked(self, words: str, addresses: list[int]) -> list[int]:
-        if not all(self.has(address) and address % SIZE == 0 for address in addresses):
+        if not all(self.instruction(address) and address % SIZE == 0 for address in addresses):
             raise LensFault(f'{self.path} has no instruction at {words}')
         return addresses
 
@@ -214,3 +258,12 @@ def variables(elf: ELFFile):
         is_variable = symbol['st_info']['type'] == 'STT_OBJECT' and symbol['st_shndx'] != 'SHN_UNDEF'
         if is_variable and symbol['st_size']:
             yield Variable(symbol['st_value'], symbol['st_size'], symbol.name)
+
+
+def descriptors(elf: ELFFile):
+    """The descriptors of restartable sequences that the file has in the section for them."""
+    section = elf.get_section_by_name(DESCRIPTORS)
+    content = section.data() if section else b''
+    whole = content[: len(content) // DESCRIPTOR.size * DESCRIPTOR.size]
+    for _, _, start, length, abort in DESCRIPTOR.iter_unpack(whole):
+        yield Descriptor(start, start + length, abort)

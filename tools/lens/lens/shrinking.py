@@ -1,10 +1,11 @@
 """Makes a short steer from a run, with the same end (or the same console and end).
 
 The run is cut into stretches: instructions of one hart up to the next event of another kind, and those
-events. Stores enter memory where the next event of their hart needs it, as `go` of a steer has it, and a
-drain of the run counts only where it is kept. What is left of the run behind a script is finished by a rule.
-Then stretches are left out for as long as the run still ends so (delta debugging; Zeller and Hildebrandt,
-"Simplifying and isolating failure-inducing input", 2002).
+events. Stores enter memory where the next event of their hart needs it, and a drain of the run counts only
+where it is kept. What is left of the run behind a script is made by the rule of `draw`. Then stretches are
+left out for as long as the run still ends so (delta debugging; Zeller and Hildebrandt, "Simplifying and
+isolating failure-inducing input", 2002), are put elsewhere where a thread's stretches come together by that,
+and stores enter memory early where they may.
 """
 from __future__ import annotations
 
@@ -12,71 +13,31 @@ from collections.abc import Callable, Iterator
 from dataclasses import dataclass, replace
 
 from .faults import LensFault
-from .finishing import finish
-from .history import History, make_history
-from .listing import source
+from .foresight import Foresight
+from .history import make_history
 from .machine import Machine
-from .output import DONE, DRAIN, EXEC, PREEMPT, RUN, SIGNAL, TAKE, Output, Step, shown_console
+from .output import DRAIN, EXEC, PREEMPT, Output
 from .place import OPEN, HartPlace
 from .program import Program
+from .steering import Steering, read_lines_of
+from .stretches import (
+    FORESEEN,
+    NEEDED,
+    Cost,
+    Event,
+    Stretch,
+    Stretches,
+    cost_of,
+    joined,
+    placed,
+    script_of,
+    stretches_of,
+)
+from .telling import Telling
 
 TRIES = 2_000
 
-
-@dataclass(frozen=True)
-class Event:
-    """An event of a thread. It is made on the hart where the thread runs by then, and on this one where it
-    runs nowhere."""
-
-    stretch: int
-    """The number of the stretch for which it is made."""
-    hart: int
-    kind: str
-    thread: int
-
-
-@dataclass(frozen=True)
-class Stretch:
-    """So many events of one kind of a thread, one behind the other."""
-
-    hart: int
-    kind: str
-    thread: int
-    count: int
-
-    def events(self, number: int) -> list[Event]:
-        return [Event(number, self.hart, self.kind, self.thread)] * self.count
-
-
-Stretches = tuple[Stretch, ...]
-
-
-def script_of(events: list[Event]) -> list[str]:
-    """The lines of a script that makes the events."""
-    where: dict[int, int] = {}
-    lines = []
-    for event in events:
-        if event.kind == RUN:
-            where[event.thread] = event.hart
-        hart = where.get(event.thread, event.hart)
-        lines.append(f'{hart} {event.kind}' + (f' {event.thread}' if event.kind == RUN else ''))
-    return lines
-
-
-@dataclass(frozen=True)
-class Cost:
-    """What a person has to follow."""
-
-    switches: int
-    preemptions: int
-    drains: int
-    steps: int
-
-    def words(self) -> str:
-        return (
-            f'{self.steps} steps, {self.switches} switches between harts, {self.preemptions} preemptions, '
-            f'{self.drains} drains'
-        )
+Wanted = Callable[[Output], bool]
 
 
 @dataclass(frozen=True)
@@ -88,86 +49,72 @@ class Shrunk:
     after: Cost
 
 
-def stretches_of(steps: list[Step]) -> Stretches:
-    """The stretches of some steps."""
-    found: list[Stretch] = []
-    for step in steps:
-        last = found[-1] if found else None
-        is_next = last and (last.hart, last.kind, last.thread) == (step.hart, step.kind, step.thread)
-        if last and is_next and step.kind in (EXEC, DRAIN):
-            found[-1] = replace(last, count=last.count + 1)
-        else:
-            found.append(Stretch(step.hart, step.kind, step.thread, 1))
-    return tuple(found)
+class Trials:
+    """Plays stretches as far as they are allowed, with the rest by the rule."""
 
-
-def joined(stretches: Stretches) -> Stretches:
-    """The same with instructions of one thread that come one behind the other as one stretch."""
-    found: list[Stretch] = []
-    for stretch in stretches:
-        last = found[-1] if found else None
-        if last and stretch.kind == last.kind == EXEC and stretch.thread == last.thread:
-            found[-1] = replace(last, count=last.count + stretch.count)
-        else:
-            found.append(stretch)
-    return tuple(found)
-
-
-def cost_of(steps: list[Step]) -> Cost:
-    kinds = [step.kind for step in steps]
-    switches = sum(one.hart != other.hart for one, other in zip(steps, steps[1:]))
-    return Cost(switches, kinds.count(PREEMPT), kinds.count(DRAIN), len(steps))
-
-
-class Shrinking:
-    """Plays stretches as far as they are allowed, and asks how the run ends that the rule makes behind them.
-    """
-
-    def __init__(self, machine: Machine, wanted: Callable[[Output], bool]):
+    def __init__(self, machine: Machine, foresight: Foresight, wanted: Wanted):
         self.machine = machine
+        self.foresight = foresight
         self.wanted = wanted
-        self.known: dict[Stretches | tuple[str, ...], bool] = {}
-        self.tries = 0
+        self.known: dict[Stretches, bool] = {}
+        self.left = TRIES
 
-    def events(self, stretches: Stretches) -> list[Event]:
-        """The events of stretches, with the drains that they need. What isn't allowed is left out, and so is
-        the rest of its stretch."""
-        events = [event for number, stretch in enumerate(stretches) for event in stretch.events(number)]
+    def holds(self, stretches: Stretches) -> bool:
+        """Whether the run of the stretches ends as is wanted. No more is tried once there were many
+        trials."""
+        if stretches not in self.known and self.left:
+            self.left -= 1
+            self.known[stretches] = self.wanted(self.run(stretches)[1])
+        return self.known.get(stretches, False)
+
+    def run(self, stretches: Stretches) -> tuple[list[Event], Output]:
+        """The events of stretches with the drains that they need, and the run that begins with them. What
+        isn't allowed is left out, and so is the rest of its stretch."""
+        events = self.foresight.events(stretches)
         while True:
-            answer = self.machine.play(script_of(events))
-            if not isinstance(answer, int):
-                return events
-            events = self.mended(events, answer - 1)
+            answer = self.machine.finish(script_of(events))
+            if isinstance(answer, int):
+                events = placed(self.mended(events, answer - 1))
+                continue
+            early = self.foresight.first_early(events, answer.steps)
+            if early is None:
+                return events, answer
+            events = without_foreseen(events, early)
 
     def mended(self, events: list[Event], bad: int) -> list[Event]:
         """The same events, but that the one that is refused gets the drains that it needs before it, or is
         left out with what its stretch has behind it."""
-        lines = script_of(events)
-        place = self.machine.inspect(lines[:bad])
+        event = events[bad]
+        if event.origin == FORESEEN:
+            return without_foreseen(events, bad)
+        place = self.machine.inspect(script_of(events[:bad]))
         if place.is_over:
             return events[:bad]
-        hart, event = int(lines[bad][0]), events[bad]
-        drains = place.harts.get(hart, HartPlace()).drains_for(event.kind)
+        drains = place.harts.get(event.hart, HartPlace()).drains_for(event.kind)
         if drains:
-            return events[:bad] + [replace(event, kind=DRAIN)] * drains + events[bad:]
+            return events[:bad] + [replace(event, kind=DRAIN, origin=NEEDED)] * drains + events[bad:]
         return events[:bad] + [other for other in events[bad:] if other.stretch != event.stretch]
 
-    def holds(self, stretches: Stretches) -> bool:
-        """Whether the run of the stretches ends as is wanted, when the rule has finished it."""
-        if stretches not in self.known:
-            lines = script_of(self.events(stretches))
-            script = tuple(lines)
-            if script not in self.known:
-                self.tries += 1
-                self.known[script] = self.tries <= TRIES and self.wanted(finish(self.machine, lines))
-            self.known[stretches] = self.known[script]
-        return self.known[stretches]
+
+def without_foreseen(events: list[Event], first: int) -> list[Event]:
+    """The same without the drains that were foreseen from one on."""
+    return events[:first] + [event for event in events[first:] if event.origin != FORESEEN]
+
+
+class Shrinking:
+    """Looks for fewer stretches that still hold."""
+
+    def __init__(self, trials: Trials):
+        self.trials = trials
+        self.holds = trials.holds
 
     def shrink(self, stretches: Stretches) -> Stretches:
         """Fewer stretches that still hold: none of those that are left can be left out by itself."""
         stretches = self.without(PREEMPT, self.without(DRAIN, self.shortest_beginning(stretches)))
         while True:
-            fewer = joined(self.without_parts(stretches))
+            fewer = self.with_fewer_turns(joined(self.without_parts(stretches)))
+            if fewer == stretches:
+                fewer = self.with_shorter_turns(stretches)
             if fewer == stretches:
                 return stretches
             stretches = fewer
@@ -198,6 +145,7 @@ class Shrinking:
             size //= 2
 
     def without_parts_of(self, stretches: Stretches, size: int) -> Stretches:
+        """Leaves out each part of so many stretches that can be left out, the last one first."""
         at = len(stretches)
         while at > 0:
             at = max(at - size, 0)
@@ -205,6 +153,60 @@ class Shrinking:
             if self.holds(fewer):
                 stretches = fewer
         return stretches
+
+    def with_fewer_turns(self, stretches: Stretches) -> Stretches:
+        """Puts a stretch behind or before the one next to it, where two of one thread come together by
+        that."""
+        for at in range(len(stretches) - 3, -1, -1):
+            one, other, third = stretches[at : at + 3]
+            if one.kind == third.kind == EXEC and one.thread == third.thread != other.thread:
+                for order in ((one, third, other), (other, one, third)):
+                    fewer = joined(stretches[:at] + order + stretches[at + 3 :])
+                    if self.holds(fewer):
+                        return self.with_fewer_turns(fewer)
+        return stretches
+
+    def with_shorter_turns(self, stretches: Stretches) -> Stretches:
+        """Makes fewer instructions in a turn, the fewest that are found by halving; the last turn first."""
+        for at in reversed([at for at, stretch in enumerate(stretches) if stretch.kind == EXEC]):
+            least, most = 1, stretches[at].count
+            while least < most:
+                middle = (least + most) // 2
+                shorter = replace(stretches[at], count=middle)
+                fewer = (*stretches[:at], shorter, *stretches[at + 1 :])
+                if self.holds(fewer):
+                    stretches, most = fewer, middle
+                else:
+                    least = middle + 1
+        return stretches
+
+    def with_early_drains(self, stretches: Stretches) -> Stretches:
+        """Lets stores enter memory when the turn of their hart is over, as many as may: of those
+        that still wait the first has to."""
+        for at in reversed(turn_ends(stretches)):
+            for drain in self.drains_behind(stretches, at):
+                more = (*stretches[: at + 1], drain, *stretches[at + 1 :])
+                if self.holds(more):
+                    stretches = more
+                    break
+        return stretches
+
+    def drains_behind(self, stretches: Stretches, at: int) -> Iterator[Stretch]:
+        """Drains of all stores that wait behind a stretch, of all but one, and so on."""
+        events, output = self.trials.run(stretches)
+        steps = [step for event, step in zip(events, output.steps) if event.stretch <= at]
+        waiting, hart = self.trials.foresight.waiting(steps), steps[-1].hart if steps else 0
+        for count in range(waiting[hart], 0, -1):
+            yield Stretch(hart, DRAIN, stretches[at].thread, count)
+
+
+def turn_ends(stretches: Stretches) -> list[int]:
+    """Where instructions stand behind which another thread goes on, or nothing more is kept."""
+    return [
+        at
+        for at, (one, following) in enumerate(zip(stretches, [*stretches[1:], None]))
+        if one.kind == EXEC and (following is None or following.thread != one.thread)
+    ]
 
 
 def shrink(output: Output, program: Program, machine: Machine, by_end: bool) -> Shrunk:
@@ -215,119 +217,23 @@ def shrink(output: Output, program: Program, machine: Machine, by_end: bool) -> 
 
     if output.end == OPEN:
         raise LensFault(f'{output.name} has no end (end open), to which a shorter script could lead')
-    shrinking = Shrinking(machine, wanted)
+    trials = Trials(machine, Foresight(make_history(output, program)), wanted)
+    shrinking = Shrinking(trials)
     whole = stretches_of(output.steps)
-    kept = shrinking.shrink(whole if shrinking.holds(whole) else ())
-    if not shrinking.holds(kept):
+    kept = shrinking.shrink(whole if trials.holds(whole) else ())
+    if not trials.holds(kept):
         raise LensFault(f'{output.name}, played again, doesn\'t end as it says')
-    events = shrinking.events(kept)
-    history = make_history(finish(machine, script_of(events)), program)
-    telling = Telling(history, [event.stretch for event in events], by_end)
-    return Shrunk(
-        ''.join(f'{line}\n' for line in telling.steer()),
-        cost_of(output.steps),
-        cost_of(history.output.steps[: len(events)]),
-    )
+    return told(program, trials, shrinking.with_early_drains(kept), cost_of(output.steps), by_end)
 
 
-class Telling:
-    """Writes a run as a steer: orders for its first steps, with comments that say what each part does, and
-    `finish`."""
-
-    def __init__(self, history: History, parts: list[int], by_end: bool):
-        """`parts` has for each of the first steps the number of the part that it belongs to."""
-        self.history = history
-        self.program = history.program
-        self.steps = history.output.steps
-        self.parts = parts
-        self.by_end = by_end
-
-    def steer(self) -> Iterator[str]:
-        output = self.history.output
-        console = '' if self.by_end else f', console {shown_console(output.console)}'
-        yield f'# A run with the end "{output.end}"{console}. Made by `lens shrink`.'
-        orders: list[str] = []
-        for first, last in self.turns():
-            if self.steps[first - 1].kind == RUN:
-                orders.append(self.steps[first - 1].short_line())
-                continue
-            order, comments = self.told(first, last)
-            yield from (f'# {comment}' for comment in comments)
-            yield from [*orders, order]
-            orders = []
-        yield from orders
-        yield '# The rest of the run: each hart in turn for as long as it can, and drains where they are needed.'
-        yield 'finish'
-
-    def turns(self) -> Iterator[tuple[int, int]]:
-        """The first and the last step of each turn: instructions as `go` makes them, drains, or another
-        event."""
-        first = 1
-        for number in range(1, len(self.parts) + 1):
-            if number == len(self.parts) or not self.is_one(number, number + 1):
-                yield first, number
-                first = number + 1
-
-    def is_one(self, number: int, following: int) -> bool:
-        """Whether two steps are of one turn: instructions, or another event, with the drains that they need;
-        or drains."""
-        one, other = self.steps[number - 1], self.steps[following - 1]
-        return self.parts[number - 1] == self.parts[following - 1] and one.hart == other.hart
-
-    def told(self, first: int, last: int) -> tuple[str, list[str]]:
-        """The order of a turn, and what it does in words."""
-        begin = self.steps[first - 1]
-        kinds = {step.kind for step in self.steps[first - 1 : last]}
-        if EXEC in kinds:
-            return self.instructions(first, last)
-        if kinds == {DRAIN}:
-            times = last - first + 1
-            stores = [self.history.drained[number] for number in range(first, last + 1)]
-            order = f'{begin.hart} drain' + (f' x{times}' if times > 1 else '')
-            return order, [f'It enters memory: {self.store(one)}' for one in stores]
-        event = self.steps[last - 1]
-        return f'{begin.hart} go {event.kind}' if last > first else event.short_line(), [self.event(event)]
-
-    def instructions(self, first: int, last: int) -> tuple[str, list[str]]:
-        """A turn of a thread: where it leads, and which stores wait when it is over."""
-        begin, place = self.steps[first - 1], self.pc_behind(last)
-        goes = f'Thread {begin.thread} goes on hart {begin.hart}'
-        comments = [f'Its store waits: {self.store(store)}' for store in self.waiting(begin.hart, last)]
-        if place is None:
-            return f'{begin.hart} go', [f'{goes}, for as long as it can.', *comments]
-        pcs = [step.pc for step in self.steps[first - 1 : last] if step.kind == EXEC]
-        visit = pcs.count(place) + 1
-        order = f'{begin.hart} go until {self.program.where(place)}' + (f' #{visit}' if visit > 1 else '')
-        return order, [f'{goes}, up to {self.spot(place)}.', *comments]
-
-    def pc_behind(self, last: int) -> int | None:
-        """Where the thread of a step stands on its hart behind it; None where it has left the hart there."""
-        step = self.steps[last - 1]
-        after = next((other for other in self.steps[last:] if other.hart == step.hart and other.thread), None)
-        return after.pc if after and after.thread == step.thread and after.kind != RUN else None
-
-    def waiting(self, hart: int, last: int) -> list[Step]:
-        """Which stores of a hart wait behind a step."""
-        late = [store for drain, store in self.history.drained.items() if drain > last]
-        stores = [*late, *self.history.waiting]
-        return [store for store in stores if store.hart == hart and store.number <= last]
-
-    def event(self, step: Step) -> str:
-        """What an event that is no instruction does, in a sentence."""
-        at = self.spot(step.pc)
-        return {
-            PREEMPT: f'Thread {step.thread} is taken from hart {step.hart}, at {at}.',
-            SIGNAL: f'A signal is delivered to thread {step.thread} on hart {step.hart}, at {at}.',
-            TAKE: f'Hart {step.hart} takes the requests of barriers that are pending there.',
-            DONE: f'The barrier of thread {step.thread} on hart {step.hart} returns.',
-        }[step.kind]
-
-    def spot(self, pc: int) -> str:
-        """A place and the number of its line."""
-        place = self.program.place(pc)
-        return self.program.where(pc) + (f' ({place.name})' if place else '')
-
-    def store(self, step: Step) -> str:
-        """The source line of a store, or the instruction where there is none."""
-        text = f'{self.history.instructions[step.number].text} at {self.program.where(step.pc)}'
-        return source(self.history, step.pc) or text
+def told(program: Program, trials: Trials, kept: Stretches, before: Cost, by_end: bool) -> Shrunk:
+    """The steer of the stretches that are kept. It is tried before it is given away."""
+    events, output = trials.run(kept)
+    telling = Telling(make_history(output, program), [event.stretch for event in events], by_end)
+    lines = list(telling.steer())
+    steering = Steering('the steer', program, trials.machine)
+    made = steering.follow(read_lines_of('the steer', lines))
+    again = trials.machine.play(made.lines)
+    if isinstance(again, int) or not trials.wanted(again):
+        raise LensFault('the orders that were found don\'t lead to this end (this is a fault of lens)')
+    return Shrunk(''.join(f'{line}\n' for line in lines), before, cost_of(output.steps[: len(events)]))

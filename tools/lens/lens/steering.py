@@ -16,7 +16,7 @@ A line of it is empty, a comment (`# ..`, also behind an event), an event as in 
     HART exec all                instructions until one isn't allowed: stores wait and it is a call or a fence,
                                  or the thread has left the hart, or the process is over
     repeat K ORDER               that order K times
-    finish                       the rest of the run, by the rule of finishing.py
+    finish                       the rest of the run, by the rule of `draw`
 
 PLACE is a function or label, function+0x10, file.c:21, or an address 0x10140.
 """
@@ -27,7 +27,6 @@ from dataclasses import dataclass, field, replace
 from pathlib import Path
 
 from .faults import LensFault
-from .finishing import finish
 from .history import History, make_history
 from .instructions import Instruction
 from .listing import deed
@@ -106,6 +105,10 @@ def read_steer(path: str) -> list[Order | Remark]:
         lines = Path(path).read_text().splitlines()
     except (OSError, UnicodeDecodeError) as error:
         raise LensFault(f'{path}: {getattr(error, "strerror", None) or "it is no text"}') from None
+    return read_lines_of(path, lines)
+
+
+def read_lines_of(path: str, lines: list[str]) -> list[Order | Remark]:
     return [part for number, line in enumerate(lines, 1) for part in read_line(path, number, line)]
 
 
@@ -194,12 +197,17 @@ class Steering:
     def obey(self, order: Order) -> None:
         for _ in range(order.repeats):
             if order.kind == FINISH:
-                steps = finish(self.machine, self.script.lines).steps
-                self.script.lines = [step.short_line() for step in steps]
+                self.finish(order)
             elif order.goes:
                 self.go(order)
             else:
                 self.script.lines += [order.event] * self.times(order)
+
+    def finish(self, order: Order) -> None:
+        answer = self.machine.finish(self.script.lines)
+        if isinstance(answer, int):
+            raise self.fault(order, f'line {answer} of the script was taken before, and is refused now')
+        self.script.lines = [step.short_line() for step in answer.steps]
 
     def times(self, order: Order) -> int:
         """How often the event of an order is made, each time allowed."""
@@ -216,7 +224,8 @@ class Steering:
         return times
 
     def times_drained(self, order: Order, places: set[int]) -> int:
-        """How many drains there are up to that of the first waiting store that stands at one of the places."""
+        """How many drains there are up to that of the first waiting store that stands at one of the
+        places."""
         stores = [store.pc for store in self.standing(order.hart).waiting]
         found = next((count for count, pc in enumerate(stores, 1) if pc in places), None)
         if found is None:
@@ -242,7 +251,8 @@ class Steering:
         self.script.lines += [f'{order.hart} {DRAIN}'] * here.waiting
 
     def go_until(self, order: Order, places: set[int]) -> None:
-        """Goes on until the thread has stood so often at one of the places; that it stands there now counts."""
+        """Goes on until the thread has stood so often at one of the places; that it stands there now
+        counts."""
         visits, size = 0, TRIES[0]
         while True:
             here = self.here(order.hart)

@@ -4,6 +4,7 @@ import unittest
 from pathlib import Path
 
 from lens.listing import Selection, list_run
+from lens.subjects import steps_about
 
 from .common import (
     EXAMPLES,
@@ -60,6 +61,29 @@ class Listing(unittest.TestCase):
         self.assertEqual(len(one) + len(other), 276)
         self.assertTrue(all(row.split()[1] == '2' for row in other))
         self.assertEqual(len(self.rows(hart=0)) + len(self.rows(hart=1)), 276)
+
+    def test_a_span(self):
+        listed = lens('list', FOUND, PETERSON, '--from', 60, '--to', 64).stdout.decode().splitlines()
+        self.assertEqual([row.split()[0] for row in listed[1:-2]], list(map(str, range(60, 65))))
+
+    def test_subjects(self):
+        """Each subject has the steps that its kinds of events are."""
+        made = found()
+        kinds = {
+            'switches': lambda step, before: step.kind in ('run', 'preempt') or step.hart != before,
+            'drains': lambda step, before: step.kind == 'drain',
+            'calls': lambda step, before: step.number in made.calls,
+        }
+        befores = [None, *(step.hart for step in made.output.steps)]
+        for word, is_due in kinds.items():
+            due = [step.number for step, before in zip(made.output.steps, befores) if is_due(step, before)]
+            with self.subTest(word=word):
+                self.assertEqual(sorted(steps_about(made, [word], [])), due)
+
+    def test_a_word_that_is_no_subject(self):
+        answer = lens('list', FOUND, PETERSON, '--only', 'drains,switch')
+        self.assertEqual(answer.returncode, 2)
+        self.assertIn(b'invalid list of switches, drains', answer.stderr)
 
     def test_a_step_that_is_not_there(self):
         answer = lens('list', FOUND, PETERSON, '--around', 277)

@@ -61,9 +61,9 @@ class Words(unittest.TestCase):
 
     def test_immediates(self):
         li_a7, li_minus = Instruction(0, 0x05D00893, ''), Instruction(0, 0xFFF00893, '')
-        self.assertEqual((li_a7.sets(17), li_a7.immediate, li_minus.immediate), (True, 93, -1))
+        self.assertEqual((li_a7.written, li_a7.immediate, li_minus.immediate), (17, 93, -1))
         self.assertIsNone(Instruction(0, 0x00158893, '').immediate)
-        self.assertFalse(Instruction(0, 0x00F428A3, '').sets(17))
+        self.assertEqual(Instruction(0, 0x00F428A3, '').written, 0)
 
 
 class OtherFiles(unittest.TestCase):

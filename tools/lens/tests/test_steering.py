@@ -170,7 +170,7 @@ class Scripts(unittest.TestCase):
         self.assertEqual(script.read_text(), '0 run 1\n' + '0 exec\n' * 3 + '0 drain\n' * 3 + '0 preempt\n')
 
     def test_the_rest_by_the_rule(self):
-        script, answer = self.steer_text('0 run 1\n0 go until give\n1 run 2\nfinish\n')
+        script, answer = self.steer_text('0 run 1\n0 go until give\n1 run 2\n1 go until give\nfinish\n')
         self.assertEqual((answer.returncode, answer.stderr), (0, b''))
         self.assertEqual(self.played(script), 'end exit 1')
         script, _ = self.steer_text('finish\n')

@@ -5,7 +5,7 @@ use Rattle.std.specs.Int.{w32, cast_unsigned}
 use Rattle.std.specs.Ordering.{int_eq}
 use Rattle.std.specs.Prelude.{neg_ℤ}
 use Rattle.std.proofs.Math.Nat.{mod-lt}
-use Rattle.std.proofs.lemmas.Bool.{and_parts, eqb-false, false≢true, ltb-true}
+use Rattle.std.proofs.lemmas.Bool.{and_parts, eqb-false, false≢true, ltb-true, or_cases}
 use Rattle.std.proofs.lemmas.Bool.Decides.{Decides-int_eq}
 use Rattle.std.proofs.lemmas.Int.{of_z-to_z}
 use Rattle.std.proofs.lemmas.Nat.{mod-mul-add}
@@ -51,21 +51,17 @@ either_part true false false d is = cc
 either_part false b true d is = inr is
 either_part false b false d is = cc
 
-either_runs : (a b : Bool) → (a || b) ≡ true → (a ≡ true) ⊎ (b ≡ true)
-either_runs true b is = inl refl
-either_runs false b is = inr is
-
 concerns_running : (c : BarrierCommand) (mine other : Registered) (own others : Bool) → is_concerned c mine other own others ≡ true
     → (own ≡ true) ⊎ (others ≡ true)
-concerns_running Query mine other own others is = inl is
-concerns_running Global mine other own others is = either_runs own others is
+concerns_running Query mine other own others is = cc
+concerns_running Global mine other own others is = or_cases own others is
 concerns_running GlobalExpedited mine other own others is = either_part mine.global own other.global others is
-concerns_running RegisterGlobalExpedited mine other own others is = inl is
+concerns_running RegisterGlobalExpedited mine other own others is = cc
 concerns_running PrivateExpedited mine other own others is = inl is
-concerns_running RegisterPrivateExpedited mine other own others is = inl is
+concerns_running RegisterPrivateExpedited mine other own others is = cc
 concerns_running PrivateExpeditedRseq mine other own others is = inl is
-concerns_running RegisterPrivateExpeditedRseq mine other own others is = inl is
-concerns_running GetRegistrations mine other own others is = inl is
+concerns_running RegisterPrivateExpeditedRseq mine other own others is = cc
+concerns_running GetRegistrations mine other own others is = cc
 
 module _ (c : BarrierCommand) (mine : Registered) (o : Neighbour) (ts : Threads) (harts k : ℕ) where
   abbrev concerns : ℕ → Bool
@@ -165,7 +161,7 @@ registrations_low r =
     let three = counted_low r.rseq RegisterPrivateExpeditedRseq in
     omega (arith, one, two, three)
 
-module _ (here : Here) (t number : ℕ) where
+module _ (here : Here) (t number : ℕ) (its_number : number ≡ 283) where
   abbrev cmd : ℤ
   cmd = signed_32 (argument here t 0)
 
@@ -200,7 +196,7 @@ module _ (here : Here) (t number : ℕ) where
 
   -- a small answer, a refusal, and a barrier that begins
   deed_value : (n : ℕ) → n < 2 ^ 32 → CallDeed here t number (answers here t (Value (pos n)))
-  deed_value n small = Answers n [] _ (λ _. small_no_error n small) (EnrolsFor barriers_after)
+  deed_value n small = Answers n [] _ (λ _. small_no_error n small) tt (EnrolsFor barriers_after)
 
   deed_refusal : (e : Errno) → word (neg_ℤ (pos e.0)) ≡ negative e.0 → barriers_after ≡ here.kernel.barriers
       → CallDeed here t number (answers here t (refusal e))
@@ -222,7 +218,7 @@ module _ (here : Here) (t number : ℕ) where
       let low = low_number (argument here t 0) (number_of c) (asked_number cmd flags c is) in
       Begins (set running) restart (λ good. at_targets here flags cpu running (set running) restart good run refl
       (eqb-false (set running) 0 some))
-      (number_no_error (argument here t 0) (number_of c) low (number_low c)))
+      (number_no_error (argument here t 0) (number_of c) low (number_low c)) its_number)
 
   deed_command : (running : ℕ) → AllRun running → (c : BarrierCommand) → asked cmd flags ≡ Some c
       → CallDeed here t number (answers here t (answer_of here.kernel.barriers (set running) c))

@@ -15,7 +15,7 @@ module _ (here : Here) (t number : ℕ) where
       either (eqb (total spans) 0) (λ _. Says 0) (λ _.
       by_errors (span_errors here spans) _ (λ none.
       let more = leb-false CONSOLE_ROOM (length here.kernel.console) none.1.0 in
-      Answers (length some) [] _ (λ _. small_no_error (length some) (omega arith))
+      Answers (length some) [] _ (λ _. small_no_error (length some) (omega arith)) tt
       (Prints some (omega arith))))
 
   pub deed_write : CallDeed here t number (write here t)

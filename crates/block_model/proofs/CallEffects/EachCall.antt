@@ -1,10 +1,10 @@
 -- Each call of the table is one of the deeds.
-use Rattle.std.proofs.Common.{◌≡◌, ℕ, eqb, refl, sym, subst, true}
+use Rattle.std.proofs.Common.{◌≡◌, ◌≢◌, ℕ, eqb, refl, sym, subst, true, None}
 use Rattle.std.proofs.lemmas.Bool.{eqb-true}
 use Rattle.block_model.specs.Calls.{call_of, called}
 use Rattle.block_model.specs.Calls.Answers.{CallDone, call_number}
 use Rattle.block_model.specs.Here.{Here}
-use Rattle.block_model.proofs.CallEffects.{CallDeed, Says, either}
+use Rattle.block_model.proofs.CallEffects.{Begins, CallDeed, Says, either}
 use Rattle.block_model.proofs.CallEffects.Affinity.{deed_getaffinity, deed_getcpu, deed_setaffinity, deed_yield}
 use Rattle.block_model.proofs.CallEffects.Barriers.{deed_barrier_call}
 use Rattle.block_model.proofs.CallEffects.Cloning.{deed_clone}
@@ -45,9 +45,17 @@ deed_call_of here t number =
     either (eqb number 220) (λ _. deed_clone here t number) (λ _.
     either (eqb number 222) (λ is. at_number here t number 222 _ is (deed_mmap here t)) (λ _.
     either (eqb number 226) (λ is. at_number here t number 226 _ is (deed_mprotect here t)) (λ _.
-    either (eqb number 283) (λ _. deed_barrier_call here t number here.beside refl) (λ _.
+    either (eqb number 283) (λ is. deed_barrier_call here t number (eqb-true number 283 is) here.beside refl) (λ _.
     either (eqb number 293) (λ _. deed_sequence_call here t number here.beside) (λ _.
     Says _))))))))))))))))))))))))
 
 pub deed_called : (here : Here) (t : ℕ) → CallDeed here t (call_number here t) (called here t)
 deed_called here t = deed_call_of here t (call_number here t)
+
+-- a call other than membarrier(2) begins no barrier
+begins_none : {here : Here} {t number : ℕ} {c : CallDone} → number ≢ 283 → CallDeed here t number c → c.barrier ≡ None
+begins_none other (Begins targets restart others no_error its_number) = absurd (other its_number)
+begins_none other deed = refl
+
+pub called_begins_none : (here : Here) (t : ℕ) → call_number here t ≢ 283 → (called here t).barrier ≡ None
+called_begins_none here t other = begins_none other (deed_called here t)

@@ -11,7 +11,7 @@ use Rattle.block_model.proofs.CallEffects.{CallDeed, Waits, Wakes, answers_0, by
 module _ (here : Here) (t number : ℕ) where
   deed_wait : CallDeed here t number (futex_wait here t)
   deed_wait = by_errors (wait_errors here t) _ (λ none.
-      answers_0 [] _ (Waits (argument here t 0) (none_left (next_for t here.kernel.signals) none.1.1.1.0)))
+      answers_0 [] _ tt (Waits (argument here t 0) (none_left (next_for t here.kernel.signals) none.1.1.1.0)))
 
   pub deed_futex : CallDeed here t number (futex here t)
   deed_futex =

@@ -1,20 +1,21 @@
 -- brk(2), mmap(2), munmap(2) and mprotect(2): a page that such a call doesn't take can be written after it
 -- where it could before.
-use Rattle.std.proofs.Common.{◌≡◌, ℕ, ◌-◌, ◌/◌, ◌≤◌, inl, inr, List, [], ◌∷◌, refl, sym, subst, arith, Bool, true, false, cond, ◌&&◌, leb, ltb, Option, Some, None, Result, Ok, Err, is_none}
+use Rattle.std.proofs.Common.{◌≡◌, ℕ, ◌-◌, ◌/◌, ◌≤◌, inl, inr, List, [], ◌∷◌, refl, sym, subst, arith, Bool, true, false, not, cond, ◌&&◌, eqb, leb, ltb, Option, Some, None, Result, Ok, Err, is_none, is_some}
 use Rattle.std.proofs.lemmas.Bool.{and_parts, cases_lt, false≢true, le-leb, leb-true, lt-ltb, le-ltb}
 use Rattle.mach_types.proofs.Laws.{each_page-at}
 use Rattle.mach_types.specs.declared.address_space.TheConstants.{MAPPING_START, PAGE_SIZE, USER_END}
 use Rattle.mach_types.specs.declared.errors.Errno.{Errno}
-use Rattle.mach_types.specs.Kernel.Pages.{PageRun, Pages, can_write, is_in, pages_of, permission_of, run}
+use Rattle.mach_types.specs.Kernel.Pages.{PageRun, Pages, can_write, is_in, pages_of, permission_of, run, zeros_of}
 use Rattle.mach_types.specs.Kernel.PageCalls.{break_run, free_past, mapped_at, mmap_answer, mprotect_refusal, munmap_refusal, permission_for, protected, unmapped}
 use Rattle.block_model.specs.Calls.Answers.{argument, said}
 use Rattle.block_model.specs.Calls.Memory.{brk, changed_unless, mapped_or_refused, may_break, mmap, mmap_errors, mprotect, munmap, no_pages, permission_here, taken_by, unless_refused, zeros_if_mapped}
 use Rattle.block_model.specs.ErrorCalls.{IsError}
-use Rattle.block_model.specs.Here.{Here}
+use Rattle.block_model.specs.Here.{Here, is_writable}
 use Rattle.block_model.specs.Kernel.{paged}
 use Rattle.block_model.proofs.CallEffects.{CallDeed, Answers, Remaps, Says, answers_0, by_errors}
 use Rattle.block_model.proofs.Invariants.Calls.Conditions.{StaysWritable}
 use Rattle.block_model.proofs.Pages.{IsPaged, paged_brk, paged_mmap, paged_mprotect, paged_munmap, IsPlaced, is_inside, placed}
+use Rattle.block_model.proofs.WritableBytes.{AllWritable}
 
 -- an address of a process is no error
 address_no_error : (n : ℕ) → n ≤ USER_END → IsError n → ⊥
@@ -31,7 +32,7 @@ deed_changed : (here : Here) (t number : ℕ) (o : Option Errno) (r : PageRun) (
     → CallDeed here t number (changed_unless here t o pages)
 deed_changed here t number (Some e) r pages takes stays paged_after = Says _
 deed_changed here t number None r pages takes stays paged_after =
-    answers_0 [] _ (Remaps pages
+    answers_0 [] _ tt (Remaps pages
     (subst (λ (r : PageRun). StaysWritable here.kernel.pages r pages) (sym takes) stays)
     (paged_after refl))
 
@@ -93,7 +94,7 @@ deed_mapped here t len prot (Ok a) is =
     let place = placed (permission_here here) here.kernel.pages.free len prot a (sym is) in
     let high = place.high in
     let at = place.is in
-    Answers a _ _ (λ _. address_no_error a (omega arith))
+    Answers a _ _ (λ _. address_no_error a (omega arith)) (tt, tt)
     (Remaps (mapped_at a len prot here.kernel.pages) (mapped_stays here len prot a place)
     (paged_mmap here.setting here.kernel.pages len prot a (sym is)))
 
@@ -131,6 +132,14 @@ module _ (here : Here) (p : ℕ) where
         (is_in (break_run old.break_at p) n) n refl (grows up) may)
   ]
 
+-- a page that comes to be is zeroed, and nothing is stored
+zeros_writable : (here : Here) (r : PageRun) → AllWritable (is_writable here) (zeros_if_mapped r)
+zeros_writable here r = by (is_some r.permission && not (eqb r.count 0))
+  where
+    by : (b : Bool) → AllWritable (is_writable here) (cond b (zeros_of r ∷ []) [])
+    by true = (tt, tt)
+    by false = tt
+
 deed_moved : (here : Here) (t : ℕ) (b : Bool) → may_break here (argument here t 0) ≡ b
     → CallDeed here t 214
     (record (said here t (cond b (moved here (argument here t 0)) here.kernel.pages).break_at) {
@@ -146,7 +155,7 @@ deed_moved here t true may =
     (and_parts (leb lowest p && leb p MAPPING_START)
     (leb (pages_of p - pages_of k.break_at) k.free) may).0).1 in
     let low = leb-true p MAPPING_START within in
-    Answers p _ _ (λ _. address_no_error p (omega arith)) (Remaps (moved here p)
+    Answers p _ _ (λ _. address_no_error p (omega arith)) (zeros_writable here (break_run k.break_at p)) (Remaps (moved here p)
     (subst (λ b. StaysWritable k (cond (b && ltb p k.break_at) (break_run k.break_at p) no_pages)
     (moved here p)) (sym may) (moved_stays here p))
     (λ is. subst (λ b. IsPaged here.setting (cond b (moved here p) k)) may (paged_brk here.setting k is p)))

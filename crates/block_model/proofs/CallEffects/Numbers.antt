@@ -13,4 +13,4 @@ module _ (here : Here) (t number : ℕ) where
   deed_gettid = Says t
 
   pub deed_set_tid_address : CallDeed here t number (set_tid_address here t)
-  deed_set_tid_address = Answers t [] _ (λ few. small_no_error t few.low) (Clears (argument here t 0))
+  deed_set_tid_address = Answers t [] _ (λ few. small_no_error t few.low) tt (Clears (argument here t 0))

@@ -4,14 +4,16 @@ use Rattle.std.specs.Option.{option_map_or}
 use Rattle.mach_types.specs.declared.errors.Errno.{Errno}
 use Rattle.mach_types.specs.declared.errors.TheConstants.{EINVAL}
 use Rattle.mach_types.specs.declared.sequences.Area.{Area}
-use Rattle.mach_types.specs.Kernel.Areas.{are_words_writable, registered_again, registered_first, registration, unregistration}
+use Rattle.mach_types.specs.Kernel.Areas.{are_words_writable, registered_again, registered_first, registration, unregistration, words_on, words_unregistered}
 use Rattle.block_model.specs.Beside.{Neighbour}
 use Rattle.block_model.specs.Calls.Answers.{argument, int_argument}
 use Rattle.block_model.specs.Calls.Beside.{sequence_call}
 use Rattle.block_model.specs.Calls.Sequences.{registers_or_refused, rseq, unregisters, unregisters_or_refused}
 use Rattle.block_model.specs.Here.{Here, is_writable}
+use Rattle.block_model.specs.Ids.{id_of}
 use Rattle.block_model.specs.Sequences.{area_here}
 use Rattle.block_model.proofs.CallEffects.{CallDeed, Registers, Says, Unregisters, answers_0, deed_killed, either}
+use Rattle.block_model.proofs.WritableBytes.{area_writable}
 
 -- a registration that isn't refused is of a thread that has no area
 had_none : (old : Option Area) (at len sig : ℕ) (area : Area)
@@ -37,12 +39,14 @@ module _ (here : Here) (t number : ℕ) where
   deed_registers (Err e) first = Says _
   deed_registers (Ok area) first =
       either (are_words_writable (is_writable here) area)
-      (λ _. answers_0 _ _ (Registers area (first area refl) refl)) (λ _. deed_killed)
+      (λ may. answers_0 _ _ (area_writable (is_writable here) area (words_on here.hart (id_of t here.kernel.ids)) may)
+      (Registers area (first area refl) refl)) (λ _. deed_killed)
 
   deed_unregisters : (old : Option Area) → CallDeed here t number (unregisters here t old)
   deed_unregisters None = Says _
   deed_unregisters (Some area) =
-      either (are_words_writable (is_writable here) area) (λ _. answers_0 _ _ Unregisters) (λ _. Says _)
+      either (are_words_writable (is_writable here) area)
+      (λ may. answers_0 _ _ (area_writable (is_writable here) area words_unregistered may) Unregisters) (λ _. Says _)
 
   deed_unregisters_or : (x : Result (Unit {0}) Errno)
       → CallDeed here t number (unregisters_or_refused here t x)

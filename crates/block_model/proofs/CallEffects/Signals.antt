@@ -1,23 +1,24 @@
 -- tkill(2), tgkill(2), sigaction(2), sigprocmask(2) and sigreturn(2).
-use Rattle.std.proofs.Common.{◌≡◌, ◌≢◌, ◌∙◌, ℕ, List, Bool, cond, eqb, false, true, refl, subst, Option, Some, None, is_some, [], ◌∷◌}
+use Rattle.std.proofs.Common.{◌≡◌, ◌≢◌, ◌∙◌, ◌≤◌, ◌+◌, arith, ℕ, List, Bool, cond, eqb, false, true, refl, subst, Option, Some, None, is_some, [], ◌∷◌}
 use Rattle.std.specs.Option.{option_map_or}
-use Rattle.std.proofs.lemmas.Bool.{and_parts, false≢true}
+use Rattle.std.proofs.lemmas.Bool.{and_parts, false≢true, not-false}
 use Rattle.mach_types.specs.Kernel.SignalFrames.{frame_read}
-use Rattle.mach_types.specs.Kernel.Signals.{Signalling, acted, changed_mask, mask_of, next_for, posted, with_mask}
+use Rattle.mach_types.specs.Kernel.Signals.{Signalling, acted, action_of, changed_mask, mask_of, next_for, posted, with_mask}
 use Rattle.mach_types.specs.Kernel.Threads.{Threads, is_waiting_state, state_of, waits}
 use Rattle.mach_types.specs.declared.signal_words.Action.{Action}
 use Rattle.mach_types.specs.declared.threads.ThreadState.{ThreadState}
 use Rattle.mach_types.specs.declared.threads.ThreadState.TheVariants.{Ready, Running, Waiting}
-use Rattle.block_model.specs.Calls.Answers.{argument, int_argument, number_at}
-use Rattle.block_model.specs.Calls.Signals.{action_at, action_given, masked, post, refuses_signal, resumed, rt_sigaction, rt_sigprocmask, rt_sigreturn, send, sigaction_errors, sigprocmask_errors, tgkill, tgkill_errors, tkill, tkill_errors, waits_in_vain, with_posted}
+use Rattle.block_model.specs.Calls.Answers.{are_writable, argument, double_written, int_argument, number_at}
+use Rattle.block_model.specs.Calls.Signals.{action_at, action_given, action_size, action_written, masked, may_write, post, refuses_signal, resumed, rt_sigaction, rt_sigprocmask, rt_sigreturn, send, sigaction_errors, sigprocmask_errors, tgkill, tgkill_errors, tkill, tkill_errors, waits_in_vain, with_posted}
 use Rattle.mach_types.specs.declared.errors.TheConstants.{EINVAL}
-use Rattle.block_model.specs.Here.{Here, memory}
+use Rattle.block_model.specs.Here.{Here, is_writable, memory}
 use Rattle.block_model.specs.Record.{Kernel}
 use Rattle.block_model.proofs.Images.{number_small}
 use Rattle.block_model.proofs.CallEffects.{AllStand, CallDeed, Breaks, Resumes, Says, Signalled, answers_0, by_errors, deed_killed, either}
 use Rattle.block_model.proofs.SignalsOfWaiters.{next_acted, next_masked, next_posted, next_unbroken}
 use Rattle.block_model.proofs.IgnoredSignals.{AllHeeded, heeded_acted, heeded_masked, heeded_posted}
 use Rattle.block_model.proofs.SignalTables.{KeepsThreads, StandsAt, acted_keeps, acted_stand, masked_keeps, posted_keeps, posted_stand, same_stand}
+use Rattle.block_model.proofs.WritableBytes.{AllWritable, part_writable, written_unless}
 
 -- a thread whose wait a signal breaks waits
 waits_by : (ts : Threads) (u : ℕ) (o : Option ThreadState) → state_of u ts ≡ o
@@ -59,6 +60,13 @@ masked_calm : (b : Bool) (t mask w : ℕ) → w ≢ t → (g : Signalling) → n
 masked_calm true t mask w ne g = refl
 masked_calm false t mask w ne g = next_masked t w ne mask g
 
+-- the old action is written where it can be
+action_writable : (here : Here) (at : ℕ) (a : Action) → are_writable here at action_size ≡ true → AllWritable (is_writable here) (action_written at a)
+action_writable here at a may =
+    let part = λ (from value : ℕ) (low : at ≤ from) (high : from + 8 ≤ at + action_size).
+    part_writable (is_writable here) at action_size from 8 value may low high (omega arith) in
+    (part at a.at (omega arith) (omega arith), (part (at + 8) a.flags (omega arith) (omega arith), (part (at + 16) a.mask (omega arith) (omega arith), tt)))
+
 module _ (here : Here) (t number : ℕ) where
   deed_post : (u sig : ℕ) → CallDeed here t number (post here t u sig)
   deed_post u sig =
@@ -68,7 +76,7 @@ module _ (here : Here) (t number : ℕ) where
       let stand = λ (all : AllStand here). posted_stand u sig here.kernel.signals all.handlers in
       let heeds = heeded_posted u sig here.kernel.signals in
       either (waits_in_vain u after) (λ vain. Breaks u g (in_vain_waits u after vain) keeps stand heeds
-      (λ w ne none. next_posted u w ne sig here.kernel.signals ∙ none)) (λ calm. answers_0 [] _ (Signalled g keeps stand heeds
+      (λ w ne none. next_posted u w ne sig here.kernel.signals ∙ none)) (λ calm. answers_0 [] _ tt (Signalled g keeps stand heeds
       (λ w ne is none. next_unbroken u sig w here.kernel.threads here.kernel.signals calm is none)))
 
   deed_send : (u sig : ℕ) → CallDeed here t number (send here t u sig)
@@ -89,8 +97,11 @@ module _ (here : Here) (t number : ℕ) where
       let act = argument here t 1 in
       let g = here.kernel.signals in
       let new = action_given here act in
-      by_errors (sigaction_errors here t) _ (λ _.
-      answers_0 _ _ (Signalled (acted sig new g) (acted_keeps sig new g)
+      let old = argument here t 2 in
+      let may = may_write here old action_size in
+      by_errors (sigaction_errors here t) _ (λ none.
+      answers_0 _ _ (written_unless (is_writable here) (eqb old 0) (are_writable here old action_size) (action_written old (action_of sig g))
+      (not-false may none.1.1.1.0) (action_writable here old (action_of sig g))) (Signalled (acted sig new g) (acted_keeps sig new g)
       (λ all. acted_stand sig new g (given_stands here act all) all.handlers) (heeded_acted sig new g)
       (λ w ne is none. next_acted sig w new g none)))
 
@@ -100,8 +111,11 @@ module _ (here : Here) (t number : ℕ) where
       let set = argument here t 1 in
       let g = here.kernel.signals in
       let mask = changed_mask how (number_at here set 8) (mask_of t g) in
-      by_errors (sigprocmask_errors here t) _ (λ _.
-      answers_0 _ _ (Signalled (masked here t how set) (masked_by (eqb set 0) t mask g)
+      let old = argument here t 2 in
+      let may = may_write here old 8 in
+      by_errors (sigprocmask_errors here t) _ (λ none.
+      answers_0 _ _ (written_unless (is_writable here) (eqb old 0) (are_writable here old 8) (double_written old (mask_of t g) ∷ [])
+      (not-false may none.1.1.1.0) (λ can. ((omega arith, can), tt))) (Signalled (masked here t how set) (masked_by (eqb set 0) t mask g)
       (λ all. same_stand g (masked here t how set) (masked_actions (eqb set 0) t mask g) all.handlers)
       (masked_heeds (eqb set 0) t mask g)
       (λ w ne is none. masked_calm (eqb set 0) t mask w ne g ∙ none)))

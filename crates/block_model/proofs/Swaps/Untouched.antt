@@ -1,7 +1,7 @@
 -- What isn't touched stays as it is: bytes, words, faults and reservations.
-use Rattle.std.proofs.Common.{◌≡◌, ℕ, ◌+◌, ◌≤◌, ◌<◌, List, [], ◌∷◌, refl, sym, ap, ◌∙◌, arith, Bool, true, false, cond, ◌&&◌, ◌||◌, leb, ltb, Option, Some, None, zero, suc, is_some, inl, inr, ◌⊎◌}
+use Rattle.std.proofs.Common.{◌≡◌, ℕ, ◌+◌, ◌≤◌, ◌<◌, List, [], ◌∷◌, refl, sym, ap, ◌∙◌, arith, Bool, true, false, cond, ◌&&◌, leb, ltb, Option, Some, None, zero, suc, is_some, inl, inr, ◌⊎◌}
 use Rattle.std.specs.Option.{option_or, option_and_then}
-use Rattle.std.proofs.lemmas.Bool.{cases_lt, and_parts, and_from, or_parts, ltb-true, lt-ltb, le-leb, false≢true}
+use Rattle.std.proofs.lemmas.Bool.{and_from, and_parts, cases_lt, false≢true, le-leb, lt-ltb, ltb-true, or_parts, or_right}
 use Rattle.mach_types.specs.Bytes.{byte_after, joined, word_at, written}
 use Rattle.mach_types.specs.declared.user_memory.Write.{Write}
 use Rattle.mach_types.specs.declared.user_memory.Write.TheVariants.{Stored, Zeroed}
@@ -109,12 +109,8 @@ kept_by r at n apart = go (has_reserved r at n) refl
 pub lost_apart : (ws : List Write) (r : ℕ) → ((a : ℕ) → have_byte (bytes_of_all ws) a ≡ true → has_byte (bytes r 8) a ≡ false) → lost_after ws (Some r) ≡ Some r
 lost_apart [] r apart = refl
 lost_apart (w ∷ ws) r apart =
-    ap (lost_after ws) (one w (λ a is. apart a (rw is refl))) ∙ lost_apart ws r (λ a is. apart a (either (has_byte (bytes_of w) a) (have_byte (bytes_of_all ws) a) is))
+    ap (lost_after ws) (one w (λ a is. apart a (rw is refl))) ∙ lost_apart ws r (λ a is. apart a (or_right (has_byte (bytes_of w) a) (have_byte (bytes_of_all ws) a) is))
   where
-    either : (x y : Bool) → y ≡ true → (x || y) ≡ true
-    either true y is = refl
-    either false y is = is
-
     one : (w : Write) → ((a : ℕ) → has_byte (bytes_of w) a ≡ true → has_byte (bytes r 8) a ≡ false) → lost_to w (Some r) ≡ Some r
     one (Stored w) apart = rw (kept_by r w.at w.size apart) refl
     one (Zeroed at n) apart = rw (kept_by r at n apart) refl

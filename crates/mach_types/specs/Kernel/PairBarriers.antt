@@ -12,17 +12,18 @@ use Rattle.mach_types.specs.declared.barriers.Registered.{Registered}
 use Rattle.mach_types.specs.declared.errors.TheConstants.{EINVAL}
 
 -- whether a command is about a hart, by the registrations of the caller's process and of the other one: `own`
--- says whether a thread of the caller's process runs there, and `others` whether one of the other does
+-- says whether a thread of the caller's process runs there, and `others` whether one of the other does. Only a
+-- command that begins barriers is about harts
 abbrev pub is_concerned : BarrierCommand → Registered → Registered → Bool → Bool → Bool
-is_concerned Query mine other own others = own
+is_concerned Query mine other own others = false
 is_concerned Global mine other own others = own || others
 is_concerned GlobalExpedited mine other own others = mine.global && own || other.global && others
-is_concerned RegisterGlobalExpedited mine other own others = own
+is_concerned RegisterGlobalExpedited mine other own others = false
 is_concerned PrivateExpedited mine other own others = own
-is_concerned RegisterPrivateExpedited mine other own others = own
+is_concerned RegisterPrivateExpedited mine other own others = false
 is_concerned PrivateExpeditedRseq mine other own others = own
-is_concerned RegisterPrivateExpeditedRseq mine other own others = own
-is_concerned GetRegistrations mine other own others = own
+is_concerned RegisterPrivateExpeditedRseq mine other own others = false
+is_concerned GetRegistrations mine other own others = false
 
 -- the harts that it is about, of those on which threads of the one process run and of those on which threads
 -- of the other do

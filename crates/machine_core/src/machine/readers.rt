@@ -1,17 +1,20 @@
 //! What is read of a machine: each of its harts, the kernel's tables, and what it would answer to a choice.
 
-ghost use Rattle.std.specs.Prelude.{◌≡◌, ◌<◌, ℕ};
+ghost use Rattle.std.specs.Prelude.{◌≡◌, ◌<◌, ℕ, None, Ok, Err};
 ghost use Rattle.mach_types.specs.Bytes.{IsAccessSize, word_at};
 ghost use Rattle.mach_types.specs.Kernel.Signals as signals;
 ghost use Rattle.mach_types.specs.Kernel.Threads.{is_live};
+ghost use Rattle.mach_types.specs.declared.events.Entry.{Entry};
 ghost use Rattle.scheduler.specs.Holding as scheduling;
 ghost use Rattle.sys_calls.specs.Made.{AreSaved};
 ghost use Rattle.sys_calls.specs.Registered.{areas_by_number};
 ghost use Rattle.block_model.specs.Acts.{named_at};
 ghost use Rattle.block_model.specs.Choosing.{credit_at};
 ghost use Rattle.block_model.specs.Deciding.{decide, history};
+ghost use Rattle.block_model.specs.Events.{done_of};
 ghost use Rattle.block_model.specs.Here.{memory, runs, view};
 ghost use Rattle.block_model.specs.History.{events, file, here_in_history, kernel, ran};
+ghost use Rattle.block_model.specs.declared.refusals.Refused.{Refused};
 ghost use Rattle.block_model.specs.Sights.{effect_here, fault_here, is_deliverable_on, sight_in};
 ghost use Rattle.process.specs.Harts.{hart_in};
 ghost use Rattle.process.specs.Sequences.{area_on, looked_at_on};
@@ -20,7 +23,7 @@ ghost use Rattle.machine_core.specs.Free.{goes_freely};
 use crate::machine::Machine;
 use block_model::Refused;
 use hart_state::HartState;
-use mach_types::{Area, Choice, Entry, Hart, Named, Sight, UserMem};
+use mach_types::{Area, Choice, Entry, Hart, Named, Outcome, Sight, UserMem};
 use process::{effect_of_next, is_all_taken, is_free, is_local, next_of};
 use rseq_area::Lookups;
 use rv_inst::Effect;
@@ -206,6 +209,23 @@ impl Machine {
         match self.parts.answer(&self.code, hart, choice) {
             Ok(entry) => Ok(entry),
             Err(why) => Err(Refused::NotEnabled(why)),
+        }
+    }
+
+    /// What the interruption of a thread (rseq(2)) would come to by the event of this choice. None where the choice is refused at this
+    /// place of the log, and where its event interrupts no thread. Nothing changes.
+    pub fn foreseen(&self, hart: Hart, choice: Choice) -> Option<Outcome>
+        ensures allowed { (e : Entry)
+            → decide self.now.setting (history self.now.setting self.now.log) hart.0 choice ≡ Ok e
+            → result ≡ (done_of choice
+            (here_in_history self.now.setting (history self.now.setting self.now.log) hart.0)).interrupted }
+        ensures refused { (why : Refused)
+            → decide self.now.setting (history self.now.setting self.now.log) hart.0 choice ≡ Err why
+            → result ≡ None }
+    {
+        match self.answer(hart, choice) {
+            Ok(_) => self.parts.foreseen(hart, choice),
+            Err(_) => None,
         }
     }
 }

@@ -1,7 +1,7 @@
 -- What a call does that is fit, and what makes one fit: a step of the record, beside files that are the caller's own or of threads that
 -- don't run.
 use Rattle.std.proofs.Common.{◌≡◌, ◌≢◌, ℕ, zero, suc, ◌+◌, ◌/◌, ◌≤◌, ◌<◌, inl, inr, List, [], ◌∷◌, ◌++◌, refl, sym, ap, ◌∙◌, subst, arith, Bool, true, false, not, ◌||◌, Option, Some, None}
-use Rattle.std.proofs.lemmas.Bool.{and_parts, cases_eq, cases_lt, ne_eqb}
+use Rattle.std.proofs.lemmas.Bool.{and_parts, cases_eq, cases_lt, ne_eqb, not-false, not-true, or_parts}
 use Rattle.std.specs.List.{AllByRecursion, list_any}
 use Rattle.mach_types.specs.Bytes.{each_byte}
 use Rattle.mach_types.specs.Kernel.Pages.{PageRun, Pages, can_write, is_in, permission_at, permission_of}
@@ -21,18 +21,6 @@ use Rattle.block_model.proofs.Pages.{IsPaged}
 use Rattle.block_model.proofs.Barriers.Events.{IsAtOthers, IsFitBarriers}
 use Rattle.block_model.proofs.PlaceInvariant.{IsFit}
 use Rattle.block_model.proofs.Invariants.Calls.RecordSteps.{IsKept, IsMoved, kept_moved}
-
-not_true : (b : Bool) → not b ≡ true → b ≡ false
-not_true true is = cc
-not_true false is = refl
-
-not_false : (b : Bool) → not b ≡ false → b ≡ true
-not_false true is = refl
-not_false false is = cc
-
-or_parts : (a b : Bool) → (a || b) ≡ false → (a ≡ false) × (b ≡ false)
-or_parts true b is = cc
-or_parts false b is = (refl, is)
 
 -- a barrier that a call begins is about other harts of the machine, and the caller's thread keeps its hart
 pub record IsBegunByCall (here : Here) (c : CallDone) (b : Barrier) : Type 0 where
@@ -110,7 +98,7 @@ module _ (beside : Option Neighbour) (before after : Pages) (r : PageRun) (stays
   byte_stays : (at : ℕ) → outside at ≡ true → can_in before at ≡ true → can_in after at ≡ true
   byte_stays at =
       segment_passes beside (λ a. not (is_in r (a / 4096))) (λ a. can_write (permission_at before a)) (λ a. can_write (permission_at after a)) at
-      (λ out may. stays (at / 4096) (not_true (is_in r (at / 4096)) out) may)
+      (λ out may. stays (at / 4096) (not-true (is_in r (at / 4096)) out) may)
 
   bytes_stay : (at size : ℕ) → each_byte outside at size ≡ true → each_byte (can_in before) at size ≡ true → each_byte (can_in after) at size ≡ true
   bytes_stay at zero out may = refl
@@ -123,7 +111,7 @@ module _ (beside : Option Neighbour) (before after : Pages) (r : PageRun) (stays
   stores_stay [] none may = tt
   stores_stay (w ∷ ws) none may =
       let apart = or_parts (lies_on beside r w) (list_any (lies_on beside r) ws) none in
-      (bytes_stay w.at w.size (not_false (each_byte outside w.at w.size) apart.0) may.0, stores_stay ws apart.1 may.1)
+      (bytes_stay w.at w.size (not-false (each_byte outside w.at w.size) apart.0) may.0, stores_stay ws apart.1 may.1)
 
 -- what isn't found among the first harts isn't on one of them
 pub none_on : (beside : Option Neighbour) (r : PageRun) (waiting : ℕ → List Store) (n k : ℕ) → lies_waiting_on beside r waiting n ≡ false → k < n

@@ -91,7 +91,7 @@ module _ (here : Here) (t number : ℕ) (good : IsGoodHere here) (at : runs here
 
   fit_deed : {c : CallDone} → CallDeed here t number c → IsFitTaking here taken c
   fit_deed (Says n) = keeping n [] now (kept_still s now good.kernel)
-  fit_deed (Answers n entered k no_error step) = fit_step n entered step
+  fit_deed (Answers n entered k no_error writes step) = fit_step n entered step
   fit_deed (Wakes n p small) =
       let done = wake n p now in
       fit_kept_by _ refl
@@ -109,8 +109,8 @@ module _ (here : Here) (t number : ℕ) (good : IsGoodHere here) (at : runs here
       let kept = kept_wake s n address now good.kernel in
       let moved = moved_gone s h t then kept.sound (kept.running h ∙ at) in
       takes_none here taken _ (fit_moved here _ refl (apart_woken here n address good) (moved_after s h now then (gone t then) kept moved))
-  fit_deed (Bears entered free) = takes_none here taken _ (fit_child here t entered good at free)
-  fit_deed (Begins set restart others no_error) = takes_none here taken _ (record {
+  fit_deed (Bears entered writes free) = takes_none here taken _ (fit_child here t entered good at free)
+  fit_deed (Begins set restart others no_error its_number) = takes_none here taken _ (record {
     others = λ k ne. refl;
     apart = apart_one here t (record (here.file t) { pc = sum_64 (here.file t).pc 4 }) good at;
     pages = refl;
@@ -126,7 +126,7 @@ module _ (here : Here) (t number : ℕ) (good : IsGoodHere here) (at : runs here
   fit_deed (Resumes words is its) =
       fit_kept_by _ refl (apart_one here t (frame.restored words) good at)
       (kept_signalled s (frame.returned t (Some words) now.signals) now good.kernel (returned_keeps t (Some words) now.signals))
-  fit_deed (Ends entered e over) = fit_kept_by _ refl (apart_none here) (kept_still s now good.kernel)
+  fit_deed (Ends entered e writes over) = fit_kept_by _ refl (apart_none here) (kept_still s now good.kernel)
 
 pub fit_called : (here : Here) (t : ℕ) → IsGoodHere here → runs here ≡ Some t
     → IsFitTaking here (taken_by (call_number here t) here t) (called here t)

@@ -1,4 +1,4 @@
-use Rattle.std.proofs.Common.{◌≡◌, ◌∙◌, Option, Some, None, ap, sym}
+use Rattle.std.proofs.Common.{◌≡◌, ◌∙◌, Some, ap, sym}
 use Rattle.mach_types.specs.Kernel.Threads.{state_of}
 use Rattle.mach_types.specs.declared.threads.ThreadState.{ThreadState}
 use Rattle.mach_types.specs.declared.threads.ThreadState.TheVariants.{Ready}

@@ -1,12 +1,11 @@
-use Rattle.std.proofs.Common.{◌≡◌, ◌∙◌, ◌&&◌, Option, ℕ, Some, None, ap, cond, is_none, sym}
+use Rattle.std.proofs.Common.{◌≡◌, ◌∙◌, ◌&&◌, Option, Some, None, cond, is_none, sym}
 use Rattle.rv_inst.specs.Class.{is_call}
 use Rattle.block_model.specs.Here.{runs}
 use Rattle.block_model.specs.Sights.{effect_here}
-use Rattle.process.specs.Harts.{file_on}
 use Rattle.event_facts.specs.Calls.{call_in}
 use Rattle.event_facts.specs.Telling.{here_on}
 use Rattle.event_facts.specs.declared.calls.SystemCall.{SystemCall}
-use Rattle.event_facts.proofs.CallAnswers.{call_there, no_call}
+use Rattle.event_facts.proofs.CallAnswers.{call_there}
 use Rattle.event_facts.proofs.calls.call_on.Goals as goal
 
 pub returns : goal.returns

@@ -1,8 +1,22 @@
-use Rattle.std.proofs.Common.{◌∙◌, ◌++◌, ap, Option}
+use Rattle.std.proofs.Common.{◌∙◌, ◌++◌, ap, Option, subst}
+use Rattle.mach_types.specs.Events.{choice_of}
+use Rattle.mach_types.specs.Kernel.Signals.{Signalling}
+use Rattle.mach_types.specs.Kernel.Threads.{Threads}
 use Rattle.event_facts.specs.Calls.{call_facts}
+use Rattle.event_facts.specs.Pending.{all_pending, delivered_by}
+use Rattle.event_facts.specs.Threads.{AreBefore}
 use Rattle.event_facts.specs.declared.calls.SystemCall.{SystemCall}
 use Rattle.event_facts.proofs.Lists.{three_pieces}
 use Rattle.event_facts.proofs.places.push_before.Goals as goal
+
+pub returns-clause-before : goal.returns-clause-before
+returns-clause-before c = record {
+  call = c.next_call-call.ensures;
+  threads = subst (λ (ts : Threads). AreBefore ts c.in_ok-threads.threads) c.kernel-kernel.ensures.threads c.in_ok-threads.ensures;
+  pending = c.in_ok-pending.ensures ∙ ap (λ (g : Signalling). all_pending g c.in_ok-threads.threads.given) c.kernel-kernel.ensures.signals;
+  delivered = c.next_delivered-delivered.ensures
+      ∙ ap (λ (g : Signalling). delivered_by (choice_of c.args.entry) c.args.entry.tid.0 g) c.kernel-kernel.ensures.signals;
+}
 
 pub returns-clause-facts : goal.returns-clause-facts
 returns-clause-facts c =

@@ -1,4 +1,4 @@
-use Rattle.std.proofs.Common.{◌≡◌, ◌+◌, ◌<◌, ℕ, arith, length, subst}
+use Rattle.std.proofs.Common.{◌+◌, ◌<◌, ℕ, arith, length, subst}
 use Rattle.std.proofs.Math.ListN.{length-set}
 use Rattle.std.specs.Option.{IfSome}
 use Rattle.block_model.specs.Setting.{setting_of}

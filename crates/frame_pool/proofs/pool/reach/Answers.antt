@@ -1,6 +1,6 @@
-use Rattle.std.proofs.Common.{◌≡◌, ◌∙◌, ◌+◌, ◌<◌, ◌≤◌, ◌++◌, ◌∷◌, [], List, ℕ, true, ap, arith, is_ok, inl, inr, length, sym}
+use Rattle.std.proofs.Common.{◌≡◌, ◌∙◌, ◌+◌, ◌≤◌, ◌++◌, ◌∷◌, [], List, ℕ, true, ap, arith, is_ok, inl, inr, length, sym}
 use Rattle.std.proofs.lemmas.Bool.{cases_lt}
-use Rattle.std.specs.Vec.{vec_capacity, vec_len}
+use Rattle.std.specs.Vec.{vec_capacity}
 use Rattle.frame_pool.proofs.Zeros.{length-with_zeros, with_zeros-enough, with_zeros-more}
 use Rattle.frame_pool.specs.Layout.{with_zeros}
 use Rattle.frame_pool.specs.Pool.{fresh}

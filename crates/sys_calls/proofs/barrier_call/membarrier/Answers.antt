@@ -34,6 +34,6 @@ returns c = record {
       c.command-outcome.ensures.answer ∙ (λ i. command (told.barriers i) (cmd i) (flags i) (cpu i) (here i) (set i) (many i)) in
       let after : c.command-outcome.new.regs ≡ registered_after h.kernel.barriers (signed_32 (argument h t 0)) (int_argument h t 1) =
       c.command-outcome.ensures.registered ∙ (λ i. registered_after (told.barriers i) (cmd i) (flags i)) in
-      made_membarrier h t c.args.caller.here.0 k c.command-outcome.new.regs m c.end_with.new.saved c.end_with.result c.command-outcome.result hart told has c.requires is after
-      (c.end_with.ensures.saved h t file) (c.end_with.ensures.barrier h t) c.end_with.ensures.answer c.end_with.ensures.stays c.end_with.ensures.runs_on c.end_with.ensures.ends;
+      made_membarrier h t c.args.caller.here.0 k c.command-outcome.new.regs m c.end_command.new.saved c.end_command.result c.command-outcome.result hart told has c.requires is after
+      (c.end_command.ensures.saved h t file) (c.end_command.ensures.barrier h t) c.end_command.ensures.answer c.end_command.ensures.stays c.end_command.ensures.runs_on c.end_command.ensures.ends;
 }

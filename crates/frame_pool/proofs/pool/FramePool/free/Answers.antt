@@ -1,4 +1,4 @@
-use Rattle.std.proofs.Common.{◌≡◌, ◌+◌, ◌-◌, ◌^◌, ◌<◌, ◌≤◌, length, arith}
+use Rattle.std.proofs.Common.{◌^◌, ◌<◌, arith}
 use Rattle.frame_pool.proofs.LaidOut.{free-fits, free_count-is}
 use Rattle.frame_pool.proofs.pool.FramePool.free.Goals as goal
 

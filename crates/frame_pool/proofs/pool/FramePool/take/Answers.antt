@@ -1,4 +1,4 @@
-use Rattle.std.proofs.Common.{◌≡◌, ◌+◌, ◌-◌, ◌<◌, ◌≤◌, true, is_ok, length, slice_get, refl, sym, ap, ◌∙◌, ◌++◌, ◌∷◌, [], List, ℕ, arith, length-append}
+use Rattle.std.proofs.Common.{◌≡◌, ◌+◌, ◌<◌, ◌≤◌, true, is_ok, length, slice_get, refl, sym, ap, ◌∙◌, ◌++◌, ◌∷◌, [], List, ℕ, arith, length-append}
 use Rattle.std.specs.Vec.{vec_capacity}
 use Rattle.std.proofs.lemmas.List.{length-set, nil_from_length}
 use Rattle.frame_pool.proofs.LaidOut.{free_count-is, last-counted, last-free, last-within, next-free, next-laid, next-shown, taken-laid, taken-shown}

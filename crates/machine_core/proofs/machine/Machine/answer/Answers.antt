@@ -1,5 +1,5 @@
 -- What would be answered to a choice.
-use Rattle.std.proofs.Common.{refl, sym}
+use Rattle.std.proofs.Common.{sym}
 use Rattle.block_model.specs.Stands.{stand_of}
 use Rattle.machine_core.specs.Machines.{seen}
 use Rattle.machine_core.proofs.StretchAppends.{code_open, is_alone, place_open}

@@ -1,5 +1,5 @@
-use Rattle.std.proofs.Common.{◌≡◌, ◌<◌, ◌∷◌, [], ◌++◌, ◌∙◌, List, ℕ, true, is_ok, ap, arith}
-use Rattle.std.specs.Vec.{vec_capacity, vec_len}
+use Rattle.std.proofs.Common.{◌≡◌, ◌∷◌, [], ◌++◌, ◌∙◌, true, is_ok, arith}
+use Rattle.std.specs.Vec.{vec_capacity}
 use Rattle.page_map.specs.Layout.{empty_row}
 use Rattle.page_map.proofs.Directories.{fresh-zeros, numbers-length, numbers-zero}
 use Rattle.page_map.proofs.Rows.{new-entry, new-rows}

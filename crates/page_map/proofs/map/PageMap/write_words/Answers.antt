@@ -1,17 +1,26 @@
-use Rattle.std.proofs.Common.{◌∙◌}
-use Rattle.page_map.specs.Map.{byte_in, held_in}
-use Rattle.page_map.proofs.Starts.{word_written}
+use Rattle.std.proofs.Common.{◌/◌}
+use Rattle.page_map.specs.Map.{page_in}
+use Rattle.page_map.proofs.WordWrites.{mapped-writable, words-bytes, words-code, words-held, words-permissions}
 use Rattle.page_map.proofs.map.PageMap.write_words.Goals as goal
 
-pub loop-k-preserved : goal.loop-k-preserved
-loop-k-preserved c =
-    let was = c.loop-k.invariant in
-    let set = c.set.ensures in record {
-      bytes = word_written c.args.self.now c.loop-k.self (byte_in c.args.self.now) (byte_in c.loop-k.self) (byte_in c.set.new.self) c.args.at c.loop-k.k c.args.words.now c.set.result c.loop-k-test.true c.requires.room was.bytes was.permissions set.answer set.bytes;
-      held = word_written c.args.self.now c.loop-k.self (held_in c.args.self.now) (held_in c.loop-k.self) (held_in c.set.new.self) c.args.at c.loop-k.k c.args.words.now c.set.result c.loop-k-test.true c.requires.room was.held was.permissions set.answer set.held;
-      permissions = λ n. set.pages n ∙ was.permissions n;
-      code = λ a. set.code a ∙ was.code a;
-      free = set.free ∙ was.free;
-      break_at = set.break_at ∙ was.break_at;
-      break_start = set.break_start ∙ was.break_start;
-    }
+pub write_words_in_page-requires-clause-mapped : goal.write_words_in_page-requires-clause-mapped
+write_words_in_page-requires-clause-mapped c = mapped-writable (page_in c.args.self.now (c.args.at / 4096)) c.requires.writable
+
+pub returns-clause-bytes : goal.returns-clause-bytes
+returns-clause-bytes c =
+    let done = c.write_words_in_page.ensures in
+    words-bytes c.args.self.now c.write_words_in_page.new.self c.args.at c.args.words.now done.pages c.requires.page 4 done.size
+
+pub returns-clause-held : goal.returns-clause-held
+returns-clause-held c =
+    let done = c.write_words_in_page.ensures in
+    words-held c.args.self.now c.write_words_in_page.new.self c.args.at c.args.words.now done.pages c.requires.page done.size
+
+pub returns-clause-permissions : goal.returns-clause-permissions
+returns-clause-permissions c =
+    words-permissions c.args.self.now c.write_words_in_page.new.self c.args.at c.args.words.now c.write_words_in_page.ensures.pages c.requires.page
+
+pub returns-clause-code : goal.returns-clause-code
+returns-clause-code c =
+    let done = c.write_words_in_page.ensures in
+    words-code c.args.self.now c.write_words_in_page.new.self c.args.at c.args.words.now done.pages c.requires.page c.requires.writable done.permission

@@ -1,5 +1,5 @@
-use Rattle.std.proofs.Common.{◌≡◌, ◌<◌, ◌∷◌, [], ◌++◌, ◌∙◌, None, true, is_ok, arith}
-use Rattle.std.specs.Vec.{vec_capacity, vec_len}
+use Rattle.std.proofs.Common.{◌≡◌, ◌∷◌, [], ◌++◌, ◌∙◌, None, true, is_ok, arith}
+use Rattle.std.specs.Vec.{vec_capacity}
 use Rattle.page_map.specs.Layout.{empty_leaf}
 use Rattle.page_map.proofs.Rows.{new-rows}
 use Rattle.page_map.proofs.Tables.{fresh-leaf, new-filled, new-places}

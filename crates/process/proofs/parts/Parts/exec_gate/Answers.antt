@@ -1,23 +1,7 @@
-use Rattle.std.proofs.Common.{◌≡◌, Some, None, is_some, ap, refl, ◌∙◌}
-use Rattle.process.proofs.Common.{exec_refusal, here_in_plain}
-use Rattle.block_model.specs.Events.Exec.{is_held, others_gate}
-use Rattle.process.proofs.HartStates.{hart_tied}
-use Rattle.process.proofs.ExecGates.{gate_is}
+-- A process that is alone shares no segment.
+use Rattle.std.proofs.Common.{None}
+use Rattle.process.proofs.ExecGates.{none_of_segment}
 use Rattle.process.proofs.parts.Parts.exec_gate.Goals as goal
 
-pub returns-in-Some : goal.returns-in-Some
-returns-in-Some c s p tied lt is =
-    let h = c.args.hart.0 in
-    let x = c.index-state.result.now in
-    let next = c.args.next.now in
-    let first : Some c.in-Some.why ≡ exec_refusal x next.effect (is_some next.fault) = cc in
-    gate_is s p h _ x next (Some c.in-Some.why) (Some c.in-Some.why) (hart_tied s p c.args.self.now h x tied lt c.index-state.ensures) is first (λ t at. refl) (λ e. refl)
-
-pub returns-in-None : goal.returns-in-None
-returns-in-None c s p tied lt is =
-    let h = c.args.hart.0 in
-    let x = c.index-state.result.now in
-    let next = c.args.next.now in
-    let first : None ≡ exec_refusal x next.effect (is_some next.fault) = cc in
-    gate_is s p h _ x next None c.others_gate.result (hart_tied s p c.args.self.now h x tied lt c.index-state.ensures) is first
-    (λ t at. c.others_gate.ensures s p t tied lt at ∙ ap (others_gate (is_held (here_in_plain s p h) t)) c.as_ref-in-None.ensures.value) (λ e. cc)
+pub returns : goal.returns
+returns c s p tied lt is = c.exec_gate_beside.ensures (record { setting = s; plain = p; beside = None }) tied lt none_of_segment is

@@ -2,7 +2,7 @@ use Rattle.std.proofs.Common.{◌≡◌, ℕ, ◌+◌, ◌-◌, ◌<◌, Some, L
 use Rattle.byte_views.specs.Words.{word_at as number_at}
 use Rattle.block_model.specs.Beside.{SEGMENT_AT, SEGMENT_SIZE}
 use Rattle.shared_procs.specs.Segments.{shared_in}
-use Rattle.shared_procs.proofs.Accesses.{some_where, word_of_bytes}
+use Rattle.page_map.proofs.Laws.{some_where, word_of_bytes}
 use Rattle.shared_procs.proofs.Segments.{small_byte}
 use Rattle.shared_procs.proofs.segment.Segment.word.Goals as goal
 

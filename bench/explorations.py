@@ -1,0 +1,87 @@
+#!/usr/bin/env python3
+"""Runs a second of `explore`, on one processor and on several, and its peak of memory; and how soon a second outcome is there.
+
+    bench/explorations.py [--jobs N] [--rounds N] [--found] [--memory] [--program PROGRAM]
+
+Each row is the least of so many rounds (5): the seconds on the clock, and the runs a second of it. The start is within. Without --jobs it is
+measured with `--jobs 1`. With --found it makes the runs of each broken example until a second outcome is there (of `litmus`, which has
+three right ones, until a fourth is), with all policies in turn. With --memory each program also makes as many runs, and ten times as
+many, under GNU time.
+"""
+import argparse
+import pathlib
+import subprocess
+import sys
+import time
+
+from draws import BROKEN
+from measured import BUILT, GNU_TIME, HERE
+
+TOP = HERE.parent
+PROGRAMS = {
+    'peterson': (TOP / 'examples' / 'peterson' / 'peterson.elf', 20_000),
+    'hello': (TOP / 'examples' / 'hello' / 'hello.elf', 100_000),
+    'three instructions': (TOP / 'crates' / 'rseq_run' / 'data' / 'exit7.elf', 200_000),
+}
+
+
+def command(words, file, *options):
+    return [words.program, 'explore', str(file), f'--jobs={words.jobs}', *options]
+
+
+def seconds(words, file, *options):
+    """The least seconds on the clock of some rounds."""
+    best = None
+    for _ in range(words.rounds):
+        begun = time.perf_counter()
+        subprocess.run(command(words, file, *options), stdout=subprocess.DEVNULL, check=True)
+        took = time.perf_counter() - begun
+        best = took if best is None else min(best, took)
+    return best
+
+
+def peak(words, file, runs):
+    """The peak of memory in MiB."""
+    timed = [GNU_TIME, '-f', '%M', *command(words, file, f'--runs={runs}')]
+    ran = subprocess.run(timed, stdout=subprocess.DEVNULL, stderr=subprocess.PIPE, check=True)
+    return int(ran.stderr) / 1024
+
+
+def speeds(words):
+    print('| program | runs | s | runs a second |' + (' peak, MiB | of ten times as many |' if words.memory else ''))
+    print('|---|---|---|---|' + ('---|---|' if words.memory else ''))
+    for name, (file, runs) in PROGRAMS.items():
+        took = seconds(words, file, f'--runs={runs}')
+        cells = [name, f'{runs:,}', f'{took:.3f}', f'{runs / took:,.0f}']
+        if words.memory:
+            cells += [f'{peak(words, file, many):.1f}' for many in (runs, 10 * runs)]
+        print('| ' + ' | '.join(cells) + ' |', flush=True)
+
+
+def finds(words):
+    print('| example | s until its bug is there |')
+    print('|---|---|')
+    for name in BROKEN:
+        file = TOP / 'examples' / name / f'{name}.elf'
+        enough = '--until=4' if name == 'litmus' else '--until=2'
+        print(f'| `{name}` | {seconds(words, file, enough, "--steps=20000"):.3f} |', flush=True)
+
+
+def main():
+    parser = argparse.ArgumentParser(description=__doc__.splitlines()[0])
+    parser.add_argument('--jobs', type=int, default=1)
+    parser.add_argument('--rounds', type=int, default=5)
+    parser.add_argument('--found', action='store_true')
+    parser.add_argument('--memory', action='store_true')
+    parser.add_argument('--program', default=str(BUILT))
+    words = parser.parse_args()
+    if not pathlib.Path(words.program).is_file():
+        sys.exit(f'{words.program} is no file: build it with `rt ci` first')
+    if words.found:
+        finds(words)
+    else:
+        speeds(words)
+
+
+if __name__ == '__main__':
+    main()

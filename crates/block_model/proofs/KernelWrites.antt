@@ -1,0 +1,121 @@
+-- What the kernel writes it writes where its pages say that it may: in a call, and in an event that is no instruction and no entering of
+-- a store. So none of it lies where there is no page.
+use Rattle.std.proofs.Common.{◌≡◌, ◌≢◌, ℕ, Bool, true, false, not, cond, Option, Some, None, refl}
+use Rattle.mach_types.specs.Kernel.Areas.{Words, are_words_writable, words_entered, words_on, writes_of}
+use Rattle.mach_types.specs.Kernel.SignalFrames.{can_write_frame, frame_writes}
+use Rattle.mach_types.specs.Kernel.Signals.{action_of, is_handler, mask_of, next_for}
+use Rattle.mach_types.specs.declared.events.Choice.{Choice}
+use Rattle.mach_types.specs.declared.events.Choice.TheVariants as asked
+use Rattle.mach_types.specs.declared.sequences.Area.{Area}
+use Rattle.mach_types.specs.declared.sequences.Outcome.{Outcome}
+use Rattle.mach_types.specs.declared.sequences.Outcome.TheVariants as comes_to
+use Rattle.mach_types.specs.declared.signals.TheConstants.{SIGSEGV}
+use Rattle.block_model.specs.Calls.{called}
+use Rattle.block_model.specs.Calls.Answers.{CallDone, call_number, killed_in_call}
+use Rattle.block_model.specs.Events.{done_of}
+use Rattle.block_model.specs.Events.Exec.{called_here}
+use Rattle.block_model.specs.Events.Finish.{done_done_by}
+use Rattle.block_model.specs.Events.Preempt.{done_preempt_by}
+use Rattle.block_model.specs.Events.Run.{done_killed, done_running, lives_on}
+use Rattle.block_model.specs.Events.Signal.{done_next, done_signal_by, file_interrupted, handled_unless_killed, kills}
+use Rattle.block_model.specs.Events.Take.{done_take_by}
+use Rattle.block_model.specs.Here.{Here, is_writable, memory, runs}
+use Rattle.block_model.specs.Ids.{next_id}
+use Rattle.block_model.specs.Sequences.{area_here, interruption_here, is_inside_here, words_to}
+use Rattle.block_model.proofs.CallEffects.{CallDeed, Answers, Bears, Ends, Exits}
+use Rattle.block_model.proofs.CallEffects.EachCall.{deed_called}
+use Rattle.block_model.proofs.CallEffects.Ending.{cleared_writable}
+use Rattle.block_model.proofs.WritableBytes.{AllWritable, area_writable, both_writable, frame_writable, interruption_writable}
+
+-- A CALL
+
+module _ (here : Here) (t number : ℕ) where
+  deed_writes : {c : CallDone} → CallDeed here t number c → AllWritable (is_writable here) c.entered
+  deed_writes (Answers n entered k no_error writes step) = writes
+  deed_writes (Exits more) = cleared_writable here t
+  deed_writes (Bears entered writes free) = writes
+  deed_writes (Ends entered e writes over) = writes
+  deed_writes deed = tt
+
+pub call_writes : (here : Here) (t : ℕ) → AllWritable (is_writable here) (called_here here t).entered
+call_writes here t = by (is_inside_here here t)
+  where
+    by : (b : Bool) → AllWritable (is_writable here) (cond b (killed_in_call here) (called here t)).entered
+    by true = tt
+    by false = deed_writes here t (call_number here t) (deed_called here t)
+
+-- ANOTHER EVENT
+
+-- a handler is entered only where its frame can be written
+unhandled : (handler frame : Bool) (signal : ℕ) → cond (not handler) (Some signal) (cond (not frame) (Some SIGSEGV) None) ≡ None → frame ≡ true
+unhandled true true signal is = refl
+unhandled true false signal is = cc
+unhandled false frame signal is = cc
+
+module _ (here : Here) (t : ℕ) where
+  abbrev came_to : Outcome
+  came_to = interruption_here here t
+
+  interrupted : AllWritable (is_writable here) (writes_of (area_here here t) (interruption_here here t))
+  interrupted = interruption_writable (is_writable here) (memory here) (area_here here t) (here.file t).pc
+
+  may_enter : (signal : ℕ) (o : Outcome) → kills here t signal o ≡ None → can_write_frame (is_writable here) (file_interrupted here t o) ≡ true
+  may_enter signal comes_to.Nothing is = unhandled (is_handler (action_of signal here.kernel.signals)) _ signal is
+  may_enter signal comes_to.Cleared is = unhandled (is_handler (action_of signal here.kernel.signals)) _ signal is
+  may_enter signal (comes_to.Aborted at) is = unhandled (is_handler (action_of signal here.kernel.signals)) _ signal is
+  may_enter signal (comes_to.Killed why) is = cc
+
+  on_delivery : (signal : ℕ) (killer : Option ℕ) → kills here t signal came_to ≡ killer
+      → AllWritable (is_writable here) (handled_unless_killed here t signal came_to killer).entered
+  on_delivery signal None is =
+      let file = file_interrupted here t came_to in
+      let mask = mask_of t here.kernel.signals in
+      both_writable (is_writable here) (writes_of (area_here here t) came_to) (frame_writes file mask) interrupted
+      (frame_writable (is_writable here) file mask (may_enter signal came_to is))
+  on_delivery signal (Some killer) is = interrupted
+
+  on_next : (next : Option ℕ) → AllWritable (is_writable here) (done_next here t next).entered
+  on_next None = tt
+  on_next (Some signal) = on_delivery signal (kills here t signal came_to) refl
+
+  words_made : (area : Area) (words : Words) (made : Bool) → are_words_writable (is_writable here) area ≡ made
+      → AllWritable (is_writable here) (words_entered made area words)
+  words_made area words true is = area_writable (is_writable here) area words is
+  words_made area words false is = tt
+
+  words_told : (o : Option Area) (words : Words) → AllWritable (is_writable here) (words_to here o words)
+  words_told None words = tt
+  words_told (Some area) words = words_made area words (are_words_writable (is_writable here) area) refl
+
+  on_run : (lives : Bool) → AllWritable (is_writable here) (cond lives (done_running here t came_to) (done_killed here t came_to)).entered
+  on_run true =
+      let words = words_on here.hart (next_id here.kernel.ids) in
+      both_writable (is_writable here) (writes_of (area_here here t) came_to) (words_to here (area_here here t) words) interrupted
+      (words_told (area_here here t) words)
+  on_run false = interrupted
+
+on_take : (here : Here) (restart : Bool) (r : Option ℕ) → AllWritable (is_writable here) (done_take_by here restart r).entered
+on_take here false r = tt
+on_take here true None = tt
+on_take here true (Some t) = interrupted here t
+
+on_signal : (here : Here) (r : Option ℕ) → AllWritable (is_writable here) (done_signal_by here r).entered
+on_signal here None = tt
+on_signal here (Some t) = on_next here t (next_for t here.kernel.signals)
+
+quiet_done : (here : Here) (r : Option ℕ) → AllWritable (is_writable here) (done_done_by here r).entered
+quiet_done here None = tt
+quiet_done here (Some t) = tt
+
+quiet_preempt : (here : Here) (r : Option ℕ) → AllWritable (is_writable here) (done_preempt_by here r).entered
+quiet_preempt here None = tt
+quiet_preempt here (Some t) = tt
+
+pub event_writes : (here : Here) (c : Choice) → c ≢ asked.Exec → c ≢ asked.Drain → AllWritable (is_writable here) (done_of c here).entered
+event_writes here asked.Exec no_exec no_drain = absurd (no_exec refl)
+event_writes here asked.Drain no_exec no_drain = absurd (no_drain refl)
+event_writes here asked.Take no_exec no_drain = on_take here here.restart (runs here)
+event_writes here asked.Done no_exec no_drain = quiet_done here (runs here)
+event_writes here asked.Preempt no_exec no_drain = quiet_preempt here (runs here)
+event_writes here (asked.Run t) no_exec no_drain = on_run here t.0 (lives_on here t.0 (interruption_here here t.0))
+event_writes here asked.Signal no_exec no_drain = on_signal here (runs here)

@@ -1,0 +1,258 @@
+//! Interruptions of threads (rseq(2)): what they came to, and which word was wrong where one killed the
+//! process.
+
+ghost use Rattle.std.specs.Prelude.{◌≡◌, ◌<◌, ◌++◌, OnOk};
+ghost use Rattle.mach_types.specs.Bytes.{IsAccessSize};
+ghost use Rattle.block_model.specs.Here.{view};
+ghost use Rattle.event_facts.specs.Interruptions as spec;
+ghost use Rattle.event_facts.specs.Interruptions.{interrupted_facts};
+ghost use Rattle.event_facts.specs.Telling.{here_on};
+
+use crate::deeds::Range;
+use crate::facts::Fact;
+use crate::reads::number_seen;
+use mach_types::address_space::USER_END;
+use mach_types::sequences::{FLAGS, RSEQ_CS};
+use mach_types::{Area, BadWhy, Entry, Hart, Outcome};
+use machine_core::Machine;
+use std::alloc::AllocError;
+use sys_calls::area_of;
+
+/// A word in memory for which an area is bad.
+#[derive(Clone, Copy, Drop)]
+pub struct WrongWord {
+    /// Its address.
+    pub at: u64,
+    /// Its number; None where one of its bytes can't be read.
+    pub value: Option<u64>,
+}
+
+/// What the interruption of a thread came to.
+#[derive(Clone, Copy, Drop)]
+pub enum Interruption {
+    /// Nothing: the thread had no area, or its area named nothing.
+    Nothing,
+    /// The pointer of its area became 0; it was outside of what that named.
+    Cleared,
+    /// The pointer of its area became 0, and it went on at `to`; it was inside, at `from`.
+    Aborted { from: u64, to: u64 },
+    /// The process was killed, since the area was bad.
+    Killed { why: BadWhy, wrong: WrongWord },
+}
+
+/// The pointer of an area.
+fn pointer_field(area: Area) -> Range
+    ensures field { result ≡ spec.pointer_field area }
+    ensures size { IsAccessSize result.size }
+{
+    Range {
+        at: area.at.wrapping_add(RSEQ_CS),
+        size: 8,
+    }
+}
+
+/// The flags of an area.
+fn area_flags_field(area: Area) -> Range
+    ensures field { result ≡ spec.area_flags_field area }
+    ensures size { IsAccessSize result.size }
+{
+    Range {
+        at: area.at.wrapping_add(FLAGS),
+        size: 4,
+    }
+}
+
+/// The version of the descriptor at an address.
+fn version_field(at: u64) -> Range
+    ensures field { result ≡ spec.version_field at }
+    ensures size { IsAccessSize result.size }
+{
+    Range { at, size: 4 }
+}
+
+/// Its flags.
+fn flags_field(at: u64) -> Range
+    ensures field { result ≡ spec.flags_field at }
+    ensures size { IsAccessSize result.size }
+{
+    Range {
+        at: at.wrapping_add(4),
+        size: 4,
+    }
+}
+
+/// Where its sequence starts.
+fn start_field(at: u64) -> Range
+    ensures field { result ≡ spec.start_field at }
+    ensures size { IsAccessSize result.size }
+{
+    Range {
+        at: at.wrapping_add(8),
+        size: 8,
+    }
+}
+
+/// How long its sequence is.
+fn length_field(at: u64) -> Range
+    ensures field { result ≡ spec.length_field at }
+    ensures size { IsAccessSize result.size }
+{
+    Range {
+        at: at.wrapping_add(16),
+        size: 8,
+    }
+}
+
+/// The abort handler of its sequence.
+fn abort_field(at: u64) -> Range
+    ensures field { result ≡ spec.abort_field at }
+    ensures size { IsAccessSize result.size }
+{
+    Range {
+        at: at.wrapping_add(24),
+        size: 8,
+    }
+}
+
+/// The number in a field, as a hart sees it; 0 where a byte of it can't be read.
+fn number_in(machine: &Machine, hart: Hart, field: Range) -> u64
+    requires hart { hart.0 < machine.now.setting.limits.harts }
+    requires size { IsAccessSize field.size }
+    ensures { result ≡ spec.number_in (view (here_on machine.now hart.0)) field }
+{
+    number_seen(machine, hart, field.at, field.size)
+}
+
+/// Of a sequence that isn't below the end of addresses, the field for which it isn't.
+fn far_field(machine: &Machine, hart: Hart, at: u64) -> Range
+    requires { hart.0 < machine.now.setting.limits.harts }
+    ensures field { result ≡ spec.far_field (view (here_on machine.now hart.0)) at }
+    ensures size { IsAccessSize result.size }
+{
+    let start = start_field(at);
+    if number_in(machine, hart, start) >= USER_END {
+        return start;
+    }
+    let abort = abort_field(at);
+    if number_in(machine, hart, abort) >= USER_END {
+        return abort;
+    }
+    length_field(at)
+}
+
+/// Of a sequence without the signature, the word that isn't it.
+fn signature_field(machine: &Machine, hart: Hart, at: u64) -> Range
+    requires { hart.0 < machine.now.setting.limits.harts }
+    ensures field { result ≡ spec.signature_field (view (here_on machine.now hart.0)) at }
+    ensures size { IsAccessSize result.size }
+{
+    let field = abort_field(at);
+    let abort = number_in(machine, hart, field);
+    if abort >= 4 {
+        Range {
+            at: abort - 4,
+            size: 4,
+        }
+    } else {
+        field
+    }
+}
+
+/// Of an area and its descriptor, the flags that are set.
+fn set_field(machine: &Machine, hart: Hart, area: Area, at: u64) -> Range
+    requires { hart.0 < machine.now.setting.limits.harts }
+    ensures field { result ≡ spec.set_field (view (here_on machine.now hart.0)) area at }
+    ensures size { IsAccessSize result.size }
+{
+    let flags = area_flags_field(area);
+    if number_in(machine, hart, flags) == 0 {
+        flags_field(at)
+    } else {
+        flags
+    }
+}
+
+/// The field for which an area is bad.
+fn wrong_field(machine: &Machine, hart: Hart, area: Area, why: BadWhy) -> Range
+    requires { hart.0 < machine.now.setting.limits.harts }
+    ensures field { result ≡ spec.wrong_field (view (here_on machine.now hart.0)) area why }
+    ensures size { IsAccessSize result.size }
+{
+    let pointer = pointer_field(area);
+    let at = number_in(machine, hart, pointer);
+    match why {
+        BadWhy::AreaBytes | BadWhy::Pointer => pointer,
+        BadWhy::Descriptor | BadWhy::Version => version_field(at),
+        BadWhy::Range => far_field(machine, hart, at),
+        BadWhy::AbortInside => abort_field(at),
+        BadWhy::Signature => signature_field(machine, hart, at),
+        BadWhy::SeqFlags => set_field(machine, hart, area, at),
+    }
+}
+
+/// The word for which an area is bad.
+fn wrong_word(machine: &Machine, hart: Hart, area: Area, why: BadWhy) -> WrongWord
+    requires { hart.0 < machine.now.setting.limits.harts }
+    ensures { result ≡ spec.word_in (view (here_on machine.now hart.0))
+        (spec.wrong_field (view (here_on machine.now hart.0)) area why) }
+{
+    let field = wrong_field(machine, hart, area, why);
+    WrongWord {
+        at: field.at,
+        value: machine.view(hart, field.at, field.size),
+    }
+}
+
+/// What the interruption of a thread with this area, which was at this pc, came to.
+fn told_of(machine: &Machine, hart: Hart, area: Area, pc: u64, outcome: Outcome) -> Interruption
+    requires { hart.0 < machine.now.setting.limits.harts }
+    ensures { result ≡ spec.told_of (view (here_on machine.now hart.0)) area pc outcome }
+{
+    match outcome {
+        Outcome::Nothing => Interruption::Nothing,
+        Outcome::Cleared => Interruption::Cleared,
+        Outcome::Aborted(to) => Interruption::Aborted { from: pc, to },
+        Outcome::Killed(why) => Interruption::Killed {
+            why,
+            wrong: wrong_word(machine, hart, area, why),
+        },
+    }
+}
+
+/// The same of a thread that may have no area.
+fn interruption_of(
+    machine: &Machine,
+    hart: Hart,
+    area: Option<Area>,
+    pc: u64,
+    outcome: Outcome,
+) -> Interruption
+    requires { hart.0 < machine.now.setting.limits.harts }
+    ensures { result ≡ spec.interruption_of (view (here_on machine.now hart.0)) area pc outcome }
+{
+    match area {
+        Some(area) => told_of(machine, hart, area, pc, outcome),
+        None => Interruption::Nothing,
+    }
+}
+
+/// Appends what the interruption of the thread of an entry came to, which was made; nothing where there was
+/// none.
+pub(crate) fn push_interrupted(
+    facts: &mut Vec<Fact>,
+    machine: &Machine,
+    entry: Entry,
+    came: Option<Outcome>,
+) -> Result<(), AllocError>
+    requires { entry.hart.0 < machine.now.setting.limits.harts }
+    ensures { OnOk result (facts.new.items ≡ facts.old.items
+        ++ interrupted_facts (here_on machine.now entry.hart.0) entry came) }
+{
+    let Some(outcome) = came else {
+        return Ok(());
+    };
+    let area = area_of(machine.kernel(), entry.tid);
+    let interruption = interruption_of(machine, entry.hart, area, entry.pc, outcome);
+    facts.push(Fact::Interrupted(interruption))?;
+    Ok(())
+}

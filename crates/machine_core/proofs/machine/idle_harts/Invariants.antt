@@ -1,7 +1,0 @@
--- So far as many idle harts as rounds.
-use Rattle.std.proofs.Common.{◌≡◌, length, All}
-use Rattle.hart_state.specs.State.{idle_hart}
-use Rattle.machine_core.proofs.machine.idle_harts.Given as goal
-
-abbrev pub invariant-loop : goal.invariant-loop
-invariant-loop l = record { count : length l.harts.items ≡ l.counter; idle : All (λ hart. hart ≡ idle_hart) l.harts.items }

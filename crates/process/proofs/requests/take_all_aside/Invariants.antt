@@ -1,0 +1,8 @@
+-- So far the harts before this one have no requests of that hart any more.
+use Rattle.std.proofs.Common.{◌≡◌, ℕ, eqb, slice_get, option_map}
+use Rattle.process.specs.Passing.{taken_aside}
+use Rattle.process.proofs.EachHart.{changed_before}
+use Rattle.process.proofs.requests.take_all_aside.Given as goal
+
+abbrev pub invariant-loop-k : goal.invariant-loop-k
+invariant-loop-k l = (j : ℕ) → slice_get l.harts j ≡ option_map (changed_before (λ i. taken_aside (eqb i l.hart.0) l.hart.0) l.k j) (slice_get l.fn.harts j)

@@ -1,0 +1,65 @@
+//! One of the two processes of a pair.
+
+ghost use Rattle.std.specs.Prelude.{◌≡◌, IfOk};
+ghost use Rattle.mach_types.specs.Limits.{InRange};
+ghost use Rattle.elf_load.specs.Images.{IsBootable};
+ghost use Rattle.elf_load.specs.Start.{program_of};
+ghost use Rattle.block_model.specs.Plain.{plain_start};
+ghost use Rattle.block_model.specs.Setting.{setting_of};
+ghost use Rattle.process.specs.Refinement.{IsTied};
+ghost use Rattle.shared_procs.specs.Halves.{program_in};
+ghost use Rattle.shared_procs.specs.PairRuns.{has_ended};
+
+use elf_load::Image;
+use mach_types::{End, Limits};
+use process::{Code, Parts};
+use std::alloc::{AllocError, Global};
+
+/// A process of a pair: the program that it runs, and its parts.
+#[derive(Drop)]
+pub struct Half {
+    /// The pages of the program.
+    pub code: Code,
+    /// Where it begins.
+    pub entry: u64,
+    /// Where its program headers lie.
+    pub phdr: u64,
+    /// How many there are.
+    pub phnum: u16,
+    /// The lowest break.
+    pub break_at: u64,
+    /// Its pages, the harts as it sees them, its tables, and how it has ended.
+    pub parts: Parts,
+}
+
+impl Half {
+    /// A process that has done nothing yet, over a copy of a loaded image. All its memory is taken here.
+    pub fn boot(alloc: Global, image: &Image, limits: Limits) -> Result<Half, AllocError>
+        requires image { IsBootable limits.frames image.now }
+        requires limits { InRange limits }
+        ensures program { IfOk result (λ x. program_in x ≡ program_of image.now) }
+        ensures tied { IfOk result (λ x. IsTied (setting_of image.now limits)
+            (plain_start (setting_of image.now limits)) x.parts) }
+    {
+        let code = Code::new(alloc, &image.pages)?;
+        let parts = Parts::boot(alloc, image, limits)?;
+        Ok(Half {
+            code,
+            entry: image.entry,
+            phdr: image.phdr,
+            phnum: image.phnum,
+            break_at: image.break_at,
+            parts,
+        })
+    }
+}
+
+/// Whether an event ended a process, by how its run has ended: one of which no thread can go on has not.
+pub fn has_ended(ended: Option<End>) -> bool
+    ensures { result ≡ has_ended ended }
+{
+    match ended {
+        None | Some(End::Stuck) => false,
+        Some(End::Exit(_) | End::Killed(_) | End::Limit | End::Unended) => true,
+    }
+}
